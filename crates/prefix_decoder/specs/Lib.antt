@@ -1,0 +1,4 @@
+pub mod Functions
+pub mod Operand
+pub mod Spelling
+pub mod Fetching
