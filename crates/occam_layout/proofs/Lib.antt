@@ -1,0 +1,10 @@
+pub mod Spelling
+pub mod Quoted
+pub mod Numbers
+pub mod Scanning
+pub mod Loop
+pub mod Rows
+pub mod Lexemes
+pub mod LineTokens
+pub mod Sources
+pub mod Spans

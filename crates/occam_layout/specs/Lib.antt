@@ -1,0 +1,5 @@
+pub mod Fault
+pub mod Characters
+pub mod Kind
+pub mod Reading
+pub mod Tokens

@@ -1,0 +1,17 @@
+//! From source bytes to lines of tokens.
+#![tactic(auto)]
+
+mod fault;
+mod layout;
+mod scan;
+mod text;
+mod token;
+mod words;
+
+pub use fault::{CHARACTER, LITERAL, LayoutFault, MEMORY, ODD_INDENTATION, TOO_DEEP, TOO_LARGE};
+pub use layout::{MAX_BYTES, MAX_LINES, lines};
+pub use text::Text;
+pub use token::{Line, Token, TokenKind};
+
+#[cfg(test)]
+mod tests;

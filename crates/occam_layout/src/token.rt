@@ -1,0 +1,140 @@
+//! Lines and their tokens.
+
+use crate::text::Text;
+
+/// A line of a source that has tokens.
+#[derive(Debug, Drop)]
+pub struct Line<'a> {
+    /// The line's number, counted from 1 over all lines of the source.
+    pub number: u32,
+    /// How deep the line is indented, in levels of two spaces.
+    pub level: u32,
+    /// The tokens from left to right, one at least.
+    pub tokens: Vec<Token<'a>>,
+}
+
+/// A token, and where it stands.
+#[derive(Clone, Copy, Debug)]
+pub struct Token<'a> {
+    pub kind: TokenKind<'a>,
+    /// The offset of the token's first byte in the source.
+    pub start: u32,
+    /// The offset behind the token's last byte.
+    pub end: u32,
+}
+
+/// What a token is: a name or a literal, a keyword, or a sign.
+#[derive(Clone, Copy, Debug)]
+pub enum TokenKind<'a> {
+    /// A letter, then letters, digits and dots, and no keyword: the bytes of the source.
+    Name(&'a [u8]),
+    /// An integer literal: the value of the word that it stands for.
+    Integer(i32),
+    /// A character literal: its byte.
+    Character(u8),
+    /// A string: its bytes.
+    Text(Text<'a>),
+
+    /// `VAL`
+    Val,
+    /// `IS`
+    Is,
+    /// `INT`
+    Int,
+    /// `BYTE`
+    Byte,
+    /// `PROC`
+    Proc,
+    /// `CHAN`
+    Chan,
+    /// `OF`
+    Of,
+    /// `SKIP`
+    Skip,
+    /// `STOP`
+    Stop,
+    /// `SEQ`
+    Seq,
+    /// `PAR`
+    Par,
+    /// `IF`
+    If,
+    /// `ALT`
+    Alt,
+    /// `FOR`
+    For,
+    /// `MOSTPOS`
+    MostPos,
+    /// `MOSTNEG`
+    MostNeg,
+    /// `PLUS`
+    Plus,
+    /// `MINUS`
+    Minus,
+    /// `TIMES`
+    Times,
+    /// `AND`
+    And,
+    /// `OR`
+    Or,
+    /// `NOT`
+    Not,
+    /// `TRUE`
+    True,
+    /// `FALSE`
+    False,
+    /// `:=`
+    Assign,
+    /// `/\`
+    BitAnd,
+    /// `\/`
+    BitOr,
+    /// `><`
+    BitXor,
+    /// `<<`
+    ShiftLeft,
+    /// `>>`
+    ShiftRight,
+    /// `<>`
+    NotEqual,
+    /// `<=`
+    LessOrEqual,
+    /// `>=`
+    GreaterOrEqual,
+    /// `:`
+    Colon,
+    /// `,`
+    Comma,
+    /// `(`
+    OpenParenthesis,
+    /// `)`
+    CloseParenthesis,
+    /// `[`
+    OpenBracket,
+    /// `]`
+    CloseBracket,
+    /// `?`
+    Input,
+    /// `!`
+    Output,
+    /// `&`
+    Guard,
+    /// `+`
+    Add,
+    /// `-`
+    Subtract,
+    /// `*`
+    Multiply,
+    /// `/`
+    Divide,
+    /// `\`
+    Remainder,
+    /// `~`
+    BitNot,
+    /// `=`
+    Equal,
+    /// `<`
+    Less,
+    /// `>`
+    Greater,
+}
