@@ -1,0 +1,10 @@
+pub mod Sizes
+pub mod Loop
+pub mod Tools
+pub mod FieldLaws
+pub mod RowLaws
+pub mod LateLaws
+pub mod HeaderLaws
+pub mod FileLaws
+pub mod WritingLaws
+pub mod KeepingLaws

@@ -1,0 +1,5 @@
+pub mod Contents
+pub mod Spelling
+pub mod Contexts
+pub mod Keeping
+pub mod Reading

@@ -1,0 +1,62 @@
+//! Why a file is no module.
+
+ghost use Rattle.std.specs.Prelude.{◌≡◌};
+ghost use Rattle.certificate.specs.declared.fault.ReadError.TheVariants.{Memory, Fault};
+
+use std::alloc::{AllocError, AllocFailed};
+
+/// Fewer than four bytes, or another magic.
+pub const MAGIC: u8 = 1;
+/// The file ends within a field.
+pub const TRUNCATED: u8 = 2;
+/// Rows or items that do not rise, or that overlap.
+pub const ORDER: u8 = 3;
+/// A value that is not allowed.
+pub const RANGE: u8 = 4;
+/// Bytes behind the last row.
+pub const LEFT_OVER: u8 = 5;
+/// A number above a limit of the format.
+pub const LIMIT: u8 = 6;
+/// Memory ran out.
+pub const MEMORY: u8 = 7;
+
+/// The first fault of a file, in the order of its fields.
+#[derive(Clone, Copy, Debug, PartialEq, Eq)]
+pub struct FormatFault {
+    /// Which of the seven faults, C1 to C7.
+    pub number: u8,
+    /// Where: the first byte of the field. For `TRUNCATED` it is the file's length, for `LEFT_OVER`
+    /// the first byte left over, for `MEMORY` 0.
+    pub offset: usize,
+}
+
+/// What a reader of one field answers in place of the field.
+#[derive(Clone, Copy, Debug)]
+pub enum ReadError {
+    Memory,
+    Fault(FormatFault),
+}
+
+impl From<FormatFault> for ReadError {
+    ghost from_gives = { λ f e. e ≡ Fault f };
+
+    fn from(fault: FormatFault) -> ReadError {
+        ReadError::Fault(fault)
+    }
+}
+
+impl From<AllocError> for ReadError {
+    ghost from_gives = { λ _ e. e ≡ Memory };
+
+    fn from(_e: AllocError) -> ReadError {
+        ReadError::Memory
+    }
+}
+
+impl<T: Drop> From<AllocFailed<T>> for ReadError {
+    ghost from_gives = { λ _ e. e ≡ Memory };
+
+    fn from(_e: AllocFailed<T>) -> ReadError {
+        ReadError::Memory
+    }
+}

@@ -1,0 +1,33 @@
+//! The module file: code, constants and the certificate that comes with them.
+#![tactic(auto)]
+
+mod contexts;
+mod fact;
+mod fault;
+mod keeping;
+mod laws;
+mod limits;
+mod modules;
+mod reading;
+mod rows;
+mod tables;
+mod writing;
+
+pub use contexts::{Context, context_at};
+pub use fact::{Fact, Step};
+pub use fault::{FormatFault, LEFT_OVER, LIMIT, MAGIC, MEMORY, ORDER, RANGE, TRUNCATED};
+pub use laws::{one_contents_one_file, one_file_one_contents, reading_again, reading_finds};
+pub use limits::{
+    MAX_BUDGET, MAX_CODE, MAX_CONSTANTS, MAX_DATA_WORDS, MAX_LABELS, MAX_MESSAGE, MAX_PARS,
+    MAX_PROCEDURES,
+};
+pub use modules::Module;
+pub use rows::{
+    BranchRow, ChannelRow, Direction, EndKind, EndRow, Ends, Entry, Interval, LabelRow, ParRow,
+    Parameter, ParameterKind, ProcedureRow, TableRow,
+};
+pub use tables::{Tables, Version};
+pub use writing::write;
+
+#[cfg(test)]
+mod tests;

@@ -1,0 +1,18 @@
+//! The limits of the format. A number above one is the fault `LIMIT`.
+
+/// Bytes of code in version 1.
+pub const MAX_CODE: u32 = 65_535;
+/// Bytes of constants.
+pub const MAX_CONSTANTS: u32 = 16_384;
+/// Words of the data area.
+pub const MAX_DATA_WORDS: u32 = 16_384;
+/// Instruction bytes that a run may execute: 2 to the power of 62.
+pub const MAX_BUDGET: u64 = 4_611_686_018_427_387_904;
+/// Bytes of a message.
+pub const MAX_MESSAGE: u32 = 4_096;
+/// Procedure rows.
+pub const MAX_PROCEDURES: u32 = 512;
+/// Label rows.
+pub const MAX_LABELS: u32 = 8_192;
+/// PAR rows.
+pub const MAX_PARS: u32 = 1_024;

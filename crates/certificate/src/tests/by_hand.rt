@@ -1,0 +1,313 @@
+//! Tables by hand: which keep the format, and the file of those that do.
+
+use super::JUMP;
+use crate::{
+    Ends, Entry, Fact, LabelRow, ParRow, Parameter, ParameterKind, ProcedureRow, Step, TableRow,
+    Tables, Version, write,
+};
+use std::alloc::{AllocError, Global};
+use std::test::*;
+
+const CODE: [u8; 6] = [0x45, 0xd1, 0, 0x71, 0x21, 0xf5];
+
+const LONG: [u8; 16_385] = [0; 16_385];
+
+fn label(alloc: Global, offset: u32) -> LabelRow {
+    LabelRow {
+        offset,
+        context: 0,
+        depth: 0,
+        number: 3,
+        a: Fact::Unknown,
+        b: Fact::Unknown,
+        c: Fact::Unknown,
+        entries: Vec::new(alloc),
+    }
+}
+
+/// The tables of the file `JUMP`, with these label rows.
+fn tables_with(alloc: Global, labels: Vec<LabelRow>) -> Tables<'static> {
+    Tables {
+        version: Version::One,
+        code: &CODE,
+        constants: &[],
+        data_words: 5,
+        base: 3,
+        budget: 6,
+        finish: 6,
+        lengths: [0; 8],
+        has_long_operations: false,
+        procedures: Vec::new(alloc),
+        labels,
+        pars: Vec::new(alloc),
+        table_rows: Vec::new(alloc),
+    }
+}
+
+fn jump(alloc: Global) -> Result<Tables<'static>, AllocError> {
+    let mut labels = Vec::new(alloc);
+    labels.push(label(alloc, 3))?;
+    Ok(tables_with(alloc, labels))
+}
+
+#[test]
+fn written_by_hand(rt: HostRuntime) -> Result<(), Fail> {
+    let tables = jump(rt.alloc())?;
+    assert!(rt; tables.keeps());
+    let file = write(rt.alloc(), &tables)?;
+    assert_eq!(rt; file.as_slice(), JUMP.as_slice());
+    Ok(())
+}
+
+/// Which numbers of the header do not keep the format.
+#[test]
+fn headers(rt: HostRuntime) -> Result<(), Fail> {
+    let alloc = rt.alloc();
+    let bad = [
+        Tables {
+            code: &[],
+            ..jump(alloc)?
+        },
+        Tables {
+            finish: 7,
+            ..jump(alloc)?
+        },
+        Tables {
+            constants: &LONG,
+            ..jump(alloc)?
+        },
+        Tables {
+            data_words: 0,
+            base: 0,
+            ..jump(alloc)?
+        },
+        Tables {
+            data_words: 16_385,
+            ..jump(alloc)?
+        },
+        Tables {
+            base: 6,
+            ..jump(alloc)?
+        },
+        Tables {
+            budget: 4_611_686_018_427_387_905,
+            ..jump(alloc)?
+        },
+        Tables {
+            lengths: [0, 0, 0, 4_097, 0, 0, 0, 0],
+            ..jump(alloc)?
+        },
+        Tables {
+            version: Version::Two,
+            ..jump(alloc)?
+        },
+        Tables {
+            has_long_operations: true,
+            ..jump(alloc)?
+        },
+    ];
+    for tables in &bad {
+        assert!(rt; !tables.keeps(), "{tables:?}");
+    }
+    Ok(())
+}
+
+/// Rows that are not read yet.
+#[test]
+fn other_rows(rt: HostRuntime) -> Result<(), Fail> {
+    let alloc = rt.alloc();
+    let mut tables = jump(alloc)?;
+    let mut parameters = Vec::new(alloc);
+    parameters.push(Parameter {
+        word: 1,
+        kind: ParameterKind::Channels {
+            count: 1,
+            length: 4,
+            ends: Ends::IN | Ends::OUT,
+        },
+    })?;
+    tables.procedures.push(ProcedureRow {
+        entry: 4,
+        lo: 0,
+        hi: 4,
+        number: 5,
+        parameters,
+    })?;
+    assert!(rt; !tables.keeps());
+
+    let mut tables = jump(alloc)?;
+    tables.pars.push(ParRow {
+        context: 0,
+        depth: 0,
+        block: 0,
+        successor: 4,
+        channels: Vec::new(alloc),
+        branches: Vec::new(alloc),
+    })?;
+    assert!(rt; !tables.keeps());
+
+    let mut tables = jump(alloc)?;
+    tables.table_rows.push(TableRow {
+        start: 0,
+        end: 4,
+        lo: 0,
+        hi: 9,
+    })?;
+    assert!(rt; !tables.keeps());
+    Ok(())
+}
+
+/// Facts of registers, and whether a row with them keeps the format.
+const FACTS: [(Fact, bool); 8] = [
+    (Fact::Number { lo: -1, hi: 5 }, true),
+    (Fact::Number { lo: 5, hi: 5 }, true),
+    (
+        Fact::Number {
+            lo: i32::MIN,
+            hi: i32::MAX,
+        },
+        true,
+    ),
+    (Fact::Number { lo: 6, hi: 5 }, false),
+    (
+        Fact::Pointer {
+            region: 0,
+            lo: 0,
+            hi: 0,
+            step: Step::Word,
+        },
+        false,
+    ),
+    (Fact::CodeAddress { offset: 0 }, false),
+    (
+        Fact::Loop {
+            base: 0,
+            count: 3,
+            weight: 6,
+        },
+        false,
+    ),
+    (Fact::ReturnAddress, false),
+];
+
+#[test]
+fn facts(rt: HostRuntime) -> Result<(), Fail> {
+    let alloc = rt.alloc();
+    for (fact, keeps) in &FACTS {
+        for register in 0..3 {
+            let mut labels = Vec::new(alloc);
+            let mut row = label(alloc, 3);
+            match register {
+                0 => row.a = *fact,
+                1 => row.b = *fact,
+                _ => row.c = *fact,
+            }
+            labels.push(row)?;
+            assert_eq!(rt; tables_with(alloc, labels).keeps(), *keeps, "{fact:?}");
+        }
+    }
+    Ok(())
+}
+
+/// Two entries of a row in a frame of the words -3 to 1, by word and span, and whether it keeps the format.
+const ENTRIES: [(i32, u32, i32, u32, bool); 9] = [
+    (-3, 1, 1, 1, true),
+    (-3, 2, -1, 3, true),
+    (-3, 3, -1, 3, false),
+    (-3, 1, -3, 1, false),
+    (0, 1, -1, 1, false),
+    (-4, 1, 1, 1, false),
+    (-3, 1, 1, 2, false),
+    (-3, 0, 1, 1, false),
+    (-3, 1, 1, u32::MAX, false),
+];
+
+fn number_at(word: i32, span: u32) -> Entry {
+    Entry {
+        word,
+        span,
+        fact: Fact::Number { lo: 0, hi: 9 },
+    }
+}
+
+#[test]
+fn entries(rt: HostRuntime) -> Result<(), Fail> {
+    let alloc = rt.alloc();
+    for (word, span, other, length, keeps) in &ENTRIES {
+        let mut row = label(alloc, 3);
+        row.entries.push(number_at(*word, *span))?;
+        row.entries.push(number_at(*other, *length))?;
+        let mut labels = Vec::new(alloc);
+        labels.push(row)?;
+        assert_eq!(rt;
+            tables_with(alloc, labels).keeps(),
+            *keeps,
+            "{word} {span} {other} {length}"
+        );
+    }
+    Ok(())
+}
+
+/// Offsets and contexts of two label rows in six bytes of code, and whether they keep the format.
+const ORDERS: [(u32, u32, u16, bool); 7] = [
+    (1, 5, 0, true),
+    (3, 3, 0, false),
+    (4, 3, 0, false),
+    (0, 3, 0, false),
+    (3, 6, 0, false),
+    (1, 5, 1, false),
+    (1, 5, 65_535, false),
+];
+
+#[test]
+fn orders(rt: HostRuntime) -> Result<(), Fail> {
+    let alloc = rt.alloc();
+    for (first, second, context, keeps) in &ORDERS {
+        let mut row = label(alloc, *second);
+        row.context = *context;
+        let mut labels = Vec::new(alloc);
+        labels.push(label(alloc, *first))?;
+        labels.push(row)?;
+        assert_eq!(rt;
+            tables_with(alloc, labels).keeps(),
+            *keeps,
+            "{first} {second} {context}"
+        );
+    }
+    Ok(())
+}
+
+/// As many label rows as the format allows, and one more.
+#[test]
+fn many_labels(rt: HostRuntime) -> Result<(), Fail> {
+    let alloc = rt.alloc();
+    for (count, keeps) in [(8_192, true), (8_193, false)] {
+        let mut labels = Vec::new(alloc);
+        for offset in 1..=count {
+            labels.push(label(alloc, offset))?;
+        }
+        let mut tables = tables_with(alloc, labels);
+        tables.code = &LONG;
+        assert_eq!(rt; tables.keeps(), keeps, "{count}");
+    }
+    Ok(())
+}
+
+/// As many entries as a row can have, and one more.
+#[test]
+fn many_entries(rt: HostRuntime) -> Result<(), Fail> {
+    let alloc = rt.alloc();
+    for (count, keeps) in [(16_384, true), (16_385, false), (65_536, false)] {
+        let mut row = label(alloc, 3);
+        for word in 0..count {
+            row.entries.push(number_at(word, 1))?;
+        }
+        let mut labels = Vec::new(alloc);
+        labels.push(row)?;
+        let mut tables = tables_with(alloc, labels);
+        tables.data_words = 16_384;
+        tables.base = 0;
+        assert_eq!(rt; tables.keeps(), keeps, "{count}");
+    }
+    Ok(())
+}
