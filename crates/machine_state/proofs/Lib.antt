@@ -1,0 +1,4 @@
+pub mod Examples
+pub mod Reading
+pub mod Scheduling
+pub mod TaggedCells

@@ -1,0 +1,12 @@
+pub mod Memory
+pub mod Holding
+pub mod World
+pub mod LocalStep
+pub mod Moves
+pub mod Happens
+pub mod Views
+pub mod Tagged
+pub mod Performing
+pub mod MemoryLaws
+pub mod SmallModules
+pub mod Apart

@@ -1,0 +1,94 @@
+-- The moves that events are made of. Each changes one or two parts of the world, and reads the process itself.
+use Rattle.std.specs.Prelude.{ℕ, ◌+◌, ◌%◌, ◌^◌, ◌==◌, Bool, ◌||◌, if◌then◌else◌, [], ◌∷◌, ◌++◌, length, Option, Some, None, slice_get, slice_set}
+use Rattle.std.specs.List.{remove}
+use Rattle.machine_state.specs.declared.process.Task.{Task}
+use Rattle.machine_state.specs.declared.process.Condition.{Condition}
+use Rattle.machine_state.specs.declared.process.Condition.TheVariants.{Ready, OnLink, Alternating}
+use Rattle.machine_state.specs.declared.link.Link.{Link}
+use Rattle.machine_state.specs.declared.link.Link.TheVariants.{Zero, One, Two, Three}
+use Rattle.machine_state.specs.declared.link.InputLink.{InputLink}
+use Rattle.machine_state.specs.declared.link.OutputLink.{OutputLink}
+use Rattle.machine_state.specs.declared.fault.Fault.{Fault}
+use Rattle.machine_state.specs.Memory.{Memory, place_of, with_byte}
+use Rattle.machine_state.specs.World.{World, Queue}
+
+-- ---- counters and faults
+
+abbrev pub counted : World → World
+counted w = record w { counters = record w.counters { executed = w.counters.executed + 1 } }
+
+abbrev pub finished_where : Bool → World → World
+finished_where b w = record w { counters = record w.counters { is_finished = w.counters.is_finished || b } }
+
+abbrev pub faulty : Fault → World → World
+faulty f w = record w { fault = Some f }
+
+-- ---- processes
+
+-- the process goes on as this task, and memory is this
+abbrev pub put : ℕ → Task → Memory → World → World
+put p task memory w = record w { tasks = slice_set w.tasks p task; memory = memory }
+
+abbrev pub with_condition : ℕ → Condition → World → World
+with_condition p condition w = elim (slice_get w.tasks p) [ None ↦ w | Some task ↦ record w { tasks = slice_set w.tasks p (record task { condition = condition }) } ]
+
+-- ---- the queue
+
+-- nobody runs
+abbrev pub leave : World → World
+leave w = record w { queue = record w.queue { running = None } }
+
+-- to the back of the ready list
+abbrev pub enqueue : ℕ → World → World
+enqueue p w = record w { queue = record w.queue { ready = w.queue.ready ++ p ∷ [] } }
+
+abbrev pub wake : ℕ → World → World
+wake p w = enqueue p (with_condition p Ready w)
+
+-- Where nobody runs, the ready process number pick, counted round the list, is taken out and runs.
+abbrev pub picked : ℕ → Queue → Queue
+picked pick queue = elim queue.running [
+  | Some p ↦ queue
+  | None ↦ elim queue.ready [
+    | [] ↦ queue
+    | p ∷ ps ↦ let place = pick % length (p ∷ ps) in record { running = slice_get (p ∷ ps) place; ready = remove (p ∷ ps) place }
+  ]
+]
+
+unfoldable pub dispatch : ℕ → World → World
+dispatch pick w = record w { queue = picked pick w.queue }
+
+-- ---- links
+
+abbrev pub link_index : Link → ℕ
+link_index Zero = 0
+link_index One = 1
+link_index Two = 2
+link_index Three = 3
+
+abbrev pub with_input : ℕ → InputLink → World → World
+with_input k link w = record w { links = record w.links { inputs = slice_set w.links.inputs k link } }
+
+abbrev pub with_output : ℕ → OutputLink → World → World
+with_output k link w = record w { links = record w.links { outputs = slice_set w.links.outputs k link } }
+
+-- The byte goes into the buffer of the process that waits on the input link; with the last one it becomes ready.
+abbrev pub fill_condition : ℕ → ℕ → ℕ → InputLink → Condition → World → World
+fill_condition p k byte link (OnLink exchange done) w =
+    let filled = record w { memory = with_byte w.memory (place_of ((exchange.address + done) % 2 ^ 32)) (Some byte) } in
+    if done + 1 == exchange.length
+    then wake p (with_input k (record link { waiting = None }) filled)
+    else with_condition p (OnLink exchange (done + 1)) filled
+fill_condition p k byte link _ w = w
+
+abbrev pub fill : ℕ → ℕ → ℕ → InputLink → World → World
+fill p k byte link w = elim (slice_get w.tasks p) [ None ↦ w | Some task ↦ fill_condition p k byte link task.condition w ]
+
+-- A process that has enabled the link and waits becomes ready.
+abbrev pub rouse_condition : ℕ → Condition → World → World
+rouse_condition p Alternating w = wake p w
+rouse_condition p _ w = w
+
+abbrev pub rouse : Option ℕ → World → World
+rouse None w = w
+rouse (Some p) w = elim (slice_get w.tasks p) [ None ↦ w | Some task ↦ rouse_condition p task.condition w ]

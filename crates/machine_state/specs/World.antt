@@ -1,0 +1,133 @@
+-- The whole machine at a moment, as parts: an event that leaves a part alone leaves what is known of it alone.
+use Rattle.std.specs.Prelude.{ℕ, ◌+◌, ◌-◌, ◌*◌, ◌%◌, ◌^◌, ◌≤◌, ◌==◌, nat_lt, pos, Bool, false, if◌then◌else◌, List, [], ◌∷◌, ◌++◌, length, map, replicate, Option, Some, None, slice_get}
+use Rattle.certificate.specs.declared.rows.Direction.TheVariants.{In, Out}
+use Rattle.certificate.specs.Contents.{Contents}
+use Rattle.machine_state.specs.Memory.{Memory, data_start}
+use Rattle.machine_state.specs.Holding.{Holding, nothing}
+use Rattle.machine_state.specs.declared.process.Task.{Task}
+use Rattle.machine_state.specs.declared.process.Channel.{Channel}
+use Rattle.machine_state.specs.declared.process.Mode.TheVariants.{Plain}
+use Rattle.machine_state.specs.declared.process.Condition.TheVariants.{Ready}
+use Rattle.machine_state.specs.declared.link.InputLink.{InputLink}
+use Rattle.machine_state.specs.declared.link.OutputLink.{OutputLink}
+use Rattle.machine_state.specs.declared.holding.End.{End}
+use Rattle.machine_state.specs.declared.fault.Fault.{Fault}
+
+-- A PAR whose branches are not all joined. It keeps what its branches have not been given.
+pub record Join : Type 0 where
+  pub row : ℕ
+  pub block : ℕ
+  pub rest : Holding
+  pub members : List ℕ
+  pub is_starting : Bool
+
+-- What a process has for good, the openers of the joins that it is in (innermost first), and the join that it has open.
+pub record Role : Type 0 where
+  pub own : Holding
+  pub above : List ℕ
+  pub opened : Option Join
+  pub is_over : Bool
+
+-- what a process holds now: while it has a join open, only what its branches have not been given
+abbrev pub held : Role → Holding
+held role = if role.is_over then nothing else elim role.opened [ None ↦ role.own | Some join ↦ join.rest ]
+
+-- what the process of this number holds: nothing where there is no such process
+abbrev pub holding_at : List Role → ℕ → Holding
+holding_at roles p = elim (slice_get roles p) [ None ↦ nothing | Some role ↦ held role ]
+
+-- the roles by process number, and the process whose holding counts
+pub record Roles : Type 0 where
+  pub table : List Role
+  pub holder : ℕ
+
+-- the process that runs, and those that wait for their turn, the first in front
+pub record Queue : Type 0 where
+  pub running : Option ℕ
+  pub ready : List ℕ
+
+-- the four output links and the four input links
+pub record Links : Type 0 where
+  pub outputs : List OutputLink
+  pub inputs : List InputLink
+
+pub record Counters : Type 0 where
+  pub executed : ℕ
+  pub is_finished : Bool
+
+-- tasks and roles have one index, the process number
+pub record World : Type 0 where
+  pub memory : Memory
+  pub tasks : List Task
+  pub roles : List Role
+  pub queue : Queue
+  pub links : Links
+  pub channels : List Channel
+  pub counters : Counters
+  pub fault : Option Fault
+
+-- ---- the loaded world
+
+-- how many bytes lie between the code and the constants, which begin at a word
+abbrev pub padding : ℕ → ℕ
+padding code_length = (4 - code_length % 4) % 4
+
+-- the places of the constants: from the first to the one behind the last
+abbrev pub constants_start : Contents → ℕ
+constants_start m = 4 * m.data_words + length m.code + padding (length m.code)
+
+abbrev pub loaded_memory : Contents → Memory
+loaded_memory m = replicate (4 * m.data_words) None ++ map Some m.code ++ replicate (padding (length m.code)) None ++ map Some m.constants
+
+-- the constants, which lie last, end within the address space
+abbrev pub IsLoadable : Contents → Type 0
+IsLoadable m = data_start + constants_start m + length m.constants ≤ 2 ^ 32
+
+-- the words of the links: output link k at MostNeg + 4k, input link k at MostNeg + 16 + 4k (T414 compiler writer's guide)
+abbrev pub output_word : ℕ → ℕ
+output_word k = 0x80000000 + 4 * k
+
+abbrev pub input_word : ℕ → ℕ
+input_word k = 0x80000010 + 4 * k
+
+-- The root holds the ends of the links that have a message length.
+abbrev pub link_ends_from : ℕ → List ℕ → List End
+link_ends_from k [] = []
+link_ends_from k (n ∷ ns) =
+    let ends = link_ends_from (k + 1) ns in
+    if n == 0 then ends else record { address = output_word k; direction = if nat_lt k 4 then Out else In } ∷ ends
+
+abbrev pub root_holding : Contents → Holding
+root_holding m = record {
+  writes = record { start = 0; end = 4 * m.data_words } ∷ [];
+  reads = record { start = constants_start m; end = constants_start m + length m.constants } ∷ [];
+  ends = link_ends_from 0 m.lengths;
+}
+
+abbrev pub root_task : Contents → Task
+root_task m = record {
+  registers = record { workspace = data_start + 4 * m.base; at = 0; began = 0; operand = pos 0; a = None; b = None; c = None };
+  mode = Plain;
+  condition = Ready;
+}
+
+abbrev pub root_role : Contents → Role
+root_role m = record { own = root_holding m; above = []; opened = None; is_over = false }
+
+abbrev pub quiet_links : Links
+quiet_links = record {
+  outputs = replicate 4 (record { waiting = None });
+  inputs = replicate 4 (record { kept = None; waiting = None; enabled = None });
+}
+
+abbrev pub loaded : Contents → World
+loaded m = record {
+  memory = loaded_memory m;
+  tasks = root_task m ∷ [];
+  roles = root_role m ∷ [];
+  queue = record { running = Some 0; ready = [] };
+  links = quiet_links;
+  channels = [];
+  counters = record { executed = 0; is_finished = false };
+  fault = None;
+}

@@ -1,0 +1,161 @@
+//! The running process, and what its instructions ask.
+
+ghost use Rattle.std.specs.Prelude.{◌≡◌, ◌+◌, nat_lt, IsTrue};
+ghost use Rattle.std.specs.Option.{ok_or};
+ghost use Rattle.machine_state.specs.Holding.{may_write_word, may_read_word};
+ghost use Rattle.machine_state.specs.LocalStep.{alone, beside_guards, target, holds_scheduling_words, without_scheduling_words};
+ghost use Rattle.machine_state.specs.Memory.{place_of, word_at};
+ghost use Rattle.machine_state.specs.Performing.{fault_of, value_or_fault, Admits};
+
+use crate::address::local_address;
+use crate::fault::{ALTERNATION_ORDER, Fault, JOIN_ORDER, NOT_OWN, OUTSIDE_CODE, UNDEFINED};
+use crate::process::{Mode, Registers, Word};
+use crate::store::Store;
+
+/// The running process over a store.
+#[derive(Debug, Drop)]
+pub struct Cpu<S> {
+    /// The number of the process.
+    pub process: u64,
+    pub registers: Registers,
+    pub mode: Mode,
+    /// The bytes of the code.
+    pub code_length: u32,
+    pub store: S,
+}
+
+/// How a process goes on after an instruction. Later instructions add kinds.
+#[derive(Clone, Copy, Debug, PartialEq, Eq)]
+pub enum Flow {
+    /// Behind the instruction.
+    Next,
+    /// At a code offset, by an instruction after which the process may go to the back of the ready list.
+    Jump { to: u32 },
+    /// It stops for good.
+    Stop,
+}
+
+impl<S> Cpu<S> {
+    /// The fault of this number in the present instruction.
+    pub fn fault(&self, number: u8) -> Fault
+        ensures { result ≡ fault_of self.now number }
+    {
+        Fault {
+            number,
+            process: self.process,
+            offset: self.registers.began,
+        }
+    }
+
+    /// The value of a register that an instruction uses: it is defined, else `UNDEFINED`.
+    pub fn used(&self, register: Word) -> Result<i32, Fault>
+        ensures { result ≡ ok_or register (fault_of self.now UNDEFINED) }
+    {
+        register.ok_or(self.fault(UNDEFINED))
+    }
+
+    /// The code offset behind the present instruction, whose last byte is at `at`.
+    pub fn next(&self) -> u64
+        ensures { result ≡ self.now.registers.at + 1 }
+    {
+        u64::from(self.registers.at) + 1
+    }
+
+    /// Passes where the offset lies in the code, else `OUTSIDE_CODE`.
+    pub fn in_code(&self, offset: u64) -> Result<(), Fault>
+        ensures { result ≡ value_or_fault self.now (nat_lt offset self.now.code_length) tt OUTSIDE_CODE }
+    {
+        if offset < u64::from(self.code_length) {
+            Ok(())
+        } else {
+            Err(self.fault(OUTSIDE_CODE))
+        }
+    }
+
+    /// Passes outside alternations and the starts of a PAR, else `ALTERNATION_ORDER` or `JOIN_ORDER`.
+    #[tactic(auto, unfolding(crate::specs::LocalStep::alone))]
+    pub fn alone(&self) -> Result<(), Fault>
+        ensures { Admits self.now result (alone self.now.mode) }
+    {
+        match self.mode {
+            Mode::Plain => Ok(()),
+            Mode::Enabling | Mode::Disabling { .. } => Err(self.fault(ALTERNATION_ORDER)),
+            Mode::Starting { .. } => Err(self.fault(JOIN_ORDER)),
+        }
+    }
+
+    /// Passes outside the starts of a PAR, else `JOIN_ORDER`.
+    #[tactic(auto, unfolding(crate::specs::LocalStep::beside_guards))]
+    pub fn beside_guards(&self) -> Result<(), Fault>
+        ensures { Admits self.now result (beside_guards self.now.mode) }
+    {
+        match self.mode {
+            Mode::Plain | Mode::Enabling | Mode::Disabling { .. } => Ok(()),
+            Mode::Starting { .. } => Err(self.fault(JOIN_ORDER)),
+        }
+    }
+
+    /// The code offset that lies so far from the next instruction, modulo 2^32.
+    pub fn target(&self, distance: i32) -> u32
+        ensures { result ≡ target (self.now.registers.at + 1) distance }
+    {
+        self.registers
+            .at
+            .wrapping_add(1)
+            .wrapping_add_signed(distance)
+    }
+}
+
+impl<S: Store> Cpu<S> {
+    /// The word at an address that may be read, else `NOT_OWN`.
+    pub fn read(&self, address: u32) -> Result<Word, Fault>
+        ensures { let place = place_of address in
+            let can_load = may_read_word (S.holding self.now.store) place in
+            result ≡ value_or_fault self.now can_load (word_at (S.cells self.now.store) place) NOT_OWN }
+    {
+        if self.store.can_load_word(address) {
+            Ok(self.store.load_word(address))
+        } else {
+            Err(self.fault(NOT_OWN))
+        }
+    }
+
+    /// Passes where the word at an address may be written, else `NOT_OWN`.
+    pub fn writable(&self, address: u32) -> Result<(), Fault>
+        ensures { let can_store = may_write_word (S.holding self.now.store) (place_of address) in
+            result ≡ value_or_fault self.now can_store tt NOT_OWN }
+    {
+        if self.store.can_store_word(address) {
+            Ok(())
+        } else {
+            Err(self.fault(NOT_OWN))
+        }
+    }
+
+    /// Passes where the process may write the three words below its workspace, which scheduling takes, else
+    /// `NOT_OWN`.
+    pub fn schedulable(&self) -> Result<(), Fault>
+        ensures { let holds = holds_scheduling_words (S.holding self.now.store) self.now.registers.workspace in
+            result ≡ value_or_fault self.now holds tt NOT_OWN }
+    {
+        let workspace = self.registers.workspace;
+        self.writable(local_address(workspace, -1))?;
+        self.writable(local_address(workspace, -2))?;
+        self.writable(local_address(workspace, -3))
+    }
+
+    /// Makes the three words below the workspace undefined, as scheduling leaves them.
+    pub fn clear_scheduling_words(&mut self)
+        requires { IsTrue (holds_scheduling_words (S.holding self.old.store) self.old.registers.workspace) }
+        ensures memory { let before = S.cells self.old.store in
+            S.cells self.new.store ≡ without_scheduling_words before self.old.registers.workspace }
+        ensures holding { S.holding self.new.store ≡ S.holding self.old.store }
+        ensures roles { S.roles self.new.store ≡ S.roles self.old.store }
+        ensures rest { self.new ≡ record self.old { store = self.new.store } }
+    {
+        let workspace = self.registers.workspace;
+        self.store.store_word(local_address(workspace, -1), None);
+        self.store.store_word(local_address(workspace, -2), None);
+        self.store.store_word(local_address(workspace, -3), None);
+    }
+}

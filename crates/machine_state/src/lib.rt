@@ -1,0 +1,38 @@
+//! What a transputer is at a moment, and how one event changes it.
+#![tactic(auto)]
+
+mod address;
+mod cells;
+mod cpu;
+mod event;
+mod fault;
+mod holding;
+mod laws;
+mod link;
+mod loading;
+mod op;
+mod process;
+mod role;
+mod store;
+mod tagged;
+
+pub use address::{DATA_START, local_address, place_of};
+pub use cpu::{Cpu, Flow};
+pub use event::{Effect, Event};
+pub use fault::{
+    ALTERNATION_ORDER, COUNT_RANGE, END_NOT_HELD, ERROR_FLAG, Fault, JOIN_ORDER, NOT_OWN,
+    OUTSIDE_CODE, UNALIGNED, UNDEFINED, UNEQUAL_LENGTHS, UNKNOWN_OPERATION,
+};
+pub use holding::{End, Holding, Span};
+pub use laws::{
+    memory_keeps_its_length, memory_reads_back, memory_stays_elsewhere, small_modules_end,
+};
+pub use link::{InputLink, Link, OutputLink};
+pub use op::Op;
+pub use process::{Channel, Condition, Exchange, Mode, Registers, Task, Word};
+pub use role::{Join, Role};
+pub use store::Store;
+pub use tagged::TaggedStore;
+
+#[cfg(test)]
+mod tests;

@@ -1,0 +1,143 @@
+//! One process: its registers, and what it is doing.
+
+ghost use Rattle.std.specs.Prelude.{◌≡◌, ◌+◌, ◌*◌, ◌<◌, ◌^◌, None};
+ghost use Rattle.certificate.specs.Contents.{contents_of};
+ghost use Rattle.machine_state.specs.Memory.{data_start};
+ghost use Rattle.machine_state.specs.World.{root_task};
+
+use crate::address::DATA_START;
+use certificate::Tables;
+
+/// A word of 32 bits as a signed number, or undefined.
+pub type Word = Option<i32>;
+
+/// The registers of one process.
+#[derive(Clone, Copy, Debug, PartialEq, Eq)]
+pub struct Registers {
+    /// The address of its workspace, a multiple of 4.
+    pub workspace: u32,
+    /// The code offset of the next byte.
+    pub at: u32,
+    /// The code offset where the present instruction began, its prefixes included.
+    pub began: u32,
+    /// The operand so far.
+    pub operand: i32,
+    pub a: Word,
+    pub b: Word,
+    pub c: Word,
+}
+
+impl Registers {
+    /// Pushes a word onto the evaluation stack.
+    pub fn push(&mut self, word: Word)
+        ensures { self.new ≡ record self.old { a = word; b = self.old.a; c = self.old.b } }
+    {
+        self.c = self.b;
+        self.b = self.a;
+        self.a = word;
+    }
+
+    /// Pops a word off the evaluation stack; the lowest register is undefined then.
+    pub fn pop(&mut self)
+        ensures { self.new ≡ record self.old { a = self.old.b; b = self.old.c; c = None } }
+    {
+        self.a = self.b;
+        self.b = self.c;
+        self.c = None;
+    }
+
+    /// Makes the evaluation stack undefined.
+    pub fn forget(&mut self)
+        ensures { self.new ≡ record self.old { a = None; b = None; c = None } }
+    {
+        self.a = None;
+        self.b = None;
+        self.c = None;
+    }
+}
+
+/// What a process is in the middle of, apart from waiting.
+#[derive(Clone, Copy, Debug, PartialEq, Eq)]
+pub enum Mode {
+    Plain,
+    /// Between `alt` and `altwt`.
+    Enabling,
+    /// Between `altwt` and `altend`, with the selected offset.
+    Disabling { selection: Option<i32> },
+    /// Starting the branches of a PAR row, of which some are started.
+    Starting { row: u32, started: u32 },
+}
+
+/// A message that is being sent or received.
+#[derive(Clone, Copy, Debug, PartialEq, Eq)]
+pub struct Exchange {
+    /// The channel's address.
+    pub channel: u32,
+    /// The address of the message's first byte.
+    pub address: u32,
+    /// How many bytes the message has.
+    pub length: u32,
+}
+
+/// Whether a process can run, and what it waits for.
+#[derive(Clone, Copy, Debug, PartialEq, Eq)]
+pub enum Condition {
+    /// It runs, or is in the ready list.
+    Ready,
+    /// It waits for a receiver on an internal channel.
+    Sending(Exchange),
+    /// It waits for a sender on an internal channel.
+    Receiving(Exchange),
+    /// It waits on a link: for bytes, of which some have come, or for an acknowledgement.
+    OnLink { exchange: Exchange, done: u32 },
+    /// It waits for one of the guards that it has enabled.
+    Alternating,
+    /// It has stopped for good.
+    Stopped,
+    /// It has ended in its join.
+    Ended,
+}
+
+/// A process at a moment.
+#[derive(Clone, Copy, Debug, PartialEq, Eq)]
+pub struct Task {
+    pub registers: Registers,
+    pub mode: Mode,
+    pub condition: Condition,
+}
+
+impl Task {
+    /// The root of a loaded module: at the first byte of the code, with its workspace at the data word that
+    /// the module says and undefined registers.
+    pub fn root(tables: &Tables) -> Self
+        requires { data_start + 4 * tables.now.base < 2 ^ 32 }
+        ensures { result ≡ root_task (contents_of tables.now) }
+    {
+        Task {
+            registers: Registers {
+                workspace: DATA_START + 4 * tables.base,
+                at: 0,
+                began: 0,
+                operand: 0,
+                a: None,
+                b: None,
+                c: None,
+            },
+            mode: Mode::Plain,
+            condition: Condition::Ready,
+        }
+    }
+}
+
+/// An internal channel that some open join owns.
+#[derive(Clone, Copy, Debug, PartialEq, Eq)]
+pub struct Channel {
+    /// The address of the channel word.
+    pub address: u32,
+    /// The length of its messages in bytes.
+    pub length: u32,
+    /// The process that waits there, to send or to receive.
+    pub waiting: Option<u64>,
+    /// The process whose alternation has enabled it.
+    pub enabled: Option<u64>,
+}

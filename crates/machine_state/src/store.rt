@@ -1,0 +1,60 @@
+//! Memory as the running process may touch it.
+
+ghost use Rattle.std.specs.Prelude.{◌≡◌, IsTrue};
+ghost use Rattle.machine_state.specs.Holding.{Holding, may_write, may_read, may_write_word, may_read_word};
+ghost use Rattle.machine_state.specs.World.{Roles};
+ghost use Rattle.machine_state.specs.Memory.{Memory, place_of, byte_at, with_byte, word_at, with_word};
+
+use crate::process::Word;
+
+/// Memory, and what the running process may touch of it. Bytes and words are named by their addresses.
+pub trait Store {
+    /// The bytes from the start of the data area on, each defined or not.
+    ghost cells: { Self → Memory };
+
+    /// What the running process may touch.
+    ghost holding: { Self → Holding };
+
+    /// What each process may touch, and whose turn it is: a store that does not keep it has an empty table.
+    ghost roles: { Self → Roles };
+
+    /// Whether the byte may be read.
+    fn can_load_byte(&self, address: u32) -> bool
+        ensures { result ≡ may_read (holding self.now) (place_of address) };
+
+    /// Whether the byte may be written.
+    fn can_store_byte(&self, address: u32) -> bool
+        ensures { result ≡ may_write (holding self.now) (place_of address) };
+
+    /// Whether the four bytes of the word may be read.
+    fn can_load_word(&self, address: u32) -> bool
+        ensures { result ≡ may_read_word (holding self.now) (place_of address) };
+
+    /// Whether the four bytes of the word may be written.
+    fn can_store_word(&self, address: u32) -> bool
+        ensures { result ≡ may_write_word (holding self.now) (place_of address) };
+
+    /// The byte, none where it is undefined.
+    fn load_byte(&self, address: u32) -> Option<u8>
+        requires { IsTrue (may_read (holding self.now) (place_of address)) }
+        ensures { result ≡ byte_at (cells self.now) (place_of address) };
+
+    /// Writes the byte; none makes it undefined.
+    fn store_byte(&mut self, address: u32, byte: Option<u8>)
+        requires { IsTrue (may_write (holding self.old) (place_of address)) }
+        ensures memory { cells self.new ≡ with_byte (cells self.old) (place_of address) byte }
+        ensures holding { holding self.new ≡ holding self.old }
+        ensures roles { roles self.new ≡ roles self.old };
+
+    /// The word, none where one of its bytes is undefined.
+    fn load_word(&self, address: u32) -> Word
+        requires { IsTrue (may_read_word (holding self.now) (place_of address)) }
+        ensures { result ≡ word_at (cells self.now) (place_of address) };
+
+    /// Writes the word; none makes its bytes undefined.
+    fn store_word(&mut self, address: u32, value: Word)
+        requires { IsTrue (may_write_word (holding self.old) (place_of address)) }
+        ensures memory { cells self.new ≡ with_word (cells self.old) (place_of address) value }
+        ensures holding { holding self.new ≡ holding self.old }
+        ensures roles { roles self.new ≡ roles self.old };
+}
