@@ -1,0 +1,47 @@
+//! Constants, and the words of the workspace.
+#![tactic(auto, unfolding(machine_state::specs::LocalStep::local_step, machine_state::specs::LocalStep::uses, machine_state::specs::LocalStep::reads, machine_state::specs::LocalStep::writes, machine_state::specs::LocalStep::goes_on))]
+
+ghost use Rattle.prefix_decoder.specs.declared.function.Fun.TheVariants.{LoadConstant, LoadLocal, StoreLocal};
+ghost use Rattle.machine_state.specs.Performing.{Performs, IsSameElsewhere, direct_outcome};
+
+use machine_state::{Cpu, Fault, Flow, Store, local_address};
+
+/// `ldc`: the operand is pushed.
+pub(crate) fn load_constant<S: Store>(cpu: &mut Cpu<S>, operand: i32) -> Result<Flow, Fault>
+    ensures performs { let outcome = direct_outcome S.cells S.holding cpu.old LoadConstant operand in
+        Performs S.cells cpu.old cpu.new result outcome }
+    ensures elsewhere { IsSameElsewhere S.holding S.roles cpu.old cpu.new }
+{
+    cpu.in_code(cpu.next())?;
+    cpu.registers.push(Some(operand));
+    Ok(Flow::Next)
+}
+
+/// `ldl`: the word with this number from the workspace is pushed.
+pub(crate) fn load_local<S: Store>(cpu: &mut Cpu<S>, operand: i32) -> Result<Flow, Fault>
+    ensures performs { let outcome = direct_outcome S.cells S.holding cpu.old LoadLocal operand in
+        Performs S.cells cpu.old cpu.new result outcome }
+    ensures elsewhere { IsSameElsewhere S.holding S.roles cpu.old cpu.new }
+{
+    cpu.beside_guards()?;
+    let word = cpu.read(local_address(cpu.registers.workspace, operand))?;
+    cpu.in_code(cpu.next())?;
+    cpu.registers.push(word);
+    Ok(Flow::Next)
+}
+
+/// `stl`: A goes to the word with this number from the workspace, and is popped.
+pub(crate) fn store_local<S: Store>(cpu: &mut Cpu<S>, operand: i32) -> Result<Flow, Fault>
+    ensures performs { let outcome = direct_outcome S.cells S.holding cpu.old StoreLocal operand in
+        Performs S.cells cpu.old cpu.new result outcome }
+    ensures elsewhere { IsSameElsewhere S.holding S.roles cpu.old cpu.new }
+{
+    cpu.alone()?;
+    let value = cpu.used(cpu.registers.a)?;
+    let address = local_address(cpu.registers.workspace, operand);
+    cpu.writable(address)?;
+    cpu.in_code(cpu.next())?;
+    cpu.store.store_word(address, Some(value));
+    cpu.registers.pop();
+    Ok(Flow::Next)
+}
