@@ -1,0 +1,5 @@
+pub mod Lookups
+pub mod RowFacts
+pub mod FrameFacts
+pub mod Comparisons
+pub mod States

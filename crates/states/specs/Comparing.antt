@@ -1,0 +1,23 @@
+-- One map of facts against another, word by word.
+use Rattle.std.specs.Prelude.{◌≡◌, ◌⊎◌, ℤ, ◌-ℤ◌, true, false, List, Some}
+use Rattle.certificate.specs.declared.fact.Fact.{Fact}
+use Rattle.states.specs.declared.overlay.Written.{Written}
+use Rattle.states.specs.State.{Facts}
+use Rattle.states.specs.Below.{implies}
+use Rattle.states.specs.Frames.{fact_of_index}
+
+-- the one says of each word at least what the other says
+abbrev pub SaysAll : Facts → Facts → Type 0
+SaysAll facts wanted = (k : ℤ) → implies (facts k) (wanted k) ≡ true
+
+-- of some word the one says less than the other
+abbrev pub SaysLess : Facts → Facts → Type 0
+SaysLess facts wanted = (k : ℤ) × (implies (facts k) (wanted k) ≡ false)
+
+-- of each word one of the two says at least what is wanted
+abbrev pub OneSaysAll : Facts → Facts → Facts → Type 0
+OneSaysAll facts others wanted = (k : ℤ) → (implies (facts k) (wanted k) ≡ true) ⊎ (implies (others k) (wanted k) ≡ true)
+
+-- what was written says at least what is wanted
+abbrev pub WrittenSaysAll : List Written → ℤ → Facts → Type 0
+WrittenSaysAll written lo wanted = (k : ℤ) (fact : Fact) → fact_of_index written (k -ℤ lo) ≡ Some fact → implies fact (wanted k) ≡ true

@@ -1,0 +1,35 @@
+-- A state in memory, as the state that it is, and the module that it is one of.
+use Rattle.std.specs.Prelude.{◌≡◌, ℕ, ℤ, Option, Some, None, Bool, true, false, ◌&&◌, int_le, int_lt, Result, Ok, Err}
+use Rattle.certificate.specs.Contents.{Contents}
+use Rattle.certificate.specs.Contexts.{context_at}
+use Rattle.states.specs.declared.state.State.{State as InMemory}
+use Rattle.states.specs.declared.rule.RuleFault.{RuleFault}
+use Rattle.states.specs.State.{State, has_word}
+use Rattle.states.specs.Frames.{frame_facts, HasRoom}
+
+abbrev pub state_of : InMemory → State
+state_of s = record {
+  context = s.context;
+  depth = s.depth;
+  a = s.a;
+  b = s.b;
+  c = s.c;
+  frame = frame_facts s.frame;
+  number = s.number;
+  mode = s.mode;
+  guards = s.guards.items;
+}
+
+-- there is room for word k
+pub record CanWrite (s : InMemory) (k : ℤ) : Type 0 where
+  pub room : HasRoom s.frame k
+
+-- The state is one of this module: it knows which words its context has, and has room for each word of each context.
+pub record BelongsTo (m : Contents) (s : InMemory) : Type 0 where
+  pub own : (k : ℤ) → has_word (context_at m s.context) k ≡ (int_le s.lo k && int_lt k s.hi)
+  pub room : (n : ℕ) (k : ℤ) → has_word (context_at m n) k ≡ true → CanWrite s k
+
+-- an answer with its fault as a number
+abbrev pub numbered : {A : Type 0} → Result A RuleFault → Result A ℕ
+numbered (Ok x) = Ok x
+numbered (Err fault) = Err fault.number

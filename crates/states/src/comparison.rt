@@ -1,0 +1,50 @@
+//! When a state may go on as a label's.
+
+ghost use Rattle.std.specs.Prelude.{◌≡◌};
+ghost use Rattle.certificate.specs.Contents.{label_of};
+ghost use Rattle.states.specs.Below.{is_plain, agrees, below};
+ghost use Rattle.states.specs.Rows.{AreApart};
+ghost use Rattle.states.specs.Views.{state_of, numbered};
+
+use crate::implication::implies;
+use crate::known::Mode;
+use crate::rule::{BUDGET, LABEL, RuleFault};
+use crate::state::State;
+use certificate::LabelRow;
+
+fn is_plain(mode: Mode) -> bool
+    ensures { result ≡ is_plain mode }
+{
+    mode == Mode::Plain
+}
+
+/// Whether a state stands where a label's does, and knows at least as much.
+fn agrees(state: &State, row: &LabelRow) -> bool
+    requires { AreApart row.now.entries.items }
+    ensures { result ≡ agrees (state_of state.now) (label_of row.now) }
+{
+    state.context == u32::from(row.context)
+        && state.depth == row.depth
+        && is_plain(state.mode)
+        && implies(state.a.fact, row.a)
+        && implies(state.b.fact, row.b)
+        && implies(state.c.fact, row.c)
+        && state.frame.holds(&row.entries)
+}
+
+/// What it costs a state to go on as a label's. `BUDGET`: it cannot pay. `LABEL`: it stands elsewhere, or
+/// knows less. The time goes with the entries of the row and of the label before, and with the words
+/// written since then.
+#[tactic(auto, unfolding(crate::specs::Below::below))]
+pub fn below(state: &State, row: &LabelRow) -> Result<u64, RuleFault>
+    requires { AreApart row.now.entries.items }
+    ensures { numbered result ≡ below (state_of state.now) (label_of row.now) }
+{
+    if state.number < row.number {
+        return Err(RuleFault { number: BUDGET });
+    }
+    if !agrees(state, row) {
+        return Err(RuleFault { number: LABEL });
+    }
+    Ok(row.number)
+}

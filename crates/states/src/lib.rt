@@ -1,0 +1,21 @@
+//! What is known of a process at a place of its code.
+#![tactic(auto)]
+
+mod comparison;
+mod frame;
+mod implication;
+mod known;
+mod overlay;
+mod row;
+mod rule;
+mod state;
+
+pub use comparison::below;
+pub use implication::implies;
+pub use known::{Guard, Known, Mode, Source};
+pub use rule::{
+    ALTERNATION, BUDGET, CALL, CHANNEL, FLOW, FORWARD, INSTRUCTION_START, LABEL, MEMORY,
+    MESSAGE_LENGTH, NUMBER, OWN_WORD, PAR, POINTER, REGIONS_MEET, RuleFault, SPELLING,
+    UNKNOWN_REGISTER,
+};
+pub use state::State;

@@ -1,0 +1,226 @@
+//! What is known of a process at a place of its code.
+
+ghost use Rattle.std.specs.Prelude.{◌≡◌, ◌≤ℤ◌, ◌<ℤ◌, ℕ, ℤ, IfOk, IfSome, is_some, true, ◌&&◌, int_le, int_lt};
+ghost use Rattle.certificate.specs.Contents.{Contents, contents_of, label_of};
+ghost use Rattle.certificate.specs.Contexts.{context_at};
+ghost use Rattle.certificate.specs.Keeping.{Keeps};
+ghost use Rattle.states.specs.State.{unknown, known, without_source, forgets, written, root_state, label_state, has_word};
+ghost use Rattle.states.specs.Rows.{AreApart};
+ghost use Rattle.states.specs.Views.{state_of, CanWrite, BelongsTo};
+ghost use Rattle.states.specs.Room.{Covers};
+
+use crate::frame::Frame;
+use crate::known::{Guard, Known, Mode, Source};
+use certificate::{Fact, LabelRow, Module, Tables, context_at};
+use std::alloc::{AllocError, Global};
+
+/// How many guards an alternation may have.
+const MAX_GUARDS: usize = 64;
+
+/// What is known of a process at a place of its code. All that it needs is allocated when it is made.
+#[derive(Debug, Drop)]
+pub struct State<'a> {
+    pub context: u32,
+    /// The workspace in words of the frame.
+    pub depth: i32,
+    pub a: Known,
+    pub b: Known,
+    pub c: Known,
+    pub(crate) frame: Frame<'a>,
+    /// The first word of the context's frame.
+    pub(crate) lo: i64,
+    /// The first word behind the context's frame.
+    pub(crate) hi: i64,
+    /// What may still be paid.
+    pub number: u64,
+    pub mode: Mode,
+    pub guards: Vec<Guard>,
+}
+
+/// The source, once a word is written.
+fn without_source(word: i32, source: Source) -> Source
+    ensures { result ≡ without_source word source }
+{
+    match source {
+        Source::From { word: from } if from == word => Source::Nowhere,
+        Source::Test { word: from, .. } if from == word => Source::Nowhere,
+        _ => source,
+    }
+}
+
+/// What is known of a register, once a word is written.
+fn forgets(word: i32, known: Known) -> Known
+    ensures { result ≡ forgets word known }
+{
+    Known {
+        fact: known.fact,
+        source: without_source(word, known.source),
+    }
+}
+
+impl Known {
+    /// Nothing is known.
+    pub const UNKNOWN: Known = Known {
+        fact: Fact::Unknown,
+        source: Source::Nowhere,
+    };
+
+    /// This is known, and not where it comes from.
+    pub fn of(fact: Fact) -> Self
+        ensures { result ≡ known fact }
+    {
+        Known {
+            fact,
+            source: Source::Nowhere,
+        }
+    }
+}
+
+/// The first word of a context's frame, and the first behind it; no words where there is no such context.
+fn own_words(tables: &Tables, context: u16) -> (i64, i64)
+    requires { Keeps (contents_of tables.now) }
+    ensures { (k : ℤ) → has_word (context_at (contents_of tables.now) context) k ≡ (int_le result.0 k && int_lt k result.1) }
+{
+    match context_at(tables, context) {
+        Some(words) => (words.lo, words.hi),
+        None => (0, 0),
+    }
+}
+
+/// The first word that some context of the module has, and the first behind all of them.
+fn room_of(tables: &Tables) -> (i32, i32)
+    requires { Keeps (contents_of tables.now) }
+    ensures covers { Covers (contents_of tables.now) result.0 result.1 }
+    ensures rises { result.0 ≤ℤ result.1 }
+{
+    let base = tables.base as i32;
+    let mut lo = -base;
+    let mut hi = tables.data_words as i32 - base;
+    for row in &tables.procedures {
+        lo = lo.min(row.lo);
+        hi = hi.max(row.hi);
+    }
+    (lo, hi)
+}
+
+impl<'a> State<'a> {
+    /// The state of the root when the module begins.
+    pub fn root(alloc: Global, module: &Module) -> Result<Self, AllocError>
+        ensures state { IfOk result (λ s. state_of s ≡ root_state «module».now) }
+        ensures belongs { IfOk result (BelongsTo «module».now) }
+    {
+        let tables = module.tables();
+        let (lo, hi) = room_of(tables);
+        let room = (i64::from(hi) - i64::from(lo)) as usize;
+        let (own_lo, own_hi) = own_words(tables, 0);
+        Ok(State {
+            context: 0,
+            depth: 0,
+            a: Known::UNKNOWN,
+            b: Known::UNKNOWN,
+            c: Known::UNKNOWN,
+            frame: Frame::new(alloc, lo, room)?,
+            lo: own_lo,
+            hi: own_hi,
+            number: tables.budget,
+            mode: Mode::Plain,
+            guards: Vec::with_capacity(alloc, MAX_GUARDS)?,
+        })
+    }
+
+    /// The word, if it is one of the frame of the state's context.
+    pub fn own_word(&self, word: i64) -> Option<i32>
+        ensures some { IfSome result (λ k. k ≡ word) }
+        ensures own { (m : Contents) → BelongsTo m self.now → is_some result ≡ has_word (context_at m self.now.context) word }
+        ensures room { (m : Contents) → BelongsTo m self.now → IfSome result (CanWrite self.now) }
+    {
+        if word < self.lo || self.hi <= word {
+            return None;
+        }
+        i32::try_from(word).ok()
+    }
+
+    /// What is known of a word of the frame.
+    pub fn fact_at(&self, word: i32) -> Fact
+        ensures { result ≡ (state_of self.now).frame word }
+    {
+        self.frame.fact_at(i64::from(word))
+    }
+
+    /// A word of the frame has this fact from now on, and no register speaks of what it was. The time does
+    /// not depend on how much is known.
+    pub fn write(&mut self, word: i32, fact: Fact)
+        requires { CanWrite self.old word }
+        ensures state { state_of self.new ≡ written word fact (state_of self.old) }
+        ensures belongs { (m : Contents) → BelongsTo m self.old → BelongsTo m self.new }
+        ensures room { (k : ℤ) → CanWrite self.old k → CanWrite self.new k }
+    {
+        self.frame.write(i64::from(word), fact);
+        self.a = forgets(word, self.a);
+        self.b = forgets(word, self.b);
+        self.c = forgets(word, self.c);
+    }
+
+    /// A value comes on top of the registers.
+    pub fn push(&mut self, value: Known)
+        ensures state { state_of self.new ≡ record (state_of self.old) { a = value; b = self.old.a; c = self.old.b } }
+        ensures belongs { (m : Contents) → BelongsTo m self.old → BelongsTo m self.new }
+    {
+        self.c = self.b;
+        self.b = self.a;
+        self.a = value;
+    }
+
+    /// The top of the registers goes.
+    pub fn pop(&mut self)
+        ensures state { state_of self.new ≡ record (state_of self.old) { a = self.old.b; b = self.old.c; c = unknown } }
+        ensures belongs { (m : Contents) → BelongsTo m self.old → BelongsTo m self.new }
+    {
+        self.a = self.b;
+        self.b = self.c;
+        self.c = Known::UNKNOWN;
+    }
+
+    /// The state goes on as a label's. The time does not depend on how much is known.
+    pub fn become_label(&mut self, module: &Module, row: &'a LabelRow)
+        requires belongs { BelongsTo «module».now self.old }
+        requires apart { AreApart row.now.entries.items }
+        ensures state { state_of self.new ≡ label_state (label_of row.now) }
+        ensures belongs { BelongsTo «module».now self.new }
+    {
+        let (lo, hi) = own_words(module.tables(), row.context);
+        self.lo = lo;
+        self.hi = hi;
+        self.context = u32::from(row.context);
+        self.depth = row.depth;
+        self.a = Known::of(row.a);
+        self.b = Known::of(row.b);
+        self.c = Known::of(row.c);
+        self.frame.restart(&row.entries);
+        self.number = row.number;
+        self.mode = Mode::Plain;
+        self.guards.clear();
+    }
+
+    /// The same state again.
+    pub fn copy(&self, alloc: Global) -> Result<Self, AllocError>
+        ensures state { IfOk result (λ s. state_of s ≡ state_of self.now) }
+        ensures belongs { (m : Contents) → BelongsTo m self.now → IfOk result (BelongsTo m) }
+    {
+        let mut guards = Vec::with_capacity(alloc, MAX_GUARDS)?;
+        guards.extend_from_slice(&self.guards)?;
+        Ok(State {
+            context: self.context,
+            depth: self.depth,
+            a: self.a,
+            b: self.b,
+            c: self.c,
+            frame: self.frame.copy(alloc)?,
+            lo: self.lo,
+            hi: self.hi,
+            number: self.number,
+            mode: self.mode,
+            guards,
+        })
+    }
+}
