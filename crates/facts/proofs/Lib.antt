@@ -1,0 +1,5 @@
+pub mod LabelRows
+pub mod Steps
+pub mod Numbers
+pub mod Words
+pub mod Local

@@ -1,0 +1,47 @@
+use Rattle.std.proofs.Common.{rules, arith, ◌≡◌, ◌∙◌, sym, ap, refl, subst, ℕ, ℤ, negsuc, ◌+ℤ◌, ◌+◌}
+use Rattle.std.proofs.lemmas.Int.{ints, to_z-of_z}
+use Rattle.std.proofs.lemmas.Result.{err_from_is_err_and}
+use Rattle.std.specs.Int.{w32}
+use Rattle.states.specs.Views.{state_of, CanWrite}
+use Rattle.facts.specs.Rules.{rule, goes_on, leads_to, schedules, operation_rule, without_registers}
+use Rattle.facts.specs.Places.{site_of}
+use Rattle.facts.proofs.Steps.{advances-by, load_constant-done, load_local-own, load_local-after, store_local-own, store_local-after, add_constant-number, add_constant-range, add_constant-after, jump-forward, scheduled, operate-is}
+use Rattle.facts.proofs.place.Place.jump.Goals as goal
+
+pub returns-in_err-outside_alternation-clause-ruling : goal.returns-in_err-outside_alternation-clause-ruling
+unfolding rule
+returns-in_err-outside_alternation-clause-ruling c =
+    let p = err_from_is_err_and c.from_residual.result c.from_residual.ensures.1 in
+    rw (p.1, p.2) (c.in_err-outside_alternation.ensures _)
+
+pub returns-in_err-forward-clause-ruling : goal.returns-in_err-forward-clause-ruling
+returns-in_err-forward-clause-ruling c =
+    let p = err_from_is_err_and c.from_residual-in_err-forward.result c.from_residual-in_err-forward.ensures.1 in
+    rw (p.1, p.2) (jump-forward (site_of c.args.self.now) (state_of c.args.state.now) c.args.distance _ c.in_ok-outside_alternation.ensures (to_z-of_z w32 c.args.distance c.ranges.distance)
+    ∙ c.in_err-forward.ensures _)
+
+pub returns-in_err-outside_starts-clause-ruling : goal.returns-in_err-outside_starts-clause-ruling
+returns-in_err-outside_starts-clause-ruling c =
+    let p = err_from_is_err_and c.from_residual-in_err-outside_starts.result c.from_residual-in_err-outside_starts.ensures.1 in
+    rw (p.1, p.2) (jump-forward (site_of c.args.self.now) (state_of c.args.state.now) c.args.distance _ c.in_ok-outside_alternation.ensures (to_z-of_z w32 c.args.distance c.ranges.distance)
+    ∙ (c.in_ok-forward.ensures _ ∙ c.in_err-outside_starts.ensures _))
+
+pub returns-in_err-schedules-clause-ruling : goal.returns-in_err-schedules-clause-ruling
+returns-in_err-schedules-clause-ruling c =
+    let p = err_from_is_err_and c.from_residual-in_err-schedules.result c.from_residual-in_err-schedules.ensures.1 in
+    rw (p.1, p.2) (jump-forward (site_of c.args.self.now) (state_of c.args.state.now) c.args.distance _ c.in_ok-outside_alternation.ensures (to_z-of_z w32 c.args.distance c.ranges.distance)
+    ∙ (c.in_ok-forward.ensures _ ∙ (c.in_ok-outside_starts.ensures _ ∙ c.in_err-schedules.ensures.test _)))
+
+pub returns-in_err-pays-clause-ruling : goal.returns-in_err-pays-clause-ruling
+returns-in_err-pays-clause-ruling c =
+    let p = err_from_is_err_and c.from_residual-in_err-pays.result c.from_residual-in_err-pays.ensures.1 in
+    rw (p.1, p.2) (jump-forward (site_of c.args.self.now) (state_of c.args.state.now) c.args.distance _ c.in_ok-outside_alternation.ensures (to_z-of_z w32 c.args.distance c.ranges.distance)
+    ∙ (c.in_ok-forward.ensures _ ∙ (c.in_ok-outside_starts.ensures _ ∙ (c.in_ok-schedules.ensures.test _ ∙ c.in_err-pays.ensures.test _))))
+
+pub returns-clause-ruling : goal.returns-clause-ruling
+returns-clause-ruling c =
+    advances-by c.leads_to.result _ _ _
+    (jump-forward (site_of c.args.self.now) (state_of c.args.state.now) c.args.distance _ c.in_ok-outside_alternation.ensures (to_z-of_z w32 c.args.distance c.ranges.distance)
+    ∙ (c.in_ok-forward.ensures _ ∙ (c.in_ok-outside_starts.ensures _ ∙ (c.in_ok-schedules.ensures.test _ ∙ (c.in_ok-pays.ensures.test _
+    ∙ ap (λ (z : ℕ). leads_to (site_of c.args.self.now) z (without_registers (state_of c.pays.new.state))) (sym c.target.ensures))))))
+    c.leads_to.ensures

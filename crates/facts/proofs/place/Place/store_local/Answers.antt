@@ -1,0 +1,23 @@
+use Rattle.std.proofs.Common.{rules, arith, ◌≡◌, ◌∙◌, sym, ap, refl, subst, ℕ, ℤ, negsuc, ◌+ℤ◌, ◌+◌}
+use Rattle.std.proofs.lemmas.Int.{ints, to_z-of_z}
+use Rattle.std.proofs.lemmas.Result.{err_from_is_err_and}
+use Rattle.std.specs.Int.{w32}
+use Rattle.states.specs.Views.{state_of, CanWrite}
+use Rattle.facts.specs.Rules.{rule, goes_on, leads_to, schedules, operation_rule, without_registers}
+use Rattle.facts.specs.Places.{site_of}
+use Rattle.facts.proofs.Steps.{advances-by, load_constant-done, load_local-own, load_local-after, store_local-own, store_local-after, add_constant-number, add_constant-range, add_constant-after, jump-forward, scheduled, operate-is}
+use Rattle.facts.proofs.place.Place.store_local.Goals as goal
+
+pub returns-clause-ruling : goal.returns-clause-ruling
+returns-clause-ruling c =
+    let same = to_z-of_z w32 c.args.distance c.ranges.distance in
+    let fits = to_z-of_z w32 c.in_ok-word.word (search rules) in
+    advances-by c.goes_on.result (state_of c.goes_on.new.state) _ _
+    (store_local-own (site_of c.args.self.now) (state_of c.args.state.now) c.args.distance _ c.in_ok-fact.fact c.in_ok-fact.ensures c.in_ok-outside_alternation.ensures c.in_ok-outside_starts.ensures same
+    ∙ (c.in_ok-word.ensures.test _
+    ∙ ap (goes_on (site_of c.args.self.now)) (store_local-after (state_of c.args.state.now) (state_of c.write.new.self) (state_of c.pop.new.self) _ _ c.in_ok-fact.fact (fits ∙ c.in_ok-word.ensures.word) c.write.ensures.state c.pop.ensures.state)))
+    c.goes_on.ensures.ruling
+
+pub returns-clause-belongs : goal.returns-clause-belongs
+returns-clause-belongs c =
+    c.goes_on.ensures.belongs c.args.self.now.program.now (c.pop.ensures.belongs c.args.self.now.program.now (c.write.ensures.belongs c.args.self.now.program.now c.requires))

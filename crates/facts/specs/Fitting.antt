@@ -1,0 +1,55 @@
+-- When the rule of an instruction and its step fit each other: where the rule is not broken, the step is no fault, it changes own bytes only, and what the rule
+-- says of the state behind it holds.
+use Rattle.std.specs.Prelude.{◌≡◌, ℕ, ◌+◌, ◌≤◌, ◌<◌, ℤ, FitsSigned, length, Some}
+use Rattle.std.specs.Int.{w32}
+use Rattle.prefix_decoder.specs.declared.function.Fun.{Fun}
+use Rattle.certificate.specs.Contents.{Contents, Label, label_at}
+use Rattle.certificate.specs.Contexts.{context_at}
+use Rattle.machine_state.specs.declared.process.Mode as machine
+use Rattle.machine_state.specs.Memory.{Memory}
+use Rattle.machine_state.specs.Holding.{Holding}
+use Rattle.machine_state.specs.LocalStep as step
+use Rattle.machine_state.specs.LocalStep.{Outcome, goes, lands, stops, fails, Local}
+use Rattle.states.specs.State.{State, label_state, has_word}
+use Rattle.facts.specs.Rules as rule
+use Rattle.facts.specs.Rules.{Ruling, falls, leads, ends, breaks}
+use Rattle.facts.specs.Meaning.{HasFrame, Knows, ChangesOwn, SameMode, IsWellFormed}
+
+-- what holds behind an instruction: the frame is still there, and the state is known
+pub record After (m : Contents) (h : Holding) (mode : machine.Mode) (origin : ℤ) (s : State) (l : Local) : Type 0 where
+  pub frame : HasFrame h (length l.memory) (has_word (context_at m s.context)) origin s.depth l.registers.workspace
+  pub knows : Knows (has_word (context_at m s.context)) s origin l.registers l.memory
+  pub same_mode : SameMode s.mode mode
+
+-- where an instruction runs: the module, what the process holds, its mode, memory and number before, and the place of the instruction
+pub record Here : Type 0 where
+  pub m : Contents
+  pub h : Holding
+  pub mode : machine.Mode
+  pub memory : Memory
+  pub number : ℕ
+  pub at : ℕ
+  pub len : ℕ
+
+abbrev pub rule_site : Here → rule.Site
+rule_site x = record { contents = x.m; at = x.at; length = x.len }
+
+abbrev pub step_site : Here → step.Site
+step_site x = record { code_length = length x.m.code; next = x.at + x.len; mode = x.mode; holding = x.h }
+
+-- A ruling and an outcome fit each other.
+pub data Fits (x : Here) : Ruling → Outcome → Type 0 where
+  it_falls : {s : State} {l : Local} (origin : ℤ) → x.at + x.len < length x.m.code → After x.m x.h x.mode origin s l → ChangesOwn x.h x.memory l.memory → s.number + x.len ≡ x.number → Fits x (falls s) (goes l)
+  it_leads : {to : ℕ} {l : Local} {t : Label} (origin : ℤ) → label_at x.m to ≡ Some t → to < length x.m.code → After x.m x.h x.mode origin (label_state t) l → ChangesOwn x.h x.memory l.memory → t.number + x.len ≤ x.number → Fits x (leads to) (lands to l)
+  it_ends : {l : Local} → ChangesOwn x.h x.memory l.memory → x.len ≤ x.number → Fits x ends (stops l)
+  it_breaks : {v : ℕ} {o : Outcome} → Fits x (breaks v) o
+
+-- what falls through has code behind it
+abbrev pub HasNext : Here → Ruling → Type 0
+HasNext x r = (s : State) → r ≡ falls s → x.at + x.len < length x.m.code
+
+-- In a state that holds of a process, each instruction's rule and step fit.
+abbrev pub RulesFitSteps : Type 0
+RulesFitSteps =
+    (x : Here) (s : State) (l : Local) (origin : ℤ) (f : Fun) (e : ℤ) → IsWellFormed x.m → After x.m x.h x.mode origin s l → ChangesOwn x.h x.memory l.memory → s.number ≡ x.number
+    → FitsSigned w32 e → HasNext x (rule.rule (rule_site x) f e s) → Fits x (rule.rule (rule_site x) f e s) (step.local_step (step_site x) f e l)

@@ -1,0 +1,7 @@
+pub mod Rules
+pub mod Labels
+pub mod Telling
+pub mod Places
+pub mod Successions
+pub mod Meaning
+pub mod Fitting

@@ -1,0 +1,150 @@
+-- The rule of each instruction: what it wants of the state before it, and what it leaves. The rules mirror the steps of the
+-- machine, and their tests stand in rising order of the numbers told.
+use Rattle.std.specs.Prelude.{ℕ, ◌+◌, ◌-◌, nat_lt, ◌&&◌, if◌then◌else◌, ℤ, pos, negsuc, ◌+ℤ◌, Option, Some, None, Ok, Err}
+use Rattle.prefix_decoder.specs.declared.function.Fun.{Fun}
+use Rattle.prefix_decoder.specs.declared.function.Fun.TheVariants.{Jump, LoadConstant, LoadLocal, AddConstant, StoreLocal, Operate}
+use Rattle.prefix_decoder.specs.declared.decoding.Instr.{Instr}
+use Rattle.certificate.specs.declared.fact.Fact.{Fact}
+use Rattle.certificate.specs.declared.fact.Fact.TheVariants.{Unknown, Number, Pointer, CodeAddress, Loop, ReturnAddress}
+use Rattle.certificate.specs.Contents.{Contents, label_at}
+use Rattle.certificate.specs.Contexts.{context_at}
+use Rattle.machine_state.specs.declared.op.Op.{Op}
+use Rattle.machine_state.specs.declared.op.Op.TheVariants.{StopProcess}
+use Rattle.machine_state.specs.LocalStep.{op_of, fits_word, target}
+use Rattle.states.specs.declared.known.Known.{Known}
+use Rattle.states.specs.declared.known.Source.TheVariants.{From}
+use Rattle.states.specs.declared.known.Mode.{Mode}
+use Rattle.states.specs.declared.known.Mode.TheVariants.{Plain, Enabling, Disabling, Starting}
+use Rattle.states.specs.State.{State, unknown, known, written, has_word}
+use Rattle.states.specs.Below.{below}
+
+-- where a rule leads
+pub data Ruling : Type 0 where
+  -- the process goes on behind the instruction, in this state
+  falls : State → Ruling
+  -- it goes on at the label at this offset, and nothing falls through
+  leads : ℕ → Ruling
+  -- it stops
+  ends : Ruling
+  -- a rule is broken, by this number
+  breaks : ℕ → Ruling
+
+-- the place of an instruction: the module, and the offset and the bytes of the instruction
+pub record Site : Type 0 where
+  pub contents : Contents
+  pub at : ℕ
+  pub length : ℕ
+
+-- ---- combinators, in rising order of the numbers told
+
+-- an instruction that may not stand in an alternation
+unfoldable pub outside_alternation : Mode → Ruling → Ruling
+outside_alternation Plain k = k
+outside_alternation Enabling k = breaks 10
+outside_alternation (Disabling done) k = breaks 10
+outside_alternation (Starting row started) k = k
+
+-- one that may not stand among the starts of a PAR
+unfoldable pub outside_starts : Mode → Ruling → Ruling
+outside_starts Plain k = k
+outside_starts Enabling k = k
+outside_starts (Disabling done) k = k
+outside_starts (Starting row started) k = breaks 12
+
+-- a register that is used is known
+unfoldable pub uses : Known → (Fact → Ruling) → Ruling
+uses known k = elim known.fact [ Unknown ↦ breaks 4 | _ ↦ k known.fact ]
+
+-- a number is wanted
+unfoldable pub number : Fact → (ℤ → ℤ → Ruling) → Ruling
+number (Number lo hi) k = k lo hi
+number _ k = breaks 5
+
+-- a result that does not fit a word
+unfoldable pub in_word : ℤ → ℤ → (Fact → Ruling) → Ruling
+in_word lo hi k = if fits_word lo && fits_word hi then k (Number lo hi) else breaks 5
+
+-- the code offset that is e from the next instruction lies behind it
+unfoldable pub forward : ℤ → Ruling → Ruling
+forward (pos n) k = k
+forward (negsuc n) k = breaks 11
+
+-- word k is one of the frame of the state's context
+unfoldable pub owns : Site → State → ℤ → Ruling → Ruling
+owns site s k next = if has_word (context_at site.contents s.context) k then next else breaks 14
+
+-- the three words below the workspace are the context's, and unknown afterwards
+unfoldable pub schedules : Site → State → (State → Ruling) → Ruling
+schedules site s k =
+    let below = λ (n : ℕ). s.depth +ℤ negsuc n in
+    owns site s (below 0) (owns site s (below 1) (owns site s (below 2)
+    (k (written (below 2) Unknown (written (below 1) Unknown (written (below 0) Unknown s))))))
+
+-- each byte of the instruction is paid from the number
+unfoldable pub pays : Site → State → (State → Ruling) → Ruling
+pays site s k = if nat_lt s.number site.length then breaks 15 else k (record s { number = s.number - site.length })
+
+-- there is a label at the offset, and the state is below it
+unfoldable pub leads_to : Site → ℕ → State → Ruling
+leads_to site to s = elim (label_at site.contents to) [
+  | None ↦ breaks 16
+  | Some t ↦ elim (below s t) [ Ok cost ↦ leads to | Err v ↦ breaks v ]
+]
+
+unfoldable pub goes_on : Site → State → Ruling
+goes_on site s = pays site s falls
+
+-- ---- registers
+
+abbrev pub push : Known → State → State
+push v s = record s { a = v; b = s.a; c = s.b }
+
+abbrev pub pop : State → State
+pop s = record s { a = s.b; b = s.c; c = unknown }
+
+abbrev pub with_a : Known → State → State
+with_a v s = record s { a = v }
+
+abbrev pub without_registers : State → State
+without_registers s = record s { a = unknown; b = unknown; c = unknown }
+
+-- a constant
+abbrev pub constant : ℤ → Known
+constant v = known (Number v v)
+
+-- what ldl gives: the word's fact, and where it is a number, that it comes from there
+abbrev pub loaded : ℤ → Fact → Known
+loaded k (Number lo hi) = record { fact = Number lo hi; source = From k }
+loaded k Unknown = unknown
+loaded k (Pointer region lo hi step) = known (Pointer region lo hi step)
+loaded k (CodeAddress offset) = known (CodeAddress offset)
+loaded k (Loop base count weight) = unknown
+loaded k ReturnAddress = unknown
+
+-- ---- the instructions
+
+unfoldable pub operation_rule : Site → Option Op → State → Ruling
+operation_rule site None s = breaks 1
+operation_rule site (Some StopProcess) s =
+    outside_alternation s.mode (outside_starts s.mode (schedules site s (λ s. pays site s (λ s. ends))))
+
+unfoldable pub rule : Site → Fun → ℤ → State → Ruling
+rule site LoadConstant e s = goes_on site (push (constant e) s)
+rule site LoadLocal e s =
+    let k = s.depth +ℤ e in
+    outside_starts s.mode (owns site s k (goes_on site (push (loaded k (s.frame k)) s)))
+rule site StoreLocal e s =
+    let k = s.depth +ℤ e in
+    uses s.a (λ a. outside_alternation s.mode (outside_starts s.mode (owns site s k (goes_on site (pop (written k a s))))))
+rule site AddConstant e s =
+    uses s.a (λ a. number a (λ lo hi. in_word (lo +ℤ e) (hi +ℤ e) (λ sum.
+    outside_alternation s.mode (outside_starts s.mode (goes_on site (with_a (known sum) s))))))
+rule site Jump e s =
+    outside_alternation s.mode (forward e (outside_starts s.mode (schedules site s (λ s. pays site s (λ s.
+    leads_to site (target (site.at + site.length) e) (without_registers s))))))
+rule site Operate e s = operation_rule site (op_of e) s
+rule site _ e s = breaks 1
+
+-- the rule for the instruction that stands at an offset
+abbrev pub rule_at : Contents → ℕ → Instr → State → Ruling
+rule_at m at i s = rule (record { contents = m; at = at; length = i.len }) i.fun i.operand s

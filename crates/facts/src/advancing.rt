@@ -1,0 +1,39 @@
+//! The rule of an instruction, on a state in place.
+
+ghost use Rattle.states.specs.Views.{state_of, BelongsTo};
+ghost use Rattle.facts.specs.Rules.{rule_at};
+ghost use Rattle.facts.specs.Telling.{Advances};
+
+use crate::place::{Onward, Place};
+use certificate::Module;
+use prefix_decoder::{Fun, Instr};
+use states::{RuleFault, SPELLING, State};
+
+/// Takes a state over the instruction that stands at a code offset, by the rule of that instruction. Where
+/// the rule is broken, the state is left part of the way.
+#[tactic(auto, unfolding(crate::specs::Rules::rule))]
+pub fn advance(
+    state: &mut State,
+    module: &Module,
+    at: usize,
+    instr: Instr,
+) -> Result<Onward, RuleFault>
+    requires { BelongsTo «module».now state.old }
+    ensures ruling { Advances result (state_of state.new) (rule_at «module».now at instr (state_of state.old)) }
+    ensures belongs { BelongsTo «module».now state.new }
+{
+    let place = Place {
+        program: module,
+        at,
+        len: instr.len,
+    };
+    match instr.fun {
+        Fun::LoadConstant => place.load_constant(state, instr.operand),
+        Fun::LoadLocal => place.load_local(state, instr.operand),
+        Fun::StoreLocal => place.store_local(state, instr.operand),
+        Fun::AddConstant => place.add_constant(state, instr.operand),
+        Fun::Jump => place.jump(state, instr.operand),
+        Fun::Operate => place.operate(state, instr.operand),
+        _ => Err(RuleFault { number: SPELLING }),
+    }
+}

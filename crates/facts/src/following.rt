@@ -1,0 +1,49 @@
+//! The states that follow an instruction.
+
+ghost use Rattle.std.specs.Prelude.{IfOk};
+ghost use Rattle.states.specs.Views.{state_of, BelongsTo};
+ghost use Rattle.facts.specs.Rules.{rule_at};
+ghost use Rattle.facts.specs.Successions.{Succeeds, Follow};
+
+use crate::advancing::advance;
+use crate::place::Onward;
+use certificate::Module;
+use prefix_decoder::Instr;
+use states::{MEMORY, RuleFault, State};
+use std::alloc::Global;
+
+/// The states that follow an instruction, and where.
+#[derive(Debug, Drop)]
+pub enum Successors<'a> {
+    /// Behind the instruction.
+    Falls(State<'a>),
+    /// The state of the label at this code offset.
+    Leads(u32),
+    /// None: the process stops.
+    Ends,
+}
+
+/// The states that follow the instruction at a code offset, by the rule of that instruction. Want of memory
+/// is told as rule 17.
+// A body that always answers want of memory meets these clauses too, since no clause can say that memory
+// is left: tests show the states that follow.
+pub fn transfer<'a>(
+    alloc: Global,
+    module: &Module,
+    state: &State<'a>,
+    at: usize,
+    instr: Instr,
+) -> Result<Successors<'a>, RuleFault>
+    requires { BelongsTo «module».now state.now }
+    ensures ruling { Succeeds result (rule_at «module».now at instr (state_of state.now)) }
+    ensures belongs { IfOk result (Follow «module».now) }
+{
+    let Ok(mut next) = state.copy(alloc) else {
+        return Err(RuleFault { number: MEMORY });
+    };
+    match advance(&mut next, module, at, instr)? {
+        Onward::Falls => Ok(Successors::Falls(next)),
+        Onward::Leads(to) => Ok(Successors::Leads(to)),
+        Onward::Ends => Ok(Successors::Ends),
+    }
+}

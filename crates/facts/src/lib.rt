@@ -1,0 +1,14 @@
+//! The rule of each instruction: what it wants of the state before it, and what it leaves.
+#![tactic(auto)]
+
+mod advancing;
+mod combinators;
+mod following;
+mod labels;
+mod laws;
+mod place;
+
+pub use advancing::advance;
+pub use following::{Successors, transfer};
+pub use laws::rules_fit_steps;
+pub use place::Onward;

@@ -1,0 +1,215 @@
+//! The place of an instruction, and the rules there.
+
+use crate::combinators::{
+    forward, loaded, number, outside_alternation, outside_starts, shifted, uses,
+};
+use crate::labels::find_row;
+use certificate::{Fact, Module};
+use machine_state::Op;
+use states::{BUDGET, Known, LABEL, OWN_WORD, RuleFault, SPELLING, State, below};
+
+/// Where an instruction leads.
+#[derive(Clone, Copy, Debug, PartialEq, Eq)]
+pub enum Onward {
+    /// Behind itself, in the state that it leaves.
+    Falls,
+    /// To the label at this code offset, and not behind itself.
+    Leads(u32),
+    /// Nowhere: the process stops.
+    Ends,
+}
+
+/// The place of an instruction: its module, its offset and its bytes. The functions of a place are the rules
+/// there. Where a rule is broken, the state is left part of the way.
+#[derive(Clone, Copy)]
+pub(crate) struct Place<'m, 'a> {
+    pub program: &'m Module<'a>,
+    pub at: usize,
+    pub len: usize,
+}
+
+impl Place<'_, '_> {
+    ghost use Rattle.std.specs.Prelude.{◌≡◌, ◌+◌, ℤ, ◌+ℤ◌, IfOk, Some};
+    ghost use Rattle.prefix_decoder.specs.declared.function.Fun.TheVariants as functions;
+    ghost use Rattle.certificate.specs.Contents.{Contents};
+    ghost use Rattle.machine_state.specs.LocalStep.{target};
+    ghost use Rattle.machine_state.specs.declared.op.Op.TheVariants.{StopProcess};
+    ghost use Rattle.states.specs.Views.{state_of, CanWrite, BelongsTo};
+    ghost use Rattle.facts.specs.Rules.{owns, schedules, pays, goes_on, leads_to, operation_rule, rule};
+    ghost use Rattle.facts.specs.Telling.{Admits, Leaves, Advances};
+    ghost use Rattle.facts.specs.Places.{site_of};
+
+    /// The word so far from the workspace is one of the frame of the state's context.
+    #[tactic(auto, unfolding(crate::specs::Rules::owns))]
+    fn owns(&self, state: &State, distance: i32) -> Result<i32, RuleFault>
+        requires { BelongsTo self.now.program.now state.now }
+        ensures test { Admits result (owns (site_of self.now) (state_of state.now) (state.now.depth +ℤ distance)) }
+        ensures word { IfOk result (λ k. k ≡ state.now.depth +ℤ distance) }
+        ensures room { IfOk result (CanWrite state.now) }
+    {
+        match state.own_word(i64::from(state.depth) + i64::from(distance)) {
+            Some(word) => Ok(word),
+            None => Err(RuleFault { number: OWN_WORD }),
+        }
+    }
+
+    /// The three words below the workspace are the context's, and unknown from now on.
+    #[tactic(auto, unfolding(crate::specs::Rules::schedules))]
+    fn schedules(&self, state: &mut State) -> Result<(), RuleFault>
+        requires { BelongsTo self.now.program.now state.old }
+        ensures test { Leaves result (state_of state.new) (schedules (site_of self.now) (state_of state.old)) }
+        ensures belongs { BelongsTo self.now.program.now state.new }
+    {
+        let first = self.owns(state, -1)?;
+        let second = self.owns(state, -2)?;
+        let third = self.owns(state, -3)?;
+        state.write(first, Fact::Unknown);
+        state.write(second, Fact::Unknown);
+        state.write(third, Fact::Unknown);
+        Ok(())
+    }
+
+    /// Each byte of the instruction is paid.
+    #[tactic(auto, unfolding(crate::specs::Rules::pays))]
+    fn pays(&self, state: &mut State) -> Result<(), RuleFault>
+        ensures test { Leaves result (state_of state.new) (pays (site_of self.now) (state_of state.old)) }
+        ensures belongs { (m : Contents) → BelongsTo m state.old → BelongsTo m state.new }
+    {
+        let price = self.len as u64;
+        if state.number < price {
+            return Err(RuleFault { number: BUDGET });
+        }
+        state.number -= price;
+        Ok(())
+    }
+
+    /// Each byte is paid, and the process goes on behind the instruction.
+    #[tactic(auto, unfolding(crate::specs::Rules::goes_on))]
+    fn goes_on(&self, state: &mut State) -> Result<Onward, RuleFault>
+        ensures ruling { Advances result (state_of state.new) (goes_on (site_of self.now) (state_of state.old)) }
+        ensures belongs { (m : Contents) → BelongsTo m state.old → BelongsTo m state.new }
+    {
+        self.pays(state)?;
+        Ok(Onward::Falls)
+    }
+
+    /// The code offset that is so many bytes from the next instruction.
+    fn target(&self, distance: i32) -> u32
+        ensures { result ≡ target (self.now.at + self.now.len) distance }
+    {
+        let next = self.at as u128 + self.len as u128;
+        let to = next + u128::from(distance.cast_unsigned());
+        (to % (1 << 32)) as u32
+    }
+
+    /// There is a label at the offset, and the state may go on as it.
+    #[tactic(auto, unfolding(crate::specs::Rules::leads_to))]
+    fn leads_to(&self, state: &State, to: u32) -> Result<Onward, RuleFault>
+        ensures { Advances result (state_of state.now) (leads_to (site_of self.now) to (state_of state.now)) }
+    {
+        match find_row(&self.program.tables().labels, to) {
+            Some(row) => {
+                below(state, row)?;
+                Ok(Onward::Leads(to))
+            }
+            None => Err(RuleFault { number: LABEL }),
+        }
+    }
+
+    #[tactic(auto, unfolding(crate::specs::Rules::rule))]
+    pub(crate) fn load_constant(&self, state: &mut State, value: i32) -> Result<Onward, RuleFault>
+        ensures ruling { Advances result (state_of state.new) (rule (site_of self.now) functions.LoadConstant value (state_of state.old)) }
+        ensures belongs { (m : Contents) → BelongsTo m state.old → BelongsTo m state.new }
+    {
+        state.push(Known::of(Fact::Number {
+            lo: value,
+            hi: value,
+        }));
+        self.goes_on(state)
+    }
+
+    #[tactic(auto, unfolding(crate::specs::Rules::rule))]
+    pub(crate) fn load_local(&self, state: &mut State, distance: i32) -> Result<Onward, RuleFault>
+        requires { BelongsTo self.now.program.now state.old }
+        ensures ruling { Advances result (state_of state.new) (rule (site_of self.now) functions.LoadLocal distance (state_of state.old)) }
+        ensures belongs { BelongsTo self.now.program.now state.new }
+    {
+        outside_starts(state.mode)?;
+        let word = self.owns(state, distance)?;
+        let fact = state.fact_at(word);
+        state.push(loaded(word, fact));
+        self.goes_on(state)
+    }
+
+    #[tactic(auto, unfolding(crate::specs::Rules::rule))]
+    pub(crate) fn store_local(&self, state: &mut State, distance: i32) -> Result<Onward, RuleFault>
+        requires { BelongsTo self.now.program.now state.old }
+        ensures ruling { Advances result (state_of state.new) (rule (site_of self.now) functions.StoreLocal distance (state_of state.old)) }
+        ensures belongs { BelongsTo self.now.program.now state.new }
+    {
+        let fact = uses(state.a)?;
+        outside_alternation(state.mode)?;
+        outside_starts(state.mode)?;
+        let word = self.owns(state, distance)?;
+        state.write(word, fact);
+        state.pop();
+        self.goes_on(state)
+    }
+
+    #[tactic(auto, unfolding(crate::specs::Rules::rule))]
+    pub(crate) fn add_constant(&self, state: &mut State, value: i32) -> Result<Onward, RuleFault>
+        requires { BelongsTo self.now.program.now state.old }
+        ensures ruling { Advances result (state_of state.new) (rule (site_of self.now) functions.AddConstant value (state_of state.old)) }
+        ensures belongs { BelongsTo self.now.program.now state.new }
+    {
+        let fact = uses(state.a)?;
+        let (lo, hi) = number(fact)?;
+        let sum = shifted(lo, hi, value)?;
+        outside_alternation(state.mode)?;
+        outside_starts(state.mode)?;
+        state.a = Known::of(sum);
+        self.goes_on(state)
+    }
+
+    #[tactic(auto, unfolding(crate::specs::Rules::rule))]
+    pub(crate) fn jump(&self, state: &mut State, distance: i32) -> Result<Onward, RuleFault>
+        requires { BelongsTo self.now.program.now state.old }
+        ensures ruling { Advances result (state_of state.new) (rule (site_of self.now) functions.Jump distance (state_of state.old)) }
+        ensures belongs { BelongsTo self.now.program.now state.new }
+    {
+        outside_alternation(state.mode)?;
+        forward(distance)?;
+        outside_starts(state.mode)?;
+        self.schedules(state)?;
+        self.pays(state)?;
+        state.a = Known::UNKNOWN;
+        state.b = Known::UNKNOWN;
+        state.c = Known::UNKNOWN;
+        self.leads_to(state, self.target(distance))
+    }
+
+    #[tactic(auto, unfolding(crate::specs::Rules::operation_rule))]
+    fn stop_process(&self, state: &mut State) -> Result<Onward, RuleFault>
+        requires { BelongsTo self.now.program.now state.old }
+        ensures ruling { Advances result (state_of state.new) (operation_rule (site_of self.now) (Some StopProcess) (state_of state.old)) }
+        ensures belongs { BelongsTo self.now.program.now state.new }
+    {
+        outside_alternation(state.mode)?;
+        outside_starts(state.mode)?;
+        self.schedules(state)?;
+        self.pays(state)?;
+        Ok(Onward::Ends)
+    }
+
+    #[tactic(auto, unfolding(crate::specs::Rules::operation_rule, crate::specs::Rules::rule))]
+    pub(crate) fn operate(&self, state: &mut State, operand: i32) -> Result<Onward, RuleFault>
+        requires { BelongsTo self.now.program.now state.old }
+        ensures ruling { Advances result (state_of state.new) (rule (site_of self.now) functions.Operate operand (state_of state.old)) }
+        ensures belongs { BelongsTo self.now.program.now state.new }
+    {
+        match Op::of(operand) {
+            Some(Op::StopProcess) => self.stop_process(state),
+            None => Err(RuleFault { number: SPELLING }),
+        }
+    }
+}
