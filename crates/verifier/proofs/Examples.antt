@@ -1,0 +1,67 @@
+-- Small modules, certified by computation.
+use Rattle.std.proofs.Common.{◌≡◌, ℕ, pos, false, List, [], ◌∷◌, Result, Ok, Err, replicate, refl}
+use Rattle.certificate.specs.declared.fact.Fact.TheVariants.{Unknown}
+use Rattle.certificate.specs.declared.tables.Version.TheVariants.{One}
+use Rattle.certificate.specs.Contents.{Contents}
+use Rattle.certificate.specs.Contexts.{context_at}
+use Rattle.states.specs.State.{written}
+use Rattle.states.specs.Below.{below}
+use Rattle.facts.specs.Rules.{outside_alternation, outside_starts, uses, number, in_word, forward, owns, schedules, pays, leads_to, goes_on, operation_rule, rule}
+use Rattle.verifier.specs.declared.Refusal.{Refusal}
+use Rattle.verifier.specs.Judge.{judged_at, judge, verdict, refused}
+
+-- ldc 5, stl 1, ldl 1, adc 1, stl 1, stopp
+abbrev first : ℕ → Contents
+first budget = record {
+  version = One;
+  code = 0x45 ∷ 0xd1 ∷ 0x71 ∷ 0x81 ∷ 0xd1 ∷ 0x21 ∷ 0xf5 ∷ [];
+  constants = [];
+  data_words = 5;
+  base = 3;
+  budget = budget;
+  finish = 7;
+  lengths = replicate 8 0;
+  has_long_operations = false;
+  procedures = [];
+  labels = [];
+  pars = [];
+  table_rows = [];
+}
+
+first_is_accepted : verdict (first 7) ≡ Ok tt
+unfolding judge judged_at below written context_at outside_alternation outside_starts uses number in_word forward owns schedules pays leads_to goes_on operation_rule rule
+first_is_accepted = refl
+
+first_is_dear : verdict (first 6) ≡ refused 15 5
+unfolding judge judged_at below written context_at outside_alternation outside_starts uses number in_word forward owns schedules pays leads_to goes_on operation_rule rule
+first_is_dear = refl
+
+-- ldc 5, stl 1, j 0 to the label at 3 of this number, ldl 1, stopp
+abbrev jump : ℕ → ℕ → Contents
+jump budget number = record {
+  version = One;
+  code = 0x45 ∷ 0xd1 ∷ 0x00 ∷ 0x71 ∷ 0x21 ∷ 0xf5 ∷ [];
+  constants = [];
+  data_words = 5;
+  base = 3;
+  budget = budget;
+  finish = 6;
+  lengths = replicate 8 0;
+  has_long_operations = false;
+  procedures = [];
+  pars = [];
+  table_rows = [];
+  labels = record { offset = 3; context = 0; depth = pos 0; number = number; a = Unknown; b = Unknown; c = Unknown; entries = [] } ∷ [];
+}
+
+jump_is_accepted : verdict (jump 6 3) ≡ Ok tt
+unfolding judge judged_at below written context_at outside_alternation outside_starts uses number in_word forward owns schedules pays leads_to goes_on operation_rule rule
+jump_is_accepted = refl
+
+jump_cannot_pay : verdict (jump 5 3) ≡ refused 15 2
+unfolding judge judged_at below written context_at outside_alternation outside_starts uses number in_word forward owns schedules pays leads_to goes_on operation_rule rule
+jump_cannot_pay = refl
+
+label_cannot_pay : verdict (jump 6 2) ≡ refused 15 4
+unfolding judge judged_at below written context_at outside_alternation outside_starts uses number in_word forward owns schedules pays leads_to goes_on operation_rule rule
+label_cannot_pay = refl

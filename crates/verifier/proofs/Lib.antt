@@ -1,0 +1,9 @@
+pub mod Judging
+pub mod Passing
+pub mod Low
+pub mod Lists
+pub mod Steps
+pub mod Worlds
+pub mod Start
+pub mod Kept
+pub mod Examples

@@ -1,0 +1,171 @@
+-- The loaded world, and the headline.
+use Rattle.std.proofs.Common.{◌≡◌, ℕ, zero, suc, ◌+◌, ◌*◌, ◌≤◌, ◌<◌, ◌≤ℤ◌, ◌<ℤ◌, ◌+ℤ◌, ◌-ℤ◌, neg_ℤ, Bool, true, false, if◌then◌else◌, ltb, ◌&&◌, ◌||◌, ℤ, pos, negsuc, List, [], ◌∷◌, length, replicate, Some, None, refl, sym, ap, ◌∙◌, subst, arith}
+use Rattle.std.proofs.lemmas.List.{length-append, length-map, length-replicate}
+use Rattle.std.proofs.lemmas.Bool.{le-leb}
+use Rattle.std.proofs.lemmas.Int.{ints}
+use Rattle.std.specs.Prelude.{slice_get, int_le, int_lt}
+use Rattle.certificate.specs.Contents.{Contents, Par}
+use Rattle.certificate.specs.Contexts.{root_context, own_context, branch_count, owner, context_at}
+use Rattle.machine_state.specs.declared.process.Mode.TheVariants as machine_modes
+use Rattle.machine_state.specs.declared.link.InputLink.{InputLink}
+use Rattle.machine_state.specs.declared.link.OutputLink.{OutputLink}
+use Rattle.machine_state.specs.Memory.{data_start}
+use Rattle.machine_state.specs.Holding.{may_write, may_write_word}
+use Rattle.machine_state.specs.World.{Role, padding, loaded_memory, root_holding, root_task, root_role, quiet_links, loaded}
+use Rattle.machine_state.specs.LocalStep.{Local}
+use Rattle.states.specs.State.{root_state}
+use Rattle.states.specs.State.{has_word}
+use Rattle.verifier.specs.Certified.{begins, IsCertified}
+use Rattle.facts.specs.Meaning.{means_unknown, IsOwnWord, HasFrame, both_plain, IsWellFormed}
+use Rattle.verifier.specs.Point.{Decodes}
+use Rattle.machine_state.specs.Apart.{AllApart}
+use Rattle.verifier.specs.Invariant.{Meets, it_lives, Waiters, Holds}
+use Rattle.verifier.specs.Headline.{RunsWell}
+use Rattle.facts.specs.Fitting.{After}
+use Rattle.facts.proofs.Local.{and_true, le_by, lt_by}
+use Rattle.verifier.proofs.Steps.{enter, lives_at}
+use Rattle.verifier.proofs.Worlds.{run_holds}
+
+-- no branch comes before the root
+owner_of_root : (first : ℕ) (rows : List Par) → 0 < first → owner first rows 0 ≡ 0
+owner_of_root first [] some = refl
+owner_of_root first (row ∷ rows) some =
+    let rest = owner_of_root (first + length row.branches) rows (omega arith) in
+    ap (λ n. if ltb n first then n else row.context) rest ∙ ap (λ (b : Bool). if b then 0 else row.context) (le-leb 1 first some)
+
+root_is : (m : Contents) → context_at m 0 ≡ Some (root_context m)
+unfolding context_at
+root_is m =
+    let first : ℕ = 1 + length m.procedures in
+    ap (λ (b : Bool). if b then own_context m (owner first m.pars 0) else None) (le-leb 1 (first + branch_count m.pars) (omega arith))
+    ∙ ap (own_context m) (owner_of_root first m.pars (omega arith))
+
+memory_length : (m : Contents) → length (loaded_memory m) ≡ 4 * m.data_words + length m.code + padding (length m.code) + length m.constants
+memory_length m = simp (length-append, length-map, length-replicate)
+
+data_inside : (m : Contents) → 4 * m.data_words ≤ length (loaded_memory m)
+data_inside m = rw (memory_length m) (omega arith)
+
+natural : (z : ℤ) → pos 0 ≤ℤ z → (n : ℕ) × (z ≡ pos n)
+natural (pos n) h = (n, refl)
+natural (negsuc n) h = absurd (omega (arith, ints))
+
+-- the root may write the data area
+root_writes : (m : Contents) (place : ℕ) → place < 4 * m.data_words → may_write (root_holding m) place ≡ true
+root_writes m place low =
+    ap (λ (b : Bool). (b && ltb place (4 * m.data_words)) || false) (le-leb 0 place (omega arith))
+    ∙ ap (λ (b : Bool). b || false) (le-leb (suc place) (4 * m.data_words) low)
+
+root_writes_word : (m : Contents) (place : ℕ) → place + 4 ≤ 4 * m.data_words → may_write_word (root_holding m) place ≡ true
+unfolding may_write_word
+root_writes_word m place low =
+    ap (λ (b : Bool). b && may_write (root_holding m) (place + 1) && may_write (root_holding m) (place + 2) && may_write (root_holding m) (place + 3)) (root_writes m place (omega arith))
+    ∙ ap (λ (b : Bool). b && may_write (root_holding m) (place + 2) && may_write (root_holding m) (place + 3)) (root_writes m (place + 1) (omega arith))
+    ∙ ap (λ (b : Bool). b && may_write (root_holding m) (place + 3)) (root_writes m (place + 2) (omega arith))
+    ∙ root_writes m (place + 3) (omega arith)
+
+-- the root's words are its own
+root_word : (m : Contents) (k : ℤ) → has_word (context_at m 0) k ≡ true → IsOwnWord (root_holding m) (length (loaded_memory m)) (pos (4 * m.base)) k
+root_word m k h =
+    let inside : has_word (Some (root_context m)) k ≡ true = subst (λ c. has_word c k ≡ true) (root_is m) h in
+    let both = and_true (int_le (root_context m).lo k) (int_lt k (root_context m).hi) inside in
+    let low : neg_ℤ (pos m.base) ≤ℤ k = le_by (neg_ℤ (pos m.base)) k both.0 in
+    let high : k <ℤ (pos m.data_words -ℤ pos m.base) = lt_by k (pos m.data_words -ℤ pos m.base) both.1 in
+    let n = natural (pos m.base +ℤ k) (omega (arith, ints)) in
+    let place : ℕ = 4 * n.0 in
+    let fits : 4 * n.0 + 4 ≤ 4 * m.data_words = omega (arith, ints, n.1) in
+    record {
+      place = 4 * n.0;
+      is = omega (arith, ints, n.1);
+      inside = omega (arith, data_inside m);
+      mine = root_writes_word m (4 * n.0) fits;
+    }
+
+root_frame : (m : Contents) → IsWellFormed m → HasFrame (root_holding m) (length (loaded_memory m)) (has_word (context_at m 0)) (pos (4 * m.base)) (pos 0) (data_start + 4 * m.base)
+root_frame m wf = record {
+  small = rw (memory_length m) (omega (arith, wf.few_words, wf.short_code, wf.few_constants));
+  words = root_word m;
+  start = omega (arith, ints);
+}
+
+-- in a list of one
+only : {A : Type 0} (x y : A) (p : ℕ) → slice_get (x ∷ []) p ≡ Some y → (p ≡ 0) × (x ≡ y)
+only x y zero h = (refl, cc)
+only x y (suc p) h = absurd (cc)
+
+-- in a list of equals
+equal_at : {A : Type 0} (n : ℕ) (x y : A) (p : ℕ) → slice_get (replicate n x) p ≡ Some y → x ≡ y
+equal_at zero x y p h = absurd (cc)
+equal_at (suc n) x y zero h = cc
+equal_at (suc n) x y (suc p) h = equal_at n x y p h
+
+nothing_at : {A : Type 0} (p : ℕ) (y : A) → slice_get [] p ≡ Some y → ⊥
+nothing_at p y h = cc
+
+root_apart : (m : Contents) → AllApart (root_role m ∷ []) []
+root_apart m = record {
+  processes = λ p q r s differ a b. let x = only (root_role m) r p a in let y = only (root_role m) s q b in absurd (differ (x.0 ∙ sym y.0));
+  blocks = λ p q r s join a opened b.
+      let x = only (root_role m) r p a in
+      let no' : None ≡ Some join = ap (λ (role : Role). role.opened) x.1 ∙ opened in
+      absurd (cc);
+  channel_words = λ k q channel s a b. absurd (nothing_at k channel a);
+  blocks_once = λ p q r s a b differ x y open_a open_b. let u = only (root_role m) r p x in let v = only (root_role m) s q y in absurd (differ (u.0 ∙ sym v.0));
+  channels_once = λ j k a b differ x y. absurd (nothing_at j a x);
+  both_once = λ p k r join channel x opened y. absurd (nothing_at k channel y);
+}
+
+no_waiters : (m : Contents) → Waiters (root_task m ∷ []) quiet_links
+no_waiters m = record {
+  few = omega arith;
+  inputs = λ k l q a b.
+      let quiet : InputLink = record { kept = None; waiting = None; enabled = None } in
+      let same : quiet ≡ l = equal_at 4 quiet l k a in
+      let no' : None ≡ Some q = ap (λ (x : InputLink). x.waiting) same ∙ b in
+      absurd (cc);
+  outputs = λ k l q a b.
+      let quiet : OutputLink = record { waiting = None } in
+      let same : quiet ≡ l = equal_at 4 quiet l k a in
+      let no' : None ≡ Some q = ap (λ (x : OutputLink). x.waiting) same ∙ b in
+      absurd (cc);
+}
+
+module _ (m : Contents) (d : Decodes m) (wf : IsWellFormed m) (c : IsCertified m) where
+  abbrev root_local : Local
+  root_local = record { registers = (root_task m).registers; memory = loaded_memory m }
+
+  root_after : After m (root_holding m) machine_modes.Plain (pos (4 * m.base)) (root_state m) root_local
+  root_after = record {
+    frame = root_frame m wf;
+    knows = record { a = means_unknown None; b = means_unknown None; c = means_unknown None; words = λ k. means_unknown _; within = λ k out. refl };
+    same_mode = both_plain;
+  }
+
+  loaded_holds : Holds m (loaded m)
+  loaded_holds =
+      let en = enter m d wf c (root_holding m) machine_modes.Plain (pos (4 * m.base)) 0 (root_state m) root_local begins wf.some_code root_after in
+      let lives = lives_at m d wf c (root_holding m) machine_modes.Plain (pos (4 * m.base)) 0 (Some (root_state m)) en.state root_local begins wf.some_code en.stands en.after in
+      record {
+        dues = en.state.number ∷ [];
+        table = record {
+          each = λ p t h.
+              let x = only (root_task m) t p h in
+              record {
+                role = root_role m;
+                has_role = ap (λ n. slice_get (root_role m ∷ []) n) x.0;
+                due = en.state.number;
+                has_due = ap (λ n. slice_get (en.state.number ∷ []) n) x.0;
+                meets = subst (λ u. Meets m (root_holding m) (loaded_memory m) u en.state.number) x.1 (it_lives lives);
+              };
+        };
+        line = record { ready = (record { task = root_task m; here = refl; ready = refl }, tt); once = (tt, tt) };
+        waiters = no_waiters m;
+        apart = root_apart m;
+        owed = omega (arith, en.paid);
+        well = refl;
+      }
+
+  pub runs_well : RunsWell m
+  runs_well events are =
+      let h = run_holds m d wf c events are (loaded m) loaded_holds in
+      record { no_fault = h.well; apart = h.apart; within_budget = omega (arith, h.owed) }

@@ -1,0 +1,313 @@
+-- One byte of one process.
+use Rattle.std.proofs.Common.{◌≡◌, ℕ, zero, suc, ◌+◌, ◌≤◌, ◌<◌, Bool, true, inl, inr, ℤ, List, [], ◌∷◌, length, drop, Option, Some, None, Result, Ok, refl, sym, ap, ◌∙◌, subst, arith, add-one}
+use Rattle.std.proofs.lemmas.Bool.{cases_lt}
+use Rattle.std.specs.Prelude.{slice_get}
+use Rattle.prefix_decoder.specs.declared.function.Fun.{Fun}
+use Rattle.prefix_decoder.specs.declared.decoding.Instr.{Instr}
+use Rattle.prefix_decoder.specs.declared.decoding.DecodeFault.{DecodeFault}
+use Rattle.prefix_decoder.specs.Functions.{fun_of, function_code, nibble}
+use Rattle.prefix_decoder.specs.Operand.{with_nibble, after_prefix}
+use Rattle.prefix_decoder.specs.Fetching.{ended_or, read, fetched}
+use Rattle.certificate.specs.Contents.{Contents, Label, label_at}
+use Rattle.certificate.specs.Contexts.{context_at}
+use Rattle.machine_state.specs.declared.process.Registers.{Registers}
+use Rattle.machine_state.specs.declared.process.Task.{Task}
+use Rattle.machine_state.specs.declared.process.Condition.TheVariants.{Ready}
+use Rattle.machine_state.specs.declared.process.Mode as machine
+use Rattle.machine_state.specs.Memory.{Memory, byte_at, word_at}
+use Rattle.machine_state.specs.Holding.{Holding, may_write, may_read}
+use Rattle.machine_state.specs.LocalStep.{Local, Outcome, goes, lands, stops, local_step}
+use Rattle.machine_state.specs.Happens.{between}
+use Rattle.states.specs.State.{State, label_state}
+use Rattle.states.specs.Below.{below}
+use Rattle.facts.specs.Rules.{Ruling, falls, breaks, rule_at}
+use Rattle.states.specs.State.{has_word}
+use Rattle.verifier.specs.Certified.{falling, state_at, Reaches, follows, IsCertified}
+use Rattle.facts.specs.Meaning.{means_unknown, word_at_place, frame_word, IsOwnWord, HasFrame, Knows, ChangesOwn, IsWellFormed}
+use Rattle.verifier.specs.Point.{IsReading, Stands, Decodes}
+use Rattle.verifier.specs.Invariant.{Lives}
+use Rattle.facts.proofs.Words.{bool_cases, means_same, frame_word_is, four_mine}
+use Rattle.facts.specs.Fitting.{After, Here, step_site, Fits, it_falls, it_leads, it_ends, it_breaks}
+use Rattle.facts.proofs.Local.{instruction_fits, below_tells, label_after, readable_byte}
+
+same_ok : {A E : Type 0} (r : Result A E) (x y : A) → r ≡ Ok x → r ≡ Ok y → x ≡ y
+same_ok {A} {E} r x y p q = let e : ◌≡◌ {A = Result A E} (Ok x) (Ok y) = sym p ∙ q in cc
+
+same_some : {A : Type 0} (o : Option A) (x y : A) → o ≡ Some x → o ≡ Some y → x ≡ y
+same_some {A} o x y p q = let e : Some x ≡ Some y = sym p ∙ q in cc
+
+-- ---- what is known depends on readable bytes alone
+
+word_same : (m n : Memory) (place : ℕ) → byte_at m place ≡ byte_at n place → byte_at m (place + 1) ≡ byte_at n (place + 1) → byte_at m (place + 2) ≡ byte_at n (place + 2) → byte_at m (place + 3) ≡ byte_at n (place + 3) → word_at m place ≡ word_at n place
+unfolding word_at
+word_same m n place a b c d = rw (a, b, c, d)
+
+pub knows_agree : (h : Holding) (has : ℤ → Bool) (s : State) (origin : ℤ) (r : Registers) (memory later : Memory) → ((k : ℤ) → has k ≡ true → IsOwnWord h (length memory) origin k)
+    → ((place : ℕ) → may_read h place ≡ true → byte_at later place ≡ byte_at memory place) → Knows has s origin r memory → Knows has s origin r later
+knows_agree h has s origin r memory later own agree known = record {
+  a = known.a;
+  b = known.b;
+  c = known.c;
+  words = λ k. elim (bool_cases (has k)) [
+    | inl inside ↦ means_same (known.words k) refl (same k inside)
+    | inr outside ↦ means_same (means_unknown (frame_word later origin k)) (sym (known.within k outside)) refl
+  ];
+  within = known.within;
+}
+  where
+    same : (k : ℤ) → has k ≡ true → frame_word memory origin k ≡ frame_word later origin k
+    same k inside =
+        let w = own k inside in
+        let mine = four_mine h w.place w.mine in
+        let at : (place : ℕ) → may_write h place ≡ true → byte_at memory place ≡ byte_at later place = λ place e. sym (agree place (readable_byte h place e)) in
+        frame_word_is h (length memory) memory origin k w
+        ∙ word_same memory later w.place (at _ mine.0) (at _ mine.1) (at _ mine.2) (at _ mine.3)
+        ∙ sym (ap (word_at_place later) (sym w.is))
+
+-- ---- reading the code
+
+-- what stands at a place of a list, and what is behind it
+front : {A : Type 0} (xs : List A) (i : ℕ) (y : A) (ys : List A) → drop i xs ≡ y ∷ ys → (slice_get xs i ≡ Some y) × (drop (suc i) xs ≡ ys) × (i < length xs)
+front [] zero y ys h = absurd (cc)
+front [] (suc i) y ys h = absurd (cc)
+front (x ∷ xs) zero y ys h = let e : x ≡ y = cc in let f : xs ≡ ys = cc in (ap Some e, f, omega arith)
+front (x ∷ xs) (suc i) y ys h = let r = front xs i y ys h in (r.0, r.1, omega (arith, r.2))
+
+-- the byte at which the process is
+pub record ByteHere (m : Contents) (r : Registers) (i : Instr) (taken : ℕ) : Type 0 where
+  pub fuel : ℕ
+  pub whole : fuel + (taken + 1) ≡ 8
+  pub byte : ℕ
+  pub here : slice_get m.code r.at ≡ Some byte
+  pub rest : ended_or (fun_of (function_code byte)) (with_nibble r.operand (nibble byte)) (taken + 1) (read fuel (drop (r.at + 1) m.code) (after_prefix (function_code byte) (with_nibble r.operand (nibble byte))) (taken + 1)) ≡ Ok i
+
+byte_of : (m : Contents) (r : Registers) (i : Instr) (taken fuel : ℕ) (bytes : List ℕ) → fuel + taken ≡ 8 → drop r.at m.code ≡ bytes → read fuel bytes r.operand taken ≡ Ok i → ByteHere m r i taken
+byte_of m r i taken zero bytes whole is h = absurd (cc)
+byte_of m r i taken (suc fuel) [] whole is h = absurd (cc)
+byte_of m r i taken (suc fuel) (byte ∷ bytes) whole is h =
+    let f = front m.code r.at byte bytes is in
+    record {
+      fuel = fuel;
+      whole = omega arith;
+      byte = byte;
+      here = f.0;
+      rest = subst (λ bs. ended_or (fun_of (function_code byte)) (with_nibble r.operand (nibble byte)) (taken + 1) (read fuel bs (after_prefix (function_code byte) (with_nibble r.operand (nibble byte))) (taken + 1)) ≡ Ok i)
+          (sym (ap (λ n. drop n m.code) (add-one r.at) ∙ f.1)) h;
+    }
+
+pub byte_here : (m : Contents) (r : Registers) (i : Instr) (taken : ℕ) → IsReading m r i taken → ByteHere m r i taken
+byte_here m r i taken reading = byte_of m r i taken reading.fuel (drop r.at m.code) reading.whole refl reading.rest
+
+-- what is still read makes the instruction longer
+longer : (fuel : ℕ) (bytes : List ℕ) (operand : ℤ) (taken : ℕ) (i : Instr) → read fuel bytes operand taken ≡ Ok i → taken < i.len
+longer zero bytes operand taken i h = absurd (cc)
+longer (suc fuel) [] operand taken i h = absurd (cc)
+longer (suc fuel) (byte ∷ bytes) operand taken i h =
+    on_function (fun_of (function_code byte)) (λ e. longer fuel bytes (after_prefix (function_code byte) (with_nibble operand (nibble byte))) (taken + 1) i e) h
+  where
+    on_function : (f : Option Fun) → (read fuel bytes (after_prefix (function_code byte) (with_nibble operand (nibble byte))) (taken + 1) ≡ Ok i → taken + 1 < i.len)
+        → ended_or f (with_nibble operand (nibble byte)) (taken + 1) (read fuel bytes (after_prefix (function_code byte) (with_nibble operand (nibble byte))) (taken + 1)) ≡ Ok i → taken < i.len
+    on_function (Some f) later e =
+        let same : record { fun = f; operand = with_nibble operand (nibble byte); len = taken + 1 } ≡ i = cc in
+        let len : taken + 1 ≡ i.len = ap (λ (j : Instr). j.len) same in
+        omega arith
+    on_function None later e = omega (arith, later e)
+
+after_none : (f : Option Fun) (e : ℤ) (n : ℕ) (rest : Result Instr DecodeFault) (i : Instr) → f ≡ None → ended_or f e n rest ≡ Ok i → rest ≡ Ok i
+after_none None e n rest i none h = h
+after_none (Some f) e n rest i none h = absurd (cc)
+
+after_some : (f : Option Fun) (g : Fun) (e : ℤ) (n : ℕ) (rest : Result Instr DecodeFault) (i : Instr) → f ≡ Some g → ended_or f e n rest ≡ Ok i → (g ≡ i.fun) × (e ≡ i.operand) × (n ≡ i.len)
+after_some None g e n rest i some h = absurd (cc)
+after_some (Some f) g e n rest i some h =
+    let same : ◌≡◌ {A = Result Instr DecodeFault} (Ok (record { fun = f; operand = e; len = n })) (Ok i) = h in
+    let is : record { fun = f; operand = e; len = n } ≡ i = cc in
+    let fg : f ≡ g = cc in
+    (sym fg ∙ ap (λ (j : Instr). j.fun) is, ap (λ (j : Instr). j.operand) is, ap (λ (j : Instr). j.len) is)
+
+fits_pays : (x : Here) {r : Ruling} {o : Outcome} → Fits x r o → ((v : ℕ) → r ≡ breaks v → ⊥) → x.len ≤ x.number
+fits_pays x (it_falls origin low after changes pay) whole = omega arith
+fits_pays x (it_leads origin label low after changes pay) whole = omega arith
+fits_pays x (it_ends changes pay) whole = pay
+fits_pays x (it_breaks {v = v}) whole = absurd (whole v refl)
+
+-- ---- a process at its point
+
+-- no rule that the certificate holds at is broken
+module _ (m : Contents) (d : Decodes m) (wf : IsWellFormed m) (c : IsCertified m) where
+  -- what falls through has code behind it
+  has_next : (at : ℕ) (before : Option State) (s : State) (i : Instr) → Reaches m at before → state_at m at before ≡ Some s → fetched m.code at ≡ Ok i
+      → (s' : State) → rule_at m at i s ≡ falls s' → at + i.len < length m.code
+  has_next at before s i r st sp s' e =
+      let inside = d.inside at i sp in
+      elim (cases_lt (at + i.len) (length m.code)) [
+        | inl low ↦ low
+        | inr high ↦
+            let end : at + i.len ≡ length m.code = omega arith in
+            let next : Reaches m (at + i.len) (Some s') = follows r st sp refl (sym (ap falling e)) in
+            let none : Some s' ≡ None = c.ends (Some s') (subst (λ n. Reaches m n (Some s')) end next) in
+            absurd (cc)
+      ]
+
+  -- the state behind, where one falls in
+  pub record Entered (h : Holding) (mode : machine.Mode) (origin : ℤ) (at number : ℕ) (before : Option State) (l : Local) : Type 0 where
+    pub state : State
+    pub stands : state_at m at before ≡ Some state
+    pub after : After m h mode origin state l
+    pub paid : state.number ≤ number
+
+  enter_on : (h : Holding) (mode : machine.Mode) (origin : ℤ) (at : ℕ) (s : State) (l : Local) (cost : ℕ) (o : Option Label) → label_at m at ≡ o
+      → After m h mode origin s l → elim o as (λ o. Result ℕ ℕ) [ None ↦ Ok 0 | Some t ↦ below s t ] ≡ Ok cost → Entered h mode origin at s.number (Some s) l
+  enter_on h mode origin at s l cost None e a ok = record {
+    state = s;
+    stands = ap (λ (o : Option Label). elim o [ None ↦ Some s | Some t ↦ Some (label_state t) ]) e;
+    after = a;
+    paid = omega arith;
+  }
+  enter_on h mode origin at s l cost (Some t) e a ok =
+      let b = below_tells s t cost ok in
+      record {
+        state = label_state t;
+        stands = ap (λ (o : Option Label). elim o [ None ↦ Some s | Some t ↦ Some (label_state t) ]) e;
+        after = label_after m h mode origin s t l wf at e b.1 a;
+        paid = b.0;
+      }
+
+  pub enter : (h : Holding) (mode : machine.Mode) (origin : ℤ) (at : ℕ) (s : State) (l : Local) → Reaches m at (Some s) → at < length m.code → After m h mode origin s l → Entered h mode origin at s.number (Some s) l
+  enter h mode origin at s l r low a =
+      let holds = c.holds.each at (Some s) low r in
+      enter_on h mode origin at s l holds.cost (label_at m at) refl a holds.enters
+
+  -- between two instructions
+  pub lives_at : (h : Holding) (mode : machine.Mode) (origin : ℤ) (at : ℕ) (before : Option State) (s : State) (l : Local) → Reaches m at before → at < length m.code → state_at m at before ≡ Some s
+      → After m h mode origin s l → Lives m h l.memory (record { registers = between at l.registers; mode = mode; condition = Ready }) s.number
+  lives_at h mode origin at before s l r low st a =
+      let holds = c.holds.each at before low r in
+      record {
+        claim = λ later size agree bytes. record {
+          before = before;
+          state = s;
+          reached = r;
+          stands = st;
+          instr = holds.instr;
+          taken = 0;
+          reading = record { fuel = 8; whole = refl; at_is = omega arith; spelled = holds.spelled; rest = d.reads at holds.instr holds.spelled };
+          origin = origin;
+          frame = subst (λ n. HasFrame h n (has_word (context_at m s.context)) origin s.depth l.registers.workspace) (sym size) a.frame;
+          knows = known_between (knows_agree h (has_word (context_at m s.context)) s origin l.registers l.memory later a.frame.words (λ place e. agree place e refl) a.knows);
+          mode = a.same_mode;
+          paid = omega arith;
+        };
+        room = λ place e. absurd (cc);
+      }
+    where
+      known_between : {has : ℤ → Bool} {s : State} {origin : ℤ} {r : Registers} {memory : Memory} → Knows has s origin r memory → Knows has s origin (between at r) memory
+      known_between k = record { a = k.a; b = k.b; c = k.c; words = k.words; within = k.within }
+
+  -- how the rule at the process's point and the step fit, with the whole instruction read
+  abbrev pub here_of : Holding → Memory → Task → State → Instr → Here
+  here_of h memory t s i = record { m = m; h = h; mode = t.mode; memory = memory; number = s.number; at = t.registers.began; len = i.len }
+
+  pub point_fits : (h : Holding) (memory : Memory) (t : Task) (due : ℕ) (p : Stands m h memory t due)
+      → Fits (here_of h memory t p.state p.instr) (rule_at m t.registers.began p.instr p.state)
+      (local_step (step_site (here_of h memory t p.state p.instr)) p.instr.fun p.instr.operand (record { registers = t.registers; memory = memory }))
+  point_fits h memory t due p =
+      let x = here_of h memory t p.state p.instr in
+      instruction_fits x wf p.state (record { registers = t.registers; memory = memory }) p.origin
+      (record { frame = p.frame; knows = p.knows; same_mode = p.mode })
+      (record { size = refl; others = λ place e. refl }) refl
+      p.instr.fun p.instr.operand (d.fits t.registers.began p.instr p.reading.spelled)
+      (has_next t.registers.began p.before p.state p.instr p.reached p.stands p.reading.spelled)
+
+  -- the rule at the process's point is not broken
+  pub unbroken : (h : Holding) (memory : Memory) (t : Task) (due : ℕ) (p : Stands m h memory t due) → t.registers.began < length m.code → (v : ℕ) → rule_at m t.registers.began p.instr p.state ≡ breaks v → ⊥
+  unbroken h memory t due p low v e =
+      let holds = c.holds.each t.registers.began p.before low p.reached in
+      let i_is : p.instr ≡ holds.instr = same_ok (fetched m.code t.registers.began) p.instr holds.instr p.reading.spelled holds.spelled in
+      let s_is : p.state ≡ holds.state = same_some (state_at m t.registers.began p.before) p.state holds.state p.stands holds.stands in
+      holds.unbroken v (ap (λ j. rule_at m t.registers.began j holds.state) (sym i_is) ∙ ap (λ u. rule_at m t.registers.began p.instr u) (sym s_is) ∙ e)
+
+  began_inside : (h : Holding) (memory : Memory) (t : Task) (due : ℕ) (p : Stands m h memory t due) → t.registers.began < length m.code
+  began_inside h memory t due p =
+      let some = d.some t.registers.began p.instr p.reading.spelled in
+      let inside = d.inside t.registers.began p.instr p.reading.spelled in
+      omega arith
+
+  -- the instruction can be paid
+  can_pay : (h : Holding) (memory : Memory) (t : Task) (due : ℕ) (p : Stands m h memory t due) → p.instr.len ≤ p.state.number
+  can_pay h memory t due p = fits_pays (here_of h memory t p.state p.instr) (point_fits h memory t due p) (unbroken h memory t due p (began_inside h memory t due p))
+
+  -- something is owed before each byte
+  pub owes : (h : Holding) (memory : Memory) (t : Task) (due : ℕ) (p : Stands m h memory t due) → 1 ≤ due
+  owes h memory t due p =
+      let pay = can_pay h memory t due p in
+      let more = longer p.reading.fuel (drop t.registers.at m.code) t.registers.operand p.taken p.instr p.reading.rest in
+      omega (arith, p.paid)
+
+  -- a prefix: the process is one byte further in its instruction
+  pub prefixed_stands : (h : Holding) (memory : Memory) (t : Task) (due byte : ℕ) → Stands m h memory t (suc due) → slice_get m.code t.registers.at ≡ Some byte → fun_of (function_code byte) ≡ None
+      → Stands m h memory (record t { registers = record t.registers { at = t.registers.at + 1; operand = after_prefix (function_code byte) (with_nibble t.registers.operand (nibble byte)) } }) due
+  prefixed_stands h memory t due byte p here none =
+      let b = byte_here m t.registers p.instr p.taken p.reading in
+      let same : b.byte ≡ byte = same_some (slice_get m.code t.registers.at) b.byte byte b.here here in
+      record {
+        before = p.before;
+        state = p.state;
+        reached = p.reached;
+        stands = p.stands;
+        instr = p.instr;
+        taken = p.taken + 1;
+        reading = record {
+          fuel = b.fuel;
+          whole = b.whole;
+          at_is = omega (arith, p.reading.at_is);
+          spelled = p.reading.spelled;
+          rest = after_none (fun_of (function_code byte)) _ _ _ p.instr none
+              (subst (λ y. ended_or (fun_of (function_code y)) (with_nibble t.registers.operand (nibble y)) (p.taken + 1) (read b.fuel (drop (t.registers.at + 1) m.code) (after_prefix (function_code y) (with_nibble t.registers.operand (nibble y))) (p.taken + 1)) ≡ Ok p.instr) same b.rest);
+        };
+        origin = p.origin;
+        frame = p.frame;
+        knows = record { a = p.knows.a; b = p.knows.b; c = p.knows.c; words = p.knows.words; within = p.knows.within };
+        mode = p.mode;
+        paid = omega (arith, p.paid);
+      }
+
+  -- what the last byte of an instruction comes to
+  pub data Comes (h : Holding) (memory : Memory) (t : Task) (due : ℕ) : Outcome → Type 0 where
+    -- it goes on behind it
+    comes_on : {l : Local} (later : ℕ) → ChangesOwn h memory l.memory → Lives m h l.memory (record { registers = between (t.registers.at + 1) l.registers; mode = t.mode; condition = Ready }) later → later + 1 ≤ due → Comes h memory t due (goes l)
+    -- or at a label
+    comes_to : {to : ℕ} {l : Local} (later : ℕ) → ChangesOwn h memory l.memory → Lives m h l.memory (record { registers = between to l.registers; mode = t.mode; condition = Ready }) later → later + 1 ≤ due → Comes h memory t due (lands to l)
+    -- or it stops
+    comes_down : {l : Local} → ChangesOwn h memory l.memory → 1 ≤ due → Comes h memory t due (stops l)
+
+  comes : (h : Holding) (memory : Memory) (t : Task) (due : ℕ) (p : Stands m h memory t due) (r : Ruling) (o : Outcome) → r ≡ rule_at m t.registers.began p.instr p.state → p.taken + 1 ≡ p.instr.len
+      → Fits (here_of h memory t p.state p.instr) r o → Comes h memory t due o
+  comes h memory t due p r o e last (it_falls {s = s'} {l = l} origin low after changes pay) =
+      let next : Reaches m (t.registers.began + p.instr.len) (Some s') = follows p.reached p.stands p.reading.spelled refl (ap falling e) in
+      let at : t.registers.began + p.instr.len ≡ t.registers.at + 1 = omega (arith, p.reading.at_is) in
+      let en = enter h t.mode origin (t.registers.began + p.instr.len) s' l next low after in
+      let lives = lives_at h t.mode origin (t.registers.began + p.instr.len) (Some s') en.state l next low en.stands en.after in
+      comes_on en.state.number changes
+      (subst (λ n. Lives m h l.memory (record { registers = between n l.registers; mode = t.mode; condition = Ready }) en.state.number) at lives)
+      (omega (arith, p.paid, en.paid))
+  comes h memory t due p r o e last (it_leads {to = to} {l = l} {t = label} origin is low after changes pay) =
+      let r = c.holds.labels to label low is in
+      let st : state_at m to r.0 ≡ Some (label_state label) = ap (λ (o : Option Label). elim o [ None ↦ r.0 | Some t ↦ Some (label_state t) ]) is in
+      comes_to label.number changes (lives_at h t.mode origin to r.0 (label_state label) l r.1 low st after) (omega (arith, p.paid))
+  comes h memory t due p r o e last (it_ends changes pay) = comes_down changes (omega (arith, p.paid))
+  comes h memory t due p r o e last (it_breaks {v = v}) = absurd (unbroken h memory t due p (began_inside h memory t due p) v (sym e))
+
+  -- the last byte of an instruction
+  pub comes_last : (h : Holding) (memory : Memory) (t : Task) (due byte : ℕ) (f : Fun) → Stands m h memory t due → slice_get m.code t.registers.at ≡ Some byte → fun_of (function_code byte) ≡ Some f
+      → Comes h memory t due (local_step (record { code_length = length m.code; next = t.registers.at + 1; mode = t.mode; holding = h }) f (with_nibble t.registers.operand (nibble byte)) (record { registers = t.registers; memory = memory }))
+  comes_last h memory t due byte f p here some =
+      let b = byte_here m t.registers p.instr p.taken p.reading in
+      let same : b.byte ≡ byte = same_some (slice_get m.code t.registers.at) b.byte byte b.here here in
+      let rest = subst (λ y. ended_or (fun_of (function_code y)) (with_nibble t.registers.operand (nibble y)) (p.taken + 1) (read b.fuel (drop (t.registers.at + 1) m.code) (after_prefix (function_code y) (with_nibble t.registers.operand (nibble y))) (p.taken + 1)) ≡ Ok p.instr) same b.rest in
+      let is = after_some (fun_of (function_code byte)) f _ _ _ p.instr some rest in
+      let at : t.registers.began + p.instr.len ≡ t.registers.at + 1 = omega (arith, p.reading.at_is, is.2) in
+      subst (λ n. Comes h memory t due (local_step (record { code_length = length m.code; next = n; mode = t.mode; holding = h }) f (with_nibble t.registers.operand (nibble byte)) (record { registers = t.registers; memory = memory }))) at
+      (subst (λ g. Comes h memory t due (local_step (step_site (here_of h memory t p.state p.instr)) g (with_nibble t.registers.operand (nibble byte)) (record { registers = t.registers; memory = memory }))) (sym is.0)
+      (subst (λ e. Comes h memory t due (local_step (step_site (here_of h memory t p.state p.instr)) p.instr.fun e (record { registers = t.registers; memory = memory }))) (sym is.1)
+      (comes h memory t due p (rule_at m t.registers.began p.instr p.state) _ refl is.2 (point_fits h memory t due p))))

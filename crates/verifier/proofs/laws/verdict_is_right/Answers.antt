@@ -1,0 +1,9 @@
+use Rattle.verifier.proofs.Judging.{accepted_is_certified, refused_is_refused}
+use Rattle.verifier.proofs.Kept.{spans}
+use Rattle.verifier.proofs.laws.verdict_is_right.Goals as goal
+
+pub returns-clause-accepts : goal.returns-clause-accepts
+returns-clause-accepts c = λ m k accepted. accepted_is_certified m (spans m k) accepted
+
+pub returns-clause-refuses : goal.returns-clause-refuses
+returns-clause-refuses c = λ m r k refused. refused_is_refused m (spans m k) r refused

@@ -1,0 +1,86 @@
+use Rattle.std.proofs.Common.{rules, arith, ◌≡◌, ◌∙◌, sym, ap, refl, subst, ℕ, ◌+◌, ◌-◌, ◌<◌, ◌≤◌, List, length, Option, Some, None, Ok, Err}
+use Rattle.prefix_decoder.specs.Fetching.{fetched}
+use Rattle.certificate.specs.Contents.{Contents}
+use Rattle.states.specs.State.{State}
+use Rattle.states.specs.Views.{state_of}
+use Rattle.verifier.specs.Judge.{first_label}
+use Rattle.verifier.specs.Judging.{falling_state, AreLeft}
+use Rattle.verifier.proofs.Passing.{OnTheWay, start, left-first, left-further, misspelled-is, broken-is, hidden-is, goes-on, module-spans, told, fallen-off, all-judged}
+use Rattle.verifier.proofs.pass.pass.Goals as goal
+use Rattle.verifier.proofs.pass.pass.Goals.{After-tables-tables, After-fetch, In-Ok-fetch, In-Ok-judge}
+
+-- the code of the tables is the module's
+code_is : (c : After-tables-tables) → c.tables-tables.result.now.code.now ≡ c.args.module.now.code
+code_is c = ap (λ (m : Contents). m.code) c.tables-tables.ensures.contents
+
+low : (c : After-fetch) → c.loop-at.at < length c.args.module.now.code
+low c = subst (λ (code : List ℕ). c.loop-at.at < length code) (ap (λ (m : Contents). m.code) c.tables-tables.ensures.contents) c.loop-at-test.true
+
+spelled : (c : In-Ok-fetch) → fetched c.args.module.now.code c.loop-at.at ≡ Ok c.in-Ok-fetch.instr
+spelled c = ap (λ (code : List ℕ). fetched code c.loop-at.at) (sym (ap (λ (m : Contents). m.code) c.tables-tables.ensures.contents)) ∙ sym c.in-Ok-fetch.ensures.exact
+
+pub loop-at-init : goal.loop-at-init
+loop-at-init c = record {
+  inside = omega arith;
+  belongs = c.in-Ok.ensures.belongs;
+  left =
+      subst (λ rows. AreLeft c.args.module.now 0 rows) (sym c.as_slice-rows.ensures.value)
+      (left-first c.args.module.now c.tables-tables.result.now.labels.items c.tables-tables.ensures.kept (ap (λ (m : Contents). m.labels) (sym c.tables-tables.ensures.contents)));
+  on_the_way = subst (λ (s : State). OnTheWay c.args.module.now 0 (Some s)) (sym c.in-Ok.ensures.state) (start c.args.module.now);
+}
+
+pub returns-in_default-fetch-clause-refuses : goal.returns-in_default-fetch-clause-refuses
+returns-in_default-fetch-clause-refuses c =
+    told c.args.module.now c.refused-in_default-fetch.result 1 c.loop-at.at c.refused-in_default-fetch.ensures
+    (misspelled-is c.args.module.now c.loop-at.at _ c.in_default-fetch.field-0 (low (goal.at.returns-in_default-fetch-clause-refuses c).After-fetch) c.loop-at.invariant.on_the_way
+    (ap (λ (code : List ℕ). fetched code c.loop-at.at) (sym (ap (λ (m : Contents). m.code) c.tables-tables.ensures.contents)) ∙ sym c.in_default-fetch.ensures.exact))
+
+pub returns-in-Err-clause-refuses : goal.returns-in-Err-clause-refuses
+returns-in-Err-clause-refuses c =
+    told c.args.module.now c.refused-in-Err.result c.in-Err.fault.number c.loop-at.at c.refused-in-Err.ensures
+    (broken-is c.args.module.now c.loop-at.at c.in-Err.fault.number _ c.in-Ok-fetch.instr (low (goal.at.returns-in-Err-clause-refuses c).After-fetch) c.loop-at.invariant.on_the_way
+    (spelled (goal.at.returns-in-Err-clause-refuses c).In-Ok-fetch) c.in-Err.ensures.judged)
+
+-- the label rows behind the offset
+left : (c : In-Ok-judge) → AreLeft c.args.module.now (c.loop-at.at + 1) c.rows_behind-rows.result.now
+left c = c.rows_behind-rows.ensures c.args.module.now c.loop-at.invariant.left
+
+-- where the instruction ends
+end_is : (c : In-Ok-judge) → c.loop-at.at + c.in-Ok-fetch.instr.len ≡ c.loop-at.at + 1 + (c.in-Ok-fetch.instr.len - 1)
+end_is c = let some = c.in-Ok-fetch.ensures.length.0 in omega arith
+
+pub returns-in-Some-clause-refuses : goal.returns-in-Some-clause-refuses
+returns-in-Some-clause-refuses c =
+    told c.args.module.now c.refused-in-Some.result 2 c.in-Some.inside c.refused-in-Some.ensures
+    (hidden-is c.args.module.now c.loop-at.at c.in-Some.inside _ _ c.in-Ok-fetch.instr (low (goal.at.returns-in-Some-clause-refuses c).After-fetch) c.loop-at.invariant.on_the_way
+    (spelled (goal.at.returns-in-Some-clause-refuses c).In-Ok-fetch) c.in-Ok-judge.ensures.judged
+    (sym (c.in-Some.ensures c.args.module.now (c.loop-at.at + 1) (c.in-Ok-fetch.instr.len - 1) (end_is (goal.at.returns-in-Some-clause-refuses c).In-Ok-judge) (left (goal.at.returns-in-Some-clause-refuses c).In-Ok-judge))))
+
+pub loop-at-preserved : goal.loop-at-preserved
+loop-at-preserved c =
+    let spans = module-spans c.args.module.now c.tables-tables.ensures.kept in
+    let sp = spelled (goal.at.loop-at-preserved c).In-Ok-fetch in
+    let end = end_is (goal.at.loop-at-preserved c).In-Ok-judge in
+    let rows = left (goal.at.loop-at-preserved c).In-Ok-judge in
+    let none : first_label c.args.module.now (c.loop-at.at + 1) (c.in-Ok-fetch.instr.len - 1) ≡ None =
+    sym (c.label_before.ensures c.args.module.now (c.loop-at.at + 1) (c.in-Ok-fetch.instr.len - 1) end rows) ∙ c.in_default-label_before.is in
+    record {
+      inside = spans.inside c.loop-at.at c.in-Ok-fetch.instr sp;
+      belongs = c.judge.ensures.belongs;
+      left = subst (λ (o : ℕ). AreLeft c.args.module.now o c.rows_behind-rows.result.now) (sym end) (left-further c.args.module.now (c.loop-at.at + 1) (c.in-Ok-fetch.instr.len - 1) c.rows_behind-rows.result.now rows none);
+      on_the_way =
+          goes-on c.args.module.now c.loop-at.at _ _ c.in-Ok-fetch.instr spans (low (goal.at.loop-at-preserved c).After-fetch) c.loop-at.invariant.on_the_way sp c.in-Ok-judge.ensures.judged none;
+    }
+
+pub returns-then-falls-clause-refuses : goal.returns-then-falls-clause-refuses
+returns-then-falls-clause-refuses c =
+    let high : length c.args.module.now.code ≤ c.loop-at.at =
+    subst (λ (code : List ℕ). length code ≤ c.loop-at.at) (ap (λ (m : Contents). m.code) c.tables-tables.ensures.contents) c.loop-at-test.false in
+    told c.args.module.now c.refused-then-falls.result 3 c.loop-at.at c.refused-then-falls.ensures
+    (fallen-off c.args.module.now c.loop-at.at c.loop-at.falls (state_of c.loop-at.state) high c.loop-at.invariant.on_the_way c.if-falls.true)
+
+pub returns-clause-accepts : goal.returns-clause-accepts
+returns-clause-accepts c =
+    let high : length c.args.module.now.code ≤ c.loop-at.at =
+    subst (λ (code : List ℕ). length code ≤ c.loop-at.at) (ap (λ (m : Contents). m.code) c.tables-tables.ensures.contents) c.loop-at-test.false in
+    all-judged c.args.module.now c.loop-at.at c.loop-at.falls (state_of c.loop-at.state) high c.loop-at.invariant.on_the_way c.if-falls.false

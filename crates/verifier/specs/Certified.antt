@@ -1,0 +1,75 @@
+-- When a module is certified, and when it is refused.
+use Rattle.std.specs.Prelude.{◌≡◌, ◌≢◌, ℕ, ◌+◌, ◌<◌, List, length, Option, Some, None, Result, Ok, Err}
+use Rattle.prefix_decoder.specs.declared.decoding.Instr.{Instr}
+use Rattle.prefix_decoder.specs.declared.decoding.DecodeFault.{DecodeFault}
+use Rattle.prefix_decoder.specs.Fetching.{fetched}
+use Rattle.certificate.specs.Contents.{Contents, Label, label_at}
+use Rattle.states.specs.State.{State, root_state, label_state}
+use Rattle.states.specs.Below.{below}
+use Rattle.facts.specs.Rules.{Ruling, falls, leads, ends, breaks, rule_at}
+
+-- the state that a ruling lets fall into the next offset
+abbrev pub falling : Ruling → Option State
+falling (falls s) = Some s
+falling (leads to) = None
+falling ends = None
+falling (breaks v) = None
+
+-- the state at an offset into which `before` falls: a label's, where there is a label
+abbrev pub state_at : Contents → ℕ → Option State → Option State
+state_at m at before = elim (label_at m at) [ None ↦ before | Some t ↦ Some (label_state t) ]
+
+-- what falling into the offset costs, or the rule that it breaks
+abbrev pub entering : Contents → ℕ → Option State → Result ℕ ℕ
+entering m at before = elim (label_at m at) [ None ↦ Ok 0 | Some t ↦ elim before [ None ↦ Ok 0 | Some s ↦ below s t ] ]
+
+-- An instruction starts at the offset, and this state falls into it, or none.
+pub data Reaches (m : Contents) : ℕ → Option State → Type 0 where
+  begins : Reaches m 0 (Some (root_state m))
+  follows : {at to : ℕ} {before after : Option State} {s : State} {i : Instr} → Reaches m at before → state_at m at before ≡ Some s
+      → fetched m.code at ≡ Ok i → to ≡ at + i.len → after ≡ falling (rule_at m at i s) → Reaches m to after
+
+-- An instruction stands at the offset, the state there is the one that the assignment gives, what falls into it
+-- may go on, and the instruction breaks no rule.
+pub record HoldsAt (m : Contents) (states : ℕ → Option State) (at : ℕ) (before : Option State) : Type 0 where
+  pub state : State
+  pub stands : state_at m at before ≡ Some state
+  pub assigned : states at ≡ Some state
+  pub cost : ℕ
+  pub enters : entering m at before ≡ Ok cost
+  pub instr : Instr
+  pub spelled : fetched m.code at ≡ Ok instr
+  pub unbroken : (v : ℕ) → rule_at m at instr state ≢ breaks v
+
+-- All holds at each instruction start below an offset, and each label below it stands at a start.
+pub record HoldsBelow (m : Contents) (states : ℕ → Option State) (end : ℕ) : Type 0 where
+  pub labels : (at : ℕ) (t : Label) → at < end → label_at m at ≡ Some t → (before : Option State) × Reaches m at before
+  pub each : (at : ℕ) (before : Option State) → at < end → Reaches m at before → HoldsAt m states at before
+
+-- There is a state for each instruction start with which all holds, and nothing falls off the code.
+pub record IsCertified (m : Contents) : Type 0 where
+  pub states : ℕ → Option State
+  pub holds : HoldsBelow m states (length m.code)
+  pub ends : (before : Option State) → Reaches m (length m.code) before → before ≡ None
+
+-- The rule of this number is broken at the offset.
+pub data IsBroken (m : Contents) : ℕ → ℕ → Type 0 where
+  -- no spelling of an instruction stands there
+  misspelled : {v at : ℕ} {before : Option State} {e : DecodeFault} → v ≡ 1 → Reaches m at before → at < length m.code → fetched m.code at ≡ Err e → IsBroken m v at
+  -- a label stands within an instruction
+  hidden : {v at : ℕ} {t : Label} → v ≡ 2 → at < length m.code → label_at m at ≡ Some t → ((before : Option State) → Reaches m at before → ⊥) → IsBroken m v at
+  -- nothing leads there
+  unreached : {v at : ℕ} → v ≡ 3 → Reaches m at None → at < length m.code → label_at m at ≡ None → IsBroken m v at
+  -- a state falls off the code
+  fallen_off : {v at : ℕ} {s : State} → v ≡ 3 → at ≡ length m.code → Reaches m at (Some s) → IsBroken m v at
+  -- what falls into a label is not below it
+  entered : {v at : ℕ} {before : Option State} → Reaches m at before → at < length m.code → entering m at before ≡ Err v → IsBroken m v at
+  -- the instruction breaks its rule
+  broken : {v at : ℕ} {before : Option State} {s : State} {i : Instr} → Reaches m at before → at < length m.code → state_at m at before ≡ Some s
+      → fetched m.code at ≡ Ok i → rule_at m at i s ≡ breaks v → IsBroken m v at
+
+-- All holds below the offset, and there the rule of this number is broken.
+pub record IsRefused (m : Contents) (v at : ℕ) : Type 0 where
+  pub states : ℕ → Option State
+  pub holds : HoldsBelow m states at
+  pub broken : IsBroken m v at

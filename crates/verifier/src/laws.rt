@@ -1,0 +1,36 @@
+//! The laws of certified modules, each the contract of a function that does nothing.
+ghost use Rattle.std.specs.Prelude.{◌≡◌, ℕ, Ok, Err};
+ghost use Rattle.certificate.specs.Contents.{Contents};
+ghost use Rattle.certificate.specs.Keeping.{Keeps};
+ghost use Rattle.machine_state.specs.declared.event.Event.{Event};
+ghost use Rattle.machine_state.specs.World.{World};
+ghost use Rattle.machine_state.specs.Happens.{happens};
+ghost use Rattle.verifier.specs.declared.Refusal.{Refusal};
+ghost use Rattle.verifier.specs.Certified.{IsCertified, IsRefused};
+ghost use Rattle.verifier.specs.Judge.{verdict};
+ghost use Rattle.verifier.specs.Invariant.{Holds};
+ghost use Rattle.verifier.specs.Headline.{IsEvent, RunsWell};
+
+/// No module is both certified and refused.
+pub fn not_both()
+    ensures { (m : Contents) (v at : ℕ) → IsCertified m → IsRefused m v at → ⊥ }
+{}
+
+/// One pass over the code decides: what it accepts is certified, and what it refuses is refused by that
+/// rule at that offset.
+pub fn verdict_is_right()
+    ensures accepts { (m : Contents) → Keeps m → verdict m ≡ Ok tt → IsCertified m }
+    ensures refuses { (m : Contents) (r : Refusal) → Keeps m → verdict m ≡ Err r → IsRefused m r.number r.offset }
+{}
+
+/// Whatever event comes to whatever world in which the invariant of a certified module holds, it holds
+/// afterwards.
+pub fn events_keep_the_invariant()
+    ensures { (m : Contents) (e : Event) (w : World) → Keeps m → IsCertified m → IsEvent e → Holds m w → Holds m (happens m w e) }
+{}
+
+/// For every list of events a certified module runs without a fault, all regions and channel ends stay
+/// apart, and at most the budget of instruction bytes is executed.
+pub fn certified_modules_run_well()
+    ensures { (m : Contents) → Keeps m → IsCertified m → RunsWell m }
+{}

@@ -1,0 +1,22 @@
+//! The verdict on a module: certified, or the first rule that is broken.
+#![tactic(auto)]
+
+mod judgement;
+mod laws;
+mod pass;
+mod rows;
+#[cfg(test)]
+mod tests;
+mod verified;
+
+pub use laws::{certified_modules_run_well, events_keep_the_invariant, not_both, verdict_is_right};
+pub use verified::{Verified, verify};
+
+/// Why a module is refused.
+#[derive(Clone, Copy, Debug, PartialEq, Eq)]
+pub struct Refusal {
+    /// Which rule is broken, 1 to 17.
+    pub number: u8,
+    /// The code offset where it is broken.
+    pub offset: u32,
+}

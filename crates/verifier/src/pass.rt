@@ -1,0 +1,59 @@
+//! The one pass over the code.
+
+ghost use Rattle.std.specs.Prelude.{◌≡◌, ◌<◌, ◌^◌, ◌⊎◌, OnOk, IfErr, Ok, Err};
+ghost use Rattle.certificate.specs.Keeping.{Keeps};
+ghost use Rattle.verifier.specs.declared.Refusal.{Refusal};
+ghost use Rattle.verifier.specs.Judge.{verdict};
+
+use crate::Refusal;
+use crate::judgement::judge;
+use crate::rows::{label_before, row_here, rows_behind};
+use certificate::Module;
+use prefix_decoder::fetch;
+use states::{FLOW, INSTRUCTION_START, MEMORY, SPELLING, State};
+use std::alloc::Global;
+
+fn refused(number: u8, at: usize) -> Result<(), Refusal>
+    requires { at < 2 ^ 32 }
+    ensures { result ≡ Err (record { number = number; offset = at }) }
+{
+    Err(Refusal {
+        number,
+        offset: at as u32,
+    })
+}
+
+/// Goes over the code once, with one state.
+pub(crate) fn pass<'a>(alloc: Global, module: &'a Module<'a>) -> Result<(), Refusal>
+    ensures accepts { OnOk result (verdict «module».now ≡ Ok tt) }
+    ensures kept { Keeps «module».now }
+    ensures refuses { IfErr result (λ r. (r ≡ record { number = 17; offset = 0 }) ⊎ (verdict «module».now ≡ Err r)) }
+{
+    let tables = module.tables();
+    let Ok(mut state) = State::root(alloc, module) else {
+        return refused(MEMORY, 0);
+    };
+    let mut rows = tables.labels.as_slice();
+    let mut falls = true;
+    let mut at = 0;
+    while at < tables.code.len() {
+        let Ok(instr) = fetch(tables.code, at) else {
+            return refused(SPELLING, at);
+        };
+        let row = row_here(rows, at);
+        rows = rows_behind(rows, at);
+        falls = match judge(module, &mut state, falls, row, at, instr) {
+            Ok(falls) => falls,
+            Err(fault) => return refused(fault.number, at),
+        };
+        let end = at + instr.len;
+        if let Some(inside) = label_before(rows, end) {
+            return refused(INSTRUCTION_START, inside as usize);
+        }
+        at = end;
+    }
+    if falls {
+        return refused(FLOW, at);
+    }
+    Ok(())
+}

@@ -1,0 +1,56 @@
+//! Modules that are certified.
+
+use crate::Refusal;
+use crate::pass::pass;
+use certificate::Module;
+use std::alloc::Global;
+use std::marker::Model;
+
+/// A module that is certified. It is made by `verify` alone.
+#[derive(Drop)]
+pub struct Verified<'a> {
+    module: &'a Module<'a>,
+}
+
+impl<'a> Model for Verified<'a> {
+    ghost use Rattle.certificate.specs.Contents.{Contents};
+    ghost use Rattle.verifier.specs.Certified.{IsCertified};
+
+    ghost Value = { Contents };
+
+    ghost view = { λ v. v.module.now };
+
+    ghost invariant = { λ v. ∥ IsCertified v.module.now ∥₁ };
+}
+
+impl<'a> Verified<'a> {
+    ghost use Rattle.std.specs.Prelude.{◌≡◌};
+    ghost use Rattle.verifier.specs.Certified.{IsCertified};
+
+    /// The module.
+    pub fn module(&self) -> &Module<'a>
+        ensures same { result.now ≡ self.now }
+        ensures certified { ∥ IsCertified self.now ∥₁ }
+    {
+        self.module
+    }
+}
+
+ghost use Rattle.std.specs.Prelude.{◌≡◌, ◌≢◌, OnOk, IfOk, IfErr};
+ghost use Rattle.verifier.specs.Certified.{IsCertified, IsRefused};
+ghost use Rattle.verifier.specs.Headline.{RunsWell};
+
+/// Whether a module is certified, or else the first rule that is broken and where. Want of memory is told
+/// as rule 17 at offset 0.
+// A body that always answers want of memory meets these clauses too, since no clause can say that memory
+// is left: tests show that modules are accepted.
+pub fn verify<'a>(alloc: Global, module: &'a Module<'a>) -> Result<Verified<'a>, Refusal>
+    // Whatever events come, in whatever order: no fault, all holdings apart, and no more bytes than the budget.
+    ensures headline { OnOk result (RunsWell «module».now) }
+    ensures accepts { IfOk result (λ v. (v ≡ «module».now) × IsCertified «module».now) }
+    ensures refuses { IfErr result (λ r. r.number ≢ 17 → IsRefused «module».now r.number r.offset) }
+    ensures memory { IfErr result (λ r. r.number ≡ 17 → r.offset ≡ 0) }
+{
+    pass(alloc, module)?;
+    Ok(Verified { module })
+}
