@@ -1,0 +1,141 @@
+-- Laws on words, ends and the tests on them.
+use Rattle.std.proofs.Common.{T, int_le, int_lt, ◌<ℤ◌, to_z, of_z, ◌≡◌, ◌⊎◌, inl, inr, Bool, true, false, ◌&&◌, cond, Option, Some, None, IsSomeAnd, unwrap_or, IfSome, IfNone, refl, sym, ap, ◌∙◌, subst, arith, ℤ, pos, negsuc, ◌≤ℤ◌, FitsSigned}
+use Rattle.std.specs.Int.{Width, w32}
+use Rattle.std.specs.Option.{option_map}
+use Rattle.std.proofs.lemmas.Int.{ints, clamps, to_z-of_z}
+use Rattle.std.proofs.lemmas.Bool.{ltb-true, lt-ltb}
+use Rattle.word_arithmetic.specs.declared.ranges.Range.{Range}
+use Rattle.word_arithmetic.specs.Word.{is_word, checked}
+use Rattle.word_arithmetic.specs.Range.{Ends, ends_of, InRange, IsWithin, fitting, hull}
+
+-- ---- words
+
+pub is_word_out : (z : ℤ) → is_word z ≡ true → FitsSigned w32 z
+is_word_out (pos n) e = record { sfits = ltb-true n 2147483648 e }
+is_word_out (negsuc n) e = record { sfits = ltb-true n 2147483648 e }
+
+pub is_word_in : (z : ℤ) → FitsSigned w32 z → is_word z ≡ true
+is_word_in (pos n) f = lt-ltb n 2147483648 f.sfits
+is_word_in (negsuc n) f = lt-ltb n 2147483648 f.sfits
+
+pub checked_fits : (z : ℤ) → FitsSigned w32 z → checked z ≡ Some z
+checked_fits z f = ap (λ b. cond b (Some z) None) (is_word_in z f)
+
+-- ---- what is said of a range that may not be there
+
+pub if_some : (o : Option Range) (e : Option Ends) (P : Ends → Type 0) → option_map ends_of o ≡ e → ((t : Ends) → e ≡ Some t → P t) → IfSome o (λ r. P (ends_of r))
+if_some None e P h f = tt
+if_some (Some r) e P h f = f (ends_of r) (sym h)
+
+pub if_none : (o : Option Range) (e : Option Ends) (P : Type 0) → option_map ends_of o ≡ e → (e ≡ None → P) → IfNone o P
+if_none None e P h f = f (sym h)
+if_none (Some r) e P h f = tt
+
+unwrap_each : (o : Option Range) (d : Range) → ends_of (unwrap_or o d) ≡ unwrap_or (option_map ends_of o) (ends_of d)
+unwrap_each None d = refl
+unwrap_each (Some r) d = refl
+
+pub ends_of-unwrap_or : (o : Option Range) (d : Range) (e : Option Ends) (f : Ends) → option_map ends_of o ≡ e → ends_of d ≡ f → ends_of (unwrap_or o d) ≡ unwrap_or e f
+ends_of-unwrap_or o d e f p q = unwrap_each o d ∙ (λ i. unwrap_or (p i) (q i))
+
+-- ---- ends that fit
+
+-- what a test says of the option that it decides
+pub some_out : {X : Type 0} (b : Bool) (x y : X) → cond b (Some x) None ≡ Some y → (b ≡ true) × (x ≡ y)
+some_out true x y e = (refl, cc)
+some_out false x y e = cc
+
+pub none_out : {X : Type 0} (b : Bool) (x : X) → ◌≡◌ {A = Option X} (cond b (Some x) None) None → b ≡ false
+none_out true x e = cc
+none_out false x e = refl
+
+pub and_out : (a b : Bool) → (a && b) ≡ true → (a ≡ true) × (b ≡ true)
+and_out true b e = (refl, e)
+and_out false b e = cc
+
+pub and_failed : (a b : Bool) → (a && b) ≡ false → (a ≡ false) ⊎ (b ≡ false)
+and_failed true b e = inr e
+and_failed false b e = inl refl
+
+pub record Fits (e t : Ends) : Type 0 where
+  pub lo : FitsSigned w32 e.lo
+  pub hi : FitsSigned w32 e.hi
+  pub same : e ≡ t
+
+pub fitting_some : (e t : Ends) → fitting e ≡ Some t → Fits e t
+fitting_some e t h =
+    let s = some_out (is_word e.lo && is_word e.hi) e t h in
+    let w = and_out (is_word e.lo) (is_word e.hi) s.0 in
+    record { lo = is_word_out e.lo w.0; hi = is_word_out e.hi w.1; same = s.1 }
+
+pub fitting_none : (e : Ends) → fitting e ≡ None → (checked e.lo ≡ None) ⊎ (checked e.hi ≡ None)
+fitting_none e h =
+    elim (and_failed (is_word e.lo) (is_word e.hi) (none_out (is_word e.lo && is_word e.hi) e h)) [
+      | inl p ↦ inl (ap (λ b. cond b (Some e.lo) None) p)
+      | inr p ↦ inr (ap (λ b. cond b (Some e.hi) None) p)
+    ]
+
+-- a number between ends that fit is a word
+pub fits_between : (e : Ends) (z : ℤ) → FitsSigned w32 e.lo → FitsSigned w32 e.hi → InRange e z → FitsSigned w32 z
+fits_between e z f g h = omega (arith, ints)
+
+pub fitting_holds : (e t : Ends) (z : ℤ) → fitting e ≡ Some t → InRange e z → IsSomeAnd (checked z) (InRange t)
+fitting_holds e t z h m =
+    let f = fitting_some e t h in
+    subst (λ o. IsSomeAnd o (InRange t)) (sym (checked_fits z (fits_between e z f.lo f.hi m))) (subst (λ r. InRange r z) f.same m)
+
+-- the ends of a range are members
+pub lo_in : (r : Ends) → r.lo ≤ℤ r.hi → InRange r r.lo
+lo_in r h = record { from_lo = omega (arith, ints); to_hi = h }
+
+pub hi_in : (r : Ends) → r.lo ≤ℤ r.hi → InRange r r.hi
+hi_in r h = record { from_lo = h; to_hi = omega (arith, ints) }
+
+-- ---- tests
+
+true_from_T : (b : Bool) → T b → b ≡ true
+true_from_T true h = refl
+true_from_T false h = absurd h
+
+pub le_test : (a b : ℤ) → a ≤ℤ b → int_le a b ≡ true
+le_test a b h = true_from_T (int_le a b) h.le
+
+pub le_test_fails : (a b : ℤ) → b <ℤ a → int_le a b ≡ false
+le_test_fails a b h = by (int_le a b) refl
+  where
+    by : (t : Bool) → int_le a b ≡ t → t ≡ false
+    by true e = absurd (omega (arith, ints))
+    by false e = refl
+
+pub lt_test : (a b : ℤ) → a <ℤ b → int_lt a b ≡ true
+lt_test a b h = true_from_T (int_lt a b) h.lt
+
+-- ---- what the code computes, read back
+
+-- f of two numbers that fit their width
+pub read_back : (w : Width) (f : ℤ → ℤ → ℤ) (x y z : ℤ) → FitsSigned w x → FitsSigned w y → z ≡ f (to_z w (of_z w x)) (to_z w (of_z w y)) → f x y ≡ z
+read_back w f x y z p q e = sym (e ∙ (λ i. f (to_z-of_z w x p i) (to_z-of_z w y q i)))
+
+-- the same, where the result is passed on
+pub passed_on : (w v : Width) (f : ℤ → ℤ → ℤ) (x y z : ℤ) → FitsSigned w x → FitsSigned w y → FitsSigned v z → z ≡ f (to_z w (of_z w x)) (to_z w (of_z w y)) → f x y ≡ to_z v (of_z v z)
+passed_on w v f x y z p q r e = read_back w f x y z p q e ∙ sym (to_z-of_z v z r)
+
+-- ---- a choice whose test is known
+
+pub cond_true : {X : Type 0} (b : Bool) (x y z : X) → b ≡ true → z ≡ x → z ≡ cond b x y
+cond_true b x y z e h = h ∙ ap (λ t. cond t x y) (sym e)
+
+pub cond_false : {X : Type 0} (b : Bool) (x y z : X) → b ≡ false → z ≡ y → z ≡ cond b x y
+cond_false b x y z e h = h ∙ ap (λ t. cond t x y) (sym e)
+
+-- ---- the hull
+
+pub hull_least : (r s t : Ends) → r.lo ≤ℤ r.hi → s.lo ≤ℤ s.hi → IsWithin r t → IsWithin s t → IsWithin (hull r s) t
+hull_least r s t o p h k v m =
+    let a = (h r.lo (lo_in r o)).from_lo in
+    let b = (h r.hi (hi_in r o)).to_hi in
+    let c = (k s.lo (lo_in s p)).from_lo in
+    let d = (k s.hi (hi_in s p)).to_hi in
+    let from = m.from_lo in
+    let to = m.to_hi in
+    record { from_lo = omega (arith, ints, clamps); to_hi = omega (arith, ints, clamps) }

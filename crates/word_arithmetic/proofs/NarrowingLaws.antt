@@ -1,0 +1,219 @@
+-- What is left of a range inside and outside another, and by a comparison.
+use Rattle.std.proofs.Common.{◌≡◌, ◌↔◌, inl, inr, Bool, true, false, not, cond, refl, sym, subst, ap, ◌∙◌, arith, IsTrue, ℤ, pos, ◌+ℤ◌, ◌-ℤ◌, ◌≤ℤ◌, ◌<ℤ◌, int_le, int_lt, FitsSigned, to_z, of_z}
+use Rattle.std.specs.Int.{w32, int_min, int_max}
+use Rattle.std.specs.Ordering.{int_eq}
+use Rattle.std.proofs.lemmas.Int.{ints, clamps, by_lt_z, to_z-of_z}
+use Rattle.std.proofs.lemmas.Bool.{cond_both, not-true, both_ways}
+use Rattle.std.proofs.lemmas.Bool.Decides.{Decides-int_eq}
+use Rattle.word_arithmetic.specs.declared.compare.Comparison.{Comparison}
+use Rattle.word_arithmetic.specs.declared.compare.Comparison.TheVariants.{Equal, NotEqual, Less, LessOrEqual, Greater, GreaterOrEqual}
+use Rattle.word_arithmetic.specs.Comparison.{compares}
+use Rattle.word_arithmetic.specs.Range.{Ends, InRange, IsRange, IsLeft, Narrows, in_range, inside, outside, at_least, at_most, constant, narrowed}
+use Rattle.word_arithmetic.proofs.EndsLaws.{and_out, and_failed, fits_between, lo_in, hi_in, le_test, lt_test}
+
+-- ---- ranges with the same members are one
+
+antisym : (a b : ℤ) → a ≤ℤ b → b ≤ℤ a → a ≡ b
+antisym a b h k = omega (arith, ints)
+
+pub same_ends : (r s : Ends) → r.lo ≡ s.lo → r.hi ≡ s.hi → r ≡ s
+same_ends r s p q = λ i. record { lo = p i; hi = q i }
+
+pub one_range : (r s : Ends) → r.lo ≤ℤ r.hi → s.lo ≤ℤ s.hi → ((v : ℤ) → InRange r v ↔ InRange s v) → r ≡ s
+one_range r s p q h =
+    let a = (h r.lo).0 (lo_in r p) in
+    let b = (h r.hi).0 (hi_in r p) in
+    let c = (h s.lo).1 (lo_in s q) in
+    let d = (h s.hi).1 (hi_in s q) in
+    same_ends r s (antisym r.lo s.lo c.from_lo a.from_lo) (antisym r.hi s.hi b.to_hi d.to_hi)
+
+-- ---- the two ways to narrow
+
+-- what is left is the new range
+left_narrows : (P : ℤ → Type 0) (r new : Ends) → IsLeft P r new → Narrows P r new
+left_narrows P r new h = record {
+  members = λ v m p. (h.members v).1 (m, p);
+  within = λ v m. ((h.members v).0 m).0;
+  left = λ l k. one_range new l h.ordered k.ordered (λ v. ((λ m. (k.members v).1 ((h.members v).0 m)), (λ m. (h.members v).1 ((k.members v).0 m))));
+  unchanged = λ none. absurd (none new h);
+}
+
+-- what is left can only be the old range
+old_narrows : (P : ℤ → Type 0) (r : Ends) → ((l : Ends) → IsLeft P r l → r ≡ l) → Narrows P r r
+old_narrows P r h = record { members = λ v m p. m; within = λ v m. m; left = h; unchanged = λ none. refl }
+
+-- ---- inside
+
+in_both : (r k : Ends) (v : ℤ) → InRange (record { lo = int_max r.lo k.lo; hi = int_min r.hi k.hi }) v ↔ (InRange r v × InRange k v)
+in_both r k v = (
+  (λ m. let a = m.from_lo in let b = m.to_hi in
+      (record { from_lo = omega (arith, ints, clamps); to_hi = omega (arith, ints, clamps) }, record { from_lo = omega (arith, ints, clamps); to_hi = omega (arith, ints, clamps) })),
+  (λ m. let a = m.0 in let b = m.1 in record { from_lo = omega (arith, ints, clamps); to_hi = omega (arith, ints, clamps) }),
+)
+
+pub inside_narrows : (r k : Ends) → Narrows (λ v. InRange k v) r (inside r k)
+inside_narrows r k =
+    let both : Ends = record { lo = int_max r.lo k.lo; hi = int_min r.hi k.hi } in
+    cond_both (int_le both.lo both.hi) both r (Narrows (λ v. InRange k v) r)
+    (λ e. left_narrows (λ v. InRange k v) r both (record { ordered = omega (arith, ints, e); members = in_both r k }))
+    (λ e. old_narrows (λ v. InRange k v) r (λ l h.
+    let m = (in_both r k l.lo).1 ((h.members l.lo).0 (lo_in l h.ordered)) in
+    absurd (omega (arith, ints, e, m.from_lo, m.to_hi))))
+
+-- ---- outside
+
+pub true_in : (k : Ends) (v : ℤ) → in_range k v ≡ true → InRange k v
+true_in k v h = let w = and_out (int_le k.lo v) (int_le v k.hi) h in record { from_lo = omega (arith, ints, w.0); to_hi = omega (arith, ints, w.1) }
+
+pub false_out : (k : Ends) (v : ℤ) → in_range k v ≡ false → InRange k v → ⊥
+false_out k v h m = elim (and_failed (int_le k.lo v) (int_le v k.hi) h) [ inl p ↦ omega (arith, ints, p, m.from_lo) | inr p ↦ omega (arith, ints, p, m.to_hi) ]
+
+-- a number of the range that is not in the other, whose one end holds an end of the range, lies beyond the other end
+beyond_hi : (k : Ends) (v : ℤ) → k.lo ≤ℤ v → (InRange k v → ⊥) → k.hi <ℤ v
+beyond_hi k v h n = by_lt_z k.hi v (λ p. p) (λ p. absurd (n (record { from_lo = h; to_hi = p })))
+
+beyond_lo : (k : Ends) (v : ℤ) → v ≤ℤ k.hi → (InRange k v → ⊥) → v <ℤ k.lo
+beyond_lo k v h n = by_lt_z v k.lo (λ p. p) (λ p. absurd (n (record { from_lo = p; to_hi = h })))
+
+module _ (r k : Ends) (o : r.lo ≤ℤ r.hi) where
+  -- the lower end is removed
+  pub upper_left : InRange k r.lo → (InRange k r.hi → ⊥) → IsLeft (λ v. InRange k v → ⊥) r (record { lo = k.hi +ℤ pos 1; hi = r.hi })
+  upper_left m n =
+      let low = m.from_lo in
+      let high = m.to_hi in
+      let end = beyond_hi k r.hi (omega (arith, ints)) n in
+      record {
+        ordered = omega (arith, ints);
+        members = λ v. (
+          (λ p. let a = p.from_lo in let b = p.to_hi in (record { from_lo = omega (arith, ints); to_hi = b }, λ q. let d = q.to_hi in omega (arith, ints))),
+          (λ p. let a = p.0.from_lo in let b = beyond_hi k v (omega (arith, ints)) p.1 in record { from_lo = omega (arith, ints); to_hi = p.0.to_hi }),
+        );
+      }
+
+  -- the upper end is removed
+  pub lower_left : (InRange k r.lo → ⊥) → InRange k r.hi → IsLeft (λ v. InRange k v → ⊥) r (record { lo = r.lo; hi = k.lo -ℤ pos 1 })
+  lower_left n m =
+      let low = m.from_lo in
+      let high = m.to_hi in
+      let end = beyond_lo k r.lo (omega (arith, ints)) n in
+      record {
+        ordered = omega (arith, ints);
+        members = λ v. (
+          (λ p. let a = p.from_lo in let b = p.to_hi in (record { from_lo = a; to_hi = omega (arith, ints) }, λ q. let d = q.from_lo in omega (arith, ints))),
+          (λ p. let a = p.0.to_hi in let b = beyond_lo k v (omega (arith, ints)) p.1 in record { from_lo = p.0.from_lo; to_hi = omega (arith, ints) }),
+        );
+      }
+
+  -- both ends are removed, and all between them
+  none_left : InRange k r.lo → InRange k r.hi → (l : Ends) → IsLeft (λ v. InRange k v → ⊥) r l → r ≡ l
+  none_left m n l h =
+      let x = (h.members l.lo).0 (lo_in l h.ordered) in
+      let a = x.0.from_lo in
+      let b = x.0.to_hi in
+      let c = m.from_lo in
+      let d = n.to_hi in
+      absurd (x.1 (record { from_lo = omega (arith, ints); to_hi = omega (arith, ints) }))
+
+  -- both ends stay
+  ends_left : (InRange k r.lo → ⊥) → (InRange k r.hi → ⊥) → (l : Ends) → IsLeft (λ v. InRange k v → ⊥) r l → r ≡ l
+  ends_left m n l h =
+      let a = (h.members r.lo).1 (lo_in r o, m) in
+      let b = (h.members r.hi).1 (hi_in r o, n) in
+      let c = (h.members l.lo).0 (lo_in l h.ordered) in
+      let d = (h.members l.hi).0 (hi_in l h.ordered) in
+      same_ends r l (antisym r.lo l.lo c.0.from_lo a.from_lo) (antisym r.hi l.hi b.to_hi d.0.to_hi)
+
+  pub outside_narrows : Narrows (λ v. InRange k v → ⊥) r (outside r k)
+  outside_narrows =
+      let P = λ (v : ℤ). InRange k v → ⊥ in
+      let upper : Ends = record { lo = k.hi +ℤ pos 1; hi = r.hi } in
+      let lower : Ends = record { lo = r.lo; hi = k.lo -ℤ pos 1 } in
+      cond_both (in_range k r.lo) (cond (in_range k r.hi) r upper) (cond (in_range k r.hi) lower r) (Narrows P r)
+      (λ p. cond_both (in_range k r.hi) r upper (Narrows P r)
+      (λ q. old_narrows P r (none_left (true_in k r.lo p) (true_in k r.hi q)))
+      (λ q. left_narrows P r upper (upper_left (true_in k r.lo p) (false_out k r.hi q))))
+      (λ p. cond_both (in_range k r.hi) lower r (Narrows P r)
+      (λ q. left_narrows P r lower (lower_left (false_out k r.lo p) (true_in k r.hi q)))
+      (λ q. old_narrows P r (ends_left (false_out k r.lo p) (false_out k r.hi q))))
+
+-- ---- a comparison with a constant
+
+-- another fact that says the same of the numbers of the range
+same_left : (P Q : ℤ → Type 0) (r l : Ends) → ((v : ℤ) → InRange r v → P v ↔ Q v) → IsLeft Q r l → IsLeft P r l
+same_left P Q r l e h = record {
+  ordered = h.ordered;
+  members = λ v. ((λ m. let x = (h.members v).0 m in (x.0, (e v x.0).1 x.1)), (λ x. (h.members v).1 (x.0, (e v x.0).0 x.1)));
+}
+
+same_narrows : (P Q : ℤ → Type 0) (r new : Ends) → ((v : ℤ) → InRange r v → P v ↔ Q v) → Narrows P r new → Narrows Q r new
+same_narrows P Q r new e h = record {
+  members = λ v m q. h.members v m ((e v m).1 q);
+  within = h.within;
+  left = λ l k. h.left l (same_left P Q r l e k);
+  unchanged = λ none. h.unchanged (λ l k. none l (same_left Q P r l (λ v m. ((e v m).1, (e v m).0)) k));
+}
+
+equal_is : (c : ℤ) (v : ℤ) → InRange (constant c) v ↔ IsTrue (int_eq v c)
+equal_is c v = (
+  (λ m. let a = m.from_lo in let b = m.to_hi in (Decides-int_eq v c).1 (antisym v c b a)),
+  (λ h. let e = (Decides-int_eq v c).0 h in record { from_lo = omega (arith, ints); to_hi = omega (arith, ints) }),
+)
+
+module _ (r : Ends) (w : IsRange r) (c : ℤ) where
+  word : (v : ℤ) → InRange r v → FitsSigned w32 v
+  word v m = fits_between r v w.lo_fits w.hi_fits m
+
+  from_is : (v : ℤ) → InRange r v → InRange (at_least c) v ↔ IsTrue (int_le c v)
+  from_is v m = let f = word v m in ((λ p. let a = p.from_lo in le_test c v a), (λ h. record { from_lo = omega (arith, ints, h); to_hi = omega (arith, ints) }))
+
+  upto_is : (v : ℤ) → InRange r v → InRange (at_most c) v ↔ IsTrue (int_le v c)
+  upto_is v m = let f = word v m in ((λ p. let a = p.to_hi in le_test v c a), (λ h. record { from_lo = omega (arith, ints); to_hi = omega (arith, ints, h) }))
+
+  below_is : (v : ℤ) → InRange r v → (InRange (at_least c) v → ⊥) ↔ IsTrue (int_lt v c)
+  below_is v m = let f = word v m in (
+    (λ n. by_lt_z v c (λ p. lt_test v c p) (λ p. absurd (n (record { from_lo = p; to_hi = omega (arith, ints) })))),
+    (λ h p. let a = p.from_lo in omega (arith, ints, h)),
+  )
+
+  beyond_is : (v : ℤ) → InRange r v → (InRange (at_most c) v → ⊥) ↔ IsTrue (int_lt c v)
+  beyond_is v m = let f = word v m in (
+    (λ n. by_lt_z c v (λ p. lt_test c v p) (λ p. absurd (n (record { from_lo = omega (arith, ints); to_hi = p })))),
+    (λ h p. let a = p.to_hi in omega (arith, ints, h)),
+  )
+
+  differs_is : (v : ℤ) → (InRange (constant c) v → ⊥) ↔ IsTrue (not (int_eq v c))
+  differs_is v = (
+    (λ n. ap not (not-true-from (int_eq v c) (λ h. n ((equal_is c v).1 h)))),
+    (λ h m. both_ways (int_eq v c) (not-true (int_eq v c) h) ((equal_is c v).0 m)),
+  )
+    where
+      not-true-from : (b : Bool) → (b ≡ true → ⊥) → b ≡ false
+      not-true-from true n = absurd (n refl)
+      not-true-from false n = refl
+
+  pub narrowed_narrows : (comparison : Comparison) → Narrows (λ v. IsTrue (compares comparison v c)) r (narrowed comparison c r)
+  narrowed_narrows Equal = same_narrows (λ v. InRange (constant c) v) (λ v. IsTrue (int_eq v c)) r (inside r (constant c)) (λ v m. equal_is c v) (inside_narrows r (constant c))
+  narrowed_narrows NotEqual = same_narrows (λ v. InRange (constant c) v → ⊥) (λ v. IsTrue (not (int_eq v c))) r (outside r (constant c)) (λ v m. differs_is v) (outside_narrows r (constant c) w.ordered)
+  narrowed_narrows Less = same_narrows (λ v. InRange (at_least c) v → ⊥) (λ v. IsTrue (int_lt v c)) r (outside r (at_least c)) below_is (outside_narrows r (at_least c) w.ordered)
+  narrowed_narrows LessOrEqual = same_narrows (λ v. InRange (at_most c) v) (λ v. IsTrue (int_le v c)) r (inside r (at_most c)) upto_is (inside_narrows r (at_most c))
+  narrowed_narrows Greater = same_narrows (λ v. InRange (at_most c) v → ⊥) (λ v. IsTrue (int_lt c v)) r (outside r (at_most c)) beyond_is (outside_narrows r (at_most c) w.ordered)
+  narrowed_narrows GreaterOrEqual = same_narrows (λ v. InRange (at_least c) v) (λ v. IsTrue (int_le c v)) r (inside r (at_least c)) from_is (inside_narrows r (at_least c))
+
+-- ---- what the code computes, read back
+
+pub inside_by_rule : (r k new : Ends) → new ≡ inside r k → Narrows (λ v. InRange k v) r new
+inside_by_rule r k new e = subst (Narrows (λ v. InRange k v) r) (sym e) (inside_narrows r k)
+
+pub outside_by_rule : (r k new : Ends) → r.lo ≤ℤ r.hi → new ≡ outside r k → Narrows (λ v. InRange k v → ⊥) r new
+outside_by_rule r k new o e = subst (Narrows (λ v. InRange k v → ⊥) r) (sym e) (outside_narrows r k o)
+
+pub narrowed_by_rule : (r : Ends) (c : ℤ) (new : Ends) (comparison : Comparison) → IsRange r → new ≡ narrowed comparison c r → Narrows (λ v. IsTrue (compares comparison v c)) r new
+narrowed_by_rule r c new comparison w e = subst (Narrows (λ v. IsTrue (compares comparison v c)) r) (sym e) (narrowed_narrows r w c comparison)
+
+-- a test of a word that was passed on
+pub tested : (k : Ends) (v : ℤ) (b : Bool) → FitsSigned w32 v → b ≡ in_range k (to_z w32 (of_z w32 v)) → in_range k v ≡ b
+tested k v b f e = ap (in_range k) (sym (to_z-of_z w32 v f)) ∙ sym e
+
+pub outside_at : (r k : Ends) (a b : Bool) → in_range k r.lo ≡ a → in_range k r.hi ≡ b
+    → outside r k ≡ cond a (cond b r (record { lo = k.hi +ℤ pos 1; hi = r.hi })) (cond b (record { lo = r.lo; hi = k.lo -ℤ pos 1 }) r)
+outside_at r k a b p q = λ i. cond (p i) (cond (q i) r (record { lo = k.hi +ℤ pos 1; hi = r.hi })) (cond (q i) (record { lo = r.lo; hi = k.lo -ℤ pos 1 }) r)

@@ -1,0 +1,24 @@
+use Rattle.std.proofs.Common.{pos, ◌*ℤ◌, ◌^◌, rules, w32, w64, refl, sym, subst, ap, ◌∙◌, unsigned_abs, unwrap_or}
+use Rattle.word_arithmetic.specs.Word.{shifted_left}
+use Rattle.word_arithmetic.specs.Range.{IsRange, Holds, ends_of, full, zero_to, fitting, is_not_negative}
+use Rattle.word_arithmetic.proofs.EndsLaws.{cond_true, ends_of-unwrap_or, passed_on}
+use Rattle.word_arithmetic.proofs.BitLaws.{shift_left_holds}
+use Rattle.word_arithmetic.proofs.ranges.Range.shift_left.Goals as goal
+
+pub returns-clause-rule : goal.returns-clause-rule
+returns-clause-rule c =
+    let r = ends_of c.args.self in
+    let s = ends_of c.args.counts in
+    let hi = r.hi *ℤ pos (2 ^ unsigned_abs s.hi) in
+    let top = passed_on w32 w64 (λ x y. x *ℤ pos (2 ^ unsigned_abs y)) r.hi s.hi c.scaled.result (search rules) (search rules) (search rules) c.scaled.ensures.value in
+    cond_true (is_not_negative r) (unwrap_or (fitting (zero_to hi)) full) full (ends_of c.unwrap_or.result)
+    (sym c.is_not_negative.ensures ∙ c.if-not-is_not_negative.false)
+    (ap ends_of c.unwrap_or.ensures
+    ∙ ends_of-unwrap_or c.fitting.result c.full-2.result (fitting (zero_to hi)) full (c.fitting.ensures (zero_to hi) refl top) c.full-2.ensures)
+
+pub returns-clause-members : goal.returns-clause-members
+returns-clause-members c =
+    let r = ends_of c.args.self in
+    let s = ends_of c.args.counts in
+    let words : IsRange r = record { lo_fits = search rules; hi_fits = search rules; ordered = c.args.self.ordered } in
+    subst (Holds (λ x count. shifted_left x (unsigned_abs count)) r s) (sym (returns-clause-rule c)) (shift_left_holds r s words c.requires.from_zero)

@@ -1,0 +1,4 @@
+pub mod Word
+pub mod Long
+pub mod Range
+pub mod Comparison

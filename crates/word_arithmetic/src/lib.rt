@@ -1,0 +1,20 @@
+//! 32-bit words as the T414 computes with them, and ranges of words that hold every result.
+//!
+//! A word is an `i32`, its signed value. Where an operation reads it as unsigned, it says so.
+#![tactic(auto)]
+
+mod bits;
+mod checked;
+mod compare;
+mod long;
+mod modular;
+mod ranges;
+#[cfg(test)]
+mod tests;
+
+pub use bits::{and, not, or, shift_left, shift_right, xor};
+pub use checked::{checked_add, checked_div, checked_mul, checked_rem, checked_sub};
+pub use compare::{Comparison, is_below_unsigned, is_greater};
+pub use long::{LongResult, long_difference, long_product, long_sum};
+pub use modular::{minus, plus, times};
+pub use ranges::Range;

@@ -1,0 +1,173 @@
+//! The ranges of the checked operations' results: `None` where some members set the error flag.
+ghost use Rattle.std.specs.Prelude.{◌≡◌, ◌≢◌, None, IfSome, IfNone, pos, ◌*ℤ◌, int_div, ◌<◌, ◌≤◌, ◌^◌, ◌≤ℤ◌};
+ghost use Rattle.std.specs.Option.{option_map};
+ghost use Rattle.word_arithmetic.specs.Word.{checked_sum, checked_difference, checked_product, checked_quotient, checked_remainder};
+ghost use Rattle.word_arithmetic.specs.Range.{ends_of, constant, HoldsChecked, Reaches, ReachesEnds, sum_range, difference_range, product_range, quotient_range, can_fail_to_divide, greatest_size, lowest_remainder, highest_remainder, remainder_ends, remainder_range};
+
+use crate::ranges::Range;
+use crate::ranges::wide::{corners, fitting};
+
+impl Range {
+    /// The range of the sums.
+    pub fn add(self, other: Range) -> Option<Range>
+        ensures rule { option_map ends_of result ≡ sum_range (ends_of self) (ends_of other) }
+        ensures members { IfSome result
+            (λ r. HoldsChecked checked_sum (ends_of self) (ends_of other) (ends_of r)) }
+        ensures reached { IfSome result
+            (λ r. ReachesEnds checked_sum (ends_of self) (ends_of other) (ends_of r)) }
+        ensures none { IfNone result (Reaches checked_sum (ends_of self) (ends_of other) None) }
+    {
+        fitting(
+            i64::from(self.lo) + i64::from(other.lo),
+            i64::from(self.hi) + i64::from(other.hi),
+        )
+    }
+
+    /// The range of the sums with one word.
+    pub fn add_constant(self, word: i32) -> Option<Range>
+        ensures rule { option_map ends_of result ≡ sum_range (ends_of self) (constant word) }
+        ensures members { IfSome result
+            (λ r. HoldsChecked checked_sum (ends_of self) (constant word) (ends_of r)) }
+        ensures reached { IfSome result
+            (λ r. ReachesEnds checked_sum (ends_of self) (constant word) (ends_of r)) }
+        ensures none { IfNone result (Reaches checked_sum (ends_of self) (constant word) None) }
+    {
+        self.add(Range::constant(word))
+    }
+
+    /// The range of the differences, this range's words less the other's.
+    pub fn sub(self, other: Range) -> Option<Range>
+        ensures rule { option_map ends_of result ≡ difference_range (ends_of self) (ends_of other) }
+        ensures members { IfSome result
+            (λ r. HoldsChecked checked_difference (ends_of self) (ends_of other) (ends_of r)) }
+        ensures reached { IfSome result
+            (λ r. ReachesEnds checked_difference (ends_of self) (ends_of other) (ends_of r)) }
+        ensures none { IfNone result
+            (Reaches checked_difference (ends_of self) (ends_of other) None) }
+    {
+        fitting(
+            i64::from(self.lo) - i64::from(other.hi),
+            i64::from(self.hi) - i64::from(other.lo),
+        )
+    }
+
+    /// The range of the products.
+    pub fn mul(self, other: Range) -> Option<Range>
+        ensures rule { option_map ends_of result ≡ product_range (ends_of self) (ends_of other) }
+        ensures members { IfSome result
+            (λ r. HoldsChecked checked_product (ends_of self) (ends_of other) (ends_of r)) }
+        ensures reached { IfSome result
+            (λ r. ReachesEnds checked_product (ends_of self) (ends_of other) (ends_of r)) }
+        ensures none { IfNone result (Reaches checked_product (ends_of self) (ends_of other) None) }
+    {
+        corners(
+            product(self.lo, other.lo),
+            product(self.lo, other.hi),
+            product(self.hi, other.lo),
+            product(self.hi, other.hi),
+        )
+    }
+
+    /// The range of the quotients, rounded towards zero.
+    pub fn div(self, divisor: Range) -> Option<Range>
+        ensures rule { option_map ends_of result ≡ quotient_range (ends_of self) (ends_of divisor) }
+        ensures members { IfSome result
+            (λ r. HoldsChecked checked_quotient (ends_of self) (ends_of divisor) (ends_of r)) }
+        ensures reached { IfSome result
+            (λ r. ReachesEnds checked_quotient (ends_of self) (ends_of divisor) (ends_of r)) }
+        ensures none { IfNone result
+            (Reaches checked_quotient (ends_of self) (ends_of divisor) None) }
+    {
+        if divisor.contains(0) {
+            return None;
+        }
+        corners(
+            quotient(self.lo, divisor.lo),
+            quotient(self.lo, divisor.hi),
+            quotient(self.hi, divisor.lo),
+            quotient(self.hi, divisor.hi),
+        )
+    }
+
+    /// The range of the remainders, which have the sign of the dividend.
+    pub fn rem(self, divisor: Range) -> Option<Range>
+        ensures rule { option_map ends_of result ≡ remainder_range (ends_of self) (ends_of divisor) }
+        ensures members { IfSome result
+            (λ r. HoldsChecked checked_remainder (ends_of self) (ends_of divisor) (ends_of r)) }
+        ensures none { IfNone result
+            (Reaches checked_remainder (ends_of self) (ends_of divisor) None) }
+    {
+        if self.can_fail_to_divide(divisor) {
+            return None;
+        }
+        Some(self.remainders(divisor.greatest_size()))
+    }
+
+    /// The range of the remainders by divisors of at most this size.
+    fn remainders(self, size: u32) -> Range
+        requires some { 0 < size }
+        requires bound { size ≤ 2 ^ 31 }
+        ensures { ends_of result ≡ remainder_ends (ends_of self) size }
+    {
+        Range {
+            lo: lowest_remainder(self.lo, size),
+            hi: highest_remainder(self.hi, size),
+        }
+    }
+
+    /// Whether a divisor is 0, or MostNeg is divided by -1.
+    fn can_fail_to_divide(self, divisor: Range) -> bool
+        ensures { result ≡ can_fail_to_divide (ends_of self) (ends_of divisor) }
+    {
+        divisor.contains(0) || (self.contains(i32::MIN) && divisor.contains(-1))
+    }
+
+    /// The greatest size of a word in the range; of MostNeg that is 2^31.
+    fn greatest_size(self) -> u32
+        ensures value { result ≡ greatest_size (ends_of self) }
+        ensures bound { result ≤ 2 ^ 31 }
+    {
+        self.lo.unsigned_abs().max(self.hi.unsigned_abs())
+    }
+}
+
+fn product(left: i32, right: i32) -> i64
+    ensures { result ≡ left *ℤ right }
+{
+    i64::from(left) * i64::from(right)
+}
+
+fn quotient(dividend: i32, divisor: i32) -> i64
+    requires { divisor ≢ pos 0 }
+    ensures { result ≡ int_div dividend divisor }
+{
+    i64::from(dividend) / i64::from(divisor)
+}
+
+/// The least remainder of dividends from `lo` on by divisors of at most this size.
+fn lowest_remainder(lo: i32, size: u32) -> i32
+    requires some { 0 < size }
+    requires bound { size ≤ 2 ^ 31 }
+    ensures value { result ≡ lowest_remainder lo size }
+    ensures sign { result ≤ℤ pos 0 }
+{
+    if 0 <= lo {
+        0
+    } else {
+        lo.max(-((size - 1) as i32))
+    }
+}
+
+/// The greatest remainder of dividends up to `hi` by divisors of at most this size.
+fn highest_remainder(hi: i32, size: u32) -> i32
+    requires some { 0 < size }
+    requires bound { size ≤ 2 ^ 31 }
+    ensures value { result ≡ highest_remainder hi size }
+    ensures sign { pos 0 ≤ℤ result }
+{
+    if hi <= 0 {
+        0
+    } else {
+        hi.min((size - 1) as i32)
+    }
+}

@@ -1,0 +1,32 @@
+//! The ranges of sums, differences and products modulo 2^32: exact where no result leaves a word, else all words.
+ghost use Rattle.std.specs.Prelude.{◌≡◌};
+ghost use Rattle.word_arithmetic.specs.Word.{word_sum, word_difference, word_product};
+ghost use Rattle.word_arithmetic.specs.Range.{ends_of, Holds, word_sum_range, word_difference_range, word_product_range};
+
+use crate::ranges::Range;
+
+impl Range {
+    /// The range of the sums modulo 2^32.
+    pub fn plus(self, other: Range) -> Range
+        ensures rule { ends_of result ≡ word_sum_range (ends_of self) (ends_of other) }
+        ensures members { Holds word_sum (ends_of self) (ends_of other) (ends_of result) }
+    {
+        self.add(other).unwrap_or(Range::full())
+    }
+
+    /// The range of the differences modulo 2^32, this range's words less the other's.
+    pub fn minus(self, other: Range) -> Range
+        ensures rule { ends_of result ≡ word_difference_range (ends_of self) (ends_of other) }
+        ensures members { Holds word_difference (ends_of self) (ends_of other) (ends_of result) }
+    {
+        self.sub(other).unwrap_or(Range::full())
+    }
+
+    /// The range of the products modulo 2^32.
+    pub fn times(self, other: Range) -> Range
+        ensures rule { ends_of result ≡ word_product_range (ends_of self) (ends_of other) }
+        ensures members { Holds word_product (ends_of self) (ends_of other) (ends_of result) }
+    {
+        self.mul(other).unwrap_or(Range::full())
+    }
+}

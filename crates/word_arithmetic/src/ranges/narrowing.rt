@@ -1,0 +1,73 @@
+//! What is left of a range once more is known of its words.
+ghost use Rattle.std.specs.Prelude.{◌≡◌, IsTrue};
+ghost use Rattle.word_arithmetic.specs.Comparison.{compares};
+ghost use Rattle.word_arithmetic.specs.Range.{ends_of, InRange, Narrows, inside, outside, at_least, at_most, narrowed};
+
+use crate::compare::Comparison;
+use crate::ranges::Range;
+
+impl Range {
+    /// What is left of the range inside another; the range itself where nothing is.
+    pub fn inside(self, kept: Range) -> Range
+        ensures rule { ends_of result ≡ inside (ends_of self) (ends_of kept) }
+        ensures narrows { Narrows (λ v. InRange (ends_of kept) v) (ends_of self) (ends_of result) }
+    {
+        let lo = self.lo.max(kept.lo);
+        let hi = self.hi.min(kept.hi);
+        if hi < lo {
+            return self;
+        }
+        Range::new(lo, hi)
+    }
+
+    /// What is left of the range outside another, where that is one range; else the range itself.
+    pub fn outside(self, removed: Range) -> Range
+        ensures rule { ends_of result ≡ outside (ends_of self) (ends_of removed) }
+        ensures narrows { Narrows (λ v. ¬ InRange (ends_of removed) v) (ends_of self) (ends_of result) }
+    {
+        match (removed.contains(self.lo), removed.contains(self.hi)) {
+            (true, false) => Range::new(removed.hi + 1, self.hi),
+            (false, true) => Range::new(self.lo, removed.lo - 1),
+            // Nothing is left.
+            (true, true) => self,
+            // Two ranges are left, or all of this one.
+            (false, false) => self,
+        }
+    }
+
+    /// What is left of the range by a comparison with a constant, where that is one range; else the range itself.
+    pub fn narrow(self, comparison: Comparison, constant: i32) -> Range
+        ensures rule { ends_of result ≡ narrowed comparison constant (ends_of self) }
+        ensures narrows { Narrows (λ v. IsTrue (compares comparison v constant))
+            (ends_of self) (ends_of result) }
+    {
+        match comparison {
+            Comparison::Equal => self.inside(Range::constant(constant)),
+            Comparison::NotEqual => self.outside(Range::constant(constant)),
+            Comparison::Less => self.outside(Range::at_least(constant)),
+            Comparison::LessOrEqual => self.inside(Range::at_most(constant)),
+            Comparison::Greater => self.outside(Range::at_most(constant)),
+            Comparison::GreaterOrEqual => self.inside(Range::at_least(constant)),
+        }
+    }
+
+    /// The words from this one on.
+    pub fn at_least(word: i32) -> Range
+        ensures { ends_of result ≡ at_least word }
+    {
+        Range {
+            lo: word,
+            hi: i32::MAX,
+        }
+    }
+
+    /// The words up to this one.
+    pub fn at_most(word: i32) -> Range
+        ensures { ends_of result ≡ at_most word }
+    {
+        Range {
+            lo: i32::MIN,
+            hi: word,
+        }
+    }
+}

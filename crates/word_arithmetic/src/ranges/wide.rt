@@ -1,0 +1,29 @@
+//! Ends that may be no words, before it is seen whether they fit.
+ghost use Rattle.std.specs.Prelude.{◌≡◌, ◌≤ℤ◌, ℤ};
+ghost use Rattle.std.specs.Option.{option_map};
+ghost use Rattle.word_arithmetic.specs.Range.{Ends, ends_of, constant, fitting, hull};
+
+use crate::ranges::Range;
+
+/// The range with these ends, where both are words.
+pub(super) fn fitting(lo: i64, hi: i64) -> Option<Range>
+    requires { lo ≤ℤ hi }
+    ensures { (e : Ends) → e.lo ≡ lo → e.hi ≡ hi → option_map ends_of result ≡ fitting e }
+{
+    match (i32::try_from(lo), i32::try_from(hi)) {
+        (Ok(lo), Ok(hi)) => Some(Range { lo, hi }),
+        _ => None,
+    }
+}
+
+/// The least range that has four results, where its ends are words.
+pub(super) fn corners(lo_lo: i64, lo_hi: i64, hi_lo: i64, hi_hi: i64) -> Option<Range>
+    ensures { (a b c d : ℤ) → a ≡ lo_lo → b ≡ lo_hi → c ≡ hi_lo → d ≡ hi_hi
+        → option_map ends_of result
+        ≡ fitting (hull (hull (constant a) (constant b)) (hull (constant c) (constant d))) }
+{
+    fitting(
+        lo_lo.min(lo_hi).min(hi_lo.min(hi_hi)),
+        lo_lo.max(lo_hi).max(hi_lo.max(hi_hi)),
+    )
+}
