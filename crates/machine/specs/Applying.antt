@@ -1,0 +1,66 @@
+-- What a call for one event did, against the turn of the definitions.
+use Rattle.std.specs.Prelude.{◌≡◌, ℕ, ℤ, Result, Ok, Err}
+use Rattle.prefix_decoder.specs.declared.function.Fun.{Fun}
+use Rattle.certificate.specs.Contents.{Contents}
+use Rattle.machine_state.specs.declared.cpu.Flow.{Flow}
+use Rattle.machine_state.specs.declared.cpu.Flow.TheVariants.{Next, Jump, Stop as Stops}
+use Rattle.machine_state.specs.declared.process.Task.{Task}
+use Rattle.machine_state.specs.declared.fault.Fault.{Fault}
+use Rattle.machine_state.specs.Memory.{Memory}
+use Rattle.machine_state.specs.World.{World}
+use Rattle.machine_state.specs.LocalStep.{Local, Outcome, goes, lands, stops, fails, local_step}
+use Rattle.machine_state.specs.Happens.{Did, ran, idle, taken, kept, busy, acknowledged, ignored, Turn, site_of}
+use Rattle.machine.specs.declared.checked.act.Act.{Act}
+use Rattle.machine.specs.declared.checked.act.Act.TheVariants.{Ran, Idle, Taken, Kept, Busy, Acknowledged, Ignored}
+use Rattle.machine.specs.declared.checked.act.Stop.{Stop}
+use Rattle.machine.specs.declared.checked.act.Stop.TheVariants as stops
+use Rattle.machine.specs.declared.checked.act.Performed.{Performed}
+use Rattle.machine.specs.Moment.{Moment}
+
+-- what an act is in the definitions
+abbrev pub did_of : Act → Did
+did_of Ran = ran
+did_of Idle = idle
+did_of Taken = taken
+did_of Kept = kept
+did_of Busy = busy
+did_of Acknowledged = acknowledged
+did_of Ignored = ignored
+
+-- the turn of an event that left this world and gave this answer
+abbrev pub turn_of : World → Result Act Fault → Turn
+turn_of w (Ok act) = record { world = w; answer = Ok (did_of act) }
+turn_of w (Err f) = record { world = w; answer = Err f }
+
+-- By the answer: the event happened, and this is its turn; or memory ran out, and nothing changed.
+abbrev pub Applies : World → World → Result Act Stop → Turn → Type 0
+Applies before after (Ok act) turn = turn ≡ record { world = after; answer = Ok (did_of act) }
+Applies before after (Err (stops.Fault f)) turn = turn ≡ record { world = after; answer = Err f }
+Applies before after (Err stops.Memory) turn = after ≡ before
+
+-- ---- one instruction
+
+-- the outcome of an instruction of this process
+abbrev pub outcome_at : Contents → ℕ → Task → Fun → ℤ → World → Outcome
+outcome_at m p task f operand w = local_step (site_of m p task w) f operand (record { registers = task.registers; memory = w.memory })
+
+-- the outcome of an instruction after which its process goes on so
+abbrev pub outcome_by : Flow → Local → Outcome
+outcome_by Next l = goes l
+outcome_by (Jump to) l = lands to l
+outcome_by Stops l = stops l
+
+-- the outcome of an instruction that was performed and left this memory
+abbrev pub outcome_of : Performed → Memory → Outcome
+outcome_of performed memory = outcome_by performed.flow (record { registers = performed.registers; memory = memory })
+
+-- The instruction of this process had this outcome: it changed memory alone, or it is at fault and
+-- changed nothing.
+abbrev pub PerformsFor : ℕ → Task → Moment → Moment → Result Performed Fault → Outcome → Type 0
+PerformsFor p task before after (Ok performed) outcome =
+    (outcome ≡ outcome_of performed after.world.memory)
+    × (after ≡ record before { world = record before.world { memory = after.world.memory } })
+PerformsFor p task before after (Err fault) outcome =
+    (outcome ≡ fails fault.number)
+    × (fault ≡ record { number = fault.number; process = p; offset = task.registers.began })
+    × (after ≡ before)

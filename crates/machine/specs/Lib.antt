@@ -1,0 +1,5 @@
+pub mod Moment
+pub mod Sound
+pub mod Asking
+pub mod Applying
+pub mod Lending

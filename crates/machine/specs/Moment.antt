@@ -1,0 +1,27 @@
+-- What the machine keeps between two moves: a world, and what is always true of its processes.
+use Rattle.std.specs.Prelude.{⊤, ℕ, ◌<◌}
+use Rattle.prefix_decoder.specs.Operand.{IsRegister}
+use Rattle.machine_state.specs.declared.process.Task.{Task}
+use Rattle.machine_state.specs.declared.process.Condition.{Condition}
+use Rattle.machine_state.specs.declared.process.Condition.TheVariants.{Ready, Sending, Receiving, OnLink, Alternating, Stopped, Ended}
+use Rattle.machine_state.specs.World.{World}
+
+-- a world, and how many more processes its ready list can take without growing
+pub record Moment : Type 0 where
+  pub world : World
+  pub room : ℕ
+
+-- who waits on a link waits for at least one more byte
+abbrev pub WaitsForMore : Condition → Type 0
+WaitsForMore Ready = ⊤
+WaitsForMore (Sending exchange) = ⊤
+WaitsForMore (Receiving exchange) = ⊤
+WaitsForMore (OnLink exchange done) = done < exchange.length
+WaitsForMore Alternating = ⊤
+WaitsForMore Stopped = ⊤
+WaitsForMore Ended = ⊤
+
+-- a process between two bytes
+pub record IsSteady (task : Task) : Type 0 where
+  pub register : IsRegister task.registers.operand
+  pub waiting : WaitsForMore task.condition

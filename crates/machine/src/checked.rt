@@ -1,0 +1,127 @@
+//! The reference machine: it runs any module, and tells the first rule that a process breaks.
+
+mod act;
+mod links;
+mod machine;
+mod step;
+#[cfg(test)]
+mod tests;
+
+ghost use Rattle.std.specs.Prelude.{◌≡◌, IfOk};
+ghost use Rattle.machine_state.specs.World.{loaded};
+ghost use Rattle.machine_state.specs.Happens.{turn};
+ghost use Rattle.machine.specs.Applying.{Applies, did_of};
+ghost use Rattle.machine.specs.Asking.{is_running, wants};
+
+use act::Act;
+pub use act::Stop;
+use certificate::Module;
+use machine::Machine;
+use machine_state::{Effect, Event, Link};
+use std::alloc::{AllocError, Global};
+use std::marker::Model;
+use step::Choice;
+
+/// A machine that runs a module, however faulty, and checks each rule at each instruction.
+#[derive(Debug, Drop)]
+pub struct Checked<'a> {
+    module: &'a Module<'a>,
+    machine: Machine,
+}
+
+impl<'a> Model for Checked<'a> {
+    ghost use Rattle.machine.specs.Asking.{Execution};
+
+    ghost Value = { Execution };
+
+    ghost view = { λ c. record { contents = c.module.now; world = c.machine.world } };
+}
+
+impl<'a> Checked<'a> {
+    ghost use Rattle.std.specs.Borrow.{sem};
+    ghost use Rattle.machine.specs.Lending.{Tells, Rested, shown};
+
+    /// The machine of a module that is loaded: its root is about to run the first byte of the code.
+    pub fn load(alloc: Global, module: &'a Module<'a>) -> Result<Checked<'a>, AllocError>
+        ensures { let m = «module».now in
+            IfOk result (λ c. c ≡ record { contents = m; world = loaded m }) }
+    {
+        let machine = Machine::load(alloc, module.tables())?;
+        Ok(Checked { module, machine })
+    }
+
+    /// One event, with what it did still in the machine.
+    #[tactic(auto, unfolding(machine_state::specs::Happens::turn))]
+    fn advance(&mut self, event: Event) -> Result<Act, Stop>
+        ensures applies { let expected = turn self.old.contents self.old.world event in
+            Applies self.old.world self.new.world result expected }
+        ensures contents { self.new.contents ≡ self.old.contents }
+    {
+        if let Some(fault) = self.machine.fault() {
+            return Err(Stop::Fault(fault));
+        }
+        match event {
+            Event::Step { slice, pick } => {
+                self.machine
+                    .step(self.module.tables(), Choice { slice, pick })
+            }
+            Event::Arrive { link, byte } => self.machine.arrive(link, byte),
+            Event::Acknowledge { link } => self.machine.acknowledge(link),
+        }
+    }
+
+    /// One event of the machine. At `Ok` it happened, and the effect is what it did. At `Stop::Fault` the
+    /// machine is at fault, by this event or since an earlier one, and stays so. At `Stop::Memory` nothing
+    /// changed.
+    pub fn apply(&mut self, event: Event) -> Result<Effect<'_>, Stop>
+        ensures answer { Tells result (turn self.old.contents self.old.world event) }
+        ensures* rests { sem 𝓛 (Rested self.entry event result) }
+    {
+        let act = self.advance(event)?;
+        Ok(self.effect(act))
+    }
+
+    /// What the last event did, as it is told.
+    fn effect(&self, act: Act) -> Effect<'_>
+        ensures { shown result ≡ did_of act }
+    {
+        match act {
+            Act::Ran => Effect::Ran,
+            Act::Idle => Effect::Idle,
+            Act::Taken => Effect::Taken,
+            Act::Kept => Effect::Kept,
+            Act::Busy => Effect::Busy,
+            Act::Acknowledged => Effect::Acknowledged,
+            Act::Ignored => Effect::Ignored,
+        }
+    }
+
+    /// How many bytes were executed.
+    pub fn executed(&self) -> u64
+        ensures { result ≡ self.now.world.counters.executed }
+    {
+        self.machine.executed()
+    }
+
+    /// Whether the module is finished: some process has stopped where the module says that it ends.
+    pub fn finished(&self) -> bool
+        ensures { result ≡ self.now.world.counters.is_finished }
+    {
+        self.machine.is_finished()
+    }
+
+    /// Whether some process runs.
+    pub fn running(&self) -> bool
+        ensures { result ≡ is_running self.now.world }
+    {
+        self.machine.running().is_some()
+    }
+
+    /// Whether some process waits for a byte on the link or has enabled it, and none is kept there.
+    pub fn wants(&self, link: Link) -> bool
+        ensures { result ≡ wants link self.now.world }
+    {
+        let input = self.machine.input(link);
+        input.kept.is_none() && (input.waiting.is_some() || input.enabled.is_some())
+    }
+}

@@ -1,0 +1,244 @@
+//! One byte of the running process.
+
+ghost use Rattle.std.specs.Prelude.{◌≡◌, ◌+◌, ◌<◌, ◌^◌, IsTrue, length, slice_get, Err};
+ghost use Rattle.certificate.specs.Contents.{contents_of};
+ghost use Rattle.machine_state.specs.Happens.{between, failed, settled, did, ran, prefix_turn, task_turn, step_turn};
+ghost use Rattle.machine.specs.Applying.{Applies, turn_of, outcome_of, outcome_at};
+ghost use Rattle.prefix_decoder.specs.Operand.{IsRegister, after_prefix};
+ghost use Rattle.machine.specs.Moment.{IsSteady};
+
+use super::act::{Act, Performed, Stop};
+use super::machine::Machine;
+use certificate::Tables;
+use machine_state::{Condition, Fault, Flow, OUTSIDE_CODE, Registers, Task};
+use prefix_decoder::operand::{negated, prefixed, with_nibble};
+use prefix_decoder::{Fun, NEGATIVE_PREFIX};
+
+/// No count of executed bytes goes beyond this.
+const MOST_EXECUTED: u64 = 1 << 63;
+
+/// What a step leaves to its caller.
+#[derive(Clone, Copy, Debug)]
+pub(crate) struct Choice {
+    /// Whether the process goes to the back of the ready list where it completes a jump.
+    pub(crate) slice: bool,
+    /// Which ready process runs next, counted round the list, where the running one stops running.
+    pub(crate) pick: u64,
+}
+
+/// The registers between two instructions, the next of which begins at this offset.
+fn between(at: u32, registers: Registers) -> Registers
+    ensures { result ≡ between at registers }
+{
+    Registers {
+        at,
+        began: at,
+        operand: 0,
+        ..registers
+    }
+}
+
+/// What the prefix with this code leaves in the operand register.
+fn after_prefix(code: u8, operand: i32) -> i32
+    ensures value { result ≡ after_prefix code operand }
+    ensures register { IsRegister result }
+{
+    if code == NEGATIVE_PREFIX {
+        negated(operand)
+    } else {
+        prefixed(operand)
+    }
+}
+
+/// The byte of the code at this offset.
+fn byte_at(code: &[u8], at: u32) -> Option<u8>
+    ensures { result ≡ slice_get code.now at }
+{
+    code.get(at as usize).copied()
+}
+
+impl Machine {
+    /// The running process is at fault, in the instruction that it is in.
+    fn fail_in(&mut self, process: u64, task: &Task, number: u8) -> Fault
+        ensures { failed number process task.now self.old.world ≡ turn_of self.new.world (Err result) }
+    {
+        let fault = Fault {
+            number,
+            process,
+            offset: task.registers.began,
+        };
+        self.fail(fault);
+        fault
+    }
+
+    /// A prefix: its process goes on with this operand.
+    fn prefix(
+        &mut self,
+        tables: &Tables,
+        process: u64,
+        task: &Task,
+        operand: i32,
+    ) -> Result<Act, Fault>
+        requires code { length tables.now.code.now < 2 ^ 32 }
+        requires executed { self.old.world.counters.executed < 2 ^ 63 }
+        requires task { IsSteady task.now }
+        requires operand { IsRegister operand }
+        ensures { let m = contents_of tables.now in
+            prefix_turn m process task.now operand self.old.world ≡ turn_of self.new.world result }
+    {
+        let next = u64::from(task.registers.at) + 1;
+        if next >= tables.code.len() as u64 {
+            return Err(self.fail_in(process, task, OUTSIDE_CODE));
+        }
+        let registers = Registers {
+            at: next as u32,
+            operand,
+            ..task.registers
+        };
+        self.put(process, Task { registers, ..*task });
+        self.count();
+        Ok(Act::Ran)
+    }
+}
+
+impl Machine {
+    /// An instruction was performed: its process goes on behind it or elsewhere, or stops.
+    #[tactic(auto, unfolding(machine_state::specs::Moves::dispatch))]
+    fn settle(
+        &mut self,
+        tables: &Tables,
+        process: u64,
+        task: &Task,
+        performed: Performed,
+        choice: Choice,
+    )
+        requires executed { self.old.world.counters.executed < 2 ^ 63 }
+        requires next { task.now.registers.at + 1 < 2 ^ 32 }
+        requires task { IsSteady task.now }
+        requires room { IsTrue choice.slice → 0 < self.old.room }
+        ensures { let m = contents_of tables.now in
+            let w = self.old.world in
+            let next = task.now.registers.at + 1 in
+            let outcome = outcome_of performed w.memory in
+            settled m process task.now next choice.slice choice.pick outcome w ≡ did ran self.new.world }
+    {
+        let next = task.registers.at + 1;
+        match performed.flow {
+            Flow::Next => self.put(
+                process,
+                Task {
+                    registers: between(next, performed.registers),
+                    ..*task
+                },
+            ),
+            Flow::Jump { to } => {
+                self.put(
+                    process,
+                    Task {
+                        registers: between(to, performed.registers),
+                        ..*task
+                    },
+                );
+                if choice.slice {
+                    self.leave();
+                    self.enqueue(process);
+                    self.dispatch(choice.pick);
+                }
+            }
+            Flow::Stop => {
+                self.put(
+                    process,
+                    Task {
+                        registers: between(next, performed.registers),
+                        condition: Condition::Stopped,
+                        ..*task
+                    },
+                );
+                self.finish_where(next == tables.finish);
+                self.leave();
+                self.dispatch(choice.pick);
+            }
+        }
+        self.count();
+    }
+
+    /// An instruction of this process, with its whole operand.
+    fn instruct(
+        &mut self,
+        tables: &Tables,
+        process: u64,
+        task: &Task,
+        fun: Fun,
+        operand: i32,
+        choice: Choice,
+    ) -> Result<Act, Fault>
+        requires code { length tables.now.code.now < 2 ^ 32 }
+        requires executed { self.old.world.counters.executed < 2 ^ 63 }
+        requires next { task.now.registers.at + 1 < 2 ^ 32 }
+        requires task { IsSteady task.now }
+        requires room { IsTrue choice.slice → 0 < self.old.room }
+        ensures { let m = contents_of tables.now in
+            let w = self.old.world in
+            let next = task.now.registers.at + 1 in
+            let outcome = outcome_at m process task.now fun operand w in
+            settled m process task.now next choice.slice choice.pick outcome w ≡ turn_of self.new.world result }
+    {
+        match self.perform(tables, process, task, fun, operand) {
+            Ok(performed) => {
+                self.settle(tables, process, task, performed, choice);
+                Ok(Act::Ran)
+            }
+            Err(fault) => {
+                self.fail(fault);
+                Err(fault)
+            }
+        }
+    }
+
+    /// The byte at which this process is.
+    fn run_byte(
+        &mut self,
+        tables: &Tables,
+        process: u64,
+        task: &Task,
+        choice: Choice,
+    ) -> Result<Act, Fault>
+        requires code { length tables.now.code.now < 2 ^ 32 }
+        requires executed { self.old.world.counters.executed < 2 ^ 63 }
+        requires task { IsSteady task.now }
+        requires room { IsTrue choice.slice → 0 < self.old.room }
+        ensures { let turn = task_turn (contents_of tables.now) process choice.slice choice.pick task.now self.old.world in
+            turn ≡ turn_of self.new.world result }
+    {
+        let Some(byte) = byte_at(tables.code, task.registers.at) else {
+            return Err(self.fail_in(process, task, OUTSIDE_CODE));
+        };
+        let code = byte >> 4;
+        let operand = with_nibble(task.registers.operand, byte);
+        match Fun::from_code(code) {
+            Some(fun) => self.instruct(tables, process, task, fun, operand, choice),
+            None => self.prefix(tables, process, task, after_prefix(code, operand)),
+        }
+    }
+
+    /// A step: one byte of the running process, unless nobody runs or enough bytes were executed.
+    pub(crate) fn step(&mut self, tables: &Tables, choice: Choice) -> Result<Act, Stop>
+        requires { length tables.now.code.now < 2 ^ 32 }
+        ensures { let turn = step_turn (contents_of tables.now) choice.slice choice.pick self.old.world in
+            Applies self.old.world self.new.world result turn }
+    {
+        let Some(process) = self.running() else {
+            return Ok(Act::Idle);
+        };
+        if self.executed() >= MOST_EXECUTED {
+            return Ok(Act::Idle);
+        }
+        let Some(task) = self.task(process) else {
+            return Ok(Act::Idle);
+        };
+        if choice.slice {
+            self.reserve()?;
+        }
+        Ok(self.run_byte(tables, process, &task, choice)?)
+    }
+}

@@ -1,0 +1,6 @@
+//! The machines that run modules.
+#![tactic(auto)]
+
+mod checked;
+
+pub use checked::{Checked, Stop};
