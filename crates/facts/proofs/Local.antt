@@ -1,5 +1,5 @@
 -- The rule of an instruction and its step fit each other: where the rule is not broken, the step is no fault, and what the rule says of the state behind holds.
-use Rattle.std.proofs.Common.{◌≡◌, ℕ, ◌+◌, ◌-◌, ◌^◌, ◌≤◌, ◌<◌, ◌<ℤ◌, ℤ, pos, negsuc, ◌+ℤ◌, ◌≤ℤ◌, FitsSigned, Bool, true, false, cond, if◌then◌else◌, ◌&&◌, ◌||◌, suc, inl, inr, List, length, Option, Some, None, Result, Ok, Err, refl, sym, ap, ◌∙◌, subst, arith, ltb, eqb}
+use Rattle.std.proofs.Common.{lit<, ◌≡◌, ℕ, ◌+◌, ◌-◌, ◌^◌, ◌≤◌, ◌<◌, ◌<ℤ◌, ℤ, pos, negsuc, ◌+ℤ◌, ◌≤ℤ◌, FitsSigned, Bool, true, false, cond, if◌then◌else◌, ◌&&◌, ◌||◌, suc, inl, inr, List, length, Option, Some, None, Result, Ok, Err, refl, sym, ap, ◌∙◌, subst, arith, ltb, eqb}
 use Rattle.std.proofs.lemmas.Bool.Decides.{leb_tells, eqb_tells}
 use Rattle.std.proofs.lemmas.Int.{ints}
 use Rattle.std.specs.Int.{w32}
@@ -9,6 +9,7 @@ use Rattle.certificate.specs.declared.fact.Fact.{Fact}
 use Rattle.certificate.specs.declared.fact.Fact.TheVariants.{Unknown, Number, Pointer, CodeAddress, Loop, ReturnAddress}
 use Rattle.certificate.specs.Contents.{Contents, Label, label_at}
 use Rattle.certificate.specs.Contexts.{context_at}
+use Rattle.certificate.specs.Keeping.{least_word}
 use Rattle.machine_state.specs.declared.process.Registers.{Registers}
 use Rattle.machine_state.specs.declared.process.Mode as machine
 use Rattle.machine_state.specs.declared.process.Mode.TheVariants as machine_modes
@@ -16,7 +17,7 @@ use Rattle.machine_state.specs.Memory.{Memory, place_of, local_address, word_at,
 use Rattle.std.specs.List.{list_any}
 use Rattle.machine_state.specs.Holding.{Holding, covers, may_write, may_read, may_write_word, may_read_word}
 use Rattle.machine_state.specs.declared.op.Op.{Op}
-use Rattle.machine_state.specs.declared.op.Op.TheVariants.{StopProcess}
+use Rattle.machine_state.specs.declared.op.Op.TheVariants.{Reverse, StopProcess, MinimumInteger}
 use Rattle.machine_state.specs.LocalStep as step
 use Rattle.machine_state.specs.LocalStep.{Outcome, goes, lands, stops, fails, Local, fits_word, target}
 use Rattle.states.specs.declared.known.Mode as states
@@ -480,6 +481,16 @@ module _ (x : Here) where
     operation_fits : (op : Option Op) → FitsIf x (rule.operation_rule (rule_site x) op s) (step.operation_step (step_site x) op l)
     unfolding rule.operation_rule step.operation_step
     operation_fits None = λ next. it_breaks
+    operation_fits (Some Reverse) =
+        in_plain_step s a.same_mode _ _ (in_plain_rule s a.same_mode _ _ (beside_plain_rule s a.same_mode _ _
+        (goes_on_fits (rule.reverse s) (step.reverse l) origin
+        (record {
+          frame = a.frame;
+          knows = record { a = a.knows.b; b = a.knows.a; c = a.knows.c; words = a.knows.words; within = a.knows.within };
+          same_mode = a.same_mode;
+        }) changes n)))
+    operation_fits (Some MinimumInteger) =
+        beside_plain_rule s a.same_mode _ _ (beside_plain_step s a.same_mode _ _ (ldc_fits least_word (record { sfits = lit< tt })))
     operation_fits (Some StopProcess) =
         in_plain_step s a.same_mode _ _ (in_plain_rule s a.same_mode _ _ (beside_plain_rule s a.same_mode _ _
         (schedules_fits s l origin _ _ a changes (λ s' memory b c e. pays_fits s' _ _ e (λ left next. it_ends c (omega arith))))))

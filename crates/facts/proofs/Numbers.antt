@@ -8,7 +8,7 @@ use Rattle.certificate.specs.declared.fact.Fact.TheVariants.{Unknown, Number, Po
 use Rattle.certificate.specs.Contents.{Label, label_at}
 use Rattle.certificate.specs.Contexts.{context_at}
 use Rattle.machine_state.specs.declared.op.Op.{Op}
-use Rattle.machine_state.specs.declared.op.Op.TheVariants.{StopProcess}
+use Rattle.machine_state.specs.declared.op.Op.TheVariants.{Reverse, StopProcess, MinimumInteger}
 use Rattle.machine_state.specs.LocalStep.{op_of, fits_word}
 use Rattle.states.specs.declared.known.Known.{Known}
 use Rattle.states.specs.declared.known.Mode.{Mode}
@@ -117,6 +117,8 @@ low-goes_on site s = low-pays site s falls (λ t. tt)
 low-operation : (site : Site) (o : Option Op) (s : State) → IsLow (operation_rule site o s)
 unfolding operation_rule
 low-operation site None s = lit< tt
+low-operation site (Some Reverse) s = low-alternation s.mode _ (low-starts s.mode _ (low-goes_on site _))
+low-operation site (Some MinimumInteger) s = low-starts s.mode _ (low-goes_on site _)
 low-operation site (Some StopProcess) s = low-alternation s.mode _ (low-starts s.mode _ (low-schedules site s _ (λ t. low-pays site t _ (λ u. tt))))
 
 pub low-rule : (site : Site) (f : Fun) (e : ℤ) (s : State) → IsLow (rule site f e s)

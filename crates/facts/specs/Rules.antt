@@ -8,8 +8,9 @@ use Rattle.certificate.specs.declared.fact.Fact.{Fact}
 use Rattle.certificate.specs.declared.fact.Fact.TheVariants.{Unknown, Number, Pointer, CodeAddress, Loop, ReturnAddress}
 use Rattle.certificate.specs.Contents.{Contents, label_at}
 use Rattle.certificate.specs.Contexts.{context_at}
+use Rattle.certificate.specs.Keeping.{least_word}
 use Rattle.machine_state.specs.declared.op.Op.{Op}
-use Rattle.machine_state.specs.declared.op.Op.TheVariants.{StopProcess}
+use Rattle.machine_state.specs.declared.op.Op.TheVariants.{Reverse, StopProcess, MinimumInteger}
 use Rattle.machine_state.specs.LocalStep.{op_of, fits_word, target}
 use Rattle.states.specs.declared.known.Known.{Known}
 use Rattle.states.specs.declared.known.Source.TheVariants.{From}
@@ -102,6 +103,9 @@ push v s = record s { a = v; b = s.a; c = s.b }
 abbrev pub pop : State → State
 pop s = record s { a = s.b; b = s.c; c = unknown }
 
+abbrev pub reverse : State → State
+reverse s = record s { a = s.b; b = s.a }
+
 abbrev pub with_a : Known → State → State
 with_a v s = record s { a = v }
 
@@ -125,6 +129,8 @@ loaded k ReturnAddress = unknown
 
 unfoldable pub operation_rule : Site → Option Op → State → Ruling
 operation_rule site None s = breaks 1
+operation_rule site (Some Reverse) s = outside_alternation s.mode (outside_starts s.mode (goes_on site (reverse s)))
+operation_rule site (Some MinimumInteger) s = outside_starts s.mode (goes_on site (push (constant least_word) s))
 operation_rule site (Some StopProcess) s =
     outside_alternation s.mode (outside_starts s.mode (schedules site s (λ s. pays site s (λ s. ends))))
 

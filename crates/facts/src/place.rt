@@ -33,7 +33,7 @@ impl Place<'_, '_> {
     ghost use Rattle.prefix_decoder.specs.declared.function.Fun.TheVariants as functions;
     ghost use Rattle.certificate.specs.Contents.{Contents};
     ghost use Rattle.machine_state.specs.LocalStep.{target};
-    ghost use Rattle.machine_state.specs.declared.op.Op.TheVariants.{StopProcess};
+    ghost use Rattle.machine_state.specs.declared.op.Op.TheVariants.{Reverse, StopProcess, MinimumInteger};
     ghost use Rattle.states.specs.Views.{state_of, CanWrite, BelongsTo};
     ghost use Rattle.facts.specs.Rules.{owns, schedules, pays, goes_on, leads_to, operation_rule, rule};
     ghost use Rattle.facts.specs.Telling.{Admits, Leaves, Advances};
@@ -189,6 +189,30 @@ impl Place<'_, '_> {
     }
 
     #[tactic(auto, unfolding(crate::specs::Rules::operation_rule))]
+    fn reverse(&self, state: &mut State) -> Result<Onward, RuleFault>
+        ensures ruling { Advances result (state_of state.new) (operation_rule (site_of self.now) (Some Reverse) (state_of state.old)) }
+        ensures belongs { (m : Contents) → BelongsTo m state.old → BelongsTo m state.new }
+    {
+        outside_alternation(state.mode)?;
+        outside_starts(state.mode)?;
+        state.reverse();
+        self.goes_on(state)
+    }
+
+    #[tactic(auto, unfolding(crate::specs::Rules::operation_rule))]
+    fn minimum_integer(&self, state: &mut State) -> Result<Onward, RuleFault>
+        ensures ruling { Advances result (state_of state.new) (operation_rule (site_of self.now) (Some MinimumInteger) (state_of state.old)) }
+        ensures belongs { (m : Contents) → BelongsTo m state.old → BelongsTo m state.new }
+    {
+        outside_starts(state.mode)?;
+        state.push(Known::of(Fact::Number {
+            lo: i32::MIN,
+            hi: i32::MIN,
+        }));
+        self.goes_on(state)
+    }
+
+    #[tactic(auto, unfolding(crate::specs::Rules::operation_rule))]
     fn stop_process(&self, state: &mut State) -> Result<Onward, RuleFault>
         requires { BelongsTo self.now.program.now state.old }
         ensures ruling { Advances result (state_of state.new) (operation_rule (site_of self.now) (Some StopProcess) (state_of state.old)) }
@@ -208,6 +232,8 @@ impl Place<'_, '_> {
         ensures belongs { BelongsTo self.now.program.now state.new }
     {
         match Op::of(operand) {
+            Some(Op::Reverse) => self.reverse(state),
+            Some(Op::MinimumInteger) => self.minimum_integer(state),
             Some(Op::StopProcess) => self.stop_process(state),
             None => Err(RuleFault { number: SPELLING }),
         }

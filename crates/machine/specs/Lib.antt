@@ -3,3 +3,4 @@ pub mod Sound
 pub mod Asking
 pub mod Applying
 pub mod Lending
+pub mod Replaying

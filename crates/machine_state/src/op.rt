@@ -6,8 +6,12 @@ ghost use Rattle.machine_state.specs.LocalStep.{op_of};
 /// An operation.
 #[derive(Clone, Copy, Debug, PartialEq, Eq)]
 pub enum Op {
+    /// `rev`, 0: A and B change places.
+    Reverse,
     /// `stopp`, 15 in hexadecimal: the process stops.
     StopProcess,
+    /// `mint`, 42 in hexadecimal: the least word is pushed.
+    MinimumInteger,
 }
 
 impl Op {
@@ -16,7 +20,9 @@ impl Op {
         ensures { result ≡ op_of operand }
     {
         match operand {
+            0x00 => Some(Op::Reverse),
             0x15 => Some(Op::StopProcess),
+            0x42 => Some(Op::MinimumInteger),
             _ => None,
         }
     }

@@ -46,6 +46,13 @@ impl Registers {
         self.c = None;
     }
 
+    /// A and B change places.
+    pub fn reverse(&mut self)
+        ensures { self.new ≡ record self.old { a = self.old.b; b = self.old.a } }
+    {
+        std::mem::swap(&mut self.a, &mut self.b);
+    }
+
     /// Makes the evaluation stack undefined.
     pub fn forget(&mut self)
         ensures { self.new ≡ record self.old { a = None; b = None; c = None } }

@@ -265,10 +265,12 @@ fn numbers_links_and_operations(rt: HostRuntime) -> Result<(), Fail> {
         assert_eq!(rt; link.index(), index);
     }
     for (operand, op) in [
+        (0, Some(Op::Reverse)),
         (0x15, Some(Op::StopProcess)),
+        (0x42, Some(Op::MinimumInteger)),
         (0x14, None),
         (-0x15, None),
-        (0, None),
+        (-1, None),
     ] {
         assert_eq!(rt; Op::of(operand), op);
     }

@@ -1,6 +1,7 @@
 //! The operations of the T414 that touch no other process.
 #![tactic(auto)]
 
+mod registers;
 mod stopping;
 
 ghost use Rattle.machine_state.specs.Performing.{Performs, IsSameElsewhere, operation_outcome};
@@ -9,13 +10,14 @@ use machine_state::{Cpu, Fault, Flow, Op, Store};
 
 /// Executes one operation of the running process. The registers `at`, `began` and `operand` stay as they are:
 /// the caller says where the next instruction begins. After a fault nothing has changed.
-// One operation stands today, so a body that takes it whatever `op` is meets the clauses too.
 pub fn operate<S: Store>(cpu: &mut Cpu<S>, op: Op) -> Result<Flow, Fault>
     ensures performs { let outcome = operation_outcome S.cells S.holding cpu.old op in
         Performs S.cells cpu.old cpu.new result outcome }
     ensures elsewhere { IsSameElsewhere S.holding S.roles cpu.old cpu.new }
 {
     match op {
+        Op::Reverse => registers::reverse(cpu),
+        Op::MinimumInteger => registers::minimum_integer(cpu),
         Op::StopProcess => stopping::stop_process(cpu),
     }
 }

@@ -24,7 +24,7 @@ const REGISTERS: Registers = Registers {
 fn machine(alloc: Global) -> Result<Cpu<TaggedStore>, AllocError> {
     let tables = Tables {
         version: Version::One,
-        code: b"\x40\x21\xf5",
+        code: b"\x40\x21\xf5\x40",
         constants: &[],
         data_words: 5,
         base: 3,
@@ -41,7 +41,7 @@ fn machine(alloc: Global) -> Result<Cpu<TaggedStore>, AllocError> {
         process: 7,
         registers: REGISTERS,
         mode: Mode::Plain,
-        code_length: 3,
+        code_length: 4,
         store: TaggedStore::load(alloc, &tables)?,
     })
 }
@@ -62,6 +62,51 @@ fn set_locals(rt: &impl Abort, cpu: &mut Cpu<TaggedStore>, word: Word) {
 }
 
 #[test]
+fn reverses_a_and_b(rt: HostRuntime) -> Result<(), Fail> {
+    for (a, b) in [(Some(10), Some(20)), (None, Some(-1)), (Some(3), None)] {
+        let mut cpu = machine(rt.alloc())?;
+        let before = Registers {
+            a,
+            b,
+            c: Some(30),
+            ..REGISTERS
+        };
+        cpu.registers = before;
+        assert_eq!(rt; operate(&mut cpu, Op::Reverse), Ok(Flow::Next));
+        assert_eq!(rt;
+            cpu.registers,
+            Registers {
+                a: b,
+                b: a,
+                ..before
+            }
+        );
+    }
+    Ok(())
+}
+
+#[test]
+fn pushes_the_least_word(rt: HostRuntime) -> Result<(), Fail> {
+    for mode in [
+        Mode::Plain,
+        Mode::Enabling,
+        Mode::Disabling { selection: None },
+    ] {
+        let mut cpu = machine(rt.alloc())?;
+        cpu.mode = mode;
+        assert_eq!(rt; operate(&mut cpu, Op::MinimumInteger), Ok(Flow::Next));
+        let after = Registers {
+            a: Some(-2_147_483_648),
+            b: Some(10),
+            c: Some(20),
+            ..REGISTERS
+        };
+        assert_eq!(rt; cpu.registers, after);
+    }
+    Ok(())
+}
+
+#[test]
 fn stops_without_its_scheduling_words(rt: HostRuntime) -> Result<(), Fail> {
     let mut cpu = machine(rt.alloc())?;
     set_locals(&rt, &mut cpu, Some(1));
@@ -79,18 +124,24 @@ fn stops_without_its_scheduling_words(rt: HostRuntime) -> Result<(), Fail> {
     Ok(())
 }
 
-/// Where the process is in this mode and its workspace is this, the fault has this number and nothing changes.
-fn fails(rt: &impl Abort, cpu: &mut Cpu<TaggedStore>, mode: Mode, workspace: u32, number: u8) {
+/// An operation in a mode, with the workspace here and so many bytes of code, and the number of its fault.
+#[derive(Clone, Copy)]
+struct Failing(Op, Mode, u32, u32, u8);
+
+/// The fault has its number and nothing changes.
+fn fails(rt: &impl Abort, cpu: &mut Cpu<TaggedStore>, case: Failing) {
+    let Failing(op, mode, workspace, code_length, number) = case;
     set_locals(rt, cpu, Some(1));
     cpu.mode = mode;
     cpu.registers.workspace = workspace;
+    cpu.code_length = code_length;
     let before = cpu.registers;
     let fault = Fault {
         number,
         process: 7,
         offset: 1,
     };
-    assert_eq!(rt; operate(cpu, Op::StopProcess), Err(fault));
+    assert_eq!(rt; operate(cpu, op), Err(fault));
     assert_eq!(rt; cpu.registers, before);
     for word in [-3, -2, -1, 0, 1] {
         assert_eq!(rt;
@@ -101,18 +152,28 @@ fn fails(rt: &impl Abort, cpu: &mut Cpu<TaggedStore>, mode: Mode, workspace: u32
     }
 }
 
-const FAILING: [(Mode, u32, u8); 5] = [
-    (Mode::Enabling, WORKSPACE, 9),
-    (Mode::Disabling { selection: None }, WORKSPACE, 9),
-    (Mode::Starting { row: 0, started: 1 }, WORKSPACE, 10),
-    (Mode::Plain, 0x8000_0108, 4),
-    (Mode::Enabling, 0x8000_0108, 9),
+const DISABLING: Mode = Mode::Disabling { selection: None };
+
+const STARTING: Mode = Mode::Starting { row: 0, started: 1 };
+
+const FAILING: [Failing; 11] = [
+    Failing(Op::StopProcess, Mode::Enabling, WORKSPACE, 3, 9),
+    Failing(Op::StopProcess, DISABLING, WORKSPACE, 3, 9),
+    Failing(Op::StopProcess, STARTING, WORKSPACE, 3, 10),
+    Failing(Op::StopProcess, Mode::Plain, 0x8000_0108, 3, 4),
+    Failing(Op::StopProcess, Mode::Enabling, 0x8000_0108, 3, 9),
+    Failing(Op::Reverse, Mode::Enabling, WORKSPACE, 4, 9),
+    Failing(Op::Reverse, DISABLING, WORKSPACE, 3, 9),
+    Failing(Op::Reverse, STARTING, WORKSPACE, 4, 10),
+    Failing(Op::Reverse, Mode::Plain, WORKSPACE, 3, 3),
+    Failing(Op::MinimumInteger, STARTING, WORKSPACE, 4, 10),
+    Failing(Op::MinimumInteger, Mode::Enabling, WORKSPACE, 3, 3),
 ];
 
 #[test]
 fn changes_nothing_at_a_fault(rt: HostRuntime) -> Result<(), Fail> {
-    for (mode, workspace, number) in FAILING {
-        fails(&rt, &mut machine(rt.alloc())?, mode, workspace, number);
+    for case in FAILING {
+        fails(&rt, &mut machine(rt.alloc())?, case);
     }
     Ok(())
 }

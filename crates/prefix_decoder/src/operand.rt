@@ -31,7 +31,7 @@ pub fn negated(operand: i32) -> i32
 }
 
 /// What the prefix with this code leaves in the register.
-pub(crate) fn after_prefix(code: u8, operand: i32) -> i32
+pub fn after_prefix(code: u8, operand: i32) -> i32
     ensures value { result ≡ after_prefix code operand }
     ensures register { IsRegister result }
 {

@@ -181,6 +181,14 @@ impl<'a> State<'a> {
         self.c = Known::UNKNOWN;
     }
 
+    /// A and B change places.
+    pub fn reverse(&mut self)
+        ensures state { state_of self.new ≡ record (state_of self.old) { a = self.old.b; b = self.old.a } }
+        ensures belongs { (m : Contents) → BelongsTo m self.old → BelongsTo m self.new }
+    {
+        std::mem::swap(&mut self.a, &mut self.b);
+    }
+
     /// The state goes on as a label's. The time does not depend on how much is known.
     pub fn become_label(&mut self, module: &Module, row: &'a LabelRow)
         requires belongs { BelongsTo «module».now self.old }

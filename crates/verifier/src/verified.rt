@@ -1,6 +1,7 @@
 //! Modules that are certified.
 
 use crate::Refusal;
+use crate::laws::certified_modules_run_well;
 use crate::pass::pass;
 use certificate::Module;
 use std::alloc::Global;
@@ -14,24 +15,28 @@ pub struct Verified<'a> {
 
 impl<'a> Model for Verified<'a> {
     ghost use Rattle.certificate.specs.Contents.{Contents};
+    ghost use Rattle.certificate.specs.Keeping.{Keeps};
     ghost use Rattle.verifier.specs.Certified.{IsCertified};
 
     ghost Value = { Contents };
 
     ghost view = { λ v. v.module.now };
 
-    ghost invariant = { λ v. ∥ IsCertified v.module.now ∥₁ };
+    ghost invariant = { λ v. ∥ Keeps v.module.now × IsCertified v.module.now ∥₁ };
 }
 
 impl<'a> Verified<'a> {
     ghost use Rattle.std.specs.Prelude.{◌≡◌};
     ghost use Rattle.verifier.specs.Certified.{IsCertified};
+    ghost use Rattle.verifier.specs.Headline.{RunsWell};
 
-    /// The module.
+    /// The module. It is certified, and so it runs well.
     pub fn module(&self) -> &Module<'a>
         ensures same { result.now ≡ self.now }
         ensures certified { ∥ IsCertified self.now ∥₁ }
+        ensures runs_well { ∥ RunsWell self.now ∥₁ }
     {
+        certified_modules_run_well();
         self.module
     }
 }

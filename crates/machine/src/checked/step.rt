@@ -11,8 +11,8 @@ use super::act::{Act, Performed, Stop};
 use super::machine::Machine;
 use certificate::Tables;
 use machine_state::{Condition, Fault, Flow, OUTSIDE_CODE, Registers, Task};
-use prefix_decoder::operand::{negated, prefixed, with_nibble};
-use prefix_decoder::{Fun, NEGATIVE_PREFIX};
+use prefix_decoder::Fun;
+use prefix_decoder::operand::{after_prefix, with_nibble};
 
 /// No count of executed bytes goes beyond this.
 const MOST_EXECUTED: u64 = 1 << 63;
@@ -35,18 +35,6 @@ fn between(at: u32, registers: Registers) -> Registers
         began: at,
         operand: 0,
         ..registers
-    }
-}
-
-/// What the prefix with this code leaves in the operand register.
-fn after_prefix(code: u8, operand: i32) -> i32
-    ensures value { result ≡ after_prefix code operand }
-    ensures register { IsRegister result }
-{
-    if code == NEGATIVE_PREFIX {
-        negated(operand)
-    } else {
-        prefixed(operand)
     }
 }
 

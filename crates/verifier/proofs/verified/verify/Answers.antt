@@ -25,7 +25,7 @@ returns-in_err-pass-clause-memory c =
     ])
 
 pub invariant_of-result : goal.invariant_of-result
-invariant_of-result c = ∣ accepted_is_certified c.args.module.now (module-spans c.args.module.now c.pass.ensures.kept) c.in_ok-pass.ensures.accepts ∣₁
+invariant_of-result c = ∣ (c.pass.ensures.kept, accepted_is_certified c.args.module.now (module-spans c.args.module.now c.pass.ensures.kept) c.in_ok-pass.ensures.accepts) ∣₁
 
 pub returns-clause-accepts : goal.returns-clause-accepts
 returns-clause-accepts c = (refl, accepted_is_certified c.args.module.now (module-spans c.args.module.now c.pass.ensures.kept) c.in_ok-pass.ensures.accepts)
