@@ -7,6 +7,8 @@ mod following;
 mod labels;
 mod laws;
 mod place;
+#[cfg(test)]
+mod tests;
 
 pub use advancing::advance;
 pub use following::{Successors, transfer};

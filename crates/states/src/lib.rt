@@ -9,6 +9,8 @@ mod overlay;
 mod row;
 mod rule;
 mod state;
+#[cfg(test)]
+mod tests;
 
 pub use comparison::below;
 pub use implication::implies;

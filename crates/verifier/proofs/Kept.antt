@@ -46,6 +46,7 @@ module _ (m : Contents) (k : Keeps m) where
     reads = λ at i h. checked_reads (drop at m.code) (read 8 (drop at m.code) (pos 0) 0) i h;
   }
 
+  -- each instruction has a byte, and lies in the code
   pub spans : Spans m
   spans = record { some = decodes.some; inside = decodes.inside }
 

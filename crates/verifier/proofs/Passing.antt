@@ -6,7 +6,6 @@ use Rattle.std.proofs.lemmas.Bool.Decides.{nat_tests, leb_tells}
 use Rattle.prefix_decoder.specs.declared.decoding.Instr.{Instr}
 use Rattle.prefix_decoder.specs.declared.decoding.DecodeFault.{DecodeFault}
 use Rattle.prefix_decoder.specs.Fetching.{fetched}
-use Rattle.prefix_decoder.proofs.Outcomes.{fetched-found, StandsAt-length}
 use Rattle.certificate.specs.declared.rows.LabelRow.{LabelRow}
 use Rattle.certificate.specs.Contents.{Contents, Label, label_at, label_of}
 use Rattle.certificate.specs.Keeping.{Keeps}
@@ -17,13 +16,6 @@ use Rattle.verifier.specs.declared.Refusal.{Refusal}
 use Rattle.verifier.specs.Judge.{Verdict, past_labels, past_rule, past_spelling, judged_at, first_label, refused, at_the_end, judge, verdict}
 use Rattle.verifier.specs.Judging.{RiseFrom, AreLeft, falling_state}
 use Rattle.verifier.proofs.Judging.{Spans, judge_end}
-
--- each instruction has a byte, and lies in the code
-pub module-spans : (m : Contents) → Keeps m → Spans m
-module-spans m keeps = record {
-  some = λ at i is. (StandsAt-length m.code at i (fetched-found m.code at keeps.code_bytes i is)).0;
-  inside = λ at i is. (fetched-found m.code at keeps.code_bytes i is).within;
-}
 
 -- ---- the verdict from an offset on
 

@@ -1,46 +1,219 @@
+//! Small modules and the verdict on each, worked out by hand.
+
 use super::*;
 use certificate::Module;
-use std::test::*;
+use std::alloc::{AllocError, Global};
+use std::process::Abort;
 
-/// `ldc 5`, `stl 1`, `ldl 1`, `adc 1`, `stl 1`, `stopp`: five data words, base 3, budget 7, finish 7.
-const FIRST: [u8; 83] = [
-    0x54, 0x50, 0x4d, 0x31, 7, 0, 0, 0, 0, 0, 0, 0, 5, 0, 0, 0, 3, 0, 0, 0, 7, 0, 0, 0, 0, 0, 0, 0,
-    7, 0, 0, 0, 0, 0, 0, 0, 0, 0, 0, 0, 0, 0, 0, 0, 0, 0, 0, 0, 0, 0, 0, 0, 0, 0, 0, 0, 0, 0, 0, 0,
-    0, 0, 0, 0, 0, 0, 0, 0, 0, 0, 0, 0, 0, 0, 0, 0, 0x45, 0xd1, 0x71, 0x81, 0xd1, 0x21, 0xf5,
-];
+/// `ldc 5; stl 1; ldl 1; adc 1; stl 1; stopp`.
+const FIRST: &[u8] = b"\x45\xd1\x71\x81\xd1\x21\xf5";
 
-/// A place of the file, the byte put there, and the rule that is then broken, at this offset.
-const REFUSED: [(usize, u8, u8, u32); 4] = [
-    (16, 2, 14, 5),
-    (20, 6, 15, 5),
-    (76, 0x20, 1, 0),
-    (82, 0xf4, 1, 5),
-];
+/// `ldc 5; stl 1; j 0; ldl 1; stopp`.
+const JUMP: &[u8] = b"\x45\xd1\x00\x71\x21\xf5";
 
-#[test]
-fn first_is_accepted(rt: HostRuntime) -> Result<(), Fail> {
-    let module = Module::read(rt.alloc(), &FIRST)
-        .ok()
-        .ok_or("the file is a module")?;
-    assert!(rt; verify(rt.alloc(), &module).is_ok());
-    Ok(())
+/// A label row without facts, in the context of the root.
+#[derive(Clone, Copy, Debug)]
+struct Label {
+    offset: u32,
+    depth: i32,
+    number: u64,
+}
+
+/// A module without constants and links.
+#[derive(Clone, Copy, Debug)]
+struct Shape<'a> {
+    code: &'a [u8],
+    base: u32,
+    budget: u64,
+    label: Option<Label>,
+}
+
+/// A module with five data words, base 3 and an ample budget.
+fn of_code(code: &[u8]) -> Shape<'_> {
+    Shape {
+        code,
+        base: 3,
+        budget: 100_000,
+        label: None,
+    }
+}
+
+/// The bytes of the module's file.
+fn file(alloc: Global, module: &Shape) -> Result<Vec<u8>, AllocError> {
+    let mut file = Vec::new(alloc);
+    file.extend_from_slice(b"TPM1")?;
+    file.extend_from_slice(&(module.code.len() as u64).to_le_bytes())?;
+    file.extend_from_slice(&5u32.to_le_bytes())?;
+    file.extend_from_slice(&module.base.to_le_bytes())?;
+    file.extend_from_slice(&module.budget.to_le_bytes())?;
+    file.extend_from_slice(&[0; 40])?;
+    file.extend_from_slice(&u64::from(module.label.is_some()).to_le_bytes())?;
+    file.extend_from_slice(module.code)?;
+    if let Some(label) = module.label {
+        file.extend_from_slice(&label.offset.to_le_bytes())?;
+        file.extend_from_slice(&[0; 2])?;
+        file.extend_from_slice(&label.depth.to_le_bytes())?;
+        file.extend_from_slice(&label.number.to_le_bytes())?;
+        file.extend_from_slice(&[0; 5])?;
+    }
+    Ok(file)
+}
+
+/// The verdict on the module: nothing where it is accepted, or the refusal. An outer nothing: memory ran out on
+/// the way to it.
+fn verdict(alloc: Global, module: &Shape) -> Option<Option<(u8, u32)>> {
+    let bytes = file(alloc, module).ok()?;
+    let module = Module::read(alloc, &bytes).ok()?;
+    match verify(alloc, &module) {
+        Ok(_) => Some(None),
+        Err(Refusal { number: 17, offset }) if offset == 0 => None,
+        Err(Refusal { number, offset }) => Some(Some((number, offset))),
+    }
+}
+
+/// Compares the verdict with what is expected, a second time where memory ran out at the first.
+fn check(rt: &impl Abort, alloc: Global, module: &Shape, expected: Option<(u8, u32)>) {
+    let first = verdict(alloc, module);
+    let found = first.or_else(|| verdict(alloc, module));
+    assert_eq!(rt; found, Some(expected), "{module:?}");
 }
 
 #[test]
-fn altered_files_are_refused(rt: HostRuntime) -> Result<(), Fail> {
-    for (place, byte, number, offset) in REFUSED {
-        let mut bytes = FIRST;
-        if let Some(cell) = bytes.get_mut(place) {
-            *cell = byte;
-        }
-        let module = Module::read(rt.alloc(), &bytes)
-            .ok()
-            .ok_or("the file is a module")?;
-        assert_eq!(rt;
-            verify(rt.alloc(), &module).err(),
-            Some(Refusal { number, offset }),
-            "{place}"
-        );
+fn certified_modules_are_accepted(rt: HostRuntime) {
+    let behind = Label {
+        offset: 3,
+        depth: 0,
+        number: 3,
+    };
+    let unreached = Label {
+        offset: 2,
+        depth: 0,
+        number: u64::MAX,
+    };
+    let modules = [
+        Shape {
+            budget: 7,
+            ..of_code(FIRST)
+        },
+        of_code(FIRST),
+        Shape {
+            budget: 6,
+            label: Some(behind),
+            ..of_code(JUMP)
+        },
+        Shape {
+            label: Some(unreached),
+            ..of_code(b"\x21\xf5\x21\xf5")
+        },
+        // ldc 1; rev; stl 1; mint; stl 0; stopp: what rev brings up was known before.
+        of_code(b"\x41\x42\xf0\xd1\x24\xf2\xd0\x21\xf5"),
+    ];
+    for module in &modules {
+        check(&rt, rt.alloc(), module, None);
     }
-    Ok(())
+}
+
+#[test]
+fn broken_rules_are_told_where_they_are_broken(rt: HostRuntime) {
+    let label = |offset, depth, number| {
+        Some(Label {
+            offset,
+            depth,
+            number,
+        })
+    };
+    let modules = [
+        // Not the one spelling of `ldc 5`; no such operation; a prefix at the end.
+        (of_code(b"\x20\x45\x21\xf5"), (1, 0)),
+        (of_code(b"\x22\xf2\x21\xf5"), (1, 0)),
+        (of_code(b"\x21\xf5\x25"), (1, 2)),
+        // A label within an instruction.
+        (
+            Shape {
+                label: label(1, 0, 0),
+                ..of_code(b"\x27\x25\x44\x21\xf5")
+            },
+            (2, 1),
+        ),
+        // Nothing leads there; falling off the code.
+        (of_code(b"\x21\xf5\x45"), (3, 2)),
+        (of_code(b"\x45"), (3, 1)),
+        // The label's state has no A, and the number at the label is more than the budget besides.
+        (
+            Shape {
+                budget: 4,
+                label: label(1, 0, 1000),
+                ..of_code(b"\x45\x81\x21\xf5")
+            },
+            (4, 1),
+        ),
+        // Nothing is known of B.
+        (of_code(b"\x41\xf0\xd1\x21\xf5"), (4, 2)),
+        // One more than the greatest word; one less than the least.
+        (
+            of_code(b"\x27\x2f\x2f\x2f\x2f\x2f\x2f\x4f\x81\x21\xf5"),
+            (5, 8),
+        ),
+        (of_code(b"\x24\xf2\x60\x8f\x21\xf5"), (5, 2)),
+        // A jump back.
+        (of_code(b"\x60\x0e\x21\xf5"), (11, 0)),
+        // No room for the words of scheduling.
+        (
+            Shape {
+                base: 2,
+                ..of_code(FIRST)
+            },
+            (14, 5),
+        ),
+        // The budget, in a straight line, at a jump and behind one.
+        (
+            Shape {
+                budget: 6,
+                ..of_code(FIRST)
+            },
+            (15, 5),
+        ),
+        (
+            Shape {
+                budget: 5,
+                label: label(3, 0, 3),
+                ..of_code(JUMP)
+            },
+            (15, 2),
+        ),
+        (
+            Shape {
+                label: label(3, 0, 2),
+                ..of_code(JUMP)
+            },
+            (15, 4),
+        ),
+        // No label there; a label at another depth.
+        (of_code(b"\x0f\x21\xf5"), (16, 0)),
+        (of_code(JUMP), (16, 2)),
+        (
+            Shape {
+                label: label(3, 1, 2),
+                ..of_code(b"\x45\xd1\x00\x21\xf5")
+            },
+            (16, 2),
+        ),
+    ];
+    for (module, refusal) in &modules {
+        check(&rt, rt.alloc(), module, Some(*refusal));
+    }
+}
+
+#[test]
+fn the_longest_code_is_paid_to_the_last_byte(rt: HostRuntime) {
+    let mut code = [0x40; 65_535];
+    code[65_533] = 0x21;
+    code[65_534] = 0xf5;
+    for (budget, verdict) in [(65_535, None), (65_534, Some((15, 65_533)))] {
+        let module = Shape {
+            budget,
+            ..of_code(&code)
+        };
+        check(&rt, rt.alloc(), &module, verdict);
+    }
 }

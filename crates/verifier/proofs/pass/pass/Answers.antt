@@ -5,7 +5,8 @@ use Rattle.states.specs.State.{State}
 use Rattle.states.specs.Views.{state_of}
 use Rattle.verifier.specs.Judge.{first_label}
 use Rattle.verifier.specs.Judging.{falling_state, AreLeft}
-use Rattle.verifier.proofs.Passing.{OnTheWay, start, left-first, left-further, misspelled-is, broken-is, hidden-is, goes-on, module-spans, told, fallen-off, all-judged}
+use Rattle.verifier.proofs.Kept.{spans as kept_spans}
+use Rattle.verifier.proofs.Passing.{OnTheWay, start, left-first, left-further, misspelled-is, broken-is, hidden-is, goes-on, told, fallen-off, all-judged}
 use Rattle.verifier.proofs.pass.pass.Goals as goal
 use Rattle.verifier.proofs.pass.pass.Goals.{After-tables-tables, After-fetch, In-Ok-fetch, In-Ok-judge}
 
@@ -58,7 +59,7 @@ returns-in-Some-clause-refuses c =
 
 pub loop-at-preserved : goal.loop-at-preserved
 loop-at-preserved c =
-    let spans = module-spans c.args.module.now c.tables-tables.ensures.kept in
+    let spans = kept_spans c.args.module.now c.tables-tables.ensures.kept in
     let sp = spelled (goal.at.loop-at-preserved c).In-Ok-fetch in
     let end = end_is (goal.at.loop-at-preserved c).In-Ok-judge in
     let rows = left (goal.at.loop-at-preserved c).In-Ok-judge in

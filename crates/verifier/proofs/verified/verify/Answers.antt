@@ -2,9 +2,8 @@ use Rattle.std.proofs.Common.{rules, arith, ◌≡◌, ◌∙◌, sym, ap, refl,
 use Rattle.std.proofs.lemmas.Result.{err_from_is_err_and}
 use Rattle.verifier.specs.declared.Refusal.{Refusal}
 use Rattle.verifier.proofs.Judging.{accepted_is_certified, refused_is_refused}
-use Rattle.verifier.proofs.Passing.{module-spans}
 use Rattle.verifier.proofs.Low.{low-verdict}
-use Rattle.verifier.proofs.Kept.{decodes, well_formed}
+use Rattle.verifier.proofs.Kept.{decodes, well_formed, spans}
 use Rattle.verifier.proofs.Start.{runs_well}
 use Rattle.verifier.proofs.verified.verify.Goals as goal
 
@@ -13,7 +12,7 @@ returns-in_err-pass-clause-refuses c =
     let p = err_from_is_err_and c.from_residual.result c.from_residual.ensures.1 in
     rw (p.1, p.2) (λ other. elim c.in_err-pass.ensures.refuses [
       | inl e ↦ absurd (other (ap (λ (r : Refusal). r.number) e))
-      | inr h ↦ refused_is_refused c.args.module.now (module-spans c.args.module.now c.pass.ensures.kept) c.in_err-pass.field-0.0 h
+      | inr h ↦ refused_is_refused c.args.module.now (spans c.args.module.now c.pass.ensures.kept) c.in_err-pass.field-0.0 h
     ])
 
 pub returns-in_err-pass-clause-memory : goal.returns-in_err-pass-clause-memory
@@ -25,13 +24,13 @@ returns-in_err-pass-clause-memory c =
     ])
 
 pub invariant_of-result : goal.invariant_of-result
-invariant_of-result c = ∣ (c.pass.ensures.kept, accepted_is_certified c.args.module.now (module-spans c.args.module.now c.pass.ensures.kept) c.in_ok-pass.ensures.accepts) ∣₁
+invariant_of-result c = ∣ (c.pass.ensures.kept, accepted_is_certified c.args.module.now (spans c.args.module.now c.pass.ensures.kept) c.in_ok-pass.ensures.accepts) ∣₁
 
 pub returns-clause-accepts : goal.returns-clause-accepts
-returns-clause-accepts c = (refl, accepted_is_certified c.args.module.now (module-spans c.args.module.now c.pass.ensures.kept) c.in_ok-pass.ensures.accepts)
+returns-clause-accepts c = (refl, accepted_is_certified c.args.module.now (spans c.args.module.now c.pass.ensures.kept) c.in_ok-pass.ensures.accepts)
 
 pub returns-clause-headline : goal.returns-clause-headline
 returns-clause-headline c =
     let m = c.args.module.now in
     let kept = c.pass.ensures.kept in
-    runs_well m (decodes m kept) (well_formed m kept) (accepted_is_certified m (module-spans m kept) c.in_ok-pass.ensures.accepts)
+    runs_well m (decodes m kept) (well_formed m kept) (accepted_is_certified m (spans m kept) c.in_ok-pass.ensures.accepts)
