@@ -8,3 +8,4 @@ pub mod Lexemes
 pub mod LineTokens
 pub mod Sources
 pub mod Spans
+pub mod Whole

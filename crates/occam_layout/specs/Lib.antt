@@ -3,3 +3,4 @@ pub mod Characters
 pub mod Kind
 pub mod Reading
 pub mod Tokens
+pub mod Pieces

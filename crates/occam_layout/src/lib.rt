@@ -2,6 +2,7 @@
 #![tactic(auto)]
 
 mod fault;
+mod laws;
 mod layout;
 mod scan;
 mod text;
@@ -9,6 +10,7 @@ mod token;
 mod words;
 
 pub use fault::{CHARACTER, LITERAL, LayoutFault, MEMORY, ODD_INDENTATION, TOO_DEEP, TOO_LARGE};
+pub use laws::nothing_is_dropped;
 pub use layout::{MAX_BYTES, MAX_LINES, lines};
 pub use text::Text;
 pub use token::{Line, Token, TokenKind};

@@ -33,6 +33,11 @@ const SLICED: Event = Event::Step {
     pick: 3,
 };
 
+const SLICED_FRONT: Event = Event::Step {
+    slice: true,
+    pick: 0,
+};
+
 const ARRIVAL: Event = Event::Arrive {
     link: Link::Two,
     byte: 0x41,
@@ -104,6 +109,12 @@ fn tells_what_became_of_each_run(rt: HostRuntime) {
         Case {
             file: &JUMP,
             events: &[SLICED; 6],
+            executed: 6,
+            finished: true,
+        },
+        Case {
+            file: &JUMP,
+            events: &[SLICED_FRONT; 6],
             executed: 6,
             finished: true,
         },

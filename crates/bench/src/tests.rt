@@ -1,0 +1,77 @@
+//! Each input is taken, and the checksum of its call is the one that was worked out by other means.
+
+mod growths;
+
+use crate::call::{Call, Style, call_named};
+use crate::failure::Failure;
+use crate::repeating::checksum_of;
+use std::alloc::Global;
+
+/// A source that a test has time for.
+const PLAIN: Call = Call::Lines {
+    bytes: 16_384,
+    style: Style::Plain,
+};
+
+const SHORT_TOKENS: Call = Call::Lines {
+    bytes: 16_384,
+    style: Style::ShortTokens,
+};
+
+/// A call, how often it is repeated, and the checksum. That of a source is over the level and the number of
+/// tokens of each line.
+const CHECKSUMS: [(Call, u64, u64); 11] = [
+    (Call::Read, 0, 0),
+    (Call::Read, 1, 65_535 * 31 + 5),
+    (
+        Call::Verify { loads: 0 },
+        4,
+        2 * (31 * 31 * 31 + 31 * 31 + 31 + 1),
+    ),
+    (Call::Verify { loads: 998 }, 3, 1_000 * (31 * 31 + 31 + 1)),
+    (Call::Verify { loads: 65_533 }, 2, 65_535 * 32),
+    (Call::VerifyLabels, 1, 65_535),
+    (Call::VerifySpans, 2, 65_535 * 32),
+    (Call::Checked, 0, 0),
+    (Call::Checked, 7, 917_087_137 * 31 + 7),
+    (PLAIN, 1, 8_335_618_345_079_623_071),
+    (SHORT_TOKENS, 1, 14_297_627_480_567_787_412),
+];
+
+/// The checksum, asked for once more where memory ran out.
+fn checksum(alloc: Global, call: Call, times: u64) -> Result<u64, Failure> {
+    match checksum_of(alloc, call, times) {
+        Err(Failure::Memory) => checksum_of(alloc, call, times),
+        answer => answer,
+    }
+}
+
+#[test]
+fn checksums(rt: HostRuntime) {
+    for (call, times, expected) in CHECKSUMS {
+        assert_eq!(rt;
+            checksum(rt.alloc(), call, times),
+            Ok(expected),
+            "{call:?} {times}"
+        );
+    }
+}
+
+#[test]
+fn names(rt: HostRuntime) {
+    assert_eq!(rt; call_named("read"), Some(Call::Read));
+    assert_eq!(rt;
+        call_named("verify-1000"),
+        Some(Call::Verify { loads: 998 })
+    );
+    assert_eq!(rt;
+        call_named("verify-1002"),
+        Some(Call::Verify { loads: 1_000 })
+    );
+    assert_eq!(rt;
+        call_named("verify-65535"),
+        Some(Call::Verify { loads: 65_533 })
+    );
+    assert_eq!(rt; call_named("verify"), None);
+    assert_eq!(rt; call_named(""), None);
+}
