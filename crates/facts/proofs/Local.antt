@@ -30,10 +30,12 @@ use Rattle.states.specs.Below.{below, agrees, implies, words_imply, entries_hold
 use Rattle.facts.specs.Rules as rule
 use Rattle.facts.specs.Rules.{Ruling, falls, leads, ends, breaks}
 use Rattle.states.specs.State.{has_word}
-use Rattle.facts.specs.Meaning.{Means, says_nothing, is_number, frame_word, IsOwnWord, HasFrame, Knows, ChangesOwn, IsWellFormed, SameMode, both_plain}
+use Rattle.facts.specs.Meaning.{Means, says_nothing, is_number, frame_word, IsOwnWord, HasFrame, Knows, IsWellFormed, SameMode, both_plain}
 use Rattle.facts.specs.Fitting.{After, Here, rule_site, step_site, Fits, it_falls, it_leads, it_ends, it_breaks, HasNext, RulesFitSteps}
-use Rattle.facts.proofs.Words.{local_place, frame_word_is, write_changes_own, changes_more, knows_written, bool_cases, means_same, word_test, int_le_tells}
+use Rattle.facts.proofs.Words.{local_place, frame_word_is, knows_written, bool_cases, means_same, word_test, int_le_tells}
 use Rattle.machine_state.proofs.Reading.{length-with_word, word_at-with_word}
+use Rattle.machine_state.specs.Frame.{ChangesOwn}
+use Rattle.machine_state.proofs.Frame.{write_is_own, changes_more}
 
 abbrev pub FitsIf : Here → Ruling → Outcome → Type 0
 FitsIf x r o = HasNext x r → Fits x r o
@@ -337,7 +339,7 @@ module _ (x : Here) where
       writes_fits l (local_address l.registers.workspace e) w.place v r o
       (local_place x.h (length l.memory) (has_word (context_at x.m s.context)) origin s.depth l.registers.workspace e a.frame fits w) w.mine
       (go (with_word l.memory w.place v) (after_write s l origin e f v a t w (means w.place w.inside))
-      (changes_more x.h x.memory l.memory (with_word l.memory w.place v) changes (write_changes_own x.h l.memory origin (s.depth +ℤ e) v w)))
+      (changes_more x.h x.memory l.memory (with_word l.memory w.place v) changes (write_is_own x.h l.memory w.place v w.mine)))
 
   -- ---- scheduling, and what stands behind it
 

@@ -11,7 +11,7 @@ use Rattle.machine_state.specs.Memory.{Memory, place_of, local_address, data_sta
 use Rattle.machine_state.specs.Holding.{Holding, may_write, may_write_word}
 use Rattle.machine_state.proofs.Reading.{length-with_word, byte_at-with_word_other, word_at-with_word_other}
 use Rattle.states.specs.State.{State, is_word, with_fact, written}
-use Rattle.facts.specs.Meaning.{Means, says_nothing, place_in, word_at_place, frame_word, IsOwnWord, HasFrame, Knows, ChangesOwn}
+use Rattle.facts.specs.Meaning.{Means, says_nothing, place_in, word_at_place, frame_word, IsOwnWord, HasFrame, Knows}
 
 -- a word named from the workspace is the frame's word at depth + e
 address_of_word : (workspace place : ℕ) (e : ℤ) → FitsSigned w32 e → place < 1048576 → pos workspace +ℤ (pos 4 *ℤ e) ≡ pos data_start +ℤ pos place → place_of (local_address workspace e) ≡ place
@@ -51,38 +51,6 @@ means_same {f} {g} {v} {u} means p q = subst (λ x. Means g x) q (subst (λ x. M
 -- a frame word at its place
 pub frame_word_is : (h : Holding) (size : ℕ) (memory : Memory) (origin k : ℤ) (w : IsOwnWord h size origin k) → frame_word memory origin k ≡ word_at memory w.place
 frame_word_is h size memory origin k w = ap (word_at_place memory) (sym w.is)
-
-pub four_mine : (h : Holding) (place : ℕ) → may_write_word h place ≡ true → (may_write h place ≡ true) × (may_write h (place + 1) ≡ true) × (may_write h (place + 2) ≡ true) × (may_write h (place + 3) ≡ true)
-unfolding may_write_word
-four_mine h place e =
-    let p = and_true _ _ e in
-    let q = and_true _ _ p.0 in
-    let r = and_true _ _ q.0 in
-    (r.0, r.1, q.1, p.1)
-
--- a write to an own word changes own bytes only
-pub write_changes_own : (h : Holding) (memory : Memory) (origin k : ℤ) (v : Option ℤ) (w : IsOwnWord h (length memory) origin k) → ChangesOwn h memory (with_word memory w.place v)
-write_changes_own h memory origin k v w = record {
-  size = length-with_word memory w.place v;
-  others = λ place e. byte_at-with_word_other memory w.place place v (apart place e);
-}
-  where
-    mine : (may_write h w.place ≡ true) × (may_write h (w.place + 1) ≡ true) × (may_write h (w.place + 2) ≡ true) × (may_write h (w.place + 3) ≡ true)
-    mine = four_mine h w.place w.mine
-
-    differs : (place q : ℕ) → may_write h place ≡ false → may_write h q ≡ true → place ≡ q → ⊥
-    differs place q e f same = let x : true ≡ false = sym f ∙ ap (may_write h) (sym same) ∙ e in cc
-
-    apart : (place : ℕ) → may_write h place ≡ false → (place < w.place) ⊎ (w.place + 4 ≤ place)
-    apart place e =
-        let p = differs place w.place e mine.0 in
-        let q = differs place (w.place + 1) e mine.1 in
-        let r = differs place (w.place + 2) e mine.2 in
-        let t = differs place (w.place + 3) e mine.3 in
-        elim (cases_lt place w.place) [ inl below ↦ inl below | inr above ↦ inr (omega arith) ]
-
-pub changes_more : (h : Holding) (a b c : Memory) → ChangesOwn h a b → ChangesOwn h b c → ChangesOwn h a c
-changes_more h a b c p q = record { size = q.size ∙ p.size; others = λ place e. q.others place e ∙ p.others place e }
 
 -- two words of one frame do not meet
 words_apart : (h : Holding) (size : ℕ) (origin j k : ℤ) (v : IsOwnWord h size origin j) (w : IsOwnWord h size origin k) → (j ≡ k → ⊥) → (v.place + 4 ≤ w.place) ⊎ (w.place + 4 ≤ v.place)

@@ -8,12 +8,13 @@ use Rattle.certificate.specs.Contexts.{context_at}
 use Rattle.machine_state.specs.declared.process.Mode as machine
 use Rattle.machine_state.specs.Memory.{Memory}
 use Rattle.machine_state.specs.Holding.{Holding}
+use Rattle.machine_state.specs.Frame.{ChangesOwn}
 use Rattle.machine_state.specs.LocalStep as step
 use Rattle.machine_state.specs.LocalStep.{Outcome, goes, lands, stops, fails, Local}
 use Rattle.states.specs.State.{State, label_state, has_word}
 use Rattle.facts.specs.Rules as rule
 use Rattle.facts.specs.Rules.{Ruling, falls, leads, ends, breaks}
-use Rattle.facts.specs.Meaning.{HasFrame, Knows, ChangesOwn, SameMode, IsWellFormed}
+use Rattle.facts.specs.Meaning.{HasFrame, Knows, SameMode, IsWellFormed}
 
 -- what holds behind an instruction: the frame is still there, and the state is known
 pub record After (m : Contents) (h : Holding) (mode : machine.Mode) (origin : ℤ) (s : State) (l : Local) : Type 0 where

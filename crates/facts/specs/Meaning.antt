@@ -58,11 +58,6 @@ pub record Knows (has : ℤ → Bool) (s : State) (origin : ℤ) (r : Registers)
 pub data SameMode : states.Mode → machine.Mode → Type 0 where
   both_plain : SameMode states_modes.Plain machine_modes.Plain
 
--- only bytes that the process may write have changed
-pub record ChangesOwn (h : Holding) (old new : Memory) : Type 0 where
-  pub size : length new ≡ length old
-  pub others : (place : ℕ) → may_write h place ≡ false → byte_at new place ≡ byte_at old place
-
 -- What the format of module files says of the parts that the theorems need.
 pub record IsWellFormed (m : Contents) : Type 0 where
   pub some_code : 0 < length m.code

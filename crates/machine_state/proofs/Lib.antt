@@ -1,4 +1,5 @@
 pub mod Examples
 pub mod Reading
 pub mod Scheduling
+pub mod Frame
 pub mod TaggedCells

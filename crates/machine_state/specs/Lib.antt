@@ -10,3 +10,4 @@ pub mod Performing
 pub mod MemoryLaws
 pub mod SmallModules
 pub mod Apart
+pub mod Frame

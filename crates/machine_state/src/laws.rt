@@ -1,6 +1,7 @@
 //! Laws of the definitions.
 
 ghost use Rattle.machine_state.specs.MemoryLaws.{ByteReadsBack, WordReadsBack, UndefinedReadsBack, ByteElsewhereStays, WordBesideByteStays, ByteBesideWordStays, WordElsewhereStays, ByteKeepsLength, WordKeepsLength};
+ghost use Rattle.machine_state.specs.Frame.{StepsChangeOwn};
 ghost use Rattle.machine_state.specs.SmallModules.{FirstEnds, JumpEnds, SlicedJumpEnds};
 
 /// Small modules run to their end.
@@ -9,6 +10,12 @@ pub fn small_modules_end()
     ensures first { FirstEnds }
     ensures jump { JumpEnds }
     ensures sliced_jump { SlicedJumpEnds }
+{}
+
+/// One instruction of one process changes no byte but those that the process may write.
+#[tactic(auto, using(crate::proofs::Frame::steps_change_own))]
+pub fn steps_change_their_own()
+    ensures { StepsChangeOwn }
 {}
 
 /// Memory reads back what was written.

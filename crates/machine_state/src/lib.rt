@@ -26,6 +26,7 @@ pub use fault::{
 pub use holding::{End, Holding, Span};
 pub use laws::{
     memory_keeps_its_length, memory_reads_back, memory_stays_elsewhere, small_modules_end,
+    steps_change_their_own,
 };
 pub use link::{InputLink, Link, OutputLink};
 pub use op::Op;

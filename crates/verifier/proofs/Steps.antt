@@ -23,10 +23,12 @@ use Rattle.states.specs.Below.{below}
 use Rattle.facts.specs.Rules.{Ruling, falls, breaks, rule_at}
 use Rattle.states.specs.State.{has_word}
 use Rattle.verifier.specs.Certified.{falling, state_at, Reaches, follows, IsCertified}
-use Rattle.facts.specs.Meaning.{means_unknown, word_at_place, frame_word, IsOwnWord, HasFrame, Knows, ChangesOwn, IsWellFormed}
+use Rattle.facts.specs.Meaning.{means_unknown, word_at_place, frame_word, IsOwnWord, HasFrame, Knows, IsWellFormed}
+use Rattle.machine_state.specs.Frame.{ChangesOwn}
 use Rattle.verifier.specs.Point.{IsReading, Stands, Decodes}
 use Rattle.verifier.specs.Invariant.{Lives}
-use Rattle.facts.proofs.Words.{bool_cases, means_same, frame_word_is, four_mine}
+use Rattle.facts.proofs.Words.{bool_cases, means_same, frame_word_is}
+use Rattle.machine_state.proofs.Frame.{four_mine}
 use Rattle.facts.specs.Fitting.{After, Here, step_site, Fits, it_falls, it_leads, it_ends, it_breaks}
 use Rattle.facts.proofs.Local.{instruction_fits, below_tells, label_after, readable_byte}
 

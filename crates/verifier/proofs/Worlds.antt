@@ -23,7 +23,8 @@ use Rattle.machine_state.specs.LocalStep.{Local, Outcome, local_step}
 use Rattle.machine_state.specs.Moves.{counted, finished_where, put, leave, enqueue, wake, dispatch, link_index, with_input, with_output, fill, fill_condition, rouse, rouse_condition, with_condition}
 use Rattle.machine_state.specs.Happens.{Turn, did, idle, ran, most_executed, failed, between, settled, prefix_turn, site_of, byte_turn, task_turn, step_turn, arrive_at, arrive_turn, acknowledge_turn, event_turn, turn, happens, run_from, ignored, acknowledged, busy, kept, taken}
 use Rattle.verifier.specs.Certified.{IsCertified}
-use Rattle.facts.specs.Meaning.{ChangesOwn, IsWellFormed}
+use Rattle.machine_state.specs.Frame.{ChangesOwn}
+use Rattle.facts.specs.Meaning.{IsWellFormed}
 use Rattle.verifier.specs.Point.{Stands, Decodes}
 use Rattle.std.proofs.lemmas.List.{length-set}
 use Rattle.machine_state.proofs.Reading.{length-with_byte, byte_at-with_byte, byte_at-with_byte_other}

@@ -11,7 +11,7 @@ pub struct LongResult {
     pub high: i32,
 }
 
-/// The sum of two words and the lowest bit of a carry, and the carry of that.
+/// The sum of two words and the lowest bit of a carry, and the carry of that. The two words may change places.
 pub fn long_sum(left: i32, right: i32, carry: i32) -> LongResult
     ensures words { result ≡ long_sum left right carry }
     ensures number { cast_unsigned w32 result.low + 2 ^ 32 * cast_unsigned w32 result.high

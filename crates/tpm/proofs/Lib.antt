@@ -1,0 +1,4 @@
+pub mod Matched
+pub mod Steps
+pub mod Acts
+pub mod Given

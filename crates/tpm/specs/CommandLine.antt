@@ -1,0 +1,59 @@
+-- What a command line asks for: our own choice, told as the command of the argument parser `clap`.
+use Rattle.std.specs.Prelude.{List, [], ◌∷◌, codes, true, false, Option, Some, None, if◌then◌else◌, option_and_then}
+use Rattle.std.specs.Str.{bytes_eq}
+use Rattle.clap.specs.Walk.{Text, Row, Rule, first_of}
+use Rattle.clap.specs.Simple.{App, Shape, new_shape, new_rule, subcommand_of}
+use Rattle.clap.specs.Kinds.{Kinds}
+use Rattle.clap.specs.Faults.{fault_of}
+use Rattle.tpm.specs.declared.line.Line.{Line}
+use Rattle.tpm.specs.declared.line.Line.TheVariants.{Verify, Run}
+
+-- what is asked for: the verdict on a module file, or its run
+pub data Asked : Type 0 where
+  verifies : Text → Asked
+  runs : Text → Asked
+
+abbrev pub path_of : Asked → Text
+path_of (verifies path) = path
+path_of (runs path) = path
+
+-- ---- the command
+
+abbrev pub module_rule : Rule
+module_rule = record (new_rule (codes "MOD")) { required = true }
+
+-- a subcommand, which wants the path of a module file
+abbrev pub subcommand_shape : Text → Shape
+subcommand_shape name = record (new_shape name) { rules = module_rule ∷ [] }
+
+-- `tpm verify MOD` and `tpm run MOD`
+abbrev pub tpm : App
+tpm = record {
+  top = record (new_shape (codes "tpm")) { is_leaf = false; subcommand_required = true; disable_help_subcommand = true };
+  subs = subcommand_shape (codes "verify") ∷ subcommand_shape (codes "run") ∷ [];
+}
+
+-- ---- the meaning of the words
+
+abbrev pub named : Text → Text → Option Asked
+named name path =
+    if bytes_eq name (codes "verify") then Some (verifies path) else
+    if bytes_eq name (codes "run") then Some (runs path) else None
+
+-- a subcommand's name and what was found for its arguments
+abbrev pub entered_by : Text × List Row → Option Asked
+entered_by found = option_and_then (named found.0) (first_of (codes "MOD") found.1)
+
+-- what is asked for, where no kind of error may come
+abbrev pub unless_faulty : Kinds → Option Asked → Option Asked
+unless_faulty [] asked = asked
+unless_faulty (kind ∷ kinds) asked = None
+
+-- what the words ask for: nothing where the command does not take them
+abbrev pub line_of : List Text → Option Asked
+line_of words = unless_faulty (fault_of tpm words) (option_and_then entered_by (subcommand_of tpm words))
+
+-- what a `Line` says
+abbrev pub asked_of : Line → Asked
+asked_of (Verify path) = verifies path.now
+asked_of (Run path) = runs path.now

@@ -1,0 +1,5 @@
+pub mod CommandLine
+pub mod LineFaults
+pub mod Running
+pub mod Texts
+pub mod Acting

@@ -1,0 +1,64 @@
+//! The reading of a command line. It stands apart from what acts, since its check takes long.
+
+ghost use Rattle.std.specs.Prelude.{◌≡◌, IfOk, IfErr, Some, false, option_map, option_and_then};
+ghost use Rattle.clap.specs.Simple.{app_of, shape_of, subcommand_rows_of};
+ghost use Rattle.clap.specs.declared.builder.command.Command.TheViews.{out-Command as fields_of};
+ghost use Rattle.clap.specs.Walk.{texts};
+ghost use Rattle.tpm.specs.CommandLine.{asked_of, entered_by, line_of, subcommand_shape, tpm};
+ghost use Rattle.tpm.specs.LineFaults.{IsFaultAt};
+
+use crate::line::{Line, LineFault};
+use clap::{Arg, ArgMatches, Command};
+use std::alloc::{AllocError, Global};
+
+/// A subcommand with the path of a module file.
+fn subcommand<'a>(alloc: Global, name: &'a str, about: &'a str) -> Result<Command<'a>, AllocError>
+    ensures shape { IfOk result (λ c. shape_of c ≡ subcommand_shape name.entry.now) }
+    ensures local { IfOk result (λ c. (fields_of c).has_globals ≡ false) }
+{
+    let module = Arg::new(alloc, "MOD")
+        .required(true)
+        .help("The path of a module file");
+    Command::new(alloc, name).about(about).arg(module)
+}
+
+/// The program's command.
+fn command<'a>(alloc: Global) -> Result<Command<'a>, AllocError>
+    ensures { IfOk result (λ c. app_of c ≡ tpm) }
+{
+    let verify = subcommand(alloc, "verify", "Tells whether a module is certified")?;
+    let run = subcommand(alloc, "run", "Runs a module that is certified")?;
+    Command::new(alloc, "tpm")
+        .about("Verifies and runs transputer modules")
+        .subcommand_required(true)
+        .disable_help_subcommand(true)
+        .subcommand(verify)?
+        .subcommand(run)
+}
+
+/// What the matches ask for.
+fn asked<'a>(matches: &ArgMatches<'a>) -> Option<Line<'a>>
+    ensures { let found = subcommand_rows_of matches.now in
+        option_map asked_of result ≡ option_and_then entered_by found }
+{
+    let (name, given) = matches.subcommand()?;
+    let path = given.get_str("MOD")?;
+    match name {
+        "verify" => Some(Line::Verify { path }),
+        "run" => Some(Line::Run { path }),
+        _ => None,
+    }
+}
+
+/// What the words of a command line ask for, of which the first is the program's name: `verify MOD`
+/// or `run MOD`.
+pub fn line<'a>(alloc: Global, words: &'a [&'a str]) -> Result<Line<'a>, LineFault>
+    ensures asked { IfOk result (λ l. line_of (texts words.entry.now) ≡ Some (asked_of l)) }
+    // A body that always answers want of memory meets this too, since no clause can say that memory
+    // is left: tests show that lines are read.
+    ensures fault { IfErr result (IsFaultAt (texts words.entry.now)) }
+{
+    let matches = command(alloc)?.try_get_matches_from(words)?;
+    // The parser takes no words without a subcommand and its path.
+    Ok(asked(&matches).unwrap())
+}

@@ -1,0 +1,50 @@
+//! What a command line says.
+
+ghost use Rattle.std.specs.Prelude.{◌≡◌};
+ghost use Rattle.tpm.specs.LineFaults.{FaultOf};
+
+use clap::error::ErrorKind;
+use std::alloc::AllocError;
+use thiserror::Error;
+
+/// What a command line asks for.
+#[derive(Clone, Copy, Debug, PartialEq, Eq)]
+pub enum Line<'a> {
+    /// Whether the module in the file of this path is certified.
+    Verify { path: &'a str },
+    /// A run of the module in the file of this path.
+    Run { path: &'a str },
+}
+
+/// Why a command line asks for nothing.
+#[derive(Debug, Drop, Error)]
+pub enum LineFault {
+    /// The words are no command, or they ask for help. It shows the text for the user, with its
+    /// line feed.
+    #[error("{0}")]
+    Usage(clap::Error),
+    /// Memory ran out.
+    #[error("out of memory\n")]
+    Memory,
+}
+
+impl From<AllocError> for LineFault {
+    ghost use Rattle.tpm.specs.declared.line.LineFault.TheVariants as faults;
+
+    ghost from_gives = { λ _ fault. fault ≡ faults.Memory };
+
+    fn from(_error: AllocError) -> LineFault {
+        LineFault::Memory
+    }
+}
+
+impl From<clap::Error> for LineFault {
+    ghost from_gives = { FaultOf };
+
+    fn from(error: clap::Error) -> LineFault {
+        match error.kind() {
+            ErrorKind::OutOfMemory => LineFault::Memory,
+            _ => LineFault::Usage(error),
+        }
+    }
+}

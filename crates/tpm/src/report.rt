@@ -1,0 +1,107 @@
+//! What is told of a module, and why there is nothing to tell.
+
+ghost use Rattle.std.specs.Prelude.{◌≡◌, Some};
+ghost use Rattle.tpm.specs.Texts.{report_text, status_of};
+
+use certificate::FormatFault;
+use std::alloc::AllocError;
+use std::fmt;
+use thiserror::Error;
+use verifier::Refusal;
+
+/// All that was asked for was done.
+pub const DONE: u8 = 0;
+/// The module is refused.
+pub const REFUSED: u8 = 1;
+/// The words are no command, or they ask for help.
+pub const MISUSED: u8 = 2;
+/// A file or standard output failed.
+pub const FAILED: u8 = 3;
+/// Memory ran out, other than in the reading or the verdict of a module.
+pub const STARVED: u8 = 4;
+
+/// What is told of a module that is certified.
+#[derive(Clone, Copy, Debug, PartialEq, Eq)]
+pub enum Report {
+    /// The most bytes that a run executes.
+    Accepted { budget: u64 },
+    /// The module's end was reached, after so many bytes.
+    Ended { executed: u64 },
+    /// Nobody runs, after so many bytes.
+    Idle { executed: u64 },
+}
+
+impl fmt::Display for Report {
+    ghost output = { λ report. Some (report_text report) };
+
+    fn fmt<W: fmt::Write>(&self, f: &mut fmt::Formatter<W>) -> fmt::Result {
+        match self {
+            Report::Accepted { budget } => write!(f, "accepted, budget {budget}"),
+            Report::Ended { executed } => write!(f, "ended, {executed} bytes executed"),
+            Report::Idle { executed } => write!(f, "idle, {executed} bytes executed"),
+        }
+    }
+}
+
+/// Why nothing is told of a module.
+#[derive(Debug, Drop, Error)]
+pub enum Failure<'a> {
+    /// The file is no module file.
+    #[error("refused C{} at {}", .0.number, .0.offset)]
+    Malformed(FormatFault),
+    /// The module is not certified.
+    #[error("refused V{} at {}", .0.number, .0.offset)]
+    Uncertified(Refusal),
+    /// The file of this path was not read.
+    #[error("cannot read {0}")]
+    Unread(&'a str),
+    /// The report was not written.
+    #[error("cannot write standard output")]
+    Unwritten,
+    /// Memory ran out.
+    #[error("out of memory")]
+    Memory,
+}
+
+impl From<FormatFault> for Failure<'_> {
+    ghost use Rattle.tpm.specs.declared.report.Failure.TheVariants as failures;
+
+    ghost from_gives = { λ fault failure. failure ≡ failures.Malformed fault };
+
+    fn from(fault: FormatFault) -> Self {
+        Failure::Malformed(fault)
+    }
+}
+
+impl From<Refusal> for Failure<'_> {
+    ghost use Rattle.tpm.specs.declared.report.Failure.TheVariants as failures;
+
+    ghost from_gives = { λ refusal failure. failure ≡ failures.Uncertified refusal };
+
+    fn from(refusal: Refusal) -> Self {
+        Failure::Uncertified(refusal)
+    }
+}
+
+impl From<AllocError> for Failure<'_> {
+    ghost use Rattle.tpm.specs.declared.report.Failure.TheVariants as failures;
+
+    ghost from_gives = { λ _ failure. failure ≡ failures.Memory };
+
+    fn from(_error: AllocError) -> Self {
+        Failure::Memory
+    }
+}
+
+impl Failure<'_> {
+    /// The exit status.
+    pub fn status(&self) -> u8
+        ensures { result ≡ status_of self.now }
+    {
+        match self {
+            Failure::Malformed(_) | Failure::Uncertified(_) => REFUSED,
+            Failure::Unread(_) | Failure::Unwritten => FAILED,
+            Failure::Memory => STARVED,
+        }
+    }
+}
