@@ -25,24 +25,15 @@ pub trait Files {
             (λ fault. reads self.old path.now (Err fault) self.new) };
 }
 
-/// The files of the system, of which nothing is known.
+/// The files that a runtime opens, of which nothing is known.
 #[derive(Drop)]
-pub struct SystemFiles<'a, R> {
-    runtime: &'a R,
-}
-
-impl<'a, R> SystemFiles<'a, R> {
-    /// The files that this runtime opens.
-    pub fn new(runtime: &'a R) -> Self {
-        SystemFiles { runtime }
-    }
-}
+pub struct SystemFiles<'a, R>(pub &'a R);
 
 impl<R: rt::Files + AllocGlobal> Files for SystemFiles<'_, R> {
     ghost reads = { λ before path bytes after. ⊤ };
 
     fn read(&mut self, path: &str) -> Result<Vec<u8>, FileFault> {
-        match fs::read(self.runtime, path) {
+        match fs::read(self.0, path) {
             Ok(bytes) => Ok(bytes),
             Err(error) if error.kind() == io::ErrorKind::OutOfMemory => Err(FileFault::Memory),
             Err(_) => Err(FileFault::Failed),

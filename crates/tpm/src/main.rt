@@ -25,7 +25,7 @@ fn run<R: Env + Files + AllocGlobal>(rt: &R, out: &impl Print, err: &impl Print)
     for text in &texts {
         words.push(text.as_str())?;
     }
-    let mut files = SystemFiles::new(rt);
+    let mut files = SystemFiles(rt);
     let (mut out, mut err) = (io::writer(out), io::writer(err));
     Ok(act(alloc, words.as_slice(), &mut files, &mut out, &mut err))
 }
