@@ -1,0 +1,75 @@
+-- Marks and operators at the front.
+use Rattle.std.proofs.Common.{◌≡◌, Bool, true, false, cond, List, [], ◌∷◌, Option, Some, None, refl, sym, ap, rules, ◌∙◌}
+use denote.Enum.Bare.{same_true, true_same}
+use Rattle.occam_parser.specs.declared.symbol.Mark as mark_type
+use Rattle.occam_parser.specs.declared.symbol.Mark.TheVariants as mark
+use Rattle.occam_parser.specs.contracts.symbol.Mark as mark_contract
+use Rattle.occam_parser.specs.declared.tree.ChainOperator.{ChainOperator}
+use Rattle.occam_parser.specs.contracts.tree.ChainOperator as chain_contract
+use Rattle.occam_parser.specs.declared.tree.PairOperator.TheVariants as pair
+use Rattle.occam_parser.specs.declared.tree.PrefixOperator.{PrefixOperator}
+use Rattle.occam_parser.specs.declared.tree.PrefixOperator.TheVariants as prefix
+use Rattle.occam_parser.specs.Terminals.{Terminal, Name, Integer, Character, Text, Pair, Chain, Mark}
+use Rattle.occam_parser.specs.Expressions.{prefix_sign}
+use Rattle.occam_parser.specs.Reading.{behind, behind_operator, prefix_at, is_mark, is_chain}
+use Rattle.occam_parser.proofs.Options.{chosen, at_some}
+
+pub behind_is : (m : mark_type.Mark) (ts rest : List Terminal) → behind m ts ≡ Some rest → ts ≡ Mark m ∷ rest
+unfolding behind
+behind_is m [] rest e = absurd (cc)
+behind_is m (Mark found ∷ ts) rest e =
+    let h = chosen (is_mark found m) ts rest e in
+    let same = same_true mark_contract.the_type tt found m h.0 in
+    ap (λ k. Mark k ∷ ts) same ∙ ap (λ us. Mark m ∷ us) h.1
+behind_is m (Name text ∷ ts) rest e = absurd (cc)
+behind_is m (Integer value ∷ ts) rest e = absurd (cc)
+behind_is m (Character byte ∷ ts) rest e = absurd (cc)
+behind_is m (Text bytes ∷ ts) rest e = absurd (cc)
+behind_is m (Pair operator ∷ ts) rest e = absurd (cc)
+behind_is m (Chain operator ∷ ts) rest e = absurd (cc)
+
+pub behind_again : (m : mark_type.Mark) (rest : List Terminal) → behind m (Mark m ∷ rest) ≡ Some rest
+unfolding behind
+behind_again m rest = ap (λ b. cond b (Some rest) None) (true_same mark_contract.the_type m m refl)
+
+pub behind_operator_is : (op : ChainOperator) (ts rest : List Terminal) → behind_operator op ts ≡ Some rest → ts ≡ Chain op ∷ rest
+unfolding behind_operator
+behind_operator_is op [] rest e = absurd (cc)
+behind_operator_is op (Chain found ∷ ts) rest e =
+    let h = chosen (is_chain found op) ts rest e in
+    let same = same_true chain_contract.the_type tt found op h.0 in
+    ap (λ k. Chain k ∷ ts) same ∙ ap (λ us. Chain op ∷ us) h.1
+behind_operator_is op (Name text ∷ ts) rest e = absurd (cc)
+behind_operator_is op (Integer value ∷ ts) rest e = absurd (cc)
+behind_operator_is op (Character byte ∷ ts) rest e = absurd (cc)
+behind_operator_is op (Text bytes ∷ ts) rest e = absurd (cc)
+behind_operator_is op (Pair operator ∷ ts) rest e = absurd (cc)
+behind_operator_is op (Mark m ∷ ts) rest e = absurd (cc)
+
+pub behind_operator_again : (op : ChainOperator) (rest : List Terminal) → behind_operator op (Chain op ∷ rest) ≡ Some rest
+unfolding behind_operator
+behind_operator_again op rest = ap (λ b. cond b (Some rest) None) (true_same chain_contract.the_type op op refl)
+
+pub prefix_is : (ts : List Terminal) (op : PrefixOperator) (rest : List Terminal) → prefix_at ts ≡ Some (op, rest) → ts ≡ prefix_sign op ∷ rest
+unfolding prefix_at
+prefix_is [] op rest e = absurd (cc)
+prefix_is (Name text ∷ ts) op rest e = absurd (cc)
+prefix_is (Integer value ∷ ts) op rest e = absurd (cc)
+prefix_is (Character byte ∷ ts) op rest e = absurd (cc)
+prefix_is (Text bytes ∷ ts) op rest e = absurd (cc)
+prefix_is (Chain operator ∷ ts) op rest e = absurd (cc)
+prefix_is (Mark mark.BitNot ∷ ts) op rest e = at_some (λ (x : PrefixOperator × List Terminal). Mark mark.BitNot ∷ ts ≡ prefix_sign x.0 ∷ x.1) (prefix.BitNot, ts) (op, rest) e refl
+prefix_is (Mark mark.Not ∷ ts) op rest e = at_some (λ (x : PrefixOperator × List Terminal). Mark mark.Not ∷ ts ≡ prefix_sign x.0 ∷ x.1) (prefix.Not, ts) (op, rest) e refl
+prefix_is (Mark m ∷ ts) op rest e = absurd (cc)
+prefix_is (Pair pair.Subtract ∷ ts) op rest e = at_some (λ (x : PrefixOperator × List Terminal). Pair pair.Subtract ∷ ts ≡ prefix_sign x.0 ∷ x.1) (prefix.Negate, ts) (op, rest) e refl
+prefix_is (Pair pair.Divide ∷ ts) op rest e = absurd (cc)
+prefix_is (Pair pair.Remainder ∷ ts) op rest e = absurd (cc)
+prefix_is (Pair pair.Minus ∷ ts) op rest e = absurd (cc)
+prefix_is (Pair pair.ShiftLeft ∷ ts) op rest e = absurd (cc)
+prefix_is (Pair pair.ShiftRight ∷ ts) op rest e = absurd (cc)
+prefix_is (Pair pair.Equal ∷ ts) op rest e = absurd (cc)
+prefix_is (Pair pair.NotEqual ∷ ts) op rest e = absurd (cc)
+prefix_is (Pair pair.Less ∷ ts) op rest e = absurd (cc)
+prefix_is (Pair pair.Greater ∷ ts) op rest e = absurd (cc)
+prefix_is (Pair pair.LessOrEqual ∷ ts) op rest e = absurd (cc)
+prefix_is (Pair pair.GreaterOrEqual ∷ ts) op rest e = absurd (cc)

@@ -1,0 +1,212 @@
+-- Reading processes and programs line by line.
+use Rattle.std.specs.Prelude.{◌≡◌, ◌⊎◌, ℕ, zero, suc, ◌+◌, ◌-◌, Bool, true, false, not, ◌&&◌, List, [], ◌∷◌, ◌++◌, length, map, nat_lt, ◌==◌, if◌then◌else◌, Option, Some, None, Result, Ok, Err}
+use Rattle.occam_parser.specs.declared.symbol.Mark.TheVariants as mark
+use Rattle.occam_parser.specs.declared.head.BlockKind.{BlockKind}
+use Rattle.occam_parser.specs.declared.head.BlockKind.TheVariants as block
+use Rattle.occam_parser.specs.Terminals.{Terminal, Name, Integer, Character, Text, Pair, Chain, Mark}
+use Rattle.occam_parser.specs.Expressions.{Expression}
+use Rattle.occam_parser.specs.Reading.{◌>>=◌, behind}
+use Rattle.occam_parser.specs.Lines.{Declaration, Replicator, Guard, Head, Declares, Acts, Opens}
+use Rattle.occam_parser.specs.LineReading.{ended, head_at, whole_at, guard_at, constant_at, proc_head_at}
+use Rattle.occam_parser.specs.Blocks.{Row, Process, Declared, Does, Construct, Act, Block, Components, NoComponent, Further, Component, Plain, Chosen, Guarded, Procedure, ProgramItem, GlobalConstant, GlobalProcedure}
+
+-- what is read from the first lines, and the lines behind, if it is there
+abbrev pub ReadsLines : Type 0 → Type 0
+ReadsLines A = List Row → Option (A × List Row)
+
+-- ---- lines at a level
+
+abbrev pub is_at : ℕ → Row → Bool
+is_at level r = (r.level == level) && not (nat_lt 64 r.level)
+
+abbrev pub first_row : ℕ → ReadsLines Row
+first_row level [] = None
+first_row level (r ∷ rows) = if is_at level r then Some (r, rows) else None
+
+abbrev pub begins_at : ℕ → List Row → Bool
+begins_at level [] = false
+begins_at level (r ∷ rows) = r.level == level
+
+-- ---- declarations
+
+-- declarations, the number of the line behind them, and what that line begins
+pub record Beginning : Type 0 where
+  pub declarations : List Declaration
+  pub line : ℕ
+  pub start : Head
+
+abbrev pub begun : List Declaration → ℕ → List Row → (List Declaration → Option (Beginning × List Row)) → Option Head → Option (Beginning × List Row)
+begun found line rows more None = None
+begun found line rows more (Some (Declares d)) = more (found ++ d ∷ [])
+begun found line rows more (Some (Acts a)) = Some (record { declarations = found; line = line; start = Acts a }, rows)
+begun found line rows more (Some (Opens kind replicator)) = Some (record { declarations = found; line = line; start = Opens kind replicator }, rows)
+
+unfoldable pub beginning_from : ℕ → List Declaration → ReadsLines Beginning
+beginning_from level found [] = None
+beginning_from level found (r ∷ rows) =
+    if is_at level r then begun found r.number rows (λ more. beginning_from level more rows) (head_at r.number r.terminals) else None
+
+abbrev pub with_declarations : List Declaration → Process → Process
+with_declarations [] p = p
+with_declarations (d ∷ ds) p = Declared d (with_declarations ds p)
+
+-- ---- components
+
+abbrev pub count_of : Components → ℕ
+count_of NoComponent = 0
+count_of (Further cs c) = count_of cs + 1
+
+-- Whether a block with so many components goes on. Under a replicator it has one, no more and no fewer.
+abbrev pub wants : ℕ → Bool → ℕ → List Row → Option Bool
+wants level single count rows =
+    if begins_at level rows then (if single && nat_lt 0 count then None else Some true)
+    else (if single && (count == 0) then None else Some false)
+
+abbrev pub component_step : Option (Components × List Row) → Components → List Row → Option Bool → Option (Components × List Row)
+component_step more found rows None = None
+component_step more found rows (Some false) = Some (found, rows)
+component_step more found rows (Some true) = more
+
+-- The number bounds the turns: the count of the lines is enough.
+unfoldable pub components_from : ReadsLines Component → ℕ → Bool → ℕ → Components → ReadsLines Components
+components_from item level single zero found rows = component_step None found rows (wants level single (count_of found) rows)
+components_from item level single (suc n) found rows =
+    component_step (item rows >>= λ x. components_from item level single n (Further found x.0) x.1) found rows (wants level single (count_of found) rows)
+
+unfoldable pub components_of : ReadsLines Component → ℕ → Bool → ReadsLines Components
+components_of item level single rows = components_from item level single (length rows) NoComponent rows
+
+-- ---- processes
+
+abbrev pub is_some : {A : Type 0} → Option A → Bool
+is_some None = false
+is_some (Some x) = true
+
+-- a block whose components are at a level
+unfoldable pub block_with : BlockKind → Option Replicator → Option (Components × List Row) → Option (Construct × List Row)
+block_with kind replicator read = read >>= λ x. Some (Block kind replicator x.0, x.1)
+
+abbrev pub process_behind : (BlockKind → ReadsLines Component) → ℕ → Beginning → List Row → Head → Option (Process × List Row)
+process_behind component level b rows (Acts a) = Some (with_declarations b.declarations (Does b.line (Act a)), rows)
+process_behind component level b rows (Opens kind replicator) = do
+  x ← block_with kind replicator (components_of (component kind) (level + 1) (is_some replicator) rows)
+  Some (with_declarations b.declarations (Does b.line x.0), x.1)
+process_behind component level b rows (Declares d) = None
+
+-- a process at a level, from the components that stand one level deeper
+unfoldable pub process_with : (BlockKind → ReadsLines Component) → ℕ → ReadsLines Process
+process_with component level rows = do
+  b ← beginning_from level [] rows
+  process_behind component level b.0 b.1 b.0.start
+
+unfoldable pub choice_with : ReadsLines Process → ℕ → ReadsLines Component
+choice_with process level rows = do
+  r ← first_row level rows
+  condition ← whole_at r.0.terminals
+  p ← process r.1
+  Some (Chosen r.0.number condition p.0, p.1)
+
+unfoldable pub branch_with : ReadsLines Process → ℕ → ReadsLines Component
+branch_with process level rows = do
+  r ← first_row level rows
+  guard ← guard_at r.0.terminals
+  p ← process r.1
+  Some (Guarded r.0.number guard p.0, p.1)
+
+abbrev pub plain : Option (Process × List Row) → Option (Component × List Row)
+plain read = read >>= λ p. Some (Plain p.0, p.1)
+
+abbrev pub component_with : (process deeper : ReadsLines Process) → ℕ → BlockKind → ReadsLines Component
+component_with process deeper level block.Seq rows = plain (process rows)
+component_with process deeper level block.Par rows = plain (process rows)
+component_with process deeper level block.If rows = choice_with deeper level rows
+component_with process deeper level block.Alt rows = branch_with deeper level rows
+
+abbrev pub no_lines : {A : Type 0} → ReadsLines A
+no_lines rows = None
+
+-- The first number says how many levels there are from this one on.
+unfoldable mutual
+  pub process_at : ℕ → ℕ → ReadsLines Process
+  process_at zero level = no_lines
+  process_at (suc n) level = process_with (component_at n (level + 1)) level
+
+  pub component_at : ℕ → ℕ → BlockKind → ReadsLines Component
+  component_at zero level kind = no_lines
+  component_at (suc n) level kind = component_with (process_with (component_at n (level + 1)) level) (process_at n (level + 1)) level kind
+
+-- the same processes as components
+unfoldable pub plain_at : ℕ → ℕ → ReadsLines Component
+plain_at n level rows = plain (process_at n level rows)
+
+-- ---- programs
+
+abbrev pub is_colon : Row → Option (List Terminal) → Bool
+is_colon r None = false
+is_colon r (Some after) = (r.level == 0) && ended after
+
+unfoldable pub behind_colon : List Row → Option (List Row)
+behind_colon [] = None
+behind_colon (r ∷ rows) = if is_colon r (behind mark.Colon r.terminals) then Some rows else None
+
+unfoldable pub procedure_at : ℕ → List Terminal → ReadsLines Procedure
+procedure_at line ts rows = do
+  head ← proc_head_at ts
+  body ← process_at 64 1 rows
+  rest ← behind_colon body.1
+  Some (record { line = line; head = head; body = body.0 }, rest)
+
+unfoldable pub item_with : ℕ → List Row → List Terminal → Option (ProgramItem × List Row)
+item_with line rows [] = None
+item_with line rows (Mark mark.Val ∷ ts) = do
+  constant ← constant_at line ts
+  Some (GlobalConstant constant, rows)
+item_with line rows (Mark mark.Proc ∷ ts) = do
+  procedure ← procedure_at line ts rows
+  Some (GlobalProcedure procedure.0, procedure.1)
+item_with line rows (t ∷ ts) = None
+
+unfoldable pub item_at : Row → ReadsLines ProgramItem
+item_at r rows = if nat_lt 0 r.level then None else item_with r.number rows r.terminals
+
+-- ---- items in two steps, as the program reads them: up to the body's end, and then the colon
+
+unfoldable pub procedure_start : ℕ → List Terminal → ReadsLines Procedure
+procedure_start line ts rows = do
+  head ← proc_head_at ts
+  body ← process_at 64 1 rows
+  Some (record { line = line; head = head; body = body.0 }, body.1)
+
+unfoldable pub start_with : ℕ → List Row → List Terminal → Option (ProgramItem × List Row)
+start_with line rows [] = None
+start_with line rows (Mark mark.Val ∷ ts) = do
+  constant ← constant_at line ts
+  Some (GlobalConstant constant, rows)
+start_with line rows (Mark mark.Proc ∷ ts) = do
+  procedure ← procedure_start line ts rows
+  Some (GlobalProcedure procedure.0, procedure.1)
+start_with line rows (t ∷ ts) = None
+
+unfoldable pub start_at : Row → ReadsLines ProgramItem
+start_at r rows = if nat_lt 0 r.level then None else start_with r.number rows r.terminals
+
+abbrev pub is_procedure : ProgramItem → Bool
+is_procedure (GlobalConstant constant) = false
+is_procedure (GlobalProcedure procedure) = true
+
+abbrev pub behind_item : Bool → List Row → Option (List Row)
+behind_item false rows = Some rows
+behind_item true rows = behind_colon rows
+
+-- ---- all items
+
+-- the items of a program, behind those that were found; the number bounds the turns
+unfoldable pub items_from : ℕ → List ProgramItem → List Row → Option (List ProgramItem)
+items_from n found [] = Some found
+items_from zero found (r ∷ rows) = None
+items_from (suc n) found (r ∷ rows) = do
+  x ← item_at r rows
+  items_from n (found ++ x.0 ∷ []) x.1
+
+unfoldable pub program_at : List Row → Option (List ProgramItem)
+program_at rows = items_from (length rows) [] rows

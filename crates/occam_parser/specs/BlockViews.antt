@@ -1,0 +1,67 @@
+-- The trees that processes and programs of the program are.
+use Rattle.std.specs.Prelude.{ℕ, List, [], ◌∷◌, map, fold, Option, option_map}
+use Rattle.occam_parser.specs.declared.head.BlockKind.TheVariants as block
+use Rattle.occam_parser.specs.declared.tree.Process.{Process as CodeProcess}
+use Rattle.occam_parser.specs.declared.tree.Construct.{Construct as CodeConstruct}
+use Rattle.occam_parser.specs.declared.tree.Choice.{Choice}
+use Rattle.occam_parser.specs.declared.tree.Branch.{Branch}
+use Rattle.occam_parser.specs.declared.tree.Construct.TheOpen.{Process-F, Construct-F, Choice-F, Branch-F}
+use Rattle.occam_parser.specs.declared.tree.Construct.TheFolds.{fold-Process, fold-Construct, fold-Choice, fold-Branch}
+use Rattle.occam_parser.specs.declared.block.Opening as opening_type
+use Rattle.occam_parser.specs.declared.tree.Proc as proc_type
+use Rattle.occam_parser.specs.declared.tree.Program as program_type
+use Rattle.occam_parser.specs.declared.tree.Item as item_type
+use Rattle.occam_parser.specs.declared.tree.Item.TheVariants as item
+use Rattle.occam_parser.specs.Views.{expression_of}
+use Rattle.occam_parser.specs.LineViews.{declaration_of, action_of, replicator_of, guard_of, formal_of, constant_of, start_of}
+use Rattle.occam_parser.specs.Blocks.{Process, Declared, Does, Construct, Act, Block, Components, NoComponent, Further, Component, Plain, Chosen, Guarded, Procedure, ProgramItem, GlobalConstant, GlobalProcedure}
+use Rattle.occam_parser.specs.BlockReading.{Beginning, with_declarations}
+
+-- components from a list
+abbrev pub all_of : List Component → Components
+all_of cs = fold Further NoComponent cs
+
+-- one level, with the trees of what stands inside
+abbrev pub process_step : Process-F Construct Component Component Process → Process
+process_step p = with_declarations (map declaration_of p.declarations.items) (Does p.line p.construct)
+
+abbrev pub construct_step : Construct-F Construct Component Component Process → Construct
+construct_step (Construct-F.Action a) = Act (action_of a)
+construct_step (Construct-F.Seq replicator components) = Block block.Seq (option_map replicator_of replicator) (all_of (map Plain components.items))
+construct_step (Construct-F.Par replicator components) = Block block.Par (option_map replicator_of replicator) (all_of (map Plain components.items))
+construct_step (Construct-F.If replicator choices) = Block block.If (option_map replicator_of replicator) (all_of choices.items)
+construct_step (Construct-F.Alt replicator branches) = Block block.Alt (option_map replicator_of replicator) (all_of branches.items)
+
+abbrev pub choice_step : Choice-F Construct Component Component Process → Component
+choice_step c = Chosen c.line (expression_of c.condition) c.process
+
+abbrev pub branch_step : Branch-F Construct Component Component Process → Component
+branch_step b = Guarded b.line (guard_of b.guard) b.process
+
+abbrev pub process_of : CodeProcess → Process
+process_of = fold-Process Construct Component Component Process construct_step branch_step choice_step process_step
+
+abbrev pub construct_of : CodeConstruct → Construct
+construct_of = fold-Construct Construct Component Component Process construct_step branch_step choice_step process_step
+
+abbrev pub choice_of : Choice → Component
+choice_of = fold-Choice Construct Component Component Process construct_step branch_step choice_step process_step
+
+abbrev pub branch_of : Branch → Component
+branch_of = fold-Branch Construct Component Component Process construct_step branch_step choice_step process_step
+
+abbrev pub procedure_of : proc_type.Proc → Procedure
+procedure_of p = record { line = p.line; head = record { name = p.name.now; formals = map formal_of p.formals.items }; body = process_of p.body }
+
+abbrev pub item_of : item_type.Item → ProgramItem
+item_of (item.Constant c) = GlobalConstant (constant_of c)
+item_of (item.Proc p) = GlobalProcedure (procedure_of p)
+
+abbrev pub beginning_of : opening_type.Opening → Beginning
+beginning_of o = record { declarations = map declaration_of o.declarations.items; line = o.line; start = start_of o.start }
+
+abbrev pub plain_component : CodeProcess → Component
+plain_component p = Plain (process_of p)
+
+abbrev pub items_of : program_type.Program → List ProgramItem
+items_of p = map item_of p.items.items

@@ -1,0 +1,12 @@
+pub mod Terminals
+pub mod Expressions
+pub mod Reading
+pub mod Views
+pub mod Laws
+pub mod Lines
+pub mod LineReading
+pub mod LineViews
+pub mod Blocks
+pub mod BlockReading
+pub mod BlockViews
+pub mod Told

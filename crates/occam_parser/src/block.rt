@@ -1,0 +1,324 @@
+//! Processes, by the levels of their lines.
+
+ghost use Rattle.std.specs.Prelude.{◌≡◌, ◌≤◌, ◌<◌, ◌-◌, [], ◌∷◌, length, map, option_map, IfOk, OnOk};
+ghost use Rattle.occam_parser.specs.Told.{Tells};
+ghost use Rattle.occam_parser.specs.declared.head.BlockKind.TheVariants.{If, Alt};
+ghost use Rattle.occam_parser.specs.LineViews.{replicator_of};
+ghost use Rattle.occam_parser.specs.Reading.{Finds};
+ghost use Rattle.occam_parser.specs.Blocks.{row_of, rows_of};
+ghost use Rattle.occam_parser.specs.BlockReading.{first_row, beginning_from, wants, is_some, components_of, plain_at, block_with, process_at, component_at};
+ghost use Rattle.occam_parser.specs.BlockViews.{all_of, process_of, construct_of, choice_of, branch_of, beginning_of, plain_component};
+
+use crate::fault::{Fault, ParseFault};
+use crate::head::{BlockKind, Head, Start, guard, head_of, whole};
+use crate::tree::{Branch, Choice, Construct, Declaration, Process, Replicator};
+use occam_layout::Line;
+use std::alloc::Global;
+
+/// The deepest level of a line.
+pub const MAX_LEVEL: u32 = 64;
+
+/// The first line, which has to be at this level, and the lines behind it. It belongs to the head on another line.
+fn first_at<'l, 'a>(
+    head: u32,
+    level: u32,
+    lines: &'l [Line<'a>],
+) -> Result<(&'l Line<'a>, &'l [Line<'a>]), ParseFault>
+    ensures found { Tells (λ x. (row_of x.0.now, rows_of x.1.now)) result (first_row level (rows_of lines.now)) }
+    ensures within { IfOk result (λ x. length x.1.now < length lines.now) }
+    ensures level { OnOk result (level ≤ 64) }
+{
+    let Some((line, rest)) = lines.split_first() else {
+        return Err(Fault::MissingBody.at(head));
+    };
+    if line.level < level {
+        return Err(Fault::MissingBody.at(head));
+    }
+    if line.level > MAX_LEVEL {
+        return Err(Fault::Nesting.at(line.number));
+    }
+    if line.level > level {
+        return Err(Fault::UnexpectedToken.at(line.number));
+    }
+    Ok((line, rest))
+}
+
+/// Declarations, and the line behind them with what it begins.
+#[derive(Drop)]
+struct Opening<'a> {
+    declarations: Vec<Declaration<'a>>,
+    line: u32,
+    start: Start<'a>,
+}
+
+/// The lines of a process up to the one that its construct begins with, and the lines behind.
+fn read_opening<'l, 'a>(
+    alloc: Global,
+    owner: u32,
+    level: u32,
+    lines: &'l [Line<'a>],
+) -> Result<(Opening<'a>, &'l [Line<'a>]), ParseFault>
+    ensures found { Tells (λ x. (beginning_of x.0, rows_of x.1.now)) result (beginning_from level [] (rows_of lines.now)) }
+    ensures within { IfOk result (λ x. length x.1.now < length lines.now) }
+    ensures level { OnOk result (level ≤ 64) }
+{
+    let mut declarations = Vec::new(alloc);
+    let (mut line, mut rest) = first_at(owner, level, lines)?;
+    loop {
+        match head_of(alloc, line) {
+            Ok(Head::Declaration(declaration)) => declarations.push(declaration)?,
+            Ok(Head::Start(start)) => {
+                let line = line.number;
+                return Ok((
+                    Opening {
+                        declarations,
+                        line,
+                        start,
+                    },
+                    rest,
+                ));
+            }
+            Err(error) => return Err(error.at(line.number)),
+        }
+        (line, rest) = first_at(owner, level, rest)?;
+    }
+}
+
+/// The process at the front of some lines, at a level, and the lines behind it. It belongs to the head on line `owner`.
+#[cycle(process)]
+pub(crate) fn process<'l, 'a>(
+    alloc: Global,
+    owner: u32,
+    level: u32,
+    lines: &'l [Line<'a>],
+) -> Result<(Process<'a>, &'l [Line<'a>]), ParseFault>
+    ensures found { Tells (λ x. (process_of x.0, rows_of x.1.now)) result (process_at (65 - level) level (rows_of lines.now)) }
+    ensures within { IfOk result (λ x. length x.1.now < length lines.now) }
+{
+    let (opening, rest) = read_opening(alloc, owner, level, lines)?;
+    let Opening {
+        declarations,
+        line,
+        start,
+    } = opening;
+    let (construct, rest) = match start {
+        Start::Action(action) => (Construct::Action(action), rest),
+        Start::Block(kind, replicator) => block(alloc, line, level + 1, kind, replicator, rest)?,
+    };
+    Ok((
+        Process {
+            declarations,
+            line,
+            construct,
+        },
+        rest,
+    ))
+}
+
+/// A block whose head stands on line `owner`, and the lines behind it. Its components are at `level`.
+#[cycle(process)]
+fn block<'l, 'a>(
+    alloc: Global,
+    owner: u32,
+    level: u32,
+    kind: BlockKind,
+    replicator: Option<Replicator<'a>>,
+    lines: &'l [Line<'a>],
+) -> Result<(Construct<'a>, &'l [Line<'a>]), ParseFault>
+    ensures found { Tells (λ x. (construct_of x.0, rows_of x.1.now)) result (block_with kind (option_map replicator_of replicator.entry) (components_of (component_at (65 - level) level kind) level (is_some (option_map replicator_of replicator.entry)) (rows_of lines.now))) }
+    ensures within { IfOk result (λ x. length x.1.now ≤ length lines.now) }
+{
+    let single = replicator.is_some();
+    match kind {
+        BlockKind::Seq => {
+            let (components, rest) = processes(alloc, owner, level, single, lines)?;
+            Ok((
+                Construct::Seq {
+                    replicator,
+                    components,
+                },
+                rest,
+            ))
+        }
+        BlockKind::Par => {
+            let (components, rest) = processes(alloc, owner, level, single, lines)?;
+            Ok((
+                Construct::Par {
+                    replicator,
+                    components,
+                },
+                rest,
+            ))
+        }
+        BlockKind::If => {
+            let (choices, rest) = choices(alloc, owner, level, single, lines)?;
+            Ok((
+                Construct::If {
+                    replicator,
+                    choices,
+                },
+                rest,
+            ))
+        }
+        BlockKind::Alt => {
+            let (branches, rest) = branches(alloc, owner, level, single, lines)?;
+            Ok((
+                Construct::Alt {
+                    replicator,
+                    branches,
+                },
+                rest,
+            ))
+        }
+    }
+}
+
+/// Whether a block that has so many components has another, and the lines that come next. A block under a replicator
+/// has one, no more and no fewer.
+fn more<'l, 'a>(
+    owner: u32,
+    level: u32,
+    single: bool,
+    count: usize,
+    lines: &'l [Line<'a>],
+) -> Result<(bool, &'l [Line<'a>]), ParseFault>
+    ensures found { Finds (λ x. x.0) result (wants level single count (rows_of lines.now)) }
+    ensures same { IfOk result (λ x. x.1.now ≡ lines.now) }
+{
+    match lines.first() {
+        Some(line) if line.level == level => {
+            if single && count > 0 {
+                return Err(Fault::UnexpectedToken.at(line.number));
+            }
+            Ok((true, lines))
+        }
+        _ => {
+            if single && count == 0 {
+                return Err(Fault::MissingBody.at(owner));
+            }
+            Ok((false, lines))
+        }
+    }
+}
+
+/// The processes of a block.
+#[cycle(process)]
+fn processes<'l, 'a>(
+    alloc: Global,
+    owner: u32,
+    level: u32,
+    single: bool,
+    lines: &'l [Line<'a>],
+) -> Result<(Vec<Process<'a>>, &'l [Line<'a>]), ParseFault>
+    ensures found { Tells (λ x. (all_of (map plain_component x.0.items), rows_of x.1.now)) result (components_of (plain_at (65 - level) level) level single (rows_of lines.now)) }
+    ensures within { IfOk result (λ x. length x.1.now ≤ length lines.now) }
+{
+    let mut found = Vec::new(alloc);
+    let (mut goes_on, mut rest) = more(owner, level, single, 0, lines)?;
+    while goes_on {
+        let (component, behind) = process(alloc, owner, level, rest)?;
+        found.push(component)?;
+        (goes_on, rest) = more(owner, level, single, found.len(), behind)?;
+    }
+    Ok((found, rest))
+}
+
+/// The choices of an `IF`.
+#[cycle(process)]
+fn choices<'l, 'a>(
+    alloc: Global,
+    owner: u32,
+    level: u32,
+    single: bool,
+    lines: &'l [Line<'a>],
+) -> Result<(Vec<Choice<'a>>, &'l [Line<'a>]), ParseFault>
+    ensures found { Tells (λ x. (all_of (map choice_of x.0.items), rows_of x.1.now)) result (components_of (component_at (65 - level) level If) level single (rows_of lines.now)) }
+    ensures within { IfOk result (λ x. length x.1.now ≤ length lines.now) }
+{
+    let mut found = Vec::new(alloc);
+    let (mut goes_on, mut rest) = more(owner, level, single, 0, lines)?;
+    while goes_on {
+        let (component, behind) = choice(alloc, owner, level, rest)?;
+        found.push(component)?;
+        (goes_on, rest) = more(owner, level, single, found.len(), behind)?;
+    }
+    Ok((found, rest))
+}
+
+/// The branches of an `ALT`.
+#[cycle(process)]
+fn branches<'l, 'a>(
+    alloc: Global,
+    owner: u32,
+    level: u32,
+    single: bool,
+    lines: &'l [Line<'a>],
+) -> Result<(Vec<Branch<'a>>, &'l [Line<'a>]), ParseFault>
+    ensures found { Tells (λ x. (all_of (map branch_of x.0.items), rows_of x.1.now)) result (components_of (component_at (65 - level) level Alt) level single (rows_of lines.now)) }
+    ensures within { IfOk result (λ x. length x.1.now ≤ length lines.now) }
+{
+    let mut found = Vec::new(alloc);
+    let (mut goes_on, mut rest) = more(owner, level, single, 0, lines)?;
+    while goes_on {
+        let (component, behind) = branch(alloc, owner, level, rest)?;
+        found.push(component)?;
+        (goes_on, rest) = more(owner, level, single, found.len(), behind)?;
+    }
+    Ok((found, rest))
+}
+
+/// A condition, and the process below it.
+#[cycle(process)]
+fn choice<'l, 'a>(
+    alloc: Global,
+    owner: u32,
+    level: u32,
+    lines: &'l [Line<'a>],
+) -> Result<(Choice<'a>, &'l [Line<'a>]), ParseFault>
+    ensures found { Tells (λ x. (choice_of x.0, rows_of x.1.now)) result (component_at (65 - level) level If (rows_of lines.now)) }
+    ensures within { IfOk result (λ x. length x.1.now < length lines.now) }
+{
+    let (first, rest) = first_at(owner, level, lines)?;
+    let line = first.number;
+    let condition = match whole(alloc, &first.tokens) {
+        Ok(condition) => condition,
+        Err(error) => return Err(error.at(line)),
+    };
+    let (process, rest) = process(alloc, line, level + 1, rest)?;
+    Ok((
+        Choice {
+            line,
+            condition,
+            process,
+        },
+        rest,
+    ))
+}
+
+/// A guard, and the process below it.
+#[cycle(process)]
+fn branch<'l, 'a>(
+    alloc: Global,
+    owner: u32,
+    level: u32,
+    lines: &'l [Line<'a>],
+) -> Result<(Branch<'a>, &'l [Line<'a>]), ParseFault>
+    ensures found { Tells (λ x. (branch_of x.0, rows_of x.1.now)) result (component_at (65 - level) level Alt (rows_of lines.now)) }
+    ensures within { IfOk result (λ x. length x.1.now < length lines.now) }
+{
+    let (first, rest) = first_at(owner, level, lines)?;
+    let line = first.number;
+    let guard = match guard(alloc, &first.tokens) {
+        Ok(guard) => guard,
+        Err(error) => return Err(error.at(line)),
+    };
+    let (process, rest) = process(alloc, line, level + 1, rest)?;
+    Ok((
+        Branch {
+            line,
+            guard,
+            process,
+        },
+        rest,
+    ))
+}

@@ -1,0 +1,224 @@
+//! Constants, declarations and the heads of procedures, within one line.
+
+ghost use Rattle.std.specs.Prelude.{◌≡◌, ◌≤◌, ◌<◌, length, map, option_map, IfOk};
+ghost use Rattle.occam_parser.specs.Terminals.{terminals_of};
+ghost use Rattle.occam_parser.specs.Views.{expression_of};
+ghost use Rattle.occam_parser.specs.LineViews.{spelling_of, value_of, constant_of, declaration_of, formal_of, proc_head_of};
+ghost use Rattle.occam_parser.specs.Reading.{Gives, Finds, list_of};
+ghost use Rattle.occam_parser.specs.LineReading.{type_at, shape_at, name_at, value_at, constant_at, names_at, formal_named, formal_at, proc_head_at};
+
+use crate::expression::{expect, expression, expressions, in_brackets};
+use crate::fault::{Fault, LineError};
+use crate::head::{expect_end, name};
+use crate::symbol::{Mark, Symbol, behind, first};
+use crate::tree::{
+    Constant, ConstantValue, Declaration, Expr, Formal, FormalKind, Names, ValueType,
+};
+use occam_layout::{Line, Token};
+use std::alloc::Global;
+
+/// The head of a procedure.
+#[derive(Drop)]
+pub(crate) struct ProcHead<'a> {
+    pub(crate) name: &'a [u8],
+    pub(crate) formals: Vec<Formal<'a>>,
+}
+
+/// The type at the front of some tokens, and the tokens behind it.
+#[tactic(auto, unfolding(crate::specs::LineReading::type_at))]
+fn value_type<'t, 'a>(tokens: &'t [Token<'a>]) -> Result<(ValueType, &'t [Token<'a>]), Fault>
+    ensures found { Finds (λ x. (x.0, terminals_of x.1.now)) result (type_at (terminals_of tokens.now)) }
+    ensures within { IfOk result (λ x. length x.1.now ≤ length tokens.now) }
+{
+    if let Some(rest) = behind(Mark::Int, tokens) {
+        return Ok((ValueType::Int, rest));
+    }
+    let rest = expect(Mark::Byte, tokens)?;
+    Ok((ValueType::Byte, rest))
+}
+
+/// `type`, or `CHAN OF type`: whether it is a channel's, the type, and the tokens behind it.
+#[tactic(auto, unfolding(crate::specs::LineReading::shape_at))]
+fn shape<'t, 'a>(tokens: &'t [Token<'a>]) -> Result<((bool, ValueType), &'t [Token<'a>]), Fault>
+    ensures found { Finds (λ x. (x.0, terminals_of x.1.now)) result (shape_at (terminals_of tokens.now)) }
+    ensures within { IfOk result (λ x. length x.1.now ≤ length tokens.now) }
+{
+    if let Some(rest) = behind(Mark::Chan, tokens) {
+        let (value_type, rest) = value_type(expect(Mark::Of, rest)?)?;
+        return Ok(((true, value_type), rest));
+    }
+    let (value_type, rest) = value_type(tokens)?;
+    Ok(((false, value_type), rest))
+}
+
+/// A constant, behind its `VAL`.
+#[tactic(auto, unfolding(crate::specs::LineReading::constant_at))]
+pub(crate) fn constant<'a>(
+    alloc: Global,
+    line: u32,
+    tokens: &[Token<'a>],
+) -> Result<Constant<'a>, LineError>
+    ensures { Gives constant_of result (constant_at line (terminals_of tokens.now)) }
+{
+    let (size, rest) = in_brackets(alloc, tokens)?;
+    let (value_type, rest) = value_type(rest)?;
+    let (name, rest) = name(rest)?;
+    let (value, rest) = constant_value(alloc, size, expect(Mark::Is, rest)?)?;
+    expect_end(expect(Mark::Colon, rest)?)?;
+    Ok(Constant {
+        line,
+        value_type,
+        name,
+        value,
+    })
+}
+
+/// What a constant stands for: a table where it has a size.
+#[tactic(auto, unfolding(crate::specs::LineReading::value_at, crate::specs::LineReading::table_at, crate::specs::Reading::up_to))]
+fn constant_value<'t, 'a>(
+    alloc: Global,
+    size: Option<Expr<'a>>,
+    tokens: &'t [Token<'a>],
+) -> Result<(ConstantValue<'a>, &'t [Token<'a>]), LineError>
+    ensures { Gives (λ x. (value_of x.0, terminals_of x.1.now)) result (value_at (option_map expression_of size.entry) (terminals_of tokens.now)) }
+{
+    let Some(size) = size else {
+        let (value, rest) = expression(alloc, tokens)?;
+        return Ok((ConstantValue::Scalar(value), rest));
+    };
+    match first(tokens) {
+        Some((Symbol::Text(text), rest)) => Ok((ConstantValue::Text { size, text }, rest)),
+        Some((Symbol::Mark(Mark::OpenBracket), rest)) => {
+            let (items, rest) = expressions(alloc, rest)?;
+            let rest = expect(Mark::CloseBracket, rest)?;
+            Ok((ConstantValue::Table { size, items }, rest))
+        }
+        _ => Err(LineError::Fault(Fault::UnexpectedToken)),
+    }
+}
+
+/// The declaration of variables or channels that a line is.
+#[tactic(auto, unfolding(crate::specs::LineReading::names_at))]
+pub(crate) fn typed_names<'a>(alloc: Global, line: &Line<'a>) -> Result<Declaration<'a>, LineError>
+    ensures { Gives declaration_of result (names_at line.now.number (terminals_of line.now.tokens.items)) }
+{
+    let (size, rest) = in_brackets(alloc, &line.tokens)?;
+    let ((is_channel, value_type), rest) = shape(rest)?;
+    let (names, rest) = names(alloc, rest)?;
+    expect_end(expect(Mark::Colon, rest)?)?;
+    let found = Names {
+        line: line.number,
+        size,
+        value_type,
+        names,
+    };
+    Ok(if is_channel {
+        Declaration::Channels(found)
+    } else {
+        Declaration::Variables(found)
+    })
+}
+
+/// Names with commas between them, one at least.
+fn names<'t, 'a>(
+    alloc: Global,
+    tokens: &'t [Token<'a>],
+) -> Result<(Vec<&'a [u8]>, &'t [Token<'a>]), LineError>
+    ensures found { Gives (λ x. (map spelling_of x.0.items, terminals_of x.1.now)) result (list_of name_at (terminals_of tokens.now)) }
+    ensures within { IfOk result (λ x. length x.1.now ≤ length tokens.now) }
+{
+    let (first, mut rest) = name(tokens)?;
+    let mut found = Vec::new(alloc);
+    found.push(first)?;
+    while let Some(after) = behind(Mark::Comma, rest) {
+        let (next, behind) = name(after)?;
+        found.push(next)?;
+        rest = behind;
+    }
+    Ok((found, rest))
+}
+
+/// The head of a procedure, behind its `PROC`.
+#[tactic(auto, unfolding(crate::specs::LineReading::proc_head_at))]
+pub(crate) fn proc_head<'a>(alloc: Global, tokens: &[Token<'a>]) -> Result<ProcHead<'a>, LineError>
+    ensures { Gives proc_head_of result (proc_head_at (terminals_of tokens.now)) }
+{
+    let (name, rest) = name(tokens)?;
+    let rest = expect(Mark::OpenParenthesis, rest)?;
+    if let Some(rest) = behind(Mark::CloseParenthesis, rest) {
+        expect_end(rest)?;
+        return Ok(ProcHead {
+            name,
+            formals: Vec::new(alloc),
+        });
+    }
+    let (formals, rest) = formals(alloc, rest)?;
+    expect_end(expect(Mark::CloseParenthesis, rest)?)?;
+    Ok(ProcHead { name, formals })
+}
+
+/// Formal parameters with commas between them, one at least.
+fn formals<'t, 'a>(
+    alloc: Global,
+    tokens: &'t [Token<'a>],
+) -> Result<(Vec<Formal<'a>>, &'t [Token<'a>]), LineError>
+    ensures found { Gives (λ x. (map formal_of x.0.items, terminals_of x.1.now)) result (list_of formal_at (terminals_of tokens.now)) }
+    ensures within { IfOk result (λ x. length x.1.now ≤ length tokens.now) }
+{
+    let (first, mut rest) = formal(alloc, tokens)?;
+    let mut found = Vec::new(alloc);
+    found.push(first)?;
+    while let Some(after) = behind(Mark::Comma, rest) {
+        let (next, behind) = formal(alloc, after)?;
+        found.push(next)?;
+        rest = behind;
+    }
+    Ok((found, rest))
+}
+
+/// A formal parameter, and the tokens behind it.
+#[tactic(auto, unfolding(crate::specs::LineReading::formal_at))]
+fn formal<'t, 'a>(
+    alloc: Global,
+    tokens: &'t [Token<'a>],
+) -> Result<(Formal<'a>, &'t [Token<'a>]), LineError>
+    ensures found { Gives (λ x. (formal_of x.0, terminals_of x.1.now)) result (formal_at (terminals_of tokens.now)) }
+    ensures within { IfOk result (λ x. length x.1.now ≤ length tokens.now) }
+{
+    if let Some(rest) = behind(Mark::Val, tokens) {
+        let (size, rest) = in_brackets(alloc, rest)?;
+        let (value_type, rest) = value_type(rest)?;
+        return formal_named(FormalKind::Value, size, value_type, rest);
+    }
+    let (size, rest) = in_brackets(alloc, tokens)?;
+    let ((is_channel, value_type), rest) = shape(rest)?;
+    let kind = if is_channel {
+        FormalKind::Channel
+    } else {
+        FormalKind::Variable
+    };
+    formal_named(kind, size, value_type, rest)
+}
+
+/// A formal parameter, of which only the name is left to read.
+#[tactic(auto, unfolding(crate::specs::LineReading::formal_named))]
+fn formal_named<'t, 'a>(
+    kind: FormalKind,
+    size: Option<Expr<'a>>,
+    value_type: ValueType,
+    tokens: &'t [Token<'a>],
+) -> Result<(Formal<'a>, &'t [Token<'a>]), LineError>
+    ensures found { Gives (λ x. (formal_of x.0, terminals_of x.1.now)) result (formal_named kind (option_map expression_of size.entry) value_type (terminals_of tokens.now)) }
+    ensures within { IfOk result (λ x. length x.1.now ≤ length tokens.now) }
+{
+    let (name, rest) = name(tokens)?;
+    Ok((
+        Formal {
+            kind,
+            size,
+            value_type,
+            name,
+        },
+        rest,
+    ))
+}

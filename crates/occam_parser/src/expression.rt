@@ -1,0 +1,298 @@
+//! Expressions, within one line.
+
+ghost use Rattle.std.specs.Prelude.{◌≡◌, ◌≤◌, ◌<◌, length, map, option_map, IfOk, IfSome};
+ghost use Rattle.occam_parser.specs.Terminals.{terminals_of};
+ghost use Rattle.occam_parser.specs.Views.{expression_of, term_of};
+ghost use Rattle.occam_parser.specs.Reading.{Gives, Finds, behind, behind_operator, prefix_at, begins_with_operator, expression_at, one_operator, chain, term_at, marked, named, converted, up_to, inner_at, operand_within, list_of};
+ghost use Rattle.occam_parser.specs.LineReading.{bracketed_at};
+
+use crate::fault::{Fault, LineError};
+use crate::symbol::{Mark, Symbol, behind, first};
+use crate::tree::{ChainOperator, Expr, Operand, PairOperator, PrefixOperator, ValueType};
+use occam_layout::Token;
+use std::alloc::Global;
+
+/// How many brackets, subscripts and conversions may stand one in another within an expression.
+pub const MAX_NESTING: u32 = 64;
+
+/// The tokens behind a mark that has to stand here.
+pub(crate) fn expect<'t, 'a>(mark: Mark, tokens: &'t [Token<'a>]) -> Result<&'t [Token<'a>], Fault>
+    ensures found { Finds (λ rest. terminals_of rest.now) result (behind mark (terminals_of tokens.now)) }
+    ensures within { IfOk result (λ rest. length rest.now < length tokens.now) }
+{
+    behind(mark, tokens).ok_or(Fault::UnexpectedToken)
+}
+
+/// The operator that begins some tokens, if it may stand before an operand, and the tokens behind it.
+#[tactic(auto, unfolding(crate::specs::Reading::prefix_at))]
+fn prefix<'t, 'a>(tokens: &'t [Token<'a>]) -> Option<(PrefixOperator, &'t [Token<'a>])>
+    ensures found { option_map (λ x. (x.0, terminals_of x.1.now)) result ≡ prefix_at (terminals_of tokens.now) }
+    ensures within { IfSome result (λ x. length x.1.now < length tokens.now) }
+{
+    match first(tokens)? {
+        (Symbol::Mark(Mark::BitNot), rest) => Some((PrefixOperator::BitNot, rest)),
+        (Symbol::Mark(Mark::Not), rest) => Some((PrefixOperator::Not, rest)),
+        (Symbol::Pair(PairOperator::Subtract), rest) => Some((PrefixOperator::Negate, rest)),
+        _ => None,
+    }
+}
+
+/// The tokens behind this operator, where they begin with it.
+#[tactic(auto, unfolding(crate::specs::Reading::behind_operator))]
+fn behind_operator<'t, 'a>(
+    operator: ChainOperator,
+    tokens: &'t [Token<'a>],
+) -> Option<&'t [Token<'a>]>
+    ensures found { option_map (λ rest. terminals_of rest.now) result ≡ behind_operator operator (terminals_of tokens.now) }
+    ensures within { IfSome result (λ rest. length rest.now < length tokens.now) }
+{
+    match first(tokens)? {
+        (Symbol::Chain(found), rest) if found == operator => Some(rest),
+        _ => None,
+    }
+}
+
+/// Whether an operator that stands between operands comes first.
+#[tactic(auto, unfolding(crate::specs::Reading::begins_with_operator))]
+fn begins_with_operator(tokens: &[Token<'_>]) -> bool
+    ensures { result ≡ begins_with_operator (terminals_of tokens.now) }
+{
+    matches!(first(tokens), Some((Symbol::Pair(_) | Symbol::Chain(_), _)))
+}
+
+/// The expression at the front of some tokens, and the tokens behind it.
+pub(crate) fn expression<'t, 'a>(
+    alloc: Global,
+    tokens: &'t [Token<'a>],
+) -> Result<(Expr<'a>, &'t [Token<'a>]), LineError>
+    ensures found { Gives (λ x. (expression_of x.0, terminals_of x.1.now)) result (expression_at 64 (terminals_of tokens.now)) }
+    ensures within { IfOk result (λ x. length x.1.now ≤ length tokens.now) }
+{
+    nested(alloc, MAX_NESTING, tokens)
+}
+
+/// An expression in which so many levels may still be nested.
+#[cycle(expression)]
+#[tactic(auto, unfolding(crate::specs::Reading::expression_at, crate::specs::Reading::expression_with))]
+fn nested<'t, 'a>(
+    alloc: Global,
+    levels: u32,
+    tokens: &'t [Token<'a>],
+) -> Result<(Expr<'a>, &'t [Token<'a>]), LineError>
+    ensures found { Gives (λ x. (expression_of x.0, terminals_of x.1.now)) result (expression_at levels (terminals_of tokens.now)) }
+    ensures within { IfOk result (λ x. length x.1.now ≤ length tokens.now) }
+{
+    let (found, rest) = one_operator(alloc, levels, tokens)?;
+    if begins_with_operator(rest) {
+        return Err(LineError::Fault(Fault::Mixture));
+    }
+    Ok((found, rest))
+}
+
+/// One operator with its operands, or an operand alone, whatever follows.
+#[cycle(expression)]
+#[tactic(auto, unfolding(crate::specs::Reading::one_operator, crate::specs::Reading::after_first))]
+fn one_operator<'t, 'a>(
+    alloc: Global,
+    levels: u32,
+    tokens: &'t [Token<'a>],
+) -> Result<(Expr<'a>, &'t [Token<'a>]), LineError>
+    ensures found { Gives (λ x. (expression_of x.0, terminals_of x.1.now)) result (one_operator (term_at levels) (terminals_of tokens.now)) }
+    ensures within { IfOk result (λ x. length x.1.now ≤ length tokens.now) }
+{
+    if let Some((operator, rest)) = prefix(tokens) {
+        let (operand, rest) = operand(alloc, levels, rest)?;
+        return Ok((Expr::Prefix { operator, operand }, rest));
+    }
+    let (left, rest) = operand(alloc, levels, tokens)?;
+    match first(rest) {
+        Some((Symbol::Pair(operator), after)) => {
+            let (right, rest) = operand(alloc, levels, after)?;
+            Ok((
+                Expr::Pair {
+                    operator,
+                    left,
+                    right,
+                },
+                rest,
+            ))
+        }
+        Some((Symbol::Chain(operator), after)) => chain(alloc, levels, operator, left, after),
+        _ => Ok((Expr::Operand(left), rest)),
+    }
+}
+
+/// A chain, of which the first operand and the operator behind it were read.
+#[cycle(expression)]
+#[tactic(auto, unfolding(crate::specs::Reading::chain))]
+fn chain<'t, 'a>(
+    alloc: Global,
+    levels: u32,
+    operator: ChainOperator,
+    first: Operand<'a>,
+    tokens: &'t [Token<'a>],
+) -> Result<(Expr<'a>, &'t [Token<'a>]), LineError>
+    ensures found { Gives (λ x. (expression_of x.0, terminals_of x.1.now)) result (chain (term_at levels) operator (term_of first.entry) (terminals_of tokens.now)) }
+    ensures within { IfOk result (λ x. length x.1.now ≤ length tokens.now) }
+{
+    let (second, mut rest) = operand(alloc, levels, tokens)?;
+    let mut others = Vec::new(alloc);
+    others.push(second)?;
+    while let Some(after) = behind_operator(operator, rest) {
+        let (other, behind) = operand(alloc, levels, after)?;
+        others.push(other)?;
+        rest = behind;
+    }
+    Ok((
+        Expr::Chain {
+            operator,
+            first,
+            others,
+        },
+        rest,
+    ))
+}
+
+/// What operators stand between.
+#[cycle(expression)]
+#[tactic(auto, unfolding(crate::specs::Reading::term_at, crate::specs::Reading::term_with))]
+fn operand<'t, 'a>(
+    alloc: Global,
+    levels: u32,
+    tokens: &'t [Token<'a>],
+) -> Result<(Operand<'a>, &'t [Token<'a>]), LineError>
+    ensures found { Gives (λ x. (term_of x.0, terminals_of x.1.now)) result (term_at levels (terminals_of tokens.now)) }
+    ensures within { IfOk result (λ x. length x.1.now ≤ length tokens.now) }
+{
+    match first(tokens) {
+        Some((Symbol::Integer(value), rest)) => Ok((Operand::Integer(value), rest)),
+        Some((Symbol::Character(byte), rest)) => Ok((Operand::Character(byte), rest)),
+        Some((Symbol::Name(name), rest)) => named(alloc, levels, name, rest),
+        Some((Symbol::Mark(mark), rest)) => marked(alloc, levels, mark, rest),
+        Some((Symbol::Pair(PairOperator::Subtract), _)) => Err(LineError::Fault(Fault::Mixture)),
+        _ => Err(LineError::Fault(Fault::UnexpectedToken)),
+    }
+}
+
+/// An operand that begins with a keyword or a sign, which was read.
+#[cycle(expression)]
+#[tactic(auto, unfolding(crate::specs::Reading::marked))]
+fn marked<'t, 'a>(
+    alloc: Global,
+    levels: u32,
+    mark: Mark,
+    tokens: &'t [Token<'a>],
+) -> Result<(Operand<'a>, &'t [Token<'a>]), LineError>
+    ensures found { Gives (λ x. (term_of x.0, terminals_of x.1.now)) result (marked (inner_at levels) (operand_within levels) mark (terminals_of tokens.now)) }
+    ensures within { IfOk result (λ x. length x.1.now ≤ length tokens.now) }
+{
+    match mark {
+        Mark::True => Ok((Operand::Truth(true), tokens)),
+        Mark::False => Ok((Operand::Truth(false), tokens)),
+        Mark::MostPos => Ok((Operand::MostPos, expect(Mark::Int, tokens)?)),
+        Mark::MostNeg => Ok((Operand::MostNeg, expect(Mark::Int, tokens)?)),
+        Mark::Int => converted(alloc, levels, ValueType::Int, tokens),
+        Mark::Byte => converted(alloc, levels, ValueType::Byte, tokens),
+        Mark::OpenParenthesis => {
+            let (inner, rest) = deeper(alloc, levels, Mark::CloseParenthesis, tokens)?;
+            Ok((Operand::Bracketed(inner), rest))
+        }
+        Mark::BitNot | Mark::Not => Err(LineError::Fault(Fault::Mixture)),
+        _ => Err(LineError::Fault(Fault::UnexpectedToken)),
+    }
+}
+
+/// A name that was read, or an element of the array of that name.
+#[cycle(expression)]
+#[tactic(auto, unfolding(crate::specs::Reading::named))]
+fn named<'t, 'a>(
+    alloc: Global,
+    levels: u32,
+    name: &'a [u8],
+    tokens: &'t [Token<'a>],
+) -> Result<(Operand<'a>, &'t [Token<'a>]), LineError>
+    ensures found { Gives (λ x. (term_of x.0, terminals_of x.1.now)) result (named (inner_at levels) name.now (terminals_of tokens.now)) }
+    ensures within { IfOk result (λ x. length x.1.now ≤ length tokens.now) }
+{
+    let Some(after) = behind(Mark::OpenBracket, tokens) else {
+        return Ok((Operand::Name(name), tokens));
+    };
+    let (subscript, rest) = deeper(alloc, levels, Mark::CloseBracket, after)?;
+    Ok((Operand::Element { name, subscript }, rest))
+}
+
+/// An operand behind a type that was read.
+#[cycle(expression)]
+#[tactic(auto, unfolding(crate::specs::Reading::converted, crate::specs::Reading::operand_within))]
+fn converted<'t, 'a>(
+    alloc: Global,
+    levels: u32,
+    to: ValueType,
+    tokens: &'t [Token<'a>],
+) -> Result<(Operand<'a>, &'t [Token<'a>]), LineError>
+    ensures found { Gives (λ x. (term_of x.0, terminals_of x.1.now)) result (converted (operand_within levels) to (terminals_of tokens.now)) }
+    ensures within { IfOk result (λ x. length x.1.now ≤ length tokens.now) }
+{
+    if levels == 0 {
+        return Err(LineError::Fault(Fault::Nesting));
+    }
+    let (inner, rest) = operand(alloc, levels - 1, tokens)?;
+    let operand = Box::new(alloc, inner)?;
+    Ok((Operand::Converted { to, operand }, rest))
+}
+
+/// An expression one level deeper, up to the mark that closes it.
+#[cycle(expression)]
+#[tactic(auto, using(crate::proofs::Levels::inner_below), unfolding(crate::specs::Reading::up_to))]
+fn deeper<'t, 'a>(
+    alloc: Global,
+    levels: u32,
+    close: Mark,
+    tokens: &'t [Token<'a>],
+) -> Result<(Box<Expr<'a>>, &'t [Token<'a>]), LineError>
+    ensures found { Gives (λ x. (expression_of x.0.value, terminals_of x.1.now)) result (up_to close (inner_at levels (terminals_of tokens.now))) }
+    ensures within { IfOk result (λ x. length x.1.now ≤ length tokens.now) }
+{
+    if levels == 0 {
+        return Err(LineError::Fault(Fault::Nesting));
+    }
+    let (inner, rest) = nested(alloc, levels - 1, tokens)?;
+    let rest = expect(close, rest)?;
+    Ok((Box::new(alloc, inner)?, rest))
+}
+
+/// The expression in brackets that some tokens begin with, if they do, and the tokens behind it.
+#[tactic(auto, unfolding(crate::specs::LineReading::bracketed_at, crate::specs::Reading::up_to))]
+pub(crate) fn in_brackets<'t, 'a>(
+    alloc: Global,
+    tokens: &'t [Token<'a>],
+) -> Result<(Option<Expr<'a>>, &'t [Token<'a>]), LineError>
+    ensures found { Gives (λ x. (option_map expression_of x.0, terminals_of x.1.now)) result (bracketed_at (terminals_of tokens.now)) }
+    ensures within { IfOk result (λ x. length x.1.now ≤ length tokens.now) }
+{
+    let Some(after) = behind(Mark::OpenBracket, tokens) else {
+        return Ok((None, tokens));
+    };
+    let (inner, rest) = expression(alloc, after)?;
+    let rest = expect(Mark::CloseBracket, rest)?;
+    Ok((Some(inner), rest))
+}
+
+/// Expressions with commas between them, one at least.
+pub(crate) fn expressions<'t, 'a>(
+    alloc: Global,
+    tokens: &'t [Token<'a>],
+) -> Result<(Vec<Expr<'a>>, &'t [Token<'a>]), LineError>
+    ensures found { Gives (λ x. (map expression_of x.0.items, terminals_of x.1.now)) result (list_of (expression_at 64) (terminals_of tokens.now)) }
+    ensures within { IfOk result (λ x. length x.1.now ≤ length tokens.now) }
+{
+    let (first, mut rest) = expression(alloc, tokens)?;
+    let mut found = Vec::new(alloc);
+    found.push(first)?;
+    while let Some(after) = behind(Mark::Comma, rest) {
+        let (next, behind) = expression(alloc, after)?;
+        found.push(next)?;
+        rest = behind;
+    }
+    Ok((found, rest))
+}

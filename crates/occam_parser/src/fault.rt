@@ -1,0 +1,114 @@
+//! Why some lines are no program.
+
+ghost use Rattle.std.specs.Prelude.{◌≡◌};
+ghost use Rattle.occam_parser.specs.Told.{out_of_memory, IsTold};
+ghost use Rattle.occam_parser.specs.declared.fault.LineError.TheVariants.{Memory, Fault as at_fault};
+
+use std::alloc::{AllocError, AllocFailed};
+
+/// A token, or a line, stands where the grammar has another or none.
+pub const UNEXPECTED_TOKEN: u8 = 5;
+/// A head has no body.
+pub const MISSING_BODY: u8 = 6;
+/// Lines, or an expression's brackets, subscripts and conversions, are nested too deep.
+pub const NESTING: u8 = 7;
+/// Operators stand side by side without brackets.
+pub const MIXTURE: u8 = 8;
+/// Memory ran out.
+pub const MEMORY: u8 = 20;
+
+/// Why lines were refused, and where.
+#[derive(Clone, Copy, Debug, PartialEq, Eq)]
+pub struct ParseFault {
+    /// One of the named numbers of this crate.
+    pub number: u8,
+    /// The number of the line at fault, or 0 for want of memory.
+    pub line: u32,
+}
+
+/// What is wrong with a line.
+#[derive(Clone, Copy, Debug, PartialEq, Eq)]
+pub(crate) enum Fault {
+    UnexpectedToken,
+    MissingBody,
+    Nesting,
+    Mixture,
+}
+
+impl Fault {
+    fn number(self) -> u8 {
+        match self {
+            Fault::UnexpectedToken => UNEXPECTED_TOKEN,
+            Fault::MissingBody => MISSING_BODY,
+            Fault::Nesting => NESTING,
+            Fault::Mixture => MIXTURE,
+        }
+    }
+
+    /// This fault, told at a line.
+    pub(crate) fn at(self, line: u32) -> ParseFault {
+        ParseFault {
+            number: self.number(),
+            line,
+        }
+    }
+}
+
+/// Want of memory, which no line is to blame for.
+const OUT_OF_MEMORY: ParseFault = ParseFault {
+    number: MEMORY,
+    line: 0,
+};
+
+impl<T: Drop> From<AllocFailed<T>> for ParseFault {
+    ghost use Rattle.occam_parser.specs.Told.{out_of_memory};
+
+    ghost from_gives = { λ _ e. e ≡ out_of_memory };
+
+    fn from(_e: AllocFailed<T>) -> ParseFault {
+        OUT_OF_MEMORY
+    }
+}
+
+/// Why the tokens of a line gave nothing.
+#[derive(Debug, Drop)]
+pub(crate) enum LineError {
+    Memory,
+    Fault(Fault),
+}
+
+impl LineError {
+    /// This error, told at a line.
+    pub(crate) fn at(self, line: u32) -> ParseFault
+        ensures { IsTold self result }
+    {
+        match self {
+            LineError::Memory => OUT_OF_MEMORY,
+            LineError::Fault(fault) => fault.at(line),
+        }
+    }
+}
+
+impl From<AllocError> for LineError {
+    ghost from_gives = { λ _ e. e ≡ Memory };
+
+    fn from(_e: AllocError) -> LineError {
+        LineError::Memory
+    }
+}
+
+impl<T: Drop> From<AllocFailed<T>> for LineError {
+    ghost from_gives = { λ _ e. e ≡ Memory };
+
+    fn from(_e: AllocFailed<T>) -> LineError {
+        LineError::Memory
+    }
+}
+
+impl From<Fault> for LineError {
+    ghost from_gives = { λ fault e. e ≡ at_fault fault };
+
+    fn from(fault: Fault) -> LineError {
+        LineError::Fault(fault)
+    }
+}

@@ -1,0 +1,281 @@
+//! What one line of a process says.
+
+ghost use Rattle.std.specs.Prelude.{◌≡◌, ◌≤◌, ◌<◌, true, false, length, map, option_map, IfOk, OnOk, OnErr};
+ghost use Rattle.occam_parser.specs.Terminals.{terminals_of, seen_symbol};
+ghost use Rattle.occam_parser.specs.Views.{expression_of};
+ghost use Rattle.occam_parser.specs.LineViews.{place_of, replicator_of, action_of, guard_of, head_of};
+ghost use Rattle.occam_parser.specs.Reading.{Gives, Finds};
+ghost use Rattle.occam_parser.specs.LineReading.{ended, name_at, head_at, marked_head, block_at, replicator_at, place_at, action_at, actuals_at, whole_at, whole_place, is_guard_sign, has_condition, guard_at, input_at};
+
+use crate::declaration::{constant, typed_names};
+use crate::expression::{expect, expression, expressions, in_brackets};
+use crate::fault::{Fault, LineError};
+use crate::symbol::{Mark, Symbol, behind, first};
+use crate::tree::{Action, Declaration, Expr, Guard, PairOperator, Place, Replicator};
+use occam_layout::{Line, Token};
+use std::alloc::Global;
+
+/// What a line of a process is.
+#[derive(Drop)]
+pub(crate) enum Head<'a> {
+    Declaration(Declaration<'a>),
+    Start(Start<'a>),
+}
+
+/// What a construct begins with: all of it, or the head of a block.
+#[derive(Drop)]
+pub(crate) enum Start<'a> {
+    Action(Action<'a>),
+    Block(BlockKind, Option<Replicator<'a>>),
+}
+
+/// What a block is made of.
+#[derive(Clone, Copy, PartialEq, Eq)]
+pub(crate) enum BlockKind {
+    Seq,
+    Par,
+    If,
+    Alt,
+}
+
+/// Nothing more may stand on the line.
+pub(crate) fn expect_end(tokens: &[Token<'_>]) -> Result<(), Fault>
+    ensures ok { OnOk result (ended (terminals_of tokens.now) ≡ true) }
+    ensures err { OnErr result (ended (terminals_of tokens.now) ≡ false) }
+{
+    if tokens.is_empty() {
+        Ok(())
+    } else {
+        Err(Fault::UnexpectedToken)
+    }
+}
+
+/// The name at the front of some tokens, and the tokens behind it.
+#[tactic(auto, unfolding(crate::specs::LineReading::name_at))]
+pub(crate) fn name<'t, 'a>(tokens: &'t [Token<'a>]) -> Result<(&'a [u8], &'t [Token<'a>]), Fault>
+    ensures found { Finds (λ x. (x.0.now, terminals_of x.1.now)) result (name_at (terminals_of tokens.now)) }
+    ensures within { IfOk result (λ x. length x.1.now < length tokens.now) }
+{
+    match first(tokens) {
+        Some((Symbol::Name(name), rest)) => Ok((name, rest)),
+        _ => Err(Fault::UnexpectedToken),
+    }
+}
+
+/// What a line of a process says.
+#[tactic(auto, unfolding(crate::specs::LineReading::head_at))]
+pub(crate) fn head_of<'a>(alloc: Global, line: &Line<'a>) -> Result<Head<'a>, LineError>
+    ensures { Gives head_of result (head_at line.now.number (terminals_of line.now.tokens.items)) }
+{
+    match first(&line.tokens) {
+        Some((Symbol::Name(name), rest)) => {
+            Ok(Head::Start(Start::Action(named_action(alloc, name, rest)?)))
+        }
+        Some((Symbol::Mark(mark), rest)) => marked_head(alloc, line, mark, rest),
+        _ => Err(LineError::Fault(Fault::UnexpectedToken)),
+    }
+}
+
+/// A line that begins with a keyword or a sign, which was read.
+#[tactic(auto, unfolding(crate::specs::LineReading::marked_head, crate::specs::LineReading::declaration_at))]
+fn marked_head<'a>(
+    alloc: Global,
+    line: &Line<'a>,
+    mark: Mark,
+    rest: &[Token<'a>],
+) -> Result<Head<'a>, LineError>
+    ensures { Gives head_of result (marked_head line.now.number (terminals_of line.now.tokens.items) mark (terminals_of rest.now)) }
+{
+    match mark {
+        Mark::Val => Ok(Head::Declaration(Declaration::Constant(constant(
+            alloc,
+            line.number,
+            rest,
+        )?))),
+        Mark::Int | Mark::Byte | Mark::Chan | Mark::OpenBracket => {
+            Ok(Head::Declaration(typed_names(alloc, line)?))
+        }
+        Mark::Skip => {
+            expect_end(rest)?;
+            Ok(Head::Start(Start::Action(Action::Skip)))
+        }
+        Mark::Stop => {
+            expect_end(rest)?;
+            Ok(Head::Start(Start::Action(Action::Stop)))
+        }
+        Mark::Seq => block(alloc, BlockKind::Seq, rest),
+        Mark::Par => block(alloc, BlockKind::Par, rest),
+        Mark::If => block(alloc, BlockKind::If, rest),
+        Mark::Alt => block(alloc, BlockKind::Alt, rest),
+        _ => Err(LineError::Fault(Fault::UnexpectedToken)),
+    }
+}
+
+/// The rest of a block's head.
+#[tactic(auto, unfolding(crate::specs::LineReading::block_at))]
+fn block<'a>(alloc: Global, kind: BlockKind, tokens: &[Token<'a>]) -> Result<Head<'a>, LineError>
+    ensures { Gives head_of result (block_at kind (terminals_of tokens.now)) }
+{
+    Ok(Head::Start(Start::Block(kind, replicator(alloc, tokens)?)))
+}
+
+/// The replicator up to the end of the line, if anything stands there.
+#[tactic(auto, unfolding(crate::specs::LineReading::replicator_at, crate::specs::LineReading::equals_at))]
+fn replicator<'a>(alloc: Global, tokens: &[Token<'a>]) -> Result<Option<Replicator<'a>>, LineError>
+    ensures { Gives (option_map replicator_of) result (replicator_at (terminals_of tokens.now)) }
+{
+    if tokens.is_empty() {
+        return Ok(None);
+    }
+    let (name, rest) = name(tokens)?;
+    let Some((Symbol::Pair(PairOperator::Equal), rest)) = first(rest) else {
+        return Err(LineError::Fault(Fault::UnexpectedToken));
+    };
+    let (base, rest) = expression(alloc, rest)?;
+    let (count, rest) = expression(alloc, expect(Mark::For, rest)?)?;
+    expect_end(rest)?;
+    Ok(Some(Replicator { name, base, count }))
+}
+
+/// A variable or a channel whose name was read.
+#[tactic(auto, unfolding(crate::specs::LineReading::place_at))]
+fn place<'t, 'a>(
+    alloc: Global,
+    name: &'a [u8],
+    tokens: &'t [Token<'a>],
+) -> Result<(Place<'a>, &'t [Token<'a>]), LineError>
+    ensures found { Gives (λ x. (place_of x.0, terminals_of x.1.now)) result (place_at name.now (terminals_of tokens.now)) }
+    ensures within { IfOk result (λ x. length x.1.now ≤ length tokens.now) }
+{
+    let (subscript, rest) = in_brackets(alloc, tokens)?;
+    Ok((Place { name, subscript }, rest))
+}
+
+/// An assignment, a communication or an instance, behind its first name.
+#[tactic(auto, unfolding(crate::specs::LineReading::action_at))]
+fn named_action<'a>(
+    alloc: Global,
+    name: &'a [u8],
+    tokens: &[Token<'a>],
+) -> Result<Action<'a>, LineError>
+    ensures { Gives action_of result (action_at name.now (terminals_of tokens.now)) }
+{
+    if let Some(rest) = behind(Mark::OpenParenthesis, tokens) {
+        return Ok(Action::Instance {
+            name,
+            actuals: actuals(alloc, rest)?,
+        });
+    }
+    let (place, rest) = place(alloc, name, tokens)?;
+    if let Some(rest) = behind(Mark::Assign, rest) {
+        return Ok(Action::Assign {
+            target: place,
+            value: whole(alloc, rest)?,
+        });
+    }
+    if let Some(rest) = behind(Mark::Output, rest) {
+        return Ok(Action::Output {
+            channel: place,
+            value: whole(alloc, rest)?,
+        });
+    }
+    let rest = expect(Mark::Input, rest)?;
+    Ok(Action::Input {
+        channel: place,
+        target: whole_place(alloc, rest)?,
+    })
+}
+
+/// The actual parameters up to the end of the line.
+#[tactic(auto, unfolding(crate::specs::LineReading::actuals_at))]
+fn actuals<'a>(alloc: Global, tokens: &[Token<'a>]) -> Result<Vec<Expr<'a>>, LineError>
+    ensures { Gives (λ v. map expression_of v.items) result (actuals_at (terminals_of tokens.now)) }
+{
+    if let Some(rest) = behind(Mark::CloseParenthesis, tokens) {
+        expect_end(rest)?;
+        return Ok(Vec::new(alloc));
+    }
+    let (actuals, rest) = expressions(alloc, tokens)?;
+    expect_end(expect(Mark::CloseParenthesis, rest)?)?;
+    Ok(actuals)
+}
+
+/// An expression up to the end of the line.
+#[tactic(auto, unfolding(crate::specs::LineReading::whole_at))]
+pub(crate) fn whole<'a>(alloc: Global, tokens: &[Token<'a>]) -> Result<Expr<'a>, LineError>
+    ensures { Gives expression_of result (whole_at (terminals_of tokens.now)) }
+{
+    let (found, rest) = expression(alloc, tokens)?;
+    expect_end(rest)?;
+    Ok(found)
+}
+
+/// A variable up to the end of the line.
+#[tactic(auto, unfolding(crate::specs::LineReading::whole_place))]
+fn whole_place<'a>(alloc: Global, tokens: &[Token<'a>]) -> Result<Place<'a>, LineError>
+    ensures { Gives place_of result (whole_place (terminals_of tokens.now)) }
+{
+    let (name, rest) = name(tokens)?;
+    let (found, rest) = place(alloc, name, rest)?;
+    expect_end(rest)?;
+    Ok(found)
+}
+
+fn is_guard(symbol: Symbol<'_>) -> bool
+    ensures { result ≡ is_guard_sign (seen_symbol symbol.entry) }
+{
+    matches!(symbol, Symbol::Mark(Mark::Guard))
+}
+
+/// Whether a line has a condition before its guard.
+#[tactic(auto, using(crate::proofs::Seen::left_is))]
+fn has_condition(tokens: &[Token<'_>]) -> bool
+    ensures { result ≡ has_condition (terminals_of tokens.now) }
+{
+    let mut next = first(tokens);
+    while let Some((symbol, rest)) = next {
+        if is_guard(symbol) {
+            return true;
+        }
+        next = first(rest);
+    }
+    false
+}
+
+/// The guard that a line of an `ALT` is.
+#[tactic(auto, unfolding(crate::specs::LineReading::guard_at, crate::specs::LineReading::conditioned_at))]
+pub(crate) fn guard<'a>(alloc: Global, tokens: &[Token<'a>]) -> Result<Guard<'a>, LineError>
+    ensures { Gives guard_of result (guard_at (terminals_of tokens.now)) }
+{
+    if !has_condition(tokens) {
+        let (channel, target) = input(alloc, tokens)?;
+        return Ok(Guard::Input {
+            condition: None,
+            channel,
+            target,
+        });
+    }
+    let (condition, rest) = expression(alloc, tokens)?;
+    let rest = expect(Mark::Guard, rest)?;
+    if let Some(rest) = behind(Mark::Skip, rest) {
+        expect_end(rest)?;
+        return Ok(Guard::Skip { condition });
+    }
+    let (channel, target) = input(alloc, rest)?;
+    Ok(Guard::Input {
+        condition: Some(condition),
+        channel,
+        target,
+    })
+}
+
+/// `channel ? target` up to the end of the line.
+#[tactic(auto, unfolding(crate::specs::LineReading::input_at))]
+fn input<'a>(alloc: Global, tokens: &[Token<'a>]) -> Result<(Place<'a>, Place<'a>), LineError>
+    ensures { Gives (λ x. (place_of x.0, place_of x.1)) result (input_at (terminals_of tokens.now)) }
+{
+    let (name, rest) = name(tokens)?;
+    let (channel, rest) = place(alloc, name, rest)?;
+    let rest = expect(Mark::Input, rest)?;
+    Ok((channel, whole_place(alloc, rest)?))
+}

@@ -1,0 +1,150 @@
+//! Programs: constants and procedures.
+
+ghost use Rattle.std.specs.Prelude.{◌≡◌, ◌≤◌, ◌<◌, List, length, map, IfOk};
+ghost use Rattle.occam_parser.specs.Told.{Tells, Answers};
+ghost use Rattle.occam_parser.specs.Terminals.{terminals_of};
+ghost use Rattle.occam_parser.specs.Blocks.{Row, ProgramItem, row_of, rows_of, IsProgram};
+ghost use Rattle.occam_parser.specs.BlockReading.{is_procedure, behind_item, procedure_start, start_at, program_at};
+ghost use Rattle.occam_parser.specs.BlockViews.{procedure_of, item_of, items_of};
+
+use crate::block::process;
+use crate::declaration::{constant, proc_head};
+use crate::fault::{Fault, ParseFault};
+use crate::head::expect_end;
+use crate::symbol::{Mark, Symbol, behind, first};
+use crate::tree::{Item, Proc, Program};
+use occam_layout::{Line, Token};
+use std::alloc::Global;
+
+/// Whether an item is a procedure.
+fn is_procedure(item: &Item<'_>) -> bool
+    ensures { result ≡ is_procedure (item_of item.now) }
+{
+    match item {
+        Item::Constant(_) => false,
+        Item::Proc(_) => true,
+    }
+}
+
+/// The lines behind an item: a procedure ends with a colon, which stands behind the line `last` where it is missing.
+#[tactic(auto, unfolding(crate::specs::BlockReading::behind_colon))]
+fn behind_item<'l, 'a>(
+    is_procedure: bool,
+    last: u32,
+    lines: &'l [Line<'a>],
+) -> Result<&'l [Line<'a>], ParseFault>
+    ensures found { Tells (λ rest. rows_of rest.now) result (behind_item is_procedure (rows_of lines.now)) }
+    ensures within { IfOk result (λ rest. length rest.now ≤ length lines.now) }
+{
+    if !is_procedure {
+        return Ok(lines);
+    }
+    let Some((line, rest)) = lines.split_first() else {
+        return Err(Fault::UnexpectedToken.at(last));
+    };
+    let is_colon = match behind(Mark::Colon, &line.tokens) {
+        Some(after) => line.level == 0 && after.is_empty(),
+        None => false,
+    };
+    if is_colon {
+        Ok(rest)
+    } else {
+        Err(Fault::UnexpectedToken.at(line.number))
+    }
+}
+
+/// The procedure whose head is a line, behind its `PROC`, and the lines behind its body.
+#[tactic(auto, unfolding(crate::specs::BlockReading::procedure_start))]
+fn proc<'l, 'a>(
+    alloc: Global,
+    line: u32,
+    tokens: &[Token<'a>],
+    lines: &'l [Line<'a>],
+) -> Result<(Proc<'a>, &'l [Line<'a>]), ParseFault>
+    ensures found { Tells (λ x. (procedure_of x.0, rows_of x.1.now)) result (procedure_start line (terminals_of tokens.now) (rows_of lines.now)) }
+    ensures within { IfOk result (λ x. length x.1.now ≤ length lines.now) }
+{
+    let head = match proc_head(alloc, tokens) {
+        Ok(head) => head,
+        Err(error) => return Err(error.at(line)),
+    };
+    let (body, rest) = process(alloc, line, 1, lines)?;
+    Ok((
+        Proc {
+            line,
+            name: head.name,
+            formals: head.formals,
+            body,
+        },
+        rest,
+    ))
+}
+
+/// The item that begins with a line, without a colon at its end, and the lines behind it.
+#[tactic(auto, unfolding(crate::specs::BlockReading::start_at, crate::specs::BlockReading::start_with))]
+fn item<'l, 'a>(
+    alloc: Global,
+    line: &Line<'a>,
+    lines: &'l [Line<'a>],
+) -> Result<(Item<'a>, &'l [Line<'a>]), ParseFault>
+    ensures found { Tells (λ x. (item_of x.0, rows_of x.1.now)) result (start_at (row_of line.now) (rows_of lines.now)) }
+    ensures within { IfOk result (λ x. length x.1.now ≤ length lines.now) }
+{
+    if line.level > 0 {
+        return Err(Fault::UnexpectedToken.at(line.number));
+    }
+    match first(&line.tokens) {
+        Some((Symbol::Mark(Mark::Val), rest)) => match constant(alloc, line.number, rest) {
+            Ok(constant) => Ok((Item::Constant(constant), lines)),
+            Err(error) => Err(error.at(line.number)),
+        },
+        Some((Symbol::Mark(Mark::Proc), rest)) => {
+            let (proc, rest) = proc(alloc, line.number, rest, lines)?;
+            Ok((Item::Proc(proc), rest))
+        }
+        _ => Err(Fault::UnexpectedToken.at(line.number)),
+    }
+}
+
+/// The items that some lines are.
+#[tactic(auto, using(crate::proofs::Programs::program_ends, crate::proofs::SeenItems::left_len_is))]
+fn items<'a>(alloc: Global, lines: &[Line<'a>]) -> Result<Vec<Item<'a>>, ParseFault>
+    ensures { Tells (λ v. map item_of v.items) result (program_at (rows_of lines.now)) }
+{
+    let last = match lines.last() {
+        Some(line) => line.number,
+        None => 0,
+    };
+    let mut found = Vec::new(alloc);
+    let mut next = lines.split_first();
+    while let Some((line, after)) = next {
+        let (first, behind) = item(alloc, line, after)?;
+        let is_procedure = is_procedure(&first);
+        found.push(first)?;
+        let rest = behind_item(is_procedure, last, behind)?;
+        next = rest.split_first();
+    }
+    Ok(found)
+}
+
+/// The program that some lines are.
+///
+/// Lines that are no program are refused with a number and a line: the first one at which no program goes on so.
+/// [`UNEXPECTED_TOKEN`](crate::UNEXPECTED_TOKEN) is told for a token or a line that stands where the grammar has
+/// another or none; [`MISSING_BODY`](crate::MISSING_BODY) at a head that has no body; [`NESTING`](crate::NESTING) at a
+/// line that is more than [`MAX_LEVEL`](crate::MAX_LEVEL) levels deep, or that has an expression with more than
+/// [`MAX_NESTING`](crate::MAX_NESTING) brackets, subscripts and conversions one in another; and
+/// [`MIXTURE`](crate::MIXTURE) where operators stand side by side without brackets. Want of memory is
+/// [`MEMORY`](crate::MEMORY) at line 0.
+pub fn parse<'a>(alloc: Global, lines: &[Line<'a>]) -> Result<Program<'a>, ParseFault>
+    // What is answered is the program that the lines are.
+    ensures found { IfOk result (λ p. IsProgram (rows_of lines.now) (items_of p)) }
+    // Lines that are a program are read, unless memory runs out.
+    ensures only { (items : List ProgramItem) → IsProgram (rows_of lines.now) items → Answers items_of result items }
+    // No lines are two programs.
+    ensures unique { (rows : List Row) (items others : List ProgramItem) → IsProgram rows items → IsProgram rows others → items ≡ others }
+{
+    Ok(Program {
+        items: items(alloc, lines)?,
+    })
+}
