@@ -1,18 +1,18 @@
 -- The laws of single fields: a field that is read is spelled so, and a field that is spelled so is read.
-use Rattle.std.proofs.Common.{◌≡◌, ◌≢◌, ℕ, ◌+◌, ◌^◌, ◌<◌, ◌≤◌, ℤ, ◌≤ℤ◌, false, ltb, eqb, List, ◌++◌, length, take, drop, Ok, refl, sym, arith, rules, inl, inr, FitsSigned}
-use Rattle.std.specs.Prelude.{int_lt}
+use Rattle.std.proofs.Common.{◌≡◌, ◌≢◌, true, ℕ, ◌+◌, ◌^◌, ◌<◌, ◌≤◌, ℤ, ◌≤ℤ◌, suc, cond, Err, [], ◌∷◌, false, ltb, eqb, List, ◌++◌, length, take, drop, Ok, refl, sym, arith, rules, inl, inr, FitsSigned}
+use Rattle.std.specs.Prelude.{int_lt, int_le, ◌<ℤ◌}
 use Rattle.std.specs.Int.{w32, cast_signed, cast_unsigned}
-use Rattle.std.proofs.lemmas.Bool.{cases_lt, ltb-false, le-ltb, eqb-true}
+use Rattle.std.proofs.lemmas.Bool.{cases_lt, ltb-true, lt-ltb, ltb-false, le-ltb}
 use Rattle.std.proofs.lemmas.List.{take_at, drop_at, take-append-drop, length-append, length-take, get_or-drop, get_or-take, get_or_past}
 use Rattle.std.proofs.lemmas.Nat.{le_bytes_2, le_bytes_4, le_bytes_8}
 use Rattle.std.proofs.lemmas.Int.{ints, to_z-of_z, of_z-to_z}
 use Rattle.byteorder.specs.Endian.{little_number}
 use Rattle.byteorder.specs.Numbers.{little_number-reads_back}
 use Rattle.certificate.specs.declared.fault.TheConstants.{TRUNCATED, RANGE, LIMIT}
-use Rattle.certificate.specs.Keeping.{IsBytes}
+use Rattle.certificate.specs.Order.{IsBytes, IsInterval}
 use Rattle.certificate.specs.Spelling.{u16_bytes, u32_bytes, u64_bytes, i32_bytes}
-use Rattle.certificate.specs.Reading.{fault, place, number_at, int_at, limited_at, positive_at, at_most_at, none_at, bytes_at}
-use Rattle.certificate.proofs.Tools.{Has, has_ok, has_then, has_unless, has_if, step, Spelled}
+use Rattle.certificate.specs.Reading.{fault, place, number_at, int_at, limited_at, positive_at, at_most_at, bytes_at, byte_at, in_code_at, hi_at, interval_at}
+use Rattle.certificate.proofs.Tools.{Has, has_ok, has_err, has_then, has_unless, has_if, step, join, Spelled}
 
 pub IsBytes-drop : (n : ℕ) (bytes : List ℕ) → IsBytes bytes → IsBytes (drop n bytes)
 IsBytes-drop n bytes h i = rw get_or-drop (h (n + i))
@@ -23,6 +23,9 @@ IsBytes-take n bytes h i =
       | inl lt ↦ rw (get_or-take n bytes i 0 lt) (h i)
       | inr le ↦ rw (get_or_past (take n bytes) i 0 (omega (arith, length-take n bytes))) (omega arith)
     ]
+
+pub IsBytes-rest : (b : ℕ) (bytes : List ℕ) → IsBytes (b ∷ bytes) → IsBytes bytes
+IsBytes-rest b bytes h i = h (suc i)
 
 -- tests
 pub eqb-false : (a b : ℕ) → eqb a b ≡ false → a ≢ b
@@ -36,6 +39,24 @@ int_lt-false a b e = grind (arith, ints)
 
 pub int_le-lt : (a b : ℤ) → b ≤ℤ a → int_lt a b ≡ false
 int_le-lt a b h = grind (arith, ints)
+
+pub int_le-false : (a b : ℤ) → int_le a b ≡ false → b <ℤ a
+int_le-false a b e = grind (arith, ints)
+
+pub int_lt-le : (a b : ℤ) → b <ℤ a → int_le a b ≡ false
+int_lt-le a b h = grind (arith, ints)
+
+pub int_le-true : (a b : ℤ) → int_le a b ≡ true → a ≤ℤ b
+int_le-true a b e = grind (arith, ints)
+
+pub int_le-le : (a b : ℤ) → a ≤ℤ b → int_le a b ≡ true
+int_le-le a b h = grind (arith, ints)
+
+pub int_lt-true : (a b : ℤ) → int_lt a b ≡ true → a <ℤ b
+int_lt-true a b e = grind (arith, ints)
+
+pub int_lt-holds : (a b : ℤ) → a <ℤ b → int_lt a b ≡ true
+int_lt-holds a b h = grind (arith, ints)
 
 -- ---- numbers
 
@@ -124,6 +145,12 @@ module _ (size : ℕ) where
   pub u32_again : (x : ℕ) (rest : List ℕ) → x < 2 ^ 32 → number_at size 4 (u32_bytes x ++ rest) ≡ Ok (x, rest)
   u32_again = number_again size 4 u32_bytes (2 ^ 32) wide32
 
+  pub u16_takes : (bytes : List ℕ) → IsBytes bytes → Has (number_at size 2 bytes) (Spelled bytes u16_bytes (λ x. x < 2 ^ 16))
+  u16_takes = number_takes size 2 u16_bytes (2 ^ 16) wide16
+
+  pub u16_again : (x : ℕ) (rest : List ℕ) → x < 2 ^ 16 → number_at size 2 (u16_bytes x ++ rest) ≡ Ok (x, rest)
+  u16_again = number_again size 2 u16_bytes (2 ^ 16) wide16
+
   pub positive_takes : (limit : ℕ) (bytes : List ℕ) → IsBytes bytes → Has (positive_at size limit bytes) (Spelled bytes u32_bytes (λ x. (1 ≤ x) × (x ≤ limit)))
   unfolding positive_at
   positive_takes limit bytes fits =
@@ -148,16 +175,20 @@ module _ (size : ℕ) where
   unfolding at_most_at
   at_most_again most x rest lt le = step _ (u32_again x rest lt) (rw (le-ltb _ _ le) refl)
 
-  pub none_takes : (limit : ℕ) (bytes : List ℕ) → IsBytes bytes → Has (none_at size limit bytes) (Spelled bytes u32_bytes (λ x. x ≡ 0))
-  unfolding none_at
-  none_takes limit bytes fits =
-      has_then _ _ (limited_takes size 4 u32_bytes (2 ^ 32) wide32 limit bytes fits) (λ x h.
-      has_if (eqb x.0 0) (fault RANGE (place size bytes)) (Ok x) (λ none.
-      has_ok x (record { parts = h.parts; rest_fits = h.rest_fits; keeps = eqb-true _ _ none })))
+  -- an offset in the code that isn't its first
+  pub in_code_takes : (code_len : ℕ) (bytes : List ℕ) → IsBytes bytes → Has (in_code_at size code_len bytes) (Spelled bytes u32_bytes (λ n. (1 ≤ n) × (n < code_len)))
+  unfolding in_code_at
+  in_code_takes code_len bytes fits =
+      has_then _ _ (u32_takes bytes fits) (λ n h.
+      has_unless (eqb n.0 0) (fault RANGE (place size bytes)) (cond (ltb n.0 code_len) (Ok n) (Err (fault RANGE (place size bytes)))) (λ some.
+      has_if (ltb n.0 code_len) (fault RANGE (place size bytes)) (Ok n) (λ inside.
+      has_ok n (record { parts = h.parts; rest_fits = h.rest_fits; keeps = (let differ : n.0 ≢ 0 = eqb-false _ _ some in omega arith, ltb-true _ _ inside) }))))
 
-  pub none_again : (limit : ℕ) (rest : List ℕ) → none_at size limit (u32_bytes 0 ++ rest) ≡ Ok (0, rest)
-  unfolding none_at
-  none_again limit rest = step _ (limited_again size 4 u32_bytes (2 ^ 32) wide32 limit 0 rest (omega arith) (omega arith)) refl
+  pub in_code_again : (code_len n : ℕ) (rest : List ℕ) → n < 2 ^ 32 → 1 ≤ n → n < code_len → in_code_at size code_len (u32_bytes n ++ rest) ≡ Ok (n, rest)
+  unfolding in_code_at
+  in_code_again code_len n rest fits some inside =
+      let differ : n ≢ 0 = omega arith in
+      step _ (u32_again n rest fits) (rw (eqb-differ _ _ differ, lt-ltb _ _ inside) refl)
 
   -- ---- signed words
 
@@ -174,6 +205,30 @@ module _ (size : ℕ) where
   int_again z rest fits =
       let lt : cast_unsigned w32 z < 2 ^ 32 = omega (arith, ints) in
       step _ (u32_again (cast_unsigned w32 z) rest lt) (rw (to_z-of_z w32 z fits) refl)
+
+  -- the numbers of a word from lo to hi
+  hi_takes : (lo : ℤ) (bytes : List ℕ) → IsBytes bytes → Has (hi_at size lo bytes) (Spelled bytes i32_bytes (λ hi. FitsSigned w32 hi × (lo ≤ℤ hi)))
+  unfolding hi_at
+  hi_takes lo bytes fits =
+      has_then _ _ (int_takes bytes fits) (λ hi h.
+      has_unless (int_lt hi.0 lo) (fault RANGE (place size bytes)) (Ok hi) (λ ordered.
+      has_ok hi (record { parts = h.parts; rest_fits = h.rest_fits; keeps = (h.keeps, int_lt-false _ _ ordered) })))
+
+  pub interval_takes : (bytes : List ℕ) → IsBytes bytes → Has (interval_at size bytes) (Spelled bytes (λ r. i32_bytes r.0 ++ i32_bytes r.1) (λ r. IsInterval r.0 r.1))
+  unfolding interval_at
+  interval_takes bytes fits =
+      has_then _ _ (int_takes bytes fits) (λ lo h.
+      has_then _ _ (hi_takes lo.0 lo.1 h.rest_fits) (λ hi g.
+      has_ok ((lo.0, hi.0), hi.1) (record {
+        parts = join (i32_bytes lo.0) (i32_bytes hi.0) hi.1 h.parts g.parts;
+        rest_fits = g.rest_fits;
+        keeps = record { lo_fits = h.keeps; hi_fits = g.keeps.0; ordered = g.keeps.1 };
+      })))
+
+  pub interval_again : (lo hi : ℤ) (rest : List ℕ) → IsInterval lo hi → interval_at size (i32_bytes lo ++ (i32_bytes hi ++ rest)) ≡ Ok ((lo, hi), rest)
+  unfolding interval_at hi_at
+  interval_again lo hi rest h =
+      step _ (int_again lo (i32_bytes hi ++ rest) h.lo_fits) (step _ (step _ (int_again hi rest h.hi_fits) (rw (int_le-lt _ _ h.ordered) refl)) refl)
 
 -- ---- runs of bytes
 
@@ -193,3 +248,9 @@ module _ (size : ℕ) where
   bytes_again run rest =
       let long : ltb (length (run ++ rest)) (length run) ≡ false = le-ltb _ _ (omega (arith, length-append run rest)) in
       rw (long, take_at run rest (length run) refl, drop_at run rest (length run) refl) refl
+
+  -- one byte
+  pub byte_takes : (bytes : List ℕ) → IsBytes bytes → Has (byte_at size bytes) (Spelled bytes (λ b. b ∷ []) (λ b. b < 256))
+  unfolding byte_at
+  byte_takes [] fits = has_err (fault TRUNCATED size)
+  byte_takes (b ∷ bytes) fits = has_ok (b, bytes) (record { parts = refl; rest_fits = IsBytes-rest b bytes fits; keeps = fits 0 })

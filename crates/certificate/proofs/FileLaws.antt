@@ -1,200 +1,291 @@
--- The laws of the whole file: what is read is the file of what it says, and the file of contents that
+-- The laws of reading a file: what is read is the file of what it says, and the file of contents that
 -- keep the rules is read.
-use Rattle.std.proofs.Common.{◌≡◌, ℕ, ◌<◌, ◌≤◌, ◌^◌, Bool, false, eqb, List, [], ◌++◌, length, drop, Result, Ok, Err, refl, sym, ap, subst, ◌∙◌, append_assoc, arith}
-use Rattle.std.specs.Prelude.{nat_eq}
-use Rattle.std.specs.List.{flat_map, starts_with, AllByRecursion}
+use Rattle.std.proofs.Common.{◌≡◌, ℕ, ◌+◌, ◌*◌, ◌<◌, ◌≤◌, ◌^◌, Bool, eqb, List, [], ◌++◌, length, Result, Ok, Err, refl, sym, ap, ◌∙◌, append_assoc, arith}
+use Rattle.std.specs.List.{flat_map}
 use Rattle.std.proofs.lemmas.Bool.{eqb-true}
-use Rattle.std.proofs.lemmas.Bool.Decides.{Decides-eqb}
-use Rattle.std.proofs.lemmas.List.{append-nil, nil_from_length}
-use Rattle.std.proofs.lemmas.Slice.Eq.{starts_is}
+use Rattle.std.proofs.lemmas.List.{append-nil, length-append, nil_from_length}
+use Rattle.std.proofs.lemmas.List.Elements.{All-from_recursion}
+use Rattle.std.proofs.lemmas.List.Sums.{sum_by-le}
 use Rattle.certificate.specs.declared.fault.FormatFault.{FormatFault}
-use Rattle.certificate.specs.declared.fault.TheConstants.{MAGIC, LEFT_OVER}
-use Rattle.certificate.specs.declared.limits.TheConstants.{MAX_LABELS}
-use Rattle.certificate.specs.declared.reading.header.Sizes.{Sizes}
-use Rattle.certificate.specs.declared.tables.Version.{Version}
+use Rattle.certificate.specs.declared.fault.TheConstants.{LEFT_OVER}
+use Rattle.certificate.specs.declared.limits.TheConstants.{MAX_BRANCHES}
+use Rattle.certificate.specs.declared.reading.header.Header.{Header}
 use Rattle.certificate.specs.declared.rows.TableRow.{TableRow}
-use Rattle.certificate.specs.Contents.{Procedure, Label, Par, Contents}
-use Rattle.certificate.specs.Keeping.{IsBytes, LabelFits, IsReadToday, SizesKeep, BoundsKeep, Keeps, Format}
-use Rattle.certificate.specs.Spelling.{u32_bytes, label_bytes, magic_one, header_bytes, rows_bytes, file_of}
-use Rattle.certificate.specs.Reading.{fault, place, magic_at, label_rows_at, ended_at, contents_from, body_at, read_contents}
-use Rattle.certificate.proofs.Tools.{Has, has_ok, has_then, has_if, step, join}
-use Rattle.certificate.proofs.FieldLaws.{IsBytes-drop, bytes_take, bytes_again}
+use Rattle.certificate.specs.declared.tables.Version.{Version}
+use Rattle.certificate.specs.declared.tables.Version.TheVariants as versions
+use Rattle.certificate.specs.Order.{IsBytes}
+use Rattle.certificate.specs.Contents.{Contents}
+use Rattle.certificate.specs.Contexts.{branch_count, first_branch, HasFewContexts}
+use Rattle.certificate.specs.Pars.{ParKeeps, behind_par, no_branches}
+use Rattle.certificate.specs.Keeping.{VersionKeeps, SizesKeep, BoundsKeep, LimitsKeep, RowsKeep, NamesAreThere, Keeps, Format}
+use Rattle.certificate.specs.Spelling.{procedure_bytes, label_bytes, par_bytes, table_row_bytes, header_bytes, rows_bytes, file_of}
+use Rattle.certificate.specs.Reading.{fault, place}
+use Rattle.certificate.specs.ReadingRows.{table_rows_at}
+use Rattle.certificate.specs.ReadingFile.{header_at, contents_from, ended_at, tables_at, read_contents}
+use Rattle.certificate.proofs.Tools.{Has, has_ok, has_then, has_if, has_at, step, join}
+use Rattle.certificate.proofs.OrderLaws.{each}
+use Rattle.certificate.proofs.FieldLaws.{bytes_take, bytes_again}
 use Rattle.certificate.proofs.RowLaws.{labels_take, labels_again}
-use Rattle.certificate.proofs.LateLaws.{labels_fit, labels_pass}
-use Rattle.certificate.proofs.HeaderLaws.{sizes_bytes, HeaderKeeps, sizes_take, sizes_again, AreLengths, lengths_take, lengths_again, counts_take, counts_again}
-
--- ---- the magic
-
-record HasMagic (bytes rest : List ℕ) : Type 0 where
-  parts : bytes ≡ magic_one ++ rest
-  rest_fits : IsBytes rest
-
-magic_takes : (bytes : List ℕ) → IsBytes bytes → Has (magic_at bytes) (HasMagic bytes)
-unfolding magic_at
-magic_takes bytes fits =
-    has_if (starts_with nat_eq bytes magic_one) (fault MAGIC 0) (Ok (drop 4 bytes)) (λ begins.
-    let parts : bytes ≡ magic_one ++ drop 4 bytes = (starts_is Decides-eqb bytes magic_one (starts_with nat_eq bytes magic_one) refl).0 begins in
-    has_ok (drop 4 bytes) (record { parts = parts; rest_fits = IsBytes-drop 4 bytes fits }))
-
-magic_again : (rest : List ℕ) → magic_at (magic_one ++ rest) ≡ Ok rest
-unfolding magic_at
-magic_again rest = refl
+use Rattle.certificate.proofs.ProcedureLaws.{procedures_take, procedures_again, tables_take as table_rows_take, tables_again as table_rows_again}
+use Rattle.certificate.proofs.ParLaws.{pars_take, pars_again}
+use Rattle.certificate.proofs.LateLaws.{late_fits, late_passes}
+use Rattle.certificate.proofs.HeaderLaws.{sizes_bytes, max_code_small, FlagFits, head_bytes, HeaderFits, header_takes, header_again}
 
 -- ---- the end
 
-ended_takes : (size at : ℕ) (c : Contents) (rest : List ℕ) {Q : Contents → Type 0} → (AllByRecursion (LabelFits c) c.labels → rest ≡ [] → Q c) → Has (ended_at size at c rest) Q
+ended_takes : (size at : ℕ) (c : Contents) (rest : List ℕ) {Q : Contents → Type 0} → (NamesAreThere c → rest ≡ [] → Q c) → Has (ended_at size at c rest) Q
 unfolding ended_at
 ended_takes size at c rest h =
-    has_then _ _ (labels_fit c label_bytes at c.labels) (λ u fits.
+    has_then _ _ (late_fits at c) (λ u there.
     has_if (eqb (length rest) 0) (fault LEFT_OVER (place size rest)) (Ok c) (λ none.
-    has_ok c (h fits (nil_from_length rest (eqb-true _ _ none)))))
+    has_ok c (h there (nil_from_length rest (eqb-true _ _ none)))))
 
-ended_again : (size at : ℕ) (c : Contents) → AllByRecursion (LabelFits c) c.labels → ended_at size at c [] ≡ Ok c
+ended_again : (size at : ℕ) (c : Contents) → NamesAreThere c → ended_at size at c [] ≡ Ok c
 unfolding ended_at
-ended_again size at c fits = step _ (labels_pass c label_bytes at c.labels fits) refl
+ended_again size at c there = step _ (late_passes at c there) refl
+
+-- ---- the code, the constants and the rows
+
+-- contents with what the header says
+pub record IsFrom (h : Header) (c : Contents) : Type 0 where
+  pub made : c ≡ contents_from h c.code c.constants c.procedures c.labels c.pars c.table_rows
+  pub code : length c.code ≡ h.sizes.code_len
+  pub constants : length c.constants ≡ h.sizes.const_len
+  pub procedures : length c.procedures ≡ h.counts.procedures
+  pub labels : length c.labels ≡ h.counts.labels
+  pub pars : length c.pars ≡ h.counts.pars
+  pub table_rows : length c.table_rows ≡ h.counts.table_rows
+  pub code_bytes : IsBytes c.code
+  pub constant_bytes : IsBytes c.constants
+  pub rows : RowsKeep c
+
+-- what stands behind the header, and where its label rows begin
+pub record IsTables (size : ℕ) (h : Header) (bytes : List ℕ) (t : (Contents × ℕ) × List ℕ) : Type 0 where
+  pub parts : bytes ≡ (t.0.0.code ++ t.0.0.constants ++ rows_bytes t.0.0) ++ t.1
+  pub from : IsFrom h t.0.0
+  pub inside : length bytes ≤ size → t.0.1 + length (flat_map label_bytes t.0.0.labels) + length (flat_map par_bytes t.0.0.pars) ≤ size
+
+-- where the label rows begin, and all that stands in front of them, behind them and between
+rows_inside : (size : ℕ) (bytes front labels pars behind rest last : List ℕ) → bytes ≡ front ++ behind → behind ≡ labels ++ rest → rest ≡ pars ++ last
+    → length bytes ≤ size → place size behind + length labels + length pars ≤ size
+rows_inside size bytes front labels pars behind rest last p q r fits =
+    let whole : length bytes ≡ length front + length behind = ap length p ∙ length-append front behind in
+    let most : length behind ≡ length labels + length rest = ap length q ∙ length-append labels rest in
+    let less : length rest ≡ length pars + length last = ap length r ∙ length-append pars last in
+    omega arith
+
+pub tables_take : (size : ℕ) (h : Header) (bytes : List ℕ) → IsBytes bytes → Has (tables_at size h bytes) (IsTables size h bytes)
+unfolding tables_at rows_bytes
+tables_take size h bytes fits =
+    has_then _ _ (bytes_take size h.sizes.code_len bytes fits) (λ x0 h0.
+    has_then _ _ (bytes_take size h.sizes.const_len x0.1 h0.rest_fits) (λ x1 h1.
+    has_then _ _ (procedures_take size h.version h.sizes.code_len h.counts.procedures x1.1 h1.rest_fits) (λ x2 h2.
+    has_then _ _ (labels_take size h.sizes.code_len x2.0 h.counts.labels x2.1 h2.rest_fits) (λ x3 h3.
+    has_then _ _ (pars_take size (1 + length x2.0) h.sizes.code_len h.counts.pars x3.1 h3.rest_fits) (λ x4 h4.
+    has_then _ _ (table_rows_take size x1.0 h.counts.table_rows x4.1 h4.rest_fits) (λ x5 h5.
+    let c = contents_from h x0.0 x1.0 x2.0 x3.0 x4.0 x5.0 in
+    let rows : RowsKeep c = record {
+      procedures = rw h0.keeps.0 h2.keeps.1;
+      labels = rw h0.keeps.0 h3.keeps.1;
+      pars = rw h0.keeps.0 h4.keeps.1;
+      table_rows = h5.keeps.1;
+    } in
+    let from : IsFrom h c = record {
+      made = refl;
+      code = h0.keeps.0;
+      constants = h1.keeps.0;
+      procedures = h2.keeps.0;
+      labels = h3.keeps.0;
+      pars = h4.keeps.0;
+      table_rows = h5.keeps.0;
+      code_bytes = h0.keeps.1;
+      constant_bytes = h1.keeps.1;
+      rows = rows;
+    } in
+    let procedures = flat_map (procedure_bytes h.version) x2.0 in
+    let labels = flat_map label_bytes x3.0 in
+    let pars = flat_map par_bytes x4.0 in
+    let table_rows = flat_map table_row_bytes x5.0 in
+    let j1 = join x0.0 x1.0 x1.1 h0.parts h1.parts in
+    let j2 = join (x0.0 ++ x1.0) procedures x2.1 j1 h2.parts in
+    let j3 = join (x0.0 ++ x1.0 ++ procedures) labels x3.1 j2 h3.parts in
+    let j4 = join (x0.0 ++ x1.0 ++ procedures ++ labels) pars x4.1 j3 h4.parts in
+    let j5 = join (x0.0 ++ x1.0 ++ procedures ++ labels ++ pars) table_rows x5.1 j4 h5.parts in
+    let regrouped : x0.0 ++ x1.0 ++ procedures ++ labels ++ pars ++ table_rows ≡ x0.0 ++ x1.0 ++ rows_bytes c = simp append_assoc in
+    let parts : bytes ≡ (x0.0 ++ x1.0 ++ rows_bytes c) ++ x5.1 = j5 ∙ ap (λ (t : List ℕ). t ++ x5.1) regrouped in
+    has_ok ((c, place size x2.1), x5.1) (record {
+      parts = parts;
+      from = from;
+      inside = rows_inside size bytes (x0.0 ++ x1.0 ++ procedures) labels pars x2.1 x3.1 x4.1 j2 h3.parts h4.parts;
+    })))))))
+
+-- ---- contexts
+
+pub few_contexts : (c : Contents) → LimitsKeep c → RowsKeep c → HasFewContexts c
+few_contexts c l r =
+    let few = each (ParKeeps (first_branch c) (length c.code)) behind_par (λ row. length row.branches ≤ MAX_BRANCHES) (λ low row h. h.branch_limit) no_branches c.pars r.pars in
+    let most : branch_count c.pars ≤ length c.pars * MAX_BRANCHES = sum_by-le (λ row. length row.branches) MAX_BRANCHES c.pars (All-from_recursion _ c.pars few) in
+    omega (arith, most, l.procedures, l.pars)
 
 -- ---- what is read is the file of what it says
 
--- the header of contents that were read
-header_is : (sizes : Sizes) (lengths code constants : List ℕ) (labels : List Label) (count : ℕ) → length code ≡ sizes.code_len → length constants ≡ sizes.const_len → length labels ≡ count
-    → (sizes_bytes sizes ++ flat_map u32_bytes lengths) ++ (u32_bytes 0 ++ u32_bytes count ++ u32_bytes 0) ≡ header_bytes (contents_from sizes lengths code constants labels)
-unfolding sizes_bytes header_bytes
-header_is sizes lengths code constants labels count e0 e1 e2 = rw (e0, e1, e2) (simp append_assoc)
+version_keeps : (version : Version) (flag : Bool) (rows : List TableRow) {count : ℕ} → length rows ≡ count → FlagFits version flag count → VersionKeeps version flag rows
+version_keeps versions.One flag rows e h = (h.0, nil_from_length rows (e ∙ h.1))
+version_keeps versions.Two flag rows e h = tt
 
--- and its rows
-rows_are : (sizes : Sizes) (lengths code constants : List ℕ) (labels : List Label) → flat_map label_bytes labels ≡ rows_bytes (contents_from sizes lengths code constants labels)
-unfolding rows_bytes
-rows_are sizes lengths code constants labels = simp append-nil
+flag_fits : (version : Version) (flag : Bool) (rows : List TableRow) → VersionKeeps version flag rows → FlagFits version flag (length rows)
+flag_fits versions.One flag rows h = (h.0, ap length h.1)
+flag_fits versions.Two flag rows h = tt
 
-sizes_keep : (sizes : Sizes) (lengths code constants : List ℕ) (labels : List Label) → length code ≡ sizes.code_len → length constants ≡ sizes.const_len
-    → HeaderKeeps sizes → SizesKeep (contents_from sizes lengths code constants labels)
-sizes_keep sizes lengths code constants labels e0 e1 s = record {
-  has_code = rw e0 s.has_code;
-  code_limit = rw e0 s.code_limit;
-  constants_limit = rw e1 s.constants_limit;
-  has_data = s.has_data;
-  data_limit = s.data_limit;
-  base = s.base;
+module _ (h : Header) (c : Contents) (f : HeaderFits h) (e : IsFrom h c) where
+  abbrev version_is : c.version ≡ h.version
+  version_is = ap (λ (d : Contents). d.version) e.made
+
+  -- the numbers of rows are within their limits
+  pub limits_keep : LimitsKeep c
+  limits_keep = record {
+    procedures = rw e.procedures f.counts.procedures;
+    labels = rw e.labels f.counts.labels;
+    pars = rw e.pars f.counts.pars;
+    table_rows = rw e.table_rows f.counts.table_rows;
+  }
+
+  sizes_keep : SizesKeep c
+  sizes_keep =
+      let words : c.data_words ≡ h.sizes.data_words = ap (λ (d : Contents). d.data_words) e.made in
+      let base : c.base ≡ h.sizes.base = ap (λ (d : Contents). d.base) e.made in
+      record {
+        has_code = rw e.code f.sizes.has_code;
+        code_limit = rw (e.code, version_is) f.sizes.code_limit;
+        constants_limit = rw e.constants f.sizes.constants_limit;
+        has_data = rw words f.sizes.has_data;
+        data_limit = rw words f.sizes.data_limit;
+        base = rw (base, words) f.sizes.base;
+      }
+
+  bounds_keep : BoundsKeep c
+  bounds_keep =
+      let budget : c.budget ≡ h.sizes.budget = ap (λ (d : Contents). d.budget) e.made in
+      let finish : c.finish ≡ h.sizes.finish = ap (λ (d : Contents). d.finish) e.made in
+      let lengths : c.lengths ≡ h.lengths = ap (λ (d : Contents). d.lengths) e.made in
+      record {
+        budget = rw budget f.sizes.budget;
+        finish = rw (finish, e.code) f.sizes.finish;
+        eight = rw lengths f.lengths.eight;
+        lengths = rw lengths f.lengths.limit;
+      }
+
+  all_keeps : NamesAreThere c → Keeps c
+  all_keeps there =
+      let flag : c.has_long_operations ≡ h.counts.has_long_operations = ap (λ (d : Contents). d.has_long_operations) e.made in
+      record {
+        version = rw (version_is, flag) (version_keeps h.version h.counts.has_long_operations c.table_rows e.table_rows f.counts.flag);
+        sizes = sizes_keep;
+        bounds = bounds_keep;
+        limits = limits_keep;
+        code_bytes = e.code_bytes;
+        constant_bytes = e.constant_bytes;
+        rows = e.rows;
+        names = there;
+      }
+
+-- what the late look asks of rows that were read: they lie in the file, and their contexts can be counted
+pub rows_ready : (bytes : List ℕ) → IsBytes bytes → {h : Header × List ℕ} {t : (Contents × ℕ) × List ℕ} → header_at bytes ≡ Ok h → tables_at (length bytes) h.0 h.1 ≡ Ok t
+    → (t.0.1 + length (flat_map label_bytes t.0.0.labels) + length (flat_map par_bytes t.0.0.pars) ≤ length bytes) × HasFewContexts t.0.0
+rows_ready bytes fits {h} {t} p q =
+    let f = has_at (header_at bytes) h (header_takes bytes fits) p in
+    let g = has_at (tables_at (length bytes) h.0 h.1) t (tables_take (length bytes) h.0 h.1 f.rest_fits) q in
+    let whole : length bytes ≡ length (head_bytes h.0) + length h.1 = ap length f.parts ∙ length-append (head_bytes h.0) h.1 in
+    (g.inside (omega arith), few_contexts t.0.0 (limits_keep h.0 t.0.0 f.keeps g.from) g.from.rows)
+
+-- the header of these contents
+header_of : Contents → Header
+header_of c = record {
+  version = c.version;
+  sizes = record { code_len = length c.code; const_len = length c.constants; data_words = c.data_words; base = c.base; budget = c.budget; finish = c.finish };
+  lengths = c.lengths;
+  counts = record { procedures = length c.procedures; labels = length c.labels; pars = length c.pars; has_long_operations = c.has_long_operations; table_rows = length c.table_rows };
 }
 
-bounds_keep : (sizes : Sizes) (lengths code constants : List ℕ) (labels : List Label) (count : ℕ) → length code ≡ sizes.code_len → length labels ≡ count
-    → HeaderKeeps sizes → AreLengths lengths → count ≤ MAX_LABELS → BoundsKeep (contents_from sizes lengths code constants labels)
-bounds_keep sizes lengths code constants labels count e0 e2 s l n = record {
-  budget = s.budget;
-  finish = rw e0 s.finish;
-  eight = l.eight;
-  lengths = l.limit;
-  label_limit = rw e2 n;
+-- a header with these lengths
+with_lengths : Header → ℕ → ℕ → ℕ → ℕ → ℕ → ℕ → Header
+with_lengths h code constants procedures labels pars table_rows = record {
+  version = h.version;
+  sizes = record { code_len = code; const_len = constants; data_words = h.sizes.data_words; base = h.sizes.base; budget = h.sizes.budget; finish = h.sizes.finish };
+  lengths = h.lengths;
+  counts = record { procedures = procedures; labels = labels; pars = pars; has_long_operations = h.counts.has_long_operations; table_rows = table_rows };
 }
 
-abbrev pub of_today : (sizes : Sizes) (lengths code constants : List ℕ) (labels : List Label) → IsReadToday (contents_from sizes lengths code constants labels)
-of_today sizes lengths code constants labels = record { version = refl; flag = refl; procedures = refl; pars = refl; table_rows = refl }
+header_is : (h : Header) (c : Contents) → IsFrom h c → header_of c ≡ h
+unfolding header_of with_lengths
+header_is h c e =
+    let same : with_lengths h (length c.code) (length c.constants) (length c.procedures) (length c.labels) (length c.pars) (length c.table_rows) ≡ h =
+    rw (e.code, e.constants, e.procedures, e.labels, e.pars, e.table_rows) refl in
+    ap header_of e.made ∙ same
+
+file_regrouped : (c : Contents) → file_of c ≡ head_bytes (header_of c) ++ (c.code ++ c.constants ++ rows_bytes c)
+unfolding header_of file_of header_bytes sizes_bytes head_bytes
+file_regrouped c = simp append_assoc
 
 pub read_finds : (bytes : List ℕ) → IsBytes bytes → Has (read_contents bytes) (Format bytes)
-unfolding read_contents body_at file_of
+unfolding read_contents
 read_finds bytes fits =
     let size = length bytes in
-    has_then _ _ (magic_takes bytes fits) (λ r0 m.
-    has_then _ _ (sizes_take size r0 m.rest_fits) (λ s hs.
-    has_then _ _ (lengths_take size s.1 hs.rest_fits) (λ l hl.
-    has_then _ _ (counts_take size l.1 hl.rest_fits) (λ n hn.
-    has_then _ _ (bytes_take size s.0.code_len n.1 hn.rest_fits) (λ code hcode.
-    has_then _ _ (bytes_take size s.0.const_len code.1 hcode.rest_fits) (λ constants hconst.
-    has_then _ _ (labels_take size s.0.code_len [] n.0 constants.1 hconst.rest_fits) (λ labels hlabels.
-    let c = contents_from s.0 l.0 code.0 constants.0 labels.0 in
-    ended_takes size (place size constants.1) c labels.1 (λ fit none.
-    let e0 = hcode.keeps.0 in
-    let e1 = hconst.keeps.0 in
-    let e2 = hlabels.keeps.0 in
-    let front = join (sizes_bytes s.0) (flat_map u32_bytes l.0) l.1 hs.parts hl.parts in
-    let counted = join (sizes_bytes s.0 ++ flat_map u32_bytes l.0) (u32_bytes 0 ++ u32_bytes n.0 ++ u32_bytes 0) n.1 front hn.parts in
-    let header : r0 ≡ header_bytes c ++ n.1 = counted ∙ ap (λ (t : List ℕ). t ++ n.1) (header_is s.0 l.0 code.0 constants.0 labels.0 n.0 e0 e1 e2) in
-    let j0 = join magic_one (header_bytes c) n.1 m.parts header in
-    let j00 : bytes ≡ ((magic_one ++ header_bytes c) ++ []) ++ n.1 = join (magic_one ++ header_bytes c) [] n.1 j0 refl in
-    let j1 = join (magic_one ++ header_bytes c ++ []) code.0 code.1 j00 hcode.parts in
-    let j2 = join (magic_one ++ header_bytes c ++ [] ++ code.0) constants.0 constants.1 j1 hconst.parts in
-    let rows : constants.1 ≡ rows_bytes c ++ labels.1 = hlabels.parts ∙ ap (λ (t : List ℕ). t ++ labels.1) (rows_are s.0 l.0 code.0 constants.0 labels.0) in
-    let j3 = join (magic_one ++ header_bytes c ++ [] ++ code.0 ++ constants.0) (rows_bytes c) labels.1 j2 rows in
-    let spelled : bytes ≡ file_of c = j3 ∙ ap (λ (t : List ℕ). file_of c ++ t) none ∙ append-nil (file_of c) in
-    let kept : Keeps c = record {
-      today = of_today s.0 l.0 code.0 constants.0 labels.0;
-      sizes = sizes_keep s.0 l.0 code.0 constants.0 labels.0 e0 e1 hs.keeps;
-      bounds = bounds_keep s.0 l.0 code.0 constants.0 labels.0 n.0 e0 e2 hs.keeps hl.keeps hn.keeps;
-      code_bytes = hcode.keeps.1;
-      constant_bytes = hconst.keeps.1;
-      labels = rw e0 hlabels.keeps.1;
-      fits = fit;
-    } in
-    let whole : Format bytes c = record { spelled = spelled; keeps = kept } in
-    whole))))))))
+    has_then _ _ (header_takes bytes fits) (λ h f.
+    has_then _ _ (tables_take size h.0 h.1 f.rest_fits) (λ t g.
+    let c = t.0.0 in
+    ended_takes size t.0.1 c t.1 (λ there none.
+    let body = c.code ++ c.constants ++ rows_bytes c in
+    let j1 : bytes ≡ (head_bytes h.0 ++ body) ++ t.1 = join (head_bytes h.0) body t.1 f.parts g.parts in
+    let j2 : bytes ≡ head_bytes h.0 ++ body = j1 ∙ ap (λ (r : List ℕ). (head_bytes h.0 ++ body) ++ r) none ∙ append-nil (head_bytes h.0 ++ body) in
+    let spelled : bytes ≡ file_of c = j2 ∙ ap (λ (x : Header). head_bytes x ++ body) (sym (header_is h.0 c g.from)) ∙ sym (file_regrouped c) in
+    let whole : Format bytes c = record { spelled = spelled; keeps = all_keeps h.0 c f.keeps g.from there } in
+    whole)))
 
 -- ---- the file of contents that keep the rules is read
 
--- the header's first fields
-sizes_of : Contents → Sizes
-sizes_of c = record { code_len = length c.code; const_len = length c.constants; data_words = c.data_words; base = c.base; budget = c.budget; finish = c.finish }
-
--- the contents with what is read today
-plain : Contents → Contents
-plain c = contents_from (sizes_of c) c.lengths c.code c.constants c.labels
-
-plain_is : (c : Contents) → IsReadToday c → plain c ≡ c
-unfolding plain sizes_of
-plain_is c t =
-    let Made : Version → Bool → List Procedure → List Par → List TableRow → Contents = λ v b ps qs ts. record {
-      version = v;
-      code = c.code;
-      constants = c.constants;
-      data_words = c.data_words;
-      base = c.base;
-      budget = c.budget;
-      finish = c.finish;
-      lengths = c.lengths;
-      has_long_operations = b;
-      procedures = ps;
-      labels = c.labels;
-      pars = qs;
-      table_rows = ts;
-    } in
-    ap (λ (v : Version). Made v false [] [] []) (sym t.version) ∙ ap (λ (b : Bool). Made c.version b [] [] []) (sym t.flag)
-    ∙ ap (λ (ps : List Procedure). Made c.version c.has_long_operations ps [] []) (sym t.procedures)
-    ∙ ap (λ (qs : List Par). Made c.version c.has_long_operations c.procedures qs []) (sym t.pars)
-    ∙ ap (λ (ts : List TableRow). Made c.version c.has_long_operations c.procedures c.pars ts) (sym t.table_rows)
-
-file_regrouped : (c : Contents) → file_of (plain c) ≡ magic_one ++ (sizes_bytes (sizes_of c) ++ (flat_map u32_bytes c.lengths ++ (u32_bytes 0 ++ (u32_bytes (length c.labels) ++ (u32_bytes 0 ++ (c.code ++ (c.constants ++ flat_map label_bytes c.labels)))))))
-unfolding plain sizes_of file_of header_bytes rows_bytes sizes_bytes
-file_regrouped c = simp (append_assoc, append-nil)
-
-plain_again : (c : Contents) → Keeps (plain c) → read_contents (file_of (plain c)) ≡ Ok (plain c)
-unfolding plain sizes_of read_contents body_at file_of header_bytes rows_bytes
-plain_again c k =
-    let size = length (file_of (plain c)) in
+header_fits : (c : Contents) → Keeps c → HeaderFits (header_of c)
+unfolding header_of
+header_fits c k =
     let h = k.sizes in
     let g = k.bounds in
-    let t6 = flat_map label_bytes c.labels in
-    let t5 = c.constants ++ t6 in
-    let t4 = c.code ++ t5 in
-    let t3 = u32_bytes 0 ++ (u32_bytes (length c.labels) ++ (u32_bytes 0 ++ t4)) in
-    let t2 = flat_map u32_bytes c.lengths ++ t3 in
-    let t1 = sizes_bytes (sizes_of c) ++ t2 in
-    let regrouped : file_of (plain c) ≡ magic_one ++ t1 = file_regrouped c in
-    let kept : HeaderKeeps (sizes_of c) = record { has_code = h.has_code; code_limit = h.code_limit; constants_limit = h.constants_limit; has_data = h.has_data; data_limit = h.data_limit; base = h.base; budget = g.budget; finish = g.finish } in
-    let eight : AreLengths c.lengths = record { eight = g.eight; limit = g.lengths } in
-    let small : length c.code < 2 ^ 32 = let a = h.code_limit in omega arith in
-    let labels : label_rows_at size (length c.code) [] (length c.labels) t6 ≡ Ok (c.labels, []) =
-    ap (label_rows_at size (length c.code) [] (length c.labels)) (sym (append-nil t6)) ∙ labels_again size (length c.code) [] small c.labels [] k.labels in
-    step _ (ap magic_at regrouped ∙ magic_again t1)
-    (step _ (sizes_again size (sizes_of c) t2 kept)
-    (step _ (lengths_again size c.lengths t3 eight)
-    (step _ (counts_again size (length c.labels) t4 g.label_limit)
-    (step _ (bytes_again size c.code t5)
-    (step _ (bytes_again size c.constants t6)
-    (step _ labels (ended_again size (place size t6) (plain c) k.fits)))))))
+    let l = k.limits in
+    record {
+      sizes = record { has_code = h.has_code; code_limit = h.code_limit; constants_limit = h.constants_limit; has_data = h.has_data; data_limit = h.data_limit; base = h.base; budget = g.budget; finish = g.finish };
+      lengths = record { eight = g.eight; limit = g.lengths };
+      counts = record { procedures = l.procedures; labels = l.labels; pars = l.pars; table_rows = l.table_rows; flag = flag_fits c.version c.has_long_operations c.table_rows k.version };
+    }
+
+read_body : (size : ℕ) (c : Contents) → Keeps c
+    → tables_at size (header_of c) (c.code ++ c.constants ++ rows_bytes c) ≡ Ok ((c, place size (flat_map label_bytes c.labels ++ (flat_map par_bytes c.pars ++ flat_map table_row_bytes c.table_rows))), [])
+unfolding tables_at header_of rows_bytes
+read_body size c k =
+    let code_len = length c.code in
+    let t4 = flat_map table_row_bytes c.table_rows in
+    let t3 = flat_map par_bytes c.pars ++ t4 in
+    let t2 = flat_map label_bytes c.labels ++ t3 in
+    let t1 = flat_map (procedure_bytes c.version) c.procedures ++ t2 in
+    let t0 = c.constants ++ t1 in
+    let regrouped : c.code ++ c.constants ++ rows_bytes c ≡ c.code ++ t0 = simp append_assoc in
+    let small : code_len < 2 ^ 32 = let a = k.sizes.code_limit in omega (arith, max_code_small c.version) in
+    let constants_small : length c.constants < 2 ^ 32 = let a = k.sizes.constants_limit in omega arith in
+    let table_rows : table_rows_at size c.constants (length c.table_rows) t4 ≡ Ok (c.table_rows, []) =
+    ap (table_rows_at size c.constants (length c.table_rows)) (sym (append-nil t4)) ∙ table_rows_again size c.constants constants_small c.table_rows [] k.rows.table_rows in
+    ap (tables_at size (header_of c)) regrouped
+    ∙ step _ (bytes_again size c.code t0)
+    (step _ (bytes_again size c.constants t1)
+    (step _ (procedures_again size c.version code_len small c.procedures t2 k.rows.procedures)
+    (step _ (labels_again size code_len c.procedures small c.labels t3 k.rows.labels)
+    (step _ (pars_again size (1 + length c.procedures) code_len small c.pars t4 k.rows.pars)
+    (step _ table_rows refl)))))
 
 pub read_again : (c : Contents) → Keeps c → read_contents (file_of c) ≡ Ok c
+unfolding read_contents
 read_again c k =
-    let same = plain_is c k.today in
-    subst (λ (d : Contents). read_contents (file_of d) ≡ Ok d) same (plain_again c (subst Keeps (sym same) k))
+    let size = length (file_of c) in
+    let body = c.code ++ c.constants ++ rows_bytes c in
+    step _ (ap header_at (file_regrouped c) ∙ header_again (header_of c) body (header_fits c k))
+    (step _ (read_body size c k) (ended_again size _ c k.names))
 
 -- ---- no second partner
 

@@ -4,7 +4,7 @@ use Rattle.std.specs.Prelude.{IfOk}
 use Rattle.std.specs.List.{flat_map}
 use Rattle.std.proofs.lemmas.List.Concat.{flat_map-cons}
 use Rattle.certificate.specs.declared.fault.FormatFault.{FormatFault}
-use Rattle.certificate.specs.Keeping.{IsBytes, InOrder}
+use Rattle.certificate.specs.Order.{IsBytes, InOrder}
 use Rattle.certificate.specs.Reading.{◌>>=◌, and_then, Read, list_at}
 
 -- what is known of a value that was given
@@ -60,15 +60,15 @@ pub record Spelled {A : Type 0} (bytes : List ℕ) (spelling : A → List ℕ) (
 pub join : (a b s : List ℕ) {bytes r : List ℕ} → bytes ≡ a ++ r → r ≡ b ++ s → bytes ≡ (a ++ b) ++ s
 join a b s p q = p ∙ ap (λ (t : List ℕ). a ++ t) q ∙ sym (append_assoc a b s)
 
-module _ {A S : Type 0} (item : S → List ℕ → Read A) (next : A → S) (spelling : A → List ℕ) (Keeps : S → A → Type 0) where
+module _ {A S : Type 0} (item : S → List ℕ → Read A) (next : S → A → S) (spelling : A → List ℕ) (Keeps : S → A → Type 0) where
   -- a list of what an item's reader takes
   pub list_takes : ((low : S) (bytes : List ℕ) → IsBytes bytes → Has (item low bytes) (Spelled bytes spelling (Keeps low)))
       → (n : ℕ) (low : S) (bytes : List ℕ) → IsBytes bytes → Has (list_at item next n low bytes) (Spelled bytes (flat_map spelling) (λ xs. (length xs ≡ n) × InOrder Keeps next low xs))
   unfolding list_at
   list_takes one zero low bytes fits = has_ok ([], bytes) (record { parts = refl; rest_fits = fits; keeps = (refl, tt) })
   list_takes one (suc n) low bytes fits =
-      has_then (item low bytes) (λ first. list_at item next n (next first.0) first.1 >>= λ others. Ok (first.0 ∷ others.0, others.1)) (one low bytes fits) (λ first h.
-      has_then (list_at item next n (next first.0) first.1) (λ others. Ok (first.0 ∷ others.0, others.1)) (list_takes one n (next first.0) first.1 h.rest_fits) (λ others g.
+      has_then (item low bytes) (λ first. list_at item next n (next low first.0) first.1 >>= λ others. Ok (first.0 ∷ others.0, others.1)) (one low bytes fits) (λ first h.
+      has_then (list_at item next n (next low first.0) first.1) (λ others. Ok (first.0 ∷ others.0, others.1)) (list_takes one n (next low first.0) first.1 h.rest_fits) (λ others g.
       has_ok (first.0 ∷ others.0, others.1) (record {
         parts = rw flat_map-cons (join (spelling first.0) (flat_map spelling others.0) others.1 h.parts g.parts);
         rest_fits = g.rest_fits;
@@ -82,4 +82,4 @@ module _ {A S : Type 0} (item : S → List ℕ → Read A) (next : A → S) (spe
   list_again one [] low rest h = refl
   list_again one (x ∷ xs) low rest h =
       let regrouped : flat_map spelling (x ∷ xs) ++ rest ≡ spelling x ++ (flat_map spelling xs ++ rest) = ap (λ (t : List ℕ). t ++ rest) (flat_map-cons spelling x xs) ∙ append_assoc (spelling x) (flat_map spelling xs) rest in
-      ap (list_at item next (suc (length xs)) low) regrouped ∙ step _ (one low x (flat_map spelling xs ++ rest) h.0) (step _ (list_again one xs (next x) rest h.1) refl)
+      ap (list_at item next (suc (length xs)) low) regrouped ∙ step _ (one low x (flat_map spelling xs ++ rest) h.0) (step _ (list_again one xs (next low x) rest h.1) refl)

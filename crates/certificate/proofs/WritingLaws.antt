@@ -1,47 +1,55 @@
 -- What writing needs of contents that keep the rules.
-use Rattle.std.proofs.Common.{◌≡◌, ℕ, ◌<◌, ◌^◌, List, [], ◌∷◌, ◌++◌, map, length, All, append_assoc, refl}
-use Rattle.std.specs.List.{AllByRecursion, flat_map}
-use Rattle.std.proofs.lemmas.List.{append-nil}
-use Rattle.certificate.specs.Spelling.{label_bytes, magic_one, magic_of, header_bytes, flag_bytes, rows_bytes, file_of}
+use Rattle.std.proofs.Common.{◌≡◌, ℕ, ◌<◌, ◌^◌, arith, length, List, [], ◌∷◌, ◌++◌, map, All, append_assoc, Result, Ok, Err}
+use Rattle.std.specs.Prelude.{⊤, OnOk}
+use Rattle.std.specs.List.{AllByRecursion}
 use Rattle.std.proofs.lemmas.List.Elements.{All-from_recursion}
-use Rattle.certificate.specs.declared.rows.LabelRow.{LabelRow}
-use Rattle.certificate.specs.Contents.{Label, Contents, label_of}
-use Rattle.certificate.specs.Keeping.{InOrder, LabelKeeps, Keeps}
+use Rattle.certificate.specs.Contents.{Procedure, Label, Branch, Par, Contents}
+use Rattle.certificate.specs.Contexts.{first_branch}
+use Rattle.certificate.specs.Facts.{LabelKeeps, behind_label}
+use Rattle.certificate.specs.Procedures.{ProcedureKeeps, behind_procedure}
+use Rattle.certificate.specs.Pars.{Before, BranchKeeps, behind_branch, ParKeeps, behind_par, no_branches}
+use Rattle.certificate.specs.Keeping.{RowsKeep}
+use Rattle.certificate.specs.Writable.{BranchIsWritable, ParIsWritable}
+use Rattle.certificate.proofs.OrderLaws.{each}
 
 -- one piece written behind another
 pub grows : (before p q : List ℕ) {between after : List ℕ} → between ≡ before ++ p → after ≡ between ++ q → after ≡ before ++ (p ++ q)
 grows before p q e f = rw (f, e) (append_assoc before p q)
 
--- what each item keeps wherever it stands
-each : {A S : Type 0} (K : S → A → Type 0) (next : A → S) (P : A → Type 0) → ((low : S) (x : A) → K low x → P x) → (low : S) (xs : List A) → InOrder K next low xs → AllByRecursion P xs
-each K next P one low [] h = tt
-each K next P one low (x ∷ xs) h = (one low x h.0, each K next P one (next x) xs h.1)
+unmapped : {A B : Type 0} (view : A → B) (Fits : B → Type 0) (xs : List A) → AllByRecursion Fits (map view xs) → AllByRecursion (λ x. Fits (view x)) xs
+unmapped view Fits [] h = tt
+unmapped view Fits (x ∷ xs) h = (h.0, unmapped view Fits xs h.1)
 
-pub counts_fit : (c : Contents) → Keeps c → AllByRecursion (λ (row : Label). length row.entries < 2 ^ 16) c.labels
-counts_fit c k = each (LabelKeeps (length c.code) c.procedures) (λ row. row.offset) (λ row. length row.entries < 2 ^ 16) (λ low row h. h.facts.count_fits) 0 c.labels k.labels
+-- the item at an index fits where all do
+pub item_fits : {A B : Type 0} (view : A → B) (Fits : B → Type 0) (xs : List A) → AllByRecursion Fits (map view xs) → All (λ x. Fits (view x)) xs
+item_fits view Fits xs h = All-from_recursion (λ x. Fits (view x)) xs (unmapped view Fits xs h)
 
-rows_fit : (rows : List LabelRow) → AllByRecursion (λ (row : Label). length row.entries < 2 ^ 16) (map label_of rows) → AllByRecursion (λ (row : LabelRow). length row.entries.items < 2 ^ 16) rows
-rows_fit [] h = tt
-rows_fit (row ∷ rows) h = (h.0, rows_fit rows h.1)
+-- what holds where something succeeded
+pub on_ok : {X E : Type 0} {P Q : Type 0} (r : Result X E) → OnOk r P → (P → Q) → OnOk r Q
+on_ok (Ok x) h f = f h
+on_ok (Err e) h f = tt
 
-pub row_fits : (rows : List LabelRow) → AllByRecursion (λ (row : Label). length row.entries < 2 ^ 16) (map label_of rows) → All (λ (row : LabelRow). length row.entries.items < 2 ^ 16) rows
-row_fits rows h = All-from_recursion (λ row. length row.entries.items < 2 ^ 16) rows (rows_fit rows h)
+-- ---- rows that keep their rules can be written
 
--- ---- what isn't there today has no bytes
+pub nothing_asked : {A : Type 0} (xs : List A) → AllByRecursion (λ (x : A). ⊤) xs
+nothing_asked [] = tt
+nothing_asked (x ∷ xs) = (tt, nothing_asked xs)
 
-pub no_flag : (c : Contents) → Keeps c → flag_bytes c.version c.has_long_operations (length c.table_rows) ≡ []
-no_flag c k = rw k.today.version refl
+pub procedures_writable : (c : Contents) → RowsKeep c → AllByRecursion (λ (row : Procedure). length row.parameters < 2 ^ 16) c.procedures
+procedures_writable c k =
+    each (ProcedureKeeps c.version (length c.code)) behind_procedure (λ row. length row.parameters < 2 ^ 16) (λ low row h. omega (arith, h.few)) 0 c.procedures k.procedures
 
-pub magic_today : (c : Contents) → Keeps c → magic_of c.version ≡ magic_one
-magic_today c k = rw k.today.version refl
+pub labels_writable : (c : Contents) → RowsKeep c → AllByRecursion (λ (row : Label). length row.entries < 2 ^ 16) c.labels
+labels_writable c k = each (LabelKeeps (length c.code) c.procedures) behind_label (λ row. length row.entries < 2 ^ 16) (λ low row h. h.facts.count_fits) 0 c.labels k.labels
 
-pub rows_today : (c : Contents) → Keeps c → rows_bytes c ≡ flat_map label_bytes c.labels
-unfolding rows_bytes
-rows_today c k = rw (k.today.procedures, k.today.pars, k.today.table_rows) (simp append-nil)
+branch_writable : (code_len : ℕ) (before : Before) (b : Branch) → BranchKeeps code_len before b → BranchIsWritable b
+branch_writable code_len before b h =
+    let g = h.gifts in
+    record { writes = g.write_count; reads = g.read_count; written_parameters = g.written_count; read_parameters = g.read_parameter_count; ends = g.end_count }
 
--- the pieces of a file, written one behind another
-pub file_written : (c : Contents) → Keeps c → (o1 o2 o3 o4 o5 : List ℕ) → o1 ≡ magic_one → o2 ≡ o1 ++ header_bytes c → o3 ≡ o2 ++ c.code → o4 ≡ o3 ++ c.constants
-    → o5 ≡ o4 ++ flat_map label_bytes c.labels → o5 ≡ file_of c
-unfolding file_of
-file_written c k o1 o2 o3 o4 o5 e1 e2 e3 e4 e5 =
-    rw (e5, e4, e3, e2, e1, magic_today c k, no_flag c k, rows_today c k, append-nil (header_bytes c)) refl
+par_writable : (own code_len : ℕ) (before : Before) (row : Par) → ParKeeps own code_len before row → ParIsWritable row
+par_writable own code_len before row h =
+    record { channels = h.channel_count; branch_count = omega (arith, h.branch_limit); branches = each (BranchKeeps code_len) behind_branch BranchIsWritable (branch_writable code_len) before row.branches h.branches }
+
+pub pars_writable : (c : Contents) → RowsKeep c → AllByRecursion ParIsWritable c.pars
+pars_writable c k = each (ParKeeps (first_branch c) (length c.code)) behind_par ParIsWritable (par_writable (first_branch c) (length c.code)) no_branches c.pars k.pars

@@ -1,8 +1,9 @@
 -- The contexts of a module, by number: 0 the root, then the procedures in the order of their rows, then
 -- the branches, PAR row by PAR row. A branch belongs to the root or procedure of its PAR's context, and
 -- uses the same frame words.
-use Rattle.std.specs.Prelude.{ℕ, ◌+◌, ◌-◌, ◌==◌, pos, neg_ℤ, ◌-ℤ◌, nat_lt, if◌then◌else◌, List, [], ◌∷◌, length, sum_by, slice_get, Option, Some, None, option_map}
+use Rattle.std.specs.Prelude.{ℕ, ◌+◌, ◌^◌, ◌<◌, ◌-◌, ◌==◌, pos, neg_ℤ, ◌-ℤ◌, nat_lt, if◌then◌else◌, List, [], ◌∷◌, length, sum_by, slice_get, Option, Some, None, option_map}
 use Rattle.certificate.specs.declared.contexts.Context.{Context}
+use Rattle.certificate.specs.declared.rows.Parameter.{Parameter}
 use Rattle.certificate.specs.Contents.{Procedure, Par, Contents}
 
 -- the root's frame is the data area, whose word `base` is its word 0
@@ -28,8 +29,25 @@ owner first (row ∷ rows) n =
     let within = owner (first + length row.branches) rows n in
     if nat_lt within first then within else row.context
 
+-- the first context that is a branch's
+abbrev pub first_branch : Contents → ℕ
+first_branch c = 1 + length c.procedures
+
+-- the contexts can be counted in a machine word
+abbrev pub HasFewContexts : Contents → Type 0
+HasFewContexts c = first_branch c + branch_count c.pars < 2 ^ 64
+
 -- the context of this number, where there is one
 unfoldable pub context_at : Contents → ℕ → Option Context
 context_at c n =
-    let first = 1 + length c.procedures in
+    let first = first_branch c in
     if nat_lt n (first + branch_count c.pars) then own_context c (owner first c.pars n) else None
+
+-- the parameters of the procedure of row n - 1; the root has none
+abbrev pub own_parameters : Contents → ℕ → List Parameter
+own_parameters c n =
+    if n == 0 then [] else elim (slice_get c.procedures (n - 1)) [ None ↦ [] | Some p ↦ p.parameters ]
+
+-- the parameters of the procedure that a context is or belongs to
+unfoldable pub parameters_at : Contents → ℕ → List Parameter
+parameters_at c n = own_parameters c (owner (first_branch c) c.pars n)

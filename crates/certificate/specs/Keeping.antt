@@ -1,88 +1,29 @@
 -- The rules of the format, on what a file says, and which contents a file has.
-use Rattle.std.specs.Prelude.{◌≡◌, ◌≢◌, ⊤, ℕ, ◌+◌, ◌^◌, ◌<◌, ◌≤◌, ℤ, pos, negsuc, ◌+ℤ◌, ◌≤ℤ◌, FitsSigned, false, List, [], ◌∷◌, length, slice_index, MatchOption}
+use Rattle.std.specs.Prelude.{◌≡◌, ⊤, ℕ, ◌+◌, ◌<◌, ◌≤◌, pos, negsuc, ◌≤ℤ◌, Bool, true, false, nat_lt, IsTrue, List, [], length, slice_get, Some, None, MatchOption}
 use Rattle.std.specs.List.{AllByRecursion}
-use Rattle.std.specs.Int.{w32}
 use Rattle.certificate.specs.declared.fact.Fact.{Fact}
 use Rattle.certificate.specs.declared.fact.Fact.TheVariants as facts
 use Rattle.certificate.specs.declared.rows.Entry.{Entry}
+use Rattle.certificate.specs.declared.rows.Parameter.{Parameter}
+use Rattle.certificate.specs.declared.rows.ParameterKind.{ParameterKind}
+use Rattle.certificate.specs.declared.rows.ParameterKind.TheVariants as kinds
+use Rattle.certificate.specs.declared.rows.EndKind.{EndKind}
+use Rattle.certificate.specs.declared.rows.EndKind.TheVariants as ends
+use Rattle.certificate.specs.declared.rows.EndRow.{EndRow}
+use Rattle.certificate.specs.declared.rows.TableRow.{TableRow}
+use Rattle.certificate.specs.declared.tables.Version.{Version}
 use Rattle.certificate.specs.declared.tables.Version.TheVariants as versions
-use Rattle.certificate.specs.declared.limits.TheConstants.{MAX_CODE, MAX_CONSTANTS, MAX_DATA_WORDS, MAX_BUDGET, MAX_MESSAGE, MAX_LABELS}
-use Rattle.certificate.specs.Contents.{Procedure, Label, Contents}
+use Rattle.certificate.specs.declared.limits.TheConstants.{MAX_CODE, MAX_LONG_CODE, MAX_CONSTANTS, MAX_DATA_WORDS, MAX_BUDGET, MAX_MESSAGE, MAX_PROCEDURES, MAX_LABELS, MAX_PARS, MAX_TABLES}
+use Rattle.certificate.specs.Order.{IsBytes, InOrder}
+use Rattle.certificate.specs.Contents.{Label, Branch, Par, Contents}
+use Rattle.certificate.specs.Facts.{LabelKeeps, behind_label, end_of}
+use Rattle.certificate.specs.Procedures.{ProcedureKeeps, behind_procedure, TableKeeps, behind_table}
+use Rattle.certificate.specs.Pars.{ParKeeps, behind_par, no_branches}
 use Rattle.certificate.specs.Spelling.{file_of}
 use Rattle.certificate.specs.declared.contexts.Context.{Context}
-use Rattle.certificate.specs.Contexts.{context_at}
+use Rattle.certificate.specs.Contexts.{context_at, first_branch, parameters_at}
 
--- numbers below 256
-abbrev pub IsBytes : List ℕ → Type 0
-IsBytes bytes = (i : ℕ) → slice_index bytes i < 256
-
--- Each item keeps its condition, which may speak of what the item before it leaves; `next` says what an
--- item leaves to the one after it, and `low` is what the first one finds.
-abbrev pub InOrder : {A S : Type 0} → (S → A → Type 0) → (A → S) → S → List A → Type 0
-InOrder Keeps next low [] = ⊤
-InOrder Keeps next low (x ∷ xs) = Keeps low x × InOrder Keeps next (next x) xs
-
--- the numbers of a word from lo to hi
-pub record IsInterval (lo hi : ℤ) : Type 0 where
-  pub lo_fits : FitsSigned w32 lo
-  pub hi_fits : FitsSigned w32 hi
-  pub ordered : lo ≤ℤ hi
-
--- A fact of a register. Today the file has only unknown words and numbers.
-abbrev pub RegisterKeeps : Fact → Type 0
-RegisterKeeps facts.Unknown = ⊤
-RegisterKeeps (facts.Number lo hi) = IsInterval lo hi
-RegisterKeeps (facts.Pointer region lo hi step) = ⊥
-RegisterKeeps (facts.CodeAddress offset) = ⊥
-RegisterKeeps (facts.Loop base count weight) = ⊥
-RegisterKeeps facts.ReturnAddress = ⊥
-
--- A fact of frame words: not unknown, since a word without an entry is that. Today only numbers are read.
-abbrev pub WordKeeps : Fact → Type 0
-WordKeeps facts.Unknown = ⊥
-WordKeeps (facts.Number lo hi) = IsInterval lo hi
-WordKeeps (facts.Pointer region lo hi step) = ⊥
-WordKeeps (facts.CodeAddress offset) = ⊥
-WordKeeps (facts.Loop base count weight) = ⊥
-WordKeeps facts.ReturnAddress = ⊥
-
--- the first word behind an entry
-abbrev pub end_of : Entry → ℤ
-end_of e = e.word +ℤ pos e.span
-
--- an entry, of words that no entry before it has: those end at word `low`
-pub record EntryKeeps (low : ℤ) (e : Entry) : Type 0 where
-  pub word_fits : FitsSigned w32 e.word
-  pub apart : low ≤ℤ e.word
-  pub span_fits : e.span < 2 ^ 32
-  pub spans : 1 ≤ e.span
-  pub fact : WordKeeps e.fact
-
--- the least word
-abbrev pub least_word : ℤ
-least_word = negsuc 2147483647
-
--- the offset of a label row in this much code with these procedures, behind a row at offset `low`
-pub record IsLabelOffset (code_len : ℕ) (procedures : List Procedure) (low offset : ℕ) : Type 0 where
-  pub rises : low < offset
-  pub in_code : offset < code_len
-  pub no_entry : AllByRecursion (λ p. p.entry ≢ offset) procedures
-
--- the facts of a label row
-pub record FactsKeep (row : Label) : Type 0 where
-  pub a : RegisterKeeps row.a
-  pub b : RegisterKeeps row.b
-  pub c : RegisterKeeps row.c
-  pub count_fits : length row.entries < 2 ^ 16
-  pub entries : InOrder EntryKeeps end_of least_word row.entries
-
--- a label row of a module with this much code and these procedures, behind a row at offset `low`
-pub record LabelKeeps (code_len : ℕ) (procedures : List Procedure) (low : ℕ) (row : Label) : Type 0 where
-  pub offset : IsLabelOffset code_len procedures low row.offset
-  pub context_fits : row.context < 2 ^ 16
-  pub depth_fits : FitsSigned w32 row.depth
-  pub number_fits : row.number < 2 ^ 64
-  pub facts : FactsKeep row
+-- ---- what rows name is there
 
 -- A pointer's region is there: 0 is the frame, 1 the constants, and 2 + j what parameter j names,
 -- whatever its kind.
@@ -111,18 +52,55 @@ pub record RowFits (row : Label) (context : Context) : Type 0 where
 abbrev pub LabelFits : Contents → Label → Type 0
 LabelFits contents row = MatchOption (context_at contents row.context) ⊥ (RowFits row)
 
--- What is read today: version 1 without procedure and PAR rows.
-pub record IsReadToday (c : Contents) : Type 0 where
-  pub version : c.version ≡ versions.One
-  pub flag : c.has_long_operations ≡ false
-  pub procedures : c.procedures ≡ []
-  pub pars : c.pars ≡ []
-  pub table_rows : c.table_rows ≡ []
+abbrev pub is_region : ParameterKind → Bool
+is_region (kinds.Value lo hi) = false
+is_region (kinds.ReadRegion size lo hi) = true
+is_region (kinds.WrittenRegion size lo hi) = true
+is_region (kinds.Channels count len ends) = false
+
+-- channels of which one has this number
+abbrev pub has_element : ℕ → ParameterKind → Bool
+has_element element (kinds.Value lo hi) = false
+has_element element (kinds.ReadRegion size lo hi) = false
+has_element element (kinds.WrittenRegion size lo hi) = false
+has_element element (kinds.Channels count len ends) = nat_lt element count
+
+-- parameter j is there, and of such a kind
+abbrev pub names : (ParameterKind → Bool) → List Parameter → ℕ → Bool
+names is_such parameters j = elim (slice_get parameters j) [ None ↦ false | Some p ↦ is_such p.kind ]
+
+-- the parameter that an end belongs to has that channel
+abbrev pub names_end : List Parameter → EndKind → Bool
+names_end parameters (ends.FrameWord word) = true
+names_end parameters (ends.Parameter (pos j) element) = names (has_element element) parameters j
+names_end parameters (ends.Parameter (negsuc n) element) = false
+names_end parameters (ends.Link link) = true
+
+-- what a branch is given of its context's parameters is there
+pub record BranchFits (parameters : List Parameter) (b : Branch) : Type 0 where
+  pub written : AllByRecursion (λ j. IsTrue (names is_region parameters j)) b.written_parameters
+  pub read : AllByRecursion (λ j. IsTrue (names is_region parameters j)) b.read_parameters
+  pub ends : AllByRecursion (λ (e : EndRow). IsTrue (names_end parameters e.kind)) b.ends
+
+abbrev pub ParFits : Contents → Par → Type 0
+ParFits contents row = AllByRecursion (BranchFits (parameters_at contents row.context)) row.branches
+
+-- ---- the whole
+
+-- version 1 has neither long operations nor table rows
+abbrev pub VersionKeeps : Version → Bool → List TableRow → Type 0
+VersionKeeps versions.One flag rows = (flag ≡ false) × (rows ≡ [])
+VersionKeeps versions.Two flag rows = ⊤
+
+-- bytes of code
+abbrev pub max_code : Version → ℕ
+max_code versions.One = MAX_CODE
+max_code versions.Two = MAX_LONG_CODE
 
 -- the numbers of the code, the constants and the data area
 pub record SizesKeep (c : Contents) : Type 0 where
   pub has_code : 1 ≤ length c.code
-  pub code_limit : length c.code ≤ MAX_CODE
+  pub code_limit : length c.code ≤ max_code c.version
   pub constants_limit : length c.constants ≤ MAX_CONSTANTS
   pub has_data : 1 ≤ c.data_words
   pub data_limit : c.data_words ≤ MAX_DATA_WORDS
@@ -132,19 +110,38 @@ pub record SizesKeep (c : Contents) : Type 0 where
 pub record BoundsKeep (c : Contents) : Type 0 where
   pub budget : c.budget ≤ MAX_BUDGET
   pub finish : c.finish ≤ length c.code
-  pub label_limit : length c.labels ≤ MAX_LABELS
   pub eight : length c.lengths ≡ 8
   pub lengths : AllByRecursion (λ n. n ≤ MAX_MESSAGE) c.lengths
 
+-- the numbers of rows
+pub record LimitsKeep (c : Contents) : Type 0 where
+  pub procedures : length c.procedures ≤ MAX_PROCEDURES
+  pub labels : length c.labels ≤ MAX_LABELS
+  pub pars : length c.pars ≤ MAX_PARS
+  pub table_rows : length c.table_rows ≤ MAX_TABLES
+
+-- the rows, each by itself
+pub record RowsKeep (c : Contents) : Type 0 where
+  pub procedures : InOrder (ProcedureKeeps c.version (length c.code)) behind_procedure 0 c.procedures
+  pub labels : InOrder (LabelKeeps (length c.code) c.procedures) behind_label 0 c.labels
+  pub pars : InOrder (ParKeeps (first_branch c) (length c.code)) behind_par no_branches c.pars
+  pub table_rows : InOrder (TableKeeps c.constants) behind_table 0 c.table_rows
+
+-- what the rows name is there
+pub record NamesAreThere (c : Contents) : Type 0 where
+  pub labels : AllByRecursion (LabelFits c) c.labels
+  pub pars : AllByRecursion (ParFits c) c.pars
+
 -- contents that keep the rules of the format
 pub record Keeps (c : Contents) : Type 0 where
-  pub today : IsReadToday c
+  pub version : VersionKeeps c.version c.has_long_operations c.table_rows
   pub sizes : SizesKeep c
   pub bounds : BoundsKeep c
+  pub limits : LimitsKeep c
   pub code_bytes : IsBytes c.code
   pub constant_bytes : IsBytes c.constants
-  pub labels : InOrder (LabelKeeps (length c.code) c.procedures) (λ row. row.offset) 0 c.labels
-  pub fits : AllByRecursion (LabelFits c) c.labels
+  pub rows : RowsKeep c
+  pub names : NamesAreThere c
 
 -- This file is the one spelling of these contents, which keep the rules.
 pub record Format (bytes : List ℕ) (c : Contents) : Type 0 where

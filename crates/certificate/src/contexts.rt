@@ -2,9 +2,9 @@
 
 ghost use Rattle.std.specs.Prelude.{◌≡◌, ◌+◌, ◌^◌, ◌<◌, length, map, nat_lt};
 ghost use Rattle.certificate.specs.Contents.{procedure_of, par_of, contents_of};
-ghost use Rattle.certificate.specs.Contexts.{root_context, procedure_context, own_context, branch_count, owner, context_at};
+ghost use Rattle.certificate.specs.Contexts.{root_context, procedure_context, own_context, branch_count, owner, HasFewContexts, context_at, own_parameters, parameters_at};
 
-use crate::rows::{ParRow, ProcedureRow};
+use crate::rows::{ParRow, Parameter, ProcedureRow};
 use crate::tables::Tables;
 
 /// The frame words of a context, from `lo` up to `hi` (not included), and how many parameters it has.
@@ -81,7 +81,7 @@ fn own_context(tables: &Tables, number: usize) -> Option<Context>
 /// The context of a number, where there is one.
 #[tactic(auto, unfolding(crate::specs::Contexts::context_at))]
 pub fn context_at(tables: &Tables, number: u16) -> Option<Context>
-    requires { 1 + length (contents_of tables.now).procedures + branch_count (contents_of tables.now).pars < 2 ^ 64 }
+    requires { HasFewContexts (contents_of tables.now) }
     ensures { result ≡ context_at (contents_of tables.now) number }
 {
     let number = usize::from(number);
@@ -90,4 +90,27 @@ pub fn context_at(tables: &Tables, number: u16) -> Option<Context>
         return None;
     }
     own_context(tables, owner(&tables.pars, first, number))
+}
+
+/// The parameters of the procedure of a row; the root, whose number is 0, has none.
+fn own_parameters<'t>(tables: &'t Tables, number: usize) -> &'t [Parameter]
+    ensures { result.now ≡ own_parameters (contents_of tables.now) number }
+{
+    if number == 0 {
+        return &[];
+    }
+    match tables.procedures.get(number - 1) {
+        Some(row) => &row.parameters,
+        None => &[],
+    }
+}
+
+/// The parameters of the procedure that a context is or belongs to.
+#[tactic(auto, unfolding(crate::specs::Contexts::parameters_at))]
+pub fn parameters_at<'t>(tables: &'t Tables, context: u16) -> &'t [Parameter]
+    requires { HasFewContexts (contents_of tables.now) }
+    ensures { result.now ≡ parameters_at (contents_of tables.now) context }
+{
+    let first = 1 + tables.procedures.len();
+    own_parameters(tables, owner(&tables.pars, first, usize::from(context)))
 }

@@ -2,9 +2,10 @@
 
 ghost use Rattle.std.specs.Prelude.{◌≡◌, List, ℕ, Ok};
 ghost use Rattle.certificate.specs.Contents.{Contents};
-ghost use Rattle.certificate.specs.Keeping.{IsBytes, Keeps, Format};
+ghost use Rattle.certificate.specs.Keeping.{Keeps, Format};
+ghost use Rattle.certificate.specs.Order.{IsBytes};
 ghost use Rattle.certificate.specs.Spelling.{file_of};
-ghost use Rattle.certificate.specs.Reading.{read_contents};
+ghost use Rattle.certificate.specs.ReadingFile.{read_contents};
 
 /// A file spells one contents at most.
 pub fn one_file_one_contents()

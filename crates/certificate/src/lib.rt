@@ -13,13 +13,13 @@ mod rows;
 mod tables;
 mod writing;
 
-pub use contexts::{Context, context_at};
+pub use contexts::{Context, context_at, parameters_at};
 pub use fact::{Fact, Step};
 pub use fault::{FormatFault, LEFT_OVER, LIMIT, MAGIC, MEMORY, ORDER, RANGE, TRUNCATED};
 pub use laws::{one_contents_one_file, one_file_one_contents, reading_again, reading_finds};
 pub use limits::{
-    MAX_BUDGET, MAX_CODE, MAX_CONSTANTS, MAX_DATA_WORDS, MAX_LABELS, MAX_MESSAGE, MAX_PARS,
-    MAX_PROCEDURES,
+    MAX_BRANCHES, MAX_BUDGET, MAX_CODE, MAX_CONSTANTS, MAX_DATA_WORDS, MAX_LABELS, MAX_LONG_CODE,
+    MAX_MESSAGE, MAX_PARAMETERS, MAX_PARS, MAX_PROCEDURES, MAX_TABLES,
 };
 pub use modules::Module;
 pub use rows::{

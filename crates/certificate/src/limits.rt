@@ -16,3 +16,11 @@ pub const MAX_PROCEDURES: u32 = 512;
 pub const MAX_LABELS: u32 = 8_192;
 /// PAR rows.
 pub const MAX_PARS: u32 = 1_024;
+/// Bytes of code in version 2.
+pub const MAX_LONG_CODE: u32 = 262_143;
+/// Table rows.
+pub const MAX_TABLES: u32 = 1_024;
+/// Parameters of a procedure.
+pub const MAX_PARAMETERS: u16 = 64;
+/// Branches of a PAR.
+pub const MAX_BRANCHES: u16 = 64;

@@ -29,7 +29,8 @@ impl<'a> Module<'a> {
     ghost use Rattle.std.specs.Prelude.{◌≡◌, ◌≢◌, ◌⊎◌, IfOk, IfErr, MatchResult, Ok, Err};
     ghost use Rattle.certificate.specs.Contents.{Contents, contents_of};
     ghost use Rattle.certificate.specs.Keeping.{Format, Keeps};
-    ghost use Rattle.certificate.specs.Reading.{read_contents, out_of_memory};
+    ghost use Rattle.certificate.specs.Reading.{out_of_memory};
+    ghost use Rattle.certificate.specs.ReadingFile.{read_contents};
 
     /// What the bytes say, or the first fault in the order of the fields.
     // A body that always answers want of memory meets these clauses too, since no clause can say that

@@ -165,3 +165,76 @@ pub struct TableRow {
     pub lo: i32,
     pub hi: i32,
 }
+
+/// The fields of an end, as they stand in a file. The ends of a branch rise by the first of them in
+/// which they differ.
+#[derive(Clone, Copy, Debug, PartialEq, Eq)]
+pub(crate) struct EndKey {
+    /// 0 a frame word, 1 a parameter, 2 a link.
+    pub kind: u8,
+    /// The word, the parameter or the link.
+    pub number: i32,
+    /// The channel of a parameter, else 0.
+    pub element: u32,
+    /// 1 in, 2 out.
+    pub direction: u8,
+}
+
+impl EndKey {
+    ghost use Rattle.std.specs.Prelude.{◌≡◌};
+    ghost use Rattle.certificate.specs.Pars.{first_key, is_below};
+
+    /// Below each end.
+    pub const fn first() -> EndKey
+        ensures { result ≡ first_key }
+    {
+        EndKey {
+            kind: 0,
+            number: i32::MIN,
+            element: 0,
+            direction: 0,
+        }
+    }
+
+    /// Whether an end with the other key may stand behind this one.
+    pub fn is_below(&self, other: &EndKey) -> bool
+        ensures { result ≡ is_below self.now other.now }
+    {
+        if self.kind != other.kind {
+            return self.kind < other.kind;
+        }
+        if self.number != other.number {
+            return self.number < other.number;
+        }
+        if self.element != other.element {
+            return self.element < other.element;
+        }
+        self.direction < other.direction
+    }
+}
+
+impl EndRow {
+    ghost use Rattle.std.specs.Prelude.{◌≡◌};
+    ghost use Rattle.certificate.specs.Pars.{key_of};
+
+    /// The fields by which ends rise.
+    pub(crate) fn key(&self) -> EndKey
+        ensures { result ≡ key_of self.now }
+    {
+        let direction = match self.direction {
+            Direction::In => 1,
+            Direction::Out => 2,
+        };
+        let (kind, number, element) = match self.kind {
+            EndKind::FrameWord(word) => (0, word, 0),
+            EndKind::Parameter { number, element } => (1, number, element),
+            EndKind::Link(link) => (2, i32::from(link), 0),
+        };
+        EndKey {
+            kind,
+            number,
+            element,
+            direction,
+        }
+    }
+}

@@ -44,9 +44,8 @@ impl Tables<'_> {
     ghost use Rattle.certificate.specs.Contents.{contents_of};
     ghost use Rattle.certificate.specs.Keeping.{Keeps};
 
-    /// Whether the tables keep the rules of the format: exactly those have a file. Today it is false of
-    /// tables with procedure rows, PAR rows, table rows or long operations, of version 2, and of facts
-    /// other than unknown words and numbers.
+    /// Whether the tables keep the rules of the format: exactly those have a file. It takes no memory, and
+    /// time square in the number of branches.
     pub fn keeps(&self) -> bool
         ensures { IsTrue result ↔ Keeps (contents_of self.now) }
     {

@@ -1,7 +1,18 @@
 //! Files by hand, read, kept and written.
 
 mod bad_files;
+mod bad_pars;
+mod bad_procedures;
+mod bad_tables;
 mod by_hand;
+mod every_row;
+mod fields;
+mod good_fields;
+mod kept_pars;
+mod kept_rows;
+mod programs;
+mod several_faults;
+mod whole_files;
 
 use crate::{FormatFault, Module, write};
 use std::alloc::{AllocError, Global};
@@ -30,7 +41,7 @@ fn patched(
     file: &[u8],
     at: usize,
     width: usize,
-    value: u64,
+    value: i64,
     len: usize,
 ) -> Result<Vec<u8>, AllocError> {
     let mut bytes = Vec::new(alloc);
@@ -93,66 +104,11 @@ fn what_jump_says(rt: HostRuntime) -> Result<(), Fail> {
 }
 
 #[test]
-fn cut_short(rt: HostRuntime) -> Result<(), Fail> {
-    let alloc = rt.alloc();
-    for len in 0..83 {
-        let bytes = patched(alloc, &FIRST, 0, 0, 0, len)?;
-        let want = if len < 4 {
-            refused(1, 0)
-        } else {
-            refused(2, len)
-        };
-        assert_eq!(rt; answer(&rt, alloc, &bytes)?, want, "cut to {len}");
-    }
-    for len in 4..105 {
-        let bytes = patched(alloc, &JUMP, 0, 0, 0, len)?;
-        assert_eq!(rt;
-            answer(&rt, alloc, &bytes)?,
-            refused(2, len),
-            "cut to {len}"
-        );
-    }
-    Ok(())
-}
-
-#[test]
 fn one_byte_more(rt: HostRuntime) -> Result<(), Fail> {
     let alloc = rt.alloc();
     let bytes = patched(alloc, &FIRST, 0, 0, 0, 84)?;
     assert_eq!(rt; answer(&rt, alloc, &bytes)?, refused(5, 83));
     let bytes = patched(alloc, &JUMP, 0, 0, 0, 106)?;
     assert_eq!(rt; answer(&rt, alloc, &bytes)?, refused(5, 105));
-    Ok(())
-}
-
-/// Each byte altered to each value: read and written back, or refused within the file.
-fn each_alteration(rt: &impl Abort, alloc: Global, file: &[u8]) -> Result<(), AllocError> {
-    let mut bytes = Vec::from_slice(alloc, file)?;
-    for at in 0..file.len() {
-        for value in 0..=255 {
-            if let Some(byte) = bytes.get_mut(at) {
-                *byte = value;
-            }
-            if let Some(fault) = answer(rt, alloc, &bytes)? {
-                assert!(rt; fault.number >= 1 && fault.number <= 6, "{value} at {at}");
-                assert!(rt; fault.offset <= file.len(), "{value} at {at}");
-            }
-        }
-        if let Some(byte) = bytes.get_mut(at) {
-            *byte = file[at];
-        }
-    }
-    Ok(())
-}
-
-#[test]
-fn alterations_of_first(rt: HostRuntime) -> Result<(), Fail> {
-    each_alteration(&rt, rt.alloc(), &FIRST)?;
-    Ok(())
-}
-
-#[test]
-fn alterations_of_jump(rt: HostRuntime) -> Result<(), Fail> {
-    each_alteration(&rt, rt.alloc(), &JUMP)?;
     Ok(())
 }

@@ -7,7 +7,9 @@ use Rattle.std.proofs.lemmas.List.{get_or-drop}
 use Rattle.certificate.specs.declared.rows.LabelRow.{LabelRow}
 use Rattle.certificate.specs.Contents.{Label, Contents, Procedure, label_of}
 use Rattle.certificate.specs.declared.rows.Entry.{Entry}
-use Rattle.certificate.specs.Keeping.{InOrder, LabelKeeps, EntryKeeps, Keeps, end_of, least_word}
+use Rattle.certificate.specs.Order.{InOrder, least_word}
+use Rattle.certificate.specs.Facts.{LabelKeeps, behind_label, EntryKeeps, behind_entry, end_of}
+use Rattle.certificate.specs.Keeping.{Keeps}
 use Rattle.states.specs.Rows.{AreApart, rise_from}
 use Rattle.states.proofs.RowFacts.{and-both, le-yes}
 use Rattle.facts.specs.Labels.{RiseBehind, AreRows, row_at, IsRow}
@@ -95,16 +97,16 @@ rows-found (r ∷ rows) o row a e h =
 -- ---- the rows of a module
 
 -- entries that keep the format are apart
-entries-apart : (low : ℤ) (entries : List Entry) → InOrder EntryKeeps end_of low entries → rise_from low entries ≡ true
-entries-apart low [] keeps = refl
-entries-apart low (entry ∷ entries) keeps = and-both _ _ (le-yes low entry.word keeps.0.apart) (entries-apart (end_of entry) entries keeps.1)
+entries-apart : (code_len : ℕ) (low : ℤ) (entries : List Entry) → InOrder (EntryKeeps code_len) behind_entry low entries → rise_from low entries ≡ true
+entries-apart code_len low [] keeps = refl
+entries-apart code_len low (entry ∷ entries) keeps = and-both _ _ (le-yes low entry.word keeps.0.apart) (entries-apart code_len (end_of entry) entries keeps.1)
 
-rows-rise : (code_len : ℕ) (procedures : List Procedure) (low : ℕ) (rows : List LabelRow) → InOrder (LabelKeeps code_len procedures) (λ row. row.offset) low (map label_of rows) → RiseBehind low rows
+rows-rise : (code_len : ℕ) (procedures : List Procedure) (low : ℕ) (rows : List LabelRow) → InOrder (LabelKeeps code_len procedures) behind_label low (map label_of rows) → RiseBehind low rows
 rows-rise code_len procedures low [] keeps = tt
 rows-rise code_len procedures low (row ∷ rows) keeps =
-    (keeps.0.offset.rises, entries-apart least_word row.entries.items keeps.0.facts.entries, rows-rise code_len procedures row.offset rows keeps.1)
+    (keeps.0.offset.rises, entries-apart code_len least_word row.entries.items keeps.0.facts.entries, rows-rise code_len procedures row.offset rows keeps.1)
 
 pub module-rows : (m : Contents) (rows : List LabelRow) → Keeps m → m.labels ≡ map label_of rows → AreRows rows
 module-rows m rows keeps is = record {
-  rise = rows-rise (length m.code) m.procedures 0 rows (subst (λ ls. InOrder (LabelKeeps (length m.code) m.procedures) (λ row. row.offset) 0 ls) is keeps.labels);
+  rise = rows-rise (length m.code) m.procedures 0 rows (subst (λ ls. InOrder (LabelKeeps (length m.code) m.procedures) behind_label 0 ls) is keeps.rows.labels);
 }

@@ -9,7 +9,7 @@ use Rattle.certificate.specs.declared.fact.Fact.{Fact}
 use Rattle.certificate.specs.declared.fact.Fact.TheVariants.{Unknown, Number, Pointer, CodeAddress, Loop, ReturnAddress}
 use Rattle.certificate.specs.Contents.{Contents, Label, label_at}
 use Rattle.certificate.specs.Contexts.{context_at}
-use Rattle.certificate.specs.Keeping.{least_word}
+use Rattle.certificate.specs.Order.{least_word}
 use Rattle.machine_state.specs.declared.process.Registers.{Registers}
 use Rattle.machine_state.specs.declared.process.Mode as machine
 use Rattle.machine_state.specs.declared.process.Mode.TheVariants as machine_modes

@@ -8,7 +8,7 @@ use Rattle.certificate.specs.declared.fact.Fact.{Fact}
 use Rattle.certificate.specs.declared.fact.Fact.TheVariants.{Unknown, Number, Pointer, CodeAddress, Loop, ReturnAddress}
 use Rattle.certificate.specs.Contents.{Contents, label_at}
 use Rattle.certificate.specs.Contexts.{context_at}
-use Rattle.certificate.specs.Keeping.{least_word}
+use Rattle.certificate.specs.Order.{least_word}
 use Rattle.machine_state.specs.declared.op.Op.{Op}
 use Rattle.machine_state.specs.declared.op.Op.TheVariants.{Reverse, StopProcess, MinimumInteger}
 use Rattle.machine_state.specs.LocalStep.{op_of, fits_word, target}

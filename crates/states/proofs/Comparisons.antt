@@ -13,7 +13,8 @@ use Rattle.states.specs.declared.overlay.Written.{Written}
 use Rattle.states.specs.Lookup.{lookup, ArePlaced}
 use Rattle.states.specs.State.{Facts, is_about, entry_fact}
 use Rattle.states.specs.Below.{implies, words_imply, entries_hold}
-use Rattle.certificate.specs.Keeping.{end_of, least_word}
+use Rattle.certificate.specs.Order.{least_word}
+use Rattle.certificate.specs.Facts.{end_of}
 use Rattle.states.specs.Rows.{rise_from, AreApart}
 use Rattle.states.specs.Frames.{fact_of_index, facts_over}
 use Rattle.states.specs.Comparing.{SaysAll, SaysLess, OneSaysAll, WrittenSaysAll}

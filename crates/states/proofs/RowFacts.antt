@@ -7,7 +7,8 @@ use Rattle.certificate.specs.declared.fact.Fact.{Fact}
 use Rattle.certificate.specs.declared.fact.Fact.TheVariants.{Unknown}
 use Rattle.certificate.specs.declared.rows.Entry.{Entry}
 use Rattle.states.specs.State.{is_about, entry_fact}
-use Rattle.certificate.specs.Keeping.{end_of, least_word}
+use Rattle.certificate.specs.Order.{least_word}
+use Rattle.certificate.specs.Facts.{end_of}
 use Rattle.states.specs.Rows.{rise_from, AreApart}
 
 -- ---- tests of numbers

@@ -1,7 +1,8 @@
 -- The entries of a label row: their words rise, and no two entries overlap.
 use Rattle.std.specs.Prelude.{ℤ, int_le, ◌&&◌, Bool, true, List, [], ◌∷◌, IsTrue}
 use Rattle.certificate.specs.declared.rows.Entry.{Entry}
-use Rattle.certificate.specs.Keeping.{end_of, least_word}
+use Rattle.certificate.specs.Order.{least_word}
+use Rattle.certificate.specs.Facts.{end_of}
 
 -- the entries begin at this word or later, each behind the one before it
 abbrev pub rise_from : ℤ → List Entry → Bool

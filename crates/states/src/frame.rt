@@ -1,7 +1,7 @@
 //! What is known of the words of a frame.
 
 ghost use Rattle.std.specs.Prelude.{◌≡◌, ◌≤◌, ◌<◌, ℤ, pos, ◌+ℤ◌, ◌-ℤ◌, ◌≤ℤ◌, ◌<ℤ◌, ◌⊎◌, ◌^◌, IfOk, IsTrue, IsFalse, true, false, length, Some, None, vec_len};
-ghost use Rattle.certificate.specs.Keeping.{least_word};
+ghost use Rattle.certificate.specs.Order.{least_word};
 ghost use Rattle.states.specs.Rows.{AreApart};
 
 use crate::implication::implies;

@@ -1,7 +1,7 @@
 //! The entries of a label row.
 
 ghost use Rattle.std.specs.Prelude.{◌≡◌, ◌≤◌, ℤ, pos, ◌+ℤ◌, ◌≤ℤ◌, ◌<ℤ◌, ◌<◌, ◌^◌, length};
-ghost use Rattle.certificate.specs.Keeping.{end_of};
+ghost use Rattle.certificate.specs.Facts.{end_of};
 ghost use Rattle.states.specs.Rows.{AreApart};
 ghost use Rattle.states.specs.State.{is_about, entry_fact};
 

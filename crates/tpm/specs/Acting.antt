@@ -4,7 +4,8 @@ use Rattle.std.specs.Io.KnownBytes.{Appends}
 use Rattle.certificate.specs.declared.fault.FormatFault.{FormatFault}
 use Rattle.certificate.specs.Contents.{Contents}
 use Rattle.certificate.specs.Keeping.{Format}
-use Rattle.certificate.specs.Reading.{read_contents, out_of_memory}
+use Rattle.certificate.specs.Reading.{out_of_memory}
+use Rattle.certificate.specs.ReadingFile.{read_contents}
 use Rattle.verifier.specs.declared.Refusal.{Refusal}
 use Rattle.verifier.specs.Certified.{IsCertified, IsRefused}
 use Rattle.tpm.specs.declared.files.FileFault.{FileFault}

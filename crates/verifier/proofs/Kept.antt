@@ -1,5 +1,5 @@
 -- What the format and the decoder say of a module's contents, as the theorems need it.
-use Rattle.std.proofs.Common.{◌≡◌, ℕ, ◌<◌, ◌≤ℤ◌, ◌<ℤ◌, ◌+ℤ◌, Bool, true, false, cond, if◌then◌else◌, inl, inr, ℤ, pos, List, [], ◌∷◌, length, drop, take, Option, Some, None, Result, Ok, Err, refl, sym, ap, ◌∙◌, subst, arith}
+use Rattle.std.proofs.Common.{◌≡◌, ℕ, ◌<◌, ◌≤◌, ◌≤ℤ◌, ◌<ℤ◌, ◌+ℤ◌, Bool, true, false, cond, if◌then◌else◌, inl, inr, ℤ, pos, List, [], ◌∷◌, length, drop, take, Option, Some, None, Result, Ok, Err, refl, sym, ap, ◌∙◌, subst, arith}
 use Rattle.std.specs.Prelude.{MatchOption, find, ◌==◌}
 use Rattle.std.specs.List.{AllByRecursion}
 use Rattle.std.proofs.lemmas.Bool.Decides.{eqb_tells}
@@ -16,7 +16,11 @@ use Rattle.certificate.specs.declared.rows.Entry.{Entry}
 use Rattle.certificate.specs.declared.contexts.Context.{Context}
 use Rattle.certificate.specs.Contents.{Contents, Procedure, Label}
 use Rattle.certificate.specs.Contexts.{context_at}
-use Rattle.certificate.specs.Keeping.{Keeps, InOrder, LabelKeeps, LabelFits, RowFits, EntryFits}
+use Rattle.certificate.specs.Order.{InOrder}
+use Rattle.certificate.specs.Facts.{LabelKeeps, behind_label}
+use Rattle.certificate.specs.declared.tables.Version.{Version}
+use Rattle.certificate.specs.declared.tables.Version.TheVariants as versions
+use Rattle.certificate.specs.Keeping.{max_code, Keeps, LabelFits, RowFits, EntryFits}
 use Rattle.states.specs.State.{entry_fact, is_about, has_word}
 use Rattle.facts.specs.Meaning.{IsWellFormed}
 use Rattle.verifier.specs.Point.{Decodes}
@@ -53,7 +57,7 @@ module _ (m : Contents) (k : Keeps m) where
 -- ---- the labels
 
 -- a label that is found keeps what each row keeps
-found_keeps : (code_len : ℕ) (procedures : List Procedure) (low at : ℕ) (rows : List Label) (t : Label) → InOrder (LabelKeeps code_len procedures) (λ row. row.offset) low rows → find (λ row. row.offset == at) rows ≡ Some t
+found_keeps : (code_len : ℕ) (procedures : List Procedure) (low at : ℕ) (rows : List Label) (t : Label) → InOrder (LabelKeeps code_len procedures) behind_label low rows → find (λ row. row.offset == at) rows ≡ Some t
     → (t.offset ≡ at) × (t.offset < code_len)
 found_keeps code_len procedures low at [] t all h = absurd (cc)
 found_keeps code_len procedures low at (row ∷ rows) t all h = elim (eqb_tells row.offset at) [
@@ -97,13 +101,17 @@ fits_outside : (m : Contents) (t : Label) (k : ℤ) (o : Option Context) → Mat
 fits_outside m t k None fits out = absurd fits
 fits_outside m t k (Some context) fits out = outside_unknown context t.entries k fits.entries out
 
+code_is_short : (v : Version) → max_code v ≤ 262143
+code_is_short versions.One = omega arith
+code_is_short versions.Two = omega arith
+
 pub well_formed : (m : Contents) → Keeps m → IsWellFormed m
 well_formed m k = record {
   some_code = k.sizes.has_code;
-  short_code = omega (arith, k.sizes.code_limit);
+  short_code = omega (arith, k.sizes.code_limit, code_is_short m.version);
   few_words = omega (arith, k.sizes.data_limit);
   few_constants = omega (arith, k.sizes.constants_limit);
   base = k.sizes.base;
-  labels = λ at t h. let f = found_keeps (length m.code) m.procedures 0 at m.labels t k.labels h in omega (arith, f.0, f.1);
-  entries = λ at t i h out. fits_outside m t i (context_at m t.context) (found_fits m at m.labels t k.fits h) out;
+  labels = λ at t h. let f = found_keeps (length m.code) m.procedures 0 at m.labels t k.rows.labels h in omega (arith, f.0, f.1);
+  entries = λ at t i h out. fits_outside m t i (context_at m t.context) (found_fits m at m.labels t k.names.labels h) out;
 }

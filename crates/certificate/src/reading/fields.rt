@@ -11,12 +11,13 @@ ghost use Rattle.certificate.specs.Reading.{
   limited_at,
   positive_at,
   at_most_at,
-  none_at,
   bytes_at,
-  magic_at,
+  byte_at,
+  in_code_at,
+  interval_at,
 };
 
-use crate::fault::{FormatFault, LIMIT, MAGIC, RANGE, ReadError, TRUNCATED};
+use crate::fault::{FormatFault, LIMIT, RANGE, ReadError, TRUNCATED};
 use byteorder::{ByteOrder, LittleEndian};
 
 /// The answer at a field that is at fault.
@@ -122,16 +123,55 @@ pub fn at_most_at(size: usize, most: u32, rest: &[u8]) -> Result<(u32, &[u8]), R
     Ok((value, behind))
 }
 
-/// A number of rows that are not read yet: 0.
-#[tactic(auto, unfolding(crate::specs::Reading::none_at, crate::specs::Reading::and_then))]
-pub fn none_at(size: usize, limit: u32, rest: &[u8]) -> Result<(u32, &[u8]), ReadError>
-    ensures { Gives (λ x. (x.0, x.1.now)) result (none_at size limit rest.now) }
+/// One byte.
+#[tactic(auto, unfolding(crate::specs::Reading::byte_at))]
+pub fn byte_at(size: usize, rest: &[u8]) -> Result<(u8, &[u8]), ReadError>
+    ensures { Gives (λ x. (x.0, x.1.now)) result (byte_at size rest.now) }
 {
-    let (value, behind) = limited_at(size, limit, rest)?;
-    if value != 0 {
-        return Err(fault(RANGE, place(size, rest)));
+    match rest {
+        [] => Err(fault(TRUNCATED, size)),
+        [byte, behind @ ..] => Ok((*byte, behind)),
+    }
+}
+
+/// A u16 up to a limit.
+#[tactic(auto, unfolding(crate::specs::Reading::limited_at, crate::specs::Reading::and_then))]
+pub fn limited_u16_at(size: usize, limit: u16, rest: &[u8]) -> Result<(u16, &[u8]), ReadError>
+    ensures { Gives (λ x. (x.0, x.1.now)) result (limited_at size 2 limit rest.now) }
+{
+    let (value, behind) = u16_at(size, rest)?;
+    if value > limit {
+        return Err(fault(LIMIT, place(size, rest)));
     }
     Ok((value, behind))
+}
+
+/// An offset in the code that isn't its first.
+#[tactic(auto, unfolding(crate::specs::Reading::in_code_at, crate::specs::Reading::and_then))]
+pub fn in_code_at(size: usize, code_len: u32, rest: &[u8]) -> Result<(u32, &[u8]), ReadError>
+    ensures { Gives (λ x. (x.0, x.1.now)) result (in_code_at size code_len rest.now) }
+{
+    let (offset, behind) = u32_at(size, rest)?;
+    if offset == 0 {
+        return Err(fault(RANGE, place(size, rest)));
+    }
+    if offset >= code_len {
+        return Err(fault(RANGE, place(size, rest)));
+    }
+    Ok((offset, behind))
+}
+
+/// The bounds of an interval, the first not above the second.
+#[tactic(auto, unfolding(crate::specs::Reading::interval_at, crate::specs::Reading::hi_at, crate::specs::Reading::and_then))]
+pub fn interval_at(size: usize, rest: &[u8]) -> Result<((i32, i32), &[u8]), ReadError>
+    ensures { Gives (λ x. (x.0, x.1.now)) result (interval_at size rest.now) }
+{
+    let (lo, behind) = i32_at(size, rest)?;
+    let (hi, end) = i32_at(size, behind)?;
+    if hi < lo {
+        return Err(fault(RANGE, place(size, behind)));
+    }
+    Ok(((lo, hi), end))
 }
 
 /// As many bytes as a length says.
@@ -144,15 +184,4 @@ pub fn bytes_at(size: usize, len: u32, rest: &[u8]) -> Result<(&[u8], &[u8]), Re
         return Err(fault(TRUNCATED, size));
     }
     Ok(rest.split_at(len))
-}
-
-/// The magic at the front of a file.
-#[tactic(auto, unfolding(crate::specs::Reading::magic_at))]
-pub fn magic_at(bytes: &[u8]) -> Result<&[u8], ReadError>
-    ensures { Gives (λ x. x.now) result (magic_at bytes.now) }
-{
-    if !bytes.starts_with(b"TPM1") {
-        return Err(fault(MAGIC, 0));
-    }
-    Ok(&bytes[4..])
 }

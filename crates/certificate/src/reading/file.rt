@@ -2,64 +2,79 @@
 
 ghost use Rattle.std.specs.Prelude.{◌≡◌, length};
 ghost use Rattle.certificate.specs.Contents.{contents_of};
-ghost use Rattle.certificate.specs.Keeping.{IsBytes};
-ghost use Rattle.certificate.specs.Reading.{Gives, body_at, read_contents};
+ghost use Rattle.certificate.specs.Reading.{Gives};
+ghost use Rattle.certificate.specs.ReadingFile.{tables_at, ended_at, read_contents};
 
 use crate::fault::{LEFT_OVER, ReadError};
-use crate::reading::fields::{bytes_at, fault, magic_at, place};
-use crate::reading::header::{Sizes, counts_at, lengths_at, sizes_at};
+use crate::reading::fields::{bytes_at, fault, place};
+use crate::reading::header::{Header, header_at};
 use crate::reading::labels::label_rows_at;
-use crate::reading::late::late_labels;
-use crate::tables::{Tables, Version};
+use crate::reading::late::late_rows;
+use crate::reading::pars::par_rows_at;
+use crate::reading::procedures::procedure_rows_at;
+use crate::reading::table_rows::table_rows_at;
+use crate::tables::Tables;
 use std::alloc::Global;
 
-/// What stands behind the header.
-#[tactic(auto, unfolding(crate::specs::Reading::body_at, crate::specs::Reading::ended_at, crate::specs::Reading::and_then))]
-fn body_at<'a>(
+/// The code, the constants and the rows, with the offset of the label rows.
+#[tactic(auto, unfolding(crate::specs::ReadingFile::tables_at, crate::specs::Reading::and_then))]
+fn tables_at<'a>(
     alloc: Global,
     size: usize,
-    sizes: Sizes,
-    lengths: [u32; 8],
-    count: u32,
+    header: &Header,
     rest: &'a [u8],
-) -> Result<Tables<'a>, ReadError>
-    ensures { Gives contents_of result (body_at size sizes lengths count rest.now) }
+) -> Result<((Tables<'a>, usize), &'a [u8]), ReadError>
+    ensures { Gives (λ x. ((contents_of x.0.0, x.0.1), x.1.now)) result (tables_at size header.now rest.now) }
 {
-    let (code, rest) = bytes_at(size, sizes.code_len, rest)?;
-    let (constants, rows) = bytes_at(size, sizes.const_len, rest)?;
-    let procedures = Vec::new(alloc);
-    let (labels, rest) = label_rows_at(alloc, size, sizes.code_len, &procedures, count, rows)?;
+    let Header {
+        version,
+        counts,
+        ..
+    } = *header;
+    let code_len = header.sizes.code_len;
+    let (code, rest) = bytes_at(size, code_len, rest)?;
+    let (constants, rest) = bytes_at(size, header.sizes.const_len, rest)?;
+    let (procedures, rows) = procedure_rows_at(
+        alloc,
+        size,
+        version,
+        code_len,
+        counts.procedures,
+        rest,
+    )?;
+    let (labels, rest) = label_rows_at(alloc, size, code_len, &procedures, counts.labels, rows)?;
+    let own = 1 + procedures.len();
+    let (pars, rest) = par_rows_at(alloc, size, own, code_len, counts.pars, rest)?;
+    let (table_rows, rest) = table_rows_at(alloc, size, constants, counts.table_rows, rest)?;
     let tables = Tables {
-        version: Version::One,
+        version,
         code,
         constants,
-        data_words: sizes.data_words,
-        base: sizes.base,
-        budget: sizes.budget,
-        finish: sizes.finish,
-        lengths,
-        has_long_operations: false,
+        data_words: header.sizes.data_words,
+        base: header.sizes.base,
+        budget: header.sizes.budget,
+        finish: header.sizes.finish,
+        lengths: header.lengths,
+        has_long_operations: counts.has_long_operations,
         procedures,
         labels,
-        pars: Vec::new(alloc),
-        table_rows: Vec::new(alloc),
+        pars,
+        table_rows,
     };
-    late_labels(&tables, place(size, rows))?;
-    if !rest.is_empty() {
-        return Err(fault(LEFT_OVER, place(size, rest)));
-    }
-    Ok(tables)
+    Ok(((tables, place(size, rows)), rest))
 }
 
 /// The tables that the bytes spell, all of the bytes.
-#[tactic(auto, unfolding(crate::specs::Reading::read_contents, crate::specs::Reading::and_then))]
+#[tactic(auto, unfolding(crate::specs::ReadingFile::read_contents, crate::specs::ReadingFile::ended_at, crate::specs::Reading::and_then))]
 pub fn tables_of(alloc: Global, bytes: &[u8]) -> Result<Tables<'_>, ReadError>
     ensures { Gives contents_of result (read_contents bytes.now) }
 {
     let size = bytes.len();
-    let rest = magic_at(bytes)?;
-    let (sizes, rest) = sizes_at(size, rest)?;
-    let (lengths, rest) = lengths_at(size, rest)?;
-    let (labels, rest) = counts_at(size, rest)?;
-    body_at(alloc, size, sizes, lengths, labels, rest)
+    let (header, rest) = header_at(bytes)?;
+    let ((tables, rows), rest) = tables_at(alloc, size, &header, rest)?;
+    late_rows(&tables, rows)?;
+    if !rest.is_empty() {
+        return Err(fault(LEFT_OVER, place(size, rest)));
+    }
+    Ok(tables)
 }

@@ -1,11 +1,14 @@
 //! What is looked at once all rows are read: whether what the rows name is there.
 
-ghost use Rattle.std.specs.Prelude.{◌≡◌, ◌+◌, ◌^◌, ◌<◌, length, map, IfOk};
+ghost use Rattle.std.specs.Prelude.{◌≡◌, ◌+◌, ◌^◌, ◌<◌, ◌≤◌, ⊤, ℕ, List, length, map, IfOk, Result};
 ghost use Rattle.std.specs.List.{flat_map};
-ghost use Rattle.certificate.specs.Contents.{label_of, contents_of};
-ghost use Rattle.certificate.specs.Contexts.{branch_count};
-ghost use Rattle.certificate.specs.Spelling.{fact_bytes, entry_bytes, label_bytes};
-ghost use Rattle.certificate.specs.Reading.{fault, Tells, late_fact, late_entry, late_list, late_row, late_label};
+ghost use Rattle.certificate.specs.declared.fault.FormatFault.{FormatFault};
+ghost use Rattle.certificate.specs.declared.rows.Entry.{Entry};
+ghost use Rattle.certificate.specs.Contents.{Label, label_of, contents_of};
+ghost use Rattle.certificate.specs.Contexts.{HasFewContexts};
+ghost use Rattle.certificate.specs.Spelling.{fact_bytes, entry_bytes, label_bytes, par_bytes};
+ghost use Rattle.certificate.specs.Reading.{fault, Tells};
+ghost use Rattle.certificate.specs.Late.{late_fact, late_entry, late_list, late_row, late_label, late_at};
 
 use crate::contexts::{Context, context_at};
 use crate::fact::Fact;
@@ -15,7 +18,7 @@ use crate::rows::{Entry, LabelRow};
 use crate::tables::Tables;
 
 /// What a field names is not there.
-fn not_there(offset: usize) -> FormatFault
+pub(crate) fn not_there(offset: usize) -> FormatFault
     ensures { result ≡ fault RANGE offset }
 {
     FormatFault {
@@ -24,10 +27,53 @@ fn not_there(offset: usize) -> FormatFault
     }
 }
 
+/// An item of a list, which is looked at in a context.
+pub(crate) trait Late<C>: Drop {
+    /// What an item says, apart from where it lies in memory.
+    ghost Value: { Type 0 };
+
+    ghost view: { Self → Value };
+
+    /// The bytes of an item in the file.
+    ghost spelled: { Value → List ℕ };
+
+    /// What the context has to be.
+    ghost Ready: { C → Type 0 };
+
+    /// Whether what the item at an offset names is there.
+    ghost looked: { C → ℕ → Value → Result ⊤ FormatFault };
+
+    /// Answers the offset behind the item.
+    fn late(&self, context: &C, at: usize) -> Result<usize, FormatFault>
+        requires fits { at + length (spelled (view self.now)) < 2 ^ 64 }
+        requires ready { Ready context.now }
+        ensures gives { Tells result (looked context.now at (view self.now)) }
+        ensures behind { IfOk result (λ end. end ≡ at + length (spelled (view self.now))) };
+}
+
+/// Each item in turn, the first of them at offset `start`. Answers the offset behind the last.
+pub(crate) fn late_list<C, T: Late<C>>(
+    context: &C,
+    start: usize,
+    items: &[T],
+) -> Result<usize, FormatFault>
+    requires fits { start + length (flat_map T.spelled (map T.view items.now)) < 2 ^ 64 }
+    requires ready { T.Ready context.now }
+    ensures gives { Tells result (late_list (T.looked context.now) T.spelled start (map T.view items.now)) }
+    ensures behind { IfOk result (λ end. end ≡ start + length (flat_map T.spelled (map T.view items.now))) }
+{
+    let mut at = start;
+    for item in items {
+        at = item.late(context, at)?;
+    }
+    Ok(at)
+}
+
 /// How many bytes a fact has in the file.
 #[tactic(auto, unfolding(crate::specs::Spelling::fact_bytes, crate::specs::Spelling::u16_bytes, crate::specs::Spelling::u32_bytes, crate::specs::Spelling::u64_bytes, crate::specs::Spelling::i32_bytes))]
 fn fact_size(fact: &Fact) -> usize
-    ensures { result ≡ length (fact_bytes fact.now) }
+    ensures value { result ≡ length (fact_bytes fact.now) }
+    ensures small { result ≤ 17 }
 {
     match fact {
         Fact::Unknown | Fact::ReturnAddress => 1,
@@ -39,7 +85,7 @@ fn fact_size(fact: &Fact) -> usize
 }
 
 /// A pointer's region is there; the fact stands at offset `at`.
-#[tactic(auto, unfolding(crate::specs::Reading::late_fact))]
+#[tactic(auto, unfolding(crate::specs::Late::late_fact))]
 fn late_fact(parameters: usize, at: usize, fact: &Fact) -> Result<(), FormatFault>
     requires { at + 1 < 2 ^ 64 }
     ensures { Tells result (late_fact parameters at fact.now) }
@@ -59,37 +105,32 @@ fn late_fact(parameters: usize, at: usize, fact: &Fact) -> Result<(), FormatFaul
     }
 }
 
-/// The entry at offset `at` lies in the frame, and its fact's region is there.
-#[tactic(auto, using(crate::proofs::Sizes::entry_size), unfolding(crate::specs::Reading::late_entry))]
-fn late_entry(context: &Context, at: usize, entry: &Entry) -> Result<(), FormatFault>
-    requires { at + length (entry_bytes entry.now) < 2 ^ 64 }
-    ensures { Tells result (late_entry context.now at entry.now) }
-{
-    if i64::from(entry.word) < context.lo {
-        return Err(not_there(at));
-    }
-    if end_of(entry) > context.hi {
-        return Err(not_there(at));
-    }
-    late_fact(context.parameters, at + 8, &entry.fact)
-}
+impl Late<Context> for Entry {
+    ghost Value = { Entry };
 
-/// Each entry in turn, the first of them at offset `start`. Answers the offset behind the last.
-fn late_entries(context: &Context, start: usize, entries: &[Entry]) -> Result<usize, FormatFault>
-    requires { start + length (flat_map entry_bytes entries.now) < 2 ^ 64 }
-    ensures gives { Tells result (late_list (late_entry context.now) entry_bytes start entries.now) }
-    ensures behind { IfOk result (λ end. end ≡ start + length (flat_map entry_bytes entries.now)) }
-{
-    let mut at = start;
-    for entry in entries {
-        late_entry(context, at, entry)?;
-        at = at + 8 + fact_size(&entry.fact);
+    ghost view = { λ e. e };
+
+    ghost spelled = { entry_bytes };
+
+    ghost Ready = { λ _. ⊤ };
+
+    ghost looked = { late_entry };
+
+    #[tactic(auto, using(crate::proofs::Sizes::entry_size), unfolding(crate::specs::Late::late_entry))]
+    fn late(&self, context: &Context, at: usize) -> Result<usize, FormatFault> {
+        if i64::from(self.word) < context.lo {
+            return Err(not_there(at));
+        }
+        if end_of(self) > context.hi {
+            return Err(not_there(at));
+        }
+        late_fact(context.parameters, at + 8, &self.fact)?;
+        Ok(at + 8 + fact_size(&self.fact))
     }
-    Ok(at)
 }
 
 /// What the row at offset `at` says is there in its context. Answers the offset behind the row.
-#[tactic(auto, using(crate::proofs::Sizes::label_size), unfolding(crate::specs::Reading::late_row, crate::specs::Reading::and_then))]
+#[tactic(auto, using(crate::proofs::Sizes::label_size), unfolding(crate::specs::Late::late_row, crate::specs::Reading::and_then))]
 fn late_row(context: &Context, at: usize, row: &LabelRow) -> Result<usize, FormatFault>
     requires { at + length (label_bytes (label_of row.now)) < 2 ^ 64 }
     ensures gives { Tells result (late_row context.now at (label_of row.now)) }
@@ -102,33 +143,37 @@ fn late_row(context: &Context, at: usize, row: &LabelRow) -> Result<usize, Forma
     let at_c = at_b + fact_size(&row.b);
     late_fact(context.parameters, at_c, &row.c)?;
     let at_entries = at_c + fact_size(&row.c) + 2;
-    late_entries(context, at_entries, &row.entries)
+    late_list(context, at_entries, &row.entries)
 }
 
-/// The context of the row at offset `at` is there, and what the row says in it. Answers the offset
-/// behind the row.
-#[tactic(auto, using(crate::proofs::Sizes::label_size), unfolding(crate::specs::Reading::late_label))]
-fn late_label(tables: &Tables, at: usize, row: &LabelRow) -> Result<usize, FormatFault>
-    requires fits { at + length (label_bytes (label_of row.now)) < 2 ^ 64 }
-    requires contexts { 1 + length (contents_of tables.now).procedures + branch_count (contents_of tables.now).pars < 2 ^ 64 }
-    ensures gives { Tells result (late_label (contents_of tables.now) at (label_of row.now)) }
-    ensures behind { IfOk result (λ end. end ≡ at + length (label_bytes (label_of row.now))) }
-{
-    match context_at(tables, row.context) {
-        Some(context) => late_row(&context, at, row),
-        None => Err(not_there(at + 4)),
+impl Late<Tables<'_>> for LabelRow {
+    ghost Value = { Label };
+
+    ghost view = { label_of };
+
+    ghost spelled = { label_bytes };
+
+    ghost Ready = { λ tables. HasFewContexts (contents_of tables) };
+
+    ghost looked = { λ tables. late_label (contents_of tables) };
+
+    #[tactic(auto, using(crate::proofs::Sizes::label_size), unfolding(crate::specs::Late::late_label))]
+    fn late(&self, tables: &Tables<'_>, at: usize) -> Result<usize, FormatFault> {
+        match context_at(tables, self.context) {
+            Some(context) => late_row(&context, at, self),
+            None => Err(not_there(at + 4)),
+        }
     }
 }
 
-/// Each label row in turn, the first of them at offset `start`.
-pub fn late_labels(tables: &Tables, start: usize) -> Result<(), FormatFault>
-    requires fits { start + length (flat_map label_bytes (contents_of tables.now).labels) < 2 ^ 64 }
-    requires contexts { 1 + length (contents_of tables.now).procedures + branch_count (contents_of tables.now).pars < 2 ^ 64 }
-    ensures { Tells result (late_list (late_label (contents_of tables.now)) label_bytes start (contents_of tables.now).labels) }
+/// Each label row and then each PAR row in turn, the first label row at offset `start`.
+#[tactic(auto, unfolding(crate::specs::Late::late_at, crate::specs::Reading::and_then))]
+pub fn late_rows(tables: &Tables, start: usize) -> Result<(), FormatFault>
+    requires fits { start + length (flat_map label_bytes (contents_of tables.now).labels) + length (flat_map par_bytes (contents_of tables.now).pars) < 2 ^ 64 }
+    requires contexts { HasFewContexts (contents_of tables.now) }
+    ensures { Tells result (late_at start (contents_of tables.now)) }
 {
-    let mut at = start;
-    for row in &tables.labels {
-        at = late_label(tables, at, row)?;
-    }
+    let pars = late_list(tables, start, &tables.labels)?;
+    late_list(tables, pars, &tables.pars)?;
     Ok(())
 }

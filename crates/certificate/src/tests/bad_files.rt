@@ -1,5 +1,7 @@
-//! One bad file for each condition of the format, and the good ones beside them.
+//! Headers and label rows, with one or two fields altered.
 
+use super::every_row::{EVERY_ROW, EVERY_ROW_AGAIN};
+use super::fields::spelled;
 use super::{FIRST, answer, patched, refused};
 use crate::{Module, write};
 use std::alloc::{AllocError, Global};
@@ -20,13 +22,17 @@ const ROWS: [u8; 186] = [
 ];
 
 /// Where a number of how many bytes is set to what, and which fault comes where.
-type Bad = (usize, usize, u64, u8, usize);
+pub type Bad = (usize, usize, i64, u8, usize);
 
-const BAD_HEADERS: [Bad; 28] = [
+const BAD_HEADERS: [Bad; 31] = [
     // the magic
     (0, 1, 0x55, 1, 0),
-    (3, 1, 0x32, 1, 0),
+    (2, 1, 0, 1, 0),
     (3, 1, 0x30, 1, 0),
+    (3, 1, 0x33, 1, 0),
+    (3, 1, 0xb1, 1, 0),
+    // the code's first bytes are no flags
+    (3, 1, 0x32, 4, 76),
     // code_len
     (4, 4, 0, 4, 4),
     (4, 4, 65_536, 6, 4),
@@ -51,18 +57,18 @@ const BAD_HEADERS: [Bad; 28] = [
     (44, 4, 4_097, 6, 44),
     (60, 4, 4_097, 6, 60),
     // numbers of rows
-    (64, 4, 1, 4, 64),
-    (64, 4, 512, 4, 64),
+    (64, 4, 1, 4, 94),
+    (64, 4, 512, 4, 94),
     (64, 4, 513, 6, 64),
     (68, 4, 8_193, 6, 68),
     (68, 4, 3, 2, 186),
     (68, 4, 1, 5, 163),
-    (72, 4, 1, 4, 72),
-    (72, 4, 1_024, 4, 72),
+    (72, 4, 1, 2, 186),
+    (72, 4, 1_024, 2, 186),
     (72, 4, 1_025, 6, 72),
 ];
 
-const BAD_ROWS: [Bad; 44] = [
+const BAD_ROWS: [Bad; 47] = [
     // offsets
     (90, 4, 0, 4, 90),
     (90, 4, 10, 4, 90),
@@ -77,12 +83,14 @@ const BAD_ROWS: [Bad; 44] = [
     (94, 2, 65_535, 4, 94),
     (167, 2, 1, 4, 167),
     // facts of registers
-    (108, 1, 2, 4, 108),
-    (108, 1, 3, 4, 108),
+    (108, 1, 2, 4, 119),
+    (108, 1, 3, 4, 109),
+    (108, 1, 4, 4, 108),
+    (108, 1, 5, 4, 108),
     (108, 1, 6, 4, 108),
     (108, 1, 255, 4, 108),
     (113, 4, 0xffff_fffe, 4, 113),
-    (117, 1, 2, 4, 117),
+    (117, 1, 2, 4, 124),
     (117, 1, 5, 4, 117),
     (118, 1, 4, 4, 118),
     (119, 4, 4, 4, 123),
@@ -98,7 +106,7 @@ const BAD_ROWS: [Bad; 44] = [
     (133, 4, 4, 3, 146),
     (133, 4, 0xffff_ffff, 3, 146),
     (137, 1, 0, 4, 137),
-    (137, 1, 2, 4, 137),
+    (137, 1, 2, 4, 144),
     (137, 1, 5, 4, 137),
     (138, 4, 1, 4, 142),
     (142, 4, 0xffff_ffff, 4, 142),
@@ -112,11 +120,12 @@ const BAD_ROWS: [Bad; 44] = [
     (150, 4, 18, 4, 146),
     (150, 4, 0xffff_ffff, 4, 146),
     (154, 1, 0, 4, 154),
-    (154, 1, 4, 4, 154),
+    (154, 1, 4, 4, 171),
+    (154, 1, 5, 4, 154),
 ];
 
 /// What may stand there.
-const GOOD: [(usize, usize, u64); 20] = [
+const GOOD: [(usize, usize, i64); 20] = [
     (12, 4, 16_384),
     (12, 4, 8),
     (16, 4, 20),
@@ -127,7 +136,7 @@ const GOOD: [(usize, usize, u64); 20] = [
     (32, 4, 0),
     (90, 4, 1),
     (90, 4, 8),
-    (100, 8, 0xffff_ffff_ffff_ffff),
+    (100, 8, -1),
     (96, 4, 0x8000_0000),
     (109, 4, 0x8000_0000),
     (113, 4, 0x7fff_ffff),
@@ -139,9 +148,14 @@ const GOOD: [(usize, usize, u64); 20] = [
     (163, 4, 3),
 ];
 
-fn each_is_refused(rt: &impl Abort, alloc: Global, cases: &[Bad]) -> Result<(), AllocError> {
+pub fn each_is_refused(
+    rt: &impl Abort,
+    alloc: Global,
+    file: &[u8],
+    cases: &[Bad],
+) -> Result<(), AllocError> {
     for (at, width, value, number, offset) in cases {
-        let bytes = patched(alloc, &ROWS, *at, *width, *value, 186)?;
+        let bytes = patched(alloc, file, *at, *width, *value, file.len())?;
         assert_eq!(rt;
             answer(rt, alloc, &bytes)?,
             refused(*number, *offset),
@@ -153,13 +167,13 @@ fn each_is_refused(rt: &impl Abort, alloc: Global, cases: &[Bad]) -> Result<(), 
 
 #[test]
 fn bad_headers(rt: HostRuntime) -> Result<(), Fail> {
-    each_is_refused(&rt, rt.alloc(), &BAD_HEADERS)?;
+    each_is_refused(&rt, rt.alloc(), &ROWS, &BAD_HEADERS)?;
     Ok(())
 }
 
 #[test]
 fn bad_rows(rt: HostRuntime) -> Result<(), Fail> {
-    each_is_refused(&rt, rt.alloc(), &BAD_ROWS)?;
+    each_is_refused(&rt, rt.alloc(), &ROWS, &BAD_ROWS)?;
     Ok(())
 }
 
@@ -197,7 +211,7 @@ fn the_first_file_altered(rt: HostRuntime) -> Result<(), Fail> {
 }
 
 /// Two faults in one file: two numbers of four bytes, the file's length, and the fault that is told.
-const TWO_FAULTS: [(usize, u64, usize, u64, usize, u8, usize); 12] = [
+const TWO_FAULTS: [(usize, i64, usize, i64, usize, u8, usize); 12] = [
     // an entry outside the frame, and the file cut behind it
     (129, 0xffff_fff7, 0, 0x314d_5054, 185, 2, 185),
     // and a byte too many
@@ -239,14 +253,24 @@ fn two_faults(rt: HostRuntime) -> Result<(), Fail> {
 }
 
 /// With memory refused at any moment, the answer is the plain one or want of memory, and nothing else.
-#[test]
-fn wants_memory(rt: HostRuntime) {
-    match Module::read(rt.alloc(), &ROWS) {
-        Ok(module) => match write(rt.alloc(), module.tables()) {
-            Ok(written) => assert_eq!(rt; written.as_slice(), ROWS.as_slice()),
+fn is_read_or_wants_memory(rt: &impl Abort, alloc: Global, file: &[u8]) {
+    match Module::read(alloc, file) {
+        Ok(module) => match write(alloc, module.tables()) {
+            Ok(written) => assert_eq!(rt; written.as_slice(), file),
             Err(_) => {}
         },
         Err(fault) => assert_eq!(rt; Some(fault), refused(7, 0)),
+    }
+}
+
+#[test]
+fn wants_memory(rt: HostRuntime) {
+    is_read_or_wants_memory(&rt, rt.alloc(), &ROWS);
+    for rows in [EVERY_ROW, EVERY_ROW_AGAIN] {
+        match spelled(rt.alloc(), rows) {
+            Ok(file) => is_read_or_wants_memory(&rt, rt.alloc(), &file),
+            Err(_) => {}
+        }
     }
     match Module::read(rt.alloc(), &ROWS[..185]) {
         Ok(_) => assert!(rt; false, "cut short"),

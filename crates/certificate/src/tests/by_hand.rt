@@ -1,10 +1,7 @@
 //! Tables by hand: which keep the format, and the file of those that do.
 
 use super::JUMP;
-use crate::{
-    Ends, Entry, Fact, LabelRow, ParRow, Parameter, ParameterKind, ProcedureRow, Step, TableRow,
-    Tables, Version, write,
-};
+use crate::{Entry, Fact, LabelRow, Step, Tables, Version, write};
 use std::alloc::{AllocError, Global};
 use std::test::*;
 
@@ -12,7 +9,9 @@ const CODE: [u8; 6] = [0x45, 0xd1, 0, 0x71, 0x21, 0xf5];
 
 const LONG: [u8; 16_385] = [0; 16_385];
 
-fn label(alloc: Global, offset: u32) -> LabelRow {
+const LONG_CODE: [u8; 262_144] = [0; 262_144];
+
+pub fn label(alloc: Global, offset: u32) -> LabelRow {
     LabelRow {
         offset,
         context: 0,
@@ -26,7 +25,7 @@ fn label(alloc: Global, offset: u32) -> LabelRow {
 }
 
 /// The tables of the file `JUMP`, with these label rows.
-fn tables_with(alloc: Global, labels: Vec<LabelRow>) -> Tables<'static> {
+pub fn tables_with(alloc: Global, labels: Vec<LabelRow>) -> Tables<'static> {
     Tables {
         version: Version::One,
         code: &CODE,
@@ -44,7 +43,7 @@ fn tables_with(alloc: Global, labels: Vec<LabelRow>) -> Tables<'static> {
     }
 }
 
-fn jump(alloc: Global) -> Result<Tables<'static>, AllocError> {
+pub fn jump(alloc: Global) -> Result<Tables<'static>, AllocError> {
     let mut labels = Vec::new(alloc);
     labels.push(label(alloc, 3))?;
     Ok(tables_with(alloc, labels))
@@ -97,10 +96,7 @@ fn headers(rt: HostRuntime) -> Result<(), Fail> {
             lengths: [0, 0, 0, 4_097, 0, 0, 0, 0],
             ..jump(alloc)?
         },
-        Tables {
-            version: Version::Two,
-            ..jump(alloc)?
-        },
+        // version 1 has no long operations
         Tables {
             has_long_operations: true,
             ..jump(alloc)?
@@ -112,88 +108,102 @@ fn headers(rt: HostRuntime) -> Result<(), Fail> {
     Ok(())
 }
 
-/// Rows that are not read yet.
+/// What version 2 may have.
 #[test]
-fn other_rows(rt: HostRuntime) -> Result<(), Fail> {
+fn headers_again(rt: HostRuntime) -> Result<(), Fail> {
     let alloc = rt.alloc();
-    let mut tables = jump(alloc)?;
-    let mut parameters = Vec::new(alloc);
-    parameters.push(Parameter {
-        word: 1,
-        kind: ParameterKind::Channels {
-            count: 1,
-            length: 4,
-            ends: Ends::IN | Ends::OUT,
+    let good = [
+        Tables {
+            version: Version::Two,
+            ..jump(alloc)?
         },
-    })?;
-    tables.procedures.push(ProcedureRow {
-        entry: 4,
-        lo: 0,
-        hi: 4,
-        number: 5,
-        parameters,
-    })?;
-    assert!(rt; !tables.keeps());
-
-    let mut tables = jump(alloc)?;
-    tables.pars.push(ParRow {
-        context: 0,
-        depth: 0,
-        block: 0,
-        successor: 4,
-        channels: Vec::new(alloc),
-        branches: Vec::new(alloc),
-    })?;
-    assert!(rt; !tables.keeps());
-
-    let mut tables = jump(alloc)?;
-    tables.table_rows.push(TableRow {
-        start: 0,
-        end: 4,
-        lo: 0,
-        hi: 9,
-    })?;
-    assert!(rt; !tables.keeps());
+        Tables {
+            version: Version::Two,
+            has_long_operations: true,
+            ..jump(alloc)?
+        },
+    ];
+    for tables in &good {
+        assert!(rt; tables.keeps(), "{tables:?}");
+    }
     Ok(())
 }
 
+/// The most code of each version, and one byte more.
+#[test]
+fn long_code(rt: HostRuntime) -> Result<(), Fail> {
+    let cases = [
+        (Version::One, 65_535, true),
+        (Version::One, 65_536, false),
+        (Version::Two, 65_536, true),
+        (Version::Two, 262_143, true),
+        (Version::Two, 262_144, false),
+    ];
+    for (version, len, keeps) in &cases {
+        let mut tables = jump(rt.alloc())?;
+        tables.version = *version;
+        tables.code = LONG_CODE.get(..*len).ok_or("code")?;
+        assert_eq!(rt; tables.keeps(), *keeps, "{len}");
+    }
+    Ok(())
+}
+
+fn pointer(region: u16, lo: i32, hi: i32, step: Step) -> Fact {
+    Fact::Pointer {
+        region,
+        lo,
+        hi,
+        step,
+    }
+}
+
 /// Facts of registers, and whether a row with them keeps the format.
-const FACTS: [(Fact, bool); 8] = [
-    (Fact::Number { lo: -1, hi: 5 }, true),
-    (Fact::Number { lo: 5, hi: 5 }, true),
-    (
-        Fact::Number {
-            lo: i32::MIN,
-            hi: i32::MAX,
-        },
-        true,
-    ),
-    (Fact::Number { lo: 6, hi: 5 }, false),
-    (
-        Fact::Pointer {
-            region: 0,
-            lo: 0,
-            hi: 0,
-            step: Step::Word,
-        },
-        false,
-    ),
-    (Fact::CodeAddress { offset: 0 }, false),
-    (
-        Fact::Loop {
-            base: 0,
-            count: 3,
-            weight: 6,
-        },
-        false,
-    ),
-    (Fact::ReturnAddress, false),
-];
+fn facts_of_registers() -> [(Fact, bool); 21] {
+    [
+        (Fact::Number { lo: -1, hi: 5 }, true),
+        (Fact::Number { lo: 5, hi: 5 }, true),
+        (
+            Fact::Number {
+                lo: i32::MIN,
+                hi: i32::MAX,
+            },
+            true,
+        ),
+        (Fact::Number { lo: 6, hi: 5 }, false),
+        (pointer(0, 0, 0, Step::Word), true),
+        (pointer(1, -8, 4, Step::Word), true),
+        (pointer(0, -7, 5, Step::Byte), true),
+        (pointer(0, i32::MIN, i32::MAX, Step::Byte), true),
+        (pointer(0, i32::MIN, i32::MAX, Step::Word), false),
+        (pointer(0, -7, 4, Step::Word), false),
+        (pointer(0, -8, 5, Step::Word), false),
+        (pointer(0, 4, 0, Step::Word), false),
+        (pointer(0, 1, 0, Step::Byte), false),
+        // the root has no parameter
+        (pointer(2, 0, 0, Step::Byte), false),
+        (pointer(65_535, 0, 0, Step::Byte), false),
+        (Fact::CodeAddress { offset: 0 }, true),
+        (Fact::CodeAddress { offset: 6 }, true),
+        (Fact::CodeAddress { offset: 7 }, false),
+        (Fact::CodeAddress { offset: u32::MAX }, false),
+        // no register has these
+        (
+            Fact::Loop {
+                base: 0,
+                count: 3,
+                weight: 6,
+            },
+            false,
+        ),
+        (Fact::ReturnAddress, false),
+    ]
+}
 
 #[test]
 fn facts(rt: HostRuntime) -> Result<(), Fail> {
     let alloc = rt.alloc();
-    for (fact, keeps) in &FACTS {
+    let cases = facts_of_registers();
+    for (fact, keeps) in &cases {
         for register in 0..3 {
             let mut labels = Vec::new(alloc);
             let mut row = label(alloc, 3);
@@ -308,6 +318,55 @@ fn many_entries(rt: HostRuntime) -> Result<(), Fail> {
         tables.data_words = 16_384;
         tables.base = 0;
         assert_eq!(rt; tables.keeps(), keeps, "{count}");
+    }
+    Ok(())
+}
+
+/// The fact of a word, and how many words have it, and whether a row with it keeps the format.
+fn entry_facts() -> [(Fact, u32, bool); 16] {
+    [
+        (Fact::Unknown, 1, false),
+        (pointer(0, 0, 4, Step::Word), 2, true),
+        (pointer(2, 0, 4, Step::Word), 1, false),
+        (Fact::CodeAddress { offset: 6 }, 3, true),
+        (Fact::CodeAddress { offset: 7 }, 1, false),
+        (a_loop(0, 3), 2, true),
+        (a_loop(0, 3), 1, false),
+        (a_loop(0, 3), 3, false),
+        (a_loop(0, 0), 2, false),
+        (a_loop(0, 2_147_483_647), 2, true),
+        (a_loop(1, 2_147_483_647), 2, true),
+        (a_loop(2, 2_147_483_647), 2, false),
+        (a_loop(i32::MIN, 2_147_483_648), 2, false),
+        (a_loop(i32::MAX, 1), 2, true),
+        (Fact::ReturnAddress, 1, true),
+        (Fact::ReturnAddress, 2, false),
+    ]
+}
+
+fn a_loop(base: i32, count: u32) -> Fact {
+    Fact::Loop {
+        base,
+        count,
+        weight: u64::MAX,
+    }
+}
+
+#[test]
+fn facts_of_words(rt: HostRuntime) -> Result<(), Fail> {
+    let alloc = rt.alloc();
+    let cases = entry_facts();
+    for (fact, span, keeps) in &cases {
+        let mut row = label(alloc, 3);
+        row.entries.push(Entry {
+            word: -3,
+            span: *span,
+            fact: *fact,
+        })?;
+        let mut labels = Vec::new(alloc);
+        labels.push(row)?;
+        let tables = tables_with(alloc, labels);
+        assert_eq!(rt; tables.keeps(), *keeps, "{fact:?} {span}");
     }
     Ok(())
 }
