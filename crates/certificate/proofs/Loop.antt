@@ -136,14 +136,3 @@ tells_same (Err f) e h = rw (← e) h
 pub gives_has : {X Y : Type 0} (view : X → Y) {Q : Y → Type 0} (read : Result Y FormatFault) (r : Result X ReadError) → Gives view r read → Has read Q → IfOk r (λ x. Q (view x))
 gives_has view read (Ok x) h has = has_at read (view x) has h
 gives_has view read (Err e) h has = tt
-
--- a reader that failed, as the first step of a longer one
-pub fails_then : {A B : Type 0} (read : Result A FormatFault) (e : ReadError) (k : A → Result B FormatFault) → Fails e read → Fails e (and_then read k)
-unfolding and_then
-fails_then read errors.Memory k h = tt
-fails_then read (errors.Fault f) k h = rw h refl
-
--- a reader that is another one fails as that does
-pub fails_same : {A : Type 0} {read other : Result A FormatFault} (e : ReadError) → read ≡ other → Fails e read → Fails e other
-fails_same errors.Memory same h = tt
-fails_same (errors.Fault f) same h = rw (← same) h
