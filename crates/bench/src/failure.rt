@@ -6,6 +6,7 @@ ghost use Rattle.bench.specs.declared.failure.Failure.TheVariants.{Memory};
 use certificate::FormatFault;
 use machine::Stop;
 use occam_layout::LayoutFault;
+use occam_parser::ParseFault;
 use std::alloc::{AllocError, AllocFailed};
 use verifier::Refusal;
 
@@ -64,6 +65,12 @@ impl From<Refusal> for Failure {
 impl From<LayoutFault> for Failure {
     fn from(fault: LayoutFault) -> Failure {
         refusal(fault.number, occam_layout::MEMORY)
+    }
+}
+
+impl From<ParseFault> for Failure {
+    fn from(fault: ParseFault) -> Failure {
+        refusal(fault.number, occam_parser::MEMORY)
     }
 }
 

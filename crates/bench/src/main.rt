@@ -8,6 +8,7 @@
 
 mod call;
 mod failure;
+mod largest_files;
 mod module_files;
 mod repeating;
 mod sources;

@@ -10,7 +10,7 @@ use certificate::{
 use std::alloc::{AllocError, Global};
 
 /// `ldc 0`.
-const LOAD_CONSTANT: u8 = 0x40;
+pub(crate) const LOAD_CONSTANT: u8 = 0x40;
 /// `stopp`.
 const STOP_PROCESS: [u8; 2] = [0x21, 0xf5];
 /// `ldc 5`, `stl 1`, `ldl 1`, `adc 1`, `stl 1`, and `j` back to the first.
@@ -30,7 +30,12 @@ fn straight_code(alloc: Global, loads: u16) -> Result<Vec<u8>, AllocError>
 }
 
 /// What a module says of this code, with as many bytes as its budget.
-fn tables_of(alloc: Global, code: &[u8], data_words: u32, labels: Vec<LabelRow>) -> Tables<'_>
+pub(crate) fn tables_of(
+    alloc: Global,
+    code: &[u8],
+    data_words: u32,
+    labels: Vec<LabelRow>,
+) -> Tables<'_>
     requires { length code.now < 2 ^ 32 }
 {
     Tables {
@@ -51,7 +56,7 @@ fn tables_of(alloc: Global, code: &[u8], data_words: u32, labels: Vec<LabelRow>)
 }
 
 /// The file of these tables. They are refused if they don't keep the format.
-fn file_of(alloc: Global, tables: &Tables) -> Result<Vec<u8>, Failure>
+pub(crate) fn file_of(alloc: Global, tables: &Tables) -> Result<Vec<u8>, Failure>
     ensures { IfOk result (λ file. IsFile file.items) }
 {
     if !tables.keeps() {

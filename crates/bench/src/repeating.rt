@@ -6,12 +6,14 @@ ghost use Rattle.bench.specs.Files.{IsFile};
 
 use crate::call::Call;
 use crate::failure::Failure;
+use crate::largest_files::largest;
 use crate::module_files::{labelled, straight, turning};
-use crate::sources::source;
-use certificate::Module;
+use crate::sources::{program, source};
+use certificate::{Module, write};
 use machine::Checked;
 use machine_state::{Effect, Event};
 use occam_layout::lines;
+use occam_parser::parse;
 use std::alloc::Global;
 use verifier::verify;
 
@@ -26,19 +28,28 @@ fn mixed(checksum: u64, number: u64) -> u64 {
     checksum.wrapping_mul(31).wrapping_add(number)
 }
 
-/// Want of memory is all that stops the reading.
 fn read_repeatedly(alloc: Global, file: &[u8], times: u64) -> Result<u64, Failure>
-    requires { IsFile file.now }
-    ensures { IfErr result (λ failure. failure ≡ Memory) }
+    // Want of memory is all that stops the reading of a module's file.
+    ensures { IsFile file.now → IfErr result (λ failure. failure ≡ Memory) }
 {
     let mut checksum = 0;
     for _ in 0..times {
         let module = Module::read(alloc, file)?;
         let tables = module.tables();
+        let rows = tables.procedures.len() + tables.labels.len() + tables.pars.len();
         checksum = mixed(checksum, tables.budget);
-        if let Some(row) = tables.labels.last() {
-            checksum = mixed(checksum, row.number);
-        }
+        checksum = mixed(checksum, (rows + tables.table_rows.len()) as u64);
+    }
+    Ok(checksum)
+}
+
+/// The lengths of what is written.
+fn write_repeatedly(alloc: Global, file: &[u8], times: u64) -> Result<u64, Failure> {
+    let module = Module::read(alloc, file)?;
+    let mut checksum = 0;
+    for _ in 0..times {
+        let written = write(alloc, module.tables())?;
+        checksum = mixed(checksum, written.len() as u64);
     }
     Ok(checksum)
 }
@@ -76,10 +87,22 @@ fn lines_repeatedly(alloc: Global, source: &[u8], times: u64) -> Result<u64, Fai
     Ok(checksum)
 }
 
+/// Goes over how many lines were read as a program.
+fn parse_repeatedly(alloc: Global, source: &[u8], times: u64) -> Result<u64, Failure> {
+    let rows = lines(alloc, source)?;
+    let mut checksum = 0;
+    for _ in 0..times {
+        parse(alloc, &rows)?;
+        checksum = mixed(checksum, rows.len() as u64);
+    }
+    Ok(checksum)
+}
+
 /// Makes the call's input once, repeats the call so many times, and gives a checksum of its answers.
 pub(crate) fn checksum_of(alloc: Global, call: Call, times: u64) -> Result<u64, Failure> {
     match call {
-        Call::Read => read_repeatedly(alloc, &labelled(alloc, true)?, times),
+        Call::Read { rows } => read_repeatedly(alloc, &largest(alloc, rows)?, times),
+        Call::Write { rows } => write_repeatedly(alloc, &largest(alloc, rows)?, times),
         Call::Verify { loads } => verify_repeatedly(alloc, &straight(alloc, loads)?, times),
         Call::VerifyLabels => verify_repeatedly(alloc, &labelled(alloc, false)?, times),
         Call::VerifySpans => verify_repeatedly(alloc, &labelled(alloc, true)?, times),
@@ -89,5 +112,6 @@ pub(crate) fn checksum_of(alloc: Global, call: Call, times: u64) -> Result<u64, 
             &source(alloc, style, bytes)?,
             times,
         ),
+        Call::Parse { lines } => parse_repeatedly(alloc, &program(alloc, lines)?, times),
     }
 }

@@ -1,6 +1,6 @@
 //! Occam sources, made in memory.
 
-ghost use Rattle.std.specs.Prelude.{◌≡◌, ◌<◌, IfOk, length, vec_len};
+ghost use Rattle.std.specs.Prelude.{◌≡◌, ◌*◌, ◌/◌, ◌<◌, IfOk, length, vec_len};
 
 use crate::call::Style;
 use std::alloc::{AllocError, Global};
@@ -77,6 +77,27 @@ const SHORT_TOKENS: &[u8] = b"IF
     x,y,z:=(p-q)*(r-(s*(t-(u+(v*(w-1)))))),~((a+1)*(b+2)),(c\\3)/(d-4)
 ";
 
+/// A procedure of as many lines as [`PROCEDURE_LINES`] says.
+const PROCEDURE: &[u8] = b"PROC relay(CHAN OF INT left, CHAN OF INT right, VAL INT most)
+  [16]INT table:
+  INT value, sum:
+  SEQ
+    sum := 0
+    SEQ turn = 0 FOR 1000
+      ALT
+        left ? value
+          IF
+            (value > 0) AND (value < most) AND (sum < (most - value))
+              sum := sum + value
+            TRUE
+              table[value /\\ #F] := -(INT 'a')
+        sum > (most / 2) & SKIP
+          right ! sum PLUS table[0] PLUS 1
+:
+";
+
+const PROCEDURE_LINES: usize = 16;
+
 /// A source of exactly so many bytes: the same text over and over as long as it fits, and then spaces.
 pub(crate) fn source(alloc: Global, style: Style, bytes: usize) -> Result<Vec<u8>, AllocError>
     ensures { IfOk result (λ source. vec_len source ≡ bytes) }
@@ -85,6 +106,14 @@ pub(crate) fn source(alloc: Global, style: Style, bytes: usize) -> Result<Vec<u8
         Style::Plain => repeated(alloc, PLAIN, bytes),
         Style::ShortTokens => repeated(alloc, SHORT_TOKENS, bytes),
     }
+}
+
+/// A program of so many lines, if that is a multiple of the lines of a procedure, or else of as many as fit.
+pub(crate) fn program(alloc: Global, lines: u16) -> Result<Vec<u8>, AllocError>
+    ensures { IfOk result (λ source. vec_len source ≡ lines / PROCEDURE_LINES * length PROCEDURE.now) }
+{
+    let procedures = usize::from(lines) / PROCEDURE_LINES;
+    repeated(alloc, PROCEDURE, procedures * PROCEDURE.len())
 }
 
 fn repeated(alloc: Global, text: &[u8], bytes: usize) -> Result<Vec<u8>, AllocError>

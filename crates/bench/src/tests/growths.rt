@@ -10,6 +10,7 @@ use certificate::{Module, write};
 use machine::{Checked, replay};
 use machine_state::Event;
 use occam_layout::lines;
+use occam_parser::parse;
 use std::alloc::{AllocError, Global};
 use std::process::Abort;
 use verifier::verify;
@@ -106,6 +107,16 @@ fn tokens(alloc: Global) -> Result<u64, Failure> {
     Ok(count)
 }
 
+/// How many lines a program has that are read and parsed.
+fn parsed(alloc: Global) -> Result<u64, Failure> {
+    let rows = lines(
+        alloc,
+        b"VAL [2]INT t IS [1, (2 + 3) + 4]:\nPROC p(INT a)\n  INT x:\n  SEQ i = 0 FOR 2\n    x := t[INT 'a']\n:\n",
+    )?;
+    parse(alloc, &rows)?;
+    Ok(rows.len() as u64)
+}
+
 /// The answer is the expected one, or memory ran out.
 fn may_want_memory(rt: &impl Abort, answer: Result<u64, Failure>, expected: u64) {
     if answer != Err(Failure::Memory) {
@@ -191,4 +202,14 @@ fn lines_with_ample_memory(rt: HostRuntime) {
 #[test]
 fn lines_in_want_of_memory(rt: HostRuntime) {
     may_want_memory(&rt, tokens(rt.alloc()), 9);
+}
+
+#[test]
+fn parse_with_ample_memory(rt: HostRuntime) {
+    assert_eq!(rt; parsed(rt.alloc()), Ok(6));
+}
+
+#[test]
+fn parse_in_want_of_memory(rt: HostRuntime) {
+    may_want_memory(&rt, parsed(rt.alloc()), 6);
 }
