@@ -1,5 +1,8 @@
 pub mod Sizes
 pub mod Loop
+pub mod StartLaws
+pub mod PlaceLaws
+pub mod RightLaws
 pub mod Tools
 pub mod OrderLaws
 pub mod FieldLaws

@@ -3,6 +3,10 @@ pub mod Contents
 pub mod Spelling
 pub mod Writable
 pub mod Contexts
+pub mod Starts
+pub mod Branches
+pub mod Index
+pub mod Rights
 pub mod Facts
 pub mod Procedures
 pub mod Pars

@@ -66,7 +66,7 @@ fn owner(rows: &[ParRow], first: usize, context: usize) -> usize
 }
 
 /// The root, or the procedure of that row.
-fn own_context(tables: &Tables, number: usize) -> Option<Context>
+pub(crate) fn own_context(tables: &Tables, number: usize) -> Option<Context>
     ensures { result ≡ own_context (contents_of tables.now) number }
 {
     if number == 0 {
@@ -93,7 +93,7 @@ pub fn context_at(tables: &Tables, number: u16) -> Option<Context>
 }
 
 /// The parameters of the procedure of a row; the root, whose number is 0, has none.
-fn own_parameters<'t>(tables: &'t Tables, number: usize) -> &'t [Parameter]
+pub(crate) fn own_parameters<'t>(tables: &'t Tables, number: usize) -> &'t [Parameter]
     ensures { result.now ≡ own_parameters (contents_of tables.now) number }
 {
     if number == 0 {

@@ -4,12 +4,17 @@
 mod contexts;
 mod fact;
 mod fault;
+mod index;
 mod keeping;
 mod laws;
 mod limits;
+mod marks;
 mod modules;
+mod places;
 mod reading;
+mod rights;
 mod rows;
+mod starts;
 mod tables;
 mod writing;
 

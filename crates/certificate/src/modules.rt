@@ -1,10 +1,19 @@
 //! Modules that were read.
 
+use crate::contexts::{Context, own_context, own_parameters};
 use crate::fault::{FormatFault, MEMORY, ReadError};
+use crate::index::Index;
+use crate::places::number_at;
 use crate::reading::tables_of;
+use crate::rows::{BranchRow, LabelRow, ParRow, Parameter, ProcedureRow};
 use crate::tables::Tables;
 use std::alloc::Global;
 use std::marker::Model;
+
+const NO_MEMORY: FormatFault = FormatFault {
+    number: MEMORY,
+    offset: 0,
+};
 
 /// What a file says, with the file. A `Module` is made by `read` alone, so that each is one that a file
 /// gave.
@@ -12,22 +21,30 @@ use std::marker::Model;
 pub struct Module<'a> {
     bytes: &'a [u8],
     tables: Tables<'a>,
+    index: Index,
 }
 
 impl<'a> Model for Module<'a> {
     ghost use Rattle.certificate.specs.Contents.{Contents, contents_of};
     ghost use Rattle.certificate.specs.Keeping.{Format};
+    ghost use Rattle.certificate.specs.Index.{IsIndex};
 
     ghost Value = { Contents };
 
     ghost view = { λ m. contents_of m.tables };
 
-    ghost invariant = { λ m. Format m.bytes.now (contents_of m.tables) };
+    ghost invariant = { λ m. Format m.bytes.now (contents_of m.tables) × IsIndex (contents_of m.tables) m.index };
 }
 
 impl<'a> Module<'a> {
-    ghost use Rattle.std.specs.Prelude.{◌≡◌, ◌≢◌, ◌⊎◌, IfOk, IfErr, MatchResult, Ok, Err};
-    ghost use Rattle.certificate.specs.Contents.{Contents, contents_of};
+    ghost use Rattle.std.specs.Prelude.{◌≡◌, ◌≢◌, ◌⊎◌, IfOk, IfErr, MatchResult, Ok, Err, MatchOption, IfSome, Some, None, is_some, if◌then◌else◌, []};
+    ghost use Rattle.certificate.specs.Contents.{Contents, contents_of, label_of, procedure_of, label_at};
+    ghost use Rattle.certificate.specs.Contents.{par_of, branch_of};
+    ghost use Rattle.certificate.specs.Contexts.{context_at, parameters_at};
+    ghost use Rattle.certificate.specs.Starts.{procedure_at, is_start};
+    ghost use Rattle.certificate.specs.Branches.{numbered_branch, branch_at, owner_at};
+    ghost use Rattle.certificate.specs.Order.{InOrder, least_word};
+    ghost use Rattle.certificate.specs.Pars.{GiftsKeep, ChannelKeeps, behind_channel};
     ghost use Rattle.certificate.specs.Keeping.{Format, Keeps};
     ghost use Rattle.certificate.specs.Reading.{out_of_memory};
     ghost use Rattle.certificate.specs.ReadingFile.{read_contents};
@@ -47,12 +64,16 @@ impl<'a> Module<'a> {
             (λ f. (f ≡ out_of_memory) ⊎ (read_contents bytes.now ≡ Err f)) }
     {
         match tables_of(alloc, bytes) {
-            Ok(tables) => Ok(Module { bytes, tables }),
+            Ok(tables) => match Index::new(alloc, &tables) {
+                Ok(index) => Ok(Module {
+                    bytes,
+                    tables,
+                    index,
+                }),
+                Err(_) => Err(NO_MEMORY),
+            },
             Err(ReadError::Fault(fault)) => Err(fault),
-            Err(ReadError::Memory) => Err(FormatFault {
-                number: MEMORY,
-                offset: 0,
-            }),
+            Err(ReadError::Memory) => Err(NO_MEMORY),
         }
     }
 
@@ -62,5 +83,117 @@ impl<'a> Module<'a> {
         ensures kept { Keeps self.now }
     {
         &self.tables
+    }
+
+    /// The label row at a code offset, found in logarithmic time.
+    pub fn label_at(&self, offset: u32) -> Option<&LabelRow>
+        ensures { MatchOption result (label_at self.now offset ≡ None) (λ row. label_at self.now offset ≡ Some (label_of row.now)) }
+    {
+        let rows = &self.tables.labels;
+        let index = rows.partition_point(|row| row.offset < offset);
+        let row = rows.get(index)?;
+        if row.offset != offset {
+            return None;
+        }
+        Some(row)
+    }
+
+    /// The procedure that begins at a code offset, with the number of its context, found in logarithmic
+    /// time.
+    pub fn procedure_at(&self, offset: u32) -> Option<(u16, &ProcedureRow)>
+        ensures { MatchOption result (procedure_at self.now offset ≡ None)
+            (λ found. procedure_at self.now offset ≡ Some (record { context = found.0; procedure = procedure_of found.1.now })) }
+    {
+        let rows = &self.tables.procedures;
+        let index = rows.partition_point(|row| row.entry < offset);
+        let row = rows.get(index)?;
+        if row.entry != offset {
+            return None;
+        }
+        Some((index as u16 + 1, row))
+    }
+
+    /// Whether the tables say that an instruction starts at a code offset: it has a label row, or a
+    /// procedure or a branch begins there, or it is the successor of a PAR. It takes constant time.
+    pub fn is_start(&self, offset: u32) -> bool
+        ensures { result ≡ is_start self.now offset }
+    {
+        self.index.starts.contains(offset)
+    }
+
+    /// The root or procedure that a context is or belongs to, where the context is there.
+    #[tactic(auto, using(crate::proofs::PlaceLaws::place_owner, crate::proofs::PlaceLaws::no_place, crate::proofs::PlaceLaws::own_owner))]
+    fn owner(&self, context: u16) -> Option<u16>
+        ensures { result ≡ owner_at self.now context }
+    {
+        let own = 1 + self.tables.procedures.len();
+        let number = usize::from(context);
+        if number < own {
+            return Some(context);
+        }
+        match self.index.places.get(number - own) {
+            Some(place) => Some(place.owner),
+            None => None,
+        }
+    }
+
+    /// The context of a number, where there is one, found in constant time.
+    #[tactic(auto, unfolding(crate::specs::Contexts::context_at))]
+    pub fn context(&self, number: u16) -> Option<Context>
+        ensures { result ≡ context_at self.now number }
+    {
+        let owner = self.owner(number)?;
+        own_context(&self.tables, usize::from(owner))
+    }
+
+    /// The parameters of the procedure that a context is or belongs to, found in constant time; none
+    /// where there is no such context.
+    #[tactic(auto, unfolding(crate::specs::Contexts::context_at, crate::specs::Contexts::parameters_at))]
+    pub fn parameters(&self, number: u16) -> &[Parameter]
+        ensures { result.now ≡ (if is_some (context_at self.now number) then parameters_at self.now number else []) }
+    {
+        match self.owner(number) {
+            Some(owner) => own_parameters(&self.tables, usize::from(owner)),
+            None => &[],
+        }
+    }
+
+    /// The branch that is the context of a number, with its PAR row, found in constant time.
+    pub fn branch(&self, number: u16) -> Option<(&ParRow, &BranchRow)>
+        ensures found { MatchOption result (numbered_branch self.now number ≡ None)
+            (λ found. numbered_branch self.now number ≡ Some (par_of found.0.now, branch_of found.1.now)) }
+        // What the rows say keeps the format.
+        ensures kept { IfSome result (λ found. GiftsKeep (branch_of found.1.now)
+            × InOrder ChannelKeeps behind_channel least_word found.0.now.channels.items) }
+    {
+        self.numbered(usize::from(number))
+    }
+
+    /// The branch that begins at a code offset, with the number of its context and its PAR row, found in
+    /// constant time. The number may be above the greatest that a row can name.
+    pub fn branch_at(&self, offset: u32) -> Option<(u32, &ParRow, &BranchRow)>
+        ensures { MatchOption result (branch_at self.now offset ≡ None)
+            (λ found. branch_at self.now offset ≡ Some (record { context = found.0; par = par_of found.1.now; branch = branch_of found.2.now })) }
+    {
+        let number = number_at(&self.index.numbers, offset);
+        let (row, branch) = self.numbered(number as usize)?;
+        Some((number, row, branch))
+    }
+
+    /// The branch that is the context of a number, which may be above those that rows can name.
+    fn numbered(&self, number: usize) -> Option<(&ParRow, &BranchRow)>
+        ensures found { MatchOption result (numbered_branch self.now number ≡ None)
+            (λ found. numbered_branch self.now number ≡ Some (par_of found.0.now, branch_of found.1.now)) }
+        // What the rows say keeps the format.
+        ensures kept { IfSome result (λ found. GiftsKeep (branch_of found.1.now)
+            × InOrder ChannelKeeps behind_channel least_word found.0.now.channels.items) }
+    {
+        let own = 1 + self.tables.procedures.len();
+        if number < own {
+            return None;
+        }
+        let place = self.index.places.get(number - own)?;
+        let row = &self.tables.pars[usize::from(place.par)];
+        Some((row, &row.branches[usize::from(place.branch)]))
     }
 }

@@ -183,6 +183,7 @@ pub(crate) struct EndKey {
 impl EndKey {
     ghost use Rattle.std.specs.Prelude.{◌≡◌};
     ghost use Rattle.certificate.specs.Pars.{first_key, is_below};
+    ghost use Rattle.certificate.specs.Rights.{is_same_end};
 
     /// Below each end.
     pub const fn first() -> EndKey
@@ -210,6 +211,16 @@ impl EndKey {
             return self.element < other.element;
         }
         self.direction < other.direction
+    }
+
+    /// Whether the other key is the same.
+    pub fn is_same(&self, other: &EndKey) -> bool
+        ensures { result ≡ is_same_end self.now other.now }
+    {
+        self.kind == other.kind
+            && self.number == other.number
+            && self.element == other.element
+            && self.direction == other.direction
     }
 }
 

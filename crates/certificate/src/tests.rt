@@ -10,6 +10,7 @@ mod fields;
 mod good_fields;
 mod kept_pars;
 mod kept_rows;
+mod lookups;
 mod programs;
 mod several_faults;
 mod whole_files;

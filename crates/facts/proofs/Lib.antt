@@ -2,4 +2,5 @@ pub mod LabelRows
 pub mod Steps
 pub mod Numbers
 pub mod Words
+pub mod Entering
 pub mod Local

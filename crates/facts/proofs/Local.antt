@@ -1,8 +1,9 @@
 -- The rule of an instruction and its step fit each other: where the rule is not broken, the step is no fault, and what the rule says of the state behind holds.
-use Rattle.std.proofs.Common.{lit<, ◌≡◌, ℕ, ◌+◌, ◌-◌, ◌^◌, ◌≤◌, ◌<◌, ◌<ℤ◌, ℤ, pos, negsuc, ◌+ℤ◌, ◌≤ℤ◌, FitsSigned, Bool, true, false, cond, if◌then◌else◌, ◌&&◌, ◌||◌, suc, inl, inr, List, length, Option, Some, None, Result, Ok, Err, refl, sym, ap, ◌∙◌, subst, arith, ltb, eqb}
-use Rattle.std.proofs.lemmas.Bool.Decides.{leb_tells, eqb_tells}
+use Rattle.std.proofs.Common.{lit<, ◌≡◌, ℕ, ◌+◌, ◌-◌, ◌^◌, ◌≤◌, ◌<◌, ℤ, pos, negsuc, ◌+ℤ◌, ◌≤ℤ◌, FitsSigned, Bool, true, false, cond, if◌then◌else◌, ◌&&◌, ◌||◌, suc, inl, inr, length, Option, Some, None, Result, Ok, Err, refl, sym, ap, ◌∙◌, subst, arith, ltb}
+use Rattle.std.proofs.lemmas.Bool.Decides.{leb_tells}
 use Rattle.std.proofs.lemmas.Int.{ints}
 use Rattle.std.specs.Int.{w32}
+use Rattle.std.specs.List.{list_any}
 use Rattle.prefix_decoder.specs.declared.function.Fun.{Fun}
 use Rattle.prefix_decoder.specs.declared.function.Fun.TheVariants as fun
 use Rattle.certificate.specs.declared.fact.Fact.{Fact}
@@ -13,37 +14,30 @@ use Rattle.certificate.specs.Order.{least_word}
 use Rattle.machine_state.specs.declared.process.Registers.{Registers}
 use Rattle.machine_state.specs.declared.process.Mode as machine
 use Rattle.machine_state.specs.declared.process.Mode.TheVariants as machine_modes
-use Rattle.machine_state.specs.Memory.{Memory, place_of, local_address, word_at, with_word}
-use Rattle.std.specs.List.{list_any}
-use Rattle.machine_state.specs.Holding.{Holding, covers, may_write, may_read, may_write_word, may_read_word}
 use Rattle.machine_state.specs.declared.op.Op.{Op}
 use Rattle.machine_state.specs.declared.op.Op.TheVariants.{Reverse, StopProcess, MinimumInteger}
+use Rattle.machine_state.specs.Memory.{Memory, place_of, local_address, word_at, with_word}
+use Rattle.machine_state.specs.Holding.{Holding, covers, may_write, may_read, may_write_word, may_read_word}
+use Rattle.machine_state.specs.Frame.{ChangesOwn}
 use Rattle.machine_state.specs.LocalStep as step
 use Rattle.machine_state.specs.LocalStep.{Outcome, goes, lands, stops, fails, Local, fits_word, target}
+use Rattle.machine_state.proofs.Reading.{length-with_word}
+use Rattle.machine_state.proofs.Frame.{write_is_own, changes_more}
 use Rattle.states.specs.declared.known.Mode as states
 use Rattle.states.specs.declared.known.Mode.TheVariants as states_modes
 use Rattle.states.specs.declared.known.Known.{Known}
-use Rattle.certificate.specs.declared.rows.Entry.{Entry}
-use Rattle.std.specs.Prelude.{int_le, int_lt, zero, [], ◌∷◌}
-use Rattle.states.specs.State.{State, Facts, label_state, is_word, entry_fact, is_about, written, known}
-use Rattle.states.specs.Below.{below, agrees, implies, words_imply, entries_hold, is_plain}
+use Rattle.states.specs.State.{State, written, known, has_word}
+use Rattle.states.specs.Below.{below}
+use Rattle.states.proofs.RowFacts.{and-parts}
 use Rattle.facts.specs.Rules as rule
 use Rattle.facts.specs.Rules.{Ruling, falls, leads, ends, breaks}
-use Rattle.states.specs.State.{has_word}
-use Rattle.facts.specs.Meaning.{Means, says_nothing, is_number, frame_word, IsOwnWord, HasFrame, Knows, IsWellFormed, SameMode, both_plain}
+use Rattle.facts.specs.Meaning.{Activation, Means, says_nothing, is_number, IsOwnWord, HasFrame, Knows, IsWellFormed, SameMode, both_plain, label_turns}
 use Rattle.facts.specs.Fitting.{After, Here, rule_site, step_site, Fits, it_falls, it_leads, it_ends, it_breaks, HasNext, RulesFitSteps}
-use Rattle.facts.proofs.Words.{local_place, frame_word_is, knows_written, bool_cases, means_same, word_test, int_le_tells}
-use Rattle.machine_state.proofs.Reading.{length-with_word, word_at-with_word}
-use Rattle.machine_state.specs.Frame.{ChangesOwn}
-use Rattle.machine_state.proofs.Frame.{write_is_own, changes_more}
+use Rattle.facts.proofs.Words.{local_place, frame_word_is, knows_written, means_same, stored_means, plain_means}
+use Rattle.facts.proofs.Entering.{below_tells, label_after}
 
 abbrev pub FitsIf : Here → Ruling → Outcome → Type 0
 FitsIf x r o = HasNext x r → Fits x r o
-
-pub and_true : (a b : Bool) → (a && b) ≡ true → (a ≡ true) × (b ≡ true)
-and_true true true h = (refl, refl)
-and_true true false h = absurd (cc)
-and_true false b h = absurd (cc)
 
 -- the test says what it should
 word_fits : (a : ℤ) → fits_word a ≡ true → FitsSigned w32 a
@@ -96,143 +90,8 @@ below_not : (a b : ℕ) → a < b → ltb a b ≡ false → ⊥
 below_not a b low t = elim (leb_tells (suc a) b) [ inl p ↦ let no' : true ≡ false = sym p.0 ∙ t in (cc) | inr p ↦ let high : b < suc a = p.1 in omega arith ]
 
 -- paying changes nothing that is known
-paid : {has : ℤ → Bool} {s : State} {origin : ℤ} {r : Registers} {memory : Memory} {n : ℕ} → Knows has s origin r memory → Knows has (record s { number = n }) origin r memory
+paid : {m : Contents} {has : ℤ → Bool} {s : State} {act : Activation} {r : Registers} {memory : Memory} {n : ℕ} → Knows m has s act r memory → Knows m has (record s { number = n }) act r memory
 paid k = record { a = k.a; b = k.b; c = k.c; words = k.words; within = k.within }
-
-pub le_by : (j k : ℤ) → int_le j k ≡ true → j ≤ℤ k
-le_by j k t = elim (int_le_tells j k) [ inl p ↦ p.1 | inr p ↦ let no' : true ≡ false = sym t ∙ p.0 in absurd (cc) ]
-
-pub lt_by : (j k : ℤ) → int_lt j k ≡ true → j <ℤ k
-lt_by j k t = grind (arith, ints)
-
-below_last : (k word : ℤ) (more : ℕ) → k <ℤ (word +ℤ pos (suc more)) → (k ≡ word +ℤ pos more → ⊥) → k <ℤ (word +ℤ pos more)
-below_last k word more high differ = elim (int_le_tells (word +ℤ pos more) k) [
-  | inl p ↦ absurd (differ (omega (arith, ints, p.1)))
-  | inr p ↦ p.1
-]
-
--- ---- what a state that is below a label knows
-
-implies_means : (f g : Fact) (v : Option ℤ) → implies f g ≡ true → Means f v → Means g v
-implies_means f Unknown v t means = says_nothing
-implies_means Unknown (Number low high) v t means = absurd (cc)
-implies_means Unknown (Pointer region low high stride) v t means = absurd (cc)
-implies_means Unknown (CodeAddress offset) v t means = absurd (cc)
-implies_means Unknown (Loop base count weight) v t means = absurd (cc)
-implies_means Unknown ReturnAddress v t means = absurd (cc)
-implies_means (Number lo hi) (Number low high) None t means = elim means [ ]
-implies_means (Number lo hi) (Number low high) (Some a) t (is_number p q fits) =
-    let both : (int_le low lo ≡ true) × (int_le hi high ≡ true) = and_true _ _ t in
-    is_number (omega (arith, ints, le_by low lo both.0)) (omega (arith, ints, le_by hi high both.1)) fits
-implies_means (Number lo hi) (Pointer region low high stride) v t means = absurd (cc)
-implies_means (Number lo hi) (CodeAddress offset) v t means = absurd (cc)
-implies_means (Number lo hi) (Loop base count weight) v t means = absurd (cc)
-implies_means (Number lo hi) ReturnAddress v t means = absurd (cc)
-implies_means (Pointer region lo hi stride) g v t means = elim means [ ]
-implies_means (CodeAddress offset) g v t means = elim means [ ]
-implies_means (Loop base count weight) g v t means = elim means [ ]
-implies_means ReturnAddress g v t means = elim means [ ]
-
--- each word that an entry is about
-words_implied : (facts : Facts) (word : ℤ) (fact : Fact) (k : ℤ) (span : ℕ) → words_imply facts word fact span ≡ true → word ≤ℤ k → k <ℤ (word +ℤ pos span) → implies (facts k) fact ≡ true
-words_implied facts word fact k zero t low high = absurd (omega (arith, ints))
-words_implied facts word fact k (suc more) t low high =
-    let both = and_true _ _ t in
-    elim (word_test k (word +ℤ pos more)) [
-      | inl e ↦ ap (λ j. implies (facts j) fact) e.1 ∙ both.0
-      | inr e ↦ words_implied facts word fact k more both.1 low (below_last k word more high e.1)
-    ]
-
-entries_mean : (facts : Facts) (entries : List Entry) (k : ℤ) (v : Option ℤ) → entries_hold facts entries ≡ true → Means (facts k) v → Means (entry_fact entries k) v
-entries_mean facts [] k v t means = says_nothing
-entries_mean facts (entry ∷ entries) k v t means =
-    let both = list_all_both entry entries t in
-    elim (bool_cases (is_about entry k)) [
-      | inl e ↦
-          let place = and_true _ _ e in
-          let fact = implies_means (facts k) entry.fact v (words_implied facts entry.word entry.fact k entry.span both.0 (le_by entry.word k place.0) (lt_by k (entry.word +ℤ pos entry.span) place.1)) means in
-          means_same fact (sym (ap (λ (b : Bool). cond b entry.fact (entry_fact entries k)) e)) refl
-      | inr e ↦ means_same (entries_mean facts entries k v both.1 means) (sym (ap (λ (b : Bool). cond b entry.fact (entry_fact entries k)) e)) refl
-    ]
-  where
-    list_all_both : (entry : Entry) (entries : List Entry) → entries_hold facts (entry ∷ entries) ≡ true → (words_imply facts entry.word entry.fact entry.span ≡ true) × (entries_hold facts entries ≡ true)
-    list_all_both entry entries t = and_true _ _ t
-
--- what a state that is below a label has
-pub record IsBelow (s : State) (t : Label) : Type 0 where
-  pub context : s.context ≡ t.context
-  pub depth : s.depth ≡ t.depth
-  pub plain : is_plain s.mode ≡ true
-  pub a : implies s.a.fact t.a ≡ true
-  pub b : implies s.b.fact t.b ≡ true
-  pub c : implies s.c.fact t.c ≡ true
-  pub entries : entries_hold s.frame t.entries ≡ true
-
-agrees_tells : (s : State) (t : Label) → agrees s t ≡ true → IsBelow s t
-agrees_tells s t e =
-    let p = and_true _ _ e in
-    let q = and_true _ _ p.0 in
-    let r = and_true _ _ q.0 in
-    let u = and_true _ _ r.0 in
-    let v = and_true _ _ u.0 in
-    let w = and_true _ _ v.0 in
-    record {
-      context = same_number s.context t.context w.0;
-      depth = same_word s.depth t.depth w.1;
-      plain = v.1;
-      a = u.1;
-      b = r.1;
-      c = q.1;
-      entries = p.1;
-    }
-  where
-    same_number : (m n : ℕ) → eqb m n ≡ true → m ≡ n
-    same_number m n h = elim (eqb_tells m n) [ inl p ↦ p.1 | inr p ↦ let no' : true ≡ false = sym h ∙ p.0 in absurd (cc) ]
-
-    same_word : (j k : ℤ) → is_word j k ≡ true → j ≡ k
-    same_word j k h = elim (word_test j k) [ inl p ↦ p.1 | inr p ↦ let no' : true ≡ false = sym h ∙ p.0 in absurd (cc) ]
-
-pub below_tells : (s : State) (t : Label) (cost : ℕ) → below s t ≡ Ok cost → (t.number ≤ s.number) × IsBelow s t
-unfolding below
-below_tells s t cost h = first (ltb s.number t.number) refl h
-  where
-    not_below : (m n : ℕ) → ltb m n ≡ false → n ≤ m
-    not_below m n e = elim (leb_tells (suc m) n) [ inl p ↦ let no' : true ≡ false = sym p.0 ∙ e in absurd (cc) | inr p ↦ let high : n < suc m = p.1 in omega arith ]
-
-    second : (b : Bool) → agrees s t ≡ b → ◌≡◌ {A = Result ℕ ℕ} (if b then Ok t.number else Err 16) (Ok cost) → IsBelow s t
-    second true e g = agrees_tells s t e
-    second false e g = absurd (cc)
-
-    first : (b : Bool) → ltb s.number t.number ≡ b → ◌≡◌ {A = Result ℕ ℕ} (if b then Err 15 else (if agrees s t then Ok t.number else Err 16)) (Ok cost) → (t.number ≤ s.number) × IsBelow s t
-    first true e g = absurd (cc)
-    first false e g = (not_below s.number t.number e, second (agrees s t) refl g)
-
--- what holds behind an instruction holds as the label's state, where the state is below the label
-pub label_after : (m : Contents) (h : Holding) (mode : machine.Mode) (origin : ℤ) (s : State) (t : Label) (l : Local) → IsWellFormed m → (at : ℕ) → label_at m at ≡ Some t → IsBelow s t
-    → After m h mode origin s l → After m h mode origin (label_state t) l
-label_after m h mode origin s t l wf at e g a = record {
-  frame = subst (λ d. HasFrame h (length l.memory) (has_word (context_at m t.context)) origin d l.registers.workspace) g.depth
-      (subst (λ c. HasFrame h (length l.memory) (has_word (context_at m c)) origin s.depth l.registers.workspace) g.context a.frame);
-  knows = record {
-    a = implies_means s.a.fact t.a l.registers.a g.a a.knows.a;
-    b = implies_means s.b.fact t.b l.registers.b g.b a.knows.b;
-    c = implies_means s.c.fact t.c l.registers.c g.c a.knows.c;
-    words = λ k. entries_mean s.frame t.entries k (frame_word l.memory origin k) g.entries (a.knows.words k);
-    within = λ k out. wf.entries at t k e out;
-  };
-  same_mode = plain_mode s.mode mode g.plain a.same_mode;
-}
-  where
-    plain_mode : (p : states.Mode) (q : machine.Mode) → is_plain p ≡ true → SameMode p q → SameMode states_modes.Plain q
-    plain_mode p q e both_plain = both_plain
-
-stored_means : (f : Fact) (v : ℤ) (memory : Memory) (place : ℕ) → place + 4 ≤ length memory → Means f (Some v) → Means f (word_at (with_word memory place (Some v)) place)
-stored_means Unknown v memory place inside means = says_nothing
-stored_means (Number lo hi) v memory place inside (is_number low high fits) = means_same (is_number low high fits) refl (sym (word_at-with_word memory place v inside fits))
-stored_means (Pointer region lo hi stride) v memory place inside means = elim means [ ]
-stored_means (CodeAddress offset) v memory place inside means = elim means [ ]
-stored_means (Loop base count weight) v memory place inside means = elim means [ ]
-stored_means ReturnAddress v memory place inside means = elim means [ ]
 
 rule_plain : {p : states.Mode} {q : machine.Mode} → SameMode p q → p ≡ states_modes.Plain
 rule_plain both_plain = refl
@@ -251,45 +110,44 @@ module _ (x : Here) where
 
   -- ---- one lemma for each pair of combinators
 
-  uses_fact : (fact : Fact) (v : Option ℤ) (r : Ruling) (o : ℤ → Outcome) → Means fact v → ((a : ℤ) → Means fact (Some a) → FitsIf x r (o a))
+  uses_fact : (fact : Fact) (v : Option ℤ) (r : Ruling) (o : ℤ → Outcome) → Means x.m x.act fact v → ((a : ℤ) → Means x.m x.act fact (Some a) → FitsIf x r (o a))
       → FitsIf x (elim fact as (λ f. Ruling) [ Unknown ↦ breaks 4 | _ ↦ r ]) (step.uses v o)
   unfolding step.uses
-  uses_fact Unknown v r o says_nothing go = λ next. it_breaks
+  uses_fact Unknown v r o means go = λ next. it_breaks
   uses_fact (Number lo hi) None r o means go = elim means [ ]
-  uses_fact (Number lo hi) (Some a) r o (is_number low high fits) go = go a (is_number low high fits)
-  uses_fact (Pointer region lo hi step) v r o means go = elim means [ ]
-  uses_fact (CodeAddress offset) v r o means go = elim means [ ]
+  uses_fact (Number lo hi) (Some a) r o means go = go a means
+  uses_fact (Pointer region lo hi step) None r o means go = elim means [ ]
+  uses_fact (Pointer region lo hi step) (Some a) r o means go = go a means
+  uses_fact (CodeAddress offset) None r o means go = elim means [ ]
+  uses_fact (CodeAddress offset) (Some a) r o means go = go a means
   uses_fact (Loop base count weight) v r o means go = elim means [ ]
-  uses_fact ReturnAddress v r o means go = elim means [ ]
+  uses_fact ReturnAddress None r o means go = elim means [ ]
+  uses_fact ReturnAddress (Some a) r o means go = go a means
 
-  uses_fits : (k : Known) (v : Option ℤ) (r : Fact → Ruling) (o : ℤ → Outcome) → Means k.fact v → ((a : ℤ) → Means k.fact (Some a) → FitsIf x (r k.fact) (o a)) → FitsIf x (rule.uses k r) (step.uses v o)
+  uses_fits : (k : Known) (v : Option ℤ) (r : Fact → Ruling) (o : ℤ → Outcome) → Means x.m x.act k.fact v → ((a : ℤ) → Means x.m x.act k.fact (Some a) → FitsIf x (r k.fact) (o a)) → FitsIf x (rule.uses k r) (step.uses v o)
   unfolding rule.uses
   uses_fits k v r o means go = uses_fact k.fact v (r k.fact) o means go
 
-  number_fits : (fact : Fact) (a : ℤ) (r : ℤ → ℤ → Ruling) (o : Outcome) → Means fact (Some a) → ((lo hi : ℤ) → lo ≤ℤ a → a ≤ℤ hi → FitsSigned w32 a → FitsIf x (r lo hi) o) → FitsIf x (rule.number fact r) o
+  number_fits : (fact : Fact) (a : ℤ) (r : ℤ → ℤ → Ruling) (o : Outcome) → Means x.m x.act fact (Some a) → ((lo hi : ℤ) → lo ≤ℤ a → a ≤ℤ hi → FitsSigned w32 a → FitsIf x (r lo hi) o) → FitsIf x (rule.number fact r) o
   unfolding rule.number
-  number_fits Unknown a r o says_nothing go = λ next. it_breaks
   number_fits (Number lo hi) a r o (is_number low high fits) go = go lo hi low high fits
-  number_fits (Pointer region lo hi step) a r o means go = elim means [ ]
-  number_fits (CodeAddress offset) a r o means go = elim means [ ]
-  number_fits (Loop base count weight) a r o means go = elim means [ ]
-  number_fits ReturnAddress a r o means go = elim means [ ]
+  number_fits fact a r o means go = λ next. it_breaks
 
-  in_word_fits : (lo hi e a : ℤ) (r : Fact → Ruling) (o : ℤ → Outcome) → lo ≤ℤ a → a ≤ℤ hi → (Means (Number (lo +ℤ e) (hi +ℤ e)) (Some (a +ℤ e)) → FitsIf x (r (Number (lo +ℤ e) (hi +ℤ e))) (o (a +ℤ e)))
+  in_word_fits : (lo hi e a : ℤ) (r : Fact → Ruling) (o : ℤ → Outcome) → lo ≤ℤ a → a ≤ℤ hi → (Means x.m x.act (Number (lo +ℤ e) (hi +ℤ e)) (Some (a +ℤ e)) → FitsIf x (r (Number (lo +ℤ e) (hi +ℤ e))) (o (a +ℤ e)))
       → FitsIf x (rule.in_word (lo +ℤ e) (hi +ℤ e) r) (step.in_word (a +ℤ e) o)
   unfolding rule.in_word step.in_word
   in_word_fits lo hi e a r o low high go =
       on_rule_test (fits_word (lo +ℤ e) && fits_word (hi +ℤ e)) _ _ _
-      (λ t. let p = and_true _ _ t in
+      (λ t. let p = and-parts _ _ t in
       let fits : FitsSigned w32 (a +ℤ e) = between_fits (lo +ℤ e) (a +ℤ e) (hi +ℤ e) p.0 p.1 (omega (arith, ints)) (omega (arith, ints)) in
       on_step_test (fits_word (a +ℤ e)) _ _ _ (λ u. go (is_number (omega (arith, ints)) (omega (arith, ints)) fits)) (λ u. absurd (fits_or_not (a +ℤ e) fits u)))
       (λ t next. it_breaks)
 
   -- the frame's word at depth + e
-  owns_fits : (s : State) (l : Local) (origin e : ℤ) (r : Ruling) (o : Outcome) → After x.m x.h x.mode origin s l
-      → (has_word (context_at x.m s.context) (s.depth +ℤ e) ≡ true → IsOwnWord x.h (length l.memory) origin (s.depth +ℤ e) → FitsIf x r o) → FitsIf x (rule.owns (rule_site x) s (s.depth +ℤ e) r) o
+  owns_fits : (s : State) (l : Local) (e : ℤ) (r : Ruling) (o : Outcome) → After x.m x.h x.mode x.act s l
+      → (has_word (context_at x.m s.context) (s.depth +ℤ e) ≡ true → IsOwnWord x.h (length l.memory) x.act.origin (s.depth +ℤ e) → FitsIf x r o) → FitsIf x (rule.owns (rule_site x) s (s.depth +ℤ e) r) o
   unfolding rule.owns
-  owns_fits s l origin e r o a go =
+  owns_fits s l e r o a go =
       on_rule_test (has_word (context_at x.m s.context) (s.depth +ℤ e)) _ _ _ (λ t. go t (a.frame.words (s.depth +ℤ e) t)) (λ t next. it_breaks)
 
   writes_fits : (l : Local) (address place : ℕ) (v : Option ℤ) (r : Ruling) (o : Local → Outcome) → place_of address ≡ place → may_write_word x.h place ≡ true
@@ -308,61 +166,61 @@ module _ (x : Here) where
       (λ t. subst (λ p. FitsIf x r (o (word_at l.memory p))) (sym is) go)
       (λ t. let no : true ≡ false = sym (readable x.h place mine) ∙ ap (may_read_word x.h) (sym is) ∙ t in absurd (cc))
 
-  goes_on_fits : (s : State) (l : Local) (origin : ℤ) → After x.m x.h x.mode origin s l → ChangesOwn x.h x.memory l.memory → s.number ≡ x.number → FitsIf x (rule.goes_on (rule_site x) s) (step.goes_on (step_site x) l)
+  goes_on_fits : (s : State) (l : Local) → After x.m x.h x.mode x.act s l → ChangesOwn x.h x.memory l.memory → s.number ≡ x.number → FitsIf x (rule.goes_on (rule_site x) s) (step.goes_on (step_site x) l)
   unfolding rule.goes_on rule.pays step.goes_on
-  goes_on_fits s l origin a changes n =
+  goes_on_fits s l a changes n =
       on_rule_test (ltb s.number x.len) _ _ _
       (λ t next. it_breaks)
       (λ t next. let low = next _ refl in on_step_test (ltb (x.at + x.len) (length x.m.code)) (falls (record s { number = s.number - x.len })) _ _
-      (λ u next. it_falls origin low (record { frame = a.frame; knows = paid a.knows; same_mode = a.same_mode }) changes (enough s.number x.len x.number t n))
+      (λ u next. it_falls low (record { frame = a.frame; knows = paid a.knows; same_mode = a.same_mode }) changes (enough s.number x.len x.number t n))
       (λ u. absurd (below_not _ _ low u)) next)
 
   -- ---- a write to a word of the frame
 
-  after_write : (s : State) (l : Local) (origin e : ℤ) (f : Fact) (v : Option ℤ) → After x.m x.h x.mode origin s l → has_word (context_at x.m s.context) (s.depth +ℤ e) ≡ true
-      → (w : IsOwnWord x.h (length l.memory) origin (s.depth +ℤ e)) → Means f (word_at (with_word l.memory w.place v) w.place)
-      → After x.m x.h x.mode origin (written (s.depth +ℤ e) f s) (record l { memory = with_word l.memory w.place v })
+  after_write : (s : State) (l : Local) (e : ℤ) (f : Fact) (v : Option ℤ) → After x.m x.h x.mode x.act s l → has_word (context_at x.m s.context) (s.depth +ℤ e) ≡ true
+      → (w : IsOwnWord x.h (length l.memory) x.act.origin (s.depth +ℤ e)) → Means x.m x.act f (word_at (with_word l.memory w.place v) w.place)
+      → After x.m x.h x.mode x.act (written (s.depth +ℤ e) f s) (record l { memory = with_word l.memory w.place v })
   unfolding written
-  after_write s l origin e f v a t w means = record {
+  after_write s l e f v a t w means = record {
     frame = same_frame (sym (length-with_word l.memory w.place v)) a.frame;
-    knows = knows_written x.h (has_word (context_at x.m s.context)) s origin (s.depth +ℤ e) l.registers l.memory f v a.frame.words t w a.knows means;
+    knows = knows_written x.m x.h (has_word (context_at x.m s.context)) s x.act (s.depth +ℤ e) l.registers l.memory f v a.frame.words t w a.knows means;
     same_mode = a.same_mode;
   }
 
-  write_step : (s : State) (l : Local) (origin e : ℤ) (f : Fact) (v : Option ℤ) (r : Ruling) (o : Local → Outcome) → After x.m x.h x.mode origin s l → ChangesOwn x.h x.memory l.memory
+  write_step : (s : State) (l : Local) (e : ℤ) (f : Fact) (v : Option ℤ) (r : Ruling) (o : Local → Outcome) → After x.m x.h x.mode x.act s l → ChangesOwn x.h x.memory l.memory
       → FitsSigned w32 e → has_word (context_at x.m s.context) (s.depth +ℤ e) ≡ true
-      → ((place : ℕ) → place + 4 ≤ length l.memory → Means f (word_at (with_word l.memory place v) place))
-      → ((memory : Memory) → After x.m x.h x.mode origin (written (s.depth +ℤ e) f s) (record l { memory = memory }) → ChangesOwn x.h x.memory memory → FitsIf x r (o (record l { memory = memory })))
+      → ((place : ℕ) → place + 4 ≤ length l.memory → Means x.m x.act f (word_at (with_word l.memory place v) place))
+      → ((memory : Memory) → After x.m x.h x.mode x.act (written (s.depth +ℤ e) f s) (record l { memory = memory }) → ChangesOwn x.h x.memory memory → FitsIf x r (o (record l { memory = memory })))
       → FitsIf x r (step.writes (step_site x) (local_address l.registers.workspace e) v l o)
-  write_step s l origin e f v r o a changes fits t means go =
+  write_step s l e f v r o a changes fits t means go =
       let w = a.frame.words (s.depth +ℤ e) t in
       writes_fits l (local_address l.registers.workspace e) w.place v r o
-      (local_place x.h (length l.memory) (has_word (context_at x.m s.context)) origin s.depth l.registers.workspace e a.frame fits w) w.mine
-      (go (with_word l.memory w.place v) (after_write s l origin e f v a t w (means w.place w.inside))
+      (local_place x.h (length l.memory) (has_word (context_at x.m s.context)) x.act.origin s.depth l.registers.workspace e a.frame fits w) w.mine
+      (go (with_word l.memory w.place v) (after_write s l e f v a t w (means w.place w.inside))
       (changes_more x.h x.memory l.memory (with_word l.memory w.place v) changes (write_is_own x.h l.memory w.place v w.mine)))
 
   -- ---- scheduling, and what stands behind it
 
-  undefined_means : (memory : Memory) (place : ℕ) → place + 4 ≤ length memory → Means Unknown (word_at (with_word memory place None) place)
+  undefined_means : (memory : Memory) (place : ℕ) → place + 4 ≤ length memory → Means x.m x.act Unknown (word_at (with_word memory place None) place)
   undefined_means memory place inside = says_nothing
 
-  schedules_fits : (s : State) (l : Local) (origin : ℤ) (r : State → Ruling) (o : Local → Outcome) → After x.m x.h x.mode origin s l → ChangesOwn x.h x.memory l.memory
-      → ((s' : State) (memory : Memory) → After x.m x.h x.mode origin s' (record l { memory = memory }) → ChangesOwn x.h x.memory memory → s'.number ≡ s.number → FitsIf x (r s') (o (record l { memory = memory })))
+  schedules_fits : (s : State) (l : Local) (r : State → Ruling) (o : Local → Outcome) → After x.m x.h x.mode x.act s l → ChangesOwn x.h x.memory l.memory
+      → ((s' : State) (memory : Memory) → After x.m x.h x.mode x.act s' (record l { memory = memory }) → ChangesOwn x.h x.memory memory → s'.number ≡ s.number → FitsIf x (r s') (o (record l { memory = memory })))
       → FitsIf x (rule.schedules (rule_site x) s r) (step.schedules (step_site x) l o)
   unfolding rule.schedules step.schedules written
-  schedules_fits s l origin r o a changes go =
-      owns_fits s l origin (negsuc 0) _ _ a (λ t0 w0. owns_fits s l origin (negsuc 1) _ _ a (λ t1 w1. owns_fits s l origin (negsuc 2) _ _ a (λ t2 w2.
-      write_step s l origin (negsuc 0) Unknown None _ _ a changes (omega (arith, ints)) t0 (undefined_means l.memory) (λ m1 a1 c1.
-      write_step (written (s.depth +ℤ negsuc 0) Unknown s) (record l { memory = m1 }) origin (negsuc 1) Unknown None _ _ a1 c1 (omega (arith, ints)) t1 (undefined_means m1) (λ m2 a2 c2.
-      write_step (written (s.depth +ℤ negsuc 1) Unknown (written (s.depth +ℤ negsuc 0) Unknown s)) (record l { memory = m2 }) origin (negsuc 2) Unknown None _ _ a2 c2 (omega (arith, ints)) t2 (undefined_means m2) (λ m3 a3 c3.
+  schedules_fits s l r o a changes go =
+      owns_fits s l (negsuc 0) _ _ a (λ t0 w0. owns_fits s l (negsuc 1) _ _ a (λ t1 w1. owns_fits s l (negsuc 2) _ _ a (λ t2 w2.
+      write_step s l (negsuc 0) Unknown None _ _ a changes (omega (arith, ints)) t0 (undefined_means l.memory) (λ m1 a1 c1.
+      write_step (written (s.depth +ℤ negsuc 0) Unknown s) (record l { memory = m1 }) (negsuc 1) Unknown None _ _ a1 c1 (omega (arith, ints)) t1 (undefined_means m1) (λ m2 a2 c2.
+      write_step (written (s.depth +ℤ negsuc 1) Unknown (written (s.depth +ℤ negsuc 0) Unknown s)) (record l { memory = m2 }) (negsuc 2) Unknown None _ _ a2 c2 (omega (arith, ints)) t2 (undefined_means m2) (λ m3 a3 c3.
       go (written (s.depth +ℤ negsuc 2) Unknown (written (s.depth +ℤ negsuc 1) Unknown (written (s.depth +ℤ negsuc 0) Unknown s))) m3 a3 c3 refl))))))
 
   -- ---- leading to a label
 
-  leads_fits : (wf : IsWellFormed x.m) (to : ℕ) (s : State) (l : Local) (origin : ℤ) → After x.m x.h x.mode origin s l → ChangesOwn x.h x.memory l.memory → s.number + x.len ≡ x.number
+  leads_fits : (wf : IsWellFormed x.m) (to : ℕ) (s : State) (l : Local) → After x.m x.h x.mode x.act s l → ChangesOwn x.h x.memory l.memory → s.number + x.len ≡ x.number
       → FitsIf x (rule.leads_to (rule_site x) to s) (step.leads_to (step_site x) to l)
   unfolding rule.leads_to step.leads_to
-  leads_fits wf to s l origin a changes n =
+  leads_fits wf to s l a changes n =
       on_label (label_at x.m to) refl
     where
       on_below : (t : Label) → label_at x.m to ≡ Some t → (b : Result ℕ ℕ) → below s t ≡ b
@@ -372,7 +230,7 @@ module _ (x : Here) where
           let low = wf.labels to t e in
           let g = below_tells s t cost is in
           on_step_test (ltb to (length x.m.code)) (leads to) _ _
-          (λ u next. it_leads origin e low (label_after x.m x.h x.mode origin s t l wf to e g.1 a) changes (omega (arith, g.0)))
+          (λ u next. it_leads (label_turns s.frame t.entries x.act.turns) e low (label_after x.m x.h x.mode x.act s t l wf to e g.1 a) changes (omega (arith, g.0)))
           (λ u. absurd (below_not to (length x.m.code) low u))
 
       on_label : (o : Option Label) → label_at x.m to ≡ o
@@ -400,33 +258,25 @@ module _ (x : Here) where
 
   -- ---- the instructions
 
-  module _ (wf : IsWellFormed x.m) (s : State) (l : Local) (origin : ℤ) (a : After x.m x.h x.mode origin s l) (changes : ChangesOwn x.h x.memory l.memory) (n : s.number ≡ x.number) where
+  module _ (wf : IsWellFormed x.m) (s : State) (l : Local) (a : After x.m x.h x.mode x.act s l) (changes : ChangesOwn x.h x.memory l.memory) (n : s.number ≡ x.number) where
     ldc_fits : (e : ℤ) → FitsSigned w32 e → FitsIf x (rule.goes_on (rule_site x) (rule.push (rule.constant e) s)) (step.goes_on (step_site x) (step.push (Some e) l))
-    ldc_fits e fits = goes_on_fits (rule.push (rule.constant e) s) (step.push (Some e) l) origin
+    ldc_fits e fits = goes_on_fits (rule.push (rule.constant e) s) (step.push (Some e) l)
         (record {
           frame = a.frame;
           knows = record { a = is_number (omega (arith, ints)) (omega (arith, ints)) fits; b = a.knows.a; c = a.knows.b; words = a.knows.words; within = a.knows.within };
           same_mode = a.same_mode;
         }) changes n
 
-    loaded_means : (k : ℤ) (f : Fact) (v : Option ℤ) → Means f v → Means (rule.loaded k f).fact v
-    loaded_means k Unknown v means = says_nothing
-    loaded_means k (Number lo hi) v means = means
-    loaded_means k (Pointer region lo hi stride) v means = elim means [ ]
-    loaded_means k (CodeAddress offset) v means = elim means [ ]
-    loaded_means k (Loop base count weight) v means = elim means [ ]
-    loaded_means k ReturnAddress v means = elim means [ ]
-
     ldl_fits : (e : ℤ) → FitsSigned w32 e → FitsIf x (rule.rule (rule_site x) fun.LoadLocal e s) (step.local_step (step_site x) fun.LoadLocal e l)
     unfolding rule.rule step.local_step
     ldl_fits e fits =
-        beside_plain_rule s a.same_mode _ _ (beside_plain_step s a.same_mode _ _ (owns_fits s l origin e _ _ a (λ t w.
-        reads_fits l (local_address l.registers.workspace e) w.place _ _ (local_place x.h (length l.memory) (has_word (context_at x.m s.context)) origin s.depth l.registers.workspace e a.frame fits w) w.mine
-        (goes_on_fits (rule.push (rule.loaded (s.depth +ℤ e) (s.frame (s.depth +ℤ e))) s) (step.push (word_at l.memory w.place) l) origin
+        beside_plain_rule s a.same_mode _ _ (beside_plain_step s a.same_mode _ _ (owns_fits s l e _ _ a (λ t w.
+        reads_fits l (local_address l.registers.workspace e) w.place _ _ (local_place x.h (length l.memory) (has_word (context_at x.m s.context)) x.act.origin s.depth l.registers.workspace e a.frame fits w) w.mine
+        (goes_on_fits (rule.push (rule.loaded (s.depth +ℤ e) (s.frame (s.depth +ℤ e))) s) (step.push (word_at l.memory w.place) l)
         (record {
           frame = a.frame;
           knows = record {
-            a = loaded_means (s.depth +ℤ e) (s.frame (s.depth +ℤ e)) (word_at l.memory w.place) (means_same (a.knows.words (s.depth +ℤ e)) refl (frame_word_is x.h (length l.memory) l.memory origin (s.depth +ℤ e) w));
+            a = plain_means x.m x.act (s.depth +ℤ e) (s.frame (s.depth +ℤ e)) (word_at l.memory w.place) (means_same (a.knows.words (s.depth +ℤ e)) refl (frame_word_is x.h (length l.memory) l.memory x.act.origin (s.depth +ℤ e) w));
             b = a.knows.a;
             c = a.knows.b;
             words = a.knows.words;
@@ -439,9 +289,9 @@ module _ (x : Here) where
     unfolding rule.rule step.local_step written
     stl_fits e fits =
         in_plain_step s a.same_mode _ _ (uses_fits s.a l.registers.a _ _ a.knows.a (λ v means.
-        in_plain_rule s a.same_mode _ _ (beside_plain_rule s a.same_mode _ _ (owns_fits s l origin e _ _ a (λ t w.
-        write_step s l origin e s.a.fact (Some v) _ _ a changes fits t (λ place inside. stored_means s.a.fact v l.memory place inside means) (λ memory b c.
-        goes_on_fits (rule.pop (written (s.depth +ℤ e) s.a.fact s)) (step.pop (record l { memory = memory })) origin
+        in_plain_rule s a.same_mode _ _ (beside_plain_rule s a.same_mode _ _ (owns_fits s l e _ _ a (λ t w.
+        write_step s l e s.a.fact (Some v) _ _ a changes fits t (λ place inside. stored_means x.m x.act s.a.fact v l.memory place inside means) (λ memory b c.
+        goes_on_fits (rule.pop (written (s.depth +ℤ e) s.a.fact s)) (step.pop (record l { memory = memory }))
         (record {
           frame = b.frame;
           knows = record { a = b.knows.b; b = b.knows.c; c = says_nothing; words = b.knows.words; within = b.knows.within };
@@ -455,7 +305,7 @@ module _ (x : Here) where
         number_fits s.a.fact v _ _ means (λ lo hi low high word.
         in_word_fits lo hi e v _ _ low high (λ sum.
         in_plain_rule s a.same_mode _ _ (beside_plain_rule s a.same_mode _ _
-        (goes_on_fits (rule.with_a (known (Number (lo +ℤ e) (hi +ℤ e))) s) (step.with_a (v +ℤ e) l) origin
+        (goes_on_fits (rule.with_a (known (Number (lo +ℤ e) (hi +ℤ e))) s) (step.with_a (v +ℤ e) l)
         (record {
           frame = a.frame;
           knows = record { a = sum; b = a.knows.b; c = a.knows.c; words = a.knows.words; within = a.knows.within };
@@ -471,9 +321,9 @@ module _ (x : Here) where
     j_fits (negsuc k) fits = in_plain_rule s a.same_mode _ _ (λ next. it_breaks)
     j_fits (pos k) fits =
         in_plain_step s a.same_mode _ _ (in_plain_rule s a.same_mode _ _ (beside_plain_rule s a.same_mode _ _
-        (schedules_fits s l origin _ _ a changes (λ s' memory b c e.
+        (schedules_fits s l _ _ a changes (λ s' memory b c e.
         pays_fits s' _ _ e (λ left.
-        leads_fits wf (target (x.at + x.len) (pos k)) (rule.without_registers (record s' { number = s'.number - x.len })) (step.without_registers (record l { memory = memory })) origin
+        leads_fits wf (target (x.at + x.len) (pos k)) (rule.without_registers (record s' { number = s'.number - x.len })) (step.without_registers (record l { memory = memory }))
         (record {
           frame = b.frame;
           knows = record { a = says_nothing; b = says_nothing; c = says_nothing; words = b.knows.words; within = b.knows.within };
@@ -485,7 +335,7 @@ module _ (x : Here) where
     operation_fits None = λ next. it_breaks
     operation_fits (Some Reverse) =
         in_plain_step s a.same_mode _ _ (in_plain_rule s a.same_mode _ _ (beside_plain_rule s a.same_mode _ _
-        (goes_on_fits (rule.reverse s) (step.reverse l) origin
+        (goes_on_fits (rule.reverse s) (step.reverse l)
         (record {
           frame = a.frame;
           knows = record { a = a.knows.b; b = a.knows.a; c = a.knows.c; words = a.knows.words; within = a.knows.within };
@@ -495,7 +345,7 @@ module _ (x : Here) where
         beside_plain_rule s a.same_mode _ _ (beside_plain_step s a.same_mode _ _ (ldc_fits least_word (record { sfits = lit< tt })))
     operation_fits (Some StopProcess) =
         in_plain_step s a.same_mode _ _ (in_plain_rule s a.same_mode _ _ (beside_plain_rule s a.same_mode _ _
-        (schedules_fits s l origin _ _ a changes (λ s' memory b c e. pays_fits s' _ _ e (λ left next. it_ends c (omega arith))))))
+        (schedules_fits s l _ _ a changes (λ s' memory b c e. pays_fits s' _ _ e (λ left next. it_ends c (omega arith))))))
 
     pub instruction_fits : (f : Fun) (e : ℤ) → FitsSigned w32 e → FitsIf x (rule.rule (rule_site x) f e s) (step.local_step (step_site x) f e l)
     unfolding rule.rule step.local_step
@@ -515,4 +365,4 @@ module _ (x : Here) where
     instruction_fits fun.StoreNonLocal e fits = λ next. it_breaks
 
 pub rules_fit_steps : RulesFitSteps
-rules_fit_steps x s l origin f e wf a changes n fits next = instruction_fits x wf s l origin a changes n f e fits next
+rules_fit_steps x s l f e wf a changes n fits next = instruction_fits x wf s l a changes n f e fits next

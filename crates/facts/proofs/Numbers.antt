@@ -1,5 +1,5 @@
 -- No rule tells want of memory: the numbers told are below 17.
-use Rattle.std.proofs.Common.{◌≡◌, ℕ, ℤ, pos, negsuc, ◌+ℤ◌, ◌<◌, ◌&&◌, Bool, true, false, cond, Option, Some, None, Result, Ok, Err, lit<, arith}
+use Rattle.std.proofs.Common.{ℕ, ℤ, pos, negsuc, ◌<◌, ◌&&◌, Bool, true, false, cond, Option, Some, None, Result, Ok, Err, lit<}
 use Rattle.std.specs.Prelude.{nat_lt}
 use Rattle.prefix_decoder.specs.declared.function.Fun.{Fun}
 use Rattle.prefix_decoder.specs.declared.function.Fun.TheVariants.{Jump, LoadLocalPointer, LoadNonLocal, LoadConstant, LoadNonLocalPointer, LoadLocal, AddConstant, Call, ConditionalJump, AdjustWorkspace, EqualsConstant, StoreLocal, StoreNonLocal, Operate}
@@ -14,7 +14,7 @@ use Rattle.states.specs.declared.known.Known.{Known}
 use Rattle.states.specs.declared.known.Mode.{Mode}
 use Rattle.states.specs.declared.known.Mode.TheVariants.{Plain, Enabling, Disabling, Starting}
 use Rattle.states.specs.State.{State, has_word}
-use Rattle.states.specs.Below.{below, agrees}
+use Rattle.states.specs.Below.{below, agrees, cost}
 use Rattle.facts.specs.Rules.{Ruling, Site, falls, leads, ends, breaks, outside_alternation, outside_starts, uses, number, in_word, forward, owns, schedules, pays, leads_to, goes_on, operation_rule, rule}
 
 -- the number that is told, if one is, is below 17
@@ -96,7 +96,7 @@ low-answer false r q h l = l
 
 pub low-below : (s : State) (t : Label) → IsLowAnswer (below s t)
 unfolding below
-low-below s t = low-answer (nat_lt s.number t.number) (Err 15) _ (lit< tt) (low-answer (agrees s t) (Ok t.number) (Err 16) tt (lit< tt))
+low-below s t = low-answer (nat_lt s.number (cost s t)) (Err 15) _ (lit< tt) (low-answer (agrees s t) (Ok (cost s t)) (Err 16) tt (lit< tt))
 
 low-led : (to : ℕ) (r : Result ℕ ℕ) → IsLowAnswer r → IsLow (elim r [ Ok cost ↦ leads to | Err v ↦ breaks v ])
 low-led to (Ok cost) h = tt

@@ -1,16 +1,19 @@
 -- The rules, one test behind another.
-use Rattle.std.proofs.Common.{◌≡◌, ℕ, ℤ, negsuc, ◌+ℤ◌, ◌+◌, Result, Ok, Err, Option, Some, None, refl, sym, ap, ◌∙◌, subst, false, cond}
+use Rattle.std.proofs.Common.{◌≡◌, ℕ, ℤ, negsuc, ◌+ℤ◌, ◌+◌, Result, Ok, Err, Option, Some, None, sym, ap, ◌∙◌, subst, false, cond}
 use Rattle.prefix_decoder.specs.declared.function.Fun.TheVariants.{Jump, LoadConstant, LoadLocal, AddConstant, StoreLocal, Operate}
 use Rattle.certificate.specs.declared.fact.Fact.{Fact}
 use Rattle.certificate.specs.declared.fact.Fact.TheVariants.{Unknown, Number}
 use Rattle.machine_state.specs.declared.op.Op.{Op}
 use Rattle.machine_state.specs.LocalStep.{op_of, target}
 use Rattle.states.specs.declared.known.Known.{Known}
+use Rattle.states.specs.declared.known.WordFact.{WordFact}
 use Rattle.states.specs.declared.rule.RuleFault.{RuleFault}
+use Rattle.certificate.specs.Contents.{Label, label_at}
 use Rattle.certificate.specs.Contexts.{context_at}
 use Rattle.states.specs.State.{State, known, written, has_word}
+use Rattle.states.specs.Below.{below}
 use Rattle.facts.specs.declared.place.Onward.{Onward}
-use Rattle.facts.specs.Rules.{Ruling, Site, breaks, outside_alternation, outside_starts, uses, number, in_word, forward, owns, schedules, pays, leads_to, goes_on, push, pop, with_a, without_registers, constant, loaded, operation_rule, rule}
+use Rattle.facts.specs.Rules.{Ruling, Site, leads, breaks, outside_alternation, outside_starts, uses, number, in_word, forward, owns, schedules, pays, leads_to, goes_on, push, pop, with_a, without_registers, loaded, operation_rule, rule}
 use Rattle.facts.specs.Telling.{Advances, Gives}
 
 -- the same ruling, told otherwise
@@ -36,7 +39,7 @@ unfolding rule
 load_local-own site s e d starts d_is =
     starts _ ∙ ap (λ (z : ℤ). owns site s (s.depth +ℤ z) (goes_on site (after_load (s.depth +ℤ z) s))) (sym d_is)
 
-pub load_local-after : (s t : State) (k z : ℤ) (fact : Fact) (v : Known) → z ≡ k → fact ≡ s.frame z → v ≡ loaded z fact → t ≡ push v s → after_load k s ≡ t
+pub load_local-after : (s t : State) (k z : ℤ) (fact : WordFact) (v : Known) → z ≡ k → fact ≡ s.frame z → v ≡ loaded z fact → t ≡ push v s → after_load k s ≡ t
 load_local-after s t k z fact v z_is fact_is v_is t_is =
     sym (t_is ∙ ap (λ x. push x s) (v_is ∙ ap (loaded z) fact_is ∙ ap (λ (x : ℤ). loaded x (s.frame x)) z_is))
 
@@ -86,6 +89,19 @@ on_jump site s e = outside_starts s.mode (schedules site s (λ s. pays site s (�
 pub jump-forward : (site : Site) (s : State) (e d : ℤ) → ((n : Ruling) → outside_alternation s.mode n ≡ n) → d ≡ e → rule site Jump e s ≡ forward d (on_jump site s d)
 unfolding rule
 jump-forward site s e d alternation d_is = alternation _ ∙ ap (λ (z : ℤ). forward z (on_jump site s z)) (sym d_is)
+
+-- ---- labels
+
+pub leads-on : (site : Site) (to : ℕ) (s : State) (t : Label) (r : Result ℕ ℕ) → label_at site.contents to ≡ Some t → r ≡ below s t → leads_to site to s ≡ elim r as (λ r. Ruling) [ Ok cost ↦ leads to | Err v ↦ breaks v ]
+unfolding leads_to
+leads-on site to s t r found is =
+    ap (λ (o : Option Label). elim o as (λ o. Ruling) [ None ↦ breaks 16 | Some t ↦ elim (below s t) as (λ r. Ruling) [ Ok cost ↦ leads to | Err v ↦ breaks v ] ]) found
+    ∙ ap (λ (r : Result ℕ ℕ). elim r as (λ r. Ruling) [ Ok cost ↦ leads to | Err v ↦ breaks v ]) (sym is)
+
+pub leads-nowhere : (site : Site) (to : ℕ) (s : State) → label_at site.contents to ≡ None → leads_to site to s ≡ breaks 16
+unfolding leads_to
+leads-nowhere site to s found =
+    ap (λ (o : Option Label). elim o as (λ o. Ruling) [ None ↦ breaks 16 | Some t ↦ elim (below s t) as (λ r. Ruling) [ Ok cost ↦ leads to | Err v ↦ breaks v ] ]) found
 
 -- ---- the words below the workspace
 

@@ -1,17 +1,19 @@
 -- Words of the frame: where they lie, and what a write to one leaves.
-use Rattle.std.proofs.Common.{◌≡◌, ℕ, ◌+◌, ◌≤◌, ◌<◌, ◌<ℤ◌, ℤ, pos, ◌+ℤ◌, ◌*ℤ◌, ◌≤ℤ◌, FitsSigned, Bool, true, false, cond, ◌&&◌, ◌⊎◌, inl, inr, length, Option, refl, sym, ap, ◌∙◌, subst, arith}
+use Rattle.std.proofs.Common.{◌≡◌, ℕ, ◌+◌, ◌≤◌, ◌<◌, ◌<ℤ◌, ℤ, pos, ◌+ℤ◌, ◌*ℤ◌, ◌≤ℤ◌, FitsSigned, Bool, true, false, cond, ◌&&◌, ◌⊎◌, inl, inr, length, Option, Some, None, refl, sym, ap, ◌∙◌, subst, arith}
 use Rattle.std.specs.Prelude.{int_le}
-use Rattle.std.proofs.lemmas.Bool.{cases_lt}
-use Rattle.std.proofs.lemmas.Int.{ints}
+use Rattle.std.proofs.lemmas.Int.{ints, SFits-int_wrap}
 use Rattle.std.specs.Int.{w32}
 use Rattle.certificate.specs.declared.fact.Fact.{Fact}
-use Rattle.certificate.specs.declared.fact.Fact.TheVariants.{Unknown}
+use Rattle.certificate.specs.declared.fact.Fact.TheVariants.{Unknown, Number, Pointer, CodeAddress, Loop, ReturnAddress}
+use Rattle.certificate.specs.Contents.{Contents}
 use Rattle.machine_state.specs.declared.process.Registers.{Registers}
 use Rattle.machine_state.specs.Memory.{Memory, place_of, local_address, data_start, word_at, with_word}
-use Rattle.machine_state.specs.Holding.{Holding, may_write, may_write_word}
-use Rattle.machine_state.proofs.Reading.{length-with_word, byte_at-with_word_other, word_at-with_word_other}
-use Rattle.states.specs.State.{State, is_word, with_fact, written}
-use Rattle.facts.specs.Meaning.{Means, says_nothing, place_in, word_at_place, frame_word, IsOwnWord, HasFrame, Knows}
+use Rattle.machine_state.specs.Holding.{Holding}
+use Rattle.machine_state.proofs.Reading.{word_at-with_word, word_at-with_word_other}
+use Rattle.states.specs.declared.known.WordFact.{WordFact}
+use Rattle.states.specs.declared.known.WordFact.TheVariants.{Alone, Index, Count}
+use Rattle.states.specs.State.{State, is_word, is_tied, by_itself, handed_out, plain, with_fact, written}
+use Rattle.facts.specs.Meaning.{Activation, Means, says_nothing, is_number, is_pointer, is_code_address, is_return_address, MeansWord, is_fact, is_index, is_count, nothing_known, place_in, word_at_place, frame_word, IsOwnWord, HasFrame, Knows}
 
 -- a word named from the workspace is the frame's word at depth + e
 address_of_word : (workspace place : ℕ) (e : ℤ) → FitsSigned w32 e → place < 1048576 → pos workspace +ℤ (pos 4 *ℤ e) ≡ pos data_start +ℤ pos place → place_of (local_address workspace e) ≡ place
@@ -22,11 +24,6 @@ pub local_place : (h : Holding) (size : ℕ) (has : ℤ → Bool) (origin depth 
     → (w : IsOwnWord h size origin (depth +ℤ e)) → place_of (local_address workspace e) ≡ w.place
 local_place h size has origin depth workspace e f fits w =
     address_of_word workspace w.place e fits (omega (arith, f.small, w.inside)) (omega (arith, ints, f.start, w.is))
-
-and_true : (a b : Bool) → (a && b) ≡ true → (a ≡ true) × (b ≡ true)
-and_true true true h = (refl, refl)
-and_true true false h = absurd (cc)
-and_true false b h = absurd (cc)
 
 -- the test of two numbers
 pub int_le_tells : (j k : ℤ) → ((int_le j k ≡ true) × (j ≤ℤ k)) ⊎ ((int_le j k ≡ false) × (k <ℤ j))
@@ -45,8 +42,49 @@ pub bool_cases : (b : Bool) → (b ≡ true) ⊎ (b ≡ false)
 bool_cases true = inl refl
 bool_cases false = inr refl
 
-pub means_same : {f g : Fact} {v u : Option ℤ} → Means f v → f ≡ g → v ≡ u → Means g u
-means_same {f} {g} {v} {u} means p q = subst (λ x. Means g x) q (subst (λ x. Means x v) p means)
+-- ---- facts
+
+-- what a fact says of a value, it says of its equal
+pub means_same : {m : Contents} {act : Activation} {k : ℤ} {f g : WordFact} {v u : Option ℤ} → MeansWord m act k f v → f ≡ g → v ≡ u → MeansWord m act k g u
+means_same {m} {act} {k} {f} {g} {v} {u} means p q = subst (λ x. MeansWord m act k g x) q (subst (λ x. MeansWord m act k x v) p means)
+
+-- a value that is known is a word
+pub means_word : (m : Contents) (act : Activation) (f : Fact) (v : ℤ) → Means m act f (Some v) → (f ≡ Unknown) ⊎ FitsSigned w32 v
+means_word m act Unknown v says_nothing = inl refl
+means_word m act (Number lo hi) v (is_number low high fits) = inr fits
+means_word m act (Pointer region lo hi step) v (is_pointer offset low high stepped is) = inr (subst (λ (z : ℤ). FitsSigned w32 z) (sym is) (SFits-int_wrap w32 _))
+means_word m act (CodeAddress offset) v (is_code_address is) = inr (subst (λ (z : ℤ). FitsSigned w32 z) (sym is) (SFits-int_wrap w32 _))
+means_word m act (Loop base count weight) v means = elim means [ ]
+means_word m act ReturnAddress v (is_return_address is) = inr (subst (λ (z : ℤ). FitsSigned w32 z) (sym is) (SFits-int_wrap w32 _))
+
+-- what is known of a word that is stored is known of the word that is read
+pub stored_means : (m : Contents) (act : Activation) (f : Fact) (v : ℤ) (memory : Memory) (place : ℕ) → place + 4 ≤ length memory → Means m act f (Some v) → Means m act f (word_at (with_word memory place (Some v)) place)
+stored_means m act f v memory place inside means = elim (means_word m act f v means) [
+  | inl unknown ↦ subst (λ (g : Fact). Means m act g (word_at (with_word memory place (Some v)) place)) (sym unknown) says_nothing
+  | inr fits ↦ subst (λ (x : Option ℤ). Means m act f x) (sym (word_at-with_word memory place v inside fits)) means
+]
+
+-- what is known of a word of a loop says this by itself
+pub itself_means : (m : Contents) (act : Activation) (k : ℤ) (f : WordFact) (v : Option ℤ) → MeansWord m act k f v → Means m act (by_itself f) v
+itself_means m act k (Alone f) v (is_fact means) = means
+itself_means m act k (Index base count weight) None means = elim means [ ]
+itself_means m act k (Index base count weight) (Some x) (is_index some most is fits) = is_number (omega (arith, ints)) (omega (arith, ints)) fits
+itself_means m act k (Count base count weight) None means = elim means [ ]
+itself_means m act k (Count base count weight) (Some x) (is_count some most is fits) = is_number (omega (arith, ints)) (omega (arith, ints)) fits
+
+-- what is handed out of it
+pub plain_means : (m : Contents) (act : Activation) (k : ℤ) (f : WordFact) (v : Option ℤ) → MeansWord m act k f v → Means m act (plain f) v
+plain_means m act k f v means = handed_means (by_itself f) (itself_means m act k f v means)
+  where
+    handed_means : (g : Fact) → Means m act g v → Means m act (handed_out g) v
+    handed_means Unknown known = says_nothing
+    handed_means (Number lo hi) known = known
+    handed_means (Pointer region lo hi step) known = known
+    handed_means (CodeAddress offset) known = known
+    handed_means (Loop base count weight) known = says_nothing
+    handed_means ReturnAddress known = says_nothing
+
+-- ---- words of the frame
 
 -- a frame word at its place
 pub frame_word_is : (h : Holding) (size : ℕ) (memory : Memory) (origin k : ℤ) (w : IsOwnWord h size origin k) → frame_word memory origin k ≡ word_at memory w.place
@@ -62,12 +100,19 @@ words_apart h size origin j k v w differ = elim (int_le_tells j k) [
   | inr p ↦ inr (omega (arith, ints, p.1, v.is, w.is))
 ]
 
+-- what is left of a loop of which word k is written is true by itself
+left_means : (m : Contents) (act : Activation) (j k : ℤ) (f : WordFact) (v : Option ℤ) → MeansWord m act j f v → MeansWord m act j (cond (is_tied j f k) (Alone (by_itself f)) f) v
+left_means m act j k f v means = elim (bool_cases (is_tied j f k)) [
+  | inl e ↦ means_same (is_fact (itself_means m act j f v means)) (sym (ap (λ (b : Bool). cond b (Alone (by_itself f)) f) e)) refl
+  | inr e ↦ means_same means (sym (ap (λ (b : Bool). cond b (Alone (by_itself f)) f) e)) refl
+]
+
 -- the facts after a write
-pub knows_written : (h : Holding) (has : ℤ → Bool) (s : State) (origin k : ℤ) (r : Registers) (memory : Memory) (f : Fact) (v : Option ℤ)
-    → ((j : ℤ) → has j ≡ true → IsOwnWord h (length memory) origin j) → has k ≡ true → (w : IsOwnWord h (length memory) origin k)
-    → Knows has s origin r memory → Means f (word_at (with_word memory w.place v) w.place) → Knows has (written k f s) origin r (with_word memory w.place v)
+pub knows_written : (m : Contents) (h : Holding) (has : ℤ → Bool) (s : State) (act : Activation) (k : ℤ) (r : Registers) (memory : Memory) (f : Fact) (v : Option ℤ)
+    → ((j : ℤ) → has j ≡ true → IsOwnWord h (length memory) act.origin j) → has k ≡ true → (w : IsOwnWord h (length memory) act.origin k)
+    → Knows m has s act r memory → Means m act f (word_at (with_word memory w.place v) w.place) → Knows m has (written k f s) act r (with_word memory w.place v)
 unfolding written
-knows_written h has s origin k r memory f v own in_frame w known here = record {
+knows_written m h has s act k r memory f v own in_frame w known here = record {
   a = known.a;
   b = known.b;
   c = known.c;
@@ -75,31 +120,34 @@ knows_written h has s origin k r memory f v own in_frame w known here = record {
   within = within;
 }
   where
-    is_here : (j : ℤ) → is_word j k ≡ true → with_fact k f s.frame j ≡ f
-    is_here j e = ap (λ (b : Bool). cond b f (s.frame j)) e
+    is_here : (j : ℤ) → is_word j k ≡ true → with_fact k f s.frame j ≡ Alone f
+    is_here j e = ap (λ (b : Bool). cond b (Alone f) (cond (is_tied j (s.frame j) k) (Alone (by_itself (s.frame j))) (s.frame j))) e
 
-    is_there : (j : ℤ) → is_word j k ≡ false → with_fact k f s.frame j ≡ s.frame j
-    is_there j e = ap (λ (b : Bool). cond b f (s.frame j)) e
+    is_there : (j : ℤ) → is_word j k ≡ false → with_fact k f s.frame j ≡ cond (is_tied j (s.frame j) k) (Alone (by_itself (s.frame j))) (s.frame j)
+    is_there j e = ap (λ (b : Bool). cond b (Alone f) (cond (is_tied j (s.frame j) k) (Alone (by_itself (s.frame j))) (s.frame j))) e
 
-    other : (j : ℤ) → (j ≡ k → ⊥) → has j ≡ true → frame_word memory origin j ≡ frame_word (with_word memory w.place v) origin j
+    is_nothing : (j : ℤ) → is_word j k ≡ false → has j ≡ false → with_fact k f s.frame j ≡ Alone Unknown
+    is_nothing j e outside = is_there j e ∙ ap (λ (x : WordFact). cond (is_tied j x k) (Alone (by_itself x)) x) (known.within j outside)
+
+    other : (j : ℤ) → (j ≡ k → ⊥) → has j ≡ true → frame_word memory act.origin j ≡ frame_word (with_word memory w.place v) act.origin j
     other j differ inside =
         let u = own j inside in
-        let apart = words_apart h (length memory) origin j k u w differ in
-        frame_word_is h (length memory) memory origin j u
+        let apart = words_apart h (length memory) act.origin j k u w differ in
+        frame_word_is h (length memory) memory act.origin j u
         ∙ sym (word_at-with_word_other memory w.place u.place v apart)
         ∙ sym (ap (word_at_place (with_word memory w.place v)) (sym u.is))
 
-    words : (j : ℤ) → Means (with_fact k f s.frame j) (frame_word (with_word memory w.place v) origin j)
+    words : (j : ℤ) → MeansWord m act j (with_fact k f s.frame j) (frame_word (with_word memory w.place v) act.origin j)
     words j = elim (word_test j k) [
-      | inl e ↦ means_same here (sym (is_here j e.0)) (ap (word_at_place (with_word memory w.place v)) (w.is ∙ ap (place_in origin) (sym e.1)))
+      | inl e ↦ means_same (is_fact here) (sym (is_here j e.0)) (ap (word_at_place (with_word memory w.place v)) (w.is ∙ ap (place_in act.origin) (sym e.1)))
       | inr e ↦ elim (bool_cases (has j)) [
-        | inl inside ↦ means_same (known.words j) (sym (is_there j e.0)) (other j e.1 inside)
-        | inr outside ↦ means_same (says_nothing {v = frame_word (with_word memory w.place v) origin j}) (sym (is_there j e.0 ∙ known.within j outside)) refl
+        | inl inside ↦ means_same (left_means m act j k (s.frame j) _ (known.words j)) (sym (is_there j e.0)) (other j e.1 inside)
+        | inr outside ↦ means_same (nothing_known m act j _) (sym (is_nothing j e.0 outside)) refl
       ]
     ]
 
-    within : (j : ℤ) → has j ≡ false → with_fact k f s.frame j ≡ Unknown
+    within : (j : ℤ) → has j ≡ false → with_fact k f s.frame j ≡ Alone Unknown
     within j outside = elim (word_test j k) [
       | inl e ↦ let x : true ≡ false = sym in_frame ∙ ap has (sym e.1) ∙ outside in absurd (cc)
-      | inr e ↦ is_there j e.0 ∙ known.within j outside
+      | inr e ↦ is_nothing j e.0 outside
     ]

@@ -14,18 +14,19 @@ use Rattle.machine_state.specs.LocalStep.{Outcome, goes, lands, stops, fails, Lo
 use Rattle.states.specs.State.{State, label_state, has_word}
 use Rattle.facts.specs.Rules as rule
 use Rattle.facts.specs.Rules.{Ruling, falls, leads, ends, breaks}
-use Rattle.facts.specs.Meaning.{HasFrame, Knows, SameMode, IsWellFormed}
+use Rattle.facts.specs.Meaning.{Activation, with_turns, HasFrame, Knows, SameMode, IsWellFormed}
 
 -- what holds behind an instruction: the frame is still there, and the state is known
-pub record After (m : Contents) (h : Holding) (mode : machine.Mode) (origin : ℤ) (s : State) (l : Local) : Type 0 where
-  pub frame : HasFrame h (length l.memory) (has_word (context_at m s.context)) origin s.depth l.registers.workspace
-  pub knows : Knows (has_word (context_at m s.context)) s origin l.registers l.memory
+pub record After (m : Contents) (h : Holding) (mode : machine.Mode) (act : Activation) (s : State) (l : Local) : Type 0 where
+  pub frame : HasFrame h (length l.memory) (has_word (context_at m s.context)) act.origin s.depth l.registers.workspace
+  pub knows : Knows m (has_word (context_at m s.context)) s act l.registers l.memory
   pub same_mode : SameMode s.mode mode
 
--- where an instruction runs: the module, what the process holds, its mode, memory and number before, and the place of the instruction
+-- where an instruction runs: the module, what the process holds, its activation, its mode, memory and number before, and the place of the instruction
 pub record Here : Type 0 where
   pub m : Contents
   pub h : Holding
+  pub act : Activation
   pub mode : machine.Mode
   pub memory : Memory
   pub number : ℕ
@@ -38,10 +39,10 @@ rule_site x = record { contents = x.m; at = x.at; length = x.len }
 abbrev pub step_site : Here → step.Site
 step_site x = record { code_length = length x.m.code; next = x.at + x.len; mode = x.mode; holding = x.h }
 
--- A ruling and an outcome fit each other.
+-- A ruling and an outcome fit each other. Behind the instruction the activation is the same; at a label its loops may have other turns left.
 pub data Fits (x : Here) : Ruling → Outcome → Type 0 where
-  it_falls : {s : State} {l : Local} (origin : ℤ) → x.at + x.len < length x.m.code → After x.m x.h x.mode origin s l → ChangesOwn x.h x.memory l.memory → s.number + x.len ≡ x.number → Fits x (falls s) (goes l)
-  it_leads : {to : ℕ} {l : Local} {t : Label} (origin : ℤ) → label_at x.m to ≡ Some t → to < length x.m.code → After x.m x.h x.mode origin (label_state t) l → ChangesOwn x.h x.memory l.memory → t.number + x.len ≤ x.number → Fits x (leads to) (lands to l)
+  it_falls : {s : State} {l : Local} → x.at + x.len < length x.m.code → After x.m x.h x.mode x.act s l → ChangesOwn x.h x.memory l.memory → s.number + x.len ≡ x.number → Fits x (falls s) (goes l)
+  it_leads : {to : ℕ} {l : Local} {t : Label} (turns : ℤ → ℕ) → label_at x.m to ≡ Some t → to < length x.m.code → After x.m x.h x.mode (with_turns turns x.act) (label_state t) l → ChangesOwn x.h x.memory l.memory → t.number + x.len ≤ x.number → Fits x (leads to) (lands to l)
   it_ends : {l : Local} → ChangesOwn x.h x.memory l.memory → x.len ≤ x.number → Fits x ends (stops l)
   it_breaks : {v : ℕ} {o : Outcome} → Fits x (breaks v) o
 
@@ -52,5 +53,5 @@ HasNext x r = (s : State) → r ≡ falls s → x.at + x.len < length x.m.code
 -- In a state that holds of a process, each instruction's rule and step fit.
 abbrev pub RulesFitSteps : Type 0
 RulesFitSteps =
-    (x : Here) (s : State) (l : Local) (origin : ℤ) (f : Fun) (e : ℤ) → IsWellFormed x.m → After x.m x.h x.mode origin s l → ChangesOwn x.h x.memory l.memory → s.number ≡ x.number
+    (x : Here) (s : State) (l : Local) (f : Fun) (e : ℤ) → IsWellFormed x.m → After x.m x.h x.mode x.act s l → ChangesOwn x.h x.memory l.memory → s.number ≡ x.number
     → FitsSigned w32 e → HasNext x (rule.rule (rule_site x) f e s) → Fits x (rule.rule (rule_site x) f e s) (step.local_step (step_site x) f e l)

@@ -1,26 +1,80 @@
 -- What the facts of a state mean of a process.
-use Rattle.std.specs.Prelude.{◌≡◌, ℕ, ◌+◌, ◌≤◌, ◌<◌, ℤ, pos, negsuc, ◌+ℤ◌, ◌*ℤ◌, ◌≤ℤ◌, FitsSigned, Bool, true, false, length, Option, Some, None}
-use Rattle.std.specs.Int.{w32}
+use Rattle.std.specs.Prelude.{◌≡◌, ⊤, ℕ, ◌+◌, ◌*◌, ◌-◌, ◌≤◌, ◌<◌, ◌==◌, ℤ, pos, negsuc, ◌+ℤ◌, ◌-ℤ◌, ◌*ℤ◌, ◌≤ℤ◌, FitsSigned, Bool, true, false, IsTrue, if◌then◌else◌, List, length, Option, Some, None}
+use Rattle.std.specs.Int.{w32, int_wrap}
+use Rattle.std.specs.List.{AllByRecursion}
 use Rattle.certificate.specs.declared.fact.Fact.{Fact}
-use Rattle.certificate.specs.declared.fact.Fact.TheVariants.{Unknown, Number}
+use Rattle.certificate.specs.declared.fact.Fact.TheVariants.{Unknown, Number, Pointer, CodeAddress, Loop, ReturnAddress}
+use Rattle.certificate.specs.declared.fact.Step.{Step}
+use Rattle.certificate.specs.declared.fact.Step.TheVariants.{Byte, Word}
+use Rattle.certificate.specs.declared.rows.Entry.{Entry}
+use Rattle.certificate.specs.Order.{is_stepped}
 use Rattle.certificate.specs.Contents.{Contents, Label, label_at}
-use Rattle.certificate.specs.Contexts.{context_at}
 use Rattle.machine_state.specs.declared.process.Registers.{Registers}
 use Rattle.machine_state.specs.declared.process.Mode as machine
 use Rattle.machine_state.specs.declared.process.Mode.TheVariants as machine_modes
-use Rattle.machine_state.specs.Memory.{Memory, word_at, byte_at, data_start}
-use Rattle.machine_state.specs.Holding.{Holding, may_write, may_write_word}
+use Rattle.machine_state.specs.Memory.{Memory, word_at, data_start}
+use Rattle.machine_state.specs.Holding.{Holding, may_write_word}
+use Rattle.machine_state.specs.World.{constants_start}
 use Rattle.states.specs.declared.known.Mode as states
 use Rattle.states.specs.declared.known.Mode.TheVariants as states_modes
-use Rattle.states.specs.State.{State, entry_fact, has_word}
+use Rattle.states.specs.declared.known.WordFact.{WordFact}
+use Rattle.states.specs.declared.known.WordFact.TheVariants.{Alone, Index, Count}
+use Rattle.states.specs.State.{State, Facts, entry_fact}
+use Rattle.states.specs.Rows.{IsRowOf}
 
--- A fact holds of a value: nothing is said, or it is a number in the range.
-pub data Means : Fact → Option ℤ → Type 0 where
-  says_nothing : {v : Option ℤ} → Means Unknown v
-  is_number : {lo hi x : ℤ} → lo ≤ℤ x → x ≤ℤ hi → FitsSigned w32 x → Means (Number lo hi) (Some x)
+-- One activation of the root, a procedure or a branch: where its regions lie, where it returns to, and the turns that its loops have left. The machine keeps none of it.
+pub record Activation : Type 0 where
+  pub origin : ℤ  -- the place of frame word 0
+  pub starts : ℕ → ℕ  -- the address of the first byte of what parameter j names
+  pub back : ℕ  -- the code offset to which it returns
+  pub turns : ℤ → ℕ  -- the turns left of the loop whose index is in this word
 
-pub means_unknown : (v : Option ℤ) → Means Unknown v
-means_unknown v = says_nothing
+-- the same activation, but for the turns of its loops
+abbrev pub with_turns : (ℤ → ℕ) → Activation → Activation
+with_turns turns act = record act { turns = turns }
+
+-- ---- what one value is
+
+-- the address of a code offset
+abbrev pub code_address : Contents → ℕ → ℕ
+code_address m offset = data_start + 4 * m.data_words + offset
+
+-- the address where a region starts: 0 is the frame, whose offsets count from its word 0, 1 the constants, and 2 + j what parameter j names
+abbrev pub region_start : Contents → Activation → ℕ → ℤ
+region_start m act region =
+    if region == 0 then pos data_start +ℤ act.origin
+    else (if region == 1 then pos (data_start + constants_start m) else pos (act.starts (region - 2)))
+
+-- an address as the machine has it: the word that it is modulo 2^32
+abbrev pub word_of : ℤ → ℤ
+word_of address = int_wrap w32 address
+
+-- an offset of a pointer of this step
+abbrev pub IsOffset : Step → ℤ → Type 0
+IsOffset Byte offset = ⊤
+IsOffset Word offset = IsTrue (is_stepped offset)
+
+-- A fact holds of a value, which is none where it is undefined. No value alone is a loop.
+pub data Means (m : Contents) (act : Activation) : Fact → Option ℤ → Type 0 where
+  says_nothing : {v : Option ℤ} → Means m act Unknown v
+  is_number : {lo hi x : ℤ} → lo ≤ℤ x → x ≤ℤ hi → FitsSigned w32 x → Means m act (Number lo hi) (Some x)
+  is_pointer : {region : ℕ} {lo hi x : ℤ} {step : Step} (offset : ℤ) → lo ≤ℤ offset → offset ≤ℤ hi → IsOffset step offset → x ≡ word_of (region_start m act region +ℤ offset) → Means m act (Pointer region lo hi step) (Some x)
+  is_code_address : {offset : ℕ} {x : ℤ} → x ≡ word_of (pos (code_address m offset)) → Means m act (CodeAddress offset) (Some x)
+  is_return_address : {x : ℤ} → x ≡ word_of (pos (code_address m act.back)) → Means m act ReturnAddress (Some x)
+
+-- What is known of word k holds of its value: by itself; or it is the index of a loop that has c turns left, base + count - c; or the count of one, c.
+pub data MeansWord (m : Contents) (act : Activation) (k : ℤ) : WordFact → Option ℤ → Type 0 where
+  is_fact : {fact : Fact} {v : Option ℤ} → Means m act fact v → MeansWord m act k (Alone fact) v
+  is_index : {base x : ℤ} {count weight : ℕ} → 1 ≤ act.turns k → act.turns k ≤ count → x ≡ base +ℤ pos count -ℤ pos (act.turns k) → FitsSigned w32 x → MeansWord m act k (Index base count weight) (Some x)
+  is_count : {base x : ℤ} {count weight : ℕ} → 1 ≤ act.turns (k -ℤ pos 1) → act.turns (k -ℤ pos 1) ≤ count → x ≡ pos (act.turns (k -ℤ pos 1)) → FitsSigned w32 x → MeansWord m act k (Count base count weight) (Some x)
+
+pub means_unknown : (m : Contents) (act : Activation) (v : Option ℤ) → Means m act Unknown v
+means_unknown m act v = says_nothing
+
+pub nothing_known : (m : Contents) (act : Activation) (k : ℤ) (v : Option ℤ) → MeansWord m act k (Alone Unknown) v
+nothing_known m act k v = is_fact says_nothing
+
+-- ---- the frame
 
 -- the place of frame word k, where frame word 0 is at `origin`
 abbrev pub place_in : ℤ → ℤ → ℤ
@@ -46,17 +100,46 @@ pub record HasFrame (h : Holding) (size : ℕ) (has : ℤ → Bool) (origin dept
   pub words : (k : ℤ) → has k ≡ true → IsOwnWord h size origin k
   pub start : pos workspace ≡ pos data_start +ℤ place_in origin depth
 
--- all that the state says holds
-pub record Knows (has : ℤ → Bool) (s : State) (origin : ℤ) (r : Registers) (memory : Memory) : Type 0 where
-  pub a : Means s.a.fact r.a
-  pub b : Means s.b.fact r.b
-  pub c : Means s.c.fact r.c
-  pub words : (k : ℤ) → Means (s.frame k) (frame_word memory origin k)
-  pub within : (k : ℤ) → has k ≡ false → s.frame k ≡ Unknown
+-- ---- states
+
+-- all that the state says holds in an activation
+pub record Knows (m : Contents) (has : ℤ → Bool) (s : State) (act : Activation) (r : Registers) (memory : Memory) : Type 0 where
+  pub a : Means m act s.a.fact r.a
+  pub b : Means m act s.b.fact r.b
+  pub c : Means m act s.c.fact r.c
+  pub words : (k : ℤ) → MeansWord m act k (s.frame k) (frame_word memory act.origin k)
+  pub within : (k : ℤ) → has k ≡ false → s.frame k ≡ Alone Unknown
 
 -- the modes of a state and of a process (those of alternation and of starts come with them)
 pub data SameMode : states.Mode → machine.Mode → Type 0 where
   both_plain : SameMode states_modes.Plain machine_modes.Plain
+
+-- ---- loops at a label
+
+-- the turns left of a loop where a label stands: those that it had, where it is under way, else all
+abbrev pub turns_from : WordFact → WordFact → ℕ → ℕ
+turns_from (Index b n w) wanted turns = turns
+turns_from said (Index base count weight) turns = count
+turns_from said wanted turns = turns
+
+-- what turns are left where these facts go on as those of a label
+abbrev pub label_turns : Facts → List Entry → (ℤ → ℕ) → ℤ → ℕ
+label_turns facts entries turns = λ k. turns_from (facts k) (entry_fact entries k) (turns k)
+
+-- the activation in which a state goes on as a label's
+abbrev pub at_label : State → Label → Activation → Activation
+at_label s t act = with_turns (label_turns s.frame t.entries act.turns) act
+
+-- ---- modules
+
+-- a fact may be said of so many words: a loop has two
+abbrev pub IsSpan : ℕ → Fact → Type 0
+IsSpan span (Loop base count weight) = span ≡ 2
+IsSpan span _ = ⊤
+
+-- the loops of a label have two words each
+abbrev pub ArePairs : List Entry → Type 0
+ArePairs entries = AllByRecursion (λ (entry : Entry). IsSpan entry.span entry.fact) entries
 
 -- What the format of module files says of the parts that the theorems need.
 pub record IsWellFormed (m : Contents) : Type 0 where
@@ -66,4 +149,5 @@ pub record IsWellFormed (m : Contents) : Type 0 where
   pub few_constants : length m.constants ≤ 16384
   pub base : m.base ≤ m.data_words
   pub labels : (at : ℕ) (t : Label) → label_at m at ≡ Some t → at < length m.code
-  pub entries : (at : ℕ) (t : Label) (k : ℤ) → label_at m at ≡ Some t → has_word (context_at m t.context) k ≡ false → entry_fact t.entries k ≡ Unknown
+  pub rows : (at : ℕ) (t : Label) → label_at m at ≡ Some t → IsRowOf m t
+  pub pairs : (at : ℕ) (t : Label) → label_at m at ≡ Some t → ArePairs t.entries

@@ -5,7 +5,7 @@ use Rattle.prefix_decoder.specs.declared.function.Fun.{Fun}
 use Rattle.prefix_decoder.specs.declared.function.Fun.TheVariants.{Jump, LoadConstant, LoadLocal, AddConstant, StoreLocal, Operate}
 use Rattle.prefix_decoder.specs.declared.decoding.Instr.{Instr}
 use Rattle.certificate.specs.declared.fact.Fact.{Fact}
-use Rattle.certificate.specs.declared.fact.Fact.TheVariants.{Unknown, Number, Pointer, CodeAddress, Loop, ReturnAddress}
+use Rattle.certificate.specs.declared.fact.Fact.TheVariants.{Unknown, Number}
 use Rattle.certificate.specs.Contents.{Contents, label_at}
 use Rattle.certificate.specs.Contexts.{context_at}
 use Rattle.certificate.specs.Order.{least_word}
@@ -13,10 +13,12 @@ use Rattle.machine_state.specs.declared.op.Op.{Op}
 use Rattle.machine_state.specs.declared.op.Op.TheVariants.{Reverse, StopProcess, MinimumInteger}
 use Rattle.machine_state.specs.LocalStep.{op_of, fits_word, target}
 use Rattle.states.specs.declared.known.Known.{Known}
-use Rattle.states.specs.declared.known.Source.TheVariants.{From}
+use Rattle.states.specs.declared.known.Source.{Source}
+use Rattle.states.specs.declared.known.Source.TheVariants.{Nowhere, From}
+use Rattle.states.specs.declared.known.WordFact.{WordFact}
 use Rattle.states.specs.declared.known.Mode.{Mode}
 use Rattle.states.specs.declared.known.Mode.TheVariants.{Plain, Enabling, Disabling, Starting}
-use Rattle.states.specs.State.{State, unknown, known, written, has_word}
+use Rattle.states.specs.State.{State, unknown, known, plain, written, has_word}
 use Rattle.states.specs.Below.{below}
 
 -- where a rule leads
@@ -116,14 +118,14 @@ without_registers s = record s { a = unknown; b = unknown; c = unknown }
 abbrev pub constant : ℤ → Known
 constant v = known (Number v v)
 
--- what ldl gives: the word's fact, and where it is a number, that it comes from there
-abbrev pub loaded : ℤ → Fact → Known
-loaded k (Number lo hi) = record { fact = Number lo hi; source = From k }
-loaded k Unknown = unknown
-loaded k (Pointer region lo hi step) = known (Pointer region lo hi step)
-loaded k (CodeAddress offset) = known (CodeAddress offset)
-loaded k (Loop base count weight) = unknown
-loaded k ReturnAddress = unknown
+-- where what ldl gives comes from: a number is that of the word
+abbrev pub source_of : ℤ → Fact → Source
+source_of k (Number lo hi) = From k
+source_of k _ = Nowhere
+
+-- what ldl gives: the plain fact of the word, and where it is a number, that it comes from there
+abbrev pub loaded : ℤ → WordFact → Known
+loaded k word = record { fact = plain word; source = source_of k (plain word) }
 
 -- ---- the instructions
 

@@ -2,11 +2,14 @@
 
 ghost use Rattle.std.specs.Prelude.{◌≡◌, ℤ, ◌+ℤ◌};
 ghost use Rattle.machine_state.specs.LocalStep.{fits_word};
-ghost use Rattle.facts.specs.Rules.{outside_alternation, outside_starts, uses, number, in_word, forward, loaded};
+ghost use Rattle.states.specs.Rows.{LoopFits};
+ghost use Rattle.facts.specs.Rules.{outside_alternation, outside_starts, uses, number, in_word, forward, source_of, loaded};
 ghost use Rattle.facts.specs.Telling.{Admits, Gives};
 
 use certificate::Fact;
-use states::{ALTERNATION, FORWARD, Known, Mode, NUMBER, PAR, RuleFault, Source, UNKNOWN_REGISTER};
+use states::{
+    ALTERNATION, FORWARD, Known, Mode, NUMBER, PAR, RuleFault, Source, UNKNOWN_REGISTER, WordFact,
+};
 
 /// An instruction that may not stand in an alternation.
 #[tactic(auto, unfolding(crate::specs::Rules::outside_alternation))]
@@ -96,16 +99,24 @@ pub(crate) fn forward(distance: i32) -> Result<(), RuleFault>
     Ok(())
 }
 
-/// What `ldl` gives of a word with this fact: where it is a number, that it comes from there.
-pub(crate) fn loaded(word: i32, fact: Fact) -> Known
-    ensures { result ≡ loaded word fact }
+/// Where what `ldl` gives comes from: a number is that of the word.
+fn source_of(word: i32, fact: Fact) -> Source
+    ensures { result ≡ source_of word fact }
 {
     match fact {
-        Fact::Number { .. } => Known {
-            fact,
-            source: Source::From { word },
-        },
-        Fact::Unknown | Fact::Loop { .. } | Fact::ReturnAddress => Known::UNKNOWN,
-        Fact::Pointer { .. } | Fact::CodeAddress { .. } => Known::of(fact),
+        Fact::Number { .. } => Source::From { word },
+        _ => Source::Nowhere,
+    }
+}
+
+/// What `ldl` gives of a word: its plain fact, and where that is a number, that it comes from there.
+pub(crate) fn loaded(word: i32, fact: WordFact) -> Known
+    requires { LoopFits fact }
+    ensures { result ≡ loaded word fact }
+{
+    let plain = fact.plain();
+    Known {
+        fact: plain,
+        source: source_of(word, plain),
     }
 }

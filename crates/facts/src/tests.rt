@@ -1,12 +1,14 @@
 //! The states that follow one instruction, worked out by hand.
 
 ghost use Rattle.std.specs.Prelude.{IfSome};
+ghost use Rattle.certificate.specs.Contents.{label_of};
+ghost use Rattle.states.specs.Rows.{IsRowOf};
 ghost use Rattle.states.specs.Views.{BelongsTo};
 
 use super::*;
-use certificate::{Fact, Module};
+use certificate::{Fact, LabelRow, Module};
 use prefix_decoder::{Fun, Instr};
-use states::{Known, Source, State};
+use states::{Known, Source, State, WordFact, below};
 use std::alloc::Global;
 use std::process::Abort;
 
@@ -16,6 +18,16 @@ const JUMP: [u8; 102] = [
     0, 0, 0, 0, 0, 0, 0, 0, 0, 0, 0, 0, 0, 0, 0, 0, 0, 0, 0, 0, 0, 0, 0, 0, 0, 0, 0, 0, 0, 0, 0, 0,
     0, 0, 0, 0, 0, 0, 0, 0, 0, 1, 0, 0, 0, 0, 0, 0, 0, 0x00, 0x21, 0xf5, 1, 0, 0, 0, 0, 0, 0, 0, 0,
     0, 3, 0, 0, 0, 0, 0, 0, 0, 0, 0, 0, 0, 0,
+];
+
+/// `ldc 0; stl 1; ldc 3; stl 2; stopp`, with seven data words, base 3 and budget 18, and at offset 4 a label row with
+/// number 2 and a loop in the words 1 and 2: three turns of weight 6, with the index from 0 on.
+const LOOP: [u8; 130] = [
+    0x54, 0x50, 0x4d, 0x31, 6, 0, 0, 0, 0, 0, 0, 0, 7, 0, 0, 0, 3, 0, 0, 0, 18, 0, 0, 0, 0, 0, 0,
+    0, 0, 0, 0, 0, 0, 0, 0, 0, 0, 0, 0, 0, 0, 0, 0, 0, 0, 0, 0, 0, 0, 0, 0, 0, 0, 0, 0, 0, 0, 0, 0,
+    0, 0, 0, 0, 0, 0, 0, 0, 0, 1, 0, 0, 0, 0, 0, 0, 0, 0x40, 0xd1, 0x43, 0xd2, 0x21, 0xf5, 4, 0, 0,
+    0, 0, 0, 0, 0, 0, 0, 2, 0, 0, 0, 0, 0, 0, 0, 0, 0, 0, 1, 0, 1, 0, 0, 0, 2, 0, 0, 0, 4, 0, 0, 0,
+    0, 3, 0, 0, 0, 6, 0, 0, 0, 0, 0, 0, 0,
 ];
 
 /// What follows an instruction, for a comparison: A, B, C and the number behind it.
@@ -71,13 +83,17 @@ fn before<'a>(alloc: Global, module: &Module) -> Option<State<'a>>
     Some(state)
 }
 
-/// What follows the instruction at offset 0 where B is 7, A is 5 and the word 1 is from 1 to 5; an outer nothing
-/// where memory ran out on the way.
-fn follow(alloc: Global, instr: Instr, number: u64) -> Option<Result<Follows, u8>> {
-    let module = Module::read(alloc, &JUMP).ok()?;
-    let mut state = before(alloc, &module)?;
-    state.number = number;
-    match transfer(alloc, &module, &state, 0, instr) {
+/// What follows an instruction at an offset; an outer nothing where memory ran out.
+fn outcome(
+    alloc: Global,
+    module: &Module,
+    state: &State,
+    at: usize,
+    instr: Instr,
+) -> Option<Result<Follows, u8>>
+    requires { BelongsTo «module».now state.now }
+{
+    match transfer(alloc, module, state, at, instr) {
         Ok(Successors::Falls(next)) => Some(Ok(Follows::Falls(
             [next.a, next.b, next.c],
             next.number,
@@ -87,6 +103,14 @@ fn follow(alloc: Global, instr: Instr, number: u64) -> Option<Result<Follows, u8
         Err(fault) if fault.number == states::MEMORY => None,
         Err(fault) => Some(Err(fault.number)),
     }
+}
+
+/// What follows the instruction at offset 0 where B is 7, A is 5 and the word 1 is from 1 to 5.
+fn follow(alloc: Global, instr: Instr, number: u64) -> Option<Result<Follows, u8>> {
+    let module = Module::read(alloc, &JUMP).ok()?;
+    let mut state = before(alloc, &module)?;
+    state.number = number;
+    outcome(alloc, &module, &state, 0, instr)
 }
 
 /// Compares what follows with what is expected, a second time where memory ran out at the first.
@@ -171,5 +195,153 @@ fn each_rule_is_told_by_its_number(rt: HostRuntime) {
     ];
     for (instr, number, rule) in cases {
         check(&rt, rt.alloc(), instr, number, Err(rule));
+    }
+}
+
+/// The module's first label.
+fn first_row<'a>(module: &'a Module) -> Option<&'a LabelRow>
+    ensures { IfSome result (λ row. IsRowOf «module».now (label_of row.now)) }
+{
+    module.tables().labels.first()
+}
+
+/// The state of the module's first label.
+fn at_label<'a>(alloc: Global, module: &'a Module) -> Option<State<'a>>
+    ensures { IfSome result (BelongsTo «module».now) }
+{
+    let mut state = root(alloc, module)?;
+    let row = first_row(module)?;
+    state.become_label(module, row);
+    Some(state)
+}
+
+/// What is known of A and of the words 1 and 2 behind two instructions, where the loop's label stands.
+fn behind(alloc: Global, first: Instr, second: Instr) -> Option<(Known, WordFact, WordFact)> {
+    let module = Module::read(alloc, &LOOP).ok()?;
+    let mut state = at_label(alloc, &module)?;
+    advance(&mut state, &module, 4, first).ok()?;
+    advance(&mut state, &module, 5, second).ok()?;
+    Some((state.a, state.fact_at(1), state.fact_at(2)))
+}
+
+#[test]
+fn a_loop_is_read_and_broken(rt: HostRuntime) {
+    let five = WordFact::Alone(constant(5).fact);
+    let turns = Fact::Number { lo: 1, hi: 3 };
+    let indices = Fact::Number { lo: 0, hi: 2 };
+    let index = WordFact::Index {
+        base: 0,
+        count: 3,
+        weight: 6,
+    };
+    let count = WordFact::Count {
+        base: 0,
+        count: 3,
+        weight: 6,
+    };
+    let first = Known {
+        fact: indices,
+        source: Source::From { word: 1 },
+    };
+    let second = Known {
+        fact: turns,
+        source: Source::From { word: 2 },
+    };
+    let unknown = Known::UNKNOWN;
+    let cases = [
+        (byte(Fun::LoadLocal, 1), (first, index, count)),
+        (byte(Fun::LoadLocal, 2), (second, index, count)),
+        (byte(Fun::LoadLocal, 3), (unknown, index, count)),
+        (
+            byte(Fun::StoreLocal, 1),
+            (unknown, five, WordFact::Alone(turns)),
+        ),
+        (
+            byte(Fun::StoreLocal, 2),
+            (unknown, WordFact::Alone(indices), five),
+        ),
+        (byte(Fun::StoreLocal, 3), (unknown, index, count)),
+    ];
+    for (instr, expected) in cases {
+        let load = byte(Fun::LoadConstant, 5);
+        let found = behind(rt.alloc(), load, instr).or_else(|| behind(rt.alloc(), load, instr));
+        assert_eq!(rt; found, Some(expected), "{instr:?}");
+    }
+}
+
+/// What follows `j 0` in front of the loop's label, with these numbers in the words 1 and 2.
+fn enter(alloc: Global, first: i32, second: i32, number: u64) -> Option<Result<Follows, u8>> {
+    let module = Module::read(alloc, &LOOP).ok()?;
+    let mut state = root(alloc, &module)?;
+    write(&module, &mut state, 1, constant(first).fact)?;
+    write(&module, &mut state, 2, constant(second).fact)?;
+    state.number = number;
+    outcome(alloc, &module, &state, 3, byte(Fun::Jump, 0))
+}
+
+/// The same within the loop, where a number is stored into this word before.
+fn turn(alloc: Global, word: i64, value: i32, number: u64) -> Option<Result<Follows, u8>> {
+    let module = Module::read(alloc, &LOOP).ok()?;
+    let mut state = at_label(alloc, &module)?;
+    write(&module, &mut state, word, constant(value).fact)?;
+    state.number = number;
+    outcome(alloc, &module, &state, 3, byte(Fun::Jump, 0))
+}
+
+/// What it costs to fall into the loop's label from the code in front of it, with this budget.
+fn fall_in(alloc: Global, budget: u64) -> Option<Result<u64, u8>> {
+    let module = Module::read(alloc, &LOOP).ok()?;
+    let mut state = root(alloc, &module)?;
+    state.number = budget;
+    advance(&mut state, &module, 0, byte(Fun::LoadConstant, 0)).ok()?;
+    advance(&mut state, &module, 1, byte(Fun::StoreLocal, 1)).ok()?;
+    advance(&mut state, &module, 2, byte(Fun::LoadConstant, 3)).ok()?;
+    advance(&mut state, &module, 3, byte(Fun::StoreLocal, 2)).ok()?;
+    let row = first_row(&module)?;
+    Some(below(&state, row).map_err(|fault| fault.number))
+}
+
+#[test]
+fn a_loop_is_fallen_into(rt: HostRuntime) {
+    for (budget, expected) in [(18, Ok(14)), (17, Err(15))] {
+        let found = fall_in(rt.alloc(), budget).or_else(|| fall_in(rt.alloc(), budget));
+        assert_eq!(rt; found, Some(expected), "{budget}");
+    }
+}
+
+#[test]
+fn a_loop_is_entered_and_kept(rt: HostRuntime) {
+    let leads = Ok(Follows::Leads(4));
+    // The jump, the label's number, and the weight for each of two turns more.
+    let entered = [
+        (0, 3, 15, leads),
+        (0, 3, 14, Err(15)),
+        (1, 3, 100, Err(16)),
+        (0, 2, 100, Err(16)),
+    ];
+    for (first, second, number, expected) in entered {
+        let found = enter(rt.alloc(), first, second, number).or_else(|| enter(
+            rt.alloc(),
+            first,
+            second,
+            number,
+        ));
+        assert_eq!(rt; found, Some(expected), "{first} {second} {number}");
+    }
+    // A loop that is under way costs nothing more. One that was broken is not entered again by one of its words.
+    let kept = [
+        (3, 0, 3, leads),
+        (3, 0, 2, Err(15)),
+        (1, 0, 100, Err(16)),
+        (2, 3, 100, Err(16)),
+    ];
+    for (word, value, number, expected) in kept {
+        let found = turn(rt.alloc(), word, value, number).or_else(|| turn(
+            rt.alloc(),
+            word,
+            value,
+            number,
+        ));
+        assert_eq!(rt; found, Some(expected), "{word} {value} {number}");
     }
 }

@@ -1,7 +1,7 @@
 -- What is known of the words of a frame, written over a label's row.
-use Rattle.std.proofs.Common.{◌≡◌, ◌≢◌, ℕ, zero, suc, ◌+◌, ◌<◌, ◌≤◌, ℤ, pos, negsuc, ◌+ℤ◌, ◌-ℤ◌, ◌≤ℤ◌, ◌<ℤ◌, nat_abs, Bool, true, false, ◌&&◌, cond, eqb, List, [], ◌∷◌, length, Option, Some, None, refl, sym, ap, ◌∙◌, subst, arith, rules, ◌⊎◌, inl, inr}
+use Rattle.std.proofs.Common.{◌≡◌, ℕ, ℤ, pos, negsuc, ◌+ℤ◌, ◌-ℤ◌, ◌≤ℤ◌, ◌<ℤ◌, nat_abs, Bool, true, false, ◌&&◌, cond, eqb, List, [], Some, None, refl, sym, ap, ◌∙◌, arith, ◌⊎◌, inl, inr}
 use std.Path.{fun_ext}
-use Rattle.std.specs.Prelude.{int_le, unwrap_or}
+use Rattle.std.specs.Prelude.{int_le, option_map, unwrap_or}
 use Rattle.std.proofs.lemmas.Bool.{cases_eq, cases_lt}
 use Rattle.std.proofs.lemmas.Bool.Decides.{nat_tests}
 use Rattle.std.proofs.lemmas.Int.{ints, by_lt_z}
@@ -9,9 +9,11 @@ use Rattle.certificate.specs.declared.fact.Fact.{Fact}
 use Rattle.certificate.specs.declared.rows.Entry.{Entry}
 use Rattle.states.specs.declared.overlay.Written.{Written}
 use Rattle.states.specs.Lookup.{lookup}
-use Rattle.states.specs.State.{Facts, is_word, no_facts, with_fact, entry_fact}
-use Rattle.states.specs.Below.{implies}
-use Rattle.states.specs.Frames.{fact_of_index, facts_over}
+use Rattle.states.specs.State.{Facts, by_itself, is_word, is_tied, with_fact, entry_fact}
+use Rattle.states.specs.declared.known.WordFact.{WordFact}
+use Rattle.states.specs.declared.known.WordFact.TheVariants.{Alone, Index, Count}
+use Rattle.states.specs.Below.{says}
+use Rattle.states.specs.Frames.{fact_of_index, facts_over, with_alone, is_index, is_count, parted}
 use Rattle.states.proofs.RowFacts.{le-yes, le-no, and-both}
 
 pub is_word-same : (j k : ℤ) → j ≡ k → is_word j k ≡ true
@@ -32,11 +34,11 @@ nothing (pos n) = refl
 nothing (negsuc n) = refl
 
 pub facts_over-empty : (lo : ℤ) (row : List Entry) (written : List Written) → written ≡ [] → facts_over lo row written ≡ entry_fact row
-facts_over-empty lo row written none = fun_ext (λ k. ap (λ o. unwrap_or o (entry_fact row k)) (ap (λ ws. fact_of_index ws (k -ℤ lo)) none ∙ nothing (k -ℤ lo)))
+facts_over-empty lo row written none = fun_ext (λ k. ap (λ o. unwrap_or (option_map Alone o) (entry_fact row k)) (ap (λ ws. fact_of_index ws (k -ℤ lo)) none ∙ nothing (k -ℤ lo)))
 
 -- one more written
-write-at : (written new : List Written) (fact rest : Fact) (lo word k : ℤ) (i : ℕ) (z : ℤ) → z ≡ k -ℤ lo → word ≡ lo +ℤ pos i → ((j : ℕ) → lookup new j ≡ cond (eqb j i) (Some fact) (lookup written j))
-    → unwrap_or (fact_of_index new z) rest ≡ cond (is_word k word) fact (unwrap_or (fact_of_index written z) rest)
+write-at : (written new : List Written) (fact : Fact) (rest : WordFact) (lo word k : ℤ) (i : ℕ) (z : ℤ) → z ≡ k -ℤ lo → word ≡ lo +ℤ pos i → ((j : ℕ) → lookup new j ≡ cond (eqb j i) (Some fact) (lookup written j))
+    → unwrap_or (option_map Alone (fact_of_index new z)) rest ≡ cond (is_word k word) (Alone fact) (unwrap_or (option_map Alone (fact_of_index written z)) rest)
 write-at written new fact rest lo word k i (pos n) z_is word_is each = elim (cases_eq n i) [
   | inl e ↦
       let yes : eqb n i ≡ true = grind (arith, nat_tests) in
@@ -52,8 +54,90 @@ write-at written new fact rest lo word k i (pos n) z_is word_is each = elim (cas
 write-at written new fact rest lo word k i (negsuc n) z_is word_is each = rw (is_word-below k word (omega (arith, ints))) refl
 
 pub facts_over-write : (lo word : ℤ) (row : List Entry) (written new : List Written) (fact : Fact) (i : ℕ) → word ≡ lo +ℤ pos i → ((j : ℕ) → lookup new j ≡ cond (eqb j i) (Some fact) (lookup written j))
-    → facts_over lo row new ≡ with_fact word fact (facts_over lo row written)
+    → facts_over lo row new ≡ with_alone word fact (facts_over lo row written)
 facts_over-write lo word row written new fact i is each = fun_ext (λ k. write-at written new fact (entry_fact row k) lo word k i (k -ℤ lo) refl is each)
+
+-- ---- the words of loops
+
+-- a word is this one, or another one
+pub word-cases : (j k : ℤ) → ((is_word j k ≡ true) × (j ≡ k)) ⊎ (is_word j k ≡ false)
+word-cases j k = by_lt_z j k (λ l. inr (is_word-below j k l)) (λ h. by_lt_z k j (λ l. inr (is_word-above j k l)) (λ l.
+    let same : j ≡ k = omega (arith, ints) in
+    inl (is_word-same j k same, same)))
+
+-- a word of a loop that is parted from the other one
+pub parted-place : (is_such : WordFact → Bool) (k : ℤ) (facts new : Facts) (fact : WordFact) (alone : Fact) → fact ≡ facts k → true ≡ is_such fact → alone ≡ by_itself fact → new ≡ with_alone k alone facts → new ≡ parted is_such k facts
+parted-place is_such k facts new fact alone is such by_is placed = placed ∙ fun_ext (λ j. elim (word-cases j k) [
+  | inl h ↦
+      let here : facts j ≡ fact = ap facts h.1 ∙ sym is in
+      rw (h.0, here, ← such, by_is) refl
+  | inr h ↦ rw h refl
+])
+
+pub parted-none : (is_such : WordFact → Bool) (k : ℤ) (facts : Facts) (fact : WordFact) → fact ≡ facts k → false ≡ is_such fact → facts ≡ parted is_such k facts
+parted-none is_such k facts fact is such = fun_ext (λ j. elim (word-cases j k) [
+  | inl h ↦
+      let here : facts j ≡ fact = ap facts h.1 ∙ sym is in
+      rw (h.0, here, ← such) refl
+  | inr h ↦ rw h refl
+])
+
+-- a word that is parted where it is such a word of a loop
+abbrev parted_if : Bool → (WordFact → Bool) → WordFact → WordFact
+parted_if here is_such fact = cond (here && is_such fact) (Alone (by_itself fact)) fact
+
+part-alone : (before behind : Bool) (fact : Fact) → parted_if behind is_count (parted_if before is_index (Alone fact)) ≡ Alone fact
+part-alone true true fact = refl
+part-alone true false fact = refl
+part-alone false true fact = refl
+part-alone false false fact = refl
+
+part-index : (before behind : Bool) (base : ℤ) (count weight : ℕ) → parted_if behind is_count (parted_if before is_index (Index base count weight)) ≡ cond before (Alone (by_itself (Index base count weight))) (Index base count weight)
+part-index true true base count weight = refl
+part-index true false base count weight = refl
+part-index false true base count weight = refl
+part-index false false base count weight = refl
+
+part-count : (before behind : Bool) (base : ℤ) (count weight : ℕ) → parted_if behind is_count (parted_if before is_index (Count base count weight)) ≡ cond behind (Alone (by_itself (Count base count weight))) (Count base count weight)
+part-count true true base count weight = refl
+part-count true false base count weight = refl
+part-count false true base count weight = refl
+part-count false false base count weight = refl
+
+-- the word before one is the word that one is behind
+before-behind : (w j : ℤ) → is_word j (w -ℤ pos 1) ≡ is_word w (j +ℤ pos 1)
+before-behind w j = elim (word-cases j (w -ℤ pos 1)) [
+  | inl h ↦ let same = h.1 in h.0 ∙ sym (is_word-same w (j +ℤ pos 1) (omega (arith, ints)))
+  | inr h ↦ h ∙ sym (elim (word-cases w (j +ℤ pos 1)) [
+    | inl g ↦
+        let same = g.1 in
+        let yes = is_word-same j (w -ℤ pos 1) (omega (arith, ints)) in
+        let clash : true ≡ false = sym yes ∙ h in
+        absurd (cc)
+    | inr g ↦ g
+  ])
+]
+
+-- what is known of a word once those are parted that are in a loop with word w
+parted-word : (w j : ℤ) (fact : WordFact) → parted_if (is_word j (w +ℤ pos 1)) is_count (parted_if (is_word j (w -ℤ pos 1)) is_index fact) ≡ cond (is_tied j fact w) (Alone (by_itself fact)) fact
+parted-word w j (Alone fact) = part-alone (is_word j (w -ℤ pos 1)) (is_word j (w +ℤ pos 1)) fact
+parted-word w j (Index base count weight) =
+    part-index (is_word j (w -ℤ pos 1)) (is_word j (w +ℤ pos 1)) base count weight
+    ∙ ap (λ b. cond b (Alone (by_itself (Index base count weight))) (Index base count weight)) (before-behind w j)
+parted-word w j (Count base count weight) = part-count (is_word j (w -ℤ pos 1)) (is_word j (w +ℤ pos 1)) base count weight
+
+-- a word is written once the words are parted that can be in a loop with it
+pub parts-write : (w : ℤ) (fact : Fact) (facts : Facts) → with_alone w fact (parted is_count (w +ℤ pos 1) (parted is_index (w -ℤ pos 1) facts)) ≡ with_fact w fact facts
+parts-write w fact facts = fun_ext (λ j. elim (word-cases j w) [
+  | inl h ↦ rw h.0 refl
+  | inr h ↦ rw h (parted-word w j (facts j))
+])
+
+-- the same, step by step
+pub write-steps : (w here before behind : ℤ) (fact : Fact) (facts first second new : Facts) → here ≡ w → before ≡ w -ℤ pos 1 → behind ≡ w +ℤ pos 1
+    → first ≡ parted is_index before facts → second ≡ parted is_count behind first → new ≡ with_alone here fact second → new ≡ with_fact w fact facts
+write-steps w here before behind fact facts first second new here_is before_is behind_is one two three =
+    three ∙ (rw (here_is, two, behind_is, one, before_is) (parts-write w fact facts))
 
 -- how far a word lies behind another
 distance-of : (a b z : ℤ) (n : ℕ) → b ≤ℤ a → z ≡ a -ℤ b → n ≡ nat_abs z → a ≡ b +ℤ pos n
@@ -65,14 +149,14 @@ distance a b n h e = distance-of a b (a -ℤ b) n h refl e
 
 -- ---- a stretch of words
 
-abbrev Imply : Facts → Fact → ℤ → ℤ → Type 0
-Imply facts wanted word end = (j : ℤ) → word ≤ℤ j → j <ℤ end → implies (facts j) wanted ≡ true
+abbrev Say : Facts → WordFact → ℤ → ℤ → Type 0
+Say facts wanted word end = (j : ℤ) → word ≤ℤ j → j <ℤ end → says (facts j) wanted ≡ true
 
-pub imply-more : (facts : Facts) (wanted : Fact) (word k next : ℤ) (fact : Fact) → Imply facts wanted word k → fact ≡ facts k → implies fact wanted ≡ true → next ≡ k +ℤ pos 1 → Imply facts wanted word next
-imply-more facts wanted word k next fact before is holds next_is = λ j l h. by_lt_z j k (λ low. before j l low) (λ high.
+pub say-more : (facts : Facts) (wanted : WordFact) (word k next : ℤ) (fact : WordFact) → Say facts wanted word k → fact ≡ facts k → says fact wanted ≡ true → next ≡ k +ℤ pos 1 → Say facts wanted word next
+say-more facts wanted word k next fact before is holds next_is = λ j l h. by_lt_z j k (λ low. before j l low) (λ high.
     let same : j ≡ k = omega (arith, ints) in
-    ap (λ f. implies f wanted) (ap facts same ∙ sym is) ∙ holds)
+    ap (λ f. says f wanted) (ap facts same ∙ sym is) ∙ holds)
 
-pub imply-fails : (facts : Facts) (wanted : Fact) (word k end : ℤ) (fact : Fact) → word ≤ℤ k → k <ℤ end → fact ≡ facts k → false ≡ implies fact wanted
-    → (j : ℤ) × (word ≤ℤ j) × (j <ℤ end) × (implies (facts j) wanted ≡ false)
-imply-fails facts wanted word k end fact l h is fails = (k, l, h, ap (λ f. implies f wanted) (sym is) ∙ sym fails)
+pub say-fails : (facts : Facts) (wanted : WordFact) (word k end : ℤ) (fact : WordFact) → word ≤ℤ k → k <ℤ end → fact ≡ facts k → false ≡ says fact wanted
+    → (j : ℤ) × (word ≤ℤ j) × (j <ℤ end) × (says (facts j) wanted ≡ false)
+say-fails facts wanted word k end fact l h is fails = (k, l, h, ap (λ f. says f wanted) (sym is) ∙ sym fails)

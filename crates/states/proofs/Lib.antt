@@ -1,4 +1,8 @@
 pub mod Lookups
+pub mod LabelRows
+pub mod Loops
+pub mod Prices
+pub mod Procedures
 pub mod RowFacts
 pub mod FrameFacts
 pub mod Comparisons

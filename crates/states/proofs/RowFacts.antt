@@ -1,12 +1,12 @@
 -- What a row of entries says of the words.
-use Rattle.std.proofs.Common.{◌≡◌, ℕ, zero, suc, ◌+◌, ◌<◌, ◌≤◌, ℤ, pos, negsuc, ◌+ℤ◌, ◌≤ℤ◌, ◌<ℤ◌, Bool, true, false, ◌&&◌, cond, List, [], ◌∷◌, length, get_or, take, drop, refl, sym, ap, ◌∙◌, subst, add-zero, arith, rules, ◌⊎◌, inl, inr}
+use Rattle.std.proofs.Common.{◌≡◌, ℕ, zero, suc, ◌<◌, ℤ, ◌≤ℤ◌, ◌<ℤ◌, Bool, true, false, ◌&&◌, cond, List, [], ◌∷◌, length, get_or, take, drop, refl, sym, ap, ◌∙◌, subst, add-zero, arith}
 use Rattle.std.specs.Prelude.{int_le, int_lt}
 use Rattle.std.proofs.lemmas.List.{get_or-drop}
 use Rattle.std.proofs.lemmas.Int.{ints, by_lt_z}
-use Rattle.certificate.specs.declared.fact.Fact.{Fact}
 use Rattle.certificate.specs.declared.fact.Fact.TheVariants.{Unknown}
 use Rattle.certificate.specs.declared.rows.Entry.{Entry}
-use Rattle.states.specs.State.{is_about, entry_fact}
+use Rattle.states.specs.declared.known.WordFact.TheVariants.{Alone}
+use Rattle.states.specs.State.{is_word, is_about, said_of, entry_fact}
 use Rattle.certificate.specs.Order.{least_word}
 use Rattle.certificate.specs.Facts.{end_of}
 use Rattle.states.specs.Rows.{rise_from, AreApart}
@@ -79,7 +79,7 @@ rise-tail low entry entries r =
     rise-lower low (end_of entry) entries (omega (arith, ints)) p.1
 
 -- below the first entry nothing is said
-pub unknown-below : (low k : ℤ) (entries : List Entry) → rise_from low entries ≡ true → k <ℤ low → entry_fact entries k ≡ Unknown
+pub unknown-below : (low k : ℤ) (entries : List Entry) → rise_from low entries ≡ true → k <ℤ low → entry_fact entries k ≡ Alone Unknown
 unknown-below low k [] r h = refl
 unknown-below low k (entry ∷ entries) r h =
     let p = rise-parts low entry entries r in
@@ -126,10 +126,10 @@ entry_fact-take low k [] n d r l h = absurd (omega arith)
 entry_fact-take low k (entry ∷ entries) zero d r l h = sym (unknown-below entry.word k (entry ∷ entries) (and-both _ _ (le-yes entry.word entry.word (omega (arith, ints))) (rise-parts low entry entries r).1) h)
 entry_fact-take low k (entry ∷ entries) (suc n) d r l h =
     let p = rise-parts low entry entries r in
-    ap (λ f. cond (is_about entry k) entry.fact f) (entry_fact-take (end_of entry) k entries n d p.1 (omega arith) h)
+    ap (λ f. cond (is_about entry k) (said_of entry.fact (is_word entry.word k)) f) (entry_fact-take (end_of entry) k entries n d p.1 (omega arith) h)
 
 -- one entry alone
-pub entry_fact-one : (k : ℤ) (entries : List Entry) (d : Entry) → length entries ≡ 1 → entry_fact entries k ≡ cond (is_about (get_or entries 0 d) k) (get_or entries 0 d).fact Unknown
+pub entry_fact-one : (k : ℤ) (entries : List Entry) (d : Entry) → length entries ≡ 1 → entry_fact entries k ≡ cond (is_about (get_or entries 0 d) k) (said_of (get_or entries 0 d).fact (is_word (get_or entries 0 d).word k)) (Alone Unknown)
 entry_fact-one k [] d h = absurd (omega arith)
 entry_fact-one k (entry ∷ []) d h = refl
 entry_fact-one k (entry ∷ other ∷ entries) d h = absurd (omega arith)
@@ -139,11 +139,11 @@ entry_fact-one k (entry ∷ other ∷ entries) d h = absurd (omega arith)
 pub entry_fact-behind : (k word : ℤ) (entry : Entry) (entries : List Entry) → end_of entry ≤ℤ word → word ≤ℤ k → entry_fact (entry ∷ entries) k ≡ entry_fact entries k
 entry_fact-behind k word entry entries e h = rw (about-behind entry k (omega (arith, ints))) refl
 
-pub entry_fact-before : (low k : ℤ) (entry : Entry) (entries : List Entry) → rise_from low (entry ∷ entries) ≡ true → k <ℤ entry.word → entry_fact (entry ∷ entries) k ≡ Unknown
+pub entry_fact-before : (low k : ℤ) (entry : Entry) (entries : List Entry) → rise_from low (entry ∷ entries) ≡ true → k <ℤ entry.word → entry_fact (entry ∷ entries) k ≡ Alone Unknown
 entry_fact-before low k entry entries r h =
     unknown-below entry.word k (entry ∷ entries) (and-both _ _ (le-yes entry.word entry.word (omega (arith, ints))) (rise-parts low entry entries r).1) h
 
-pub entry_fact-within : (k : ℤ) (entry : Entry) (entries : List Entry) → entry.word ≤ℤ k → k <ℤ end_of entry → entry_fact (entry ∷ entries) k ≡ entry.fact
+pub entry_fact-within : (k : ℤ) (entry : Entry) (entries : List Entry) → entry.word ≤ℤ k → k <ℤ end_of entry → entry_fact (entry ∷ entries) k ≡ said_of entry.fact (is_word entry.word k)
 entry_fact-within k entry entries l h = rw (about-within entry k l h) refl
 
 -- ---- a binary search
@@ -169,13 +169,13 @@ row-front rest front back mid k w d apart first_half half low first lt =
 -- ---- a row from a word on
 
 -- a row that begins behind a word says nothing from there up to its first entry
-pub segment-before : (row : List Entry) (entry : Entry) (later : List Entry) (start k : ℤ) → AreApart row → row ≡ entry ∷ later → start ≡ entry.word → k <ℤ start → entry_fact row k ≡ Unknown
+pub segment-before : (row : List Entry) (entry : Entry) (later : List Entry) (start k : ℤ) → AreApart row → row ≡ entry ∷ later → start ≡ entry.word → k <ℤ start → entry_fact row k ≡ Alone Unknown
 segment-before row entry later start k apart is start_is h =
     ap (λ es. entry_fact es k) is ∙ entry_fact-before least_word k entry later (subst (λ es. AreApart es) is apart) (subst (λ (z : ℤ). k <ℤ z) start_is h)
 
-pub segment-within : (row : List Entry) (entry : Entry) (later : List Entry) (start end k : ℤ) → row ≡ entry ∷ later → start ≡ entry.word → end ≡ end_of entry → start ≤ℤ k → k <ℤ end → entry_fact row k ≡ entry.fact
+pub segment-within : (row : List Entry) (entry : Entry) (later : List Entry) (start end k : ℤ) → row ≡ entry ∷ later → start ≡ entry.word → end ≤ℤ end_of entry → start ≤ℤ k → k <ℤ end → entry_fact row k ≡ said_of entry.fact (is_word entry.word k)
 segment-within row entry later start end k is start_is end_is l h =
-    ap (λ es. entry_fact es k) is ∙ entry_fact-within k entry later (subst (λ (z : ℤ). z ≤ℤ k) start_is l) (subst (λ (z : ℤ). k <ℤ z) end_is h)
+    ap (λ es. entry_fact es k) is ∙ entry_fact-within k entry later (subst (λ (z : ℤ). z ≤ℤ k) start_is l) (omega (arith, ints))
 
 -- an entry that ends before a word says nothing from there on
 pub segment-behind : (row : List Entry) (entry : Entry) (later : List Entry) (end k : ℤ) → row ≡ entry ∷ later → end ≡ end_of entry → end ≤ℤ k → entry_fact later k ≡ entry_fact row k

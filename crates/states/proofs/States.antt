@@ -1,5 +1,5 @@
 -- States that are equal field by field, and the words of all contexts.
-use Rattle.std.proofs.Common.{◌≡◌, ℕ, zero, suc, ◌+◌, ◌-◌, ◌<◌, ◌≤◌, ℤ, pos, negsuc, ◌+ℤ◌, ◌-ℤ◌, neg_ℤ, ◌≤ℤ◌, ◌<ℤ◌, Bool, true, false, ◌&&◌, cond, eqb, ltb, List, [], ◌∷◌, length, get_or, map, Option, Some, None, Result, Ok, Err, refl, sym, ap, ◌∙◌, subst, arith, rules, ◌⊎◌, inl, inr}
+use Rattle.std.proofs.Common.{◌≡◌, ℕ, zero, suc, ◌+◌, ◌-◌, ◌<◌, ℤ, ◌≤ℤ◌, ◌<ℤ◌, true, ◌&&◌, cond, List, [], ◌∷◌, length, get_or, map, Option, Some, None, Result, Ok, Err, refl, sym, ap, ◌∙◌, subst, arith, rules, inl, inr}
 use Rattle.std.specs.Prelude.{int_le, int_lt, slice_get, option_map, nat_lt, ◌==◌, FitsSigned}
 use Rattle.std.specs.Int.{w32}
 use Rattle.std.specs.Result.{result_ok, OkIff}
@@ -9,7 +9,7 @@ use Rattle.std.proofs.lemmas.Int.{ints}
 use Rattle.certificate.specs.declared.fact.Fact.{Fact}
 use Rattle.certificate.specs.declared.contexts.Context.{Context}
 use Rattle.certificate.specs.declared.rows.ProcedureRow.{ProcedureRow}
-use Rattle.certificate.specs.Contents.{Contents, Procedure, procedure_of}
+use Rattle.certificate.specs.Contents.{Contents, procedure_of}
 use Rattle.certificate.specs.Contexts.{context_at, own_context, owner, branch_count, root_context, procedure_context}
 use Rattle.states.specs.declared.known.Known.{Known}
 use Rattle.states.specs.State.{State, Facts, with_fact, forgets, written, has_word}

@@ -1,5 +1,5 @@
 -- When a state may go on as a label's: it knows at least as much, and can pay.
-use Rattle.std.specs.Prelude.{ℕ, zero, suc, ℤ, pos, ◌+ℤ◌, int_le, nat_lt, ◌==◌, ◌&&◌, Bool, true, false, if◌then◌else◌, List, [], ◌∷◌, Result, Ok, Err}
+use Rattle.std.specs.Prelude.{ℕ, zero, suc, ◌+◌, ◌-◌, ◌*◌, ℤ, pos, ◌+ℤ◌, int_le, nat_lt, ◌==◌, ◌&&◌, Bool, true, false, not, if◌then◌else◌, List, sum_by, Result, Ok, Err}
 use Rattle.std.specs.List.{list_all}
 use Rattle.certificate.specs.declared.fact.Fact.{Fact}
 use Rattle.certificate.specs.declared.fact.Fact.TheVariants.{Unknown, Number, Pointer, CodeAddress, Loop, ReturnAddress}
@@ -7,9 +7,13 @@ use Rattle.certificate.specs.declared.fact.Step.{Step}
 use Rattle.certificate.specs.declared.fact.Step.TheVariants.{Byte, Word}
 use Rattle.certificate.specs.declared.rows.Entry.{Entry}
 use Rattle.certificate.specs.Contents.{Label}
+use Rattle.states.specs.declared.known.WordFact.{WordFact}
+use Rattle.states.specs.declared.known.WordFact.TheVariants.{Alone, Index, Count}
 use Rattle.states.specs.declared.known.Mode.{Mode}
 use Rattle.states.specs.declared.known.Mode.TheVariants.{Plain, Enabling, Disabling, Starting}
-use Rattle.states.specs.State.{State, Facts, is_word, label_state}
+use Rattle.states.specs.State.{State, Facts, by_itself, is_alone, is_word, said_of}
+
+-- ---- facts
 
 -- the range from lo to hi lies within the other
 abbrev pub lies_within : ℤ → ℤ → ℤ → ℤ → Bool
@@ -21,7 +25,7 @@ step_implies step Byte = true
 step_implies Word Word = true
 step_implies Byte Word = false
 
--- the first fact says at least what the second says (facts of loops come with loops)
+-- the first fact says at least what the second says
 abbrev pub implies : Fact → Fact → Bool
 implies fact Unknown = true
 implies (Number lo hi) (Number low high) = lies_within lo hi low high
@@ -30,13 +34,67 @@ implies (CodeAddress offset) (CodeAddress other) = offset == other
 implies ReturnAddress ReturnAddress = true
 implies _ _ = false
 
--- each of so many words from `word` on has at least this fact
-abbrev pub words_imply : Facts → ℤ → Fact → ℕ → Bool
-words_imply facts word fact zero = true
-words_imply facts word fact (suc more) = implies (facts (word +ℤ pos more)) fact && words_imply facts word fact more
+-- it is a number that is exactly this one
+abbrev pub is_constant : Fact → ℤ → Bool
+is_constant (Number lo hi) number = is_word lo number && is_word hi number
+is_constant _ number = false
+
+-- two loops are the same
+abbrev pub is_same_loop : ℤ → ℕ → ℕ → ℤ → ℕ → ℕ → Bool
+is_same_loop base count weight other turns price = is_word base other && (count == turns) && (weight == price)
+
+-- What is known of a word says at least what is wanted. A number that is the base implies the index, and one that is the
+-- number of turns the count: so a loop is entered.
+abbrev pub says : WordFact → WordFact → Bool
+says fact (Alone wanted) = implies (by_itself fact) wanted
+says (Alone fact) (Index base count weight) = is_constant fact base
+says (Alone fact) (Count base count weight) = is_constant fact (pos count)
+says (Index base count weight) (Index other turns price) = is_same_loop base count weight other turns price
+says (Count base count weight) (Count other turns price) = is_same_loop base count weight other turns price
+says _ _ = false
+
+-- ---- entries
+
+-- of each of so many words of an entry that is said which the entry says
+abbrev pub words_say : Facts → Entry → ℕ → Bool
+words_say facts entry zero = true
+words_say facts entry (suc more) = says (facts (entry.word +ℤ pos more)) (said_of entry.fact (more == 0)) && words_say facts entry more
 
 abbrev pub entries_hold : Facts → List Entry → Bool
-entries_hold facts entries = list_all (λ entry. words_imply facts entry.word entry.fact entry.span) entries
+entries_hold facts entries = list_all (λ entry. words_say facts entry entry.span) entries
+
+-- both or neither
+abbrev pub are_alike : Bool → Bool → Bool
+are_alike true b = b
+are_alike false b = not b
+
+-- both words of a loop come from that loop, or neither does
+abbrev pub is_whole : Facts → Entry → Bool
+is_whole facts entry = elim entry.fact [
+  | Loop base count weight ↦ are_alike (is_alone (facts entry.word)) (is_alone (facts (entry.word +ℤ pos 1)))
+  | _ ↦ true
+]
+
+-- ---- the price
+
+-- the word has this number, which is no loop's
+abbrev pub holds_constant : WordFact → ℤ → Bool
+holds_constant (Alone fact) number = is_constant fact number
+holds_constant _ number = false
+
+-- what it costs to enter a loop: its weight for each turn but the first
+abbrev pub price : Facts → Entry → ℕ
+price facts entry = elim entry.fact [
+  | Loop base count weight ↦
+      if holds_constant (facts entry.word) base && holds_constant (facts (entry.word +ℤ pos 1)) (pos count) then weight * (count - 1) else 0
+  | _ ↦ 0
+]
+
+-- the label's number, and the loops that are entered
+abbrev pub cost : State → Label → ℕ
+cost s t = t.number + sum_by (price s.frame) t.entries
+
+-- ---- states
 
 abbrev pub is_plain : Mode → Bool
 is_plain Plain = true
@@ -48,8 +106,9 @@ is_plain (Starting row started) = false
 abbrev pub agrees : State → Label → Bool
 agrees s t =
     (s.context == t.context) && is_word s.depth t.depth && is_plain s.mode
-    && implies s.a.fact t.a && implies s.b.fact t.b && implies s.c.fact t.c && entries_hold s.frame t.entries
+    && implies s.a.fact t.a && implies s.b.fact t.b && implies s.c.fact t.c
+    && entries_hold s.frame t.entries && list_all (is_whole s.frame) t.entries
 
 -- what going on as the label costs, or the number of the rule that is broken: 15 where the state cannot pay, 16 where it knows less
 unfoldable pub below : State → Label → Result ℕ ℕ
-below s t = if nat_lt s.number t.number then Err 15 else if agrees s t then Ok t.number else Err 16
+below s t = if nat_lt s.number (cost s t) then Err 15 else if agrees s t then Ok (cost s t) else Err 16

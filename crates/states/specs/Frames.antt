@@ -1,23 +1,42 @@
 -- What is known of the words of a frame: what was written since the last label, over what the label's row says.
-use Rattle.std.specs.Prelude.{◌≡◌, ℕ, ℤ, pos, negsuc, ◌+ℤ◌, ◌-ℤ◌, ◌≤ℤ◌, ◌<ℤ◌, List, Option, Some, None, unwrap_or, vec_len}
+use Rattle.std.specs.Prelude.{◌≡◌, ◌&&◌, Bool, true, false, if◌then◌else◌, ℕ, ℤ, pos, negsuc, ◌+ℤ◌, ◌-ℤ◌, ◌≤ℤ◌, ◌<ℤ◌, ◌<◌, List, length, get_or, Option, None, option_map, unwrap_or, vec_len}
 use Rattle.certificate.specs.declared.fact.Fact.{Fact}
 use Rattle.certificate.specs.declared.rows.Entry.{Entry}
+use Rattle.certificate.specs.declared.rows.Parameter.{Parameter}
 use Rattle.states.specs.declared.overlay.Written.{Written}
 use Rattle.states.specs.declared.frame.Frame.{Frame}
+use Rattle.states.specs.declared.known.WordFact.{WordFact}
+use Rattle.states.specs.declared.known.WordFact.TheVariants.{Alone, Index, Count}
 use Rattle.states.specs.Lookup.{lookup}
-use Rattle.states.specs.State.{Facts, entry_fact}
+use Rattle.states.specs.State.{Facts, is_word, by_itself, entry_fact}
 
 -- the fact of an index, which none below 0 has
 abbrev pub fact_of_index : List Written → ℤ → Option Fact
 fact_of_index written (pos index) = lookup written index
 fact_of_index written (negsuc n) = None
 
--- what was written to a word, where the word `lo` has index 0, else what the row says
+-- what was written to a word, where the word `lo` has index 0, and is its fact alone, else what the row says
 abbrev pub facts_over : ℤ → List Entry → List Written → Facts
-facts_over lo row written = λ k. unwrap_or (fact_of_index written (k -ℤ lo)) (entry_fact row k)
+facts_over lo row written = λ k. unwrap_or (option_map Alone (fact_of_index written (k -ℤ lo))) (entry_fact row k)
 
 abbrev pub frame_facts : Frame → Facts
 frame_facts frame = facts_over frame.lo frame.row.now frame.overlay.written.items
+
+-- word k has this fact from now on, and the others what they had
+abbrev pub with_alone : ℤ → Fact → Facts → Facts
+with_alone k fact facts = λ j. if is_word j k then Alone fact else facts j
+
+abbrev pub is_index : WordFact → Bool
+is_index (Index base count weight) = true
+is_index _ = false
+
+abbrev pub is_count : WordFact → Bool
+is_count (Count base count weight) = true
+is_count _ = false
+
+-- if word k is such a word of a loop, it is what it says by itself from now on
+abbrev pub parted : (WordFact → Bool) → ℤ → Facts → Facts
+parted is_such k facts = λ j. if is_word j k && is_such (facts j) then Alone (by_itself (facts j)) else facts j
 
 -- word k can be written
 pub record HasRoom (frame : Frame) (k : ℤ) : Type 0 where
@@ -28,3 +47,7 @@ pub record HasRoom (frame : Frame) (k : ℤ) : Type 0 where
 pub record SameRoom (old new : Frame) : Type 0 where
   pub lo : new.lo ≡ old.lo
   pub len : vec_len new.overlay.places ≡ vec_len old.overlay.places
+
+-- the words of parameters can be written
+pub record HasRoomForAll (frame : Frame) (parameters : List Parameter) : Type 0 where
+  pub each : (i : ℕ) → i < length parameters → (d : Parameter) → HasRoom frame (pos (get_or parameters i d).word)

@@ -1,8 +1,14 @@
--- The entries of a label row: their words rise, and no two entries overlap.
-use Rattle.std.specs.Prelude.{ℤ, int_le, ◌&&◌, Bool, true, List, [], ◌∷◌, IsTrue}
+-- The entries of label rows: their words rise, no two entries overlap, and their loops are those of the format.
+use Rattle.std.specs.Prelude.{◌≡◌, ⊤, ℕ, ℤ, pos, ◌+ℤ◌, ◌≤ℤ◌, ◌<ℤ◌, int_le, ◌&&◌, Bool, true, false, List, [], ◌∷◌, IsTrue}
+use Rattle.certificate.specs.declared.fact.Fact.TheVariants.{Unknown}
 use Rattle.certificate.specs.declared.rows.Entry.{Entry}
 use Rattle.certificate.specs.Order.{least_word}
-use Rattle.certificate.specs.Facts.{end_of}
+use Rattle.certificate.specs.Contents.{Contents, Label}
+use Rattle.certificate.specs.Contexts.{context_at}
+use Rattle.certificate.specs.Facts.{end_of, IsLoop}
+use Rattle.states.specs.declared.known.WordFact.{WordFact}
+use Rattle.states.specs.declared.known.WordFact.TheVariants.{Alone, Index, Count}
+use Rattle.states.specs.State.{is_alone, entry_fact, has_word}
 
 -- the entries begin at this word or later, each behind the one before it
 abbrev pub rise_from : ℤ → List Entry → Bool
@@ -11,3 +17,21 @@ rise_from low (entry ∷ entries) = int_le low entry.word && rise_from (end_of e
 
 abbrev pub AreApart : List Entry → Type 0
 AreApart entries = IsTrue (rise_from least_word entries)
+
+-- a loop that a word is in is one of the format: its last index and its number of turns are words
+abbrev pub LoopFits : WordFact → Type 0
+LoopFits (Alone fact) = ⊤
+LoopFits (Index base count weight) = IsLoop base count weight
+LoopFits (Count base count weight) = IsLoop base count weight
+
+-- the entries of a frame that has so many words from lo on: each word of a loop is one of them
+pub record IsRow (lo : ℤ) (room : ℕ) (entries : List Entry) : Type 0 where
+  pub apart : AreApart entries
+  pub loops : (k : ℤ) → LoopFits (entry_fact entries k)
+  pub inside : (k : ℤ) → is_alone (entry_fact entries k) ≡ false → (lo ≤ℤ k) × (k <ℤ (lo +ℤ pos room))
+
+-- the entries of a module's label: they say nothing of words that its context does not have
+pub record IsRowOf (m : Contents) (t : Label) : Type 0 where
+  pub apart : AreApart t.entries
+  pub loops : (k : ℤ) → LoopFits (entry_fact t.entries k)
+  pub own : (k : ℤ) → has_word (context_at m t.context) k ≡ false → entry_fact t.entries k ≡ Alone Unknown

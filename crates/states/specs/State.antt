@@ -1,10 +1,16 @@
 -- What is known of a process at a place of its code.
-use Rattle.std.specs.Prelude.{ℕ, ℤ, pos, ◌+ℤ◌, ◌-ℤ◌, int_le, int_lt, ◌&&◌, Bool, true, false, if◌then◌else◌, List, [], ◌∷◌, Option, Some, None}
+use Rattle.std.specs.Prelude.{ℕ, ◌+◌, ℤ, pos, ◌+ℤ◌, ◌-ℤ◌, int_le, int_lt, ◌&&◌, Bool, true, false, if◌then◌else◌, List, [], ◌∷◌, Option, Some, None}
 use Rattle.certificate.specs.declared.fact.Fact.{Fact}
-use Rattle.certificate.specs.declared.fact.Fact.TheVariants.{Unknown}
+use Rattle.certificate.specs.declared.fact.Fact.TheVariants.{Unknown, Number, Pointer, Loop, ReturnAddress}
+use Rattle.certificate.specs.declared.fact.Step.TheVariants.{Word}
 use Rattle.certificate.specs.declared.rows.Entry.{Entry}
+use Rattle.certificate.specs.declared.rows.Parameter.{Parameter}
+use Rattle.certificate.specs.declared.rows.ParameterKind.{ParameterKind}
+use Rattle.certificate.specs.declared.rows.ParameterKind.TheVariants.{Value}
 use Rattle.certificate.specs.declared.contexts.Context.{Context}
-use Rattle.certificate.specs.Contents.{Contents, Label}
+use Rattle.certificate.specs.Contents.{Contents, Procedure, Label}
+use Rattle.states.specs.declared.known.WordFact.{WordFact}
+use Rattle.states.specs.declared.known.WordFact.TheVariants.{Alone, Index, Count}
 use Rattle.states.specs.declared.known.Known.{Known}
 use Rattle.states.specs.declared.known.Source.{Source}
 use Rattle.states.specs.declared.known.Source.TheVariants.{Nowhere, From, Test}
@@ -12,9 +18,9 @@ use Rattle.states.specs.declared.known.Guard.{Guard}
 use Rattle.states.specs.declared.known.Mode.{Mode}
 use Rattle.states.specs.declared.known.Mode.TheVariants.{Plain}
 
--- the facts of the frame's words, by their numbers
+-- what is known of the frame's words, by their numbers
 abbrev pub Facts : Type 0
-Facts = ℤ → Fact
+Facts = ℤ → WordFact
 
 pub record State : Type 0 where
   pub context : ℕ
@@ -27,7 +33,7 @@ pub record State : Type 0 where
   pub mode : Mode
   pub guards : List Guard
 
--- ---- facts of words
+-- ---- facts of registers
 
 abbrev pub unknown : Known
 unknown = record { fact = Unknown; source = Nowhere }
@@ -35,25 +41,64 @@ unknown = record { fact = Unknown; source = Nowhere }
 abbrev pub known : Fact → Known
 known fact = record { fact = fact; source = Nowhere }
 
+-- ---- facts of words
+
+-- What a word says by itself: the index of a loop lies from its base to its last value, and the count from 1 to the
+-- number of turns.
+abbrev pub by_itself : WordFact → Fact
+by_itself (Alone fact) = fact
+by_itself (Index base count weight) = Number base (base +ℤ pos count -ℤ pos 1)
+by_itself (Count base count weight) = Number (pos 1) (pos count)
+
+-- what an instruction learns of a fact: a return address is not handed out, and no word is a loop
+abbrev pub handed_out : Fact → Fact
+handed_out (Loop base count weight) = Unknown
+handed_out ReturnAddress = Unknown
+handed_out fact = fact
+
+-- what an instruction learns that reads a word
+abbrev pub plain : WordFact → Fact
+plain fact = handed_out (by_itself fact)
+
+abbrev pub is_alone : WordFact → Bool
+is_alone (Alone fact) = true
+is_alone (Index base count weight) = false
+is_alone (Count base count weight) = false
+
 abbrev pub no_facts : Facts
-no_facts = λ _. Unknown
+no_facts = λ _. Alone Unknown
 
 -- the same number
 abbrev pub is_word : ℤ → ℤ → Bool
 is_word j k = int_le j k && int_le k j
 
--- word k has this fact from now on
+-- word j, of which this is known, is in one loop with word k
+abbrev pub is_tied : ℤ → WordFact → ℤ → Bool
+is_tied j (Alone fact) k = false
+is_tied j (Index base count weight) k = is_word k (j +ℤ pos 1)
+is_tied j (Count base count weight) k = is_word j (k +ℤ pos 1)
+
+-- word k has this fact from now on; a loop that loses one of its words leaves what the other says by itself
 abbrev pub with_fact : ℤ → Fact → Facts → Facts
-with_fact k fact facts = λ j. if is_word j k then fact else facts j
+with_fact k fact facts = λ j.
+    if is_word j k then Alone fact else if is_tied j (facts j) k then Alone (by_itself (facts j)) else facts j
+
+-- ---- entries
 
 -- the entry is about word k
 abbrev pub is_about : Entry → ℤ → Bool
 is_about entry k = int_le entry.word k && int_lt k (entry.word +ℤ pos entry.span)
 
+-- what an entry's fact says of one of its words, which is the first or another one: the first word of a loop is the index
+abbrev pub said_of : Fact → Bool → WordFact
+said_of (Loop base count weight) true = Index base count weight
+said_of (Loop base count weight) false = Count base count weight
+said_of fact is_first = Alone fact
+
 -- what the entries of a label say of word k: entries do not overlap
-abbrev pub entry_fact : List Entry → ℤ → Fact
-entry_fact [] k = Unknown
-entry_fact (entry ∷ entries) k = if is_about entry k then entry.fact else entry_fact entries k
+abbrev pub entry_fact : List Entry → Facts
+entry_fact [] k = Alone Unknown
+entry_fact (entry ∷ entries) k = if is_about entry k then said_of entry.fact (is_word entry.word k) else entry_fact entries k
 
 -- ---- sources
 
@@ -96,6 +141,38 @@ label_state t = record {
   c = known t.c;
   frame = entry_fact t.entries;
   number = t.number;
+  mode = Plain;
+  guards = [];
+}
+
+-- ---- procedures
+
+-- What a parameter's word holds where the procedure begins: a number, or the address of what the parameter names, which
+-- is this region.
+abbrev pub parameter_fact : ℕ → ParameterKind → Fact
+parameter_fact region (Value lo hi) = Number lo hi
+parameter_fact region kind = Pointer region (pos 0) (pos 0) Word
+
+-- what the words of parameters hold, where this is the region of the first of them
+abbrev pub parameter_facts : ℕ → List Parameter → Facts
+parameter_facts region [] k = Alone Unknown
+parameter_facts region (parameter ∷ parameters) k =
+    if is_word k (pos parameter.word) then Alone (parameter_fact region parameter.kind) else parameter_facts (region + 1) parameters k
+
+-- word 0 is the return address, and parameter j has region 2 + j
+abbrev pub procedure_facts : Procedure → Facts
+procedure_facts p k = if is_word k (pos 0) then Alone ReturnAddress else parameter_facts 2 p.parameters k
+
+-- the state in which a procedure begins, whose number as a context is this
+abbrev pub procedure_state : ℕ → Procedure → State
+procedure_state context p = record {
+  context = context;
+  depth = pos 0;
+  a = unknown;
+  b = unknown;
+  c = unknown;
+  frame = procedure_facts p;
+  number = p.number;
   mode = Plain;
   guards = [];
 }

@@ -1,5 +1,5 @@
 -- A state in memory, as the state that it is, and the module that it is one of.
-use Rattle.std.specs.Prelude.{◌≡◌, ℕ, ℤ, Option, Some, None, Bool, true, false, ◌&&◌, int_le, int_lt, Result, Ok, Err}
+use Rattle.std.specs.Prelude.{◌≡◌, ℕ, ℤ, true, ◌&&◌, int_le, int_lt, Result, Ok, Err}
 use Rattle.certificate.specs.Contents.{Contents}
 use Rattle.certificate.specs.Contexts.{context_at}
 use Rattle.states.specs.declared.state.State.{State as InMemory}

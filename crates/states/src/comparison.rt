@@ -1,8 +1,8 @@
 //! When a state may go on as a label's.
 
-ghost use Rattle.std.specs.Prelude.{◌≡◌};
+ghost use Rattle.std.specs.Prelude.{◌≡◌, ◌≤◌, SomeIff};
 ghost use Rattle.certificate.specs.Contents.{label_of};
-ghost use Rattle.states.specs.Below.{is_plain, agrees, below};
+ghost use Rattle.states.specs.Below.{cost, is_plain, agrees, below};
 ghost use Rattle.states.specs.Rows.{AreApart};
 ghost use Rattle.states.specs.Views.{state_of, numbered};
 
@@ -30,9 +30,20 @@ fn agrees(state: &State, row: &LabelRow) -> bool
         && implies(state.b.fact, row.b)
         && implies(state.c.fact, row.c)
         && state.frame.holds(&row.entries)
+        && state.frame.is_whole(&row.entries)
 }
 
-/// What it costs a state to go on as a label's. `BUDGET`: it cannot pay. `LABEL`: it stands elsewhere, or
+/// The label's number and the price of the loops that are entered, where the state's number covers them.
+fn cost(state: &State, row: &LabelRow) -> Option<u64>
+    ensures { let cost = cost (state_of state.now) (label_of row.now) in SomeIff result (cost ≤ state.now.number) cost }
+{
+    let left = state.number.checked_sub(row.number)?;
+    let left = state.frame.left_of(left, &row.entries)?;
+    Some(state.number - left)
+}
+
+/// What it costs a state to go on as a label's: the label's number, and for each loop that it enters the
+/// loop's weight for each turn but the first. `BUDGET`: it cannot pay. `LABEL`: it stands elsewhere, or
 /// knows less. The time goes with the entries of the row and of the label before, and with the words
 /// written since then.
 #[tactic(auto, unfolding(crate::specs::Below::below))]
@@ -40,11 +51,12 @@ pub fn below(state: &State, row: &LabelRow) -> Result<u64, RuleFault>
     requires { AreApart row.now.entries.items }
     ensures { numbered result ≡ below (state_of state.now) (label_of row.now) }
 {
-    if state.number < row.number {
-        return Err(RuleFault { number: BUDGET });
-    }
+    let cost = match cost(state, row) {
+        Some(cost) => cost,
+        None => return Err(RuleFault { number: BUDGET }),
+    };
     if !agrees(state, row) {
         return Err(RuleFault { number: LABEL });
     }
-    Ok(row.number)
+    Ok(cost)
 }

@@ -1,16 +1,20 @@
 //! What is known of the words of a frame.
 
-ghost use Rattle.std.specs.Prelude.{◌≡◌, ◌≤◌, ◌<◌, ℤ, pos, ◌+ℤ◌, ◌-ℤ◌, ◌≤ℤ◌, ◌<ℤ◌, ◌⊎◌, ◌^◌, IfOk, IsTrue, IsFalse, true, false, length, Some, None, vec_len};
+ghost use Rattle.std.specs.Prelude.{◌≡◌, ◌≤◌, ◌<◌, ◌-◌, ℤ, pos, ◌+ℤ◌, ◌-ℤ◌, ◌≤ℤ◌, ◌<ℤ◌, ◌⊎◌, ◌^◌, IfOk, IsTrue, IsFalse, true, false, SomeIff, sum_by, length, Some, None, vec_len};
+ghost use Rattle.std.specs.List.{list_all};
+ghost use Rattle.certificate.specs.Contents.{procedure_of};
 ghost use Rattle.certificate.specs.Order.{least_word};
-ghost use Rattle.states.specs.Rows.{AreApart};
+ghost use Rattle.states.specs.Rows.{AreApart, LoopFits, IsRow};
+ghost use Rattle.states.specs.State.{is_alone, entry_fact, parameter_fact};
 
-use crate::implication::implies;
+use crate::implication::{holds_constant, says};
+use crate::known::WordFact;
 use crate::overlay::Overlay;
 use crate::row::{row_fact, segment_from};
-use certificate::{Entry, Fact};
+use certificate::{Entry, Fact, ParameterKind, ProcedureRow, Step};
 use std::alloc::{AllocError, Global};
 
-/// The facts of a frame's words: what was written since the last label, over the row of that label.
+/// What is known of a frame's words: what was written since the last label, over the row of that label.
 #[derive(Debug, Drop)]
 pub(crate) struct Frame<'a> {
     /// The word whose index is 0.
@@ -18,14 +22,16 @@ pub(crate) struct Frame<'a> {
     pub(crate) row: &'a [Entry],
     pub(crate) overlay: Overlay,
     ghost apart: { AreApart row.now },
+    ghost loops: { ∥ ((k : ℤ) → LoopFits (entry_fact row.now k)) ∥₁ },
+    ghost inside: { (k : ℤ) → is_alone (entry_fact row.now k) ≡ false → (lo ≤ℤ k) × (k <ℤ (lo +ℤ pos (vec_len overlay.places))) },
     ghost low: { least_word ≤ℤ lo },
     ghost high: { (lo +ℤ pos (vec_len overlay.places)) ≤ℤ pos (2 ^ 31) },
 }
 
 impl<'a> Frame<'a> {
-    ghost use Rattle.states.specs.State.{no_facts, with_fact, entry_fact};
-    ghost use Rattle.states.specs.Below.{implies, entries_hold};
-    ghost use Rattle.states.specs.Frames.{fact_of_index, frame_facts, HasRoom, SameRoom};
+    ghost use Rattle.states.specs.State.{no_facts, with_fact, procedure_facts};
+    ghost use Rattle.states.specs.Below.{says, entries_hold, is_whole, price};
+    ghost use Rattle.states.specs.Frames.{fact_of_index, frame_facts, with_alone, is_index, is_count, parted, HasRoom, HasRoomForAll, SameRoom};
     ghost use Rattle.states.specs.Comparing.{SaysLess, OneSaysAll, WrittenSaysAll};
 
     /// The frame of so many words from `lo` on, of which nothing is known.
@@ -63,27 +69,63 @@ impl<'a> Frame<'a> {
         self.overlay.get(word.abs_diff(lo) as usize)
     }
 
-    pub(crate) fn fact_at(&self, word: i64) -> Fact
-        ensures { result ≡ frame_facts self.now word }
+    pub(crate) fn fact_at(&self, word: i64) -> WordFact
+        ensures value { result ≡ frame_facts self.now word }
+        ensures fits { LoopFits result }
     {
         match self.written(word) {
-            Some(fact) => fact,
+            Some(fact) => WordFact::Alone(fact),
             None => row_fact(self.row, word),
         }
     }
 
-    pub(crate) fn write(&mut self, word: i64, fact: Fact)
+    /// The word has this fact from now on, and the others what they had.
+    fn place(&mut self, word: i64, fact: Fact)
         requires { HasRoom self.old word }
-        ensures facts { frame_facts self.new ≡ with_fact word fact (frame_facts self.old) }
+        ensures facts { frame_facts self.new ≡ with_alone word fact (frame_facts self.old) }
         ensures room { SameRoom self.old self.new }
     {
         let index = word.abs_diff(i64::from(self.lo)) as usize;
         self.overlay.set(index, fact);
     }
 
+    /// If the word is the index of a loop, it is what it says by itself from now on.
+    fn part_index(&mut self, word: i64)
+        ensures facts { frame_facts self.new ≡ parted is_index word (frame_facts self.old) }
+        ensures room { SameRoom self.old self.new }
+    {
+        let fact = self.fact_at(word);
+        if fact.is_index() {
+            self.place(word, fact.by_itself());
+        }
+    }
+
+    /// If the word is the count of a loop, it is what it says by itself from now on.
+    fn part_count(&mut self, word: i64)
+        ensures facts { frame_facts self.new ≡ parted is_count word (frame_facts self.old) }
+        ensures room { SameRoom self.old self.new }
+    {
+        let fact = self.fact_at(word);
+        if fact.is_count() {
+            self.place(word, fact.by_itself());
+        }
+    }
+
+    /// The word has this fact from now on. A loop that loses one of its words leaves what the other says by
+    /// itself.
+    pub(crate) fn write(&mut self, word: i64, fact: Fact)
+        requires { HasRoom self.old word }
+        ensures facts { frame_facts self.new ≡ with_fact word fact (frame_facts self.old) }
+        ensures room { SameRoom self.old self.new }
+    {
+        self.part_index(word - 1);
+        self.part_count(word + 1);
+        self.place(word, fact);
+    }
+
     /// What a label's row says is known from now on, and nothing else.
     pub(crate) fn restart(&mut self, row: &'a [Entry])
-        requires { AreApart row.now }
+        requires { IsRow self.old.lo (vec_len self.old.overlay.places) row.now }
         ensures facts { frame_facts self.new ≡ entry_fact row.now }
         ensures room { SameRoom self.old self.new }
     {
@@ -91,26 +133,45 @@ impl<'a> Frame<'a> {
         self.row = row;
     }
 
-    /// Whether each of the words from `word` up to `end` (not included) has at least a fact.
-    fn words_imply(&self, word: i64, end: i64, wanted: Fact) -> bool
-        ensures yes { IsTrue result → (k : ℤ) → word ≤ℤ k → k <ℤ end → implies (frame_facts self.now k) wanted ≡ true }
-        ensures no { IsFalse result → (k : ℤ) × (word ≤ℤ k) × (k <ℤ end) × (implies (frame_facts self.now k) wanted ≡ false) }
+    /// What the words hold where a procedure begins is known from now on, and nothing else.
+    pub(crate) fn begin(&mut self, row: &ProcedureRow)
+        requires first { HasRoom self.old (pos 0) }
+        requires room { HasRoomForAll self.old row.now.parameters.items }
+        requires few { length row.now.parameters.items ≤ 64 }
+        ensures facts { frame_facts self.new ≡ procedure_facts (procedure_of row.now) }
+        ensures room { SameRoom self.old self.new }
+    {
+        self.restart(&[]);
+        let mut rest = row.parameters.as_slice();
+        while let Some((last, earlier)) = rest.split_last() {
+            let region = 2 + earlier.len() as u16;
+            self.place(i64::from(last.word), parameter_fact(region, last.kind));
+            rest = earlier;
+        }
+        self.place(0, Fact::ReturnAddress);
+    }
+
+    /// Whether of each of the words from `word` up to `end` (not included) at least this is known.
+    fn words_say(&self, word: i64, end: i64, wanted: WordFact) -> bool
+        ensures yes { IsTrue result → (k : ℤ) → word ≤ℤ k → k <ℤ end → says (frame_facts self.now k) wanted ≡ true }
+        ensures no { IsFalse result → (k : ℤ) × (word ≤ℤ k) × (k <ℤ end) × (says (frame_facts self.now k) wanted ≡ false) }
     {
         for k in word..end {
-            if !implies(self.fact_at(k), wanted) {
+            if !says(self.fact_at(k), wanted) {
                 return false;
             }
         }
         true
     }
 
-    /// Whether each of the words from `word` up to `end` has at least a fact, either by what the row says
-    /// of all of them or each by itself.
-    fn stretch_holds(&self, word: i64, end: i64, said: Fact, wanted: Fact) -> bool
-        ensures yes { IsTrue result → (k : ℤ) → word ≤ℤ k → k <ℤ end → (implies said wanted ≡ true) ⊎ (implies (frame_facts self.now k) wanted ≡ true) }
-        ensures no { IsFalse result → (k : ℤ) × (word ≤ℤ k) × (k <ℤ end) × (implies (frame_facts self.now k) wanted ≡ false) }
+    /// Whether of each of the words from `word` up to `end` at least this is known, either by what the row
+    /// says of all of them or of each by itself.
+    fn stretch_holds(&self, word: i64, end: i64, said: WordFact, wanted: WordFact) -> bool
+        requires { LoopFits said }
+        ensures yes { IsTrue result → (k : ℤ) → word ≤ℤ k → k <ℤ end → (says said wanted ≡ true) ⊎ (says (frame_facts self.now k) wanted ≡ true) }
+        ensures no { IsFalse result → (k : ℤ) × (word ≤ℤ k) × (k <ℤ end) × (says (frame_facts self.now k) wanted ≡ false) }
     {
-        implies(said, wanted) || self.words_imply(word, end, wanted)
+        says(said, wanted) || self.words_say(word, end, wanted)
     }
 
     /// The word of an index.
@@ -121,14 +182,17 @@ impl<'a> Frame<'a> {
         i64::from(self.lo) + index as i64
     }
 
-    /// Whether each word that was written has at least the fact that a row wants.
+    /// Whether of each word that was written at least that is known which a row wants.
     fn written_holds(&self, row: &[Entry]) -> bool
         requires { AreApart row.now }
         ensures yes { IsTrue result → WrittenSaysAll self.now.overlay.written.items self.now.lo (entry_fact row.now) }
         ensures no { IsFalse result → SaysLess (frame_facts self.now) (entry_fact row.now) }
     {
         for written in &self.overlay.written {
-            if !implies(written.fact, row_fact(row, self.word_at(written.index))) {
+            if !says(
+                WordFact::Alone(written.fact),
+                row_fact(row, self.word_at(written.index)),
+            ) {
                 return false;
             }
         }
@@ -160,11 +224,86 @@ impl<'a> Frame<'a> {
         true
     }
 
-    /// Whether each word has at least the fact that a row wants.
+    /// Whether of each word at least that is known which a row wants.
     pub(crate) fn holds(&self, row: &[Entry]) -> bool
         requires { AreApart row.now }
         ensures { result ≡ entries_hold (frame_facts self.now) row.now }
     {
         self.written_holds(row) && self.row_holds(row)
+    }
+
+    /// Whether both words of a loop come from that loop, or neither does, where the entry is of one.
+    fn is_whole_at(&self, entry: &Entry) -> bool
+        ensures { result ≡ is_whole (frame_facts self.now) entry.now }
+    {
+        match entry.fact {
+            Fact::Loop { .. } => {
+                let word = i64::from(entry.word);
+                self.fact_at(word).is_alone() == self.fact_at(word + 1).is_alone()
+            }
+            _ => true,
+        }
+    }
+
+    /// Whether no loop that a row wants is half known.
+    pub(crate) fn is_whole(&self, row: &[Entry]) -> bool
+        ensures { result ≡ list_all (is_whole (frame_facts self.now)) row.now }
+    {
+        for entry in row {
+            if !self.is_whole_at(entry) {
+                return false;
+            }
+        }
+        true
+    }
+
+    /// What it costs to enter the loop that an entry wants: its weight for each turn but the first, where its
+    /// words are constants. None where that is no number of 64 bits.
+    fn price(&self, entry: &Entry) -> Option<u64>
+        ensures { SomeIff result (price (frame_facts self.now) entry.now < 2 ^ 64) (price (frame_facts self.now) entry.now) }
+    {
+        match entry.fact {
+            Fact::Loop {
+                base,
+                count,
+                weight,
+            } => {
+                let word = i64::from(entry.word);
+                if !holds_constant(self.fact_at(word), i64::from(base)) {
+                    return Some(0);
+                }
+                if !holds_constant(self.fact_at(word + 1), i64::from(count)) {
+                    return Some(0);
+                }
+                weight.checked_mul(u64::from(count.saturating_sub(1)))
+            }
+            _ => Some(0),
+        }
+    }
+
+    /// What is left of a number once the loops are entered that a row wants, where it covers them.
+    pub(crate) fn left_of(&self, number: u64, row: &[Entry]) -> Option<u64>
+        ensures { let prices = sum_by (price (frame_facts self.now)) row.now in SomeIff result (prices ≤ number) (number - prices) }
+    {
+        let mut left = number;
+        for entry in row {
+            left = left.checked_sub(self.price(entry)?)?;
+        }
+        Some(left)
+    }
+}
+
+/// What a parameter's word holds where the procedure begins.
+fn parameter_fact(region: u16, kind: ParameterKind) -> Fact
+    ensures { result ≡ parameter_fact region kind }
+{
+    match kind {
+        ParameterKind::Value { lo, hi } => Fact::Number { lo, hi },
+        _ => Fact::Pointer {
+            region,
+            lo: 0,
+            hi: 0,
+            step: Step::Word,
+        },
     }
 }

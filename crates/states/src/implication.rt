@@ -1,8 +1,10 @@
 //! When one fact says at least what another says.
 
 ghost use Rattle.std.specs.Prelude.{◌≡◌};
-ghost use Rattle.states.specs.Below.{lies_within, step_implies, implies};
+ghost use Rattle.states.specs.Below.{lies_within, step_implies, implies, is_constant, holds_constant, says};
+ghost use Rattle.states.specs.Rows.{LoopFits};
 
+use crate::known::WordFact;
 use certificate::{Fact, Step};
 
 fn step_implies(step: Step, other: Step) -> bool
@@ -42,6 +44,70 @@ pub fn implies(fact: Fact, wanted: Fact) -> bool
             },
         ) => region == other && lies_within(lo, hi, low, high) && step_implies(step, stride),
         (Fact::CodeAddress { offset }, Fact::CodeAddress { offset: other }) => offset == other,
+        _ => false,
+    }
+}
+
+/// Whether it is a number that is exactly this one.
+fn is_constant(fact: Fact, number: i64) -> bool
+    ensures { result ≡ is_constant fact number }
+{
+    match fact {
+        Fact::Number { lo, hi } => i64::from(lo) == number && i64::from(hi) == number,
+        _ => false,
+    }
+}
+
+/// Whether the word has this number, which is no loop's.
+pub(crate) fn holds_constant(fact: WordFact, number: i64) -> bool
+    ensures { result ≡ holds_constant fact number }
+{
+    match fact {
+        WordFact::Alone(fact) => is_constant(fact, number),
+        _ => false,
+    }
+}
+
+/// Whether what is known of a word says at least what is wanted. A constant that is the base implies the
+/// index of a loop, and one that is the number of turns its count.
+pub fn says(fact: WordFact, wanted: WordFact) -> bool
+    requires { LoopFits fact }
+    ensures { result ≡ says fact wanted }
+{
+    match (fact, wanted) {
+        (_, WordFact::Alone(other)) => implies(fact.by_itself(), other),
+        (WordFact::Alone(known), WordFact::Index { base, .. }) => is_constant(
+            known,
+            i64::from(base),
+        ),
+        (WordFact::Alone(known), WordFact::Count { count, .. }) => is_constant(
+            known,
+            i64::from(count),
+        ),
+        (
+            WordFact::Index {
+                base,
+                count,
+                weight,
+            },
+            WordFact::Index {
+                base: other,
+                count: turns,
+                weight: price,
+            },
+        ) => base == other && count == turns && weight == price,
+        (
+            WordFact::Count {
+                base,
+                count,
+                weight,
+            },
+            WordFact::Count {
+                base: other,
+                count: turns,
+                weight: price,
+            },
+        ) => base == other && count == turns && weight == price,
         _ => false,
     }
 }

@@ -1,6 +1,82 @@
-//! What is known of a register, and the modes of a state.
+//! What is known of words and registers, and the modes of a state.
+
+ghost use Rattle.std.specs.Prelude.{◌≡◌};
+ghost use Rattle.states.specs.State.{by_itself, handed_out, plain, is_alone};
+ghost use Rattle.states.specs.Rows.{LoopFits};
+ghost use Rattle.states.specs.Frames.{is_index, is_count};
 
 use certificate::Fact;
+
+/// What is known of a word of the frame.
+#[derive(Clone, Copy, Debug, PartialEq, Eq)]
+pub enum WordFact {
+    /// This, by itself.
+    Alone(Fact),
+    /// It is the first word of a loop, its index: `base + count - c`, where c is the second word.
+    Index { base: i32, count: u32, weight: u64 },
+    /// It is the second word of a loop, its count: the turns that are left, from 1 to `count`.
+    Count { base: i32, count: u32, weight: u64 },
+}
+
+impl WordFact {
+    /// What the word says by itself: the index of a loop lies from its base to its last value, and the count
+    /// from 1 to the number of turns.
+    pub fn by_itself(self) -> Fact
+        requires { LoopFits self }
+        ensures { result ≡ by_itself self }
+    {
+        match self {
+            WordFact::Alone(fact) => fact,
+            WordFact::Index { base, count, .. } => Fact::Number {
+                lo: base,
+                hi: base + (count - 1) as i32,
+            },
+            WordFact::Count { count, .. } => Fact::Number {
+                lo: 1,
+                hi: count as i32,
+            },
+        }
+    }
+
+    /// What an instruction learns that reads the word: a return address is not handed out.
+    pub fn plain(self) -> Fact
+        requires { LoopFits self }
+        ensures { result ≡ plain self }
+    {
+        handed_out(self.by_itself())
+    }
+
+    /// Whether the word is in no loop.
+    pub fn is_alone(self) -> bool
+        ensures { result ≡ is_alone self }
+    {
+        matches!(self, WordFact::Alone(_))
+    }
+
+    /// Whether the word is the index of a loop.
+    pub(crate) fn is_index(self) -> bool
+        ensures { result ≡ is_index self }
+    {
+        matches!(self, WordFact::Index { .. })
+    }
+
+    /// Whether the word is the count of a loop.
+    pub(crate) fn is_count(self) -> bool
+        ensures { result ≡ is_count self }
+    {
+        matches!(self, WordFact::Count { .. })
+    }
+}
+
+/// What an instruction learns of a fact.
+fn handed_out(fact: Fact) -> Fact
+    ensures { result ≡ handed_out fact }
+{
+    match fact {
+        Fact::ReturnAddress | Fact::Loop { .. } => Fact::Unknown,
+        _ => fact,
+    }
+}
 
 /// Where the value of a register comes from.
 #[derive(Clone, Copy, Debug, PartialEq, Eq)]

@@ -13,8 +13,8 @@ mod state;
 mod tests;
 
 pub use comparison::below;
-pub use implication::implies;
-pub use known::{Guard, Known, Mode, Source};
+pub use implication::{implies, says};
+pub use known::{Guard, Known, Mode, Source, WordFact};
 pub use rule::{
     ALTERNATION, BUDGET, CALL, CHANNEL, FLOW, FORWARD, INSTRUCTION_START, LABEL, MEMORY,
     MESSAGE_LENGTH, NUMBER, OWN_WORD, PAR, POINTER, REGIONS_MEET, RuleFault, SPELLING,

@@ -1,10 +1,11 @@
 //! The entries of a label row.
 
-ghost use Rattle.std.specs.Prelude.{◌≡◌, ◌≤◌, ℤ, pos, ◌+ℤ◌, ◌≤ℤ◌, ◌<ℤ◌, ◌<◌, ◌^◌, length};
+ghost use Rattle.std.specs.Prelude.{◌≡◌, ◌≤◌, ℤ, pos, ◌+ℤ◌, ◌≤ℤ◌, ◌<ℤ◌, ◌<◌, ◌^◌, true, length};
 ghost use Rattle.certificate.specs.Facts.{end_of};
 ghost use Rattle.states.specs.Rows.{AreApart};
-ghost use Rattle.states.specs.State.{is_about, entry_fact};
+ghost use Rattle.states.specs.State.{is_word, is_about, said_of, entry_fact};
 
+use crate::known::WordFact;
 use certificate::{Entry, Fact};
 
 /// The first word of an entry.
@@ -30,8 +31,35 @@ fn is_about(entry: &Entry, word: i64) -> bool
     start_of(entry) <= word && word < end_of(entry)
 }
 
+/// What an entry's fact says of one of its words, which is the first or another one.
+fn said_of(fact: Fact, is_first: bool) -> WordFact
+    ensures { result ≡ said_of fact is_first }
+{
+    match fact {
+        Fact::Loop {
+            base,
+            count,
+            weight,
+        } if is_first => WordFact::Index {
+            base,
+            count,
+            weight,
+        },
+        Fact::Loop {
+            base,
+            count,
+            weight,
+        } => WordFact::Count {
+            base,
+            count,
+            weight,
+        },
+        _ => WordFact::Alone(fact),
+    }
+}
+
 /// What a row says of a word.
-pub(crate) fn row_fact(row: &[Entry], word: i64) -> Fact
+pub(crate) fn row_fact(row: &[Entry], word: i64) -> WordFact
     requires { AreApart row.now }
     ensures { result ≡ entry_fact row.now word }
 {
@@ -45,9 +73,9 @@ pub(crate) fn row_fact(row: &[Entry], word: i64) -> Fact
         };
     }
     if rest.is_empty() || !is_about(&rest[0], word) {
-        return Fact::Unknown;
+        return WordFact::Alone(Fact::Unknown);
     }
-    rest[0].fact
+    said_of(rest[0].fact, start_of(&rest[0]) == word)
 }
 
 /// What a row says of the words from some word up to `end`, which is not included.
@@ -55,8 +83,22 @@ pub(crate) fn row_fact(row: &[Entry], word: i64) -> Fact
 pub(crate) struct Segment<'a> {
     /// The row without the entries that end before.
     pub row: &'a [Entry],
-    pub fact: Fact,
+    pub fact: WordFact,
     pub end: i64,
+}
+
+/// What an entry says of its words from some word of it on: of the first word of a loop, and of the others.
+fn stretch_from(entry: &Entry, word: i64) -> (WordFact, i64)
+    requires { is_about entry.now word ≡ true }
+    ensures ahead { word <ℤ result.1 }
+    ensures near { result.1 ≤ℤ end_of entry.now }
+    ensures fact { (k : ℤ) → word ≤ℤ k → k <ℤ result.1 → said_of entry.now.fact (is_word entry.now.word k) ≡ result.0 }
+{
+    let fact = said_of(entry.fact, start_of(entry) == word);
+    match fact {
+        WordFact::Index { .. } => (fact, word + 1),
+        _ => (fact, end_of(entry)),
+    }
 }
 
 /// What a row says from a word on.
@@ -75,15 +117,15 @@ pub(crate) fn segment_from<'a>(row: &'a [Entry], word: i64) -> Segment<'a>
         if word < start {
             return Segment {
                 row: rest,
-                fact: Fact::Unknown,
+                fact: WordFact::Alone(Fact::Unknown),
                 end: start,
             };
         }
-        let end = end_of(entry);
-        if word < end {
+        if word < end_of(entry) {
+            let (fact, end) = stretch_from(entry, word);
             return Segment {
                 row: rest,
-                fact: entry.fact,
+                fact,
                 end,
             };
         }
@@ -91,7 +133,7 @@ pub(crate) fn segment_from<'a>(row: &'a [Entry], word: i64) -> Segment<'a>
     }
     Segment {
         row: rest,
-        fact: Fact::Unknown,
+        fact: WordFact::Alone(Fact::Unknown),
         end: i64::MAX,
     }
 }

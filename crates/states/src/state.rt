@@ -1,17 +1,17 @@
 //! What is known of a process at a place of its code.
 
-ghost use Rattle.std.specs.Prelude.{◌≡◌, ◌≤ℤ◌, ◌<ℤ◌, ℕ, ℤ, IfOk, IfSome, is_some, true, ◌&&◌, int_le, int_lt};
-ghost use Rattle.certificate.specs.Contents.{Contents, contents_of, label_of};
+ghost use Rattle.std.specs.Prelude.{◌≡◌, ◌≤◌, ◌-◌, ◌≤ℤ◌, ◌<ℤ◌, ℕ, ℤ, IfOk, IfSome, Some, is_some, true, ◌&&◌, int_le, int_lt, slice_get};
+ghost use Rattle.certificate.specs.Contents.{Contents, contents_of, procedure_of, label_of};
 ghost use Rattle.certificate.specs.Contexts.{context_at};
 ghost use Rattle.certificate.specs.Keeping.{Keeps};
-ghost use Rattle.states.specs.State.{unknown, known, without_source, forgets, written, root_state, label_state, has_word};
-ghost use Rattle.states.specs.Rows.{AreApart};
+ghost use Rattle.states.specs.State.{unknown, known, without_source, forgets, written, root_state, procedure_state, label_state, has_word};
+ghost use Rattle.states.specs.Rows.{LoopFits, IsRowOf};
 ghost use Rattle.states.specs.Views.{state_of, CanWrite, BelongsTo};
 ghost use Rattle.states.specs.Room.{Covers};
 
 use crate::frame::Frame;
-use crate::known::{Guard, Known, Mode, Source};
-use certificate::{Fact, LabelRow, Module, Tables, context_at};
+use crate::known::{Guard, Known, Mode, Source, WordFact};
+use certificate::{Fact, LabelRow, Module, ProcedureRow, Tables, context_at};
 use std::alloc::{AllocError, Global};
 
 /// How many guards an alternation may have.
@@ -141,14 +141,16 @@ impl<'a> State<'a> {
     }
 
     /// What is known of a word of the frame.
-    pub fn fact_at(&self, word: i32) -> Fact
-        ensures { result ≡ (state_of self.now).frame word }
+    pub fn fact_at(&self, word: i32) -> WordFact
+        ensures value { result ≡ (state_of self.now).frame word }
+        ensures fits { LoopFits result }
     {
         self.frame.fact_at(i64::from(word))
     }
 
-    /// A word of the frame has this fact from now on, and no register speaks of what it was. The time does
-    /// not depend on how much is known.
+    /// A word of the frame has this fact from now on, and no register speaks of what it was. A loop that
+    /// loses one of its words leaves what the other says by itself. The time goes with the logarithm of the
+    /// label's entries.
     pub fn write(&mut self, word: i32, fact: Fact)
         requires { CanWrite self.old word }
         ensures state { state_of self.new ≡ written word fact (state_of self.old) }
@@ -189,10 +191,33 @@ impl<'a> State<'a> {
         std::mem::swap(&mut self.a, &mut self.b);
     }
 
+    /// The state goes on as that in which a procedure begins, whose number as a context is given. The time
+    /// goes with its parameters.
+    pub fn become_procedure(&mut self, module: &Module, row: &ProcedureRow, context: u16)
+        requires belongs { BelongsTo «module».now self.old }
+        requires some { 1 ≤ context }
+        requires row { slice_get «module».now.procedures (context - 1) ≡ Some (procedure_of row.now) }
+        ensures state { state_of self.new ≡ procedure_state context (procedure_of row.now) }
+        ensures belongs { BelongsTo «module».now self.new }
+    {
+        let (lo, hi) = own_words(module.tables(), context);
+        self.lo = lo;
+        self.hi = hi;
+        self.context = u32::from(context);
+        self.depth = 0;
+        self.a = Known::UNKNOWN;
+        self.b = Known::UNKNOWN;
+        self.c = Known::UNKNOWN;
+        self.frame.begin(row);
+        self.number = row.number;
+        self.mode = Mode::Plain;
+        self.guards.clear();
+    }
+
     /// The state goes on as a label's. The time does not depend on how much is known.
     pub fn become_label(&mut self, module: &Module, row: &'a LabelRow)
         requires belongs { BelongsTo «module».now self.old }
-        requires apart { AreApart row.now.entries.items }
+        requires row { IsRowOf «module».now (label_of row.now) }
         ensures state { state_of self.new ≡ label_state (label_of row.now) }
         ensures belongs { BelongsTo «module».now self.new }
     {

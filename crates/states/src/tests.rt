@@ -3,6 +3,11 @@
 ghost use Rattle.std.specs.Prelude.{IfSome};
 ghost use Rattle.states.specs.Views.{BelongsTo};
 
+mod files;
+mod loops;
+mod procedures;
+mod words;
+
 use super::*;
 use certificate::{Fact, Module};
 use std::alloc::Global;
@@ -60,7 +65,7 @@ fn known_at_the_start(rt: &impl Abort, alloc: Global) -> Option<()> {
     assert!(rt; state.guards.is_empty());
     for word in OWN {
         assert_eq!(rt; state.own_word(word), Some(word as i32));
-        assert_eq!(rt; state.fact_at(word as i32), Fact::Unknown);
+        assert_eq!(rt; state.fact_at(word as i32), WordFact::Alone(Fact::Unknown));
     }
     for word in [-4, 2, i64::MIN, i64::MAX, 1 << 32] {
         assert_eq!(rt; state.own_word(word), None);
@@ -97,8 +102,8 @@ fn changes(rt: &impl Abort, alloc: Global) -> Option<()> {
     );
     write(&module, &mut state, 1, LARGE)?;
     assert_eq!(rt; (state.a, state.b), (Known::of(LARGE), Known::of(SMALL)));
-    assert_eq!(rt; state.fact_at(1), LARGE);
-    assert_eq!(rt; state.fact_at(0), Fact::Unknown);
+    assert_eq!(rt; state.fact_at(1), WordFact::Alone(LARGE));
+    assert_eq!(rt; state.fact_at(0), WordFact::Alone(Fact::Unknown));
     state.pop();
     assert_eq!(rt;
         (state.a, state.b, state.c),
@@ -121,11 +126,11 @@ fn copies(rt: &impl Abort, alloc: Global) -> Option<()> {
     let mut again = copy(alloc, &module, &state)?;
     assert_eq!(rt; (again.context, again.depth, again.number), (0, 0, 7));
     assert_eq!(rt; (again.a, again.b, again.c), (state.a, state.b, state.c));
-    assert_eq!(rt; again.fact_at(-2), SMALL);
+    assert_eq!(rt; again.fact_at(-2), WordFact::Alone(SMALL));
     write(&module, &mut again, 1, LARGE)?;
     assert_eq!(rt;
         (again.fact_at(1), state.fact_at(1)),
-        (LARGE, Fact::Unknown)
+        (WordFact::Alone(LARGE), WordFact::Alone(Fact::Unknown))
     );
     Some(())
 }

@@ -1,13 +1,13 @@
 -- Small modules, certified by computation.
-use Rattle.std.proofs.Common.{◌≡◌, ℕ, pos, false, List, [], ◌∷◌, Result, Ok, Err, replicate, refl}
+use Rattle.std.proofs.Common.{◌≡◌, ℕ, pos, negsuc, false, List, [], ◌∷◌, Ok, replicate, refl}
 use Rattle.certificate.specs.declared.fact.Fact.TheVariants.{Unknown}
+use Rattle.certificate.specs.declared.rows.ParameterKind.TheVariants.{Value}
 use Rattle.certificate.specs.declared.tables.Version.TheVariants.{One}
 use Rattle.certificate.specs.Contents.{Contents}
 use Rattle.certificate.specs.Contexts.{context_at}
 use Rattle.states.specs.State.{written}
 use Rattle.states.specs.Below.{below}
 use Rattle.facts.specs.Rules.{outside_alternation, outside_starts, uses, number, in_word, forward, owns, schedules, pays, leads_to, goes_on, operation_rule, rule}
-use Rattle.verifier.specs.declared.Refusal.{Refusal}
 use Rattle.verifier.specs.Judge.{judged_at, judge, verdict, refused}
 
 -- ldc 5, stl 1, ldl 1, adc 1, stl 1, stopp
@@ -65,3 +65,40 @@ jump_cannot_pay = refl
 label_cannot_pay : verdict (jump 6 2) ≡ refused 15 4
 unfolding judge judged_at below written context_at outside_alternation outside_starts uses number in_word forward owns schedules pays leads_to goes_on operation_rule rule
 label_cannot_pay = refl
+
+-- this code, with a procedure at this entry of this number, whose word 1 is a number from 0 to 5
+abbrev uncalled : List ℕ → ℕ → ℕ → Contents
+uncalled code entry number = record {
+  version = One;
+  code = code;
+  constants = [];
+  data_words = 5;
+  base = 3;
+  budget = 10;
+  finish = 0;
+  lengths = replicate 8 0;
+  has_long_operations = false;
+  procedures = record { entry = entry; lo = negsuc 2; hi = pos 4; number = number; parameters = record { word = 1; kind = Value (pos 0) (pos 5) } ∷ [] } ∷ [];
+  pars = [];
+  table_rows = [];
+  labels = [];
+}
+
+-- stopp, and in the procedure ldl 1, adc 1, stl 1, stopp
+procedure_is_accepted : verdict (uncalled (0x21 ∷ 0xf5 ∷ 0x71 ∷ 0x81 ∷ 0xd1 ∷ 0x21 ∷ 0xf5 ∷ []) 2 5) ≡ Ok tt
+unfolding judge judged_at below written context_at outside_alternation outside_starts uses number in_word forward owns schedules pays leads_to goes_on operation_rule rule
+procedure_is_accepted = refl
+
+procedure_cannot_pay : verdict (uncalled (0x21 ∷ 0xf5 ∷ 0x71 ∷ 0x81 ∷ 0xd1 ∷ 0x21 ∷ 0xf5 ∷ []) 2 4) ≡ refused 15 5
+unfolding judge judged_at below written context_at outside_alternation outside_starts uses number in_word forward owns schedules pays leads_to goes_on operation_rule rule
+procedure_cannot_pay = refl
+
+-- ldc 5 falls into the procedure
+procedure_is_fallen_into : verdict (uncalled (0x45 ∷ 0x21 ∷ 0xf5 ∷ []) 1 5) ≡ refused 3 1
+unfolding judge judged_at below written context_at outside_alternation outside_starts uses number in_word forward owns schedules pays leads_to goes_on operation_rule rule
+procedure_is_fallen_into = refl
+
+-- stopp, and the procedure begins at its second byte
+procedure_is_hidden : verdict (uncalled (0x21 ∷ 0xf5 ∷ []) 1 5) ≡ refused 2 1
+unfolding judge judged_at below written context_at outside_alternation outside_starts uses number in_word forward owns schedules pays leads_to goes_on operation_rule rule
+procedure_is_hidden = refl

@@ -1,17 +1,19 @@
 -- The verdict on a module is right: Ok where the module is certified, and else the first rule that is broken. No module is both.
-use Rattle.std.proofs.Common.{◌≡◌, ℕ, zero, suc, ◌+◌, ◌-◌, ◌≤◌, ◌<◌, Bool, true, false, cond, if◌then◌else◌, is_some, leb, ltb, eqb, List, length, Option, Some, None, Result, Ok, Err, ◌⊎◌, inl, inr, refl, sym, ap, ◌∙◌, subst, arith, rules, add-one, min}
-use Rattle.std.proofs.lemmas.Bool.{cases_lt, cases_eq, leb-true, le-leb}
+use Rattle.std.proofs.Common.{◌≡◌, ℕ, zero, suc, ◌+◌, ◌-◌, ◌≤◌, ◌<◌, Bool, true, false, cond, if◌then◌else◌, leb, eqb, length, Option, Some, None, Result, Ok, Err, ◌⊎◌, inl, inr, refl, sym, ap, ◌∙◌, subst, arith, min}
+use Rattle.std.proofs.lemmas.Bool.{cases_lt, cases_eq, cases_Bool, le-leb}
 use Rattle.std.proofs.lemmas.Bool.Decides.{leb_tells, eqb_tells, nat_tests}
 use Rattle.std.proofs.lemmas.Option.{some_pair_parts}
 use Rattle.prefix_decoder.specs.declared.decoding.Instr.{Instr}
 use Rattle.prefix_decoder.specs.declared.decoding.DecodeFault.{DecodeFault}
 use Rattle.prefix_decoder.specs.Fetching.{fetched}
-use Rattle.certificate.specs.Contents.{Contents, Label, label_at}
-use Rattle.states.specs.State.{State, root_state, label_state}
+use Rattle.certificate.specs.Contents.{Contents}
+use Rattle.certificate.specs.Starts.{is_start}
+use Rattle.states.specs.State.{State, root_state}
 use Rattle.facts.specs.Rules.{Ruling, falls, leads, ends, breaks, rule_at}
 use Rattle.verifier.specs.declared.Refusal.{Refusal}
-use Rattle.verifier.specs.Certified.{falling, state_at, entering, Reaches, begins, follows, HoldsAt, HoldsBelow, IsCertified, IsRefused, IsBroken, misspelled, hidden, unreached, fallen_off, entered, broken}
-use Rattle.verifier.specs.Judge.{Verdict, past_labels, past_rule, past_spelling, both, judged_in, judged_at, first_label, refused, at_the_end, judge, verdict}
+use Rattle.verifier.specs.Certified.{falling, given, state_at, entering, Reaches, begins, follows, HoldsAt, HoldsBelow, IsCertified, IsRefused, IsBroken, misspelled, hidden, unreached, fallen_off, entered, broken}
+use Rattle.verifier.proofs.Given.{nothing_given, is_given}
+use Rattle.verifier.specs.Judge.{Verdict, past_starts, past_rule, past_spelling, both, judged_in, judged_at, first_start, refused, at_the_end, judge, verdict}
 
 -- ---- no module is both
 
@@ -27,25 +29,16 @@ same_some {A} o x y p q = let e : Some x ≡ Some y = sym p ∙ q in cc
 none_or_some : {A : Type 0} (o : Option A) (x : A) → o ≡ None → o ≡ Some x → ⊥
 none_or_some {A} o x p q = let e : None ≡ Some x = sym p ∙ q in cc
 
-no_label : (m : Contents) (at : ℕ) (before : Option State) → label_at m at ≡ None → state_at m at before ≡ before
-no_label m at before l = ap (λ (o : Option Label). elim o [ None ↦ before | Some t ↦ Some (label_state t) ]) l
-
-with_label : (m : Contents) (at : ℕ) (before : Option State) (t : Label) → label_at m at ≡ Some t → state_at m at before ≡ Some (label_state t)
-with_label m at before t l = ap (λ (o : Option Label). elim o [ None ↦ before | Some t ↦ Some (label_state t) ]) l
-
 option_cases : {A : Type 0} (o : Option A) → (o ≡ None) ⊎ ((x : A) × (o ≡ Some x))
 option_cases None = inl refl
 option_cases (Some x) = inr (x, refl)
 
-label_cases : (m : Contents) (at : ℕ) → (label_at m at ≡ None) ⊎ ((t : Label) × (label_at m at ≡ Some t))
-label_cases m at = option_cases (label_at m at)
-
 excluded : (m : Contents) (v at : ℕ) → IsCertified m → IsBroken m v at → ⊥
 excluded m v at c (misspelled _ r low e) = let h = c.holds.each _ _ low r in ok_or_err (fetched m.code at) h.instr _ h.spelled e
-excluded m v at c (hidden _ low l none) = let r = c.holds.labels _ _ low l in none r.0 r.1
-excluded m v at c (unreached _ r low l) =
+excluded m v at c (hidden _ low start none) = let r = c.holds.starts _ low start in none r.0 r.1
+excluded m v at c (unreached _ r low g) =
     let h = c.holds.each _ _ low r in
-    let stands : None ≡ Some h.state = sym (no_label m at None l) ∙ h.stands in cc
+    let stands : None ≡ Some h.state = sym (nothing_given m at None g) ∙ h.stands in cc
 excluded m v at c (fallen_off {s = s} _ e r) =
     let r' : Reaches m (length m.code) (Some s) = subst (λ n. Reaches m n (Some s)) e r in
     let none : Some s ≡ None = c.ends _ r' in cc
@@ -110,9 +103,9 @@ broken_in : (m : Contents) (at : ℕ) (before : Option State) (i : Instr) (v : �
     → judged_in m at before i o ≡ Err v → IsBroken m v at
 broken_in m at before i v None e r low sp h =
     let three : v ≡ 3 = cc in
-    elim (label_cases m at) [
-      | inl l ↦ unreached three (subst (λ b. Reaches m at b) (sym (no_label m at before l) ∙ e) r) low l
-      | inr l ↦ absurd (none_or_some (state_at m at before) (label_state l.0) e (with_label m at before l.0 l.1))
+    elim (option_cases (given m at)) [
+      | inl g ↦ unreached three (subst (λ b. Reaches m at b) (sym (nothing_given m at before g) ∙ e) r) low g
+      | inr g ↦ absurd (none_or_some (state_at m at before) g.0 e (is_given m at before g.0 g.1))
     ]
 broken_in m at before i v (Some s) e r low sp h =
     elim (both_err (entering m at before) (rule_at m at i s) v h) [ inl p ↦ entered r low p | inr p ↦ broken r low e sp p ]
@@ -124,52 +117,49 @@ broken_at m at before i v r low sp h = broken_in m at before i v (state_at m at 
 pair_is : {A B : Type 0} {a b : A} {x y : B} → a ≡ b → x ≡ y → ◌≡◌ {A = A × B} (a, x) (b, y)
 pair_is p q = cc
 
--- none of the offsets has a label
-no_first_label : (m : Contents) (at more : ℕ) → first_label m at more ≡ None → (o : ℕ) → at ≤ o → o < at + more → label_at m o ≡ None
-no_first_label m at zero h o low high = absurd (omega arith)
-no_first_label m at (suc more) h o low high =
-    elim (label_cases m at) [
-      | inl l ↦
-          let rest : first_label m (at + 1) more ≡ None = sym (ap (λ (p : Option Label). cond (is_some p) (Some at) (first_label m (at + 1) more)) l) ∙ h in
+-- none of the offsets is a start
+pub no_first_start : (m : Contents) (at more : ℕ) → first_start m at more ≡ None → (o : ℕ) → at ≤ o → o < at + more → is_start m o ≡ false
+no_first_start m at zero h o low high = absurd (omega arith)
+no_first_start m at (suc more) h o low high =
+    elim (cases_Bool (is_start m at)) [
+      | inr l ↦
+          let rest : first_start m (at + 1) more ≡ None = sym (ap (λ (b : Bool). cond b (Some at) (first_start m (at + 1) more)) l) ∙ h in
           elim (cases_eq o at) [
             | inl e ↦ rw e l
-            | inr d ↦ no_first_label m (at + 1) more rest o (omega arith) (omega arith)
+            | inr d ↦ no_first_start m (at + 1) more rest o (omega arith) (omega arith)
           ]
-      | inr l ↦
-          let e : Some at ≡ None = sym (ap (λ (p : Option Label). cond (is_some p) (Some at) (first_label m (at + 1) more)) l.1) ∙ h in
+      | inl l ↦
+          let e : Some at ≡ None = sym (ap (λ (b : Bool). cond b (Some at) (first_start m (at + 1) more)) l) ∙ h in
           absurd (cc)
     ]
 
--- an offset with a label, behind offsets that have none
-pub record FirstLabel (m : Contents) (at more o : ℕ) : Type 0 where
+-- an offset that is a start, behind offsets that are none
+pub record FirstStart (m : Contents) (at more o : ℕ) : Type 0 where
   pub low : at ≤ o
   pub high : o < at + more
-  pub label : Label
-  pub here : label_at m o ≡ Some label
-  pub others : (q : ℕ) → at ≤ q → q < o → label_at m q ≡ None
+  pub here : is_start m o ≡ true
+  pub others : (q : ℕ) → at ≤ q → q < o → is_start m q ≡ false
 
-first_label_is : (m : Contents) (at more o : ℕ) → first_label m at more ≡ Some o → FirstLabel m at more o
-first_label_is m at zero o h = absurd (cc)
-first_label_is m at (suc more) o h =
-    elim (label_cases m at) [
-      | inl l ↦
-          let rest : first_label m (at + 1) more ≡ Some o = sym (ap (λ (p : Option Label). cond (is_some p) (Some at) (first_label m (at + 1) more)) l) ∙ h in
-          let f = first_label_is m (at + 1) more o rest in
+first_start_is : (m : Contents) (at more o : ℕ) → first_start m at more ≡ Some o → FirstStart m at more o
+first_start_is m at zero o h = absurd (cc)
+first_start_is m at (suc more) o h =
+    elim (cases_Bool (is_start m at)) [
+      | inr l ↦
+          let rest : first_start m (at + 1) more ≡ Some o = sym (ap (λ (b : Bool). cond b (Some at) (first_start m (at + 1) more)) l) ∙ h in
+          let f = first_start_is m (at + 1) more o rest in
           record {
             low = omega (arith, f.low);
             high = omega (arith, f.high);
-            label = f.label;
             here = f.here;
             others = λ q low high. elim (cases_eq q at) [ inl e ↦ rw e l | inr d ↦ f.others q (omega arith) high ];
           }
-      | inr l ↦
-          let e : Some at ≡ Some o = sym (ap (λ (p : Option Label). cond (is_some p) (Some at) (first_label m (at + 1) more)) l.1) ∙ h in
+      | inl l ↦
+          let e : Some at ≡ Some o = sym (ap (λ (b : Bool). cond b (Some at) (first_start m (at + 1) more)) l) ∙ h in
           let same : at ≡ o = cc in
           record {
             low = omega arith;
             high = omega arith;
-            label = l.0;
-            here = rw (← same) l.1;
+            here = rw (← same) l;
             others = λ q low high. absurd (omega arith);
           }
     ]
@@ -362,25 +352,25 @@ pub record Passed (n : ℕ) (m : Contents) (at : ℕ) (before : Option State) (v
   pub spelled : fetched m.code at ≡ Ok instr
   pub after : Option State
   pub judged : judged_at m at before instr ≡ Ok after
-  pub no_label : first_label m (at + 1) (instr.len - 1) ≡ None
+  pub no_start : first_start m (at + 1) (instr.len - 1) ≡ None
   pub rest : judge n m (at + instr.len) after ≡ v
 
 -- one at which it refuses
 pub data Halted (m : Contents) (at : ℕ) (before : Option State) : ℕ → ℕ → Type 0 where
   at_spelling : {v o : ℕ} {e : DecodeFault} → v ≡ 1 → o ≡ at → fetched m.code at ≡ Err e → Halted m at before v o
   at_rule : {v o : ℕ} {i : Instr} → o ≡ at → fetched m.code at ≡ Ok i → judged_at m at before i ≡ Err v → Halted m at before v o
-  at_label : {v o : ℕ} {i : Instr} {after : Option State} → v ≡ 2 → fetched m.code at ≡ Ok i → judged_at m at before i ≡ Ok after → first_label m (at + 1) (i.len - 1) ≡ Some o → Halted m at before v o
+  at_start_within : {v o : ℕ} {i : Instr} {after : Option State} → v ≡ 2 → fetched m.code at ≡ Ok i → judged_at m at before i ≡ Ok after → first_start m (at + 1) (i.len - 1) ≡ Some o → Halted m at before v o
 
 module _ (n : ℕ) (m : Contents) (at : ℕ) (before : Option State) where
-  past_labels_is : (i : Instr) (after : Option State) (found : Option ℕ) (v : Verdict) → fetched m.code at ≡ Ok i → judged_at m at before i ≡ Ok after → first_label m (at + 1) (i.len - 1) ≡ found
-      → past_labels (λ to after. judge n m to after) (at + i.len) after found ≡ v → Passed n m at before v ⊎ ((r : Refusal) × (v ≡ Err r) × Halted m at before r.number r.offset)
-  past_labels_is i after (Some o) v sp j l h = inr (record { number = 2; offset = o }, sym h, at_label refl sp j l)
-  past_labels_is i after None v sp j l h = inl (record { instr = i; spelled = sp; after = after; judged = j; no_label = l; rest = h })
+  past_starts_is : (i : Instr) (after : Option State) (found : Option ℕ) (v : Verdict) → fetched m.code at ≡ Ok i → judged_at m at before i ≡ Ok after → first_start m (at + 1) (i.len - 1) ≡ found
+      → past_starts (λ to after. judge n m to after) (at + i.len) after found ≡ v → Passed n m at before v ⊎ ((r : Refusal) × (v ≡ Err r) × Halted m at before r.number r.offset)
+  past_starts_is i after (Some o) v sp j l h = inr (record { number = 2; offset = o }, sym h, at_start_within refl sp j l)
+  past_starts_is i after None v sp j l h = inl (record { instr = i; spelled = sp; after = after; judged = j; no_start = l; rest = h })
 
   past_rule_is : (i : Instr) (judged : Result (Option State) ℕ) (v : Verdict) → fetched m.code at ≡ Ok i → judged_at m at before i ≡ judged
       → past_rule m (λ to after. judge n m to after) at i.len judged ≡ v → Passed n m at before v ⊎ ((r : Refusal) × (v ≡ Err r) × Halted m at before r.number r.offset)
   past_rule_is i (Err u) v sp j h = inr (record { number = u; offset = at }, sym h, at_rule refl sp j)
-  past_rule_is i (Ok after) v sp j h = past_labels_is i after (first_label m (at + 1) (i.len - 1)) v sp j refl h
+  past_rule_is i (Ok after) v sp j h = past_starts_is i after (first_start m (at + 1) (i.len - 1)) v sp j refl h
 
   past_spelling_is : (fetch : Result Instr DecodeFault) (v : Verdict) → fetched m.code at ≡ fetch
       → past_spelling m (λ to after. judge n m to after) at before fetch ≡ v → Passed n m at before v ⊎ ((r : Refusal) × (v ≡ Err r) × Halted m at before r.number r.offset)
@@ -473,19 +463,21 @@ module _ (m : Contents) (spans : Spans m) where
               subst (λ (q : Place). OnWay m (Ok tt) q.0 q.1) (pair_is to' after') (goes_further (Ok tt) at before n enough states p)
         ] w.enough w.verdict w.states
 
-    -- a label stands at a start
-    label_reached : (n at : ℕ) (before : Option State) (o : ℕ) (t : Label) → Reaches m at before → length m.code ≤ at + n → judge n m at before ≡ Ok tt
-        → at ≤ o → o < length m.code → label_at m o ≡ Some t → (b : Option State) × Reaches m o b
-    label_reached zero at before o t r enough h low high l = absurd (omega arith)
-    label_reached (suc n) at before o t r enough h low high l = elim (cases_eq o at) [
+    -- a start that the tables tell is one
+    start_reached : (n at : ℕ) (before : Option State) (o : ℕ) → Reaches m at before → length m.code ≤ at + n → judge n m at before ≡ Ok tt
+        → at ≤ o → o < length m.code → is_start m o ≡ true → (b : Option State) × Reaches m o b
+    start_reached zero at before o r enough h low high l = absurd (omega arith)
+    start_reached (suc n) at before o r enough h low high l = elim (cases_eq o at) [
       | inl e ↦ (before, rw e r)
       | inr d ↦
           let p = accepted_step at before n (omega arith) h in
           let step = stepped m at before p.instr p.after p.judged in
           let some = spans.some at p.instr p.spelled in
           elim (cases_lt o (at + p.instr.len)) [
-            | inl within ↦ absurd (none_or_some (label_at m o) t (no_first_label m (at + 1) (p.instr.len - 1) p.no_label o (omega arith) (omega arith)) l)
-            | inr beyond ↦ label_reached n (at + p.instr.len) p.after o t (follows r step.stands p.spelled refl step.after_is) (omega arith) p.rest beyond high l
+            | inl within ↦
+                let none = no_first_start m (at + 1) (p.instr.len - 1) p.no_start o (omega arith) (omega arith) in
+                let no' : true ≡ false = sym l ∙ none in absurd (cc)
+            | inr beyond ↦ start_reached n (at + p.instr.len) p.after o (follows r step.stands p.spelled refl step.after_is) (omega arith) p.rest beyond high l
           ]
     ]
 
@@ -509,7 +501,7 @@ module _ (m : Contents) (spans : Spans m) where
     accepted_is_certified = record {
       states = states_of m;
       holds = record {
-        labels = λ at t low l. label_reached (length m.code) 0 (Some (root_state m)) at t begins (omega arith) accepted (omega arith) low l;
+        starts = λ at low l. start_reached (length m.code) 0 (Some (root_state m)) at begins (omega arith) accepted (omega arith) low l;
         each = λ at before low r. each_holds at before low r;
       };
       ends = nothing_falls_off;
@@ -527,13 +519,13 @@ module _ (m : Contents) (spans : Spans m) where
 
   -- it holds below an offset within or just behind an instruction at which the pass went on
   further_below : (at : ℕ) (before after : Option State) (i : Instr) (n o : ℕ) → Arrived at before (suc n) → fetched m.code at ≡ Ok i → judged_at m at before i ≡ Ok after
-      → o ≤ at + i.len → ((q : ℕ) → at < q → q < o → label_at m q ≡ None) → HoldsBelow m (states_of m) o
+      → o ≤ at + i.len → ((q : ℕ) → at < q → q < o → is_start m q ≡ false) → HoldsBelow m (states_of m) o
   further_below at before after i n o a sp j high none = record {
-    labels = λ q t low l. elim (cases_lt q at) [
-      | inl below ↦ a.below.labels q t below l
+    starts = λ q low l. elim (cases_lt q at) [
+      | inl below ↦ a.below.starts q below l
       | inr beyond ↦ elim (cases_eq q at) [
         | inl e ↦ (before, rw e a.reached)
-        | inr d ↦ absurd (none_or_some (label_at m q) t (none q (omega arith) low) l)
+        | inr d ↦ let no' : true ≡ false = sym l ∙ none q (omega arith) low in absurd (cc)
       ]
     ];
     each = λ q b low r. elim (cases_lt q at) [
@@ -553,8 +545,8 @@ module _ (m : Contents) (spans : Spans m) where
       rw o_is (record { states = states_of m; holds = a.below; broken = misspelled v_is a.reached low sp })
   halted_is_refused at before n v o low a (at_rule {i = i} o_is sp j) =
       rw o_is (record { states = states_of m; holds = a.below; broken = broken_at m at before i v a.reached low sp j })
-  halted_is_refused at before n v o low a (at_label {i = i} {after = after} v_is sp j l) =
-      let f = first_label_is m (at + 1) (i.len - 1) o l in
+  halted_is_refused at before n v o low a (at_start_within {i = i} {after = after} v_is sp j l) =
+      let f = first_start_is m (at + 1) (i.len - 1) o l in
       let some = spans.some at i sp in
       let inside = spans.inside at i sp in
       let high : o < at + i.len = omega (arith, f.high) in
@@ -592,7 +584,7 @@ module _ (m : Contents) (spans : Spans m) where
             inside = spans.inside at p.instr p.spelled;
             states = λ target low. a.states target (omega arith) ∙ walk_beyond n m at before p.after p.instr target (omega arith) p.spelled p.judged;
             below = further_below at before p.after p.instr n (at + p.instr.len) a p.spelled p.judged (omega arith)
-                (λ q lo hi. no_first_label m (at + 1) (p.instr.len - 1) p.no_label q (omega arith) (omega arith));
+                (λ q lo hi. no_first_start m (at + 1) (p.instr.len - 1) p.no_start q (omega arith) (omega arith));
           }) p.rest
     ]
   ]
@@ -603,5 +595,5 @@ module _ (m : Contents) (spans : Spans m) where
     enough = omega arith;
     inside = omega arith;
     states = λ target low. refl;
-    below = record { labels = λ at t low l. absurd (omega arith); each = λ at before low r. absurd (omega arith) };
+    below = record { starts = λ at low l. absurd (omega arith); each = λ at before low r. absurd (omega arith) };
   }) h

@@ -1,9 +1,7 @@
 -- What the format and the decoder say of a module's contents, as the theorems need it.
-use Rattle.std.proofs.Common.{◌≡◌, ℕ, ◌<◌, ◌≤◌, ◌≤ℤ◌, ◌<ℤ◌, ◌+ℤ◌, Bool, true, false, cond, if◌then◌else◌, inl, inr, ℤ, pos, List, [], ◌∷◌, length, drop, take, Option, Some, None, Result, Ok, Err, refl, sym, ap, ◌∙◌, subst, arith}
-use Rattle.std.specs.Prelude.{MatchOption, find, ◌==◌}
-use Rattle.std.specs.List.{AllByRecursion}
+use Rattle.std.proofs.Common.{◌≡◌, ℕ, ◌<◌, ◌≤◌, Bool, true, false, cond, if◌then◌else◌, inl, inr, pos, List, [], ◌∷◌, length, drop, take, Some, Result, Ok, Err, sym, ap, ◌∙◌, subst, arith}
+use Rattle.std.specs.Prelude.{find, ◌==◌}
 use Rattle.std.proofs.lemmas.Bool.Decides.{eqb_tells}
-use Rattle.std.proofs.lemmas.Int.{ints}
 use Rattle.prefix_decoder.specs.declared.decoding.Instr.{Instr}
 use Rattle.prefix_decoder.specs.declared.decoding.DecodeFault.{DecodeFault}
 use Rattle.prefix_decoder.specs.declared.decoding.DecodeFault.TheVariants.{SecondSpelling}
@@ -11,22 +9,17 @@ use Rattle.std.specs.Str.{bytes_eq}
 use Rattle.prefix_decoder.specs.Spelling.{spelling}
 use Rattle.prefix_decoder.specs.Fetching.{read, checked, fetched, StandsAt}
 use Rattle.prefix_decoder.proofs.Outcomes.{fetched-found, StandsAt-length}
-use Rattle.certificate.specs.declared.fact.Fact.TheVariants.{Unknown}
-use Rattle.certificate.specs.declared.rows.Entry.{Entry}
-use Rattle.certificate.specs.declared.contexts.Context.{Context}
 use Rattle.certificate.specs.Contents.{Contents, Procedure, Label}
-use Rattle.certificate.specs.Contexts.{context_at}
 use Rattle.certificate.specs.Order.{InOrder}
 use Rattle.certificate.specs.Facts.{LabelKeeps, behind_label}
 use Rattle.certificate.specs.declared.tables.Version.{Version}
 use Rattle.certificate.specs.declared.tables.Version.TheVariants as versions
-use Rattle.certificate.specs.Keeping.{max_code, Keeps, LabelFits, RowFits, EntryFits}
-use Rattle.states.specs.State.{entry_fact, is_about, has_word}
+use Rattle.certificate.specs.Keeping.{max_code, Keeps}
+use Rattle.states.proofs.LabelRows.{label_row_at}
 use Rattle.facts.specs.Meaning.{IsWellFormed}
+use Rattle.facts.proofs.LabelRows.{label_pairs}
 use Rattle.verifier.specs.Point.{Decodes}
 use Rattle.verifier.proofs.Judging.{Spans}
-use Rattle.facts.proofs.Words.{bool_cases}
-use Rattle.facts.proofs.Local.{and_true, le_by, lt_by}
 
 -- ---- the decoder
 
@@ -68,39 +61,6 @@ found_keeps code_len procedures low at (row ∷ rows) t all h = elim (eqb_tells 
   | inr e ↦ found_keeps code_len procedures row.offset at rows t all.1 (sym (ap (λ (b : Bool). cond b (Some row) (find (λ row. row.offset == at) rows)) e.0) ∙ h)
 ]
 
-found_fits : (m : Contents) (at : ℕ) (rows : List Label) (t : Label) → AllByRecursion (LabelFits m) rows → find (λ row. row.offset == at) rows ≡ Some t → LabelFits m t
-found_fits m at [] t all h = absurd (cc)
-found_fits m at (row ∷ rows) t all h = elim (eqb_tells row.offset at) [
-  | inl e ↦
-      let here : Some row ≡ Some t = sym (ap (λ (b : Bool). cond b (Some row) (find (λ row. row.offset == at) rows)) e.0) ∙ h in
-      let same : row ≡ t = cc in
-      subst (λ (r : Label). LabelFits m r) same all.0
-  | inr e ↦ found_fits m at rows t all.1 (sym (ap (λ (b : Bool). cond b (Some row) (find (λ row. row.offset == at) rows)) e.0) ∙ h)
-]
-
--- no entry is about a word outside the frame
-outside_unknown : (context : Context) (entries : List Entry) (k : ℤ) → AllByRecursion (EntryFits context) entries → has_word (Some context) k ≡ false → entry_fact entries k ≡ Unknown
-outside_unknown context [] k all out = refl
-outside_unknown context (entry ∷ entries) k all out = elim (bool_cases (is_about entry k)) [
-  | inl e ↦
-      let both = and_true _ _ e in
-      let low : entry.word ≤ℤ k = le_by entry.word k both.0 in
-      let high : k <ℤ (entry.word +ℤ pos entry.span) = lt_by k (entry.word +ℤ pos entry.span) both.1 in
-      let a : context.lo ≤ℤ k = omega (arith, ints, all.0.low) in
-      let b : k <ℤ context.hi = omega (arith, ints, all.0.high) in
-      let inside : has_word (Some context) k ≡ true = in_frame context k a b in
-      let no' : true ≡ false = sym inside ∙ out in
-      absurd (cc)
-  | inr e ↦ ap (λ (b : Bool). cond b entry.fact (entry_fact entries k)) e ∙ outside_unknown context entries k all.1 out
-]
-  where
-    in_frame : (context : Context) (k : ℤ) → context.lo ≤ℤ k → k <ℤ context.hi → has_word (Some context) k ≡ true
-    in_frame context k a b = grind (arith, ints)
-
-fits_outside : (m : Contents) (t : Label) (k : ℤ) (o : Option Context) → MatchOption o ⊥ (RowFits t) → has_word o k ≡ false → entry_fact t.entries k ≡ Unknown
-fits_outside m t k None fits out = absurd fits
-fits_outside m t k (Some context) fits out = outside_unknown context t.entries k fits.entries out
-
 code_is_short : (v : Version) → max_code v ≤ 262143
 code_is_short versions.One = omega arith
 code_is_short versions.Two = omega arith
@@ -113,5 +73,6 @@ well_formed m k = record {
   few_constants = omega (arith, k.sizes.constants_limit);
   base = k.sizes.base;
   labels = λ at t h. let f = found_keeps (length m.code) m.procedures 0 at m.labels t k.rows.labels h in omega (arith, f.0, f.1);
-  entries = λ at t i h out. fits_outside m t i (context_at m t.context) (found_fits m at m.labels t k.names.labels h) out;
+  rows = λ at t h. label_row_at m at t k h;
+  pairs = λ at t h. label_pairs m at t k h;
 }

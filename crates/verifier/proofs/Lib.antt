@@ -1,4 +1,6 @@
+pub mod Given
 pub mod Judging
+pub mod RowsLeft
 pub mod Passing
 pub mod Low
 pub mod Lists

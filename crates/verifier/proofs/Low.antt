@@ -1,16 +1,17 @@
 -- The verdict never tells want of memory.
-use Rattle.std.proofs.Common.{◌≡◌, ℕ, zero, suc, ◌+◌, ◌-◌, ◌<◌, ◌≤◌, Bool, true, false, cond, leb, length, min, Option, Some, None, Result, Ok, Err, lit<, subst, sym, arith}
+use Rattle.std.proofs.Common.{◌≡◌, ℕ, zero, suc, ◌+◌, ◌-◌, ◌<◌, Bool, true, false, cond, is_some, leb, length, Option, Some, None, Result, Ok, Err, lit<, subst, arith}
 use Rattle.prefix_decoder.specs.declared.decoding.Instr.{Instr}
 use Rattle.prefix_decoder.specs.declared.decoding.DecodeFault.{DecodeFault}
 use Rattle.prefix_decoder.specs.Fetching.{fetched}
 use Rattle.certificate.specs.Contents.{Contents, Label, label_at}
+use Rattle.certificate.specs.Starts.{procedure_at}
 use Rattle.states.specs.State.{State}
 use Rattle.states.specs.Below.{below}
 use Rattle.facts.specs.Rules.{Ruling, falls, leads, ends, breaks, rule_at}
 use Rattle.facts.proofs.Numbers.{IsLow, IsLowAnswer, low-below, low-rule}
 use Rattle.verifier.specs.declared.Refusal.{Refusal}
 use Rattle.verifier.specs.Certified.{state_at, entering}
-use Rattle.verifier.specs.Judge.{Verdict, both, judged_in, judged_at, past_labels, past_rule, past_spelling, first_label, at_the_end, judge, verdict}
+use Rattle.verifier.specs.Judge.{Verdict, both, judged_in, judged_at, past_starts, past_rule, past_spelling, first_start, at_the_end, judge, verdict}
 
 abbrev IsLowJudgement : Result (Option State) ℕ → Type 0
 IsLowJudgement (Ok after) = Unit {0}
@@ -26,17 +27,21 @@ low-both (Err u) (leads to) h l = h
 low-both (Err u) ends h l = h
 low-both (Err u) (breaks v) h l = omega arith
 
-low-entering-at : (before : Option State) (t : Label) → IsLowAnswer (elim before [ None ↦ Ok 0 | Some s ↦ below s t ])
-low-entering-at None t = tt
-low-entering-at (Some s) t = low-below s t
+low-procedure : (begins : Bool) → IsLowAnswer (cond begins (Err 3) (Ok 0))
+low-procedure true = lit< tt
+low-procedure false = tt
 
-low-entering-in : (before : Option State) (o : Option Label) → IsLowAnswer (elim o [ None ↦ Ok 0 | Some t ↦ elim before [ None ↦ Ok 0 | Some s ↦ below s t ] ])
-low-entering-in before None = tt
-low-entering-in before (Some t) = low-entering-at before t
+low-falling-in : (begins : Bool) (s : State) (o : Option Label) → IsLowAnswer (elim o [ None ↦ cond begins (Err 3) (Ok 0) | Some t ↦ below s t ])
+low-falling-in begins s None = low-procedure begins
+low-falling-in begins s (Some t) = low-below s t
+
+low-entering : (m : Contents) (at : ℕ) (before : Option State) → IsLowAnswer (entering m at before)
+low-entering m at None = tt
+low-entering m at (Some s) = low-falling-in (is_some (procedure_at m at)) s (label_at m at)
 
 low-judged-in : (m : Contents) (at : ℕ) (before : Option State) (i : Instr) (o : Option State) → IsLowJudgement (judged_in m at before i o)
 low-judged-in m at before i None = lit< tt
-low-judged-in m at before i (Some s) = low-both (entering m at before) (rule_at m at i s) (low-entering-in before (label_at m at)) (low-rule _ i.fun i.operand s)
+low-judged-in m at before i (Some s) = low-both (entering m at before) (rule_at m at i s) (low-entering m at before) (low-rule _ i.fun i.operand s)
 
 low-judged : (m : Contents) (at : ℕ) (before : Option State) (i : Instr) → IsLowJudgement (judged_at m at before i)
 unfolding judged_at
@@ -52,12 +57,12 @@ low-end at None = tt
 low-end at (Some s) = lit< tt
 
 module _ (m : Contents) (go : ℕ → Option State → Verdict) (later : (to : ℕ) (after : Option State) → IsLowVerdict (go to after)) where
-  low-labels : (to : ℕ) (after : Option State) (o : Option ℕ) → IsLowVerdict (past_labels go to after o)
-  low-labels to after None = later to after
-  low-labels to after (Some inside) = lit< tt
+  low-starts : (to : ℕ) (after : Option State) (o : Option ℕ) → IsLowVerdict (past_starts go to after o)
+  low-starts to after None = later to after
+  low-starts to after (Some inside) = lit< tt
 
   low-past-rule : (at len : ℕ) (j : Result (Option State) ℕ) → IsLowJudgement j → IsLowVerdict (past_rule m go at len j)
-  low-past-rule at len (Ok after) h = low-labels (at + len) after (first_label m (at + 1) (len - 1))
+  low-past-rule at len (Ok after) h = low-starts (at + len) after (first_start m (at + 1) (len - 1))
   low-past-rule at len (Err v) h = h
 
   low-spelling : (at : ℕ) (before : Option State) (f : Result Instr DecodeFault) → IsLowVerdict (past_spelling m go at before f)

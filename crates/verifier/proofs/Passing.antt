@@ -1,20 +1,17 @@
 -- The pass, one instruction behind another, against the verdict.
-use Rattle.std.proofs.Common.{◌≡◌, ◌≢◌, ℕ, zero, suc, ◌+◌, ◌-◌, ◌≤◌, ◌<◌, Bool, true, false, cond, is_some, eqb, ltb, leb, List, [], ◌∷◌, length, map, get_or, Option, Some, None, Result, Ok, Err, refl, sym, ap, ◌∙◌, subst, arith, rules, ◌⊎◌, inl, inr, add-one}
-use Rattle.std.specs.Prelude.{◌==◌, find, slice_get, IfErr}
-use Rattle.std.proofs.lemmas.Bool.{cases_lt, cases_eq, cases_Bool}
-use Rattle.std.proofs.lemmas.Bool.Decides.{nat_tests, leb_tells}
+use Rattle.std.proofs.Common.{◌≡◌, ℕ, zero, suc, ◌+◌, ◌-◌, ◌≤◌, ◌<◌, Bool, true, false, cond, leb, length, Option, Some, None, Result, Ok, Err, refl, sym, ap, ◌∙◌, subst, arith, ◌⊎◌, inl, inr}
+use Rattle.std.specs.Prelude.{IfErr}
+use Rattle.std.proofs.lemmas.Bool.{cases_eq}
+use Rattle.std.proofs.lemmas.Bool.Decides.{leb_tells}
 use Rattle.prefix_decoder.specs.declared.decoding.Instr.{Instr}
 use Rattle.prefix_decoder.specs.declared.decoding.DecodeFault.{DecodeFault}
 use Rattle.prefix_decoder.specs.Fetching.{fetched}
-use Rattle.certificate.specs.declared.rows.LabelRow.{LabelRow}
-use Rattle.certificate.specs.Contents.{Contents, Label, label_at, label_of}
-use Rattle.certificate.specs.Keeping.{Keeps}
+use Rattle.certificate.specs.Contents.{Contents}
+use Rattle.certificate.specs.Starts.{is_start}
 use Rattle.states.specs.State.{State, root_state}
-use Rattle.facts.specs.Labels.{RiseBehind, AreRows, row_at, IsRow}
-use Rattle.facts.proofs.LabelRows.{module-rows, row_at-other, row_at-here, none-below}
 use Rattle.verifier.specs.declared.Refusal.{Refusal}
-use Rattle.verifier.specs.Judge.{Verdict, past_labels, past_rule, past_spelling, judged_at, first_label, refused, at_the_end, judge, verdict}
-use Rattle.verifier.specs.Judging.{RiseFrom, AreLeft, falling_state}
+use Rattle.verifier.specs.Judge.{past_starts, past_rule, past_spelling, judged_at, first_start, refused, at_the_end, judge, verdict}
+use Rattle.verifier.specs.Judging.{falling_state}
 use Rattle.verifier.proofs.Judging.{Spans, judge_end}
 
 -- ---- the verdict from an offset on
@@ -64,15 +61,15 @@ judged-is m at before i judged low w sp j =
 pub broken-is : (m : Contents) (at v : ℕ) (before : Option State) (i : Instr) → at < length m.code → OnTheWay m at before → fetched m.code at ≡ Ok i → judged_at m at before i ≡ Err v → verdict m ≡ refused v at
 broken-is m at v before i low w sp j = judged-is m at before i (Err v) low w sp j
 
--- where a label stands within the instruction
+-- where a start lies within the instruction
 pub hidden-is : (m : Contents) (at o : ℕ) (before after : Option State) (i : Instr) → at < length m.code → OnTheWay m at before → fetched m.code at ≡ Ok i → judged_at m at before i ≡ Ok after
-    → first_label m (at + 1) (i.len - 1) ≡ Some o → verdict m ≡ refused 2 o
+    → first_start m (at + 1) (i.len - 1) ≡ Some o → verdict m ≡ refused 2 o
 hidden-is m at o before after i low w sp j l =
-    judged-is m at before i (Ok after) low w sp j ∙ ap (past_labels (λ to after. judge (further m at before low w).fuel m to after) (at + i.len) after) l
+    judged-is m at before i (Ok after) low w sp j ∙ ap (past_starts (λ to after. judge (further m at before low w).fuel m to after) (at + i.len) after) l
 
 -- where the pass goes on
 pub goes-on : (m : Contents) (at : ℕ) (before after : Option State) (i : Instr) → Spans m → at < length m.code → OnTheWay m at before → fetched m.code at ≡ Ok i → judged_at m at before i ≡ Ok after
-    → first_label m (at + 1) (i.len - 1) ≡ None → OnTheWay m (at + i.len) after
+    → first_start m (at + 1) (i.len - 1) ≡ None → OnTheWay m (at + i.len) after
 goes-on m at before after i spans low w sp j l =
     let f = further m at before low w in
     let some = spans.some at i sp in
@@ -80,116 +77,42 @@ goes-on m at before after i spans low w sp j l =
     record {
       fuel = f.fuel;
       enough = omega arith;
-      same = sym (judged-is m at before i (Ok after) low w sp j ∙ ap (past_labels (λ to after. judge f.fuel m to after) (at + i.len) after) l);
+      same = sym (judged-is m at before i (Ok after) low w sp j ∙ ap (past_starts (λ to after. judge f.fuel m to after) (at + i.len) after) l);
     }
 
 -- behind the code
 pub ended-is : (m : Contents) (at : ℕ) (before : Option State) → length m.code ≤ at → OnTheWay m at before → verdict m ≡ at_the_end at before
 ended-is m at before high w = sym w.same ∙ judge_end w.fuel m at before high
 
--- ---- the label rows, in order
+-- ---- starts within an instruction
 
-rise-from : (at low : ℕ) (rows : List LabelRow) → at ≤ low + 1 → RiseBehind low rows → RiseFrom at rows
-rise-from at low [] h r = tt
-rise-from at low (row ∷ rows) h r = (omega (arith, r.0), r.1, r.2)
+start-none : (m : Contents) (at more : ℕ) → ((o : ℕ) → at ≤ o → o < at + more → is_start m o ≡ false) → first_start m at more ≡ None
+start-none m at zero h = refl
+start-none m at (suc more) h =
+    ap (λ b. cond b (Some at) (first_start m (at + 1) more)) (h at (omega arith) (omega arith))
+    ∙ start-none m (at + 1) more (λ o l b. h o (omega arith) (omega arith))
 
-pub left-first : (m : Contents) (rows : List LabelRow) → Keeps m → m.labels ≡ map label_of rows → AreLeft m 0 rows
-left-first m rows keeps is = record {
-  rise = rise-from 0 0 rows (omega arith) (module-rows m rows keeps is).rise;
-  same = λ o l. ap (λ ls. find (λ row. row.offset == o) ls) is;
-}
-
--- no row stands below the first
-none-from : (at o : ℕ) (rows : List LabelRow) → RiseFrom at rows → o < at → row_at rows o ≡ None
-none-from at o [] r h = refl
-none-from at o (row ∷ rows) r h = row_at-other row rows o (λ e. absurd (omega (arith, r.0))) ∙ none-below row.offset o rows r.2 (omega (arith, r.0))
-
--- the first row stands behind the offset: none is here
-pub none-here : (m : Contents) (at : ℕ) (rows : List LabelRow) → AreLeft m at rows → ((row : LabelRow) → Some row ≡ slice_get rows 0 → row.offset ≢ at) → label_at m at ≡ None
-none-here m at [] a h = a.same at (omega arith)
-none-here m at (row ∷ rows) a h =
-    a.same at (omega arith) ∙ (row_at-other row rows at (h row refl) ∙ none-below row.offset at rows a.rise.2 (let l = a.rise.0 in omega arith))
-
-pub row-is-here : (m : Contents) (at : ℕ) (rows : List LabelRow) (row : LabelRow) → AreLeft m at rows → Some row ≡ slice_get rows 0 → row.offset ≡ at → IsRow (label_at m at) row
-row-is-here m at [] row a h e = absurd (cc)
-row-is-here m at (r ∷ rows) row a h e =
-    let same : row ≡ r = cc in
-    subst (λ (x : LabelRow). IsRow (label_at m at) x) (sym same)
-    (a.same at (omega arith) ∙ row_at-here r rows at (sym (ap (λ (y : LabelRow). y.offset) same) ∙ e), a.rise.1)
-
--- behind the first row, which stands here
-pub left-later : (m : Contents) (at : ℕ) (rows later : List LabelRow) (row : LabelRow) → AreLeft m at rows → rows ≡ row ∷ later → row.offset ≡ at → AreLeft m (at + 1) later
-left-later m at rows later row a is e =
-    let b : AreLeft m at (row ∷ later) = subst (λ rs. AreLeft m at rs) is a in
-    record {
-      rise = rise-from (at + 1) row.offset later (omega arith) b.rise.2;
-      same = λ o l. b.same o (omega arith) ∙ row_at-other row later o (λ x. absurd (omega arith));
-    }
-
--- behind an offset at which no row stands
-pub left-same : (m : Contents) (at : ℕ) (rows : List LabelRow) → AreLeft m at rows → ((row : LabelRow) (later : List LabelRow) → rows ≡ row ∷ later → row.offset ≢ at) → AreLeft m (at + 1) rows
-left-same m at [] a h = record { rise = tt; same = λ o l. a.same o (omega arith) }
-left-same m at (row ∷ rows) a h =
-    let d : row.offset ≢ at = h row rows refl in
-    let l = a.rise.0 in
-    record { rise = (omega arith, a.rise.1, a.rise.2); same = λ o l. a.same o (omega arith) }
-
--- ---- labels within an instruction
-
--- none of the offsets below the first row has a label
-first_label-none : (m : Contents) (at more : ℕ) → ((o : ℕ) → at ≤ o → o < at + more → label_at m o ≡ None) → first_label m at more ≡ None
-first_label-none m at zero h = refl
-first_label-none m at (suc more) h =
-    ap (λ o. cond (is_some o) (Some at) (first_label m (at + 1) more)) (h at (omega arith) (omega arith))
-    ∙ first_label-none m (at + 1) more (λ o l b. h o (omega arith) (omega arith))
-
-first_label-some : (m : Contents) (at more o : ℕ) (t : Label) → at ≤ o → o < at + more → label_at m o ≡ Some t → ((q : ℕ) → at ≤ q → q < o → label_at m q ≡ None) → first_label m at more ≡ Some o
-first_label-some m at zero o t l b here h = absurd (omega arith)
-first_label-some m at (suc more) o t l b here h = elim (cases_eq o at) [
-  | inl e ↦
-      let at_here : label_at m at ≡ Some t = sym (ap (label_at m) e) ∙ here in
-      ap (λ x. cond (is_some x) (Some at) (first_label m (at + 1) more)) at_here ∙ ap (λ (n : ℕ). Some n) (sym e)
+start-some : (m : Contents) (at more o : ℕ) → at ≤ o → o < at + more → is_start m o ≡ true → ((q : ℕ) → at ≤ q → q < o → is_start m q ≡ false) → first_start m at more ≡ Some o
+start-some m at zero o l b here h = absurd (omega arith)
+start-some m at (suc more) o l b here h = elim (cases_eq o at) [
+  | inl e ↦ ap (λ x. cond x (Some at) (first_start m (at + 1) more)) (sym (ap (is_start m) e) ∙ here) ∙ ap (λ (n : ℕ). Some n) (sym e)
   | inr d ↦
-      ap (λ x. cond (is_some x) (Some at) (first_label m (at + 1) more)) (h at (omega arith) (omega arith))
-      ∙ first_label-some m (at + 1) more o t (omega arith) (omega arith) here (λ q low high. h q (omega arith) high)
+      ap (λ x. cond x (Some at) (first_start m (at + 1) more)) (h at (omega arith) (omega arith))
+      ∙ start-some m (at + 1) more o (omega arith) (omega arith) here (λ q low high. h q (omega arith) high)
 ]
 
--- no row is left
-pub within-none : (m : Contents) (at more : ℕ) (rows : List LabelRow) → AreLeft m at rows → None ≡ slice_get rows 0 → first_label m at more ≡ None
-within-none m at more [] a h = first_label-none m at more (λ o l b. a.same o l)
-within-none m at more (row ∷ rows) a h = absurd (cc)
+-- none of the offsets from one up to another is a start
+abbrev pub NoneFrom : Contents → ℕ → ℕ → Type 0
+NoneFrom m from end = (o : ℕ) → from ≤ o → o < end → is_start m o ≡ false
 
--- the first row stands before the end, or behind it
-pub within-some : (m : Contents) (at more : ℕ) (rows : List LabelRow) (row : LabelRow) → AreLeft m at rows → Some row ≡ slice_get rows 0 → row.offset < at + more → first_label m at more ≡ Some row.offset
-within-some m at more [] row a h b = absurd (cc)
-within-some m at more (r ∷ rows) row a h b =
-    let same : row ≡ r = cc in
-    let offset : row.offset ≡ r.offset = ap (λ (x : LabelRow). x.offset) same in
-    let low = a.rise.0 in
-    first_label-some m at more r.offset (label_of r) low (omega arith) (a.same r.offset low ∙ row_at-here r rows r.offset refl) (λ q l h. a.same q l ∙ none-from r.offset q (r ∷ rows) (omega arith, a.rise.1, a.rise.2) h)
-    ∙ ap (λ (n : ℕ). Some n) (sym offset)
+pub none-further : (m : Contents) (from end : ℕ) → NoneFrom m from end → is_start m end ≡ false → NoneFrom m from (end + 1)
+none-further m from end h here o low high = elim (cases_eq o end) [ inl e ↦ rw e here | inr d ↦ h o low (omega arith) ]
 
-pub within-behind : (m : Contents) (at more : ℕ) (rows : List LabelRow) (row : LabelRow) → AreLeft m at rows → Some row ≡ slice_get rows 0 → at + more ≤ row.offset → first_label m at more ≡ None
-within-behind m at more [] row a h b = absurd (cc)
-within-behind m at more (r ∷ rows) row a h b =
-    let same : row ≡ r = cc in
-    let offset : row.offset ≡ r.offset = ap (λ (x : LabelRow). x.offset) same in
-    first_label-none m at more (λ o l high. a.same o l ∙ none-from r.offset o (r ∷ rows) (omega arith, a.rise.1, a.rise.2) (omega arith))
+pub none-within : (m : Contents) (from end : ℕ) → from ≤ end → NoneFrom m from end → first_start m from (end - from) ≡ None
+none-within m from end ordered h = start-none m from (end - from) (λ o low high. h o low (omega arith))
 
--- behind offsets that have no label
-pub left-further : (m : Contents) (at more : ℕ) (rows : List LabelRow) → AreLeft m at rows → first_label m at more ≡ None → AreLeft m (at + more) rows
-left-further m at more [] a h = record { rise = tt; same = λ o l. a.same o (omega arith) }
-left-further m at more (row ∷ rows) a h = record {
-  rise = (
-    elim (cases_lt row.offset (at + more)) [
-      | inl b ↦ let clash : Some row.offset ≡ None = sym (within-some m at more (row ∷ rows) row a refl b) ∙ h in absurd (cc)
-      | inr b ↦ b
-    ],
-    a.rise.1,
-    a.rise.2,
-  );
-  same = λ o l. a.same o (omega arith);
-}
+pub some-within : (m : Contents) (from end o : ℕ) → from ≤ o → o < end → NoneFrom m from o → is_start m o ≡ true → first_start m from (end - from) ≡ Some o
+some-within m from end o low high h here = start-some m from (end - from) o low (omega arith) here h
 
 -- ---- what the pass tells
 

@@ -16,13 +16,13 @@ use Rattle.machine_state.specs.LocalStep.{Local}
 use Rattle.states.specs.State.{root_state}
 use Rattle.states.specs.State.{has_word}
 use Rattle.verifier.specs.Certified.{begins, IsCertified}
-use Rattle.facts.specs.Meaning.{means_unknown, IsOwnWord, HasFrame, both_plain, IsWellFormed}
+use Rattle.facts.specs.Meaning.{Activation, means_unknown, nothing_known, IsOwnWord, HasFrame, both_plain, IsWellFormed}
 use Rattle.verifier.specs.Point.{Decodes}
 use Rattle.machine_state.specs.Apart.{AllApart}
 use Rattle.verifier.specs.Invariant.{Meets, it_lives, Waiters, Holds}
 use Rattle.verifier.specs.Headline.{RunsWell}
 use Rattle.facts.specs.Fitting.{After}
-use Rattle.facts.proofs.Local.{and_true, le_by, lt_by}
+use Rattle.states.proofs.RowFacts.{and-parts, le-from, lt-from}
 use Rattle.verifier.proofs.Steps.{enter, lives_at}
 use Rattle.verifier.proofs.Worlds.{run_holds}
 
@@ -68,9 +68,9 @@ root_writes_word m place low =
 root_word : (m : Contents) (k : ℤ) → has_word (context_at m 0) k ≡ true → IsOwnWord (root_holding m) (length (loaded_memory m)) (pos (4 * m.base)) k
 root_word m k h =
     let inside : has_word (Some (root_context m)) k ≡ true = subst (λ c. has_word c k ≡ true) (root_is m) h in
-    let both = and_true (int_le (root_context m).lo k) (int_lt k (root_context m).hi) inside in
-    let low : neg_ℤ (pos m.base) ≤ℤ k = le_by (neg_ℤ (pos m.base)) k both.0 in
-    let high : k <ℤ (pos m.data_words -ℤ pos m.base) = lt_by k (pos m.data_words -ℤ pos m.base) both.1 in
+    let both = and-parts (int_le (root_context m).lo k) (int_lt k (root_context m).hi) inside in
+    let low : neg_ℤ (pos m.base) ≤ℤ k = le-from (neg_ℤ (pos m.base)) k both.0 in
+    let high : k <ℤ (pos m.data_words -ℤ pos m.base) = lt-from k (pos m.data_words -ℤ pos m.base) both.1 in
     let n = natural (pos m.base +ℤ k) (omega (arith, ints)) in
     let place : ℕ = 4 * n.0 in
     let fits : 4 * n.0 + 4 ≤ 4 * m.data_words = omega (arith, ints, n.1) in
@@ -134,17 +134,27 @@ module _ (m : Contents) (d : Decodes m) (wf : IsWellFormed m) (c : IsCertified m
   abbrev root_local : Local
   root_local = record { registers = (root_task m).registers; memory = loaded_memory m }
 
-  root_after : After m (root_holding m) machine_modes.Plain (pos (4 * m.base)) (root_state m) root_local
+  -- the root has no parameters, returns nowhere, and is in no loop
+  abbrev root_activation : Activation
+  root_activation = record { origin = pos (4 * m.base); starts = λ j. 0; back = 0; turns = λ k. 0 }
+
+  root_after : After m (root_holding m) machine_modes.Plain root_activation (root_state m) root_local
   root_after = record {
     frame = root_frame m wf;
-    knows = record { a = means_unknown None; b = means_unknown None; c = means_unknown None; words = λ k. means_unknown _; within = λ k out. refl };
+    knows = record {
+      a = means_unknown m root_activation None;
+      b = means_unknown m root_activation None;
+      c = means_unknown m root_activation None;
+      words = λ k. nothing_known m root_activation k _;
+      within = λ k out. refl;
+    };
     same_mode = both_plain;
   }
 
   loaded_holds : Holds m (loaded m)
   loaded_holds =
-      let en = enter m d wf c (root_holding m) machine_modes.Plain (pos (4 * m.base)) 0 (root_state m) root_local begins wf.some_code root_after in
-      let lives = lives_at m d wf c (root_holding m) machine_modes.Plain (pos (4 * m.base)) 0 (Some (root_state m)) en.state root_local begins wf.some_code en.stands en.after in
+      let en = enter m d wf c (root_holding m) machine_modes.Plain root_activation 0 (root_state m) root_local begins wf.some_code root_after in
+      let lives = lives_at m d wf c (root_holding m) machine_modes.Plain en.act 0 (Some (root_state m)) en.state root_local begins wf.some_code en.stands en.after in
       record {
         dues = en.state.number ∷ [];
         table = record {

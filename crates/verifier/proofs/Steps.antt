@@ -1,6 +1,6 @@
 -- One byte of one process.
-use Rattle.std.proofs.Common.{◌≡◌, ℕ, zero, suc, ◌+◌, ◌≤◌, ◌<◌, Bool, true, inl, inr, ℤ, List, [], ◌∷◌, length, drop, Option, Some, None, Result, Ok, refl, sym, ap, ◌∙◌, subst, arith, add-one}
-use Rattle.std.proofs.lemmas.Bool.{cases_lt}
+use Rattle.std.proofs.Common.{◌≡◌, ℕ, zero, suc, ◌+◌, ◌≤◌, ◌<◌, Bool, true, cond, is_some, inl, inr, ℤ, List, [], ◌∷◌, length, drop, Option, Some, None, Result, Ok, Err, refl, sym, ap, ◌∙◌, subst, arith, add-one}
+use Rattle.std.proofs.lemmas.Bool.{cases_lt, cases_Bool}
 use Rattle.std.specs.Prelude.{slice_get}
 use Rattle.prefix_decoder.specs.declared.function.Fun.{Fun}
 use Rattle.prefix_decoder.specs.declared.decoding.Instr.{Instr}
@@ -10,6 +10,7 @@ use Rattle.prefix_decoder.specs.Operand.{with_nibble, after_prefix}
 use Rattle.prefix_decoder.specs.Fetching.{ended_or, read, fetched}
 use Rattle.certificate.specs.Contents.{Contents, Label, label_at}
 use Rattle.certificate.specs.Contexts.{context_at}
+use Rattle.certificate.specs.Starts.{procedure_at, Entered as Begun}
 use Rattle.machine_state.specs.declared.process.Registers.{Registers}
 use Rattle.machine_state.specs.declared.process.Task.{Task}
 use Rattle.machine_state.specs.declared.process.Condition.TheVariants.{Ready}
@@ -23,14 +24,16 @@ use Rattle.states.specs.Below.{below}
 use Rattle.facts.specs.Rules.{Ruling, falls, breaks, rule_at}
 use Rattle.states.specs.State.{has_word}
 use Rattle.verifier.specs.Certified.{falling, state_at, Reaches, follows, IsCertified}
-use Rattle.facts.specs.Meaning.{means_unknown, word_at_place, frame_word, IsOwnWord, HasFrame, Knows, IsWellFormed}
+use Rattle.facts.specs.Meaning.{Activation, with_turns, at_label, nothing_known, word_at_place, frame_word, IsOwnWord, HasFrame, Knows, IsWellFormed}
 use Rattle.machine_state.specs.Frame.{ChangesOwn}
 use Rattle.verifier.specs.Point.{IsReading, Stands, Decodes}
 use Rattle.verifier.specs.Invariant.{Lives}
-use Rattle.facts.proofs.Words.{bool_cases, means_same, frame_word_is}
+use Rattle.facts.proofs.Words.{means_same, frame_word_is}
 use Rattle.machine_state.proofs.Frame.{four_mine}
 use Rattle.facts.specs.Fitting.{After, Here, step_site, Fits, it_falls, it_leads, it_ends, it_breaks}
-use Rattle.facts.proofs.Local.{instruction_fits, below_tells, label_after, readable_byte}
+use Rattle.facts.proofs.Local.{instruction_fits, readable_byte}
+use Rattle.facts.proofs.Entering.{below_tells, label_after}
+use Rattle.verifier.proofs.Given.{nothing_given, is_given, given_label, given_none, label_is_start}
 
 same_ok : {A E : Type 0} (r : Result A E) (x y : A) → r ≡ Ok x → r ≡ Ok y → x ≡ y
 same_ok {A} {E} r x y p q = let e : ◌≡◌ {A = Result A E} (Ok x) (Ok y) = sym p ∙ q in cc
@@ -44,25 +47,25 @@ word_same : (m n : Memory) (place : ℕ) → byte_at m place ≡ byte_at n place
 unfolding word_at
 word_same m n place a b c d = rw (a, b, c, d)
 
-pub knows_agree : (h : Holding) (has : ℤ → Bool) (s : State) (origin : ℤ) (r : Registers) (memory later : Memory) → ((k : ℤ) → has k ≡ true → IsOwnWord h (length memory) origin k)
-    → ((place : ℕ) → may_read h place ≡ true → byte_at later place ≡ byte_at memory place) → Knows has s origin r memory → Knows has s origin r later
-knows_agree h has s origin r memory later own agree known = record {
+pub knows_agree : (m : Contents) (h : Holding) (has : ℤ → Bool) (s : State) (act : Activation) (r : Registers) (memory later : Memory) → ((k : ℤ) → has k ≡ true → IsOwnWord h (length memory) act.origin k)
+    → ((place : ℕ) → may_read h place ≡ true → byte_at later place ≡ byte_at memory place) → Knows m has s act r memory → Knows m has s act r later
+knows_agree m h has s act r memory later own agree known = record {
   a = known.a;
   b = known.b;
   c = known.c;
-  words = λ k. elim (bool_cases (has k)) [
+  words = λ k. elim (cases_Bool (has k)) [
     | inl inside ↦ means_same (known.words k) refl (same k inside)
-    | inr outside ↦ means_same (means_unknown (frame_word later origin k)) (sym (known.within k outside)) refl
+    | inr outside ↦ means_same (nothing_known m act k (frame_word later act.origin k)) (sym (known.within k outside)) refl
   ];
   within = known.within;
 }
   where
-    same : (k : ℤ) → has k ≡ true → frame_word memory origin k ≡ frame_word later origin k
+    same : (k : ℤ) → has k ≡ true → frame_word memory act.origin k ≡ frame_word later act.origin k
     same k inside =
         let w = own k inside in
         let mine = four_mine h w.place w.mine in
         let at : (place : ℕ) → may_write h place ≡ true → byte_at memory place ≡ byte_at later place = λ place e. sym (agree place (readable_byte h place e)) in
-        frame_word_is h (length memory) memory origin k w
+        frame_word_is h (length memory) memory act.origin k w
         ∙ word_same memory later w.place (at _ mine.0) (at _ mine.1) (at _ mine.2) (at _ mine.3)
         ∙ sym (ap (word_at_place later) (sym w.is))
 
@@ -128,8 +131,8 @@ after_some (Some f) g e n rest i some h =
     (sym fg ∙ ap (λ (j : Instr). j.fun) is, ap (λ (j : Instr). j.operand) is, ap (λ (j : Instr). j.len) is)
 
 fits_pays : (x : Here) {r : Ruling} {o : Outcome} → Fits x r o → ((v : ℕ) → r ≡ breaks v → ⊥) → x.len ≤ x.number
-fits_pays x (it_falls origin low after changes pay) whole = omega arith
-fits_pays x (it_leads origin label low after changes pay) whole = omega arith
+fits_pays x (it_falls low after changes pay) whole = omega arith
+fits_pays x (it_leads turns label low after changes pay) whole = omega arith
 fits_pays x (it_ends changes pay) whole = pay
 fits_pays x (it_breaks {v = v}) whole = absurd (whole v refl)
 
@@ -151,39 +154,44 @@ module _ (m : Contents) (d : Decodes m) (wf : IsWellFormed m) (c : IsCertified m
             absurd (cc)
       ]
 
-  -- the state behind, where one falls in
-  pub record Entered (h : Holding) (mode : machine.Mode) (origin : ℤ) (at number : ℕ) (before : Option State) (l : Local) : Type 0 where
+  -- the state behind, where one falls in, and its activation
+  pub record Entered (h : Holding) (mode : machine.Mode) (at number : ℕ) (before : Option State) (l : Local) : Type 0 where
     pub state : State
     pub stands : state_at m at before ≡ Some state
-    pub after : After m h mode origin state l
+    pub act : Activation
+    pub after : After m h mode act state l
     pub paid : state.number ≤ number
 
-  enter_on : (h : Holding) (mode : machine.Mode) (origin : ℤ) (at : ℕ) (s : State) (l : Local) (cost : ℕ) (o : Option Label) → label_at m at ≡ o
-      → After m h mode origin s l → elim o as (λ o. Result ℕ ℕ) [ None ↦ Ok 0 | Some t ↦ below s t ] ≡ Ok cost → Entered h mode origin at s.number (Some s) l
-  enter_on h mode origin at s l cost None e a ok = record {
+  -- at a label, or where the tables give no state
+  enter_on : (h : Holding) (mode : machine.Mode) (act : Activation) (at : ℕ) (s : State) (l : Local) (cost : ℕ) (label : Option Label) (begun : Option Begun) → label_at m at ≡ label → procedure_at m at ≡ begun
+      → After m h mode act s l → elim label as (λ o. Result ℕ ℕ) [ None ↦ cond (is_some begun) (Err 3) (Ok 0) | Some t ↦ below s t ] ≡ Ok cost → Entered h mode at s.number (Some s) l
+  enter_on h mode act at s l cost None None no_label no_procedure a ok = record {
     state = s;
-    stands = ap (λ (o : Option Label). elim o [ None ↦ Some s | Some t ↦ Some (label_state t) ]) e;
+    stands = nothing_given m at (Some s) (given_none m at no_label no_procedure);
+    act = act;
     after = a;
     paid = omega arith;
   }
-  enter_on h mode origin at s l cost (Some t) e a ok =
+  enter_on h mode act at s l cost None (Some e) no_label begins a ok = absurd (cc)
+  enter_on h mode act at s l cost (Some t) begun e f a ok =
       let b = below_tells s t cost ok in
       record {
         state = label_state t;
-        stands = ap (λ (o : Option Label). elim o [ None ↦ Some s | Some t ↦ Some (label_state t) ]) e;
-        after = label_after m h mode origin s t l wf at e b.1 a;
+        stands = is_given m at (Some s) (label_state t) (given_label m at t e);
+        act = at_label s t act;
+        after = label_after m h mode act s t l wf at e b.1 a;
         paid = b.0;
       }
 
-  pub enter : (h : Holding) (mode : machine.Mode) (origin : ℤ) (at : ℕ) (s : State) (l : Local) → Reaches m at (Some s) → at < length m.code → After m h mode origin s l → Entered h mode origin at s.number (Some s) l
-  enter h mode origin at s l r low a =
+  pub enter : (h : Holding) (mode : machine.Mode) (act : Activation) (at : ℕ) (s : State) (l : Local) → Reaches m at (Some s) → at < length m.code → After m h mode act s l → Entered h mode at s.number (Some s) l
+  enter h mode act at s l r low a =
       let holds = c.holds.each at (Some s) low r in
-      enter_on h mode origin at s l holds.cost (label_at m at) refl a holds.enters
+      enter_on h mode act at s l holds.cost (label_at m at) (procedure_at m at) refl refl a holds.enters
 
   -- between two instructions
-  pub lives_at : (h : Holding) (mode : machine.Mode) (origin : ℤ) (at : ℕ) (before : Option State) (s : State) (l : Local) → Reaches m at before → at < length m.code → state_at m at before ≡ Some s
-      → After m h mode origin s l → Lives m h l.memory (record { registers = between at l.registers; mode = mode; condition = Ready }) s.number
-  lives_at h mode origin at before s l r low st a =
+  pub lives_at : (h : Holding) (mode : machine.Mode) (act : Activation) (at : ℕ) (before : Option State) (s : State) (l : Local) → Reaches m at before → at < length m.code → state_at m at before ≡ Some s
+      → After m h mode act s l → Lives m h l.memory (record { registers = between at l.registers; mode = mode; condition = Ready }) s.number
+  lives_at h mode act at before s l r low st a =
       let holds = c.holds.each at before low r in
       record {
         claim = λ later size agree bytes. record {
@@ -194,28 +202,28 @@ module _ (m : Contents) (d : Decodes m) (wf : IsWellFormed m) (c : IsCertified m
           instr = holds.instr;
           taken = 0;
           reading = record { fuel = 8; whole = refl; at_is = omega arith; spelled = holds.spelled; rest = d.reads at holds.instr holds.spelled };
-          origin = origin;
-          frame = subst (λ n. HasFrame h n (has_word (context_at m s.context)) origin s.depth l.registers.workspace) (sym size) a.frame;
-          knows = known_between (knows_agree h (has_word (context_at m s.context)) s origin l.registers l.memory later a.frame.words (λ place e. agree place e refl) a.knows);
+          act = act;
+          frame = subst (λ n. HasFrame h n (has_word (context_at m s.context)) act.origin s.depth l.registers.workspace) (sym size) a.frame;
+          knows = known_between (knows_agree m h (has_word (context_at m s.context)) s act l.registers l.memory later a.frame.words (λ place e. agree place e refl) a.knows);
           mode = a.same_mode;
           paid = omega arith;
         };
         room = λ place e. absurd (cc);
       }
     where
-      known_between : {has : ℤ → Bool} {s : State} {origin : ℤ} {r : Registers} {memory : Memory} → Knows has s origin r memory → Knows has s origin (between at r) memory
+      known_between : {has : ℤ → Bool} {s : State} {act : Activation} {r : Registers} {memory : Memory} → Knows m has s act r memory → Knows m has s act (between at r) memory
       known_between k = record { a = k.a; b = k.b; c = k.c; words = k.words; within = k.within }
 
   -- how the rule at the process's point and the step fit, with the whole instruction read
-  abbrev pub here_of : Holding → Memory → Task → State → Instr → Here
-  here_of h memory t s i = record { m = m; h = h; mode = t.mode; memory = memory; number = s.number; at = t.registers.began; len = i.len }
+  abbrev pub here_of : Holding → Activation → Memory → Task → State → Instr → Here
+  here_of h act memory t s i = record { m = m; h = h; act = act; mode = t.mode; memory = memory; number = s.number; at = t.registers.began; len = i.len }
 
   pub point_fits : (h : Holding) (memory : Memory) (t : Task) (due : ℕ) (p : Stands m h memory t due)
-      → Fits (here_of h memory t p.state p.instr) (rule_at m t.registers.began p.instr p.state)
-      (local_step (step_site (here_of h memory t p.state p.instr)) p.instr.fun p.instr.operand (record { registers = t.registers; memory = memory }))
+      → Fits (here_of h p.act memory t p.state p.instr) (rule_at m t.registers.began p.instr p.state)
+      (local_step (step_site (here_of h p.act memory t p.state p.instr)) p.instr.fun p.instr.operand (record { registers = t.registers; memory = memory }))
   point_fits h memory t due p =
-      let x = here_of h memory t p.state p.instr in
-      instruction_fits x wf p.state (record { registers = t.registers; memory = memory }) p.origin
+      let x = here_of h p.act memory t p.state p.instr in
+      instruction_fits x wf p.state (record { registers = t.registers; memory = memory })
       (record { frame = p.frame; knows = p.knows; same_mode = p.mode })
       (record { size = refl; others = λ place e. refl }) refl
       p.instr.fun p.instr.operand (d.fits t.registers.began p.instr p.reading.spelled)
@@ -237,7 +245,7 @@ module _ (m : Contents) (d : Decodes m) (wf : IsWellFormed m) (c : IsCertified m
 
   -- the instruction can be paid
   can_pay : (h : Holding) (memory : Memory) (t : Task) (due : ℕ) (p : Stands m h memory t due) → p.instr.len ≤ p.state.number
-  can_pay h memory t due p = fits_pays (here_of h memory t p.state p.instr) (point_fits h memory t due p) (unbroken h memory t due p (began_inside h memory t due p))
+  can_pay h memory t due p = fits_pays (here_of h p.act memory t p.state p.instr) (point_fits h memory t due p) (unbroken h memory t due p (began_inside h memory t due p))
 
   -- something is owed before each byte
   pub owes : (h : Holding) (memory : Memory) (t : Task) (due : ℕ) (p : Stands m h memory t due) → 1 ≤ due
@@ -267,7 +275,7 @@ module _ (m : Contents) (d : Decodes m) (wf : IsWellFormed m) (c : IsCertified m
           rest = after_none (fun_of (function_code byte)) _ _ _ p.instr none
               (subst (λ y. ended_or (fun_of (function_code y)) (with_nibble t.registers.operand (nibble y)) (p.taken + 1) (read b.fuel (drop (t.registers.at + 1) m.code) (after_prefix (function_code y) (with_nibble t.registers.operand (nibble y))) (p.taken + 1)) ≡ Ok p.instr) same b.rest);
         };
-        origin = p.origin;
+        act = p.act;
         frame = p.frame;
         knows = record { a = p.knows.a; b = p.knows.b; c = p.knows.c; words = p.knows.words; within = p.knows.within };
         mode = p.mode;
@@ -284,19 +292,19 @@ module _ (m : Contents) (d : Decodes m) (wf : IsWellFormed m) (c : IsCertified m
     comes_down : {l : Local} → ChangesOwn h memory l.memory → 1 ≤ due → Comes h memory t due (stops l)
 
   comes : (h : Holding) (memory : Memory) (t : Task) (due : ℕ) (p : Stands m h memory t due) (r : Ruling) (o : Outcome) → r ≡ rule_at m t.registers.began p.instr p.state → p.taken + 1 ≡ p.instr.len
-      → Fits (here_of h memory t p.state p.instr) r o → Comes h memory t due o
-  comes h memory t due p r o e last (it_falls {s = s'} {l = l} origin low after changes pay) =
+      → Fits (here_of h p.act memory t p.state p.instr) r o → Comes h memory t due o
+  comes h memory t due p r o e last (it_falls {s = s'} {l = l} low after changes pay) =
       let next : Reaches m (t.registers.began + p.instr.len) (Some s') = follows p.reached p.stands p.reading.spelled refl (ap falling e) in
       let at : t.registers.began + p.instr.len ≡ t.registers.at + 1 = omega (arith, p.reading.at_is) in
-      let en = enter h t.mode origin (t.registers.began + p.instr.len) s' l next low after in
-      let lives = lives_at h t.mode origin (t.registers.began + p.instr.len) (Some s') en.state l next low en.stands en.after in
+      let en = enter h t.mode p.act (t.registers.began + p.instr.len) s' l next low after in
+      let lives = lives_at h t.mode en.act (t.registers.began + p.instr.len) (Some s') en.state l next low en.stands en.after in
       comes_on en.state.number changes
       (subst (λ n. Lives m h l.memory (record { registers = between n l.registers; mode = t.mode; condition = Ready }) en.state.number) at lives)
       (omega (arith, p.paid, en.paid))
-  comes h memory t due p r o e last (it_leads {to = to} {l = l} {t = label} origin is low after changes pay) =
-      let r = c.holds.labels to label low is in
-      let st : state_at m to r.0 ≡ Some (label_state label) = ap (λ (o : Option Label). elim o [ None ↦ r.0 | Some t ↦ Some (label_state t) ]) is in
-      comes_to label.number changes (lives_at h t.mode origin to r.0 (label_state label) l r.1 low st after) (omega (arith, p.paid))
+  comes h memory t due p r o e last (it_leads {to = to} {l = l} {t = label} turns is low after changes pay) =
+      let r = c.holds.starts to low (label_is_start m to label is) in
+      let st : state_at m to r.0 ≡ Some (label_state label) = is_given m to r.0 (label_state label) (given_label m to label is) in
+      comes_to label.number changes (lives_at h t.mode (with_turns turns p.act) to r.0 (label_state label) l r.1 low st after) (omega (arith, p.paid))
   comes h memory t due p r o e last (it_ends changes pay) = comes_down changes (omega (arith, p.paid))
   comes h memory t due p r o e last (it_breaks {v = v}) = absurd (unbroken h memory t due p (began_inside h memory t due p) v (sym e))
 
@@ -310,6 +318,6 @@ module _ (m : Contents) (d : Decodes m) (wf : IsWellFormed m) (c : IsCertified m
       let is = after_some (fun_of (function_code byte)) f _ _ _ p.instr some rest in
       let at : t.registers.began + p.instr.len ≡ t.registers.at + 1 = omega (arith, p.reading.at_is, is.2) in
       subst (λ n. Comes h memory t due (local_step (record { code_length = length m.code; next = n; mode = t.mode; holding = h }) f (with_nibble t.registers.operand (nibble byte)) (record { registers = t.registers; memory = memory }))) at
-      (subst (λ g. Comes h memory t due (local_step (step_site (here_of h memory t p.state p.instr)) g (with_nibble t.registers.operand (nibble byte)) (record { registers = t.registers; memory = memory }))) (sym is.0)
-      (subst (λ e. Comes h memory t due (local_step (step_site (here_of h memory t p.state p.instr)) p.instr.fun e (record { registers = t.registers; memory = memory }))) (sym is.1)
+      (subst (λ g. Comes h memory t due (local_step (step_site (here_of h p.act memory t p.state p.instr)) g (with_nibble t.registers.operand (nibble byte)) (record { registers = t.registers; memory = memory }))) (sym is.0)
+      (subst (λ e. Comes h memory t due (local_step (step_site (here_of h p.act memory t p.state p.instr)) p.instr.fun e (record { registers = t.registers; memory = memory }))) (sym is.1)
       (comes h memory t due p (rule_at m t.registers.began p.instr p.state) _ refl is.2 (point_fits h memory t due p))))

@@ -1,10 +1,11 @@
 -- When a module is certified, and when it is refused.
-use Rattle.std.specs.Prelude.{◌≡◌, ◌≢◌, ℕ, ◌+◌, ◌<◌, List, length, Option, Some, None, Result, Ok, Err}
+use Rattle.std.specs.Prelude.{◌≡◌, ◌≢◌, ℕ, ◌+◌, ◌<◌, true, if◌then◌else◌, is_some, length, Option, Some, None, Result, Ok, Err}
 use Rattle.prefix_decoder.specs.declared.decoding.Instr.{Instr}
 use Rattle.prefix_decoder.specs.declared.decoding.DecodeFault.{DecodeFault}
 use Rattle.prefix_decoder.specs.Fetching.{fetched}
-use Rattle.certificate.specs.Contents.{Contents, Label, label_at}
-use Rattle.states.specs.State.{State, root_state, label_state}
+use Rattle.certificate.specs.Contents.{Contents, label_at}
+use Rattle.certificate.specs.Starts.{Entered, procedure_at, is_start}
+use Rattle.states.specs.State.{State, root_state, label_state, procedure_state}
 use Rattle.states.specs.Below.{below}
 use Rattle.facts.specs.Rules.{Ruling, falls, leads, ends, breaks, rule_at}
 
@@ -15,13 +16,26 @@ falling (leads to) = None
 falling ends = None
 falling (breaks v) = None
 
--- the state at an offset into which `before` falls: a label's, where there is a label
+-- the state in which the procedure begins that was found
+abbrev pub first_state : Option Entered → Option State
+first_state None = None
+first_state (Some e) = Some (procedure_state e.context e.procedure)
+
+-- the state that the tables give at an offset: a label's, or a procedure's first
+abbrev pub given : Contents → ℕ → Option State
+given m at = elim (label_at m at) [ None ↦ first_state (procedure_at m at) | Some t ↦ Some (label_state t) ]
+
+-- the state at an offset into which `before` falls: the one that the tables give, where they give one
 abbrev pub state_at : Contents → ℕ → Option State → Option State
-state_at m at before = elim (label_at m at) [ None ↦ before | Some t ↦ Some (label_state t) ]
+state_at m at before = elim (given m at) [ None ↦ before | Some s ↦ Some s ]
+
+-- what it costs this state to fall into the offset, or the rule that it breaks: nothing falls into a procedure
+abbrev pub falling_into : Contents → ℕ → State → Result ℕ ℕ
+falling_into m at s = elim (label_at m at) [ None ↦ if is_some (procedure_at m at) then Err 3 else Ok 0 | Some t ↦ below s t ]
 
 -- what falling into the offset costs, or the rule that it breaks
 abbrev pub entering : Contents → ℕ → Option State → Result ℕ ℕ
-entering m at before = elim (label_at m at) [ None ↦ Ok 0 | Some t ↦ elim before [ None ↦ Ok 0 | Some s ↦ below s t ] ]
+entering m at before = elim before [ None ↦ Ok 0 | Some s ↦ falling_into m at s ]
 
 -- An instruction starts at the offset, and this state falls into it, or none.
 pub data Reaches (m : Contents) : ℕ → Option State → Type 0 where
@@ -41,9 +55,9 @@ pub record HoldsAt (m : Contents) (states : ℕ → Option State) (at : ℕ) (be
   pub spelled : fetched m.code at ≡ Ok instr
   pub unbroken : (v : ℕ) → rule_at m at instr state ≢ breaks v
 
--- All holds at each instruction start below an offset, and each label below it stands at a start.
+-- All holds at each instruction start below an offset, and each start that the tables tell below it is one.
 pub record HoldsBelow (m : Contents) (states : ℕ → Option State) (end : ℕ) : Type 0 where
-  pub labels : (at : ℕ) (t : Label) → at < end → label_at m at ≡ Some t → (before : Option State) × Reaches m at before
+  pub starts : (at : ℕ) → at < end → is_start m at ≡ true → (before : Option State) × Reaches m at before
   pub each : (at : ℕ) (before : Option State) → at < end → Reaches m at before → HoldsAt m states at before
 
 -- There is a state for each instruction start with which all holds, and nothing falls off the code.
@@ -56,13 +70,13 @@ pub record IsCertified (m : Contents) : Type 0 where
 pub data IsBroken (m : Contents) : ℕ → ℕ → Type 0 where
   -- no spelling of an instruction stands there
   misspelled : {v at : ℕ} {before : Option State} {e : DecodeFault} → v ≡ 1 → Reaches m at before → at < length m.code → fetched m.code at ≡ Err e → IsBroken m v at
-  -- a label stands within an instruction
-  hidden : {v at : ℕ} {t : Label} → v ≡ 2 → at < length m.code → label_at m at ≡ Some t → ((before : Option State) → Reaches m at before → ⊥) → IsBroken m v at
+  -- a start that the tables tell lies within an instruction
+  hidden : {v at : ℕ} → v ≡ 2 → at < length m.code → is_start m at ≡ true → ((before : Option State) → Reaches m at before → ⊥) → IsBroken m v at
   -- nothing leads there
-  unreached : {v at : ℕ} → v ≡ 3 → Reaches m at None → at < length m.code → label_at m at ≡ None → IsBroken m v at
+  unreached : {v at : ℕ} → v ≡ 3 → Reaches m at None → at < length m.code → given m at ≡ None → IsBroken m v at
   -- a state falls off the code
   fallen_off : {v at : ℕ} {s : State} → v ≡ 3 → at ≡ length m.code → Reaches m at (Some s) → IsBroken m v at
-  -- what falls into a label is not below it
+  -- what falls into a label is not below it, or something falls into a procedure
   entered : {v at : ℕ} {before : Option State} → Reaches m at before → at < length m.code → entering m at before ≡ Err v → IsBroken m v at
   -- the instruction breaks its rule
   broken : {v at : ℕ} {before : Option State} {s : State} {i : Instr} → Reaches m at before → at < length m.code → state_at m at before ≡ Some s

@@ -1,11 +1,12 @@
 -- The verdict on a module, found in one pass.
-use Rattle.std.specs.Prelude.{ℕ, zero, suc, ◌+◌, ◌-◌, nat_lt, nat_le, min, is_some, if◌then◌else◌, List, length, Option, Some, None, Result, Ok, Err}
+use Rattle.std.specs.Prelude.{ℕ, zero, suc, ◌+◌, ◌-◌, nat_le, min, if◌then◌else◌, length, Option, Some, None, Result, Ok, Err}
 use Rattle.prefix_decoder.specs.declared.decoding.Instr.{Instr}
 use Rattle.prefix_decoder.specs.declared.decoding.DecodeFault.{DecodeFault}
 use Rattle.prefix_decoder.specs.Fetching.{fetched}
-use Rattle.certificate.specs.Contents.{Contents, Label, label_at}
+use Rattle.certificate.specs.Contents.{Contents}
+use Rattle.certificate.specs.Starts.{is_start}
 use Rattle.states.specs.State.{State, root_state}
-use Rattle.facts.specs.Rules.{Ruling, falls, leads, ends, breaks, rule_at}
+use Rattle.facts.specs.Rules.{Ruling, breaks, rule_at}
 use Rattle.verifier.specs.declared.Refusal.{Refusal}
 use Rattle.verifier.specs.Certified.{falling, state_at, entering}
 
@@ -25,10 +26,10 @@ judged_in m at before i (Some s) = both (entering m at before) (rule_at m at i s
 unfoldable pub judged_at : Contents → ℕ → Option State → Instr → Result (Option State) ℕ
 judged_at m at before i = judged_in m at before i (state_at m at before)
 
--- the first of so many offsets from `at` on that has a label
-abbrev pub first_label : Contents → ℕ → ℕ → Option ℕ
-first_label m at zero = None
-first_label m at (suc more) = if is_some (label_at m at) then Some at else first_label m (at + 1) more
+-- the first of so many offsets from `at` on that the tables say is a start
+abbrev pub first_start : Contents → ℕ → ℕ → Option ℕ
+first_start m at zero = None
+first_start m at (suc more) = if is_start m at then Some at else first_start m (at + 1) more
 
 abbrev pub Verdict : Type 0
 Verdict = Result (Unit {0}) Refusal
@@ -40,14 +41,14 @@ abbrev pub at_the_end : ℕ → Option State → Verdict
 at_the_end at None = Ok tt
 at_the_end at (Some s) = refused 3 at
 
--- A label within the instruction is refused; else `go` judges the rest.
-abbrev pub past_labels : (ℕ → Option State → Verdict) → ℕ → Option State → Option ℕ → Verdict
-past_labels go to after (Some inside) = refused 2 inside
-past_labels go to after None = go to after
+-- A start within the instruction is refused; else `go` judges the rest.
+abbrev pub past_starts : (ℕ → Option State → Verdict) → ℕ → Option State → Option ℕ → Verdict
+past_starts go to after (Some inside) = refused 2 inside
+past_starts go to after None = go to after
 
 abbrev pub past_rule : Contents → (ℕ → Option State → Verdict) → ℕ → ℕ → Result (Option State) ℕ → Verdict
 past_rule m go at len (Err v) = refused v at
-past_rule m go at len (Ok after) = past_labels go (at + len) after (first_label m (at + 1) (len - 1))
+past_rule m go at len (Ok after) = past_starts go (at + len) after (first_start m (at + 1) (len - 1))
 
 abbrev pub past_spelling : Contents → (ℕ → Option State → Verdict) → ℕ → Option State → Result Instr DecodeFault → Verdict
 past_spelling m go at before (Err e) = refused 1 at

@@ -1,11 +1,16 @@
 -- What the functions of the code tell, in terms of the verdict.
-use Rattle.std.specs.Prelude.{◌≡◌, ℕ, ◌≤◌, Bool, List, [], ◌∷◌, Option, Some, None, Result, Ok, Err, ⊤, if◌then◌else◌}
+use Rattle.std.specs.Prelude.{◌≡◌, ℕ, ◌+◌, ◌-◌, ◌≤◌, Bool, List, [], ◌∷◌, map, drop, find, ◌==◌, slice_get, Option, Some, None, Result, Ok, Err, ⊤, if◌then◌else◌}
+use Rattle.std.specs.List.{AllByRecursion}
 use Rattle.certificate.specs.declared.rows.LabelRow.{LabelRow}
-use Rattle.certificate.specs.Contents.{Contents, label_at}
-use Rattle.states.specs.Rows.{AreApart}
+use Rattle.certificate.specs.declared.rows.ProcedureRow.{ProcedureRow}
+use Rattle.certificate.specs.Contents.{Contents, Label, label_at, label_of, procedure_of}
+use Rattle.certificate.specs.Starts.{procedure_from, procedure_at}
+use Rattle.states.specs.Rows.{AreApart, IsRowOf}
 use Rattle.states.specs.declared.rule.RuleFault.{RuleFault}
 use Rattle.states.specs.State.{State}
-use Rattle.facts.specs.Labels.{RiseBehind, row_at}
+use Rattle.verifier.specs.declared.rows.Given.{Given}
+use Rattle.verifier.specs.declared.rows.Given.TheVariants as given_variants
+use Rattle.verifier.specs.declared.rows.Rows.{Rows}
 
 -- the state that falls into an offset, if one does
 abbrev pub falling_state : Bool → State → Option State
@@ -16,12 +21,56 @@ abbrev pub Judges : Result Bool RuleFault → State → Result (Option State) �
 Judges (Ok falls) after judged = judged ≡ Ok (falling_state falls after)
 Judges (Err fault) after judged = judged ≡ Err fault.number
 
+-- ---- the rows that are left
+
 -- the rows stand at this offset or behind it, one behind another
-abbrev pub RiseFrom : ℕ → List LabelRow → Type 0
-RiseFrom at [] = ⊤
-RiseFrom at (row ∷ rows) = (at ≤ row.offset) × AreApart row.entries.items × RiseBehind row.offset rows
+abbrev pub RiseFrom : {A : Type 0} → (A → ℕ) → ℕ → List A → Type 0
+RiseFrom offset_of at [] = ⊤
+RiseFrom offset_of at (row ∷ rows) = (at ≤ offset_of row) × RiseFrom offset_of (offset_of row + 1) rows
+
+-- the label at an offset
+abbrev pub label_in : List LabelRow → ℕ → Option Label
+label_in rows at = find (λ row. row.offset == at) (map label_of rows)
 
 -- the label rows of the module from this offset on
-pub record AreLeft (m : Contents) (at : ℕ) (rows : List LabelRow) : Type 0 where
-  pub rise : RiseFrom at rows
-  pub same : (o : ℕ) → at ≤ o → label_at m o ≡ row_at rows o
+pub record LabelsLeft (m : Contents) (at : ℕ) (rows : List LabelRow) : Type 0 where
+  pub rise : RiseFrom (λ row. row.offset) at rows
+  pub sound : AllByRecursion (IsRowOf m) (map label_of rows)
+  pub same : (o : ℕ) → at ≤ o → label_at m o ≡ label_in rows o
+
+-- the procedure rows of the module from this offset on, of which the first has this context
+pub record ProceduresLeft (m : Contents) (at context : ℕ) (rows : List ProcedureRow) : Type 0 where
+  pub rise : RiseFrom (λ row. row.entry) at rows
+  pub same : (o : ℕ) → at ≤ o → procedure_at m o ≡ procedure_from context (map procedure_of rows) o
+  pub behind_root : 1 ≤ context
+  pub rest : drop (context - 1) m.procedures ≡ map procedure_of rows
+
+-- the rows of the module from this offset on
+pub record AreLeft (m : Contents) (at : ℕ) (rows : Rows) : Type 0 where
+  pub labels : LabelsLeft m at rows.labels.now
+  pub procedures : ProceduresLeft m at rows.context rows.procedures.now
+
+-- ---- what the tables give
+
+-- the row is that of the label at the offset
+pub record IsLabelRow (m : Contents) (at : ℕ) (row : LabelRow) : Type 0 where
+  pub found : label_at m at ≡ Some (label_of row)
+  pub sound : IsRowOf m (label_of row)
+
+-- the procedure of this context begins at the offset
+pub record Begins (m : Contents) (at context : ℕ) (row : ProcedureRow) : Type 0 where
+  pub found : procedure_at m at ≡ Some (record { context = context; procedure = procedure_of row })
+  pub behind_root : 1 ≤ context
+  pub is : slice_get m.procedures (context - 1) ≡ Some (procedure_of row)
+
+-- what was found is what the tables give at the offset
+abbrev pub IsGiven : Contents → ℕ → Given → Type 0
+IsGiven m at given_variants.Nothing = (label_at m at ≡ None) × (procedure_at m at ≡ None)
+IsGiven m at (given_variants.Label row) = IsLabelRow m at row.now
+IsGiven m at (given_variants.Procedure context row) = (label_at m at ≡ None) × Begins m at context row.now
+
+-- a label that was found can be compared with
+abbrev pub IsComparable : Given → Type 0
+IsComparable given_variants.Nothing = ⊤
+IsComparable (given_variants.Label row) = AreApart row.now.entries.items
+IsComparable (given_variants.Procedure context row) = ⊤

@@ -1,5 +1,5 @@
 -- A process at a point of the code.
-use Rattle.std.specs.Prelude.{◌≡◌, ℕ, ◌+◌, ◌≤◌, ℤ, pos, FitsSigned, length, drop, Option, Some, Ok}
+use Rattle.std.specs.Prelude.{◌≡◌, ℕ, ◌+◌, ◌≤◌, pos, FitsSigned, length, drop, Option, Some, Ok}
 use Rattle.std.specs.Int.{w32}
 use Rattle.prefix_decoder.specs.declared.decoding.Instr.{Instr}
 use Rattle.prefix_decoder.specs.Fetching.{read, fetched}
@@ -10,7 +10,7 @@ use Rattle.machine_state.specs.declared.process.Task.{Task}
 use Rattle.machine_state.specs.Memory.{Memory}
 use Rattle.machine_state.specs.Holding.{Holding}
 use Rattle.states.specs.State.{State, has_word}
-use Rattle.facts.specs.Meaning.{HasFrame, Knows, SameMode}
+use Rattle.facts.specs.Meaning.{Activation, HasFrame, Knows, SameMode}
 use Rattle.verifier.specs.Certified.{Reaches, state_at}
 
 -- The bytes from here on, with the operand so far, are the rest of the instruction that began.
@@ -21,7 +21,7 @@ pub record IsReading (m : Contents) (r : Registers) (i : Instr) (taken : ℕ) : 
   pub spelled : fetched m.code r.began ≡ Ok i
   pub rest : read fuel (drop r.at m.code) r.operand taken ≡ Ok i
 
--- The process is at a point of the code, in the state that the certificate has there, and owes what is left of its number.
+-- The process is at a point of the code, in the state that the certificate has there and in some activation, and owes what is left of its number.
 pub record Stands (m : Contents) (h : Holding) (memory : Memory) (t : Task) (due : ℕ) : Type 0 where
   pub before : Option State
   pub state : State
@@ -30,9 +30,9 @@ pub record Stands (m : Contents) (h : Holding) (memory : Memory) (t : Task) (due
   pub instr : Instr
   pub taken : ℕ
   pub reading : IsReading m t.registers instr taken
-  pub origin : ℤ
-  pub frame : HasFrame h (length memory) (has_word (context_at m state.context)) origin state.depth t.registers.workspace
-  pub knows : Knows (has_word (context_at m state.context)) state origin t.registers memory
+  pub act : Activation
+  pub frame : HasFrame h (length memory) (has_word (context_at m state.context)) act.origin state.depth t.registers.workspace
+  pub knows : Knows m (has_word (context_at m state.context)) state act t.registers memory
   pub mode : SameMode state.mode t.mode
   pub paid : due + taken ≡ state.number
 

@@ -1,30 +1,29 @@
 //! The judgement on one instruction.
 
-ghost use Rattle.std.specs.Prelude.{◌≡◌, ℕ, Option, Some, None, Result, MatchOption, ⊤};
-ghost use Rattle.certificate.specs.Contents.{Contents, Label, label_at, label_of};
+ghost use Rattle.std.specs.Prelude.{◌≡◌, ℕ};
+ghost use Rattle.certificate.specs.Contents.{Contents};
 ghost use Rattle.states.specs.State.{State as Known};
-ghost use Rattle.states.specs.Rows.{AreApart};
 ghost use Rattle.states.specs.Views.{state_of, numbered, BelongsTo};
-ghost use Rattle.facts.specs.Labels.{IsRow};
 ghost use Rattle.facts.specs.Rules.{Ruling};
 ghost use Rattle.facts.specs.Telling.{Advances};
 ghost use Rattle.verifier.specs.Certified.{entering};
 ghost use Rattle.verifier.specs.Judge.{both, judged_at};
-ghost use Rattle.verifier.specs.Judging.{falling_state, Judges};
+ghost use Rattle.verifier.specs.Judging.{falling_state, Judges, IsComparable, IsGiven};
 
-use certificate::{LabelRow, Module};
+use crate::rows::Given;
+use certificate::Module;
 use facts::{Onward, advance};
 use prefix_decoder::Instr;
 use states::{FLOW, RuleFault, State, below};
 
-/// What it costs to fall into an offset with this label, or none.
-fn entering(state: &State, falls: bool, row: Option<&LabelRow>) -> Result<u64, RuleFault>
-    requires { MatchOption row ⊤ (λ row. AreApart row.now.entries.items) }
-    ensures { (m : Contents) (at : ℕ) → MatchOption row.entry (label_at m at ≡ None) (λ row. label_at m at ≡ Some (label_of row.now))
-        → numbered result ≡ entering m at (falling_state falls (state_of state.now)) }
+/// What it costs to fall into an offset where this is given. Nothing may fall into a procedure.
+fn entering(state: &State, falls: bool, given: Given) -> Result<u64, RuleFault>
+    requires { IsComparable given }
+    ensures { (m : Contents) (at : ℕ) → IsGiven m at given.entry → numbered result ≡ entering m at (falling_state falls (state_of state.now)) }
 {
-    match row {
-        Some(row) if falls => below(state, row),
+    match given {
+        Given::Label(row) if falls => below(state, row),
+        Given::Procedure { .. } if falls => Err(RuleFault { number: FLOW }),
         _ => Ok(0),
     }
 }
@@ -47,25 +46,26 @@ fn both(
 }
 
 /// One instruction: whether a state falls into the next offset, or the rule that is broken. `falls`: the
-/// state falls into this offset. `row`: its label, if it has one.
+/// state falls into this offset. `given`: what the tables give there.
 #[tactic(auto, unfolding(crate::specs::Judge::judged_at))]
 pub(crate) fn judge<'a>(
     module: &Module<'a>,
     state: &mut State<'a>,
     falls: bool,
-    row: Option<&'a LabelRow>,
+    given: Given<'a>,
     at: usize,
     instr: Instr,
 ) -> Result<bool, RuleFault>
     requires belongs { BelongsTo «module».now state.old }
-    requires here { MatchOption row (label_at «module».now at ≡ None) (λ row. IsRow (label_at «module».now at) row.now) }
+    requires here { IsGiven «module».now at given }
     ensures judged { Judges result (state_of state.new) (judged_at «module».now at (falling_state falls (state_of state.old)) instr) }
     ensures belongs { BelongsTo «module».now state.new }
 {
-    let entered = entering(state, falls, row);
-    match row {
-        Some(row) => state.become_label(module, row),
-        None => {
+    let entered = entering(state, falls, given);
+    match given {
+        Given::Label(row) => state.become_label(module, row),
+        Given::Procedure { context, row } => state.become_procedure(module, row, context),
+        Given::Nothing => {
             if !falls {
                 return Err(RuleFault { number: FLOW });
             }

@@ -1,13 +1,13 @@
 //! The one pass over the code.
 
-ghost use Rattle.std.specs.Prelude.{◌≡◌, ◌<◌, ◌^◌, ◌⊎◌, OnOk, IfErr, Ok, Err};
+ghost use Rattle.std.specs.Prelude.{◌≡◌, ◌-◌, ◌<◌, ◌≤◌, ◌^◌, ◌⊎◌, OnOk, IfErr, Ok, Err};
 ghost use Rattle.certificate.specs.Keeping.{Keeps};
 ghost use Rattle.verifier.specs.declared.Refusal.{Refusal};
-ghost use Rattle.verifier.specs.Judge.{verdict};
+ghost use Rattle.verifier.specs.Judge.{first_start, verdict};
 
 use crate::Refusal;
 use crate::judgement::judge;
-use crate::rows::{label_before, row_here, rows_behind};
+use crate::rows::Rows;
 use certificate::Module;
 use prefix_decoder::fetch;
 use states::{FLOW, INSTRUCTION_START, MEMORY, SPELLING, State};
@@ -23,6 +23,20 @@ fn refused(number: u8, at: usize) -> Result<(), Refusal>
     })
 }
 
+/// The first offset from `from` up to `end` (not included) at which the tables say that an instruction
+/// starts.
+fn start_within(module: &Module, from: usize, end: usize) -> Option<u32>
+    requires { (from ≤ end) × (end < 2 ^ 32) }
+    ensures { result ≡ first_start «module».now from (end - from) }
+{
+    for offset in from as u32..end as u32 {
+        if module.is_start(offset) {
+            return Some(offset);
+        }
+    }
+    None
+}
+
 /// Goes over the code once, with one state.
 pub(crate) fn pass<'a>(alloc: Global, module: &'a Module<'a>) -> Result<(), Refusal>
     ensures accepts { OnOk result (verdict «module».now ≡ Ok tt) }
@@ -33,21 +47,20 @@ pub(crate) fn pass<'a>(alloc: Global, module: &'a Module<'a>) -> Result<(), Refu
     let Ok(mut state) = State::root(alloc, module) else {
         return refused(MEMORY, 0);
     };
-    let mut rows = tables.labels.as_slice();
+    let mut rows = Rows::of(module);
     let mut falls = true;
     let mut at = 0;
     while at < tables.code.len() {
         let Ok(instr) = fetch(tables.code, at) else {
             return refused(SPELLING, at);
         };
-        let row = row_here(rows, at);
-        rows = rows_behind(rows, at);
-        falls = match judge(module, &mut state, falls, row, at, instr) {
+        let given = rows.take(at);
+        falls = match judge(module, &mut state, falls, given, at, instr) {
             Ok(falls) => falls,
             Err(fault) => return refused(fault.number, at),
         };
         let end = at + instr.len;
-        if let Some(inside) = label_before(rows, end) {
+        if let Some(inside) = start_within(module, at + 1, end) {
             return refused(INSTRUCTION_START, inside as usize);
         }
         at = end;

@@ -1,5 +1,9 @@
 //! Small modules and the verdict on each, worked out by hand.
 
+mod loops;
+mod procedures;
+mod starts;
+
 use super::*;
 use certificate::Module;
 use std::alloc::{AllocError, Global};
@@ -11,50 +15,122 @@ const FIRST: &[u8] = b"\x45\xd1\x71\x81\xd1\x21\xf5";
 /// `ldc 5; stl 1; j 0; ldl 1; stopp`.
 const JUMP: &[u8] = b"\x45\xd1\x00\x71\x21\xf5";
 
-/// A label row without facts, in the context of the root.
+/// A label row, with the bytes of its entries and their number; its registers are unknown.
 #[derive(Clone, Copy, Debug)]
-struct Label {
+struct Label<'a> {
     offset: u32,
+    context: u16,
     depth: i32,
     number: u64,
+    entry_count: u16,
+    entries: &'a [u8],
+}
+
+/// A procedure row, of the words -3 to 3, with the bytes of its parameters and their number.
+#[derive(Clone, Copy, Debug)]
+struct Procedure<'a> {
+    entry: u32,
+    number: u64,
+    parameter_count: u16,
+    parameters: &'a [u8],
+}
+
+/// A PAR row with one branch, which is given nothing.
+#[derive(Clone, Copy, Debug)]
+struct Par {
+    entry: u32,
+    successor: u32,
 }
 
 /// A module without constants and links.
 #[derive(Clone, Copy, Debug)]
 struct Shape<'a> {
     code: &'a [u8],
+    data_words: u32,
     base: u32,
     budget: u64,
-    label: Option<Label>,
+    procedures: &'a [Procedure<'a>],
+    label: Option<Label<'a>>,
+    par: Option<Par>,
 }
 
 /// A module with five data words, base 3 and an ample budget.
 fn of_code(code: &[u8]) -> Shape<'_> {
     Shape {
         code,
+        data_words: 5,
         base: 3,
         budget: 100_000,
+        procedures: &[],
         label: None,
+        par: None,
     }
+}
+
+/// A label in the context of the root without facts.
+fn label_at(offset: u32, depth: i32, number: u64) -> Label<'static> {
+    Label {
+        offset,
+        context: 0,
+        depth,
+        number,
+        entry_count: 0,
+        entries: &[],
+    }
+}
+
+fn put_header(file: &mut Vec<u8>, module: &Shape) -> Result<(), AllocError> {
+    file.extend_from_slice(b"TPM1")?;
+    file.extend_from_slice(&(module.code.len() as u64).to_le_bytes())?;
+    file.extend_from_slice(&module.data_words.to_le_bytes())?;
+    file.extend_from_slice(&module.base.to_le_bytes())?;
+    file.extend_from_slice(&module.budget.to_le_bytes())?;
+    file.extend_from_slice(&[0; 36])?;
+    file.extend_from_slice(&(module.procedures.len().min(512) as u32).to_le_bytes())?;
+    file.extend_from_slice(&u32::from(module.label.is_some()).to_le_bytes())?;
+    file.extend_from_slice(&u32::from(module.par.is_some()).to_le_bytes())
+}
+
+fn put_procedure(file: &mut Vec<u8>, row: &Procedure) -> Result<(), AllocError> {
+    file.extend_from_slice(&row.entry.to_le_bytes())?;
+    file.extend_from_slice(&(-3i32).to_le_bytes())?;
+    file.extend_from_slice(&4i32.to_le_bytes())?;
+    file.extend_from_slice(&row.number.to_le_bytes())?;
+    file.extend_from_slice(&row.parameter_count.to_le_bytes())?;
+    file.extend_from_slice(row.parameters)
+}
+
+fn put_label(file: &mut Vec<u8>, row: &Label) -> Result<(), AllocError> {
+    file.extend_from_slice(&row.offset.to_le_bytes())?;
+    file.extend_from_slice(&row.context.to_le_bytes())?;
+    file.extend_from_slice(&row.depth.to_le_bytes())?;
+    file.extend_from_slice(&row.number.to_le_bytes())?;
+    file.extend_from_slice(&[0; 3])?;
+    file.extend_from_slice(&row.entry_count.to_le_bytes())?;
+    file.extend_from_slice(row.entries)
+}
+
+fn put_par(file: &mut Vec<u8>, row: &Par) -> Result<(), AllocError> {
+    file.extend_from_slice(&[0; 10])?;
+    file.extend_from_slice(&row.successor.to_le_bytes())?;
+    file.extend_from_slice(&[0, 0, 1, 0])?;
+    file.extend_from_slice(&row.entry.to_le_bytes())?;
+    file.extend_from_slice(&[0; 14])
 }
 
 /// The bytes of the module's file.
 fn file(alloc: Global, module: &Shape) -> Result<Vec<u8>, AllocError> {
     let mut file = Vec::new(alloc);
-    file.extend_from_slice(b"TPM1")?;
-    file.extend_from_slice(&(module.code.len() as u64).to_le_bytes())?;
-    file.extend_from_slice(&5u32.to_le_bytes())?;
-    file.extend_from_slice(&module.base.to_le_bytes())?;
-    file.extend_from_slice(&module.budget.to_le_bytes())?;
-    file.extend_from_slice(&[0; 40])?;
-    file.extend_from_slice(&u64::from(module.label.is_some()).to_le_bytes())?;
+    put_header(&mut file, module)?;
     file.extend_from_slice(module.code)?;
-    if let Some(label) = module.label {
-        file.extend_from_slice(&label.offset.to_le_bytes())?;
-        file.extend_from_slice(&[0; 2])?;
-        file.extend_from_slice(&label.depth.to_le_bytes())?;
-        file.extend_from_slice(&label.number.to_le_bytes())?;
-        file.extend_from_slice(&[0; 5])?;
+    for row in module.procedures {
+        put_procedure(&mut file, row)?;
+    }
+    if let Some(row) = &module.label {
+        put_label(&mut file, row)?;
+    }
+    if let Some(row) = &module.par {
+        put_par(&mut file, row)?;
     }
     Ok(file)
 }
@@ -80,16 +156,8 @@ fn check(rt: &impl Abort, alloc: Global, module: &Shape, expected: Option<(u8, u
 
 #[test]
 fn certified_modules_are_accepted(rt: HostRuntime) {
-    let behind = Label {
-        offset: 3,
-        depth: 0,
-        number: 3,
-    };
-    let unreached = Label {
-        offset: 2,
-        depth: 0,
-        number: u64::MAX,
-    };
+    let behind = label_at(3, 0, 3);
+    let unreached = label_at(2, 0, u64::MAX);
     let modules = [
         Shape {
             budget: 7,
@@ -115,13 +183,7 @@ fn certified_modules_are_accepted(rt: HostRuntime) {
 
 #[test]
 fn broken_rules_are_told_where_they_are_broken(rt: HostRuntime) {
-    let label = |offset, depth, number| {
-        Some(Label {
-            offset,
-            depth,
-            number,
-        })
-    };
+    let label = |offset, depth, number| Some(label_at(offset, depth, number));
     let modules = [
         // Not the one spelling of `ldc 5`; no such operation; a prefix at the end.
         (of_code(b"\x20\x45\x21\xf5"), (1, 0)),
@@ -135,8 +197,9 @@ fn broken_rules_are_told_where_they_are_broken(rt: HostRuntime) {
             },
             (2, 1),
         ),
-        // Nothing leads there; falling off the code.
+        // Nothing leads there, and no instruction stands there besides; falling off the code.
         (of_code(b"\x21\xf5\x45"), (3, 2)),
+        (of_code(b"\x21\xf5\x20\x45"), (1, 2)),
         (of_code(b"\x45"), (3, 1)),
         // The label's state has no A, and the number at the label is more than the budget besides.
         (

@@ -343,7 +343,7 @@ impl Reader for Branches {
 }
 
 impl Branches {
-    /// So many branches.
+    /// So many branches. Behind which entry the next row's first one stands is the caller's to set.
     pub fn branches_at<'a>(
         &mut self,
         count: u16,

@@ -1,4 +1,4 @@
-use Rattle.std.proofs.Common.{arith, ◌≡◌}
+use Rattle.std.proofs.Common.{arith}
 use Rattle.std.proofs.lemmas.Int.{ints}
 use Rattle.facts.proofs.Steps.{gives-in_word}
 use Rattle.facts.proofs.combinators.shifted.Goals as goal

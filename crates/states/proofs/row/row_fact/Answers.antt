@@ -1,8 +1,5 @@
-use Rattle.std.proofs.Common.{rules, arith, ◌≡◌, ℤ, ◌∙◌, ◌/◌, length, get_or, ◌≤ℤ◌, ◌<ℤ◌}
-use Rattle.std.proofs.lemmas.Int.{ints, to_z-of_z}
-use Rattle.std.specs.Int.{w32, w64}
-use Rattle.certificate.specs.declared.rows.Entry.{Entry}
-use Rattle.certificate.specs.declared.fact.Fact.TheVariants.{Unknown}
+use Rattle.std.proofs.Common.{arith, ◌∙◌, ◌/◌, length}
+use Rattle.std.proofs.lemmas.Int.{ints}
 use Rattle.states.proofs.RowFacts.{row-back, row-front}
 use Rattle.states.proofs.row.row_fact.Goals as goal
 

@@ -1,4 +1,4 @@
-use Rattle.std.proofs.Common.{rules, arith, ◌≡◌, ℤ, pos, neg_ℤ, ◌-ℤ◌, ◌≤ℤ◌, refl, subst, length, List}
+use Rattle.std.proofs.Common.{rules, arith, refl, subst, length, List}
 use Rattle.std.proofs.lemmas.Int.{ints, clamps}
 use mir.Val.{to_z}
 use Rattle.std.specs.Int.{w32}

@@ -1,12 +1,13 @@
-use Rattle.std.proofs.Common.{rules, arith, ◌≡◌, ◌∙◌, sym, ap, refl, subst, ℕ, ◌+◌, ◌-◌, ◌<◌, ◌≤◌, List, length, Option, Some, None, Ok, Err}
+use Rattle.std.proofs.Common.{arith, ◌≡◌, ◌∙◌, sym, ap, subst, ℕ, ◌+◌, ◌-◌, ◌<◌, ◌≤◌, List, length, Some, None, Ok}
 use Rattle.prefix_decoder.specs.Fetching.{fetched}
 use Rattle.certificate.specs.Contents.{Contents}
 use Rattle.states.specs.State.{State}
 use Rattle.states.specs.Views.{state_of}
-use Rattle.verifier.specs.Judge.{first_label}
-use Rattle.verifier.specs.Judging.{falling_state, AreLeft}
+use Rattle.verifier.specs.Judge.{first_start}
+use Rattle.verifier.specs.Judging.{AreLeft}
 use Rattle.verifier.proofs.Kept.{spans as kept_spans}
-use Rattle.verifier.proofs.Passing.{OnTheWay, start, left-first, left-further, misspelled-is, broken-is, hidden-is, goes-on, told, fallen-off, all-judged}
+use Rattle.verifier.proofs.RowsLeft.{left-further}
+use Rattle.verifier.proofs.Passing.{OnTheWay, start, misspelled-is, broken-is, hidden-is, goes-on, told, fallen-off, all-judged}
 use Rattle.verifier.proofs.pass.pass.Goals as goal
 use Rattle.verifier.proofs.pass.pass.Goals.{After-tables-tables, After-fetch, In-Ok-fetch, In-Ok-judge}
 
@@ -24,9 +25,7 @@ pub loop-at-init : goal.loop-at-init
 loop-at-init c = record {
   inside = omega arith;
   belongs = c.in-Ok.ensures.belongs;
-  left =
-      subst (λ rows. AreLeft c.args.module.now 0 rows) (sym c.as_slice-rows.ensures.value)
-      (left-first c.args.module.now c.tables-tables.result.now.labels.items c.tables-tables.ensures.kept (ap (λ (m : Contents). m.labels) (sym c.tables-tables.ensures.contents)));
+  left = c.of-rows.ensures;
   on_the_way = subst (λ (s : State). OnTheWay c.args.module.now 0 (Some s)) (sym c.in-Ok.ensures.state) (start c.args.module.now);
 }
 
@@ -42,33 +41,31 @@ returns-in-Err-clause-refuses c =
     (broken-is c.args.module.now c.loop-at.at c.in-Err.fault.number _ c.in-Ok-fetch.instr (low (goal.at.returns-in-Err-clause-refuses c).After-fetch) c.loop-at.invariant.on_the_way
     (spelled (goal.at.returns-in-Err-clause-refuses c).In-Ok-fetch) c.in-Err.ensures.judged)
 
--- the label rows behind the offset
-left : (c : In-Ok-judge) → AreLeft c.args.module.now (c.loop-at.at + 1) c.rows_behind-rows.result.now
-left c = c.rows_behind-rows.ensures c.args.module.now c.loop-at.invariant.left
-
--- where the instruction ends
-end_is : (c : In-Ok-judge) → c.loop-at.at + c.in-Ok-fetch.instr.len ≡ c.loop-at.at + 1 + (c.in-Ok-fetch.instr.len - 1)
-end_is c = let some = c.in-Ok-fetch.ensures.length.0 in omega arith
+-- how many bytes of the instruction are behind its first
+behind_first : (c : In-Ok-judge) → c.loop-at.at + c.in-Ok-fetch.instr.len - (c.loop-at.at + 1) ≡ c.in-Ok-fetch.instr.len - 1
+behind_first c = let some = c.in-Ok-fetch.ensures.length.0 in omega arith
 
 pub returns-in-Some-clause-refuses : goal.returns-in-Some-clause-refuses
 returns-in-Some-clause-refuses c =
     told c.args.module.now c.refused-in-Some.result 2 c.in-Some.inside c.refused-in-Some.ensures
     (hidden-is c.args.module.now c.loop-at.at c.in-Some.inside _ _ c.in-Ok-fetch.instr (low (goal.at.returns-in-Some-clause-refuses c).After-fetch) c.loop-at.invariant.on_the_way
     (spelled (goal.at.returns-in-Some-clause-refuses c).In-Ok-fetch) c.in-Ok-judge.ensures.judged
-    (sym (c.in-Some.ensures c.args.module.now (c.loop-at.at + 1) (c.in-Ok-fetch.instr.len - 1) (end_is (goal.at.returns-in-Some-clause-refuses c).In-Ok-judge) (left (goal.at.returns-in-Some-clause-refuses c).In-Ok-judge))))
+    (ap (first_start c.args.module.now (c.loop-at.at + 1)) (sym (behind_first (goal.at.returns-in-Some-clause-refuses c).In-Ok-judge)) ∙ sym c.in-Some.ensures))
 
 pub loop-at-preserved : goal.loop-at-preserved
 loop-at-preserved c =
     let spans = kept_spans c.args.module.now c.tables-tables.ensures.kept in
     let sp = spelled (goal.at.loop-at-preserved c).In-Ok-fetch in
-    let end = end_is (goal.at.loop-at-preserved c).In-Ok-judge in
-    let rows = left (goal.at.loop-at-preserved c).In-Ok-judge in
-    let none : first_label c.args.module.now (c.loop-at.at + 1) (c.in-Ok-fetch.instr.len - 1) ≡ None =
-    sym (c.label_before.ensures c.args.module.now (c.loop-at.at + 1) (c.in-Ok-fetch.instr.len - 1) end rows) ∙ c.in_default-label_before.is in
+    let some = c.in-Ok-fetch.ensures.length.0 in
+    let end : c.loop-at.at + 1 + (c.in-Ok-fetch.instr.len - 1) ≡ c.loop-at.at + c.in-Ok-fetch.instr.len = omega arith in
+    let none : first_start c.args.module.now (c.loop-at.at + 1) (c.in-Ok-fetch.instr.len - 1) ≡ None =
+    ap (first_start c.args.module.now (c.loop-at.at + 1)) (sym (behind_first (goal.at.loop-at-preserved c).In-Ok-judge)) ∙ sym c.start_within.ensures ∙ c.in_default-start_within.is in
     record {
       inside = spans.inside c.loop-at.at c.in-Ok-fetch.instr sp;
       belongs = c.judge.ensures.belongs;
-      left = subst (λ (o : ℕ). AreLeft c.args.module.now o c.rows_behind-rows.result.now) (sym end) (left-further c.args.module.now (c.loop-at.at + 1) (c.in-Ok-fetch.instr.len - 1) c.rows_behind-rows.result.now rows none);
+      left =
+          subst (λ (o : ℕ). AreLeft c.args.module.now o c.take-given.new.self) end
+          (left-further c.args.module.now (c.loop-at.at + 1) (c.in-Ok-fetch.instr.len - 1) c.take-given.new.self (c.take-given.ensures.left c.args.module.now c.loop-at.invariant.left) none);
       on_the_way =
           goes-on c.args.module.now c.loop-at.at _ _ c.in-Ok-fetch.instr spans (low (goal.at.loop-at-preserved c).After-fetch) c.loop-at.invariant.on_the_way sp c.in-Ok-judge.ensures.judged none;
     }

@@ -1,13 +1,13 @@
-use Rattle.std.proofs.Common.{rules, arith, ◌≡◌, ◌∙◌, sym, ap, ℤ, ◌+ℤ◌}
+use Rattle.std.proofs.Common.{rules, ◌≡◌, ◌∙◌, sym, ap, ℤ, ◌+ℤ◌}
 use mir.Val.{to_z, of_z}
-use Rattle.std.proofs.lemmas.Int.{ints, to_z-of_z}
+use Rattle.std.proofs.lemmas.Int.{to_z-of_z}
 use Rattle.std.proofs.lemmas.Result.{err_from_is_err_and}
 use Rattle.std.specs.Int.{w32}
 use Rattle.prefix_decoder.specs.declared.function.Fun.TheVariants.{AddConstant}
 use Rattle.states.specs.Views.{state_of}
 use Rattle.facts.specs.Rules.{rule, goes_on, in_word, with_a}
 use Rattle.facts.specs.Places.{site_of}
-use Rattle.facts.proofs.Steps.{advances-by, with_sum, add_constant-number, add_constant-range, add_constant-after}
+use Rattle.facts.proofs.Steps.{advances-by, with_sum, add_constant-number, add_constant-range}
 use Rattle.facts.proofs.place.Place.add_constant.Goals as goal
 use Rattle.facts.proofs.place.Place.add_constant.Goals.{In_ok-lo}
 

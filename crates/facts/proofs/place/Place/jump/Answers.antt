@@ -1,11 +1,11 @@
-use Rattle.std.proofs.Common.{rules, arith, ◌≡◌, ◌∙◌, sym, ap, refl, subst, ℕ, ℤ, negsuc, ◌+ℤ◌, ◌+◌}
-use Rattle.std.proofs.lemmas.Int.{ints, to_z-of_z}
+use Rattle.std.proofs.Common.{◌∙◌, sym, ap, ℕ}
+use Rattle.std.proofs.lemmas.Int.{to_z-of_z}
 use Rattle.std.proofs.lemmas.Result.{err_from_is_err_and}
 use Rattle.std.specs.Int.{w32}
-use Rattle.states.specs.Views.{state_of, CanWrite}
-use Rattle.facts.specs.Rules.{rule, goes_on, leads_to, schedules, operation_rule, without_registers}
+use Rattle.states.specs.Views.{state_of}
+use Rattle.facts.specs.Rules.{rule, leads_to, without_registers}
 use Rattle.facts.specs.Places.{site_of}
-use Rattle.facts.proofs.Steps.{advances-by, load_constant-done, load_local-own, load_local-after, store_local-own, store_local-after, add_constant-number, add_constant-range, add_constant-after, jump-forward, scheduled, operate-is}
+use Rattle.facts.proofs.Steps.{advances-by, jump-forward}
 use Rattle.facts.proofs.place.Place.jump.Goals as goal
 
 pub returns-in_err-outside_alternation-clause-ruling : goal.returns-in_err-outside_alternation-clause-ruling
@@ -45,3 +45,8 @@ returns-clause-ruling c =
     ∙ (c.in_ok-forward.ensures _ ∙ (c.in_ok-outside_starts.ensures _ ∙ (c.in_ok-schedules.ensures.test _ ∙ (c.in_ok-pays.ensures.test _
     ∙ ap (λ (z : ℕ). leads_to (site_of c.args.self.now) z (without_registers (state_of c.pays.new.state))) (sym c.target.ensures))))))
     c.leads_to.ensures
+
+pub returns-clause-belongs : goal.returns-clause-belongs
+returns-clause-belongs c =
+    let belongs = c.pays.ensures.belongs c.args.self.now.program.now c.schedules.ensures.belongs in
+    record { own = belongs.own; room = λ n k h. record { room = (belongs.room n k h).room } }

@@ -1,11 +1,11 @@
-use Rattle.std.proofs.Common.{rules, arith, ◌≡◌, ◌∙◌, sym, ap, refl, subst, ℕ, ℤ, negsuc, ◌+ℤ◌, ◌+◌}
-use Rattle.std.proofs.lemmas.Int.{ints, to_z-of_z}
+use Rattle.std.proofs.Common.{rules, ◌∙◌, ap}
+use Rattle.std.proofs.lemmas.Int.{to_z-of_z}
 use Rattle.std.proofs.lemmas.Result.{err_from_is_err_and}
 use Rattle.std.specs.Int.{w32}
-use Rattle.states.specs.Views.{state_of, CanWrite}
-use Rattle.facts.specs.Rules.{rule, goes_on, leads_to, schedules, operation_rule, without_registers}
+use Rattle.states.specs.Views.{state_of}
+use Rattle.facts.specs.Rules.{goes_on}
 use Rattle.facts.specs.Places.{site_of}
-use Rattle.facts.proofs.Steps.{advances-by, load_constant-done, load_local-own, load_local-after, store_local-own, store_local-after, add_constant-number, add_constant-range, add_constant-after, jump-forward, scheduled, operate-is}
+use Rattle.facts.proofs.Steps.{advances-by, load_local-own, load_local-after}
 use Rattle.facts.proofs.place.Place.load_local.Goals as goal
 
 pub returns-in_err-word-clause-ruling : goal.returns-in_err-word-clause-ruling
@@ -20,7 +20,7 @@ returns-clause-ruling c =
     advances-by c.goes_on.result (state_of c.goes_on.new.state) _ _
     (load_local-own (site_of c.args.self.now) (state_of c.args.state.now) c.args.distance _ c.in_ok-outside_starts.ensures same
     ∙ (c.in_ok-word.ensures.test _
-    ∙ ap (goes_on (site_of c.args.self.now)) (load_local-after (state_of c.args.state.now) (state_of c.push.new.self) _ _ c.fact_at-fact.result c.loaded.result (fits ∙ c.in_ok-word.ensures.word) c.fact_at-fact.ensures c.loaded.ensures c.push.ensures.state)))
+    ∙ ap (goes_on (site_of c.args.self.now)) (load_local-after (state_of c.args.state.now) (state_of c.push.new.self) _ _ c.fact_at-fact.result c.loaded.result (fits ∙ c.in_ok-word.ensures.word) c.fact_at-fact.ensures.value c.loaded.ensures c.push.ensures.state)))
     c.goes_on.ensures.ruling
 
 pub returns-clause-belongs : goal.returns-clause-belongs

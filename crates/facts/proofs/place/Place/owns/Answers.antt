@@ -1,12 +1,14 @@
-use Rattle.std.proofs.Common.{arith, ◌≡◌, ◌∙◌, sym, ap, cond, ◌+ℤ◌, false}
-use Rattle.std.specs.Prelude.{is_some}
-use Rattle.std.proofs.lemmas.Int.{ints}
-use Rattle.certificate.specs.Contexts.{context_at}
-use Rattle.states.specs.State.{has_word}
-use Rattle.facts.specs.Rules.{Ruling, breaks, owns}
+use Rattle.std.proofs.Common.{rules, arith, ℤ, subst, sym, ◌+ℤ◌}
+use Rattle.std.proofs.lemmas.Int.{ints, to_z-of_z}
+use Rattle.std.specs.Int.{w32}
+use Rattle.states.specs.Views.{CanWrite}
 use Rattle.facts.proofs.Steps.{not-own}
 use Rattle.facts.proofs.place.Place.owns.Goals as goal
 
 pub returns-in-None-clause-test : goal.returns-in-None-clause-test
 returns-in-None-clause-test c = λ k.
     not-own _ _ (c.args.state.now.depth +ℤ c.args.distance) _ k (omega (arith, ints)) (c.in-None.ensures.own c.args.self.now.program.now c.requires)
+
+pub returns-in-Some-clause-room : goal.returns-in-Some-clause-room
+returns-in-Some-clause-room c =
+    subst (λ (z : ℤ). CanWrite c.args.state.now z) (sym (to_z-of_z w32 c.in-Some.word (search rules))) (c.in-Some.ensures.room c.args.self.now.program.now c.requires)

@@ -1,9 +1,11 @@
-use Rattle.std.proofs.Common.{rules, arith, ◌≡◌, ◌∙◌, ◌<◌, ◌^◌, ℕ, ℤ, pos, ◌≤ℤ◌, ◌<ℤ◌, sym, refl}
+use Rattle.std.proofs.Common.{rules, arith, ◌≡◌, ◌∙◌, sym, subst, refl}
 use Rattle.std.proofs.lemmas.Int.{ints, clamps}
 use Rattle.certificate.specs.Order.{least_word}
 use Rattle.states.specs.State.{entry_fact}
 use Rattle.states.specs.Frames.{frame_facts}
-use Rattle.states.proofs.Comparisons.{says-none, says-more, says-all, says-less, ahead-falls}
+use Rattle.states.proofs.Comparisons.{says-none, says-more, says-less, ahead-falls}
+use Rattle.states.specs.Rows.{LoopFits}
+use Rattle.states.proofs.Loops.{loop-at}
 use Rattle.states.proofs.frame.Frame.row_holds.Goals as goal
 
 pub loop-base-init : goal.loop-base-init
@@ -37,3 +39,8 @@ loop-base-preserved c = record {
       c.loop-base.invariant.so_far c.loop-base.invariant.base_same c.loop-base.invariant.wanted_same c.segment_from-here.ensures.fact c.segment_from-there.ensures.fact
       (omega (arith, ints, clamps)) (omega (arith, ints, clamps)) (λ k l h. c.if-not-stretch_holds.ensures.yes refl k l (omega (arith, ints)));
 }
+
+pub stretch_holds-requires : goal.stretch_holds-requires
+stretch_holds-requires c =
+    subst LoopFits (sym (c.loop-base.invariant.base_same _ (omega (arith, ints))) ∙ c.segment_from-here.ensures.fact _ (omega (arith, ints)) c.segment_from-here.ensures.ahead)
+    (loop-at (entry_fact c.args.self.now.row.now) _ c.args.self.now.loops)

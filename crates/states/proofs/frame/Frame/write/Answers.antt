@@ -1,11 +1,12 @@
-use Rattle.std.proofs.Common.{rules, arith, ◌≡◌, ℤ, pos, ◌+ℤ◌, ◌-ℤ◌, nat_abs}
-use Rattle.std.proofs.lemmas.Int.{ints, to_z-of_z}
-use Rattle.std.specs.Int.{w32, w64}
-use Rattle.states.proofs.FrameFacts.{facts_over-write, distance}
+use Rattle.std.proofs.Common.{arith}
+use Rattle.std.proofs.lemmas.Int.{ints}
+use Rattle.states.specs.Frames.{frame_facts}
+use Rattle.states.proofs.FrameFacts.{write-steps}
 use Rattle.states.proofs.frame.Frame.write.Goals as goal
 
 pub returns-clause-facts : goal.returns-clause-facts
 returns-clause-facts c =
-    let apart : c.abs_diff-index.result ≡ nat_abs (c.args.word -ℤ c.args.self.now.lo) = search (rules, arith, ints) in
-    facts_over-write c.args.self.now.lo c.args.word c.args.self.now.row.now c.args.self.now.overlay.written.items c.set.new.self.written.items c.args.fact c.abs_diff-index.result
-    (distance c.args.word c.args.self.now.lo c.abs_diff-index.result c.requires.low apart) c.set.ensures.facts
+    let low = c.args.self.now.low in
+    let high = c.args.self.now.high in
+    write-steps c.args.word _ _ _ c.args.fact (frame_facts c.args.self.now) (frame_facts c.part_index.new.self) (frame_facts c.part_count.new.self) (frame_facts c.place.new.self)
+    (omega (arith, ints, low, high)) (omega (arith, ints, low, high)) (omega (arith, ints, low, high)) c.part_index.ensures.facts c.part_count.ensures.facts c.place.ensures.facts

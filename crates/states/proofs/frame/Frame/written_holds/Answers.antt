@@ -1,6 +1,5 @@
-use Rattle.std.proofs.Common.{rules, arith, ◌≡◌, ◌∙◌, ℕ, ℤ, ◌<◌, pos, ◌+ℤ◌, length, get_or, sym, ap, add-one, true, false, subst, List}
+use Rattle.std.proofs.Common.{rules, arith, length, get_or, true, false, subst, List}
 use Rattle.std.proofs.lemmas.Int.{ints}
-use borrow.Author.Count.{below_more}
 use Rattle.certificate.specs.declared.fact.Fact.TheVariants.{Unknown}
 use Rattle.states.specs.declared.overlay.Written.{Written}
 use Rattle.states.specs.State.{entry_fact}
@@ -13,10 +12,10 @@ word_at-requires c =
     let low = index-low c.args.self.now.overlay.places.items c.args.self.now.overlay.written.items c.loop-written.written-index (record { index = 0; fact = Unknown }) c.args.self.now.overlay.placed (search rules) in
     search (rules, c.deref-written-items.ensures.value)
 
-pub returns-then-not-implies-clause-no : goal.returns-then-not-implies-clause-no
-returns-then-not-implies-clause-no c = λ _.
+pub returns-then-not-says-clause-no : goal.returns-then-not-says-clause-no
+returns-then-not-says-clause-no c = λ _.
     let item = get_or c.deref-written-items.result.now c.loop-written.written-index (record { index = 0; fact = Unknown }) in
-    let less = item-asked (entry_fact c.args.row.now) c.args.self.now.lo _ item.index item.fact c.row_fact.result false (let e = c.word_at.ensures in omega (arith, ints, e)) c.row_fact.ensures c.if-not-implies.ensures in
+    let less = item-asked (entry_fact c.args.row.now) c.args.self.now.lo _ item.index item.fact c.row_fact.result false (let e = c.word_at.ensures in omega (arith, ints, e)) c.row_fact.ensures c.if-not-says.ensures in
     written-less c.args.self.now.overlay.places.items c.args.self.now.overlay.written.items c.args.self.now.row.now c.args.self.now.lo (entry_fact c.args.row.now)
     c.loop-written.written-index (record { index = 0; fact = Unknown }) c.args.self.now.overlay.placed (search rules)
     (rw c.deref-written-items.ensures.value at less)
@@ -25,7 +24,7 @@ pub loop-written-preserved : goal.loop-written-preserved
 loop-written-preserved c =
     items-more c.deref-written-items.result.now c.loop-written.written-index c.args.self.now.lo (entry_fact c.args.row.now) (record { index = 0; fact = Unknown })
     (search rules) c.loop-written.invariant
-    (item-asked (entry_fact c.args.row.now) c.args.self.now.lo _ _ _ c.row_fact.result true (let e = c.word_at.ensures in omega (arith, ints, e)) c.row_fact.ensures c.if-not-implies.ensures)
+    (item-asked (entry_fact c.args.row.now) c.args.self.now.lo _ _ _ c.row_fact.result true (let e = c.word_at.ensures in omega (arith, ints, e)) c.row_fact.ensures c.if-not-says.ensures)
 
 pub returns-clause-yes : goal.returns-clause-yes
 returns-clause-yes c = λ _.

@@ -1,6 +1,6 @@
 use Rattle.states.proofs.Lookups.{lookup-at}
 use Rattle.states.proofs.overlay.Overlay.get.Goals as goal
-use Rattle.std.proofs.Common.{rules, arith, sym, ◌∙◌, ap, Some}
+use Rattle.std.proofs.Common.{rules, sym, ◌∙◌, ap, Some}
 
 pub returns : goal.returns
 returns c =

@@ -1,4 +1,4 @@
-use Rattle.std.proofs.Common.{rules, arith, ◌≡◌, ◌<◌, get_or, length, ◌∙◌}
+use Rattle.std.proofs.Common.{rules, ◌≡◌, ◌<◌, get_or, length, ◌∙◌}
 use Rattle.std.proofs.lemmas.Grind.{get_or_default_zero}
 use Rattle.states.proofs.Lookups.{lookup-outside, lookup-beyond, lookup-other}
 use Rattle.states.proofs.overlay.Overlay.place.Goals as goal

@@ -1,5 +1,4 @@
-use Rattle.std.proofs.Common.{rules, arith, ◌≡◌, ◌<◌, ◌++◌, ◌∷◌, [], length, List, Bool, true, is_ok, sym, ap, ◌∙◌, cond, set, subst, ℕ}
-use Rattle.std.specs.Result.{IsOk}
+use Rattle.std.proofs.Common.{rules, ◌≡◌, ◌++◌, ◌∷◌, [], length, List, true, is_ok, sym, ap, ◌∙◌, set, subst, ℕ}
 use Rattle.states.specs.declared.overlay.Written.{Written}
 use Rattle.states.specs.Lookup.{ArePlaced, lookup}
 use Rattle.states.proofs.Lookups.{ArePlaced-set, lookup-set, ArePlaced-push, lookup-push, room-for-one}

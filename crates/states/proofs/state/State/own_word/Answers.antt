@@ -1,11 +1,11 @@
-use Rattle.std.proofs.Common.{arith, rules, true, false, ◌≡◌, sym, ◌∙◌, ap, subst, Option, Some, Ok}
+use Rattle.std.proofs.Common.{arith, true, ◌≡◌, sym, ◌∙◌, ap, subst, Some}
 use Rattle.std.specs.Prelude.{IfSome, is_some, FitsSigned}
 use Rattle.std.proofs.lemmas.Int.{ints, to_z-of_z}
 use Rattle.std.specs.Int.{w32, w64}
 use Rattle.certificate.specs.Contents.{Contents}
 use Rattle.certificate.specs.Contexts.{context_at}
 use Rattle.states.specs.State.{has_word}
-use Rattle.states.specs.Views.{state_of, BelongsTo, CanWrite}
+use Rattle.states.specs.Views.{BelongsTo, CanWrite}
 use Rattle.states.proofs.RowFacts.{and-both, le-yes, lt-yes}
 use Rattle.states.proofs.States.{room-fits, converted}
 use Rattle.states.proofs.state.State.own_word.Goals as goal

@@ -1,6 +1,6 @@
 use Rattle.std.proofs.Common.{arith}
 use Rattle.std.proofs.lemmas.Int.{ints, to_z-of_z}
-use Rattle.std.specs.Int.{w32, w64}
+use Rattle.std.specs.Int.{w32}
 use Rattle.states.specs.Views.{state_of}
 use Rattle.states.proofs.States.{written-fields}
 use Rattle.states.proofs.state.State.write.Goals as goal

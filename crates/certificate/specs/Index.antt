@@ -1,0 +1,12 @@
+-- What look-ups need beside the tables.
+use Rattle.certificate.specs.declared.index.Index.{Index}
+use Rattle.certificate.specs.Contents.{Contents}
+use Rattle.certificate.specs.Contexts.{branch_count}
+use Rattle.certificate.specs.Starts.{AreStarts}
+use Rattle.certificate.specs.Branches.{ArePlaces, AreNumbers}
+
+-- the index of these contents
+pub record IsIndex (c : Contents) (index : Index) : Type 0 where
+  pub starts : AreStarts index.starts c
+  pub places : ArePlaces c (branch_count c.pars) index.places.items
+  pub numbers : AreNumbers c index.numbers.items

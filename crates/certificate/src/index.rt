@@ -1,0 +1,40 @@
+//! What look-ups need beside the tables.
+
+ghost use Rattle.std.specs.Prelude.{◌≡◌, IfOk};
+ghost use Rattle.certificate.specs.Contents.{contents_of};
+ghost use Rattle.certificate.specs.Keeping.{Keeps};
+ghost use Rattle.certificate.specs.Index.{IsIndex};
+
+use crate::marks::Marks;
+use crate::places::{Place, numbers_of, places_of};
+use crate::starts::starts_of;
+use crate::tables::Tables;
+use std::alloc::{AllocError, Global};
+
+/// Tables that are made once, so that each look-up is short.
+#[derive(Debug, Drop)]
+pub(crate) struct Index {
+    /// Where instructions start.
+    pub starts: Marks,
+    /// Where the rows of branches stand, in the order of their contexts.
+    pub places: Vec<Place>,
+    /// At each code offset the context of the branch that begins there, or 0, up to the last branch.
+    pub numbers: Vec<u32>,
+}
+
+impl Index {
+    /// The index of tables. It takes time and memory linear in the code and the rows.
+    pub(crate) fn new(alloc: Global, tables: &Tables) -> Result<Index, AllocError>
+        requires { Keeps (contents_of tables.now) }
+        ensures { IfOk result (IsIndex (contents_of tables.now)) }
+    {
+        let starts = starts_of(alloc, tables)?;
+        let places = places_of(alloc, tables)?;
+        let numbers = numbers_of(alloc, tables, &places)?;
+        Ok(Index {
+            starts,
+            places,
+            numbers,
+        })
+    }
+}

@@ -1,0 +1,176 @@
+//! What a context may do with the words of its frame and with channels.
+
+ghost use Rattle.std.specs.Prelude.{◌≡◌};
+ghost use Rattle.std.specs.List.{list_any};
+ghost use Rattle.certificate.specs.Order.{InOrder, least_word};
+ghost use Rattle.certificate.specs.Pars.{IntervalKeeps, behind_interval, ChannelKeeps, behind_channel, key_of};
+ghost use Rattle.certificate.specs.Rights.{is_among, listed_length, gives_link, gives_element, gives_parameter, is_same_end};
+
+use crate::modules::Module;
+use crate::rows::{ChannelRow, Direction, EndKind, EndRow, Interval, Parameter, ParameterKind};
+use bitflags::Flags;
+
+/// Whether a word is one of the intervals', which rise.
+fn is_among(intervals: &[Interval], word: i64) -> bool
+    requires { InOrder IntervalKeeps behind_interval least_word intervals.now }
+    ensures { result ≡ is_among intervals.now word }
+{
+    let first = intervals.partition_point(|interval| i64::from(interval.hi) <= word);
+    match intervals.get(first) {
+        Some(interval) => i64::from(interval.lo) <= word,
+        None => false,
+    }
+}
+
+/// The length that channels, which rise, give the one in a word.
+fn listed_length(channels: &[ChannelRow], word: i32) -> Option<u32>
+    requires { InOrder ChannelKeeps behind_channel least_word channels.now }
+    ensures { result ≡ listed_length channels.now word }
+{
+    let index = channels.partition_point(|channel| channel.word < word);
+    let channel = channels.get(index)?;
+    if channel.word != word {
+        return None;
+    }
+    Some(channel.length)
+}
+
+/// Whether links with these lengths give the root an end.
+fn gives_link(lengths: &[u32; 8], end: &EndRow) -> bool
+    ensures { result ≡ gives_link lengths.now end.now.kind end.now.direction }
+{
+    let EndKind::Link(link) = end.kind else {
+        return false;
+    };
+    let goes_there = match end.direction {
+        Direction::Out => link < 4,
+        Direction::In => link > 3,
+    };
+    if !goes_there || link > 7 {
+        return false;
+    }
+    lengths[usize::from(link)] > 0
+}
+
+/// Whether channels have one with this number, and their ends in this direction.
+fn gives_element(kind: &ParameterKind, element: u32, direction: Direction) -> bool
+    ensures { result ≡ gives_element kind.now element direction }
+{
+    match kind {
+        ParameterKind::Channels { count, ends, .. } => {
+            let wanted = match direction {
+                Direction::In => 1,
+                Direction::Out => 2,
+            };
+            element < *count && ends.bits() & wanted > 0
+        }
+        _ => false,
+    }
+}
+
+/// Whether parameters give a procedure an end.
+fn gives_parameter(parameters: &[Parameter], end: &EndRow) -> bool
+    ensures { result ≡ gives_parameter parameters.now end.now.kind end.now.direction }
+{
+    let EndKind::Parameter { number, element } = end.kind else {
+        return false;
+    };
+    if number < 0 {
+        return false;
+    }
+    match parameters.get(number as usize) {
+        Some(parameter) => gives_element(&parameter.kind, element, end.direction),
+        None => false,
+    }
+}
+
+/// Whether an end is among others.
+fn lists_end(others: &[EndRow], end: &EndRow) -> bool
+    ensures { result ≡ list_any (λ other. is_same_end (key_of other) (key_of end.now)) others.now }
+{
+    let key = end.key();
+    others.iter().any(|other| other.key().is_same(&key))
+}
+
+impl Module<'_> {
+    ghost use Rattle.std.specs.Prelude.{◌≡◌};
+    ghost use Rattle.certificate.specs.Contexts.{context_at};
+    ghost use Rattle.certificate.specs.Rights.{has_word, may_write_word, may_read_word, channel_length, has_end};
+
+    /// Whether a word is one of a context's frame.
+    fn has_word(&self, context: u16, word: i64) -> bool
+        ensures { result ≡ has_word (context_at self.now context) word }
+    {
+        match self.context(context) {
+            Some(frame) => frame.lo <= word && word < frame.hi,
+            None => false,
+        }
+    }
+
+    /// Whether a context may write a word of its frame: the root and the procedures each, a branch those
+    /// that its row names. It takes time logarithmic in the intervals of the row.
+    pub fn may_write_word(&self, context: u16, word: i64) -> bool
+        ensures { result ≡ may_write_word self.now context word }
+    {
+        if !self.has_word(context, word) {
+            return false;
+        }
+        match self.branch(context) {
+            Some((_row, branch)) => is_among(&branch.writes, word),
+            None => true,
+        }
+    }
+
+    /// Whether a context may read a word of its frame: the root and the procedures each, a branch those
+    /// that its row lets it write or read. It takes time logarithmic in the intervals of the row.
+    pub fn may_read_word(&self, context: u16, word: i64) -> bool
+        ensures { result ≡ may_read_word self.now context word }
+    {
+        if !self.has_word(context, word) {
+            return false;
+        }
+        match self.branch(context) {
+            Some((_row, branch)) => {
+                is_among(&branch.writes, word) || is_among(&branch.reads, word)
+            }
+            None => true,
+        }
+    }
+
+    /// The bytes of the messages of the channel in a frame word: what the nearest PAR row says that lists
+    /// the word, of those around the context. It takes time logarithmic in the channels of each.
+    pub fn channel_length(&self, context: u16, word: i32) -> Option<u32>
+        ensures { result ≡ channel_length self.now context word }
+    {
+        let mut number = context;
+        for _ in 0..self.tables().pars.len() {
+            let (row, _branch) = self.branch(number)?;
+            if let Some(length) = listed_length(&row.channels, word) {
+                return Some(length);
+            }
+            number = row.context;
+        }
+        None
+    }
+
+    /// Whether a context has an end of a channel: the root those of the links that have a length, a
+    /// procedure those that its parameters bring, and a branch those that its row lists. For a branch it
+    /// takes time linear in these.
+    pub fn has_end(&self, context: u16, end: EndRow) -> bool
+        ensures { result ≡ has_end self.now context end }
+    {
+        if self.context(context).is_none() {
+            return false;
+        }
+        match self.branch(context) {
+            Some((_row, branch)) => lists_end(&branch.ends, &end),
+            None => {
+                if context == 0 {
+                    gives_link(&self.tables().lengths, &end)
+                } else {
+                    gives_parameter(self.parameters(context), &end)
+                }
+            }
+        }
+    }
+}

@@ -1,0 +1,352 @@
+-- What a state that is below a label knows: what the label says, in the activation in which the label's loops are under way.
+use Rattle.std.proofs.Common.{FitsSigned, ◌≡◌, ℕ, zero, suc, ◌≤◌, ◌<◌, ◌<ℤ◌, ℤ, pos, ◌+ℤ◌, ◌-ℤ◌, ◌≤ℤ◌, Bool, true, false, cond, if◌then◌else◌, inl, inr, List, [], ◌∷◌, length, Option, Some, None, Result, Ok, Err, refl, sym, ap, ◌∙◌, subst, arith, ltb, eqb}
+use Rattle.std.proofs.lemmas.Bool.Decides.{leb_tells, eqb_tells, nat_tests}
+use Rattle.std.proofs.lemmas.Int.{ints}
+use Rattle.std.specs.Prelude.{int_le, int_lt, ◌==◌}
+use Rattle.std.specs.List.{list_all}
+use Rattle.std.specs.Int.{w32}
+use Rattle.certificate.specs.declared.fact.Fact.{Fact}
+use Rattle.certificate.specs.declared.fact.Fact.TheVariants.{Unknown, Number, Pointer, CodeAddress, Loop, ReturnAddress}
+use Rattle.certificate.specs.declared.fact.Step.{Step}
+use Rattle.certificate.specs.declared.fact.Step.TheVariants.{Byte, Word}
+use Rattle.certificate.specs.declared.rows.Entry.{Entry}
+use Rattle.certificate.specs.Order.{least_word}
+use Rattle.certificate.specs.Facts.{end_of, IsLoop}
+use Rattle.certificate.specs.Contents.{Contents, Label, label_at}
+use Rattle.certificate.specs.Contexts.{context_at}
+use Rattle.machine_state.specs.declared.process.Mode as machine
+use Rattle.machine_state.specs.Holding.{Holding}
+use Rattle.machine_state.specs.LocalStep.{Local}
+use Rattle.states.specs.declared.known.Mode as states
+use Rattle.states.specs.declared.known.Mode.TheVariants as states_modes
+use Rattle.states.specs.declared.known.WordFact.{WordFact}
+use Rattle.states.specs.declared.known.WordFact.TheVariants.{Alone, Index, Count}
+use Rattle.states.specs.State.{State, Facts, label_state, is_word, is_about, by_itself, is_alone, said_of, entry_fact, has_word}
+use Rattle.states.specs.Below.{below, agrees, implies, step_implies, is_constant, is_same_loop, says, words_say, entries_hold, are_alike, is_whole, is_plain, cost}
+use Rattle.states.specs.Rows.{IsRowOf, LoopFits, rise_from}
+use Rattle.facts.specs.Meaning.{Activation, with_turns, Means, says_nothing, is_number, is_pointer, is_code_address, is_return_address, word_of, region_start, code_address, IsOffset, MeansWord, is_fact, is_index, is_count, frame_word, HasFrame, SameMode, both_plain, turns_from, label_turns, at_label, IsSpan, ArePairs, IsWellFormed}
+use Rattle.states.proofs.RowFacts.{and-parts, le-from, lt-from, rise-parts, about-within, about-behind}
+use Rattle.facts.specs.Fitting.{After}
+use Rattle.facts.proofs.Words.{bool_cases, means_same, word_test, int_le_tells, itself_means}
+
+same_number : (m n : ℕ) → eqb m n ≡ true → m ≡ n
+same_number m n h = elim (eqb_tells m n) [ inl p ↦ p.1 | inr p ↦ let no' : true ≡ false = sym h ∙ p.0 in absurd (cc) ]
+
+same_word : (j k : ℤ) → is_word j k ≡ true → j ≡ k
+same_word j k h = elim (word_test j k) [ inl p ↦ p.1 | inr p ↦ let no' : true ≡ false = sym h ∙ p.0 in absurd (cc) ]
+
+-- ---- facts of one value
+
+module _ (m : Contents) (act : Activation) where
+  -- a multiple of four is any offset too
+  step_means : (step stride : Step) (offset : ℤ) → step_implies step stride ≡ true → IsOffset step offset → IsOffset stride offset
+  step_means step Byte offset t stepped = tt
+  step_means Byte Word offset t stepped = absurd (cc)
+  step_means Word Word offset t stepped = stepped
+
+  pub implies_means : (f g : Fact) (v : Option ℤ) → implies f g ≡ true → Means m act f v → Means m act g v
+  implies_means f Unknown v t means = says_nothing
+  implies_means (Number lo hi) (Number low high) None t means = elim means [ ]
+  implies_means (Number lo hi) (Number low high) (Some a) t (is_number p q fits) =
+      let both = and-parts (int_le low lo) (int_le hi high) t in
+      is_number (omega (arith, ints, le-from low lo both.0)) (omega (arith, ints, le-from hi high both.1)) fits
+  implies_means (Pointer region lo hi step) (Pointer other low high stride) None t means = elim means [ ]
+  implies_means (Pointer region lo hi step) (Pointer other low high stride) (Some a) t (is_pointer offset p q stepped is) =
+      let all = and-parts _ _ t in
+      let first = and-parts _ _ all.0 in
+      let range = and-parts (int_le low lo) (int_le hi high) first.1 in
+      is_pointer offset (omega (arith, ints, le-from low lo range.0)) (omega (arith, ints, le-from hi high range.1)) (step_means step stride offset all.1 stepped)
+      (is ∙ ap (λ (r : ℕ). word_of (region_start m act r +ℤ offset)) (same_number region other first.0))
+  implies_means (CodeAddress offset) (CodeAddress other) None t means = elim means [ ]
+  implies_means (CodeAddress offset) (CodeAddress other) (Some a) t (is_code_address is) =
+      is_code_address (is ∙ ap (λ (o : ℕ). word_of (pos (code_address m o))) (same_number offset other t))
+  implies_means ReturnAddress ReturnAddress v t means = means
+  implies_means f g v t means = absurd (cc)
+
+  -- a fact alone says nothing of turns
+  pub other_turns : (turns : ℤ → ℕ) (f : Fact) (v : Option ℤ) → Means m act f v → Means m (with_turns turns act) f v
+  other_turns turns Unknown v means = says_nothing
+  other_turns turns (Number lo hi) v (is_number low high fits) = is_number low high fits
+  other_turns turns (Pointer region lo hi step) v (is_pointer offset low high stepped is) = is_pointer offset low high stepped is
+  other_turns turns (CodeAddress offset) v (is_code_address is) = is_code_address is
+  other_turns turns (Loop base count weight) v means = elim means [ ]
+  other_turns turns ReturnAddress v (is_return_address is) = is_return_address is
+
+-- ---- facts of words
+
+same_loop : (base other : ℤ) (count turns weight price : ℕ) → is_same_loop base count weight other turns price ≡ true → (base ≡ other) × (count ≡ turns) × (weight ≡ price)
+same_loop base other count turns weight price t =
+    let all = and-parts _ _ t in
+    let first = and-parts _ _ all.0 in
+    (same_word base other first.0, same_number count turns first.1, same_number weight price all.1)
+
+-- a number that is exactly this one
+constant_means : (m : Contents) (act : Activation) (f : Fact) (v : Option ℤ) (number : ℤ) → is_constant f number ≡ true → Means m act f v → (FitsSigned w32 number) × (v ≡ Some number)
+constant_means m act (Number lo hi) None number t means = elim means [ ]
+constant_means m act (Number lo hi) (Some x) number t (is_number low high fits) =
+    let both = and-parts (is_word lo number) (is_word hi number) t in
+    let first = same_word lo number both.0 in
+    let last = same_word hi number both.1 in
+    let is : x ≡ number = omega (arith, ints) in
+    (subst (λ (z : ℤ). FitsSigned w32 z) is fits, ap (λ (z : ℤ). Some z) is)
+constant_means m act f v number t means = absurd (cc)
+
+module _ (m : Contents) (act : Activation) (turns : ℤ → ℕ) (k : ℤ) (v : Option ℤ) where
+  -- each kind of word that a label may have: a fact alone
+  alone_means : (said : WordFact) (wanted : Fact) → implies (by_itself said) wanted ≡ true → MeansWord m act k said v → MeansWord m (with_turns turns act) k (Alone wanted) v
+  alone_means said wanted t means = is_fact (other_turns m act turns wanted v (implies_means m act (by_itself said) wanted v t (itself_means m act k said v means)))
+
+  -- the index of a loop
+  index_means : (said : WordFact) (base : ℤ) (count weight : ℕ) → says said (Index base count weight) ≡ true → IsLoop base count weight → turns k ≡ turns_from said (Index base count weight) (act.turns k)
+      → MeansWord m act k said v → MeansWord m (with_turns turns act) k (Index base count weight) v
+  index_means (Alone fact) base count weight t loop left (is_fact means) =
+      let constant = constant_means m act fact v base t means in
+      let some : 1 ≤ count = loop.some in
+      subst (λ (x : Option ℤ). MeansWord m (with_turns turns act) k (Index base count weight) x) (sym constant.1)
+      (is_index (omega arith) (omega arith) (omega (arith, ints)) constant.0)
+  index_means (Index other n w) base count weight t loop left means = under_way v means
+    where
+      under_way : (u : Option ℤ) → MeansWord m act k (Index other n w) u → MeansWord m (with_turns turns act) k (Index base count weight) u
+      under_way None known = elim known [ ]
+      under_way (Some x) (is_index some most is fits) =
+          let same = same_loop other base n count w weight t in
+          let first : other ≡ base = same.0 in
+          let number : n ≡ count = same.1 in
+          is_index (omega arith) (omega arith) (omega (arith, ints)) fits
+  index_means (Count other n w) base count weight t loop left means = absurd (cc)
+
+  -- the count of a loop whose index is in the word before
+  count_means : (said first : WordFact) (base : ℤ) (count weight : ℕ) → says said (Count base count weight) ≡ true → says first (Index base count weight) ≡ true → are_alike (is_alone first) (is_alone said) ≡ true
+      → IsLoop base count weight → turns (k -ℤ pos 1) ≡ turns_from first (Index base count weight) (act.turns (k -ℤ pos 1)) → MeansWord m act k said v → MeansWord m (with_turns turns act) k (Count base count weight) v
+  count_means (Alone fact) (Alone one) base count weight t u alike loop left (is_fact means) =
+      let constant = constant_means m act fact v (pos count) t means in
+      let some : 1 ≤ count = loop.some in
+      subst (λ (x : Option ℤ). MeansWord m (with_turns turns act) k (Count base count weight) x) (sym constant.1)
+      (is_count (omega arith) (omega arith) (ap (λ (n : ℕ). pos n) (sym left)) constant.0)
+  count_means (Count other n w) (Index index number price) base count weight t u alike loop left means = under_way v means
+    where
+      under_way : (u : Option ℤ) → MeansWord m act k (Count other n w) u → MeansWord m (with_turns turns act) k (Count base count weight) u
+      under_way None known = elim known [ ]
+      under_way (Some x) (is_count some most is fits) =
+          let same = same_loop other base n count w weight t in
+          let all : n ≡ count = same.1 in
+          is_count (omega arith) (omega arith) (is ∙ ap (λ (c : ℕ). pos c) (sym left)) fits
+  count_means said first base count weight t u alike loop left means = absurd (cc)
+
+-- ---- entries
+
+-- the first word of an entry
+first_word : (word k : ℤ) (more : ℕ) → k ≡ word +ℤ pos more → (more == 0) ≡ is_word word k
+first_word word k zero e = elim (word_test word k) [ inl p ↦ sym p.0 | inr p ↦ absurd (p.1 (omega (arith, ints))) ]
+first_word word k (suc more) e =
+    let later : eqb (suc more) 0 ≡ false = grind (arith, nat_tests) in
+    elim (word_test word k) [ inl p ↦ let same : word ≡ k = p.1 in absurd (omega (arith, ints)) | inr p ↦ later ∙ sym p.0 ]
+
+-- each word that an entry is about
+words_said : (facts : Facts) (entry : Entry) (k : ℤ) (span : ℕ) → words_say facts entry span ≡ true → entry.word ≤ℤ k → k <ℤ (entry.word +ℤ pos span) → says (facts k) (said_of entry.fact (is_word entry.word k)) ≡ true
+words_said facts entry k zero t low high = absurd (omega (arith, ints))
+words_said facts entry k (suc more) t low high =
+    let both = and-parts _ _ t in
+    elim (word_test k (entry.word +ℤ pos more)) [
+      | inl e ↦
+          ap (λ (j : ℤ). says (facts j) (said_of entry.fact (is_word entry.word k))) e.1
+          ∙ ap (λ (b : Bool). says (facts (entry.word +ℤ pos more)) (said_of entry.fact b)) (sym (first_word entry.word k more e.1)) ∙ both.0
+      | inr e ↦ words_said facts entry k more both.1 low (below_last k entry.word more high e.1)
+    ]
+  where
+    below_last : (k word : ℤ) (more : ℕ) → k <ℤ (word +ℤ pos (suc more)) → (k ≡ word +ℤ pos more → ⊥) → k <ℤ (word +ℤ pos more)
+    below_last k word more high differ = elim (int_le_tells (word +ℤ pos more) k) [
+      | inl p ↦ absurd (differ (omega (arith, ints, p.1)))
+      | inr p ↦ p.1
+    ]
+
+entry_here : (entry : Entry) (entries : List Entry) (k : ℤ) → is_about entry k ≡ true → entry_fact (entry ∷ entries) k ≡ said_of entry.fact (is_word entry.word k)
+entry_here entry entries k e = ap (λ (b : Bool). cond b (said_of entry.fact (is_word entry.word k)) (entry_fact entries k)) e
+
+entry_later : (entry : Entry) (entries : List Entry) (k : ℤ) → is_about entry k ≡ false → entry_fact (entry ∷ entries) k ≡ entry_fact entries k
+entry_later entry entries k e = ap (λ (b : Bool). cond b (said_of entry.fact (is_word entry.word k)) (entry_fact entries k)) e
+
+-- what is known says of each word what the entries say
+entries_said : (facts : Facts) (entries : List Entry) (k : ℤ) → entries_hold facts entries ≡ true → says (facts k) (entry_fact entries k) ≡ true
+entries_said facts [] k t = refl
+entries_said facts (entry ∷ entries) k t =
+    let both = and-parts (words_say facts entry entry.span) (entries_hold facts entries) t in
+    elim (bool_cases (is_about entry k)) [
+      | inl e ↦
+          let place = and-parts _ _ e in
+          ap (says (facts k)) (entry_here entry entries k e) ∙ words_said facts entry k entry.span both.0 (le-from entry.word k place.0) (lt-from k (entry.word +ℤ pos entry.span) place.1)
+      | inr e ↦ ap (says (facts k)) (entry_later entry entries k e) ∙ entries_said facts entries k both.1
+    ]
+
+-- what rises behind a word says nothing of words before
+index_behind : (low : ℤ) (entries : List Entry) (k base : ℤ) (count weight : ℕ) → rise_from low entries ≡ true → entry_fact entries k ≡ Index base count weight → low ≤ℤ k
+index_behind low [] k base count weight rise h = absurd (cc)
+index_behind low (entry ∷ entries) k base count weight rise h =
+    let parts = rise-parts low entry entries rise in
+    let below : low ≤ℤ entry.word = parts.0 in
+    elim (bool_cases (is_about entry k)) [
+      | inl e ↦
+          let place = and-parts (int_le entry.word k) (int_lt k (entry.word +ℤ pos entry.span)) e in
+          let here : entry.word ≤ℤ k = le-from entry.word k place.0 in
+          omega (arith, ints)
+      | inr e ↦
+          let behind : end_of entry ≤ℤ k = index_behind (end_of entry) entries k base count weight parts.1 (sym (entry_later entry entries k e) ∙ h) in
+          omega (arith, ints)
+    ]
+
+-- only the second word of a loop's entry is a count
+count_of : (fact : Fact) (first : Bool) (base : ℤ) (count weight : ℕ) → said_of fact first ≡ Count base count weight → (fact ≡ Loop base count weight) × (first ≡ false)
+count_of (Loop b n w) false base count weight h =
+    let one : b ≡ base = cc in
+    let two : n ≡ count = cc in
+    let three : w ≡ weight = cc in
+    (cc, refl)
+count_of (Loop b n w) true base count weight h = absurd (cc)
+count_of Unknown first base count weight h = absurd (cc)
+count_of (Number lo hi) first base count weight h = absurd (cc)
+count_of (Pointer region lo hi step) first base count weight h = absurd (cc)
+count_of (CodeAddress offset) first base count weight h = absurd (cc)
+count_of ReturnAddress first base count weight h = absurd (cc)
+
+-- the word before the count of a loop
+record HasIndex (facts : Facts) (entries : List Entry) (k base : ℤ) (count weight : ℕ) : Type 0 where
+  index : entry_fact entries (k -ℤ pos 1) ≡ Index base count weight
+  alike : are_alike (is_alone (facts (k -ℤ pos 1))) (is_alone (facts k)) ≡ true
+
+count_behind_index : (facts : Facts) (low : ℤ) (entries : List Entry) (k base : ℤ) (count weight : ℕ) → rise_from low entries ≡ true → ArePairs entries → list_all (is_whole facts) entries ≡ true
+    → entry_fact entries k ≡ Count base count weight → HasIndex facts entries k base count weight
+count_behind_index facts low [] k base count weight rise pairs whole h = absurd (cc)
+count_behind_index facts low (entry ∷ entries) k base count weight rise pairs whole h =
+    let both = and-parts (is_whole facts entry) (list_all (is_whole facts) entries) whole in
+    let parts = rise-parts low entry entries rise in
+    elim (bool_cases (is_about entry k)) [
+      | inl e ↦ here e (count_of entry.fact (is_word entry.word k) base count weight (sym (entry_here entry entries k e) ∙ h)) both.0
+      | inr e ↦
+          let later = count_behind_index facts (end_of entry) entries k base count weight parts.1 pairs.1 both.1 (sym (entry_later entry entries k e) ∙ h) in
+          let behind : end_of entry ≤ℤ (k -ℤ pos 1) = index_behind (end_of entry) entries (k -ℤ pos 1) base count weight parts.1 later.index in
+          record { index = entry_later entry entries (k -ℤ pos 1) (about-behind entry (k -ℤ pos 1) behind) ∙ later.index; alike = later.alike }
+    ]
+  where
+    here : is_about entry k ≡ true → (entry.fact ≡ Loop base count weight) × (is_word entry.word k ≡ false) → is_whole facts entry ≡ true → HasIndex facts (entry ∷ entries) k base count weight
+    here e loop alike =
+        let place = and-parts (int_le entry.word k) (int_lt k (entry.word +ℤ pos entry.span)) e in
+        let low' : entry.word ≤ℤ k = le-from entry.word k place.0 in
+        let high : k <ℤ (entry.word +ℤ pos entry.span) = lt-from k (entry.word +ℤ pos entry.span) place.1 in
+        let two : entry.span ≡ 2 = subst (λ (f : Fact). IsSpan entry.span f) loop.0 pairs.0 in
+        elim (word_test entry.word k) [
+          | inl p ↦ let no' : true ≡ false = sym p.0 ∙ loop.1 in absurd (cc)
+          | inr p ↦
+              let second : k ≡ entry.word +ℤ pos 1 = next low' high two p.1 in
+              let first : k -ℤ pos 1 ≡ entry.word = omega (arith, ints) in
+              record {
+                index =
+                    entry_here entry entries (k -ℤ pos 1) (about-within entry (k -ℤ pos 1) (omega (arith, ints)) (omega (arith, ints)))
+                    ∙ ap (λ (f : Fact). said_of f (is_word entry.word (k -ℤ pos 1))) loop.0
+                    ∙ ap (λ (b : Bool). said_of (Loop base count weight) b) (is_same first);
+                alike =
+                    ap (λ (j : ℤ). are_alike (is_alone (facts j)) (is_alone (facts k))) first
+                    ∙ ap (λ (j : ℤ). are_alike (is_alone (facts entry.word)) (is_alone (facts j))) second
+                    ∙ subst (λ (f : Fact). (elim f as (λ f. Bool) [ Loop b n w ↦ are_alike (is_alone (facts entry.word)) (is_alone (facts (entry.word +ℤ pos 1))) | _ ↦ true ]) ≡ true) loop.0 alike;
+              }
+        ]
+      where
+        next : entry.word ≤ℤ k → k <ℤ (entry.word +ℤ pos entry.span) → entry.span ≡ 2 → (entry.word ≡ k → ⊥) → k ≡ entry.word +ℤ pos 1
+        next low high two differ = elim (int_le_tells k entry.word) [
+          | inl p ↦ absurd (differ (omega (arith, ints, p.1)))
+          | inr p ↦ let above : entry.word <ℤ k = p.1 in omega (arith, ints)
+        ]
+
+        is_same : k -ℤ pos 1 ≡ entry.word → is_word entry.word (k -ℤ pos 1) ≡ true
+        is_same first = elim (word_test entry.word (k -ℤ pos 1)) [ inl p ↦ p.0 | inr p ↦ absurd (p.1 (sym first)) ]
+
+-- ---- labels
+
+-- each word as the label has it, where its loops have the turns that the label leaves
+label_words : (m : Contents) (act : Activation) (facts : Facts) (t : Label) (k : ℤ) (v : Option ℤ) → IsRowOf m t → ArePairs t.entries → entries_hold facts t.entries ≡ true → list_all (is_whole facts) t.entries ≡ true
+    → MeansWord m act k (facts k) v → MeansWord m (with_turns (label_turns facts t.entries act.turns) act) k (entry_fact t.entries k) v
+label_words m act facts t k v row pairs hold whole means = on_fact (entry_fact t.entries k) refl
+  where
+    turns : ℤ → ℕ
+    turns = label_turns facts t.entries act.turns
+
+    on_fact : (f : WordFact) → entry_fact t.entries k ≡ f → MeansWord m (with_turns turns act) k (entry_fact t.entries k) v
+    on_fact (Alone wanted) e =
+        means_same (alone_means m act turns k v (facts k) wanted (ap (says (facts k)) (sym e) ∙ entries_said facts t.entries k hold) means) (sym e) refl
+    on_fact (Index base count weight) e =
+        means_same
+        (index_means m act turns k v (facts k) base count weight (ap (says (facts k)) (sym e) ∙ entries_said facts t.entries k hold) (subst LoopFits e (row.loops k))
+        (ap (λ (f : WordFact). turns_from (facts k) f (act.turns k)) e) means) (sym e) refl
+    on_fact (Count base count weight) e =
+        let before = count_behind_index facts least_word t.entries k base count weight row.apart pairs whole e in
+        let j = k -ℤ pos 1 in
+        means_same
+        (count_means m act turns k v (facts k) (facts j) base count weight (ap (says (facts k)) (sym e) ∙ entries_said facts t.entries k hold) (ap (says (facts j)) (sym before.index) ∙ entries_said facts t.entries j hold)
+        before.alike (subst LoopFits e (row.loops k)) (ap (λ (f : WordFact). turns_from (facts j) f (act.turns j)) before.index) means) (sym e) refl
+
+-- what a state that is below a label has
+pub record IsBelow (s : State) (t : Label) : Type 0 where
+  pub context : s.context ≡ t.context
+  pub depth : s.depth ≡ t.depth
+  pub plain : is_plain s.mode ≡ true
+  pub a : implies s.a.fact t.a ≡ true
+  pub b : implies s.b.fact t.b ≡ true
+  pub c : implies s.c.fact t.c ≡ true
+  pub entries : entries_hold s.frame t.entries ≡ true
+  pub whole : list_all (is_whole s.frame) t.entries ≡ true
+
+agrees_tells : (s : State) (t : Label) → agrees s t ≡ true → IsBelow s t
+agrees_tells s t e =
+    let p = and-parts _ _ e in
+    let q = and-parts _ _ p.0 in
+    let r = and-parts _ _ q.0 in
+    let u = and-parts _ _ r.0 in
+    let v = and-parts _ _ u.0 in
+    let w = and-parts _ _ v.0 in
+    let x = and-parts _ _ w.0 in
+    record {
+      context = same_number s.context t.context x.0;
+      depth = same_word s.depth t.depth x.1;
+      plain = w.1;
+      a = v.1;
+      b = u.1;
+      c = r.1;
+      entries = q.1;
+      whole = p.1;
+    }
+
+pub below_tells : (s : State) (t : Label) (price : ℕ) → below s t ≡ Ok price → (t.number ≤ s.number) × IsBelow s t
+unfolding below
+below_tells s t price h = first (ltb s.number (cost s t)) refl h
+  where
+    not_below : (m n : ℕ) → ltb m n ≡ false → n ≤ m
+    not_below m n e = elim (leb_tells (suc m) n) [ inl p ↦ let no' : true ≡ false = sym p.0 ∙ e in absurd (cc) | inr p ↦ let high : n < suc m = p.1 in omega arith ]
+
+    second : (b : Bool) → agrees s t ≡ b → ◌≡◌ {A = Result ℕ ℕ} (if b then Ok (cost s t) else Err 16) (Ok price) → IsBelow s t
+    second true e g = agrees_tells s t e
+    second false e g = absurd (cc)
+
+    first : (b : Bool) → ltb s.number (cost s t) ≡ b → ◌≡◌ {A = Result ℕ ℕ} (if b then Err 15 else (if agrees s t then Ok (cost s t) else Err 16)) (Ok price) → (t.number ≤ s.number) × IsBelow s t
+    first true e g = absurd (cc)
+    first false e g = let paid : cost s t ≤ s.number = not_below s.number (cost s t) e in (omega arith, second (agrees s t) refl g)
+
+-- what holds behind an instruction holds as the label's state, where the state is below the label
+pub label_after : (m : Contents) (h : Holding) (mode : machine.Mode) (act : Activation) (s : State) (t : Label) (l : Local) → IsWellFormed m → (at : ℕ) → label_at m at ≡ Some t → IsBelow s t
+    → After m h mode act s l → After m h mode (at_label s t act) (label_state t) l
+label_after m h mode act s t l wf at e g a = record {
+  frame = subst (λ d. HasFrame h (length l.memory) (has_word (context_at m t.context)) act.origin d l.registers.workspace) g.depth
+      (subst (λ c. HasFrame h (length l.memory) (has_word (context_at m c)) act.origin s.depth l.registers.workspace) g.context a.frame);
+  knows = record {
+    a = register s.a.fact t.a l.registers.a g.a a.knows.a;
+    b = register s.b.fact t.b l.registers.b g.b a.knows.b;
+    c = register s.c.fact t.c l.registers.c g.c a.knows.c;
+    words = λ k. label_words m act s.frame t k (frame_word l.memory act.origin k) (wf.rows at t e) (wf.pairs at t e) g.entries g.whole (a.knows.words k);
+    within = λ k out. (wf.rows at t e).own k out;
+  };
+  same_mode = plain_mode s.mode mode g.plain a.same_mode;
+}
+  where
+    register : (f wanted : Fact) (v : Option ℤ) → implies f wanted ≡ true → Means m act f v → Means m (at_label s t act) wanted v
+    register f wanted v says_so means = other_turns m act (label_turns s.frame t.entries act.turns) wanted v (implies_means m act f wanted v says_so means)
+
+    plain_mode : (p : states.Mode) (q : machine.Mode) → is_plain p ≡ true → SameMode p q → SameMode states_modes.Plain q
+    plain_mode p q e both_plain = both_plain

@@ -1,0 +1,47 @@
+-- What is known of the words of loops.
+use Rattle.std.proofs.Common.{◌≡◌, ℤ, true, false, Option, Some, None, refl, sym, ap, ◌∙◌}
+use Rattle.std.specs.Prelude.{option_map, unwrap_or}
+use Rattle.std.proofs.Math.Logic.{∥∥₁_elim}
+use Rattle.certificate.specs.declared.fact.Fact.{Fact}
+use Rattle.std.specs.Coded.{Unit-prop}
+use Rattle.std.proofs.Props.{props}
+use Rattle.states.specs.declared.known.WordFact.{WordFact}
+use Rattle.states.specs.declared.known.WordFact.TheVariants.{Alone, Index, Count}
+use Rattle.states.specs.State.{Facts, is_alone}
+use Rattle.states.specs.Rows.{LoopFits}
+use Rattle.states.specs.declared.frame.Frame.{Frame}
+use Rattle.states.specs.Frames.{frame_facts, is_index, is_count, HasRoom}
+
+pub loop_fits_prop : (fact : WordFact) → IsProp (LoopFits fact)
+loop_fits_prop (Alone fact) = Unit-prop
+loop_fits_prop (Index base count weight) = hlevel props
+loop_fits_prop (Count base count weight) = hlevel props
+
+-- the loop that a word is in
+pub loop-at : (facts : Facts) (k : ℤ) → ∥ ((k : ℤ) → LoopFits (facts k)) ∥₁ → LoopFits (facts k)
+loop-at facts k h = ∥∥₁_elim h (loop_fits_prop (facts k)) (λ each. each k)
+
+-- what was written is alone
+pub loop-below : (o : Option Fact) (said : WordFact) → is_alone (unwrap_or (option_map Alone o) said) ≡ false → is_alone said ≡ false
+loop-below None said h = h
+loop-below (Some fact) said h = absurd (cc)
+
+pub fits-over : (o : Option Fact) (said : WordFact) → LoopFits said → LoopFits (unwrap_or (option_map Alone o) said)
+fits-over None said h = h
+fits-over (Some fact) said h = tt
+
+-- the words of a loop can be written
+pub room-of : (frame : Frame) (k : ℤ) (fact : WordFact) → fact ≡ frame_facts frame k → is_alone fact ≡ false → HasRoom frame k
+room-of frame k fact is loop =
+    let inside = frame.inside k (loop-below _ _ (ap is_alone (sym is) ∙ loop)) in
+    record { low = inside.0; high = inside.1 }
+
+pub index-apart : (fact : WordFact) → is_index fact ≡ true → is_alone fact ≡ false
+index-apart (Alone fact) h = absurd (cc)
+index-apart (Index base count weight) h = refl
+index-apart (Count base count weight) h = refl
+
+pub count-apart : (fact : WordFact) → is_count fact ≡ true → is_alone fact ≡ false
+count-apart (Alone fact) h = absurd (cc)
+count-apart (Index base count weight) h = refl
+count-apart (Count base count weight) h = refl

@@ -1,0 +1,10 @@
+use Rattle.std.proofs.Common.{sym, ap, refl}
+use Rattle.certificate.specs.Contents.{Contents}
+use Rattle.verifier.proofs.RowsLeft.{left-first}
+use Rattle.verifier.proofs.rows.Rows.of.Goals as goal
+
+pub returns : goal.returns
+returns c =
+    let labels = ap (λ (m : Contents). m.labels) (sym c.tables-tables.ensures.contents) in
+    let procedures = ap (λ (m : Contents). m.procedures) (sym c.tables-tables.ensures.contents) in
+    left-first c.args.module.now _ c.tables-tables.ensures.kept (rw c.deref.ensures.value labels) (rw c.deref-2.ensures.value procedures) refl
