@@ -27,6 +27,7 @@ pub use limits::{
     MAX_MESSAGE, MAX_PARAMETERS, MAX_PARS, MAX_PROCEDURES, MAX_TABLES,
 };
 pub use modules::Module;
+pub use rights::is_among;
 pub use rows::{
     BranchRow, ChannelRow, Direction, EndKind, EndRow, Ends, Entry, Interval, LabelRow, ParRow,
     Parameter, ParameterKind, ProcedureRow, TableRow,

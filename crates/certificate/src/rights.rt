@@ -10,8 +10,8 @@ use crate::modules::Module;
 use crate::rows::{ChannelRow, Direction, EndKind, EndRow, Interval, Parameter, ParameterKind};
 use bitflags::Flags;
 
-/// Whether a word is one of the intervals', which rise.
-fn is_among(intervals: &[Interval], word: i64) -> bool
+/// Whether a word is one of the intervals', which rise. It takes time logarithmic in them.
+pub fn is_among(intervals: &[Interval], word: i64) -> bool
     requires { InOrder IntervalKeeps behind_interval least_word intervals.now }
     ensures { result ≡ is_among intervals.now word }
 {

@@ -13,7 +13,7 @@ use Rattle.certificate.specs.declared.rows.Entry.{Entry}
 use Rattle.certificate.specs.Order.{least_word}
 use Rattle.certificate.specs.Facts.{end_of, IsLoop}
 use Rattle.certificate.specs.Contents.{Contents, Label, label_at}
-use Rattle.certificate.specs.Contexts.{context_at}
+use Rattle.certificate.specs.Rights.{may_write_word, may_read_word}
 use Rattle.machine_state.specs.declared.process.Mode as machine
 use Rattle.machine_state.specs.Holding.{Holding}
 use Rattle.machine_state.specs.LocalStep.{Local}
@@ -21,7 +21,7 @@ use Rattle.states.specs.declared.known.Mode as states
 use Rattle.states.specs.declared.known.Mode.TheVariants as states_modes
 use Rattle.states.specs.declared.known.WordFact.{WordFact}
 use Rattle.states.specs.declared.known.WordFact.TheVariants.{Alone, Index, Count}
-use Rattle.states.specs.State.{State, Facts, label_state, is_word, is_about, by_itself, is_alone, said_of, entry_fact, has_word}
+use Rattle.states.specs.State.{State, Facts, label_state, is_word, is_about, by_itself, is_alone, said_of, entry_fact}
 use Rattle.states.specs.Below.{below, agrees, implies, step_implies, is_constant, is_same_loop, says, words_say, entries_hold, are_alike, is_whole, is_plain, cost}
 use Rattle.states.specs.Rows.{IsRowOf, LoopFits, rise_from}
 use Rattle.facts.specs.Meaning.{Activation, with_turns, Means, says_nothing, is_number, is_pointer, is_code_address, is_return_address, word_of, region_start, code_address, IsOffset, MeansWord, is_fact, is_index, is_count, frame_word, HasFrame, SameMode, both_plain, turns_from, label_turns, at_label, IsSpan, ArePairs, IsWellFormed}
@@ -329,18 +329,29 @@ below_tells s t price h = first (ltb s.number (cost s t)) refl h
     first true e g = absurd (cc)
     first false e g = let paid : cost s t ≤ s.number = not_below s.number (cost s t) e in (omega arith, second (agrees s t) refl g)
 
+-- who knows nothing of a word says nothing of it
+nothing_said : (wanted : WordFact) → says (Alone Unknown) wanted ≡ true → wanted ≡ Alone Unknown
+nothing_said (Alone Unknown) h = refl
+nothing_said (Alone (Number lo hi)) h = absurd (cc)
+nothing_said (Alone (Pointer region lo hi step)) h = absurd (cc)
+nothing_said (Alone (CodeAddress offset)) h = absurd (cc)
+nothing_said (Alone (Loop base count weight)) h = absurd (cc)
+nothing_said (Alone ReturnAddress) h = absurd (cc)
+nothing_said (Index base count weight) h = absurd (cc)
+nothing_said (Count base count weight) h = absurd (cc)
+
 -- what holds behind an instruction holds as the label's state, where the state is below the label
 pub label_after : (m : Contents) (h : Holding) (mode : machine.Mode) (act : Activation) (s : State) (t : Label) (l : Local) → IsWellFormed m → (at : ℕ) → label_at m at ≡ Some t → IsBelow s t
     → After m h mode act s l → After m h mode (at_label s t act) (label_state t) l
 label_after m h mode act s t l wf at e g a = record {
-  frame = subst (λ d. HasFrame h (length l.memory) (has_word (context_at m t.context)) act.origin d l.registers.workspace) g.depth
-      (subst (λ c. HasFrame h (length l.memory) (has_word (context_at m c)) act.origin s.depth l.registers.workspace) g.context a.frame);
+  frame = subst (λ d. HasFrame h (length l.memory) (may_write_word m t.context) (may_read_word m t.context) act.origin d l.registers.workspace) g.depth
+      (subst (λ c. HasFrame h (length l.memory) (may_write_word m c) (may_read_word m c) act.origin s.depth l.registers.workspace) g.context a.frame);
   knows = record {
     a = register s.a.fact t.a l.registers.a g.a a.knows.a;
     b = register s.b.fact t.b l.registers.b g.b a.knows.b;
     c = register s.c.fact t.c l.registers.c g.c a.knows.c;
     words = λ k. label_words m act s.frame t k (frame_word l.memory act.origin k) (wf.rows at t e) (wf.pairs at t e) g.entries g.whole (a.knows.words k);
-    within = λ k out. (wf.rows at t e).own k out;
+    within = λ k out. nothing_said (entry_fact t.entries k) (subst (λ f. says f (entry_fact t.entries k) ≡ true) (a.knows.within k (ap (λ c. may_read_word m c k) g.context ∙ out)) (entries_said s.frame t.entries k g.entries));
   };
   same_mode = plain_mode s.mode mode g.plain a.same_mode;
 }

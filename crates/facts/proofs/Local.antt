@@ -9,8 +9,10 @@ use Rattle.prefix_decoder.specs.declared.function.Fun.TheVariants as fun
 use Rattle.certificate.specs.declared.fact.Fact.{Fact}
 use Rattle.certificate.specs.declared.fact.Fact.TheVariants.{Unknown, Number, Pointer, CodeAddress, Loop, ReturnAddress}
 use Rattle.certificate.specs.Contents.{Contents, Label, label_at}
-use Rattle.certificate.specs.Contexts.{context_at}
 use Rattle.certificate.specs.Order.{least_word}
+use Rattle.certificate.specs.Contents.{Par, Branch}
+use Rattle.certificate.specs.Branches.{numbered_branch}
+use Rattle.certificate.specs.Rights as rights
 use Rattle.machine_state.specs.declared.process.Registers.{Registers}
 use Rattle.machine_state.specs.declared.process.Mode as machine
 use Rattle.machine_state.specs.declared.process.Mode.TheVariants as machine_modes
@@ -26,7 +28,7 @@ use Rattle.machine_state.proofs.Frame.{write_is_own, changes_more}
 use Rattle.states.specs.declared.known.Mode as states
 use Rattle.states.specs.declared.known.Mode.TheVariants as states_modes
 use Rattle.states.specs.declared.known.Known.{Known}
-use Rattle.states.specs.State.{State, written, known, has_word}
+use Rattle.states.specs.State.{State, written, known}
 use Rattle.states.specs.Below.{below}
 use Rattle.states.proofs.RowFacts.{and-parts}
 use Rattle.facts.specs.Rules as rule
@@ -74,14 +76,25 @@ wider false b c d p q r t h = absurd (cc)
 pub readable_byte : (h : Holding) (place : ℕ) → may_write h place ≡ true → may_read h place ≡ true
 readable_byte h place mine = or_true (may_write h place) (list_any (λ span. covers span place) h.reads) mine
 
-readable : (h : Holding) (place : ℕ) → may_write_word h place ≡ true → may_read_word h place ≡ true
+pub readable : (h : Holding) (place : ℕ) → may_write_word h place ≡ true → may_read_word h place ≡ true
 unfolding may_write_word may_read_word
 readable h place mine =
     let reads : ℕ → Bool = λ place. list_any (λ span. covers span place) h.reads in
     wider (may_write h place) (may_write h (place + 1)) (may_write h (place + 2)) (may_write h (place + 3)) (reads place) (reads (place + 1)) (reads (place + 2)) (reads (place + 3)) mine
 
-same_frame : {h : Holding} {old new : ℕ} {has : ℤ → Bool} {origin depth : ℤ} {workspace : ℕ} → old ≡ new → HasFrame h old has origin depth workspace → HasFrame h new has origin depth workspace
-same_frame {h} {old} {new} {has} {origin} {depth} {workspace} e f = subst (λ size. HasFrame h size has origin depth workspace) e f
+-- a word of the frame that may be written may be read
+written_readable : (m : Contents) (n : ℕ) (k : ℤ) → rights.may_write_word m n k ≡ true → rights.may_read_word m n k ≡ true
+written_readable m n k h =
+    let both = and-parts _ _ h in
+    and_both _ _ both.0 (of_branch (numbered_branch m n) both.1)
+  where
+    of_branch : (o : Option (Par × Branch)) → (elim o as (λ o. Bool) [ None ↦ true | Some found ↦ rights.is_among found.1.writes k ]) ≡ true
+        → (elim o as (λ o. Bool) [ None ↦ true | Some found ↦ rights.is_among found.1.writes k || rights.is_among found.1.reads k ]) ≡ true
+    of_branch None h = refl
+    of_branch (Some found) h = or_true (rights.is_among found.1.writes k) (rights.is_among found.1.reads k) h
+
+same_frame : {h : Holding} {old new : ℕ} {writes reads : ℤ → Bool} {origin depth : ℤ} {workspace : ℕ} → old ≡ new → HasFrame h old writes reads origin depth workspace → HasFrame h new writes reads origin depth workspace
+same_frame {h} {old} {new} {writes} {reads} {origin} {depth} {workspace} e f = subst (λ size. HasFrame h size writes reads origin depth workspace) e f
 
 enough : (n k total : ℕ) → ltb n k ≡ false → n ≡ total → n - k + k ≡ total
 enough n k total t e = elim (leb_tells (suc n) k) [ inl p ↦ let no' : true ≡ false = sym p.0 ∙ t in absurd (cc) | inr p ↦ let high : k ≤ n = omega (arith, p.1) in omega arith ]
@@ -90,7 +103,7 @@ below_not : (a b : ℕ) → a < b → ltb a b ≡ false → ⊥
 below_not a b low t = elim (leb_tells (suc a) b) [ inl p ↦ let no' : true ≡ false = sym p.0 ∙ t in (cc) | inr p ↦ let high : b < suc a = p.1 in omega arith ]
 
 -- paying changes nothing that is known
-paid : {m : Contents} {has : ℤ → Bool} {s : State} {act : Activation} {r : Registers} {memory : Memory} {n : ℕ} → Knows m has s act r memory → Knows m has (record s { number = n }) act r memory
+paid : {m : Contents} {reads : ℤ → Bool} {s : State} {act : Activation} {r : Registers} {memory : Memory} {n : ℕ} → Knows m reads s act r memory → Knows m reads (record s { number = n }) act r memory
 paid k = record { a = k.a; b = k.b; c = k.c; words = k.words; within = k.within }
 
 rule_plain : {p : states.Mode} {q : machine.Mode} → SameMode p q → p ≡ states_modes.Plain
@@ -143,12 +156,15 @@ module _ (x : Here) where
       on_step_test (fits_word (a +ℤ e)) _ _ _ (λ u. go (is_number (omega (arith, ints)) (omega (arith, ints)) fits)) (λ u. absurd (fits_or_not (a +ℤ e) fits u)))
       (λ t next. it_breaks)
 
-  -- the frame's word at depth + e
-  owns_fits : (s : State) (l : Local) (e : ℤ) (r : Ruling) (o : Outcome) → After x.m x.h x.mode x.act s l
-      → (has_word (context_at x.m s.context) (s.depth +ℤ e) ≡ true → IsOwnWord x.h (length l.memory) x.act.origin (s.depth +ℤ e) → FitsIf x r o) → FitsIf x (rule.owns (rule_site x) s (s.depth +ℤ e) r) o
-  unfolding rule.owns
-  owns_fits s l e r o a go =
-      on_rule_test (has_word (context_at x.m s.context) (s.depth +ℤ e)) _ _ _ (λ t. go t (a.frame.words (s.depth +ℤ e) t)) (λ t next. it_breaks)
+  -- the frame's word at depth + e, which is written
+  writes_word_fits : (s : State) (e : ℤ) (r : Ruling) (o : Outcome) → (rights.may_write_word x.m s.context (s.depth +ℤ e) ≡ true → FitsIf x r o) → FitsIf x (rule.writes_word (rule_site x) s (s.depth +ℤ e) r) o
+  unfolding rule.writes_word
+  writes_word_fits s e r o go = on_rule_test (rights.may_write_word x.m s.context (s.depth +ℤ e)) _ _ _ go (λ t next. it_breaks)
+
+  -- which is read
+  reads_word_fits : (s : State) (e : ℤ) (r : Ruling) (o : Outcome) → (rights.may_read_word x.m s.context (s.depth +ℤ e) ≡ true → FitsIf x r o) → FitsIf x (rule.reads_word (rule_site x) s (s.depth +ℤ e) r) o
+  unfolding rule.reads_word
+  reads_word_fits s e r o go = on_rule_test (rights.may_read_word x.m s.context (s.depth +ℤ e)) _ _ _ go (λ t next. it_breaks)
 
   writes_fits : (l : Local) (address place : ℕ) (v : Option ℤ) (r : Ruling) (o : Local → Outcome) → place_of address ≡ place → may_write_word x.h place ≡ true
       → FitsIf x r (o (record l { memory = with_word l.memory place v })) → FitsIf x r (step.writes (step_site x) address v l o)
@@ -158,13 +174,13 @@ module _ (x : Here) where
       (λ t. subst (λ p. FitsIf x r (o (record l { memory = with_word l.memory p v }))) (sym is) go)
       (λ t. let no : true ≡ false = sym mine ∙ ap (may_write_word x.h) (sym is) ∙ t in absurd (cc))
 
-  reads_fits : (l : Local) (address place : ℕ) (r : Ruling) (o : Option ℤ → Outcome) → place_of address ≡ place → may_write_word x.h place ≡ true
+  reads_fits : (l : Local) (address place : ℕ) (r : Ruling) (o : Option ℤ → Outcome) → place_of address ≡ place → may_read_word x.h place ≡ true
       → FitsIf x r (o (word_at l.memory place)) → FitsIf x r (step.reads (step_site x) address l o)
   unfolding step.reads
-  reads_fits l address place r o is mine go =
+  reads_fits l address place r o is held go =
       on_step_test (may_read_word x.h (place_of address)) _ _ _
       (λ t. subst (λ p. FitsIf x r (o (word_at l.memory p))) (sym is) go)
-      (λ t. let no : true ≡ false = sym (readable x.h place mine) ∙ ap (may_read_word x.h) (sym is) ∙ t in absurd (cc))
+      (λ t. let no : true ≡ false = sym held ∙ ap (may_read_word x.h) (sym is) ∙ t in absurd (cc))
 
   goes_on_fits : (s : State) (l : Local) → After x.m x.h x.mode x.act s l → ChangesOwn x.h x.memory l.memory → s.number ≡ x.number → FitsIf x (rule.goes_on (rule_site x) s) (step.goes_on (step_site x) l)
   unfolding rule.goes_on rule.pays step.goes_on
@@ -177,25 +193,25 @@ module _ (x : Here) where
 
   -- ---- a write to a word of the frame
 
-  after_write : (s : State) (l : Local) (e : ℤ) (f : Fact) (v : Option ℤ) → After x.m x.h x.mode x.act s l → has_word (context_at x.m s.context) (s.depth +ℤ e) ≡ true
+  after_write : (s : State) (l : Local) (e : ℤ) (f : Fact) (v : Option ℤ) → After x.m x.h x.mode x.act s l → rights.may_write_word x.m s.context (s.depth +ℤ e) ≡ true
       → (w : IsOwnWord x.h (length l.memory) x.act.origin (s.depth +ℤ e)) → Means x.m x.act f (word_at (with_word l.memory w.place v) w.place)
       → After x.m x.h x.mode x.act (written (s.depth +ℤ e) f s) (record l { memory = with_word l.memory w.place v })
   unfolding written
   after_write s l e f v a t w means = record {
     frame = same_frame (sym (length-with_word l.memory w.place v)) a.frame;
-    knows = knows_written x.m x.h (has_word (context_at x.m s.context)) s x.act (s.depth +ℤ e) l.registers l.memory f v a.frame.words t w a.knows means;
+    knows = knows_written x.m x.h (rights.may_read_word x.m s.context) s x.act (s.depth +ℤ e) l.registers l.memory f v (written_readable x.m s.context (s.depth +ℤ e) t) w a.knows means;
     same_mode = a.same_mode;
   }
 
   write_step : (s : State) (l : Local) (e : ℤ) (f : Fact) (v : Option ℤ) (r : Ruling) (o : Local → Outcome) → After x.m x.h x.mode x.act s l → ChangesOwn x.h x.memory l.memory
-      → FitsSigned w32 e → has_word (context_at x.m s.context) (s.depth +ℤ e) ≡ true
+      → FitsSigned w32 e → rights.may_write_word x.m s.context (s.depth +ℤ e) ≡ true
       → ((place : ℕ) → place + 4 ≤ length l.memory → Means x.m x.act f (word_at (with_word l.memory place v) place))
       → ((memory : Memory) → After x.m x.h x.mode x.act (written (s.depth +ℤ e) f s) (record l { memory = memory }) → ChangesOwn x.h x.memory memory → FitsIf x r (o (record l { memory = memory })))
       → FitsIf x r (step.writes (step_site x) (local_address l.registers.workspace e) v l o)
   write_step s l e f v r o a changes fits t means go =
-      let w = a.frame.words (s.depth +ℤ e) t in
+      let w = a.frame.own (s.depth +ℤ e) t in
       writes_fits l (local_address l.registers.workspace e) w.place v r o
-      (local_place x.h (length l.memory) (has_word (context_at x.m s.context)) x.act.origin s.depth l.registers.workspace e a.frame fits w) w.mine
+      (local_place a.frame e fits w.place w.is w.inside) w.mine
       (go (with_word l.memory w.place v) (after_write s l e f v a t w (means w.place w.inside))
       (changes_more x.h x.memory l.memory (with_word l.memory w.place v) changes (write_is_own x.h l.memory w.place v w.mine)))
 
@@ -209,7 +225,7 @@ module _ (x : Here) where
       → FitsIf x (rule.schedules (rule_site x) s r) (step.schedules (step_site x) l o)
   unfolding rule.schedules step.schedules written
   schedules_fits s l r o a changes go =
-      owns_fits s l (negsuc 0) _ _ a (λ t0 w0. owns_fits s l (negsuc 1) _ _ a (λ t1 w1. owns_fits s l (negsuc 2) _ _ a (λ t2 w2.
+      writes_word_fits s (negsuc 0) _ _ (λ t0. writes_word_fits s (negsuc 1) _ _ (λ t1. writes_word_fits s (negsuc 2) _ _ (λ t2.
       write_step s l (negsuc 0) Unknown None _ _ a changes (omega (arith, ints)) t0 (undefined_means l.memory) (λ m1 a1 c1.
       write_step (written (s.depth +ℤ negsuc 0) Unknown s) (record l { memory = m1 }) (negsuc 1) Unknown None _ _ a1 c1 (omega (arith, ints)) t1 (undefined_means m1) (λ m2 a2 c2.
       write_step (written (s.depth +ℤ negsuc 1) Unknown (written (s.depth +ℤ negsuc 0) Unknown s)) (record l { memory = m2 }) (negsuc 2) Unknown None _ _ a2 c2 (omega (arith, ints)) t2 (undefined_means m2) (λ m3 a3 c3.
@@ -270,13 +286,14 @@ module _ (x : Here) where
     ldl_fits : (e : ℤ) → FitsSigned w32 e → FitsIf x (rule.rule (rule_site x) fun.LoadLocal e s) (step.local_step (step_site x) fun.LoadLocal e l)
     unfolding rule.rule step.local_step
     ldl_fits e fits =
-        beside_plain_rule s a.same_mode _ _ (beside_plain_step s a.same_mode _ _ (owns_fits s l e _ _ a (λ t w.
-        reads_fits l (local_address l.registers.workspace e) w.place _ _ (local_place x.h (length l.memory) (has_word (context_at x.m s.context)) x.act.origin s.depth l.registers.workspace e a.frame fits w) w.mine
+        beside_plain_rule s a.same_mode _ _ (beside_plain_step s a.same_mode _ _ (reads_word_fits s e _ _ (λ t.
+        let w = a.frame.readable (s.depth +ℤ e) t in
+        reads_fits l (local_address l.registers.workspace e) w.place _ _ (local_place a.frame e fits w.place w.is w.inside) w.readable
         (goes_on_fits (rule.push (rule.loaded (s.depth +ℤ e) (s.frame (s.depth +ℤ e))) s) (step.push (word_at l.memory w.place) l)
         (record {
           frame = a.frame;
           knows = record {
-            a = plain_means x.m x.act (s.depth +ℤ e) (s.frame (s.depth +ℤ e)) (word_at l.memory w.place) (means_same (a.knows.words (s.depth +ℤ e)) refl (frame_word_is x.h (length l.memory) l.memory x.act.origin (s.depth +ℤ e) w));
+            a = plain_means x.m x.act (s.depth +ℤ e) (s.frame (s.depth +ℤ e)) (word_at l.memory w.place) (means_same (a.knows.words (s.depth +ℤ e)) refl (frame_word_is l.memory x.act.origin (s.depth +ℤ e) w.place w.is));
             b = a.knows.a;
             c = a.knows.b;
             words = a.knows.words;
@@ -289,7 +306,7 @@ module _ (x : Here) where
     unfolding rule.rule step.local_step written
     stl_fits e fits =
         in_plain_step s a.same_mode _ _ (uses_fits s.a l.registers.a _ _ a.knows.a (λ v means.
-        in_plain_rule s a.same_mode _ _ (beside_plain_rule s a.same_mode _ _ (owns_fits s l e _ _ a (λ t w.
+        in_plain_rule s a.same_mode _ _ (beside_plain_rule s a.same_mode _ _ (writes_word_fits s e _ _ (λ t.
         write_step s l e s.a.fact (Some v) _ _ a changes fits t (λ place inside. stored_means x.m x.act s.a.fact v l.memory place inside means) (λ memory b c.
         goes_on_fits (rule.pop (written (s.depth +ℤ e) s.a.fact s)) (step.pop (record l { memory = memory }))
         (record {

@@ -6,16 +6,16 @@ use Rattle.prefix_decoder.specs.declared.function.Fun.TheVariants.{Jump, LoadLoc
 use Rattle.certificate.specs.declared.fact.Fact.{Fact}
 use Rattle.certificate.specs.declared.fact.Fact.TheVariants.{Unknown, Number, Pointer, CodeAddress, Loop, ReturnAddress}
 use Rattle.certificate.specs.Contents.{Label, label_at}
-use Rattle.certificate.specs.Contexts.{context_at}
+use Rattle.certificate.specs.Rights.{may_write_word, may_read_word}
 use Rattle.machine_state.specs.declared.op.Op.{Op}
 use Rattle.machine_state.specs.declared.op.Op.TheVariants.{Reverse, StopProcess, MinimumInteger}
 use Rattle.machine_state.specs.LocalStep.{op_of, fits_word}
 use Rattle.states.specs.declared.known.Known.{Known}
 use Rattle.states.specs.declared.known.Mode.{Mode}
 use Rattle.states.specs.declared.known.Mode.TheVariants.{Plain, Enabling, Disabling, Starting}
-use Rattle.states.specs.State.{State, has_word}
+use Rattle.states.specs.State.{State}
 use Rattle.states.specs.Below.{below, agrees, cost}
-use Rattle.facts.specs.Rules.{Ruling, Site, falls, leads, ends, breaks, outside_alternation, outside_starts, uses, number, in_word, forward, owns, schedules, pays, leads_to, goes_on, operation_rule, rule}
+use Rattle.facts.specs.Rules.{Ruling, Site, falls, leads, ends, breaks, outside_alternation, outside_starts, uses, number, in_word, forward, writes_word, reads_word, schedules, pays, leads_to, goes_on, operation_rule, rule}
 
 -- the number that is told, if one is, is below 17
 abbrev pub IsLow : Ruling → Type 0
@@ -73,13 +73,17 @@ unfolding forward
 low-forward (pos n) k h = h
 low-forward (negsuc n) k h = lit< tt
 
-low-owns : (site : Site) (s : State) (w : ℤ) (k : Ruling) → IsLow k → IsLow (owns site s w k)
-unfolding owns
-low-owns site s w k h = low-choice (has_word (context_at site.contents s.context) w) k (breaks 14) h (lit< tt)
+low-writes_word : (site : Site) (s : State) (w : ℤ) (k : Ruling) → IsLow k → IsLow (writes_word site s w k)
+unfolding writes_word
+low-writes_word site s w k h = low-choice (may_write_word site.contents s.context w) k (breaks 14) h (lit< tt)
+
+low-reads_word : (site : Site) (s : State) (w : ℤ) (k : Ruling) → IsLow k → IsLow (reads_word site s w k)
+unfolding reads_word
+low-reads_word site s w k h = low-choice (may_read_word site.contents s.context w) k (breaks 14) h (lit< tt)
 
 low-schedules : (site : Site) (s : State) (k : State → Ruling) → ((t : State) → IsLow (k t)) → IsLow (schedules site s k)
 unfolding schedules
-low-schedules site s k h = low-owns site s _ _ (low-owns site s _ _ (low-owns site s _ _ (h _)))
+low-schedules site s k h = low-writes_word site s _ _ (low-writes_word site s _ _ (low-writes_word site s _ _ (h _)))
 
 low-pays : (site : Site) (s : State) (k : State → Ruling) → ((t : State) → IsLow (k t)) → IsLow (pays site s k)
 unfolding pays
@@ -128,12 +132,12 @@ low-rule site LoadLocalPointer e s = lit< tt
 low-rule site LoadNonLocal e s = lit< tt
 low-rule site LoadConstant e s = low-goes_on site _
 low-rule site LoadNonLocalPointer e s = lit< tt
-low-rule site LoadLocal e s = low-starts s.mode _ (low-owns site s _ _ (low-goes_on site _))
+low-rule site LoadLocal e s = low-starts s.mode _ (low-reads_word site s _ _ (low-goes_on site _))
 low-rule site AddConstant e s = low-uses s.a _ (λ a. low-number a _ (λ lo hi. low-in_word _ _ _ (λ sum. low-alternation s.mode _ (low-starts s.mode _ (low-goes_on site _)))))
 low-rule site Call e s = lit< tt
 low-rule site ConditionalJump e s = lit< tt
 low-rule site AdjustWorkspace e s = lit< tt
 low-rule site EqualsConstant e s = lit< tt
-low-rule site StoreLocal e s = low-uses s.a _ (λ a. low-alternation s.mode _ (low-starts s.mode _ (low-owns site s _ _ (low-goes_on site _))))
+low-rule site StoreLocal e s = low-uses s.a _ (λ a. low-alternation s.mode _ (low-starts s.mode _ (low-writes_word site s _ _ (low-goes_on site _))))
 low-rule site StoreNonLocal e s = lit< tt
 low-rule site Operate e s = low-operation site (op_of e) s

@@ -1,5 +1,5 @@
 -- The rules, one test behind another.
-use Rattle.std.proofs.Common.{◌≡◌, ℕ, ℤ, negsuc, ◌+ℤ◌, ◌+◌, Result, Ok, Err, Option, Some, None, sym, ap, ◌∙◌, subst, false, cond}
+use Rattle.std.proofs.Common.{◌≡◌, ℕ, ℤ, negsuc, ◌+ℤ◌, ◌+◌, Result, Ok, Err, Option, Some, None, sym, ap, ◌∙◌, subst, Bool, cond}
 use Rattle.prefix_decoder.specs.declared.function.Fun.TheVariants.{Jump, LoadConstant, LoadLocal, AddConstant, StoreLocal, Operate}
 use Rattle.certificate.specs.declared.fact.Fact.{Fact}
 use Rattle.certificate.specs.declared.fact.Fact.TheVariants.{Unknown, Number}
@@ -9,11 +9,11 @@ use Rattle.states.specs.declared.known.Known.{Known}
 use Rattle.states.specs.declared.known.WordFact.{WordFact}
 use Rattle.states.specs.declared.rule.RuleFault.{RuleFault}
 use Rattle.certificate.specs.Contents.{Label, label_at}
-use Rattle.certificate.specs.Contexts.{context_at}
-use Rattle.states.specs.State.{State, known, written, has_word}
+use Rattle.certificate.specs.Rights.{may_write_word, may_read_word}
+use Rattle.states.specs.State.{State, known, written}
 use Rattle.states.specs.Below.{below}
 use Rattle.facts.specs.declared.place.Onward.{Onward}
-use Rattle.facts.specs.Rules.{Ruling, Site, leads, breaks, outside_alternation, outside_starts, uses, number, in_word, forward, owns, schedules, pays, leads_to, goes_on, push, pop, with_a, without_registers, loaded, operation_rule, rule}
+use Rattle.facts.specs.Rules.{Ruling, Site, leads, breaks, outside_alternation, outside_starts, uses, number, in_word, forward, writes_word, reads_word, schedules, pays, leads_to, goes_on, push, pop, with_a, without_registers, loaded, operation_rule, rule}
 use Rattle.facts.specs.Telling.{Advances, Gives}
 
 -- the same ruling, told otherwise
@@ -34,10 +34,10 @@ abbrev pub after_load : ℤ → State → State
 after_load k s = push (loaded k (s.frame k)) s
 
 pub load_local-own : (site : Site) (s : State) (e d : ℤ) → ((n : Ruling) → outside_starts s.mode n ≡ n) → d ≡ e
-    → rule site LoadLocal e s ≡ owns site s (s.depth +ℤ d) (goes_on site (after_load (s.depth +ℤ d) s))
+    → rule site LoadLocal e s ≡ reads_word site s (s.depth +ℤ d) (goes_on site (after_load (s.depth +ℤ d) s))
 unfolding rule
 load_local-own site s e d starts d_is =
-    starts _ ∙ ap (λ (z : ℤ). owns site s (s.depth +ℤ z) (goes_on site (after_load (s.depth +ℤ z) s))) (sym d_is)
+    starts _ ∙ ap (λ (z : ℤ). reads_word site s (s.depth +ℤ z) (goes_on site (after_load (s.depth +ℤ z) s))) (sym d_is)
 
 pub load_local-after : (s t : State) (k z : ℤ) (fact : WordFact) (v : Known) → z ≡ k → fact ≡ s.frame z → v ≡ loaded z fact → t ≡ push v s → after_load k s ≡ t
 load_local-after s t k z fact v z_is fact_is v_is t_is =
@@ -50,10 +50,10 @@ abbrev pub after_store : ℤ → Fact → State → State
 after_store k fact s = pop (written k fact s)
 
 pub store_local-own : (site : Site) (s : State) (e d : ℤ) (fact : Fact) → ((n : Fact → Ruling) → uses s.a n ≡ n fact) → ((n : Ruling) → outside_alternation s.mode n ≡ n) → ((n : Ruling) → outside_starts s.mode n ≡ n) → d ≡ e
-    → rule site StoreLocal e s ≡ owns site s (s.depth +ℤ d) (goes_on site (after_store (s.depth +ℤ d) fact s))
+    → rule site StoreLocal e s ≡ writes_word site s (s.depth +ℤ d) (goes_on site (after_store (s.depth +ℤ d) fact s))
 unfolding rule
 store_local-own site s e d fact used alternation starts d_is =
-    used _ ∙ (alternation _ ∙ (starts _ ∙ ap (λ (z : ℤ). owns site s (s.depth +ℤ z) (goes_on site (after_store (s.depth +ℤ z) fact s))) (sym d_is)))
+    used _ ∙ (alternation _ ∙ (starts _ ∙ ap (λ (z : ℤ). writes_word site s (s.depth +ℤ z) (goes_on site (after_store (s.depth +ℤ z) fact s))) (sym d_is)))
 
 pub store_local-after : (s t u : State) (k z : ℤ) (fact : Fact) → z ≡ k → t ≡ written z fact s → u ≡ pop t → after_store k fact s ≡ u
 store_local-after s t u k z fact z_is t_is u_is = sym (u_is ∙ ap pop (t_is ∙ ap (λ (x : ℤ). written x fact s) z_is))
@@ -120,11 +120,15 @@ pub operate-is : (site : Site) (s : State) (e d : ℤ) (o : Option Op) → d ≡
 unfolding rule
 operate-is site s e d o d_is o_is = ap (λ (x : Option Op). operation_rule site x s) (sym (o_is ∙ ap op_of d_is))
 
--- ---- words
+-- ---- words, where it is known whether they may be written or read
 
-pub not-own : (site : Site) (s : State) (w z : ℤ) (k : Ruling) → z ≡ w → false ≡ has_word (context_at site.contents s.context) z → owns site s w k ≡ breaks 14
-unfolding owns
-not-own site s w z k z_is h = ap (λ b. cond b k (breaks 14)) (ap (has_word (context_at site.contents s.context)) (sym z_is) ∙ sym h)
+pub written-by : (site : Site) (s : State) (w z : ℤ) (b : Bool) (k : Ruling) → z ≡ w → b ≡ may_write_word site.contents s.context z → writes_word site s w k ≡ cond b k (breaks 14)
+unfolding writes_word
+written-by site s w z b k z_is h = ap (λ b. cond b k (breaks 14)) (ap (may_write_word site.contents s.context) (sym z_is) ∙ sym h)
+
+pub read-by : (site : Site) (s : State) (w z : ℤ) (b : Bool) (k : Ruling) → z ≡ w → b ≡ may_read_word site.contents s.context z → reads_word site s w k ≡ cond b k (breaks 14)
+unfolding reads_word
+read-by site s w z b k z_is h = ap (λ b. cond b k (breaks 14)) (ap (may_read_word site.contents s.context) (sym z_is) ∙ sym h)
 
 pub gives-in_word : (r : Result Fact RuleFault) (low high lo hi : ℤ) → Gives (λ fact. fact) r (in_word low high) → low ≡ lo → high ≡ hi → Gives (λ fact. fact) r (in_word lo hi)
 gives-in_word r low high lo hi h low_is high_is =

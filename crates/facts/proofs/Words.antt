@@ -1,5 +1,5 @@
 -- Words of the frame: where they lie, and what a write to one leaves.
-use Rattle.std.proofs.Common.{◌≡◌, ℕ, ◌+◌, ◌≤◌, ◌<◌, ◌<ℤ◌, ℤ, pos, ◌+ℤ◌, ◌*ℤ◌, ◌≤ℤ◌, FitsSigned, Bool, true, false, cond, ◌&&◌, ◌⊎◌, inl, inr, length, Option, Some, None, refl, sym, ap, ◌∙◌, subst, arith}
+use Rattle.std.proofs.Common.{◌≡◌, ℕ, ◌+◌, ◌≤◌, ◌<◌, ◌<ℤ◌, ℤ, pos, negsuc, ◌+ℤ◌, ◌*ℤ◌, ◌≤ℤ◌, FitsSigned, Bool, true, false, cond, ◌&&◌, ◌⊎◌, inl, inr, length, Option, Some, None, refl, sym, ap, ◌∙◌, subst, arith}
 use Rattle.std.specs.Prelude.{int_le}
 use Rattle.std.proofs.lemmas.Int.{ints, SFits-int_wrap}
 use Rattle.std.specs.Int.{w32}
@@ -13,17 +13,17 @@ use Rattle.machine_state.proofs.Reading.{word_at-with_word, word_at-with_word_ot
 use Rattle.states.specs.declared.known.WordFact.{WordFact}
 use Rattle.states.specs.declared.known.WordFact.TheVariants.{Alone, Index, Count}
 use Rattle.states.specs.State.{State, is_word, is_tied, by_itself, handed_out, plain, with_fact, written}
-use Rattle.facts.specs.Meaning.{Activation, Means, says_nothing, is_number, is_pointer, is_code_address, is_return_address, MeansWord, is_fact, is_index, is_count, nothing_known, place_in, word_at_place, frame_word, IsOwnWord, HasFrame, Knows}
+use Rattle.facts.specs.Meaning.{Activation, Means, says_nothing, is_number, is_pointer, is_code_address, is_return_address, MeansWord, is_fact, is_index, is_count, place_in, word_at_place, frame_word, IsOwnWord, HasFrame, Knows}
 
 -- a word named from the workspace is the frame's word at depth + e
 address_of_word : (workspace place : ℕ) (e : ℤ) → FitsSigned w32 e → place < 1048576 → pos workspace +ℤ (pos 4 *ℤ e) ≡ pos data_start +ℤ pos place → place_of (local_address workspace e) ≡ place
 unfolding place_of local_address
 address_of_word workspace place e fits small is = omega (arith, ints)
 
-pub local_place : (h : Holding) (size : ℕ) (has : ℤ → Bool) (origin depth : ℤ) (workspace : ℕ) (e : ℤ) → HasFrame h size has origin depth workspace → FitsSigned w32 e
-    → (w : IsOwnWord h size origin (depth +ℤ e)) → place_of (local_address workspace e) ≡ w.place
-local_place h size has origin depth workspace e f fits w =
-    address_of_word workspace w.place e fits (omega (arith, f.small, w.inside)) (omega (arith, ints, f.start, w.is))
+pub local_place : {h : Holding} {size : ℕ} {writes reads : ℤ → Bool} {origin depth : ℤ} {workspace : ℕ} → HasFrame h size writes reads origin depth workspace → (e : ℤ) → FitsSigned w32 e
+    → (place : ℕ) → pos place ≡ place_in origin (depth +ℤ e) → place + 4 ≤ size → place_of (local_address workspace e) ≡ place
+local_place {h} {size} {writes} {reads} {origin} {depth} {workspace} f e fits place is inside =
+    address_of_word workspace place e fits (omega (arith, f.small, inside)) (omega (arith, ints, f.start, is))
 
 -- the test of two numbers
 pub int_le_tells : (j k : ℤ) → ((int_le j k ≡ true) × (j ≤ℤ k)) ⊎ ((int_le j k ≡ false) × (k <ℤ j))
@@ -87,17 +87,17 @@ plain_means m act k f v means = handed_means (by_itself f) (itself_means m act k
 -- ---- words of the frame
 
 -- a frame word at its place
-pub frame_word_is : (h : Holding) (size : ℕ) (memory : Memory) (origin k : ℤ) (w : IsOwnWord h size origin k) → frame_word memory origin k ≡ word_at memory w.place
-frame_word_is h size memory origin k w = ap (word_at_place memory) (sym w.is)
+pub frame_word_is : (memory : Memory) (origin k : ℤ) (place : ℕ) → pos place ≡ place_in origin k → frame_word memory origin k ≡ word_at memory place
+frame_word_is memory origin k place is = ap (word_at_place memory) (sym is)
 
 -- two words of one frame do not meet
-words_apart : (h : Holding) (size : ℕ) (origin j k : ℤ) (v : IsOwnWord h size origin j) (w : IsOwnWord h size origin k) → (j ≡ k → ⊥) → (v.place + 4 ≤ w.place) ⊎ (w.place + 4 ≤ v.place)
-words_apart h size origin j k v w differ = elim (int_le_tells j k) [
+words_apart : (origin j k : ℤ) (place other : ℕ) → pos place ≡ place_in origin j → pos other ≡ place_in origin k → (j ≡ k → ⊥) → (place + 4 ≤ other) ⊎ (other + 4 ≤ place)
+words_apart origin j k place other is other_is differ = elim (int_le_tells j k) [
   | inl p ↦ elim (int_le_tells k j) [
     | inl q ↦ absurd (differ (omega (arith, ints, p.1, q.1)))
-    | inr q ↦ inl (omega (arith, ints, q.1, v.is, w.is))
+    | inr q ↦ inl (omega (arith, ints, q.1, is, other_is))
   ]
-  | inr p ↦ inr (omega (arith, ints, p.1, v.is, w.is))
+  | inr p ↦ inr (omega (arith, ints, p.1, is, other_is))
 ]
 
 -- what is left of a loop of which word k is written is true by itself
@@ -108,11 +108,11 @@ left_means m act j k f v means = elim (bool_cases (is_tied j f k)) [
 ]
 
 -- the facts after a write
-pub knows_written : (m : Contents) (h : Holding) (has : ℤ → Bool) (s : State) (act : Activation) (k : ℤ) (r : Registers) (memory : Memory) (f : Fact) (v : Option ℤ)
-    → ((j : ℤ) → has j ≡ true → IsOwnWord h (length memory) act.origin j) → has k ≡ true → (w : IsOwnWord h (length memory) act.origin k)
-    → Knows m has s act r memory → Means m act f (word_at (with_word memory w.place v) w.place) → Knows m has (written k f s) act r (with_word memory w.place v)
+pub knows_written : (m : Contents) (h : Holding) (reads : ℤ → Bool) (s : State) (act : Activation) (k : ℤ) (r : Registers) (memory : Memory) (f : Fact) (v : Option ℤ)
+    → reads k ≡ true → (w : IsOwnWord h (length memory) act.origin k)
+    → Knows m reads s act r memory → Means m act f (word_at (with_word memory w.place v) w.place) → Knows m reads (written k f s) act r (with_word memory w.place v)
 unfolding written
-knows_written m h has s act k r memory f v own in_frame w known here = record {
+knows_written m h reads s act k r memory f v readable w known here = record {
   a = known.a;
   b = known.b;
   c = known.c;
@@ -126,28 +126,24 @@ knows_written m h has s act k r memory f v own in_frame w known here = record {
     is_there : (j : ℤ) → is_word j k ≡ false → with_fact k f s.frame j ≡ cond (is_tied j (s.frame j) k) (Alone (by_itself (s.frame j))) (s.frame j)
     is_there j e = ap (λ (b : Bool). cond b (Alone f) (cond (is_tied j (s.frame j) k) (Alone (by_itself (s.frame j))) (s.frame j))) e
 
-    is_nothing : (j : ℤ) → is_word j k ≡ false → has j ≡ false → with_fact k f s.frame j ≡ Alone Unknown
+    is_nothing : (j : ℤ) → is_word j k ≡ false → reads j ≡ false → with_fact k f s.frame j ≡ Alone Unknown
     is_nothing j e outside = is_there j e ∙ ap (λ (x : WordFact). cond (is_tied j x k) (Alone (by_itself x)) x) (known.within j outside)
 
-    other : (j : ℤ) → (j ≡ k → ⊥) → has j ≡ true → frame_word memory act.origin j ≡ frame_word (with_word memory w.place v) act.origin j
-    other j differ inside =
-        let u = own j inside in
-        let apart = words_apart h (length memory) act.origin j k u w differ in
-        frame_word_is h (length memory) memory act.origin j u
-        ∙ sym (word_at-with_word_other memory w.place u.place v apart)
-        ∙ sym (ap (word_at_place (with_word memory w.place v)) (sym u.is))
+    at_place : (j place : ℤ) → (j ≡ k → ⊥) → place ≡ place_in act.origin j → word_at_place memory place ≡ word_at_place (with_word memory w.place v) place
+    at_place j (pos place) differ is = sym (word_at-with_word_other memory w.place place v (words_apart act.origin j k place w.place is w.is differ))
+    at_place j (negsuc n) differ is = refl
+
+    other : (j : ℤ) → (j ≡ k → ⊥) → frame_word memory act.origin j ≡ frame_word (with_word memory w.place v) act.origin j
+    other j differ = at_place j (place_in act.origin j) differ refl
 
     words : (j : ℤ) → MeansWord m act j (with_fact k f s.frame j) (frame_word (with_word memory w.place v) act.origin j)
     words j = elim (word_test j k) [
       | inl e ↦ means_same (is_fact here) (sym (is_here j e.0)) (ap (word_at_place (with_word memory w.place v)) (w.is ∙ ap (place_in act.origin) (sym e.1)))
-      | inr e ↦ elim (bool_cases (has j)) [
-        | inl inside ↦ means_same (left_means m act j k (s.frame j) _ (known.words j)) (sym (is_there j e.0)) (other j e.1 inside)
-        | inr outside ↦ means_same (nothing_known m act j _) (sym (is_nothing j e.0 outside)) refl
-      ]
+      | inr e ↦ means_same (left_means m act j k (s.frame j) _ (known.words j)) (sym (is_there j e.0)) (other j e.1)
     ]
 
-    within : (j : ℤ) → has j ≡ false → with_fact k f s.frame j ≡ Alone Unknown
+    within : (j : ℤ) → reads j ≡ false → with_fact k f s.frame j ≡ Alone Unknown
     within j outside = elim (word_test j k) [
-      | inl e ↦ let x : true ≡ false = sym in_frame ∙ ap has (sym e.1) ∙ outside in absurd (cc)
+      | inl e ↦ let x : true ≡ false = sym readable ∙ ap reads (sym e.1) ∙ outside in absurd (cc)
       | inr e ↦ is_nothing j e.0 outside
     ]

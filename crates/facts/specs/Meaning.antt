@@ -13,7 +13,7 @@ use Rattle.machine_state.specs.declared.process.Registers.{Registers}
 use Rattle.machine_state.specs.declared.process.Mode as machine
 use Rattle.machine_state.specs.declared.process.Mode.TheVariants as machine_modes
 use Rattle.machine_state.specs.Memory.{Memory, word_at, data_start}
-use Rattle.machine_state.specs.Holding.{Holding, may_write_word}
+use Rattle.machine_state.specs.Holding.{Holding, may_write_word, may_read_word}
 use Rattle.machine_state.specs.World.{constants_start}
 use Rattle.states.specs.declared.known.Mode as states
 use Rattle.states.specs.declared.known.Mode.TheVariants as states_modes
@@ -87,28 +87,36 @@ word_at_place memory (negsuc n) = None
 abbrev pub frame_word : Memory → ℤ → ℤ → Option ℤ
 frame_word memory origin k = word_at_place memory (place_in origin k)
 
--- a word of the frame is a word of memory that the process may write
+-- a word of the frame is a word of memory that the process may read
+pub record IsReadableWord (h : Holding) (size : ℕ) (origin k : ℤ) : Type 0 where
+  pub place : ℕ
+  pub is : pos place ≡ place_in origin k
+  pub inside : place + 4 ≤ size
+  pub readable : may_read_word h place ≡ true
+
+-- it is one that the process may write
 pub record IsOwnWord (h : Holding) (size : ℕ) (origin k : ℤ) : Type 0 where
   pub place : ℕ
   pub is : pos place ≡ place_in origin k
   pub inside : place + 4 ≤ size
   pub mine : may_write_word h place ≡ true
 
--- Where the frame lies: all its words are the process's own, and the workspace is `depth` words from frame word 0.
-pub record HasFrame (h : Holding) (size : ℕ) (has : ℤ → Bool) (origin depth : ℤ) (workspace : ℕ) : Type 0 where
+-- Where the frame lies: the words that the context may write are the process's own, it may read those that the context may read, and the workspace is `depth` words from frame word 0.
+pub record HasFrame (h : Holding) (size : ℕ) (writes reads : ℤ → Bool) (origin depth : ℤ) (workspace : ℕ) : Type 0 where
   pub small : size ≤ 1048576
-  pub words : (k : ℤ) → has k ≡ true → IsOwnWord h size origin k
+  pub own : (k : ℤ) → writes k ≡ true → IsOwnWord h size origin k
+  pub readable : (k : ℤ) → reads k ≡ true → IsReadableWord h size origin k
   pub start : pos workspace ≡ pos data_start +ℤ place_in origin depth
 
 -- ---- states
 
--- all that the state says holds in an activation
-pub record Knows (m : Contents) (has : ℤ → Bool) (s : State) (act : Activation) (r : Registers) (memory : Memory) : Type 0 where
+-- all that the state says holds in an activation, and it says nothing of a word that the context may not read
+pub record Knows (m : Contents) (reads : ℤ → Bool) (s : State) (act : Activation) (r : Registers) (memory : Memory) : Type 0 where
   pub a : Means m act s.a.fact r.a
   pub b : Means m act s.b.fact r.b
   pub c : Means m act s.c.fact r.c
   pub words : (k : ℤ) → MeansWord m act k (s.frame k) (frame_word memory act.origin k)
-  pub within : (k : ℤ) → has k ≡ false → s.frame k ≡ Alone Unknown
+  pub within : (k : ℤ) → reads k ≡ false → s.frame k ≡ Alone Unknown
 
 -- the modes of a state and of a process (those of alternation and of starts come with them)
 pub data SameMode : states.Mode → machine.Mode → Type 0 where

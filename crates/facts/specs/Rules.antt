@@ -7,8 +7,8 @@ use Rattle.prefix_decoder.specs.declared.decoding.Instr.{Instr}
 use Rattle.certificate.specs.declared.fact.Fact.{Fact}
 use Rattle.certificate.specs.declared.fact.Fact.TheVariants.{Unknown, Number}
 use Rattle.certificate.specs.Contents.{Contents, label_at}
-use Rattle.certificate.specs.Contexts.{context_at}
 use Rattle.certificate.specs.Order.{least_word}
+use Rattle.certificate.specs.Rights.{may_write_word, may_read_word}
 use Rattle.machine_state.specs.declared.op.Op.{Op}
 use Rattle.machine_state.specs.declared.op.Op.TheVariants.{Reverse, StopProcess, MinimumInteger}
 use Rattle.machine_state.specs.LocalStep.{op_of, fits_word, target}
@@ -18,7 +18,7 @@ use Rattle.states.specs.declared.known.Source.TheVariants.{Nowhere, From}
 use Rattle.states.specs.declared.known.WordFact.{WordFact}
 use Rattle.states.specs.declared.known.Mode.{Mode}
 use Rattle.states.specs.declared.known.Mode.TheVariants.{Plain, Enabling, Disabling, Starting}
-use Rattle.states.specs.State.{State, unknown, known, plain, written, has_word}
+use Rattle.states.specs.State.{State, unknown, known, plain, written}
 use Rattle.states.specs.Below.{below}
 
 -- where a rule leads
@@ -72,15 +72,19 @@ unfoldable pub forward : ℤ → Ruling → Ruling
 forward (pos n) k = k
 forward (negsuc n) k = breaks 11
 
--- word k is one of the frame of the state's context
-unfoldable pub owns : Site → State → ℤ → Ruling → Ruling
-owns site s k next = if has_word (context_at site.contents s.context) k then next else breaks 14
+-- the state's context may write word k of its frame
+unfoldable pub writes_word : Site → State → ℤ → Ruling → Ruling
+writes_word site s k next = if may_write_word site.contents s.context k then next else breaks 14
 
--- the three words below the workspace are the context's, and unknown afterwards
+-- the state's context may read word k of its frame
+unfoldable pub reads_word : Site → State → ℤ → Ruling → Ruling
+reads_word site s k next = if may_read_word site.contents s.context k then next else breaks 14
+
+-- the context may write the three words below the workspace, and they are unknown afterwards
 unfoldable pub schedules : Site → State → (State → Ruling) → Ruling
 schedules site s k =
     let below = λ (n : ℕ). s.depth +ℤ negsuc n in
-    owns site s (below 0) (owns site s (below 1) (owns site s (below 2)
+    writes_word site s (below 0) (writes_word site s (below 1) (writes_word site s (below 2)
     (k (written (below 2) Unknown (written (below 1) Unknown (written (below 0) Unknown s))))))
 
 -- each byte of the instruction is paid from the number
@@ -140,10 +144,10 @@ unfoldable pub rule : Site → Fun → ℤ → State → Ruling
 rule site LoadConstant e s = goes_on site (push (constant e) s)
 rule site LoadLocal e s =
     let k = s.depth +ℤ e in
-    outside_starts s.mode (owns site s k (goes_on site (push (loaded k (s.frame k)) s)))
+    outside_starts s.mode (reads_word site s k (goes_on site (push (loaded k (s.frame k)) s)))
 rule site StoreLocal e s =
     let k = s.depth +ℤ e in
-    uses s.a (λ a. outside_alternation s.mode (outside_starts s.mode (owns site s k (goes_on site (pop (written k a s))))))
+    uses s.a (λ a. outside_alternation s.mode (outside_starts s.mode (writes_word site s k (goes_on site (pop (written k a s))))))
 rule site AddConstant e s =
     uses s.a (λ a. number a (λ lo hi. in_word (lo +ℤ e) (hi +ℤ e) (λ sum.
     outside_alternation s.mode (outside_starts s.mode (goes_on site (with_a (known sum) s))))))

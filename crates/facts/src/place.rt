@@ -35,34 +35,47 @@ impl Place<'_, '_> {
     ghost use Rattle.machine_state.specs.LocalStep.{target};
     ghost use Rattle.machine_state.specs.declared.op.Op.TheVariants.{Reverse, StopProcess, MinimumInteger};
     ghost use Rattle.states.specs.Views.{state_of, CanWrite, BelongsTo};
-    ghost use Rattle.facts.specs.Rules.{owns, schedules, pays, goes_on, leads_to, operation_rule, rule};
+    ghost use Rattle.facts.specs.Rules.{writes_word, reads_word, schedules, pays, goes_on, leads_to, operation_rule, rule};
     ghost use Rattle.facts.specs.Telling.{Admits, Leaves, Advances};
     ghost use Rattle.facts.specs.Places.{site_of};
 
-    /// The word so far from the workspace is one of the frame of the state's context.
-    #[tactic(auto, unfolding(crate::specs::Rules::owns))]
-    fn owns(&self, state: &State, distance: i32) -> Result<i32, RuleFault>
+    /// The state's context may write the word so far from the workspace.
+    #[tactic(auto, unfolding(crate::specs::Rules::writes_word))]
+    fn writes_word(&self, state: &State, distance: i32) -> Result<i32, RuleFault>
         requires { BelongsTo self.now.program.now state.now }
-        ensures test { Admits result (owns (site_of self.now) (state_of state.now) (state.now.depth +ℤ distance)) }
+        ensures test { Admits result (writes_word (site_of self.now) (state_of state.now) (state.now.depth +ℤ distance)) }
         ensures word { IfOk result (λ k. k ≡ state.now.depth +ℤ distance) }
         ensures room { IfOk result (CanWrite state.now) }
     {
-        match state.own_word(i64::from(state.depth) + i64::from(distance)) {
+        match state.writable_word(i64::from(state.depth) + i64::from(distance)) {
             Some(word) => Ok(word),
             None => Err(RuleFault { number: OWN_WORD }),
         }
     }
 
-    /// The three words below the workspace are the context's, and unknown from now on.
+    /// The state's context may read the word so far from the workspace.
+    #[tactic(auto, unfolding(crate::specs::Rules::reads_word))]
+    fn reads_word(&self, state: &State, distance: i32) -> Result<i32, RuleFault>
+        requires { BelongsTo self.now.program.now state.now }
+        ensures test { Admits result (reads_word (site_of self.now) (state_of state.now) (state.now.depth +ℤ distance)) }
+        ensures word { IfOk result (λ k. k ≡ state.now.depth +ℤ distance) }
+    {
+        match state.readable_word(i64::from(state.depth) + i64::from(distance)) {
+            Some(word) => Ok(word),
+            None => Err(RuleFault { number: OWN_WORD }),
+        }
+    }
+
+    /// The context may write the three words below the workspace, and they are unknown from now on.
     #[tactic(auto, unfolding(crate::specs::Rules::schedules))]
     fn schedules(&self, state: &mut State) -> Result<(), RuleFault>
         requires { BelongsTo self.now.program.now state.old }
         ensures test { Leaves result (state_of state.new) (schedules (site_of self.now) (state_of state.old)) }
         ensures belongs { BelongsTo self.now.program.now state.new }
     {
-        let first = self.owns(state, -1)?;
-        let second = self.owns(state, -2)?;
-        let third = self.owns(state, -3)?;
+        let first = self.writes_word(state, -1)?;
+        let second = self.writes_word(state, -2)?;
+        let third = self.writes_word(state, -3)?;
         state.write(first, Fact::Unknown);
         state.write(second, Fact::Unknown);
         state.write(third, Fact::Unknown);
@@ -135,7 +148,7 @@ impl Place<'_, '_> {
         ensures belongs { BelongsTo self.now.program.now state.new }
     {
         outside_starts(state.mode)?;
-        let word = self.owns(state, distance)?;
+        let word = self.reads_word(state, distance)?;
         let fact = state.fact_at(word);
         state.push(loaded(word, fact));
         self.goes_on(state)
@@ -150,7 +163,7 @@ impl Place<'_, '_> {
         let fact = uses(state.a)?;
         outside_alternation(state.mode)?;
         outside_starts(state.mode)?;
-        let word = self.owns(state, distance)?;
+        let word = self.writes_word(state, distance)?;
         state.write(word, fact);
         state.pop();
         self.goes_on(state)

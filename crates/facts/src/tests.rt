@@ -30,6 +30,19 @@ const LOOP: [u8; 130] = [
     0, 3, 0, 0, 0, 6, 0, 0, 0, 0, 0, 0, 0,
 ];
 
+/// `ldc 0; stopp; stopp`, with nine data words, base 4 and an ample budget, and a PAR row of the root with two branches,
+/// of which the first may write the words -3 to -1 and 1 and read the word 2. At offset 3 there is a label of that branch
+/// with number 100.
+const BRANCHES: [u8; 182] = [
+    0x54, 0x50, 0x4d, 0x31, 5, 0, 0, 0, 0, 0, 0, 0, 9, 0, 0, 0, 4, 0, 0, 0, 0xe8, 3, 0, 0, 0, 0, 0,
+    0, 0, 0, 0, 0, 0, 0, 0, 0, 0, 0, 0, 0, 0, 0, 0, 0, 0, 0, 0, 0, 0, 0, 0, 0, 0, 0, 0, 0, 0, 0, 0,
+    0, 0, 0, 0, 0, 0, 0, 0, 0, 1, 0, 0, 0, 1, 0, 0, 0, 0x40, 0x21, 0xf5, 0x21, 0xf5, 3, 0, 0, 0, 1,
+    0, 0, 0, 0, 0, 100, 0, 0, 0, 0, 0, 0, 0, 0, 0, 0, 0, 0, 0, 0, 0, 0, 0, 0, 0, 0, 0, 0, 1, 0, 0,
+    0, 0, 0, 2, 0, 1, 0, 0, 0, 0, 0, 0, 0, 2, 0, 1, 0, 0, 0, 0, 0, 0, 0, 0xfd, 0xff, 0xff, 0xff, 0,
+    0, 0, 0, 1, 0, 0, 0, 2, 0, 0, 0, 2, 0, 0, 0, 3, 0, 0, 0, 3, 0, 0, 0, 0, 0, 0, 0, 0, 0, 0, 0, 0,
+    0, 0, 0, 0, 0,
+];
+
 /// What follows an instruction, for a comparison: A, B, C and the number behind it.
 #[derive(Clone, Copy, Debug, PartialEq, Eq)]
 enum Follows {
@@ -55,7 +68,7 @@ fn byte(fun: Fun, operand: i32) -> Instr {
 }
 
 /// The state where the module begins.
-fn root<'a>(alloc: Global, module: &Module) -> Option<State<'a>>
+fn root<'a>(alloc: Global, module: &'a Module<'a>) -> Option<State<'a>>
     ensures { IfSome result (BelongsTo «module».now) }
 {
     State::root(alloc, module).ok()
@@ -67,13 +80,13 @@ fn write(module: &Module, state: &mut State, word: i64, fact: Fact) -> Option<()
     ensures { BelongsTo «module».now state.new }
 {
     let _ = module;
-    let word = state.own_word(word)?;
+    let word = state.writable_word(word)?;
     state.write(word, fact);
     Some(())
 }
 
 /// The state where the module begins, but that B is 7, A is 5 and the word 1 is from 1 to 5.
-fn before<'a>(alloc: Global, module: &Module) -> Option<State<'a>>
+fn before<'a>(alloc: Global, module: &'a Module<'a>) -> Option<State<'a>>
     ensures { IfSome result (BelongsTo «module».now) }
 {
     let mut state = root(alloc, module)?;
@@ -206,7 +219,7 @@ fn first_row<'a>(module: &'a Module) -> Option<&'a LabelRow>
 }
 
 /// The state of the module's first label.
-fn at_label<'a>(alloc: Global, module: &'a Module) -> Option<State<'a>>
+fn at_label<'a>(alloc: Global, module: &'a Module<'a>) -> Option<State<'a>>
     ensures { IfSome result (BelongsTo «module».now) }
 {
     let mut state = root(alloc, module)?;
@@ -343,5 +356,51 @@ fn a_loop_is_entered_and_kept(rt: HostRuntime) {
             number,
         ));
         assert_eq!(rt; found, Some(expected), "{word} {value} {number}");
+    }
+}
+
+/// What follows an instruction in the branch, with the workspace at this word of the frame and 5 in A.
+fn branch(alloc: Global, depth: i32, instr: Instr) -> Option<Result<Follows, u8>> {
+    let module = Module::read(alloc, &BRANCHES).ok()?;
+    let mut state = at_label(alloc, &module)?;
+    state.push(constant(5));
+    state.depth = depth;
+    outcome(alloc, &module, &state, 3, instr)
+}
+
+#[test]
+fn a_branch_uses_its_own_words(rt: HostRuntime) {
+    let unknown = Known::UNKNOWN;
+    let loaded = Ok(Follows::Falls([unknown, constant(5), unknown], 99));
+    let stored = Ok(Follows::Falls([unknown, unknown, unknown], 99));
+    let stop = Instr {
+        fun: Fun::Operate,
+        operand: 0x15,
+        len: 2,
+    };
+    let cases = [
+        (0, byte(Fun::LoadLocal, 1), loaded),
+        (0, byte(Fun::LoadLocal, 2), loaded),
+        (0, byte(Fun::LoadLocal, 0), Err(14)),
+        (0, byte(Fun::LoadLocal, 3), Err(14)),
+        (3, byte(Fun::LoadLocal, -1), loaded),
+        (0, byte(Fun::StoreLocal, 1), stored),
+        (0, byte(Fun::StoreLocal, 2), Err(14)),
+        (0, byte(Fun::StoreLocal, 0), Err(14)),
+        (0, byte(Fun::StoreLocal, 3), Err(14)),
+        (3, byte(Fun::StoreLocal, -1), Err(14)),
+        // The three words below the workspace: all are the branch's, or the first is not, the second or the third.
+        (0, stop, Ok(Follows::Ends)),
+        (1, stop, Err(14)),
+        (2, stop, Err(14)),
+        (-1, stop, Err(14)),
+        (0, byte(Fun::Jump, 0), Err(16)),
+        (1, byte(Fun::Jump, 0), Err(14)),
+        (2, byte(Fun::Jump, 0), Err(14)),
+        (-1, byte(Fun::Jump, 0), Err(14)),
+    ];
+    for (depth, instr, expected) in cases {
+        let found = branch(rt.alloc(), depth, instr).or_else(|| branch(rt.alloc(), depth, instr));
+        assert_eq!(rt; found, Some(expected), "{depth} {instr:?}");
     }
 }

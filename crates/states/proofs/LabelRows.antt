@@ -11,12 +11,13 @@ use Rattle.certificate.specs.declared.rows.LabelRow.{LabelRow}
 use Rattle.certificate.specs.declared.contexts.Context.{Context}
 use Rattle.certificate.specs.Contents.{Contents, Procedure, Label, label_of, label_at}
 use Rattle.certificate.specs.Contexts.{context_at}
+use Rattle.certificate.specs.Rights.{has_word}
 use Rattle.certificate.specs.Order.{InOrder, least_word}
 use Rattle.certificate.specs.Facts.{WordKeeps, EntryKeeps, behind_entry, end_of, LabelKeeps, behind_label}
 use Rattle.certificate.specs.Keeping.{Keeps, LabelFits, RowFits, EntryFits}
 use Rattle.states.specs.declared.known.WordFact.{WordFact}
 use Rattle.states.specs.declared.known.WordFact.TheVariants.{Alone}
-use Rattle.states.specs.State.{is_word, is_about, said_of, entry_fact, has_word}
+use Rattle.states.specs.State.{is_word, is_about, said_of, entry_fact}
 use Rattle.states.specs.Rows.{rise_from, LoopFits, IsRowOf}
 use Rattle.states.proofs.RowFacts.{and-parts, and-both, le-yes, lt-yes, le-from, lt-from}
 

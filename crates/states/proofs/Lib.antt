@@ -7,3 +7,4 @@ pub mod RowFacts
 pub mod FrameFacts
 pub mod Comparisons
 pub mod States
+pub mod OwnWords

@@ -13,11 +13,12 @@ use Rattle.certificate.specs.declared.rows.Parameter.{Parameter}
 use Rattle.certificate.specs.declared.tables.Version.{Version}
 use Rattle.certificate.specs.Contents.{Contents, Procedure, Par}
 use Rattle.certificate.specs.Contexts.{context_at, owner, branch_count, procedure_context}
+use Rattle.certificate.specs.Rights.{has_word}
 use Rattle.certificate.specs.Order.{InOrder}
 use Rattle.certificate.specs.Procedures.{ParameterKeeps, behind_parameter, ProcedureKeeps, behind_procedure}
 use Rattle.certificate.specs.Keeping.{Keeps}
 use Rattle.states.specs.declared.frame.Frame.{Frame}
-use Rattle.states.specs.State.{Facts, entry_fact, parameter_fact, parameter_facts, procedure_facts, has_word}
+use Rattle.states.specs.State.{Facts, entry_fact, parameter_fact, parameter_facts, procedure_facts}
 use Rattle.states.specs.Frames.{with_alone, HasRoom, HasRoomForAll, SameRoom}
 use Rattle.states.specs.declared.state.State.{State as InMemory}
 use Rattle.states.specs.Views.{BelongsTo}

@@ -1,6 +1,6 @@
 -- States that are equal field by field, and the words of all contexts.
-use Rattle.std.proofs.Common.{◌≡◌, ℕ, zero, suc, ◌+◌, ◌-◌, ◌<◌, ℤ, ◌≤ℤ◌, ◌<ℤ◌, true, ◌&&◌, cond, List, [], ◌∷◌, length, get_or, map, Option, Some, None, Result, Ok, Err, refl, sym, ap, ◌∙◌, subst, arith, rules, inl, inr}
-use Rattle.std.specs.Prelude.{int_le, int_lt, slice_get, option_map, nat_lt, ◌==◌, FitsSigned}
+use Rattle.std.proofs.Common.{◌≡◌, ℕ, zero, suc, ◌+◌, ◌-◌, ◌<◌, ℤ, ◌≤ℤ◌, ◌<ℤ◌, true, cond, List, [], ◌∷◌, length, get_or, map, Option, Some, None, Result, Ok, Err, refl, sym, ap, ◌∙◌, subst, arith, rules, inl, inr}
+use Rattle.std.specs.Prelude.{slice_get, option_map, nat_lt, ◌==◌, FitsSigned}
 use Rattle.std.specs.Int.{w32}
 use Rattle.std.specs.Result.{result_ok, OkIff}
 use Rattle.std.proofs.lemmas.List.{get_or_default}
@@ -11,8 +11,9 @@ use Rattle.certificate.specs.declared.contexts.Context.{Context}
 use Rattle.certificate.specs.declared.rows.ProcedureRow.{ProcedureRow}
 use Rattle.certificate.specs.Contents.{Contents, procedure_of}
 use Rattle.certificate.specs.Contexts.{context_at, own_context, owner, branch_count, root_context, procedure_context}
+use Rattle.certificate.specs.Rights.{has_word}
 use Rattle.states.specs.declared.known.Known.{Known}
-use Rattle.states.specs.State.{State, Facts, with_fact, forgets, written, has_word}
+use Rattle.states.specs.State.{State, Facts, with_fact, forgets, written}
 use Rattle.states.specs.Room.{Covers}
 use Rattle.states.specs.declared.state.State.{State as InMemory}
 use Rattle.states.specs.Views.{CanWrite}
@@ -28,12 +29,6 @@ written-fields word w v fact s a b c frame p q r f w_is v_is =
     let c_is = r ∙ ap (λ (z : ℤ). forgets z s.c) w_is in
     let frame_is = f ∙ ap (λ (z : ℤ). with_fact z fact s.frame) v_is in
     λ i. record s { a = a_is i; b = b_is i; c = c_is i; frame = frame_is i }
-
--- the words of a context, told by two numbers
-pub own-words : (m tables : Contents) (context : ℕ) (lo hi low high : ℤ) → tables ≡ m → low ≡ lo → high ≡ hi → ((k : ℤ) → has_word (context_at tables context) k ≡ (int_le lo k && int_lt k hi))
-    → (k : ℤ) → has_word (context_at m context) k ≡ (int_le low k && int_lt k high)
-own-words m tables context lo hi low high is low_is high_is each = λ k.
-    ap (λ c. has_word (context_at c context) k) (sym is) ∙ (each k ∙ (ap (λ z. int_le z k && int_lt k hi) (sym low_is) ∙ ap (λ z. int_le low k && int_lt k z) (sym high_is)))
 
 -- ---- the words of all contexts
 

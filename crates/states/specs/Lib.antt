@@ -6,3 +6,4 @@ pub mod Frames
 pub mod Comparing
 pub mod Views
 pub mod Room
+pub mod Words

@@ -2,7 +2,7 @@
 use Rattle.std.specs.Prelude.{◌≡◌, ℕ, ℤ, ◌≤ℤ◌, ◌<ℤ◌, true}
 use Rattle.certificate.specs.Contents.{Contents}
 use Rattle.certificate.specs.Contexts.{context_at}
-use Rattle.states.specs.State.{has_word}
+use Rattle.certificate.specs.Rights.{has_word}
 
 -- each word of each context lies from lo up to hi
 pub record Covers (m : Contents) (lo hi : ℤ) : Type 0 where

@@ -5,10 +5,11 @@ use Rattle.certificate.specs.declared.rows.Entry.{Entry}
 use Rattle.certificate.specs.Order.{least_word}
 use Rattle.certificate.specs.Contents.{Contents, Label}
 use Rattle.certificate.specs.Contexts.{context_at}
+use Rattle.certificate.specs.Rights.{has_word}
 use Rattle.certificate.specs.Facts.{end_of, IsLoop}
 use Rattle.states.specs.declared.known.WordFact.{WordFact}
 use Rattle.states.specs.declared.known.WordFact.TheVariants.{Alone, Index, Count}
-use Rattle.states.specs.State.{is_alone, entry_fact, has_word}
+use Rattle.states.specs.State.{is_alone, entry_fact}
 
 -- the entries begin at this word or later, each behind the one before it
 abbrev pub rise_from : ℤ → List Entry → Bool

@@ -1,5 +1,5 @@
 -- What is known of a process at a place of its code.
-use Rattle.std.specs.Prelude.{ℕ, ◌+◌, ℤ, pos, ◌+ℤ◌, ◌-ℤ◌, int_le, int_lt, ◌&&◌, Bool, true, false, if◌then◌else◌, List, [], ◌∷◌, Option, Some, None}
+use Rattle.std.specs.Prelude.{ℕ, ◌+◌, ℤ, pos, ◌+ℤ◌, ◌-ℤ◌, int_le, int_lt, ◌&&◌, Bool, true, false, if◌then◌else◌, List, [], ◌∷◌}
 use Rattle.certificate.specs.declared.fact.Fact.{Fact}
 use Rattle.certificate.specs.declared.fact.Fact.TheVariants.{Unknown, Number, Pointer, Loop, ReturnAddress}
 use Rattle.certificate.specs.declared.fact.Step.TheVariants.{Word}
@@ -7,7 +7,6 @@ use Rattle.certificate.specs.declared.rows.Entry.{Entry}
 use Rattle.certificate.specs.declared.rows.Parameter.{Parameter}
 use Rattle.certificate.specs.declared.rows.ParameterKind.{ParameterKind}
 use Rattle.certificate.specs.declared.rows.ParameterKind.TheVariants.{Value}
-use Rattle.certificate.specs.declared.contexts.Context.{Context}
 use Rattle.certificate.specs.Contents.{Contents, Procedure, Label}
 use Rattle.states.specs.declared.known.WordFact.{WordFact}
 use Rattle.states.specs.declared.known.WordFact.TheVariants.{Alone, Index, Count}
@@ -176,10 +175,3 @@ procedure_state context p = record {
   mode = Plain;
   guards = [];
 }
-
--- ---- contexts
-
--- word k of the frame is the context's: the root and the procedures have their whole frame
-abbrev pub has_word : Option Context → ℤ → Bool
-has_word None k = false
-has_word (Some context) k = int_le context.lo k && int_lt k context.hi

@@ -1,11 +1,14 @@
 -- A state in memory, as the state that it is, and the module that it is one of.
-use Rattle.std.specs.Prelude.{◌≡◌, ℕ, ℤ, true, ◌&&◌, int_le, int_lt, Result, Ok, Err}
+use Rattle.std.specs.Prelude.{◌≡◌, ℕ, ℤ, true, Result, Ok, Err}
 use Rattle.certificate.specs.Contents.{Contents}
 use Rattle.certificate.specs.Contexts.{context_at}
+use Rattle.certificate.specs.Keeping.{Keeps}
+use Rattle.certificate.specs.Rights.{has_word}
 use Rattle.states.specs.declared.state.State.{State as InMemory}
 use Rattle.states.specs.declared.rule.RuleFault.{RuleFault}
-use Rattle.states.specs.State.{State, has_word}
+use Rattle.states.specs.State.{State}
 use Rattle.states.specs.Frames.{frame_facts, HasRoom}
+use Rattle.states.specs.Words.{AreWordsOf}
 
 abbrev pub state_of : InMemory → State
 state_of s = record {
@@ -24,9 +27,11 @@ state_of s = record {
 pub record CanWrite (s : InMemory) (k : ℤ) : Type 0 where
   pub room : HasRoom s.frame k
 
--- The state is one of this module: it knows which words its context has, and has room for each word of each context.
+-- The state is one of this module, which keeps the format: it knows which words its context may write and read, and has
+-- room for each word of each context.
 pub record BelongsTo (m : Contents) (s : InMemory) : Type 0 where
-  pub own : (k : ℤ) → has_word (context_at m s.context) k ≡ (int_le s.lo k && int_lt k s.hi)
+  pub kept : Keeps m
+  pub words : AreWordsOf m s.context s.words
   pub room : (n : ℕ) (k : ℤ) → has_word (context_at m n) k ≡ true → CanWrite s k
 
 -- an answer with its fault as a number

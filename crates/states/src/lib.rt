@@ -11,6 +11,7 @@ mod rule;
 mod state;
 #[cfg(test)]
 mod tests;
+mod words;
 
 pub use comparison::below;
 pub use implication::{implies, says};

@@ -1,17 +1,18 @@
 //! What is known of a process at a place of its code.
 
-ghost use Rattle.std.specs.Prelude.{◌≡◌, ◌≤◌, ◌-◌, ◌≤ℤ◌, ◌<ℤ◌, ℕ, ℤ, IfOk, IfSome, Some, is_some, true, ◌&&◌, int_le, int_lt, slice_get};
+ghost use Rattle.std.specs.Prelude.{◌≡◌, ◌≤◌, ◌-◌, ◌≤ℤ◌, ℤ, IfOk, IfSome, Some, is_some, slice_get};
 ghost use Rattle.certificate.specs.Contents.{Contents, contents_of, procedure_of, label_of};
-ghost use Rattle.certificate.specs.Contexts.{context_at};
+ghost use Rattle.certificate.specs.Rights.{may_write_word, may_read_word};
 ghost use Rattle.certificate.specs.Keeping.{Keeps};
-ghost use Rattle.states.specs.State.{unknown, known, without_source, forgets, written, root_state, procedure_state, label_state, has_word};
+ghost use Rattle.states.specs.State.{unknown, known, without_source, forgets, written, root_state, procedure_state, label_state};
 ghost use Rattle.states.specs.Rows.{LoopFits, IsRowOf};
 ghost use Rattle.states.specs.Views.{state_of, CanWrite, BelongsTo};
 ghost use Rattle.states.specs.Room.{Covers};
 
 use crate::frame::Frame;
 use crate::known::{Guard, Known, Mode, Source, WordFact};
-use certificate::{Fact, LabelRow, Module, ProcedureRow, Tables, context_at};
+use crate::words::Words;
+use certificate::{Fact, LabelRow, Module, ProcedureRow, Tables};
 use std::alloc::{AllocError, Global};
 
 /// How many guards an alternation may have.
@@ -27,10 +28,8 @@ pub struct State<'a> {
     pub b: Known,
     pub c: Known,
     pub(crate) frame: Frame<'a>,
-    /// The first word of the context's frame.
-    pub(crate) lo: i64,
-    /// The first word behind the context's frame.
-    pub(crate) hi: i64,
+    /// The words of the frame that the context may use.
+    pub(crate) words: Words<'a>,
     /// What may still be paid.
     pub number: u64,
     pub mode: Mode,
@@ -76,17 +75,6 @@ impl Known {
     }
 }
 
-/// The first word of a context's frame, and the first behind it; no words where there is no such context.
-fn own_words(tables: &Tables, context: u16) -> (i64, i64)
-    requires { Keeps (contents_of tables.now) }
-    ensures { (k : ℤ) → has_word (context_at (contents_of tables.now) context) k ≡ (int_le result.0 k && int_lt k result.1) }
-{
-    match context_at(tables, context) {
-        Some(words) => (words.lo, words.hi),
-        None => (0, 0),
-    }
-}
-
 /// The first word that some context of the module has, and the first behind all of them.
 fn room_of(tables: &Tables) -> (i32, i32)
     requires { Keeps (contents_of tables.now) }
@@ -105,14 +93,13 @@ fn room_of(tables: &Tables) -> (i32, i32)
 
 impl<'a> State<'a> {
     /// The state of the root when the module begins.
-    pub fn root(alloc: Global, module: &Module) -> Result<Self, AllocError>
+    pub fn root(alloc: Global, module: &'a Module<'a>) -> Result<Self, AllocError>
         ensures state { IfOk result (λ s. state_of s ≡ root_state «module».now) }
         ensures belongs { IfOk result (BelongsTo «module».now) }
     {
         let tables = module.tables();
         let (lo, hi) = room_of(tables);
         let room = (i64::from(hi) - i64::from(lo)) as usize;
-        let (own_lo, own_hi) = own_words(tables, 0);
         Ok(State {
             context: 0,
             depth: 0,
@@ -120,21 +107,34 @@ impl<'a> State<'a> {
             b: Known::UNKNOWN,
             c: Known::UNKNOWN,
             frame: Frame::new(alloc, lo, room)?,
-            lo: own_lo,
-            hi: own_hi,
+            words: Words::of(module, 0),
             number: tables.budget,
             mode: Mode::Plain,
             guards: Vec::with_capacity(alloc, MAX_GUARDS)?,
         })
     }
 
-    /// The word, if it is one of the frame of the state's context.
-    pub fn own_word(&self, word: i64) -> Option<i32>
+    /// The word, if the state's context may write it. The time goes with the logarithm of the intervals of a
+    /// branch's row.
+    pub fn writable_word(&self, word: i64) -> Option<i32>
         ensures some { IfSome result (λ k. k ≡ word) }
-        ensures own { (m : Contents) → BelongsTo m self.now → is_some result ≡ has_word (context_at m self.now.context) word }
+        ensures allowed { (m : Contents) → BelongsTo m self.now → is_some result ≡ may_write_word m self.now.context word }
         ensures room { (m : Contents) → BelongsTo m self.now → IfSome result (CanWrite self.now) }
     {
-        if word < self.lo || self.hi <= word {
+        if !self.words.may_write(word) {
+            return None;
+        }
+        i32::try_from(word).ok()
+    }
+
+    /// The word, if the state's context may read it. The time goes with the logarithm of the intervals of a
+    /// branch's row.
+    pub fn readable_word(&self, word: i64) -> Option<i32>
+        ensures some { IfSome result (λ k. k ≡ word) }
+        ensures allowed { (m : Contents) → BelongsTo m self.now → is_some result ≡ may_read_word m self.now.context word }
+        ensures room { (m : Contents) → BelongsTo m self.now → IfSome result (CanWrite self.now) }
+    {
+        if !self.words.may_read(word) {
             return None;
         }
         i32::try_from(word).ok()
@@ -193,16 +193,14 @@ impl<'a> State<'a> {
 
     /// The state goes on as that in which a procedure begins, whose number as a context is given. The time
     /// goes with its parameters.
-    pub fn become_procedure(&mut self, module: &Module, row: &ProcedureRow, context: u16)
+    pub fn become_procedure(&mut self, module: &'a Module<'a>, row: &ProcedureRow, context: u16)
         requires belongs { BelongsTo «module».now self.old }
         requires some { 1 ≤ context }
         requires row { slice_get «module».now.procedures (context - 1) ≡ Some (procedure_of row.now) }
         ensures state { state_of self.new ≡ procedure_state context (procedure_of row.now) }
         ensures belongs { BelongsTo «module».now self.new }
     {
-        let (lo, hi) = own_words(module.tables(), context);
-        self.lo = lo;
-        self.hi = hi;
+        self.words = Words::of(module, context);
         self.context = u32::from(context);
         self.depth = 0;
         self.a = Known::UNKNOWN;
@@ -215,15 +213,13 @@ impl<'a> State<'a> {
     }
 
     /// The state goes on as a label's. The time does not depend on how much is known.
-    pub fn become_label(&mut self, module: &Module, row: &'a LabelRow)
+    pub fn become_label(&mut self, module: &'a Module<'a>, row: &'a LabelRow)
         requires belongs { BelongsTo «module».now self.old }
         requires row { IsRowOf «module».now (label_of row.now) }
         ensures state { state_of self.new ≡ label_state (label_of row.now) }
         ensures belongs { BelongsTo «module».now self.new }
     {
-        let (lo, hi) = own_words(module.tables(), row.context);
-        self.lo = lo;
-        self.hi = hi;
+        self.words = Words::of(module, row.context);
         self.context = u32::from(row.context);
         self.depth = row.depth;
         self.a = Known::of(row.a);
@@ -249,8 +245,7 @@ impl<'a> State<'a> {
             b: self.b,
             c: self.c,
             frame: self.frame.copy(alloc)?,
-            lo: self.lo,
-            hi: self.hi,
+            words: self.words,
             number: self.number,
             mode: self.mode,
             guards,

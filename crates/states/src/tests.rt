@@ -3,6 +3,7 @@
 ghost use Rattle.std.specs.Prelude.{IfSome};
 ghost use Rattle.states.specs.Views.{BelongsTo};
 
+mod branches;
 mod files;
 mod loops;
 mod procedures;
@@ -28,7 +29,7 @@ const LARGE: Fact = Fact::Number { lo: 1000, hi: 1000 };
 const OWN: [i64; 5] = [-3, -2, -1, 0, 1];
 
 /// The state where the module begins.
-fn root<'a>(alloc: Global, module: &Module) -> Option<State<'a>>
+fn root<'a>(alloc: Global, module: &'a Module<'a>) -> Option<State<'a>>
     ensures { IfSome result (BelongsTo «module».now) }
 {
     State::root(alloc, module).ok()
@@ -49,7 +50,7 @@ fn write(module: &Module, state: &mut State, word: i64, fact: Fact) -> Option<()
     ensures { BelongsTo «module».now state.new }
 {
     let _ = module;
-    let word = state.own_word(word)?;
+    let word = state.writable_word(word)?;
     state.write(word, fact);
     Some(())
 }
@@ -64,11 +65,13 @@ fn known_at_the_start(rt: &impl Abort, alloc: Global) -> Option<()> {
     }
     assert!(rt; state.guards.is_empty());
     for word in OWN {
-        assert_eq!(rt; state.own_word(word), Some(word as i32));
+        assert_eq!(rt; state.writable_word(word), Some(word as i32));
+        assert_eq!(rt; state.readable_word(word), Some(word as i32));
         assert_eq!(rt; state.fact_at(word as i32), WordFact::Alone(Fact::Unknown));
     }
     for word in [-4, 2, i64::MIN, i64::MAX, 1 << 32] {
-        assert_eq!(rt; state.own_word(word), None);
+        assert_eq!(rt; state.writable_word(word), None);
+        assert_eq!(rt; state.readable_word(word), None);
     }
     Some(())
 }

@@ -7,7 +7,7 @@ use Rattle.certificate.specs.Contents.{Contents}
 use Rattle.certificate.specs.Contexts.{context_at}
 use Rattle.states.specs.State.{written}
 use Rattle.states.specs.Below.{below}
-use Rattle.facts.specs.Rules.{outside_alternation, outside_starts, uses, number, in_word, forward, owns, schedules, pays, leads_to, goes_on, operation_rule, rule}
+use Rattle.facts.specs.Rules.{outside_alternation, outside_starts, uses, number, in_word, forward, writes_word, reads_word, schedules, pays, leads_to, goes_on, operation_rule, rule}
 use Rattle.verifier.specs.Judge.{judged_at, judge, verdict, refused}
 
 -- ldc 5, stl 1, ldl 1, adc 1, stl 1, stopp
@@ -29,11 +29,11 @@ first budget = record {
 }
 
 first_is_accepted : verdict (first 7) ≡ Ok tt
-unfolding judge judged_at below written context_at outside_alternation outside_starts uses number in_word forward owns schedules pays leads_to goes_on operation_rule rule
+unfolding judge judged_at below written context_at outside_alternation outside_starts uses number in_word forward writes_word reads_word schedules pays leads_to goes_on operation_rule rule
 first_is_accepted = refl
 
 first_is_dear : verdict (first 6) ≡ refused 15 5
-unfolding judge judged_at below written context_at outside_alternation outside_starts uses number in_word forward owns schedules pays leads_to goes_on operation_rule rule
+unfolding judge judged_at below written context_at outside_alternation outside_starts uses number in_word forward writes_word reads_word schedules pays leads_to goes_on operation_rule rule
 first_is_dear = refl
 
 -- ldc 5, stl 1, j 0 to the label at 3 of this number, ldl 1, stopp
@@ -55,15 +55,15 @@ jump budget number = record {
 }
 
 jump_is_accepted : verdict (jump 6 3) ≡ Ok tt
-unfolding judge judged_at below written context_at outside_alternation outside_starts uses number in_word forward owns schedules pays leads_to goes_on operation_rule rule
+unfolding judge judged_at below written context_at outside_alternation outside_starts uses number in_word forward writes_word reads_word schedules pays leads_to goes_on operation_rule rule
 jump_is_accepted = refl
 
 jump_cannot_pay : verdict (jump 5 3) ≡ refused 15 2
-unfolding judge judged_at below written context_at outside_alternation outside_starts uses number in_word forward owns schedules pays leads_to goes_on operation_rule rule
+unfolding judge judged_at below written context_at outside_alternation outside_starts uses number in_word forward writes_word reads_word schedules pays leads_to goes_on operation_rule rule
 jump_cannot_pay = refl
 
 label_cannot_pay : verdict (jump 6 2) ≡ refused 15 4
-unfolding judge judged_at below written context_at outside_alternation outside_starts uses number in_word forward owns schedules pays leads_to goes_on operation_rule rule
+unfolding judge judged_at below written context_at outside_alternation outside_starts uses number in_word forward writes_word reads_word schedules pays leads_to goes_on operation_rule rule
 label_cannot_pay = refl
 
 -- this code, with a procedure at this entry of this number, whose word 1 is a number from 0 to 5
@@ -86,19 +86,19 @@ uncalled code entry number = record {
 
 -- stopp, and in the procedure ldl 1, adc 1, stl 1, stopp
 procedure_is_accepted : verdict (uncalled (0x21 ∷ 0xf5 ∷ 0x71 ∷ 0x81 ∷ 0xd1 ∷ 0x21 ∷ 0xf5 ∷ []) 2 5) ≡ Ok tt
-unfolding judge judged_at below written context_at outside_alternation outside_starts uses number in_word forward owns schedules pays leads_to goes_on operation_rule rule
+unfolding judge judged_at below written context_at outside_alternation outside_starts uses number in_word forward writes_word reads_word schedules pays leads_to goes_on operation_rule rule
 procedure_is_accepted = refl
 
 procedure_cannot_pay : verdict (uncalled (0x21 ∷ 0xf5 ∷ 0x71 ∷ 0x81 ∷ 0xd1 ∷ 0x21 ∷ 0xf5 ∷ []) 2 4) ≡ refused 15 5
-unfolding judge judged_at below written context_at outside_alternation outside_starts uses number in_word forward owns schedules pays leads_to goes_on operation_rule rule
+unfolding judge judged_at below written context_at outside_alternation outside_starts uses number in_word forward writes_word reads_word schedules pays leads_to goes_on operation_rule rule
 procedure_cannot_pay = refl
 
 -- ldc 5 falls into the procedure
 procedure_is_fallen_into : verdict (uncalled (0x45 ∷ 0x21 ∷ 0xf5 ∷ []) 1 5) ≡ refused 3 1
-unfolding judge judged_at below written context_at outside_alternation outside_starts uses number in_word forward owns schedules pays leads_to goes_on operation_rule rule
+unfolding judge judged_at below written context_at outside_alternation outside_starts uses number in_word forward writes_word reads_word schedules pays leads_to goes_on operation_rule rule
 procedure_is_fallen_into = refl
 
 -- stopp, and the procedure begins at its second byte
 procedure_is_hidden : verdict (uncalled (0x21 ∷ 0xf5 ∷ []) 1 5) ≡ refused 2 1
-unfolding judge judged_at below written context_at outside_alternation outside_starts uses number in_word forward owns schedules pays leads_to goes_on operation_rule rule
+unfolding judge judged_at below written context_at outside_alternation outside_starts uses number in_word forward writes_word reads_word schedules pays leads_to goes_on operation_rule rule
 procedure_is_hidden = refl

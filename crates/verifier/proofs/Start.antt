@@ -5,6 +5,8 @@ use Rattle.std.proofs.lemmas.Bool.{le-leb}
 use Rattle.std.proofs.lemmas.Int.{ints}
 use Rattle.std.specs.Prelude.{slice_get, int_le, int_lt}
 use Rattle.certificate.specs.Contents.{Contents, Par}
+use Rattle.certificate.specs.Rights as rights
+use Rattle.certificate.specs.Rights.{has_word}
 use Rattle.certificate.specs.Contexts.{root_context, own_context, branch_count, owner, context_at}
 use Rattle.machine_state.specs.declared.process.Mode.TheVariants as machine_modes
 use Rattle.machine_state.specs.declared.link.InputLink.{InputLink}
@@ -14,7 +16,6 @@ use Rattle.machine_state.specs.Holding.{may_write, may_write_word}
 use Rattle.machine_state.specs.World.{Role, padding, loaded_memory, root_holding, root_task, root_role, quiet_links, loaded}
 use Rattle.machine_state.specs.LocalStep.{Local}
 use Rattle.states.specs.State.{root_state}
-use Rattle.states.specs.State.{has_word}
 use Rattle.verifier.specs.Certified.{begins, IsCertified}
 use Rattle.facts.specs.Meaning.{Activation, means_unknown, nothing_known, IsOwnWord, HasFrame, both_plain, IsWellFormed}
 use Rattle.verifier.specs.Point.{Decodes}
@@ -22,6 +23,7 @@ use Rattle.machine_state.specs.Apart.{AllApart}
 use Rattle.verifier.specs.Invariant.{Meets, it_lives, Waiters, Holds}
 use Rattle.verifier.specs.Headline.{RunsWell}
 use Rattle.facts.specs.Fitting.{After}
+use Rattle.facts.proofs.Local.{readable}
 use Rattle.states.proofs.RowFacts.{and-parts, le-from, lt-from}
 use Rattle.verifier.proofs.Steps.{enter, lives_at}
 use Rattle.verifier.proofs.Worlds.{run_holds}
@@ -81,10 +83,13 @@ root_word m k h =
       mine = root_writes_word m (4 * n.0) fits;
     }
 
-root_frame : (m : Contents) → IsWellFormed m → HasFrame (root_holding m) (length (loaded_memory m)) (has_word (context_at m 0)) (pos (4 * m.base)) (pos 0) (data_start + 4 * m.base)
+root_frame : (m : Contents) → IsWellFormed m → HasFrame (root_holding m) (length (loaded_memory m)) (rights.may_write_word m 0) (rights.may_read_word m 0) (pos (4 * m.base)) (pos 0) (data_start + 4 * m.base)
 root_frame m wf = record {
   small = rw (memory_length m) (omega (arith, wf.few_words, wf.short_code, wf.few_constants));
-  words = root_word m;
+  own = λ k h. root_word m k (and-parts _ _ h).0;
+  readable = λ k h.
+      let w = root_word m k (and-parts _ _ h).0 in
+      record { place = w.place; is = w.is; inside = w.inside; readable = readable (root_holding m) w.place w.mine };
   start = omega (arith, ints);
 }
 

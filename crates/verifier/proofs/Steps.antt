@@ -9,29 +9,28 @@ use Rattle.prefix_decoder.specs.Functions.{fun_of, function_code, nibble}
 use Rattle.prefix_decoder.specs.Operand.{with_nibble, after_prefix}
 use Rattle.prefix_decoder.specs.Fetching.{ended_or, read, fetched}
 use Rattle.certificate.specs.Contents.{Contents, Label, label_at}
-use Rattle.certificate.specs.Contexts.{context_at}
+use Rattle.certificate.specs.Rights as rights
 use Rattle.certificate.specs.Starts.{procedure_at, Entered as Begun}
 use Rattle.machine_state.specs.declared.process.Registers.{Registers}
 use Rattle.machine_state.specs.declared.process.Task.{Task}
 use Rattle.machine_state.specs.declared.process.Condition.TheVariants.{Ready}
 use Rattle.machine_state.specs.declared.process.Mode as machine
 use Rattle.machine_state.specs.Memory.{Memory, byte_at, word_at}
-use Rattle.machine_state.specs.Holding.{Holding, may_write, may_read}
+use Rattle.machine_state.specs.Holding.{Holding, may_read, may_read_word}
 use Rattle.machine_state.specs.LocalStep.{Local, Outcome, goes, lands, stops, local_step}
 use Rattle.machine_state.specs.Happens.{between}
 use Rattle.states.specs.State.{State, label_state}
 use Rattle.states.specs.Below.{below}
 use Rattle.facts.specs.Rules.{Ruling, falls, breaks, rule_at}
-use Rattle.states.specs.State.{has_word}
 use Rattle.verifier.specs.Certified.{falling, state_at, Reaches, follows, IsCertified}
-use Rattle.facts.specs.Meaning.{Activation, with_turns, at_label, nothing_known, word_at_place, frame_word, IsOwnWord, HasFrame, Knows, IsWellFormed}
+use Rattle.facts.specs.Meaning.{Activation, with_turns, at_label, nothing_known, word_at_place, frame_word, IsReadableWord, HasFrame, Knows, IsWellFormed}
 use Rattle.machine_state.specs.Frame.{ChangesOwn}
 use Rattle.verifier.specs.Point.{IsReading, Stands, Decodes}
 use Rattle.verifier.specs.Invariant.{Lives}
 use Rattle.facts.proofs.Words.{means_same, frame_word_is}
-use Rattle.machine_state.proofs.Frame.{four_mine}
+use Rattle.states.proofs.RowFacts.{and-parts}
 use Rattle.facts.specs.Fitting.{After, Here, step_site, Fits, it_falls, it_leads, it_ends, it_breaks}
-use Rattle.facts.proofs.Local.{instruction_fits, readable_byte}
+use Rattle.facts.proofs.Local.{instruction_fits}
 use Rattle.facts.proofs.Entering.{below_tells, label_after}
 use Rattle.verifier.proofs.Given.{nothing_given, is_given, given_label, given_none, label_is_start}
 
@@ -47,26 +46,34 @@ word_same : (m n : Memory) (place : ℕ) → byte_at m place ≡ byte_at n place
 unfolding word_at
 word_same m n place a b c d = rw (a, b, c, d)
 
-pub knows_agree : (m : Contents) (h : Holding) (has : ℤ → Bool) (s : State) (act : Activation) (r : Registers) (memory later : Memory) → ((k : ℤ) → has k ≡ true → IsOwnWord h (length memory) act.origin k)
-    → ((place : ℕ) → may_read h place ≡ true → byte_at later place ≡ byte_at memory place) → Knows m has s act r memory → Knows m has s act r later
-knows_agree m h has s act r memory later own agree known = record {
+four_readable : (h : Holding) (place : ℕ) → may_read_word h place ≡ true → (may_read h place ≡ true) × (may_read h (place + 1) ≡ true) × (may_read h (place + 2) ≡ true) × (may_read h (place + 3) ≡ true)
+unfolding may_read_word
+four_readable h place e =
+    let p = and-parts _ _ e in
+    let q = and-parts _ _ p.0 in
+    let r = and-parts _ _ q.0 in
+    (r.0, r.1, q.1, p.1)
+
+pub knows_agree : (m : Contents) (h : Holding) (reads : ℤ → Bool) (s : State) (act : Activation) (r : Registers) (memory later : Memory) → ((k : ℤ) → reads k ≡ true → IsReadableWord h (length memory) act.origin k)
+    → ((place : ℕ) → may_read h place ≡ true → byte_at later place ≡ byte_at memory place) → Knows m reads s act r memory → Knows m reads s act r later
+knows_agree m h reads s act r memory later readable agree known = record {
   a = known.a;
   b = known.b;
   c = known.c;
-  words = λ k. elim (cases_Bool (has k)) [
+  words = λ k. elim (cases_Bool (reads k)) [
     | inl inside ↦ means_same (known.words k) refl (same k inside)
     | inr outside ↦ means_same (nothing_known m act k (frame_word later act.origin k)) (sym (known.within k outside)) refl
   ];
   within = known.within;
 }
   where
-    same : (k : ℤ) → has k ≡ true → frame_word memory act.origin k ≡ frame_word later act.origin k
+    same : (k : ℤ) → reads k ≡ true → frame_word memory act.origin k ≡ frame_word later act.origin k
     same k inside =
-        let w = own k inside in
-        let mine = four_mine h w.place w.mine in
-        let at : (place : ℕ) → may_write h place ≡ true → byte_at memory place ≡ byte_at later place = λ place e. sym (agree place (readable_byte h place e)) in
-        frame_word_is h (length memory) memory act.origin k w
-        ∙ word_same memory later w.place (at _ mine.0) (at _ mine.1) (at _ mine.2) (at _ mine.3)
+        let w = readable k inside in
+        let four = four_readable h w.place w.readable in
+        let at : (place : ℕ) → may_read h place ≡ true → byte_at memory place ≡ byte_at later place = λ place e. sym (agree place e) in
+        frame_word_is memory act.origin k w.place w.is
+        ∙ word_same memory later w.place (at _ four.0) (at _ four.1) (at _ four.2) (at _ four.3)
         ∙ sym (ap (word_at_place later) (sym w.is))
 
 -- ---- reading the code
@@ -203,15 +210,15 @@ module _ (m : Contents) (d : Decodes m) (wf : IsWellFormed m) (c : IsCertified m
           taken = 0;
           reading = record { fuel = 8; whole = refl; at_is = omega arith; spelled = holds.spelled; rest = d.reads at holds.instr holds.spelled };
           act = act;
-          frame = subst (λ n. HasFrame h n (has_word (context_at m s.context)) act.origin s.depth l.registers.workspace) (sym size) a.frame;
-          knows = known_between (knows_agree m h (has_word (context_at m s.context)) s act l.registers l.memory later a.frame.words (λ place e. agree place e refl) a.knows);
+          frame = subst (λ n. HasFrame h n (rights.may_write_word m s.context) (rights.may_read_word m s.context) act.origin s.depth l.registers.workspace) (sym size) a.frame;
+          knows = known_between (knows_agree m h (rights.may_read_word m s.context) s act l.registers l.memory later a.frame.readable (λ place e. agree place e refl) a.knows);
           mode = a.same_mode;
           paid = omega arith;
         };
         room = λ place e. absurd (cc);
       }
     where
-      known_between : {has : ℤ → Bool} {s : State} {act : Activation} {r : Registers} {memory : Memory} → Knows m has s act r memory → Knows m has s act (between at r) memory
+      known_between : {reads : ℤ → Bool} {s : State} {act : Activation} {r : Registers} {memory : Memory} → Knows m reads s act r memory → Knows m reads s act (between at r) memory
       known_between k = record { a = k.a; b = k.b; c = k.c; words = k.words; within = k.within }
 
   -- how the rule at the process's point and the step fit, with the whole instruction read

@@ -49,7 +49,7 @@ fn both(
 /// state falls into this offset. `given`: what the tables give there.
 #[tactic(auto, unfolding(crate::specs::Judge::judged_at))]
 pub(crate) fn judge<'a>(
-    module: &Module<'a>,
+    module: &'a Module<'a>,
     state: &mut State<'a>,
     falls: bool,
     given: Given<'a>,

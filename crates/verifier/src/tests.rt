@@ -1,5 +1,6 @@
 //! Small modules and the verdict on each, worked out by hand.
 
+mod branches;
 mod loops;
 mod procedures;
 mod starts;
@@ -35,11 +36,19 @@ struct Procedure<'a> {
     parameters: &'a [u8],
 }
 
-/// A PAR row with one branch, which is given nothing.
+/// A branch, which is given words of the frame: each interval from its first number up to its second.
 #[derive(Clone, Copy, Debug)]
-struct Par {
+struct Branch<'a> {
     entry: u32,
+    writes: &'a [(i32, i32)],
+    reads: &'a [(i32, i32)],
+}
+
+/// A PAR row of the root with these branches.
+#[derive(Clone, Copy, Debug)]
+struct Par<'a> {
     successor: u32,
+    branches: &'a [Branch<'a>],
 }
 
 /// A module without constants and links.
@@ -51,7 +60,7 @@ struct Shape<'a> {
     budget: u64,
     procedures: &'a [Procedure<'a>],
     label: Option<Label<'a>>,
-    par: Option<Par>,
+    par: Option<Par<'a>>,
 }
 
 /// A module with five data words, base 3 and an ample budget.
@@ -110,12 +119,37 @@ fn put_label(file: &mut Vec<u8>, row: &Label) -> Result<(), AllocError> {
     file.extend_from_slice(row.entries)
 }
 
+fn put_count(file: &mut Vec<u8>, intervals: &[(i32, i32)]) -> Result<(), AllocError> {
+    file.extend_from_slice(&(intervals.len().min(512) as u16).to_le_bytes())
+}
+
+fn put_intervals(file: &mut Vec<u8>, intervals: &[(i32, i32)]) -> Result<(), AllocError> {
+    for (lo, hi) in intervals {
+        file.extend_from_slice(&lo.to_le_bytes())?;
+        file.extend_from_slice(&hi.to_le_bytes())?;
+    }
+    Ok(())
+}
+
+fn put_branch(file: &mut Vec<u8>, row: &Branch) -> Result<(), AllocError> {
+    file.extend_from_slice(&row.entry.to_le_bytes())?;
+    file.extend_from_slice(&[0; 4])?;
+    put_count(file, row.writes)?;
+    put_count(file, row.reads)?;
+    file.extend_from_slice(&[0; 6])?;
+    put_intervals(file, row.writes)?;
+    put_intervals(file, row.reads)
+}
+
 fn put_par(file: &mut Vec<u8>, row: &Par) -> Result<(), AllocError> {
     file.extend_from_slice(&[0; 10])?;
     file.extend_from_slice(&row.successor.to_le_bytes())?;
-    file.extend_from_slice(&[0, 0, 1, 0])?;
-    file.extend_from_slice(&row.entry.to_le_bytes())?;
-    file.extend_from_slice(&[0; 14])
+    file.extend_from_slice(&[0; 2])?;
+    file.extend_from_slice(&(row.branches.len().min(512) as u16).to_le_bytes())?;
+    for branch in row.branches {
+        put_branch(file, branch)?;
+    }
+    Ok(())
 }
 
 /// The bytes of the module's file.

@@ -1,12 +1,12 @@
-//! A small module file with loops and a procedure.
+//! A small module file with loops, a procedure and two branches.
 
 use std::alloc::{AllocError, Global};
 
 /// The bytes of a field, and its value.
 pub type Field = (usize, i64);
 
-/// Code that nothing runs, twelve data words with base 4, a procedure with a parameter of each kind, and five label
-/// rows of the root.
+/// Code that nothing runs, twelve data words with base 4, a procedure with a parameter of each kind, five label rows of
+/// the root and one of each branch, and a PAR row of the root with two branches.
 pub const FIELDS: &[Field] = &[
     (4, 0x314d5054),
     // code, constants, data words, base, budget, finish
@@ -23,8 +23,8 @@ pub const FIELDS: &[Field] = &[
     (8, 0),
     // procedure rows, label rows, PAR rows
     (4, 1),
-    (4, 5),
-    (4, 0),
+    (4, 7),
+    (4, 1),
     // code
     (8, 0xf5),
     (8, 0xf5),
@@ -125,6 +125,45 @@ pub const FIELDS: &[Field] = &[
     (4, 0),
     (4, 3),
     (8, 0x4000000000000000),
+    // label rows of the branches
+    (4, 10),
+    (2, 2),
+    (4, 0),
+    (8, 0),
+    (3, 0),
+    (2, 0),
+    (4, 11),
+    (2, 3),
+    (4, 0),
+    (8, 0),
+    (3, 0),
+    (2, 0),
+    // PAR row: context, depth, block, successor, number of channels, number of branches
+    (2, 0),
+    (4, 0),
+    (4, 0),
+    (4, 1),
+    (2, 0),
+    (2, 2),
+    // branch: entry, workspace, number of written and of read intervals, and of the other gifts
+    (4, 1),
+    (4, 0),
+    (2, 2),
+    (2, 1),
+    (6, 0),
+    // written words, and words that are read
+    (4, -3),
+    (4, -1),
+    (4, 1),
+    (4, 2),
+    (4, -1),
+    (4, 1),
+    // branch that is given nothing
+    (4, 2),
+    (4, 0),
+    (2, 0),
+    (2, 0),
+    (6, 0),
 ];
 
 /// The bytes of fields, each with its least significant byte first.

@@ -14,7 +14,7 @@ use std::process::Abort;
 use std::test::*;
 
 /// A label row of the module.
-fn label<'t>(module: &'t Module, index: usize) -> Option<&'t LabelRow>
+pub fn label<'t>(module: &'t Module, index: usize) -> Option<&'t LabelRow>
     ensures { IfSome result (λ row. IsRowOf «module».now (label_of row.now)) }
 {
     let rows = module.tables().labels.as_slice();

@@ -69,11 +69,13 @@ fn begins(rt: &impl Abort, alloc: Global) -> Option<()> {
         assert_eq!(rt; known, Known::UNKNOWN);
     }
     for (word, fact) in WORDS {
-        assert_eq!(rt; state.own_word(i64::from(word)), Some(word));
+        assert_eq!(rt; state.writable_word(i64::from(word)), Some(word));
+        assert_eq!(rt; state.readable_word(i64::from(word)), Some(word));
         assert_eq!(rt; state.fact_at(word), WordFact::Alone(fact));
     }
     for word in [-3, 8] {
-        assert_eq!(rt; state.own_word(word), None);
+        assert_eq!(rt; state.writable_word(word), None);
+        assert_eq!(rt; state.readable_word(word), None);
     }
     Some(())
 }

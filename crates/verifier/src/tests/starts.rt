@@ -1,15 +1,16 @@
 //! Starts that the tables tell, at and within instructions.
 
-use super::{Par, Procedure, Shape, check, label_at, of_code};
+use super::{Branch, Par, Procedure, Shape, check, label_at, of_code};
 
 /// `ldc 0x754; stopp`: instructions start at 0 and 3.
 const CODE: &[u8] = b"\x27\x25\x44\x21\xf5";
 
-/// The code with a PAR whose branch begins, and which goes on, at these offsets.
-fn with_par(entry: u32, successor: u32) -> Shape<'static> {
-    Shape {
-        par: Some(Par { entry, successor }),
-        ..of_code(CODE)
+/// A branch that is given nothing.
+fn begins(entry: u32) -> Branch<'static> {
+    Branch {
+        entry,
+        writes: &[],
+        reads: &[],
     }
 }
 
@@ -30,7 +31,14 @@ fn branches_and_successors_stand_at_instructions(rt: HostRuntime) {
         ((4, 2), Some((2, 2))),
     ];
     for ((entry, successor), expected) in cases {
-        check(&rt, rt.alloc(), &with_par(entry, successor), expected);
+        let module = Shape {
+            par: Some(Par {
+                successor,
+                branches: &[begins(entry)],
+            }),
+            ..of_code(CODE)
+        };
+        check(&rt, rt.alloc(), &module, expected);
     }
 }
 
@@ -58,8 +66,8 @@ fn the_longest_instruction_hides_seven_offsets(rt: HostRuntime) {
     for offset in 1..10 {
         let module = Shape {
             par: Some(Par {
-                entry: offset,
                 successor: 8,
+                branches: &[begins(offset)],
             }),
             label: Some(label_at(8, 0, 2)),
             ..of_code(code)
@@ -74,8 +82,8 @@ fn a_broken_rule_goes_before_a_start_within_the_instruction(rt: HostRuntime) {
     // stl 0x12, outside the frame; stopp
     let module = Shape {
         par: Some(Par {
-            entry: 2,
             successor: 3,
+            branches: &[begins(2)],
         }),
         ..of_code(b"\x45\x21\xd2\x21\xf5")
     };

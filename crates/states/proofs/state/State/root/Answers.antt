@@ -1,14 +1,13 @@
-use Rattle.std.proofs.Common.{rules, arith}
-use Rattle.std.proofs.lemmas.Int.{ints, to_z-of_z}
-use Rattle.std.specs.Int.{w64}
+use Rattle.std.proofs.Common.{arith}
+use Rattle.std.proofs.lemmas.Int.{ints}
 use Rattle.certificate.specs.Contents.{contents_of}
-use Rattle.states.proofs.States.{own-words, covered}
+use Rattle.states.proofs.States.{covered}
 use Rattle.states.proofs.state.State.root.Goals as goal
 
 pub returns-clause-belongs : goal.returns-clause-belongs
 returns-clause-belongs c = record {
-  own = own-words c.args.module.now (contents_of c.tables-tables.result.now) 0 c.own_words-own_lo.result.0 c.own_words-own_lo.result.1 _ _
-      c.tables-tables.ensures.contents (to_z-of_z w64 _ (search rules)) (to_z-of_z w64 _ (search rules)) c.own_words-own_lo.ensures;
+  kept = c.tables-tables.ensures.kept;
+  words = c.of.ensures;
   room = λ n k h.
       let bounds = covered c.args.module.now (contents_of c.tables-tables.result.now) c.room_of-lo.result.0 c.room_of-lo.result.1 n k c.tables-tables.ensures.contents c.room_of-lo.ensures.covers h in
       let lo = c.in_ok-new.ensures.room.0 in
