@@ -43,6 +43,9 @@ const BRANCHES: [u8; 182] = [
     0, 0, 0, 0, 0,
 ];
 
+/// Where that file tells the depth of its label.
+const DEPTH: usize = 87;
+
 /// What follows an instruction, for a comparison: A, B, C and the number behind it.
 #[derive(Clone, Copy, Debug, PartialEq, Eq)]
 enum Follows {
@@ -361,10 +364,11 @@ fn a_loop_is_entered_and_kept(rt: HostRuntime) {
 
 /// What follows an instruction in the branch, with the workspace at this word of the frame and 5 in A.
 fn branch(alloc: Global, depth: i32, instr: Instr) -> Option<Result<Follows, u8>> {
-    let module = Module::read(alloc, &BRANCHES).ok()?;
+    let mut file = BRANCHES;
+    file[DEPTH..DEPTH + 4].copy_from_slice(&depth.to_le_bytes());
+    let module = Module::read(alloc, &file).ok()?;
     let mut state = at_label(alloc, &module)?;
     state.push(constant(5));
-    state.depth = depth;
     outcome(alloc, &module, &state, 3, instr)
 }
 
