@@ -189,14 +189,14 @@ module _ (h : Header) (c : Contents) (f : HeaderFits h) (e : IsFrom h c) where
         names = there;
       }
 
--- what the late look asks of rows that were read: they lie in the file, and their contexts can be counted
+-- rows that were read lie in the file, are few and keep their rules
 pub rows_ready : (bytes : List ℕ) → IsBytes bytes → {h : Header × List ℕ} {t : (Contents × ℕ) × List ℕ} → header_at bytes ≡ Ok h → tables_at (length bytes) h.0 h.1 ≡ Ok t
-    → (t.0.1 + length (flat_map label_bytes t.0.0.labels) + length (flat_map par_bytes t.0.0.pars) ≤ length bytes) × HasFewContexts t.0.0
+    → (t.0.1 + length (flat_map label_bytes t.0.0.labels) + length (flat_map par_bytes t.0.0.pars) ≤ length bytes) × LimitsKeep t.0.0 × RowsKeep t.0.0
 rows_ready bytes fits {h} {t} p q =
     let f = has_at (header_at bytes) h (header_takes bytes fits) p in
     let g = has_at (tables_at (length bytes) h.0 h.1) t (tables_take (length bytes) h.0 h.1 f.rest_fits) q in
     let whole : length bytes ≡ length (head_bytes h.0) + length h.1 = ap length f.parts ∙ length-append (head_bytes h.0) h.1 in
-    (g.inside (omega arith), few_contexts t.0.0 (limits_keep h.0 t.0.0 f.keeps g.from) g.from.rows)
+    (g.inside (omega arith), limits_keep h.0 t.0.0 f.keeps g.from, g.from.rows)
 
 -- the header of these contents
 header_of : Contents → Header

@@ -9,6 +9,7 @@ pub mod FieldLaws
 pub mod RowLaws
 pub mod ProcedureLaws
 pub mod EndLaws
+pub mod EndOrder
 pub mod BranchLaws
 pub mod ParLaws
 pub mod HeaderLaws

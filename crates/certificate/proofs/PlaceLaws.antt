@@ -14,9 +14,9 @@ use Rattle.certificate.specs.Contents.{Branch, Par, Contents, branch_of, par_of,
 use Rattle.certificate.specs.Contexts.{owner, branch_count, first_branch}
 use Rattle.certificate.specs.Order.{InOrder}
 use Rattle.certificate.specs.Pars.{Before, ParKeeps, behind_par, no_branches, entries_of}
-use Rattle.certificate.specs.Keeping.{Keeps}
+use Rattle.certificate.specs.Keeping.{RowsKeep, Keeps}
 use Rattle.certificate.specs.declared.limits.TheConstants.{MAX_BRANCHES}
-use Rattle.certificate.specs.Branches.{branches_of, numbered_branch, owner_at, Forked, branch_from, branch_at, number_from, AreNumbers, IsPlace, ArePlaces}
+use Rattle.certificate.specs.Branches.{branches_of, numbered_branch, Forked, branch_from, branch_at, number_from, AreNumbers, IsPlace, ArePlaces}
 use Rattle.certificate.proofs.OrderLaws.{each}
 use Rattle.std.proofs.lemmas.List.Elements.{All-from_recursion}
 
@@ -111,12 +111,12 @@ entry_there rows k b row entry is inside begins =
     with_item Said row.branches b inside (λ x found. rw (branch_stands rows k b row x is found) (begins x found))
 
 -- one place more
-pub more_places : (c : Contents) (k b : ℕ) (row : Par) (places : List Place) (place : Place) → Keeps c → slice_get c.pars k ≡ Some row → b < length row.branches
+pub more_places : (c : Contents) (k b : ℕ) (row : Par) (places : List Place) (place : Place) → RowsKeep c → slice_get c.pars k ≡ Some row → b < length row.branches
     → place.par ≡ k → place.branch ≡ b → place.owner ≡ owner (first_branch c) c.pars row.context
     → ((x : Branch) → slice_get row.branches b ≡ Some x → place.entry ≡ x.entry)
     → ArePlaces c (branch_count (take k c.pars) + b) places → ArePlaces c (branch_count (take k c.pars) + (b + 1)) (places ++ place ∷ [])
 more_places c k b row places place keeps is inside par branch owns begins h =
-    let before = context_before (first_branch c) (length c.code) no_branches c.pars k row keeps.rows.pars is in
+    let before = context_before (first_branch c) (length c.code) no_branches c.pars k row keeps.pars is in
     let known : row.context < first_branch c + branch_count (take k c.pars) = omega (arith, before) in
     let count = h.many in
     let here : IsPlace c (branch_count (take k c.pars) + b) place = record {
@@ -171,25 +171,6 @@ row_placed c k n row places is all h =
     let count = count_more c.pars k row is in
     let here = h.many in
     record { many = omega arith; each = h.each }
-
--- ---- looking up a context
-
-pub own_owner : (c : Contents) (n : ℕ) → n < first_branch c → Some n ≡ owner_at c n
-own_owner c n lt = rw (lt-ltb n (first_branch c + branch_count c.pars) (omega arith)) (ap Some (sym (owner_below (first_branch c) c.pars n lt)))
-
-pub place_owner : (c : Contents) (places : List Place) (n : ℕ) (place : Place) → ArePlaces c (branch_count c.pars) places → first_branch c ≤ n → n - first_branch c < length places → place ≡ get_or places (n - first_branch c) place
-    → Some place.owner ≡ owner_at c n
-place_owner c places n place h ge lt is =
-    let many = h.many in
-    let here : n < first_branch c + branch_count c.pars = omega arith in
-    let count : first_branch c + (n - first_branch c) ≡ n = omega arith in
-    let owns = (h.each (n - first_branch c) place lt).owner in
-    rw (lt-ltb n (first_branch c + branch_count c.pars) here) (ap Some (ap (λ (p : Place). p.owner) is ∙ owns ∙ ap (owner (first_branch c) c.pars) count))
-
-pub no_place : (c : Contents) (places : List Place) (n : ℕ) → ArePlaces c (branch_count c.pars) places → first_branch c ≤ n → length places ≤ n - first_branch c → None ≡ owner_at c n
-no_place c places n h ge le =
-    let many = h.many in
-    rw (le-ltb n (first_branch c + branch_count c.pars) (omega arith)) refl
 
 -- ---- looking up a branch
 

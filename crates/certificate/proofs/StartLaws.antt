@@ -1,6 +1,6 @@
 -- Where instructions start: the marks, and the rows at an offset.
-use Rattle.std.proofs.Common.{◌≡◌, ◌≢◌, ℕ, zero, suc, ◌+◌, ◌<◌, ◌≤◌, Bool, true, false, cond, eqb, List, [], ◌∷◌, length, map, get_or, Some, None, refl, sym, ap, ◌∙◌, ltb, inl, inr, arith}
-use Rattle.std.specs.Prelude.{⊤, find, is_some, ◌==◌, ◌||◌}
+use Rattle.std.proofs.Common.{◌≡◌, ◌≢◌, ℕ, zero, suc, ◌+◌, ◌<◌, ◌≤◌, Bool, true, false, cond, eqb, List, [], ◌∷◌, length, map, get_or, Option, Some, None, refl, sym, ap, ◌∙◌, ltb, inl, inr, arith}
+use Rattle.std.specs.Prelude.{⊤, find, is_some, ◌==◌, ◌||◌, MatchOption}
 use Rattle.std.specs.List.{list_any, flat_map}
 use Rattle.std.proofs.lemmas.List.Folds.{list_any-append}
 use Rattle.certificate.specs.declared.rows.LabelRow.{LabelRow}
@@ -19,7 +19,7 @@ use Rattle.certificate.specs.Order.{InOrder}
 use Rattle.certificate.specs.Facts.{LabelKeeps, behind_label}
 use Rattle.certificate.specs.Procedures.{ProcedureKeeps, behind_procedure}
 use Rattle.certificate.specs.Keeping.{Keeps}
-use Rattle.certificate.specs.Starts.{procedure_from, procedure_at, has_mark, Adds, AreStarts}
+use Rattle.certificate.specs.Starts.{procedure_from, procedure_at, EntriesRise, has_mark, Adds, AreStarts}
 
 -- ---- marks
 
@@ -205,5 +205,17 @@ procedures_rise version code_len low (row ∷ rows) keeps = (keeps.0.rises, proc
 pub module_labels : (t : Tables) → Keeps (contents_of t) → IsNonDecreasingBy (λ row. row.offset) t.labels.items
 module_labels t keeps = non_decreasing (λ row. row.offset) 0 t.labels.items (labels_rise (length t.code.now) (map procedure_of t.procedures.items) 0 t.labels.items keeps.rows.labels)
 
-pub module_procedures : (t : Tables) → Keeps (contents_of t) → IsNonDecreasingBy (λ row. row.entry) t.procedures.items
-module_procedures t keeps = non_decreasing (λ row. row.entry) 0 t.procedures.items (procedures_rise t.version (length t.code.now) 0 t.procedures.items keeps.rows.procedures)
+pub rows_rise : (version : Version) (code_len : ℕ) (rows : List ProcedureRow) → InOrder (ProcedureKeeps version code_len) behind_procedure 0 (map procedure_of rows) → EntriesRise rows
+rows_rise version code_len rows keeps = non_decreasing (λ row. row.entry) 0 rows (procedures_rise version code_len 0 rows keeps)
+
+-- a procedure begins somewhere exactly where one is found there
+pub entry_found : (n : ℕ) (ps : List Procedure) (at : ℕ) → list_any (λ p. p.entry == at) ps ≡ is_some (procedure_from n ps at)
+entry_found n [] at = refl
+entry_found n (p ∷ ps) at = elim (p.entry == at) as (λ b. (b || list_any (λ q. q.entry == at) ps) ≡ is_some (cond b (Some (record { context = n; procedure = p })) (procedure_from (n + 1) ps at))) [
+  | true ↦ refl
+  | false ↦ entry_found (n + 1) ps at
+]
+
+pub is_found : {X Y : Type 0} (r : Option X) (o : Option Y) (f : X → Y) → MatchOption r (o ≡ None) (λ x. o ≡ Some (f x)) → is_some r ≡ is_some o
+is_found None o f h = rw h refl
+is_found (Some x) o f h = rw h refl

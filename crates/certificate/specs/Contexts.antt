@@ -48,6 +48,8 @@ abbrev pub own_parameters : Contents → ℕ → List Parameter
 own_parameters c n =
     if n == 0 then [] else elim (slice_get c.procedures (n - 1)) [ None ↦ [] | Some p ↦ p.parameters ]
 
--- the parameters of the procedure that a context is or belongs to
+-- the parameters of the procedure that a context is or belongs to; none where there is no such context
 unfoldable pub parameters_at : Contents → ℕ → List Parameter
-parameters_at c n = own_parameters c (owner (first_branch c) c.pars n)
+parameters_at c n =
+    let first = first_branch c in
+    if nat_lt n (first + branch_count c.pars) then own_parameters c (owner first c.pars n) else []

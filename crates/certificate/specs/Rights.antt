@@ -1,5 +1,5 @@
 -- What a context may do with the words of its frame and with channels.
-use Rattle.std.specs.Prelude.{ℕ, zero, suc, ℤ, pos, negsuc, ◌==◌, ◌&&◌, ◌||◌, nat_lt, int_le, int_lt, Bool, true, false, if◌then◌else◌, List, length, find, get_or, slice_get, Option, Some, None, option_map, is_some, bit_and}
+use Rattle.std.specs.Prelude.{ℕ, zero, suc, ℤ, pos, negsuc, ◌==◌, ◌&&◌, ◌||◌, not, nat_lt, int_le, int_lt, Bool, true, false, if◌then◌else◌, List, length, find, get_or, slice_get, Option, Some, None, option_map, is_some, bit_and}
 use Rattle.std.specs.List.{list_any}
 use Rattle.certificate.specs.declared.contexts.Context.{Context}
 use Rattle.certificate.specs.declared.rows.Interval.{Interval}
@@ -74,7 +74,7 @@ gives_element (kinds.Value lo hi) element direction = false
 gives_element (kinds.ReadRegion size lo hi) element direction = false
 gives_element (kinds.WrittenRegion size lo hi) element direction = false
 gives_element (kinds.Channels count len ends) element direction =
-    nat_lt element count && nat_lt 0 (bit_and ends.0 (direction_number direction))
+    nat_lt element count && not (bit_and ends.0 (direction_number direction) == 0)
 
 -- a procedure has the ends that its parameters bring
 abbrev pub gives_parameter : List Parameter → EndKind → Direction → Bool

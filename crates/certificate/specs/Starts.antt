@@ -1,6 +1,8 @@
 -- The code offsets where the tables say that an instruction starts, and what begins there.
 use Rattle.std.specs.Prelude.{ℕ, ◌+◌, ◌==◌, ◌||◌, Bool, if◌then◌else◌, List, [], ◌∷◌, get_or, false, Option, Some, None, is_some, ◌≡◌}
 use Rattle.std.specs.List.{list_any}
+use Rattle.std.specs.List.Sorted.{IsNonDecreasingBy}
+use Rattle.certificate.specs.declared.rows.ProcedureRow.{ProcedureRow}
 use Rattle.certificate.specs.Contents.{Procedure, Contents, label_at}
 use Rattle.certificate.specs.Pars.{entries_of_rows}
 
@@ -16,6 +18,10 @@ procedure_from n (p ∷ ps) at = if p.entry == at then Some (record { context = 
 
 abbrev pub procedure_at : Contents → ℕ → Option Entered
 procedure_at c at = procedure_from 1 c.procedures at
+
+-- procedure rows in the order of their entries
+abbrev pub EntriesRise : List ProcedureRow → Type 0
+EntriesRise rows = IsNonDecreasingBy (λ (row : ProcedureRow). row.entry) rows
 
 -- the tables say that an instruction starts at the offset: it has a label row, or a procedure or a branch begins
 -- there, or it is the successor of a PAR

@@ -1,11 +1,13 @@
 //! The contexts of a module: the root, the procedures and the branches.
 
-ghost use Rattle.std.specs.Prelude.{◌≡◌, ◌+◌, ◌^◌, ◌<◌, length, map, nat_lt};
+ghost use Rattle.std.specs.Prelude.{◌≡◌, ◌+◌, ◌^◌, ◌<◌, map};
 ghost use Rattle.certificate.specs.Contents.{procedure_of, par_of, contents_of};
-ghost use Rattle.certificate.specs.Contexts.{root_context, procedure_context, own_context, branch_count, owner, HasFewContexts, context_at, own_parameters, parameters_at};
+ghost use Rattle.certificate.specs.Contexts.{root_context, procedure_context, own_context, branch_count, owner, own_parameters};
 
+use crate::places::{Place, owner_of};
 use crate::rows::{ParRow, Parameter, ProcedureRow};
 use crate::tables::Tables;
+use std::marker::Model;
 
 /// The frame words of a context, from `lo` up to `hi` (not included), and how many parameters it has.
 #[derive(Clone, Copy, Debug)]
@@ -48,7 +50,7 @@ fn branch_count(rows: &[ParRow]) -> usize
 }
 
 /// The root or procedure that a context is or belongs to, where `first` is the first branch of the rows.
-fn owner(rows: &[ParRow], first: usize, context: usize) -> usize
+fn owner(rows: &[ParRow], first: usize, context: u32) -> u32
     requires { first + branch_count (map par_of rows.now) < 2 ^ 64 }
     ensures { result ≡ owner first (map par_of rows.now) context }
 {
@@ -56,61 +58,141 @@ fn owner(rows: &[ParRow], first: usize, context: usize) -> usize
         [] => context,
         [row, later @ ..] => {
             let within = owner(later, first + row.branches.len(), context);
-            if within < first {
+            if (within as usize) < first {
                 within
             } else {
-                usize::from(row.context)
+                u32::from(row.context)
             }
         }
     }
 }
 
 /// The root, or the procedure of that row.
-pub(crate) fn own_context(tables: &Tables, number: usize) -> Option<Context>
+fn own_context(tables: &Tables, number: u32) -> Option<Context>
     ensures { result ≡ own_context (contents_of tables.now) number }
 {
     if number == 0 {
         return Some(root_context(tables));
     }
-    match tables.procedures.get(number - 1) {
+    match tables.procedures.get(number as usize - 1) {
         Some(row) => Some(procedure_context(row)),
         None => None,
     }
 }
 
-/// The context of a number, where there is one.
-#[tactic(auto, unfolding(crate::specs::Contexts::context_at))]
-pub fn context_at(tables: &Tables, number: u16) -> Option<Context>
-    requires { HasFewContexts (contents_of tables.now) }
-    ensures { result ≡ context_at (contents_of tables.now) number }
-{
-    let number = usize::from(number);
-    let first = 1 + tables.procedures.len();
-    if number >= first + branch_count(&tables.pars) {
-        return None;
-    }
-    own_context(tables, owner(&tables.pars, first, number))
-}
-
 /// The parameters of the procedure of a row; the root, whose number is 0, has none.
-pub(crate) fn own_parameters<'t>(tables: &'t Tables, number: usize) -> &'t [Parameter]
+fn own_parameters<'t>(tables: &'t Tables, number: u32) -> &'t [Parameter]
     ensures { result.now ≡ own_parameters (contents_of tables.now) number }
 {
     if number == 0 {
         return &[];
     }
-    match tables.procedures.get(number - 1) {
+    match tables.procedures.get(number as usize - 1) {
         Some(row) => &row.parameters,
         None => &[],
     }
 }
 
-/// The parameters of the procedure that a context is or belongs to.
-#[tactic(auto, unfolding(crate::specs::Contexts::parameters_at))]
-pub fn parameters_at<'t>(tables: &'t Tables, context: u16) -> &'t [Parameter]
-    requires { HasFewContexts (contents_of tables.now) }
-    ensures { result.now ≡ parameters_at (contents_of tables.now) context }
-{
-    let first = 1 + tables.procedures.len();
-    own_parameters(tables, owner(&tables.pars, first, usize::from(context)))
+/// Where contexts are looked up: in the rows alone, or in the places of the branches too, which takes
+/// constant time.
+#[derive(Drop)]
+pub(crate) struct Contexts<'t, 'a> {
+    tables: &'t Tables<'a>,
+    places: Option<&'t [Place]>,
+}
+
+impl<'t, 'a> Model for Contexts<'t, 'a> {
+    ghost use Rattle.std.specs.Prelude.{IfSome};
+    ghost use Rattle.certificate.specs.Contents.{Contents, contents_of};
+    ghost use Rattle.certificate.specs.Contexts.{HasFewContexts, branch_count};
+    ghost use Rattle.certificate.specs.Branches.{ArePlaces};
+
+    ghost Value = { Contents };
+
+    ghost view = { λ c. contents_of c.tables.now };
+
+    ghost invariant = { λ c. HasFewContexts (contents_of c.tables.now)
+        × IfSome c.places (λ places. ArePlaces (contents_of c.tables.now) (branch_count (contents_of c.tables.now).pars) places.now) };
+}
+
+impl<'t, 'a> Contexts<'t, 'a> {
+    ghost use Rattle.std.specs.Prelude.{◌≡◌};
+    ghost use Rattle.certificate.specs.Contents.{contents_of};
+    ghost use Rattle.certificate.specs.Contexts.{HasFewContexts, branch_count, context_at, parameters_at};
+    ghost use Rattle.certificate.specs.Branches.{ArePlaces, owner_at};
+
+    /// Looked up in the rows: each look-up goes over the PAR rows.
+    pub(crate) fn of_rows(tables: &'t Tables<'a>) -> Contexts<'t, 'a>
+        requires { HasFewContexts (contents_of tables.now) }
+        ensures { result ≡ contents_of tables.now }
+    {
+        Contexts {
+            tables,
+            places: None,
+        }
+    }
+
+    /// Looked up in the places of the branches.
+    pub(crate) fn of_places(tables: &'t Tables<'a>, places: &'t [Place]) -> Contexts<'t, 'a>
+        requires few { HasFewContexts (contents_of tables.now) }
+        requires places { ArePlaces (contents_of tables.now) (branch_count (contents_of tables.now).pars) places.now }
+        ensures { result ≡ contents_of tables.now }
+    {
+        Contexts {
+            tables,
+            places: Some(places),
+        }
+    }
+
+    /// The tables.
+    pub(crate) fn tables(&self) -> &'t Tables<'a>
+        ensures { contents_of result.now ≡ self.now }
+    {
+        self.tables
+    }
+
+    /// How many branches there are.
+    fn branches(&self) -> usize
+        ensures { result ≡ branch_count self.now.pars }
+    {
+        match self.places {
+            Some(places) => places.len(),
+            None => branch_count(&self.tables.pars),
+        }
+    }
+
+    /// The root or procedure that a context is or belongs to, where there is that context.
+    fn owner(&self, number: u32) -> Option<u32>
+        ensures { result ≡ owner_at self.now number }
+    {
+        let first = 1 + self.tables.procedures.len();
+        if number as usize >= first + self.branches() {
+            return None;
+        }
+        match self.places {
+            Some(places) => Some(owner_of(self.tables, places, number)),
+            None => Some(owner(&self.tables.pars, first, number)),
+        }
+    }
+
+    /// The context of a number, where there is one.
+    #[tactic(auto, unfolding(crate::specs::Contexts::context_at))]
+    pub(crate) fn context(&self, number: u32) -> Option<Context>
+        ensures { result ≡ context_at self.now number }
+    {
+        let owner = self.owner(number)?;
+        own_context(self.tables, owner)
+    }
+
+    /// The parameters of the procedure that a context is or belongs to; none where there is no such
+    /// context.
+    #[tactic(auto, unfolding(crate::specs::Contexts::parameters_at))]
+    pub(crate) fn parameters(&self, number: u32) -> &'t [Parameter]
+        ensures { result.now ≡ parameters_at self.now number }
+    {
+        match self.owner(number) {
+            Some(owner) => own_parameters(self.tables, owner),
+            None => &[],
+        }
+    }
 }

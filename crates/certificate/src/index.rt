@@ -2,11 +2,13 @@
 
 ghost use Rattle.std.specs.Prelude.{◌≡◌, IfOk};
 ghost use Rattle.certificate.specs.Contents.{contents_of};
+ghost use Rattle.certificate.specs.Contexts.{branch_count};
 ghost use Rattle.certificate.specs.Keeping.{Keeps};
+ghost use Rattle.certificate.specs.Branches.{ArePlaces};
 ghost use Rattle.certificate.specs.Index.{IsIndex};
 
 use crate::marks::Marks;
-use crate::places::{Place, numbers_of, places_of};
+use crate::places::{Place, numbers_of};
 use crate::starts::starts_of;
 use crate::tables::Tables;
 use std::alloc::{AllocError, Global};
@@ -23,13 +25,18 @@ pub(crate) struct Index {
 }
 
 impl Index {
-    /// The index of tables. It takes time and memory linear in the code and the rows.
-    pub(crate) fn new(alloc: Global, tables: &Tables) -> Result<Index, AllocError>
-        requires { Keeps (contents_of tables.now) }
+    /// The index of tables, of which the places of the branches are known. It takes time and memory linear
+    /// in the code and the rows.
+    pub(crate) fn new(
+        alloc: Global,
+        tables: &Tables,
+        places: Vec<Place>,
+    ) -> Result<Index, AllocError>
+        requires keeps { Keeps (contents_of tables.now) }
+        requires places { ArePlaces (contents_of tables.now) (branch_count (contents_of tables.now).pars) places.items }
         ensures { IfOk result (IsIndex (contents_of tables.now)) }
     {
         let starts = starts_of(alloc, tables)?;
-        let places = places_of(alloc, tables)?;
         let numbers = numbers_of(alloc, tables, &places)?;
         Ok(Index {
             starts,

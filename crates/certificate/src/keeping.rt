@@ -11,6 +11,7 @@ ghost use Rattle.certificate.specs.Contents.{contents_of};
 ghost use Rattle.certificate.specs.Order.{IsBytes};
 ghost use Rattle.certificate.specs.Keeping.{VersionKeeps, SizesKeep, BoundsKeep, LimitsKeep, RowsKeep, NamesAreThere, Keeps};
 
+use crate::contexts::Contexts;
 use crate::keeping::labels::labels_keep;
 use crate::keeping::pars::pars_keep;
 use crate::keeping::procedures::{procedures_keep, tables_keep};
@@ -114,7 +115,7 @@ fn names_are_there(tables: &Tables) -> bool
     requires rows { RowsKeep (contents_of tables.now) }
     ensures { IsTrue result ↔ NamesAreThere (contents_of tables.now) }
 {
-    late_rows(tables, 0).is_ok()
+    late_rows(&Contexts::of_rows(tables), 0).is_ok()
 }
 
 /// Whether tables keep the rules of the format.

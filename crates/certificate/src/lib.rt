@@ -11,6 +11,7 @@ mod limits;
 mod marks;
 mod modules;
 mod places;
+mod procedures;
 mod reading;
 mod rights;
 mod rows;
@@ -18,7 +19,7 @@ mod starts;
 mod tables;
 mod writing;
 
-pub use contexts::{Context, context_at, parameters_at};
+pub use contexts::Context;
 pub use fact::{Fact, Step};
 pub use fault::{FormatFault, LEFT_OVER, LIMIT, MAGIC, MEMORY, ORDER, RANGE, TRUNCATED};
 pub use laws::{one_contents_one_file, one_file_one_contents, reading_again, reading_finds};
@@ -27,7 +28,6 @@ pub use limits::{
     MAX_MESSAGE, MAX_PARAMETERS, MAX_PARS, MAX_PROCEDURES, MAX_TABLES,
 };
 pub use modules::Module;
-pub use rights::is_among;
 pub use rows::{
     BranchRow, ChannelRow, Direction, EndKind, EndRow, Ends, Entry, Interval, LabelRow, ParRow,
     Parameter, ParameterKind, ProcedureRow, TableRow,

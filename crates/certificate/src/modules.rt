@@ -1,9 +1,10 @@
 //! Modules that were read.
 
-use crate::contexts::{Context, own_context, own_parameters};
+use crate::contexts::{Context, Contexts};
 use crate::fault::{FormatFault, MEMORY, ReadError};
 use crate::index::Index;
 use crate::places::number_at;
+use crate::procedures::procedure_at;
 use crate::reading::tables_of;
 use crate::rows::{BranchRow, LabelRow, ParRow, Parameter, ProcedureRow};
 use crate::tables::Tables;
@@ -37,12 +38,12 @@ impl<'a> Model for Module<'a> {
 }
 
 impl<'a> Module<'a> {
-    ghost use Rattle.std.specs.Prelude.{◌≡◌, ◌≢◌, ◌⊎◌, IfOk, IfErr, MatchResult, Ok, Err, MatchOption, IfSome, Some, None, is_some, if◌then◌else◌, []};
+    ghost use Rattle.std.specs.Prelude.{◌≡◌, ◌≢◌, ◌⊎◌, IfOk, IfErr, MatchResult, Ok, Err, MatchOption, IfSome, Some, None};
     ghost use Rattle.certificate.specs.Contents.{Contents, contents_of, label_of, procedure_of, label_at};
     ghost use Rattle.certificate.specs.Contents.{par_of, branch_of};
     ghost use Rattle.certificate.specs.Contexts.{context_at, parameters_at};
     ghost use Rattle.certificate.specs.Starts.{procedure_at, is_start};
-    ghost use Rattle.certificate.specs.Branches.{numbered_branch, branch_at, owner_at};
+    ghost use Rattle.certificate.specs.Branches.{numbered_branch, branch_at};
     ghost use Rattle.certificate.specs.Order.{InOrder, least_word};
     ghost use Rattle.certificate.specs.Pars.{GiftsKeep, ChannelKeeps, behind_channel};
     ghost use Rattle.certificate.specs.Keeping.{Format, Keeps};
@@ -64,7 +65,7 @@ impl<'a> Module<'a> {
             (λ f. (f ≡ out_of_memory) ⊎ (read_contents bytes.now ≡ Err f)) }
     {
         match tables_of(alloc, bytes) {
-            Ok(tables) => match Index::new(alloc, &tables) {
+            Ok((tables, places)) => match Index::new(alloc, &tables, places) {
                 Ok(index) => Ok(Module {
                     bytes,
                     tables,
@@ -100,17 +101,12 @@ impl<'a> Module<'a> {
 
     /// The procedure that begins at a code offset, with the number of its context, found in logarithmic
     /// time.
-    pub fn procedure_at(&self, offset: u32) -> Option<(u16, &ProcedureRow)>
+    pub fn procedure_at(&self, offset: u32) -> Option<(u32, &ProcedureRow)>
         ensures { MatchOption result (procedure_at self.now offset ≡ None)
             (λ found. procedure_at self.now offset ≡ Some (record { context = found.0; procedure = procedure_of found.1.now })) }
     {
-        let rows = &self.tables.procedures;
-        let index = rows.partition_point(|row| row.entry < offset);
-        let row = rows.get(index)?;
-        if row.entry != offset {
-            return None;
-        }
-        Some((index as u16 + 1, row))
+        let (index, row) = procedure_at(&self.tables.procedures, offset)?;
+        Some((index as u32 + 1, row))
     }
 
     /// Whether the tables say that an instruction starts at a code offset: it has a label row, or a
@@ -121,52 +117,37 @@ impl<'a> Module<'a> {
         self.index.starts.contains(offset)
     }
 
-    /// The root or procedure that a context is or belongs to, where the context is there.
-    #[tactic(auto, using(crate::proofs::PlaceLaws::place_owner, crate::proofs::PlaceLaws::no_place, crate::proofs::PlaceLaws::own_owner))]
-    fn owner(&self, context: u16) -> Option<u16>
-        ensures { result ≡ owner_at self.now context }
+    /// Where its contexts are looked up, each in constant time.
+    fn contexts(&self) -> Contexts<'_, 'a>
+        ensures { result ≡ self.now }
     {
-        let own = 1 + self.tables.procedures.len();
-        let number = usize::from(context);
-        if number < own {
-            return Some(context);
-        }
-        match self.index.places.get(number - own) {
-            Some(place) => Some(place.owner),
-            None => None,
-        }
+        Contexts::of_places(&self.tables, &self.index.places)
     }
 
     /// The context of a number, where there is one, found in constant time.
-    #[tactic(auto, unfolding(crate::specs::Contexts::context_at))]
-    pub fn context(&self, number: u16) -> Option<Context>
+    pub fn context(&self, number: u32) -> Option<Context>
         ensures { result ≡ context_at self.now number }
     {
-        let owner = self.owner(number)?;
-        own_context(&self.tables, usize::from(owner))
+        self.contexts().context(number)
     }
 
     /// The parameters of the procedure that a context is or belongs to, found in constant time; none
     /// where there is no such context.
-    #[tactic(auto, unfolding(crate::specs::Contexts::context_at, crate::specs::Contexts::parameters_at))]
-    pub fn parameters(&self, number: u16) -> &[Parameter]
-        ensures { result.now ≡ (if is_some (context_at self.now number) then parameters_at self.now number else []) }
+    pub fn parameters(&self, number: u32) -> &[Parameter]
+        ensures { result.now ≡ parameters_at self.now number }
     {
-        match self.owner(number) {
-            Some(owner) => own_parameters(&self.tables, usize::from(owner)),
-            None => &[],
-        }
+        self.contexts().parameters(number)
     }
 
     /// The branch that is the context of a number, with its PAR row, found in constant time.
-    pub fn branch(&self, number: u16) -> Option<(&ParRow, &BranchRow)>
+    pub fn branch(&self, number: u32) -> Option<(&ParRow, &BranchRow)>
         ensures found { MatchOption result (numbered_branch self.now number ≡ None)
             (λ found. numbered_branch self.now number ≡ Some (par_of found.0.now, branch_of found.1.now)) }
         // What the rows say keeps the format.
         ensures kept { IfSome result (λ found. GiftsKeep (branch_of found.1.now)
             × InOrder ChannelKeeps behind_channel least_word found.0.now.channels.items) }
     {
-        self.numbered(usize::from(number))
+        self.numbered(number as usize)
     }
 
     /// The branch that begins at a code offset, with the number of its context and its PAR row, found in

@@ -3,7 +3,7 @@
 ghost use Rattle.std.specs.Prelude.{◌≡◌, ◌+◌, ◌<◌, ◌==◌, ◌&&◌, ℕ, if◌then◌else◌, slice_index, IfOk, length};
 ghost use Rattle.certificate.specs.Contents.{contents_of};
 ghost use Rattle.certificate.specs.Contexts.{owner, first_branch, branch_count};
-ghost use Rattle.certificate.specs.Keeping.{Keeps};
+ghost use Rattle.certificate.specs.Keeping.{LimitsKeep, RowsKeep, Keeps};
 ghost use Rattle.certificate.specs.Branches.{number_from, ArePlaces, AreNumbers};
 
 use crate::tables::Tables;
@@ -17,19 +17,19 @@ pub(crate) struct Place {
     /// The number of the branch in that row.
     pub branch: u16,
     /// The context of the root or procedure.
-    pub owner: u16,
+    pub owner: u32,
     /// Where the branch begins.
     pub entry: u32,
 }
 
 /// The root or procedure that a context is or belongs to, where the first branches have these places.
-fn owner_of(tables: &Tables, places: &[Place], context: u16) -> u16
+pub(crate) fn owner_of(tables: &Tables, places: &[Place], context: u32) -> u32
     requires there { context < first_branch (contents_of tables.now) + length places.now }
     requires places { ArePlaces (contents_of tables.now) (length places.now) places.now }
     ensures { result ≡ owner (first_branch (contents_of tables.now)) (contents_of tables.now).pars context }
 {
     let own = 1 + tables.procedures.len();
-    let number = usize::from(context);
+    let number = context as usize;
     if number < own {
         return context;
     }
@@ -38,13 +38,14 @@ fn owner_of(tables: &Tables, places: &[Place], context: u16) -> u16
 
 /// The places of all branches, in the order of their contexts.
 pub(crate) fn places_of(alloc: Global, tables: &Tables) -> Result<Vec<Place>, AllocError>
-    requires { Keeps (contents_of tables.now) }
+    requires limits { LimitsKeep (contents_of tables.now) }
+    requires rows { RowsKeep (contents_of tables.now) }
     ensures { IfOk result (λ places. ArePlaces (contents_of tables.now) (branch_count (contents_of tables.now).pars) places.items) }
 {
     let mut places = Vec::new(alloc);
     for par in 0..tables.pars.len() {
         let row = &tables.pars[par];
-        let owner = owner_of(tables, &places, row.context);
+        let owner = owner_of(tables, &places, u32::from(row.context));
         for branch in 0..row.branches.len() {
             places.push(Place {
                 par: par as u16,

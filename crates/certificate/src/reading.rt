@@ -19,7 +19,6 @@ pub use branches::meets_any;
 pub use facts::end_of;
 pub use file::tables_of;
 pub use header::max_code;
-pub use labels::is_entry;
 pub use late::late_rows;
 pub use pars::first_entry;
 pub use table_rows::words_lie_within;

@@ -3,15 +3,17 @@
 ghost use Rattle.std.specs.Prelude.{◌≡◌};
 ghost use Rattle.std.specs.List.{list_any};
 ghost use Rattle.certificate.specs.Order.{InOrder, least_word};
-ghost use Rattle.certificate.specs.Pars.{IntervalKeeps, behind_interval, ChannelKeeps, behind_channel, key_of};
+ghost use Rattle.certificate.specs.Pars.{IntervalKeeps, behind_interval, ChannelKeeps, behind_channel, EndKeeps, behind_end, first_key, key_of};
 ghost use Rattle.certificate.specs.Rights.{is_among, listed_length, gives_link, gives_element, gives_parameter, is_same_end};
 
 use crate::modules::Module;
-use crate::rows::{ChannelRow, Direction, EndKind, EndRow, Interval, Parameter, ParameterKind};
+use crate::rows::{
+    ChannelRow, Direction, EndKind, EndRow, Ends, Interval, Parameter, ParameterKind,
+};
 use bitflags::Flags;
 
 /// Whether a word is one of the intervals', which rise. It takes time logarithmic in them.
-pub fn is_among(intervals: &[Interval], word: i64) -> bool
+fn is_among(intervals: &[Interval], word: i64) -> bool
     requires { InOrder IntervalKeeps behind_interval least_word intervals.now }
     ensures { result ≡ is_among intervals.now word }
 {
@@ -59,10 +61,10 @@ fn gives_element(kind: &ParameterKind, element: u32, direction: Direction) -> bo
     match kind {
         ParameterKind::Channels { count, ends, .. } => {
             let wanted = match direction {
-                Direction::In => 1,
-                Direction::Out => 2,
+                Direction::In => Ends::IN,
+                Direction::Out => Ends::OUT,
             };
-            element < *count && ends.bits() & wanted > 0
+            element < *count && ends.intersects(wanted)
         }
         _ => false,
     }
@@ -84,12 +86,17 @@ fn gives_parameter(parameters: &[Parameter], end: &EndRow) -> bool
     }
 }
 
-/// Whether an end is among others.
+/// Whether an end is among others, which rise. It takes time logarithmic in them.
 fn lists_end(others: &[EndRow], end: &EndRow) -> bool
+    requires { InOrder EndKeeps behind_end first_key others.now }
     ensures { result ≡ list_any (λ other. is_same_end (key_of other) (key_of end.now)) others.now }
 {
     let key = end.key();
-    others.iter().any(|other| other.key().is_same(&key))
+    let first = others.partition_point(|other| other.key().is_below(&key));
+    match others.get(first) {
+        Some(other) => other.key().is_same(&key),
+        None => false,
+    }
 }
 
 impl Module<'_> {
@@ -98,7 +105,7 @@ impl Module<'_> {
     ghost use Rattle.certificate.specs.Rights.{has_word, may_write_word, may_read_word, channel_length, has_end};
 
     /// Whether a word is one of a context's frame.
-    fn has_word(&self, context: u16, word: i64) -> bool
+    fn has_word(&self, context: u32, word: i64) -> bool
         ensures { result ≡ has_word (context_at self.now context) word }
     {
         match self.context(context) {
@@ -109,7 +116,7 @@ impl Module<'_> {
 
     /// Whether a context may write a word of its frame: the root and the procedures each, a branch those
     /// that its row names. It takes time logarithmic in the intervals of the row.
-    pub fn may_write_word(&self, context: u16, word: i64) -> bool
+    pub fn may_write_word(&self, context: u32, word: i64) -> bool
         ensures { result ≡ may_write_word self.now context word }
     {
         if !self.has_word(context, word) {
@@ -123,7 +130,7 @@ impl Module<'_> {
 
     /// Whether a context may read a word of its frame: the root and the procedures each, a branch those
     /// that its row lets it write or read. It takes time logarithmic in the intervals of the row.
-    pub fn may_read_word(&self, context: u16, word: i64) -> bool
+    pub fn may_read_word(&self, context: u32, word: i64) -> bool
         ensures { result ≡ may_read_word self.now context word }
     {
         if !self.has_word(context, word) {
@@ -139,7 +146,7 @@ impl Module<'_> {
 
     /// The bytes of the messages of the channel in a frame word: what the nearest PAR row says that lists
     /// the word, of those around the context. It takes time logarithmic in the channels of each.
-    pub fn channel_length(&self, context: u16, word: i32) -> Option<u32>
+    pub fn channel_length(&self, context: u32, word: i32) -> Option<u32>
         ensures { result ≡ channel_length self.now context word }
     {
         let mut number = context;
@@ -148,15 +155,15 @@ impl Module<'_> {
             if let Some(length) = listed_length(&row.channels, word) {
                 return Some(length);
             }
-            number = row.context;
+            number = u32::from(row.context);
         }
         None
     }
 
     /// Whether a context has an end of a channel: the root those of the links that have a length, a
     /// procedure those that its parameters bring, and a branch those that its row lists. For a branch it
-    /// takes time linear in these.
-    pub fn has_end(&self, context: u16, end: EndRow) -> bool
+    /// takes time logarithmic in these.
+    pub fn has_end(&self, context: u32, end: EndRow) -> bool
         ensures { result ≡ has_end self.now context end }
     {
         if self.context(context).is_none() {

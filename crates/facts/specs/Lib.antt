@@ -1,5 +1,4 @@
 pub mod Rules
-pub mod Labels
 pub mod Telling
 pub mod Places
 pub mod Successions

@@ -4,7 +4,6 @@
 mod advancing;
 mod combinators;
 mod following;
-mod labels;
 mod laws;
 mod place;
 #[cfg(test)]

@@ -3,7 +3,6 @@
 use crate::combinators::{
     forward, loaded, number, outside_alternation, outside_starts, shifted, uses,
 };
-use crate::labels::find_row;
 use certificate::{Fact, Module};
 use machine_state::Op;
 use states::{BUDGET, Known, LABEL, OWN_WORD, RuleFault, SPELLING, State, below};
@@ -32,6 +31,7 @@ impl Place<'_, '_> {
     ghost use Rattle.std.specs.Prelude.{◌≡◌, ◌+◌, ℤ, ◌+ℤ◌, IfOk, Some};
     ghost use Rattle.prefix_decoder.specs.declared.function.Fun.TheVariants as functions;
     ghost use Rattle.certificate.specs.Contents.{Contents};
+    ghost use Rattle.certificate.specs.Keeping.{Keeps};
     ghost use Rattle.machine_state.specs.LocalStep.{target};
     ghost use Rattle.machine_state.specs.declared.op.Op.TheVariants.{Reverse, StopProcess, MinimumInteger};
     ghost use Rattle.states.specs.Views.{state_of, CanWrite, BelongsTo};
@@ -118,9 +118,10 @@ impl Place<'_, '_> {
     /// There is a label at the offset, and the state may go on as it.
     #[tactic(auto, unfolding(crate::specs::Rules::leads_to))]
     fn leads_to(&self, state: &State, to: u32) -> Result<Onward, RuleFault>
+        requires { Keeps self.now.program.now }
         ensures { Advances result (state_of state.now) (leads_to (site_of self.now) to (state_of state.now)) }
     {
-        match find_row(&self.program.tables().labels, to) {
+        match self.program.label_at(to) {
             Some(row) => {
                 below(state, row)?;
                 Ok(Onward::Leads(to))

@@ -6,4 +6,3 @@ pub mod Frames
 pub mod Comparing
 pub mod Views
 pub mod Room
-pub mod Words

@@ -116,33 +116,27 @@ written k fact s = record s { a = forgets k s.a; b = forgets k s.b; c = forgets 
 
 -- ---- states
 
--- the state of the root when the module begins
-abbrev pub root_state : Contents → State
-root_state m = record {
-  context = 0;
-  depth = pos 0;
+-- the state in a context at a depth, with this known of the frame, nothing of the registers, and so much to pay
+abbrev pub begun : ℕ → ℤ → ℕ → Facts → State
+begun context depth number frame = record {
+  context = context;
+  depth = depth;
   a = unknown;
   b = unknown;
   c = unknown;
-  frame = no_facts;
-  number = m.budget;
+  frame = frame;
+  number = number;
   mode = Plain;
   guards = [];
 }
 
+-- the state of the root when the module begins
+abbrev pub root_state : Contents → State
+root_state m = begun 0 (pos 0) m.budget no_facts
+
 -- the state that a label row gives
 abbrev pub label_state : Label → State
-label_state t = record {
-  context = t.context;
-  depth = t.depth;
-  a = known t.a;
-  b = known t.b;
-  c = known t.c;
-  frame = entry_fact t.entries;
-  number = t.number;
-  mode = Plain;
-  guards = [];
-}
+label_state t = record (begun t.context t.depth t.number (entry_fact t.entries)) { a = known t.a; b = known t.b; c = known t.c }
 
 -- ---- procedures
 
@@ -164,14 +158,4 @@ procedure_facts p k = if is_word k (pos 0) then Alone ReturnAddress else paramet
 
 -- the state in which a procedure begins, whose number as a context is this
 abbrev pub procedure_state : ℕ → Procedure → State
-procedure_state context p = record {
-  context = context;
-  depth = pos 0;
-  a = unknown;
-  b = unknown;
-  c = unknown;
-  frame = procedure_facts p;
-  number = p.number;
-  mode = Plain;
-  guards = [];
-}
+procedure_state context p = begun context (pos 0) p.number (procedure_facts p)

@@ -8,7 +8,6 @@ use Rattle.states.specs.declared.state.State.{State as InMemory}
 use Rattle.states.specs.declared.rule.RuleFault.{RuleFault}
 use Rattle.states.specs.State.{State}
 use Rattle.states.specs.Frames.{frame_facts, HasRoom}
-use Rattle.states.specs.Words.{AreWordsOf}
 
 abbrev pub state_of : InMemory → State
 state_of s = record {
@@ -27,11 +26,11 @@ state_of s = record {
 pub record CanWrite (s : InMemory) (k : ℤ) : Type 0 where
   pub room : HasRoom s.frame k
 
--- The state is one of this module, which keeps the format: it knows which words its context may write and read, and has
--- room for each word of each context.
+-- The state is one of this module, which keeps the format: it asks the module, and has room for each word of each
+-- context.
 pub record BelongsTo (m : Contents) (s : InMemory) : Type 0 where
   pub kept : Keeps m
-  pub words : AreWordsOf m s.context s.words
+  pub is : s.module.now ≡ m
   pub room : (n : ℕ) (k : ℤ) → has_word (context_at m n) k ≡ true → CanWrite s k
 
 -- an answer with its fault as a number

@@ -11,7 +11,6 @@ mod rule;
 mod state;
 #[cfg(test)]
 mod tests;
-mod words;
 
 pub use comparison::below;
 pub use implication::{implies, says};

@@ -4,14 +4,13 @@ ghost use Rattle.std.specs.Prelude.{◌≡◌, ◌≤◌, ◌-◌, ◌≤ℤ◌,
 ghost use Rattle.certificate.specs.Contents.{Contents, contents_of, procedure_of, label_of};
 ghost use Rattle.certificate.specs.Rights.{may_write_word, may_read_word};
 ghost use Rattle.certificate.specs.Keeping.{Keeps};
-ghost use Rattle.states.specs.State.{unknown, known, without_source, forgets, written, root_state, procedure_state, label_state};
+ghost use Rattle.states.specs.State.{unknown, known, without_source, forgets, written, begun, root_state, procedure_state, label_state};
 ghost use Rattle.states.specs.Rows.{LoopFits, IsRowOf};
 ghost use Rattle.states.specs.Views.{state_of, CanWrite, BelongsTo};
 ghost use Rattle.states.specs.Room.{Covers};
 
 use crate::frame::Frame;
 use crate::known::{Guard, Known, Mode, Source, WordFact};
-use crate::words::Words;
 use certificate::{Fact, LabelRow, Module, ProcedureRow, Tables};
 use std::alloc::{AllocError, Global};
 
@@ -28,8 +27,8 @@ pub struct State<'a> {
     pub b: Known,
     pub c: Known,
     pub(crate) frame: Frame<'a>,
-    /// The words of the frame that the context may use.
-    pub(crate) words: Words<'a>,
+    /// The module that the state is one of, which tells what its context may do.
+    pub(crate) module: &'a Module<'a>,
     /// What may still be paid.
     pub number: u64,
     pub mode: Mode,
@@ -107,7 +106,7 @@ impl<'a> State<'a> {
             b: Known::UNKNOWN,
             c: Known::UNKNOWN,
             frame: Frame::new(alloc, lo, room)?,
-            words: Words::of(module, 0),
+            module,
             number: tables.budget,
             mode: Mode::Plain,
             guards: Vec::with_capacity(alloc, MAX_GUARDS)?,
@@ -121,7 +120,7 @@ impl<'a> State<'a> {
         ensures allowed { (m : Contents) → BelongsTo m self.now → is_some result ≡ may_write_word m self.now.context word }
         ensures room { (m : Contents) → BelongsTo m self.now → IfSome result (CanWrite self.now) }
     {
-        if !self.words.may_write(word) {
+        if !self.module.may_write_word(self.context, word) {
             return None;
         }
         i32::try_from(word).ok()
@@ -134,7 +133,7 @@ impl<'a> State<'a> {
         ensures allowed { (m : Contents) → BelongsTo m self.now → is_some result ≡ may_read_word m self.now.context word }
         ensures room { (m : Contents) → BelongsTo m self.now → IfSome result (CanWrite self.now) }
     {
-        if !self.words.may_read(word) {
+        if !self.module.may_read_word(self.context, word) {
             return None;
         }
         i32::try_from(word).ok()
@@ -191,25 +190,34 @@ impl<'a> State<'a> {
         std::mem::swap(&mut self.a, &mut self.b);
     }
 
+    /// The state goes on in a context of the module, at a depth and with a number. What is known of the
+    /// frame stays, and nothing is known of the registers.
+    fn begin_at(&mut self, module: &'a Module<'a>, context: u32, depth: i32, number: u64)
+        ensures state { state_of self.new ≡ begun context depth number (state_of self.old).frame }
+        ensures belongs { BelongsTo «module».now self.old → BelongsTo «module».now self.new }
+    {
+        self.module = module;
+        self.context = context;
+        self.depth = depth;
+        self.a = Known::UNKNOWN;
+        self.b = Known::UNKNOWN;
+        self.c = Known::UNKNOWN;
+        self.number = number;
+        self.mode = Mode::Plain;
+        self.guards.clear();
+    }
+
     /// The state goes on as that in which a procedure begins, whose number as a context is given. The time
     /// goes with its parameters.
-    pub fn become_procedure(&mut self, module: &'a Module<'a>, row: &ProcedureRow, context: u16)
+    pub fn become_procedure(&mut self, module: &'a Module<'a>, row: &ProcedureRow, context: u32)
         requires belongs { BelongsTo «module».now self.old }
         requires some { 1 ≤ context }
         requires row { slice_get «module».now.procedures (context - 1) ≡ Some (procedure_of row.now) }
         ensures state { state_of self.new ≡ procedure_state context (procedure_of row.now) }
         ensures belongs { BelongsTo «module».now self.new }
     {
-        self.words = Words::of(module, context);
-        self.context = u32::from(context);
-        self.depth = 0;
-        self.a = Known::UNKNOWN;
-        self.b = Known::UNKNOWN;
-        self.c = Known::UNKNOWN;
         self.frame.begin(row);
-        self.number = row.number;
-        self.mode = Mode::Plain;
-        self.guards.clear();
+        self.begin_at(module, context, 0, row.number);
     }
 
     /// The state goes on as a label's. The time does not depend on how much is known.
@@ -219,16 +227,11 @@ impl<'a> State<'a> {
         ensures state { state_of self.new ≡ label_state (label_of row.now) }
         ensures belongs { BelongsTo «module».now self.new }
     {
-        self.words = Words::of(module, row.context);
-        self.context = u32::from(row.context);
-        self.depth = row.depth;
+        self.frame.restart(&row.entries);
+        self.begin_at(module, u32::from(row.context), row.depth, row.number);
         self.a = Known::of(row.a);
         self.b = Known::of(row.b);
         self.c = Known::of(row.c);
-        self.frame.restart(&row.entries);
-        self.number = row.number;
-        self.mode = Mode::Plain;
-        self.guards.clear();
     }
 
     /// The same state again.
@@ -245,7 +248,7 @@ impl<'a> State<'a> {
             b: self.b,
             c: self.c,
             frame: self.frame.copy(alloc)?,
-            words: self.words,
+            module: self.module,
             number: self.number,
             mode: self.mode,
             guards,

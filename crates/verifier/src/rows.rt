@@ -11,7 +11,7 @@ pub(crate) enum Given<'a> {
     Nothing,
     Label(&'a LabelRow),
     /// A procedure begins there, whose context has this number.
-    Procedure { context: u16, row: &'a ProcedureRow },
+    Procedure { context: u32, row: &'a ProcedureRow },
 }
 
 /// The rows that stand from an offset on.
@@ -20,7 +20,7 @@ pub(crate) struct Rows<'a> {
     pub labels: &'a [LabelRow],
     pub procedures: &'a [ProcedureRow],
     /// The context of the first of these procedures.
-    pub context: u16,
+    pub context: u32,
     ghost few: { context + length procedures.now ≤ MAX_PROCEDURES + 1 },
 }
 
@@ -58,7 +58,7 @@ impl<'a> Rows<'a> {
     }
 
     /// The procedure that begins at an offset, if one does, with its context.
-    fn take_procedure(&mut self, at: usize) -> Option<(u16, &'a ProcedureRow)>
+    fn take_procedure(&mut self, at: usize) -> Option<(u32, &'a ProcedureRow)>
         ensures left { (m : Contents) → ProceduresLeft m at self.old.context self.old.procedures.now → ProceduresLeft m (at + 1) self.new.context self.new.procedures.now }
         ensures found { (m : Contents) → ProceduresLeft m at self.old.context self.old.procedures.now → MatchOption result (procedure_at m at ≡ None) (λ begun. Begins m at begun.0 begun.1.now) }
         ensures labels { self.new.labels.now ≡ self.old.labels.now }

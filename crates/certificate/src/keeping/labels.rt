@@ -4,6 +4,7 @@ ghost use Rattle.std.specs.Prelude.{◌≡◌, ◌↔◌, IsTrue, ℕ, ℤ, List
 ghost use Rattle.certificate.specs.declared.rows.Entry.{Entry};
 ghost use Rattle.certificate.specs.Contents.{Label, Procedure, label_of, procedure_of};
 ghost use Rattle.certificate.specs.Order.{InOrder, IsInterval, least_word};
+ghost use Rattle.certificate.specs.Starts.{EntriesRise};
 ghost use Rattle.certificate.specs.Facts.{
   IsPointer,
   IsLoop,
@@ -19,7 +20,8 @@ ghost use Rattle.certificate.specs.Facts.{
 
 use crate::fact::{Fact, Step};
 use crate::keeping::list::{Rule, all_keep};
-use crate::reading::{end_of, is_entry};
+use crate::procedures::is_entry;
+use crate::reading::end_of;
 use crate::rows::{Entry, LabelRow, ProcedureRow};
 
 /// A pointer's bounds and step.
@@ -133,6 +135,7 @@ fn entries_keep(code_len: usize, entries: &[Entry]) -> bool
 
 /// The offset of a label row behind one at offset `low`.
 fn offset_keeps(code_len: usize, procedures: &[ProcedureRow], low: u32, offset: u32) -> bool
+    requires { EntriesRise procedures.now }
     ensures { IsTrue result ↔ IsLabelOffset code_len (map procedure_of procedures.now) low offset }
 {
     if offset <= low {
@@ -169,6 +172,7 @@ struct LabelRule<'p> {
     code_len: usize,
     procedures: &'p [ProcedureRow],
     low: u32,
+    ghost rise: { EntriesRise procedures.now },
 }
 
 impl Rule for LabelRule<'_> {
@@ -197,6 +201,7 @@ impl Rule for LabelRule<'_> {
 }
 
 pub(crate) fn labels_keep(code_len: usize, procedures: &[ProcedureRow], rows: &[LabelRow]) -> bool
+    requires { EntriesRise procedures.now }
     ensures { IsTrue result ↔ InOrder (LabelKeeps code_len (map procedure_of procedures.now)) behind_label 0 (map label_of rows.now) }
 {
     let rule = LabelRule {

@@ -1,11 +1,15 @@
 //! The whole file.
 
-ghost use Rattle.std.specs.Prelude.{◌≡◌, length};
+ghost use Rattle.std.specs.Prelude.{◌≡◌, length, IfOk};
 ghost use Rattle.certificate.specs.Contents.{contents_of};
+ghost use Rattle.certificate.specs.Contexts.{branch_count};
+ghost use Rattle.certificate.specs.Branches.{ArePlaces};
 ghost use Rattle.certificate.specs.Reading.{Gives};
 ghost use Rattle.certificate.specs.ReadingFile.{tables_at, ended_at, read_contents};
 
+use crate::contexts::Contexts;
 use crate::fault::{LEFT_OVER, ReadError};
+use crate::places::{Place, places_of};
 use crate::reading::fields::{bytes_at, fault, place};
 use crate::reading::header::{Header, header_at};
 use crate::reading::labels::label_rows_at;
@@ -64,17 +68,19 @@ fn tables_at<'a>(
     Ok(((tables, place(size, rows)), rest))
 }
 
-/// The tables that the bytes spell, all of the bytes.
+/// The tables that the bytes spell, all of the bytes, with the places of the branches.
 #[tactic(auto, unfolding(crate::specs::ReadingFile::read_contents, crate::specs::ReadingFile::ended_at, crate::specs::Reading::and_then))]
-pub fn tables_of(alloc: Global, bytes: &[u8]) -> Result<Tables<'_>, ReadError>
-    ensures { Gives contents_of result (read_contents bytes.now) }
+pub fn tables_of(alloc: Global, bytes: &[u8]) -> Result<(Tables<'_>, Vec<Place>), ReadError>
+    ensures gives { Gives (λ x. contents_of x.0) result (read_contents bytes.now) }
+    ensures places { IfOk result (λ x. ArePlaces (contents_of x.0) (branch_count (contents_of x.0).pars) x.1.items) }
 {
     let size = bytes.len();
     let (header, rest) = header_at(bytes)?;
     let ((tables, rows), rest) = tables_at(alloc, size, &header, rest)?;
-    late_rows(&tables, rows)?;
+    let places = places_of(alloc, &tables)?;
+    late_rows(&Contexts::of_places(&tables, &places), rows)?;
     if !rest.is_empty() {
         return Err(fault(LEFT_OVER, place(size, rest)));
     }
-    Ok(tables)
+    Ok((tables, places))
 }

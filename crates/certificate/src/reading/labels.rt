@@ -1,28 +1,19 @@
 //! Label rows.
 
-ghost use Rattle.std.specs.Prelude.{◌≡◌, ◌==◌, ℕ, List, length, map};
-ghost use Rattle.std.specs.List.{list_any};
+ghost use Rattle.std.specs.Prelude.{◌≡◌, ℕ, List, length, map};
 ghost use Rattle.certificate.specs.Contents.{Label, Procedure, label_of, procedure_of};
+ghost use Rattle.certificate.specs.Starts.{EntriesRise};
 ghost use Rattle.certificate.specs.Facts.{behind_label};
 ghost use Rattle.certificate.specs.Reading.{Gives};
 ghost use Rattle.certificate.specs.ReadingRows.{label_offset_at, label_row_at, label_rows_at};
 
 use crate::fault::{ORDER, RANGE, ReadError};
+use crate::procedures::is_entry;
 use crate::reading::facts::{entries_at, registers_at};
 use crate::reading::fields::{fault, i32_at, in_code_at, place, u16_at, u64_at};
 use crate::reading::list::{Reader, list_at};
 use crate::rows::{LabelRow, ProcedureRow};
 use std::alloc::Global;
-
-/// Whether a procedure begins at an offset.
-pub fn is_entry(procedures: &[ProcedureRow], offset: u32) -> bool
-    ensures { result ≡ list_any (λ p. p.entry == offset) (map procedure_of procedures.now) }
-{
-    match procedures {
-        [] => false,
-        [first, others @ ..] => first.entry == offset || is_entry(others, offset),
-    }
-}
 
 /// The offset of a label row, behind a row at offset `low`.
 #[tactic(auto, unfolding(crate::specs::ReadingRows::label_offset_at, crate::specs::Reading::and_then))]
@@ -33,6 +24,7 @@ fn label_offset_at<'a>(
     low: u32,
     rest: &'a [u8],
 ) -> Result<(u32, &'a [u8]), ReadError>
+    requires { EntriesRise procedures.now }
     ensures { Gives (λ x. (x.0, x.1.now)) result (label_offset_at size code_len (map procedure_of procedures.now) low rest.now) }
 {
     let (offset, behind) = in_code_at(size, code_len, rest)?;
@@ -53,6 +45,7 @@ struct Labels<'p> {
     code_len: u32,
     procedures: &'p [ProcedureRow],
     low: u32,
+    ghost rise: { EntriesRise procedures.now },
 }
 
 impl Reader for Labels<'_> {
@@ -109,6 +102,7 @@ pub fn label_rows_at<'a>(
     count: u32,
     bytes: &'a [u8],
 ) -> Result<(Vec<LabelRow>, &'a [u8]), ReadError>
+    requires { EntriesRise procedures.now }
     ensures { Gives (λ x. (map label_of x.0.items, x.1.now)) result (label_rows_at size code_len (map procedure_of procedures.now) count bytes.now) }
 {
     let mut labels = Labels {

@@ -4,18 +4,16 @@ ghost use Rattle.std.specs.Prelude.{◌≡◌, ◌+◌, ◌^◌, ◌<◌, ◌≤
 ghost use Rattle.std.specs.List.{flat_map};
 ghost use Rattle.certificate.specs.declared.fault.FormatFault.{FormatFault};
 ghost use Rattle.certificate.specs.declared.rows.Entry.{Entry};
-ghost use Rattle.certificate.specs.Contents.{Label, label_of, contents_of};
-ghost use Rattle.certificate.specs.Contexts.{HasFewContexts};
+ghost use Rattle.certificate.specs.Contents.{Label, label_of};
 ghost use Rattle.certificate.specs.Spelling.{fact_bytes, entry_bytes, label_bytes, par_bytes};
 ghost use Rattle.certificate.specs.Reading.{fault, Tells};
 ghost use Rattle.certificate.specs.Late.{late_fact, late_entry, late_list, late_row, late_label, late_at};
 
-use crate::contexts::{Context, context_at};
+use crate::contexts::{Context, Contexts};
 use crate::fact::Fact;
 use crate::fault::{FormatFault, RANGE};
 use crate::reading::facts::end_of;
 use crate::rows::{Entry, LabelRow};
-use crate::tables::Tables;
 
 /// What a field names is not there.
 pub(crate) fn not_there(offset: usize) -> FormatFault
@@ -37,16 +35,12 @@ pub(crate) trait Late<C>: Drop {
     /// The bytes of an item in the file.
     ghost spelled: { Value → List ℕ };
 
-    /// What the context has to be.
-    ghost Ready: { C → Type 0 };
-
     /// Whether what the item at an offset names is there.
     ghost looked: { C → ℕ → Value → Result ⊤ FormatFault };
 
     /// Answers the offset behind the item.
     fn late(&self, context: &C, at: usize) -> Result<usize, FormatFault>
-        requires fits { at + length (spelled (view self.now)) < 2 ^ 64 }
-        requires ready { Ready context.now }
+        requires { at + length (spelled (view self.now)) < 2 ^ 64 }
         ensures gives { Tells result (looked context.now at (view self.now)) }
         ensures behind { IfOk result (λ end. end ≡ at + length (spelled (view self.now))) };
 }
@@ -57,8 +51,7 @@ pub(crate) fn late_list<C, T: Late<C>>(
     start: usize,
     items: &[T],
 ) -> Result<usize, FormatFault>
-    requires fits { start + length (flat_map T.spelled (map T.view items.now)) < 2 ^ 64 }
-    requires ready { T.Ready context.now }
+    requires { start + length (flat_map T.spelled (map T.view items.now)) < 2 ^ 64 }
     ensures gives { Tells result (late_list (T.looked context.now) T.spelled start (map T.view items.now)) }
     ensures behind { IfOk result (λ end. end ≡ start + length (flat_map T.spelled (map T.view items.now))) }
 {
@@ -112,8 +105,6 @@ impl Late<Context> for Entry {
 
     ghost spelled = { entry_bytes };
 
-    ghost Ready = { λ _. ⊤ };
-
     ghost looked = { late_entry };
 
     #[tactic(auto, using(crate::proofs::Sizes::entry_size), unfolding(crate::specs::Late::late_entry))]
@@ -146,20 +137,18 @@ fn late_row(context: &Context, at: usize, row: &LabelRow) -> Result<usize, Forma
     late_list(context, at_entries, &row.entries)
 }
 
-impl Late<Tables<'_>> for LabelRow {
+impl Late<Contexts<'_, '_>> for LabelRow {
     ghost Value = { Label };
 
     ghost view = { label_of };
 
     ghost spelled = { label_bytes };
 
-    ghost Ready = { λ tables. HasFewContexts (contents_of tables) };
-
-    ghost looked = { λ tables. late_label (contents_of tables) };
+    ghost looked = { late_label };
 
     #[tactic(auto, using(crate::proofs::Sizes::label_size), unfolding(crate::specs::Late::late_label))]
-    fn late(&self, tables: &Tables<'_>, at: usize) -> Result<usize, FormatFault> {
-        match context_at(tables, self.context) {
+    fn late(&self, contexts: &Contexts<'_, '_>, at: usize) -> Result<usize, FormatFault> {
+        match contexts.context(u32::from(self.context)) {
             Some(context) => late_row(&context, at, self),
             None => Err(not_there(at + 4)),
         }
@@ -168,12 +157,12 @@ impl Late<Tables<'_>> for LabelRow {
 
 /// Each label row and then each PAR row in turn, the first label row at offset `start`.
 #[tactic(auto, unfolding(crate::specs::Late::late_at, crate::specs::Reading::and_then))]
-pub fn late_rows(tables: &Tables, start: usize) -> Result<(), FormatFault>
-    requires fits { start + length (flat_map label_bytes (contents_of tables.now).labels) + length (flat_map par_bytes (contents_of tables.now).pars) < 2 ^ 64 }
-    requires contexts { HasFewContexts (contents_of tables.now) }
-    ensures { Tells result (late_at start (contents_of tables.now)) }
+pub fn late_rows(contexts: &Contexts, start: usize) -> Result<(), FormatFault>
+    requires { start + length (flat_map label_bytes contexts.now.labels) + length (flat_map par_bytes contexts.now.pars) < 2 ^ 64 }
+    ensures { Tells result (late_at start contexts.now) }
 {
-    let pars = late_list(tables, start, &tables.labels)?;
-    late_list(tables, pars, &tables.pars)?;
+    let tables = contexts.tables();
+    let pars = late_list(contexts, start, &tables.labels)?;
+    late_list(contexts, pars, &tables.pars)?;
     Ok(())
 }

@@ -3,17 +3,15 @@
 ghost use Rattle.std.specs.Prelude.{◌≡◌, ◌+◌, ⊤, ℕ, length, map};
 ghost use Rattle.std.specs.List.{flat_map};
 ghost use Rattle.certificate.specs.declared.rows.EndRow.{EndRow};
-ghost use Rattle.certificate.specs.Contents.{Branch, Par, branch_of, par_of, contents_of};
-ghost use Rattle.certificate.specs.Contexts.{HasFewContexts};
+ghost use Rattle.certificate.specs.Contents.{Branch, Par, branch_of, par_of};
 ghost use Rattle.certificate.specs.Keeping.{is_region, has_element, names, names_end};
 ghost use Rattle.certificate.specs.Spelling.{u16_bytes, end_bytes, branch_bytes, par_bytes};
 ghost use Rattle.certificate.specs.Late.{late_parameter, late_end, late_branch, late_par};
 
-use crate::contexts::parameters_at;
+use crate::contexts::Contexts;
 use crate::fault::FormatFault;
 use crate::reading::late::{Late, late_list, not_there};
 use crate::rows::{BranchRow, EndKind, EndRow, ParRow, Parameter, ParameterKind};
-use crate::tables::Tables;
 
 /// The parameters of a context.
 #[derive(Clone, Copy)]
@@ -60,8 +58,6 @@ impl<'p> Late<Parameters<'p>> for u16 {
 
     ghost spelled = { u16_bytes };
 
-    ghost Ready = { λ _. ⊤ };
-
     ghost looked = { λ parameters. late_parameter parameters.0.now };
 
     #[tactic(auto, unfolding(crate::specs::Late::late_parameter, crate::specs::Spelling::u16_bytes))]
@@ -79,8 +75,6 @@ impl<'p> Late<Parameters<'p>> for EndRow {
     ghost view = { λ e. e };
 
     ghost spelled = { end_bytes };
-
-    ghost Ready = { λ _. ⊤ };
 
     ghost looked = { λ parameters. late_end parameters.0.now };
 
@@ -100,8 +94,6 @@ impl<'p> Late<Parameters<'p>> for BranchRow {
 
     ghost spelled = { branch_bytes };
 
-    ghost Ready = { λ _. ⊤ };
-
     ghost looked = { λ parameters. late_branch parameters.0.now };
 
     #[tactic(auto, using(crate::proofs::Sizes::branch_size), unfolding(crate::specs::Late::late_branch, crate::specs::Reading::and_then))]
@@ -113,20 +105,18 @@ impl<'p> Late<Parameters<'p>> for BranchRow {
     }
 }
 
-impl Late<Tables<'_>> for ParRow {
+impl Late<Contexts<'_, '_>> for ParRow {
     ghost Value = { Par };
 
     ghost view = { par_of };
 
     ghost spelled = { par_bytes };
 
-    ghost Ready = { λ tables. HasFewContexts (contents_of tables) };
-
-    ghost looked = { λ tables. late_par (contents_of tables) };
+    ghost looked = { late_par };
 
     #[tactic(auto, using(crate::proofs::Sizes::par_size), unfolding(crate::specs::Late::late_par))]
-    fn late(&self, tables: &Tables<'_>, at: usize) -> Result<usize, FormatFault> {
-        let parameters = Parameters(parameters_at(tables, self.context));
+    fn late(&self, contexts: &Contexts<'_, '_>, at: usize) -> Result<usize, FormatFault> {
+        let parameters = Parameters(contexts.parameters(u32::from(self.context)));
         let branches = at + 18 + 8 * self.channels.len();
         late_list(&parameters, branches, &self.branches)
     }

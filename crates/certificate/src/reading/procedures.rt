@@ -1,11 +1,12 @@
 //! Procedure rows.
 
-ghost use Rattle.std.specs.Prelude.{◌≡◌, ℕ, ℤ, length, map};
+ghost use Rattle.std.specs.Prelude.{◌≡◌, ℕ, ℤ, length, map, IfOk};
 ghost use Rattle.certificate.specs.Contents.{Procedure, procedure_of};
 ghost use Rattle.certificate.specs.declared.rows.Parameter.{Parameter};
 ghost use Rattle.certificate.specs.declared.tables.Version.{Version};
 ghost use Rattle.certificate.specs.declared.rows.ParameterKind.TheVariants as kinds;
 ghost use Rattle.certificate.specs.Procedures.{behind_parameter, behind_procedure};
+ghost use Rattle.certificate.specs.Starts.{EntriesRise};
 ghost use Rattle.certificate.specs.Reading.{Gives};
 ghost use Rattle.certificate.specs.ReadingRows.{
   words_range_at,
@@ -301,7 +302,8 @@ pub fn procedure_rows_at(
     count: u32,
     bytes: &[u8],
 ) -> Result<(Vec<ProcedureRow>, &[u8]), ReadError>
-    ensures { Gives (λ x. (map procedure_of x.0.items, x.1.now)) result (procedure_rows_at size version code_len count bytes.now) }
+    ensures gives { Gives (λ x. (map procedure_of x.0.items, x.1.now)) result (procedure_rows_at size version code_len count bytes.now) }
+    ensures rise { IfOk result (λ x. EntriesRise x.0.items) }
 {
     let mut procedures = Procedures {
         alloc,

@@ -38,7 +38,7 @@ const LABELS: [(u32, Option<u64>); 10] = [
 ];
 
 /// Offsets and the contexts of the procedures that begin there.
-const PROCEDURES: [(u32, Option<u16>); 8] = [
+const PROCEDURES: [(u32, Option<u32>); 8] = [
     (0, None),
     (9, None),
     (10, Some(1)),
@@ -82,7 +82,7 @@ fn offsets(rt: &impl Abort, module: &Module) {
 
 /// Contexts with their frames and how many parameters they have, and of branches the context of the PAR row and the
 /// workspace.
-const CONTEXTS: [(u16, Option<(i64, i64, usize)>, Option<(u16, i32)>); 10] = [
+const CONTEXTS: [(u32, Option<(i64, i64, usize)>, Option<(u16, i32)>); 10] = [
     (0, Some((-20, 20, 0)), None),
     (1, Some((-8, 16, 5)), None),
     (2, Some((0, 4, 1)), None),
@@ -92,7 +92,7 @@ const CONTEXTS: [(u16, Option<(i64, i64, usize)>, Option<(u16, i32)>); 10] = [
     (6, Some((-8, 16, 5)), Some((1, 2))),
     (7, Some((-8, 16, 5)), Some((5, -7))),
     (8, None, None),
-    (65_535, None, None),
+    (65_539, None, None),
 ];
 
 fn contexts(rt: &impl Abort, module: &Module) {
@@ -111,7 +111,7 @@ fn contexts(rt: &impl Abort, module: &Module) {
 }
 
 /// Contexts and words, and whether a context may write and read them.
-const WORDS: [(u16, i64, bool, bool); 24] = [
+const WORDS: [(u32, i64, bool, bool); 24] = [
     (0, -21, false, false),
     (0, -20, true, true),
     (0, 19, true, true),
@@ -154,7 +154,7 @@ fn words(rt: &impl Abort, module: &Module) {
 }
 
 /// Contexts and words, and the lengths of the channels there.
-const LENGTHS: [(u16, i32, Option<u32>); 12] = [
+const LENGTHS: [(u32, i32, Option<u32>); 12] = [
     (0, 2, None),
     (3, 1, None),
     (3, 2, Some(4)),
@@ -174,7 +174,7 @@ const IN: Direction = Direction::In;
 const OUT: Direction = Direction::Out;
 
 /// Contexts and ends, and whether a context has the end.
-const ENDS: [(u16, EndKind, Direction, bool); 28] = [
+const ENDS: [(u32, EndKind, Direction, bool); 28] = [
     (0, EndKind::Link(0), OUT, true),
     (0, EndKind::Link(0), IN, false),
     (0, EndKind::Link(1), OUT, false),
@@ -363,7 +363,7 @@ const NESTED: &[Row] = &[
 ];
 
 /// Contexts of `NESTED` and words, and the lengths of the channels there.
-const NESTED_LENGTHS: [(u16, i32, Option<u32>); 8] = [
+const NESTED_LENGTHS: [(u32, i32, Option<u32>); 8] = [
     (0, 1, None),
     (1, 1, Some(7)),
     (1, 2, Some(8)),

@@ -6,12 +6,12 @@ use Rattle.certificate.specs.Late.{late_list}
 use Rattle.certificate.proofs.Loop.{mapped_item_at, late_goes_on, late_ends, late_is_done, length-left}
 use Rattle.certificate.proofs.reading.late.late_list.Goals as goal
 
-pub late-requires-clause-fits : goal.late-requires-clause-fits
-late-requires-clause-fits g c =
+pub late-requires : goal.late-requires
+late-requires g c =
     let T = g.T.Late in
     let xs = map T.view c.args.items.now in
     let here = mapped_item_at T.view c.args.items.now c.args.items.now c.loop-item.item-index c.item-item.result refl c.loop-item-test.true c.item-item.is in
-    omega (arith, length-left T.spelled xs c.loop-item.item-index (T.view c.item-item.result) here, c.loop-item.invariant.place, c.requires.fits)
+    omega (arith, length-left T.spelled xs c.loop-item.item-index (T.view c.item-item.result) here, c.loop-item.invariant.place, c.requires)
 
 pub returns-in_err-at-clause-gives : goal.returns-in_err-at-clause-gives
 returns-in_err-at-clause-gives g c =

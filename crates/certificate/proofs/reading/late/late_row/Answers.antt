@@ -5,8 +5,8 @@ use Rattle.certificate.proofs.Loop.{ok_weaker}
 use Rattle.certificate.proofs.Sizes.{label_size}
 use Rattle.certificate.proofs.reading.late.late_row.Goals as goal
 
-pub late_list-requires-clause-fits : goal.late_list-requires-clause-fits
-late_list-requires-clause-fits c =
+pub late_list-requires : goal.late_list-requires
+late_list-requires c =
     let row = c.args.row.now in
     let size = label_size (label_of row) in
     rw (c.deref.ensures.value, map-id row.entries.items) (omega (arith, size, c.fact_size.ensures.value, c.fact_size-2.ensures.value, c.fact_size-3.ensures.value, c.requires))

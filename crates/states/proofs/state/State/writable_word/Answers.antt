@@ -4,7 +4,6 @@ use Rattle.std.proofs.lemmas.Int.{to_z-of_z}
 use Rattle.std.specs.Int.{w32, w64}
 use Rattle.certificate.specs.Contents.{Contents}
 use Rattle.certificate.specs.Rights.{may_write_word}
-use Rattle.states.specs.Words.{may_write}
 use Rattle.states.specs.Views.{BelongsTo, CanWrite}
 use Rattle.states.proofs.States.{room-fits, converted}
 use Rattle.states.proofs.OwnWords.{written-own}
@@ -14,7 +13,8 @@ use Rattle.states.proofs.state.State.writable_word.Goals.{After-ok}
 is_allowed : (c : After-ok) (m : Contents) → BelongsTo m c.args.self.now → may_write_word m c.args.self.now.context c.args.word ≡ true
 is_allowed c m b =
     let same = to_z-of_z w64 c.args.word c.ranges.word in
-    b.words.writes c.args.word ∙ (ap (may_write c.args.self.now.words) (sym same) ∙ (sym c.may_write.ensures ∙ c.if-not-may_write.false))
+    ap (λ (m : Contents). may_write_word m c.args.self.now.context c.args.word) (sym b.is)
+    ∙ (ap (may_write_word c.args.self.now.module.now c.args.self.now.context) (sym same) ∙ (sym c.may_write_word.ensures ∙ c.if-not-may_write_word.false))
 
 room : (c : After-ok) (m : Contents) → BelongsTo m c.args.self.now → CanWrite c.args.self.now c.args.word
 room c m b = b.room c.args.self.now.context c.args.word (written-own m c.args.self.now.context c.args.word (is_allowed c m b))

@@ -13,28 +13,28 @@ use Rattle.certificate.proofs.reading.late_pars.BranchRowLateParameters.late.Goa
 pub overflow_mul-written : goal.overflow_mul-written
 overflow_mul-written c =
     let b = branch_of c.args.self.now in
-    omega (arith, branch_size b, intervals_size b.writes, c.len.ensures.value, c.requires.fits)
+    omega (arith, branch_size b, intervals_size b.writes, c.len.ensures.value, c.requires)
 
 pub overflow_add-written-2 : goal.overflow_add-written-2
 overflow_add-written-2 c =
     let b = branch_of c.args.self.now in
-    omega (arith, branch_size b, intervals_size b.writes, c.len.ensures.value, c.requires.fits)
+    omega (arith, branch_size b, intervals_size b.writes, c.len.ensures.value, c.requires)
 
 pub overflow_mul-written-2 : goal.overflow_mul-written-2
 overflow_mul-written-2 c =
     let b = branch_of c.args.self.now in
-    omega (arith, branch_size b, intervals_size b.reads, c.len-2.ensures.value, c.requires.fits)
+    omega (arith, branch_size b, intervals_size b.reads, c.len-2.ensures.value, c.requires)
 
 pub overflow_add-written-3 : goal.overflow_add-written-3
 overflow_add-written-3 c =
     let b = branch_of c.args.self.now in
-    omega (arith, branch_size b, intervals_size b.writes, intervals_size b.reads, c.len.ensures.value, c.len-2.ensures.value, c.requires.fits)
+    omega (arith, branch_size b, intervals_size b.writes, intervals_size b.reads, c.len.ensures.value, c.len-2.ensures.value, c.requires)
 
-pub late_list-requires-clause-fits : goal.late_list-requires-clause-fits
-late_list-requires-clause-fits c =
+pub late_list-requires : goal.late_list-requires
+late_list-requires c =
     let b = branch_of c.args.self.now in
     rw (c.deref.ensures, map-id b.written_parameters)
-    (omega (arith, branch_size b, intervals_size b.writes, intervals_size b.reads, c.len.ensures.value, c.len-2.ensures.value, c.requires.fits))
+    (omega (arith, branch_size b, intervals_size b.writes, intervals_size b.reads, c.len.ensures.value, c.len-2.ensures.value, c.requires))
 
 pub returns-in_err-read-clause-gives : goal.returns-in_err-read-clause-gives
 unfolding late_branch
@@ -46,12 +46,12 @@ returns-in_err-read-clause-gives c =
     let first = rw (c.deref.ensures, map-id b.written_parameters, place) at c.in_err-read.ensures.gives in
     rw (p.1, p.2) (tells_err c.in_err-read.field-0.0 _ first)
 
-pub late_list-requires-2-clause-fits : goal.late_list-requires-2-clause-fits
-late_list-requires-2-clause-fits c =
+pub late_list-requires-2 : goal.late_list-requires-2
+late_list-requires-2 c =
     let b = branch_of c.args.self.now in
     let read = rw (c.deref.ensures, map-id b.written_parameters) at c.in_ok-read.ensures.behind in
     rw (c.deref-2.ensures, map-id b.read_parameters)
-    (omega (arith, read, branch_size b, intervals_size b.writes, intervals_size b.reads, c.len.ensures.value, c.len-2.ensures.value, c.requires.fits))
+    (omega (arith, read, branch_size b, intervals_size b.writes, intervals_size b.reads, c.len.ensures.value, c.len-2.ensures.value, c.requires))
 
 pub returns-in_err-ends-clause-gives : goal.returns-in_err-ends-clause-gives
 unfolding late_branch
@@ -65,13 +65,13 @@ returns-in_err-ends-clause-gives c =
     let second = rw (c.deref-2.ensures, map-id b.read_parameters, read) at c.in_err-ends.ensures.gives in
     rw (p.1, p.2) (step _ first (tells_err c.in_err-ends.field-0.0 _ second))
 
-pub late_list-requires-3-clause-fits : goal.late_list-requires-3-clause-fits
-late_list-requires-3-clause-fits c =
+pub late_list-requires-3 : goal.late_list-requires-3
+late_list-requires-3 c =
     let b = branch_of c.args.self.now in
     let read = rw (c.deref.ensures, map-id b.written_parameters) at c.in_ok-read.ensures.behind in
     let ends = rw (c.deref-2.ensures, map-id b.read_parameters) at c.in_ok-ends.ensures.behind in
     rw (c.deref-3.ensures.value, map-id b.ends)
-    (omega (arith, read, ends, branch_size b, intervals_size b.writes, intervals_size b.reads, c.len.ensures.value, c.len-2.ensures.value, c.requires.fits))
+    (omega (arith, read, ends, branch_size b, intervals_size b.writes, intervals_size b.reads, c.len.ensures.value, c.len-2.ensures.value, c.requires))
 
 pub returns-clause-gives : goal.returns-clause-gives
 unfolding late_branch

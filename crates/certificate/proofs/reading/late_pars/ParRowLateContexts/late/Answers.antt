@@ -5,22 +5,22 @@ use Rattle.certificate.specs.Spelling.{channel_bytes}
 use Rattle.certificate.specs.Late.{late_par}
 use Rattle.certificate.proofs.Loop.{ok_weaker}
 use Rattle.certificate.proofs.Sizes.{par_size, channels_size}
-use Rattle.certificate.proofs.reading.late_pars.ParRowLateTables.late.Goals as goal
+use Rattle.certificate.proofs.reading.late_pars.ParRowLateContexts.late.Goals as goal
 
 pub overflow_mul-branches : goal.overflow_mul-branches
 overflow_mul-branches c =
     let row = par_of c.args.self.now in
-    omega (arith, par_size row, channels_size row.channels, c.len.ensures, c.args.self.now.channels.ok.0, c.requires.fits)
+    omega (arith, par_size row, channels_size row.channels, c.len.ensures, c.args.self.now.channels.ok.0, c.requires)
 
 pub overflow_add-branches-2 : goal.overflow_add-branches-2
 overflow_add-branches-2 c =
     let row = par_of c.args.self.now in
-    omega (arith, par_size row, channels_size row.channels, c.len.ensures, c.args.self.now.channels.ok.0, c.requires.fits)
+    omega (arith, par_size row, channels_size row.channels, c.len.ensures, c.args.self.now.channels.ok.0, c.requires)
 
-pub late_list-requires-clause-fits : goal.late_list-requires-clause-fits
-late_list-requires-clause-fits c =
+pub late_list-requires : goal.late_list-requires
+late_list-requires c =
     let row = par_of c.args.self.now in
-    rw c.deref.ensures.value (omega (arith, par_size row, channels_size row.channels, c.len.ensures, c.args.self.now.channels.ok.0, c.requires.fits))
+    rw c.deref.ensures.value (omega (arith, par_size row, channels_size row.channels, c.len.ensures, c.args.self.now.channels.ok.0, c.requires))
 
 pub returns-clause-gives : goal.returns-clause-gives
 unfolding late_par
@@ -28,7 +28,7 @@ returns-clause-gives c =
     let row = par_of c.args.self.now in
     let place : c.args.at + 18 + 8 * c.len.result ≡ c.args.at + 18 + length (flat_map channel_bytes row.channels)
     = omega (arith, channels_size row.channels, c.len.ensures, c.args.self.now.channels.ok.0) in
-    rw (c.parameters_at.ensures, c.deref.ensures.value, place) at c.late_list.ensures.gives
+    rw (c.parameters.ensures, c.from.ensures, c.deref.ensures.value, place) at c.late_list.ensures.gives
 
 pub returns-clause-behind : goal.returns-clause-behind
 returns-clause-behind c =
