@@ -1,11 +1,11 @@
 -- The places of branches, and the contexts that they belong to.
-use Rattle.std.proofs.Common.{◌≡◌, ◌⊎◌, ℕ, zero, suc, ◌+◌, ◌-◌, ◌*◌, ◌^◌, ◌<◌, ◌≤◌, true, false, cond, eqb, ltb, List, [], ◌∷◌, ◌++◌, length, map, take, get_or, Option, Some, None, refl, sym, ap, subst, ◌∙◌, inl, inr, arith}
+use Rattle.std.proofs.Common.{◌≡◌, ◌⊎◌, ℕ, zero, suc, ◌+◌, ◌-◌, ◌*◌, ◌^◌, ◌<◌, ◌≤◌, true, false, cond, eqb, ltb, List, [], ◌∷◌, ◌++◌, length, map, take, get_or, Some, None, refl, sym, ap, subst, ◌∙◌, inl, inr, arith}
 use Rattle.std.specs.Prelude.{◌==◌, ◌&&◌, if◌then◌else◌, slice_index, slice_get, option_map, MatchOption}
 use Rattle.std.proofs.lemmas.Bool.{cases_lt, lt-ltb, le-ltb}
 use Rattle.std.proofs.lemmas.Bool.Decides.{nat_tests}
-use Rattle.std.proofs.lemmas.List.{length-append, length-map, get_or_push, get_or_append_left, map_more, length-take-le}
+use Rattle.std.proofs.lemmas.List.{length-append, length-map, get_or_push, get_or_append_left, map_more, length-take-le, take_all}
 use Rattle.std.proofs.lemmas.List.Sums.{sum_by-cons, sum_by-le}
-use Rattle.std.proofs.lemmas.Option.{slice_get-map}
+use Rattle.std.proofs.lemmas.Option.{slice_get-map, get_or_from_slice_get}
 use Rattle.certificate.specs.declared.places.Place.{Place}
 use Rattle.certificate.specs.declared.rows.ParRow.{ParRow}
 use Rattle.certificate.specs.declared.rows.BranchRow.{BranchRow}
@@ -104,25 +104,17 @@ with_item P [] i lt f = absurd (omega arith)
 with_item P (x ∷ xs) zero lt f = f x refl
 with_item P (x ∷ xs) (suc i) lt f = with_item P xs i (omega arith) f
 
-entry_there : (rows : List Par) (k b : ℕ) (row : Par) (entry : ℕ) → slice_get rows k ≡ Some row → b < length row.branches → ((x : Branch) → slice_get row.branches b ≡ Some x → entry ≡ x.entry)
-    → MatchOption (slice_get (branches_of rows) (branch_count (take k rows) + b)) ⊥ (λ x. entry ≡ x.1.entry)
-entry_there rows k b row entry is inside begins =
-    let Said = MatchOption (slice_get (branches_of rows) (branch_count (take k rows) + b)) ⊥ (λ x. entry ≡ x.1.entry) in
-    with_item Said row.branches b inside (λ x found. rw (branch_stands rows k b row x is found) (begins x found))
-
 -- one place more
 pub more_places : (c : Contents) (k b : ℕ) (row : Par) (places : List Place) (place : Place) → RowsKeep c → slice_get c.pars k ≡ Some row → b < length row.branches
     → place.par ≡ k → place.branch ≡ b → place.owner ≡ owner (first_branch c) c.pars row.context
-    → ((x : Branch) → slice_get row.branches b ≡ Some x → place.entry ≡ x.entry)
     → ArePlaces c (branch_count (take k c.pars) + b) places → ArePlaces c (branch_count (take k c.pars) + (b + 1)) (places ++ place ∷ [])
-more_places c k b row places place keeps is inside par branch owns begins h =
+more_places c k b row places place keeps is inside par branch owns h =
     let before = context_before (first_branch c) (length c.code) no_branches c.pars k row keeps.pars is in
     let known : row.context < first_branch c + branch_count (take k c.pars) = omega (arith, before) in
     let count = h.many in
     let here : IsPlace c (branch_count (take k c.pars) + b) place = record {
       stands = rw (par, is, branch) (there (λ x. slice_get (branches_of c.pars) (branch_count (take k c.pars) + b) ≡ Some (row, x)) row.branches b inside (λ x found. branch_stands c.pars k b row x is found));
       owner = owns ∙ sym (owner_of_branch (first_branch c) c.pars k b row is inside known);
-      entry = entry_there c.pars k b row place.entry is inside begins;
     } in
     let longer = length-append places (place ∷ []) in
     record {
@@ -204,22 +196,28 @@ branch_missing c places n h ge le =
     let all = many_branches c.pars in
     rw (le-ltb n (first_branch c) ge) (slice_get_past (branches_of c.pars) (n - first_branch c) (omega arith))
 
-module _ (t : Tables) (places : List Place) (n : ℕ) (place : Place) (h : ArePlaces (contents_of t) (branch_count (contents_of t).pars) places) (lt : n - first_branch (contents_of t) < length places) (is : place ≡ get_or places (n - first_branch (contents_of t)) place) where
-  stands_here : MatchOption (slice_get (map par_of t.pars.items) place.par) ⊥ (λ row. MatchOption (slice_get row.branches place.branch) ⊥ (λ b. slice_get (branches_of (map par_of t.pars.items)) (n - first_branch (contents_of t)) ≡ Some (row, b)))
-  stands_here = (subst (λ (p : Place). IsPlace (contents_of t) (n - first_branch (contents_of t)) p) (sym is) (h.each (n - first_branch (contents_of t)) place lt)).stands
+module _ (t : Tables) (places : List Place) (i : ℕ) (place : Place) (h : ArePlaces (contents_of t) (branch_count (contents_of t).pars) places) (lt : i < length places) (is : place ≡ get_or places i place) where
+  abbrev stands_in : Par → Type 0
+  stands_in row = MatchOption (slice_get row.branches place.branch) ⊥ (λ b. slice_get (branches_of (map par_of t.pars.items)) i ≡ Some (row, b))
+
+  stands_here : MatchOption (slice_get (map par_of t.pars.items) place.par) ⊥ stands_in
+  stands_here = (subst (λ (p : Place). IsPlace (contents_of t) i p) (sym is) (h.each i place lt)).stands
 
   pub par_inside : place.par < length t.pars.items
   par_inside = is_inside par_of _ t.pars.items place.par stands_here
 
   module _ (row : ParRow) (row_is : row ≡ get_or t.pars.items place.par row) where
-    in_row : MatchOption (slice_get (map branch_of row.branches.items) place.branch) ⊥ (λ b. slice_get (branches_of (map par_of t.pars.items)) (n - first_branch (contents_of t)) ≡ Some (par_of row, b))
-    in_row = holds_of par_of (λ row. MatchOption (slice_get row.branches place.branch) ⊥ (λ b. slice_get (branches_of (map par_of t.pars.items)) (n - first_branch (contents_of t)) ≡ Some (row, b))) t.pars.items place.par row stands_here row_is
+    in_row : stands_in (par_of row)
+    in_row = holds_of par_of stands_in t.pars.items place.par row stands_here row_is
 
     pub branch_inside : place.branch < length row.branches.items
     branch_inside = is_inside branch_of _ row.branches.items place.branch in_row
 
-    pub branch_found : (b : BranchRow) → b ≡ get_or row.branches.items place.branch b → first_branch (contents_of t) ≤ n → numbered_branch (contents_of t) n ≡ Some (par_of row, branch_of b)
-    branch_found b b_is ge = rw (le-ltb n (first_branch (contents_of t)) ge) (holds_of branch_of (λ x. slice_get (branches_of (map par_of t.pars.items)) (n - first_branch (contents_of t)) ≡ Some (par_of row, x)) row.branches.items place.branch b in_row b_is)
+    pub place_stands : (b : BranchRow) → b ≡ get_or row.branches.items place.branch b → slice_get (branches_of (contents_of t).pars) i ≡ Some (par_of row, branch_of b)
+    place_stands b b_is = holds_of branch_of (λ x. slice_get (branches_of (map par_of t.pars.items)) i ≡ Some (par_of row, x)) row.branches.items place.branch b in_row b_is
+
+pub branch_found : (c : Contents) (n : ℕ) (x : Par × Branch) → first_branch c ≤ n → slice_get (branches_of c.pars) (n - first_branch c) ≡ Some x → numbered_branch c n ≡ Some x
+branch_found c n x ge is = rw (le-ltb n (first_branch c) ge) is
 
 -- ---- the branch that begins at an offset
 
@@ -240,27 +238,29 @@ number_more n (e ∷ entries) entry at some = elim (eqb e at) as (λ b. cond b n
       | false ↦ let count : (n + 1) + length entries ≡ n + suc (length entries) = omega arith in number_more (n + 1) entries entry at (omega arith) ∙ ap (λ (m : ℕ). cond (eqb (number_from (n + 1) entries at) 0 && eqb entry at) m (number_from (n + 1) entries at)) count
     ]
 
--- one place more
-pub numbers_more : (n : ℕ) (places : List Place) (i : ℕ) (d : Place) (at old new : ℕ) → 1 ≤ n → i < length places → old ≡ number_from n (map (λ (p : Place). p.entry) (take i places)) at
-    → new ≡ (if (old == 0) && ((get_or places i d).entry == at) then n + i else old) → new ≡ number_from n (map (λ (p : Place). p.entry) (take (i + 1) places)) at
-numbers_more n places i d at old new some lt before now =
-    let entry = λ (p : Place). p.entry in
-    let entries = map entry (take i places) in
-    let long : length entries ≡ i = length-map (take i places) entry ∙ length-take-le i places (omega arith) in
-    let longer : map entry (take (i + 1) places) ≡ entries ++ (get_or places i d).entry ∷ [] = map_more entry places i d lt in
-    now ∙ rw (before, longer, number_more n entries (get_or places i d).entry at some, long) refl
+found_inside : {X : Type 0} (xs : List X) (i : ℕ) (x : X) → slice_get xs i ≡ Some x → i < length xs
+found_inside [] i x is = absurd cc
+found_inside (y ∷ xs) zero x is = omega arith
+found_inside (y ∷ xs) (suc i) x is = let next = found_inside xs i x is in omega arith
 
--- the entries of the branches are those of their places
-entries_placed : (xs : List (Par × Branch)) (places : List Place) → length places ≡ length xs → ((i : ℕ) (d : Place) → i < length places → MatchOption (slice_get xs i) ⊥ (λ x. (get_or places i d).entry ≡ x.1.entry))
-    → map (λ (p : Place). p.entry) places ≡ map (λ x. x.1.entry) xs
-entries_placed [] [] long each_one = refl
-entries_placed [] (p ∷ places) long each_one = absurd (omega arith)
-entries_placed (x ∷ xs) [] long each_one = absurd (omega arith)
-entries_placed (x ∷ xs) (p ∷ places) long each_one =
-    rw (each_one 0 p (omega arith), entries_placed xs places (omega arith) (λ i d lt. each_one (suc i) d (omega arith))) refl
+-- one branch more
+pub numbers_more : (n : ℕ) (xs : List (Par × Branch)) (i : ℕ) (x : Par × Branch) (at old new : ℕ) → 1 ≤ n → slice_get xs i ≡ Some x → old ≡ number_from n (map (λ y. y.1.entry) (take i xs)) at
+    → new ≡ (if (old == 0) && (x.1.entry == at) then n + i else old) → new ≡ number_from n (map (λ y. y.1.entry) (take (i + 1) xs)) at
+numbers_more n xs i x at old new some is before now =
+    let entry = λ (y : Par × Branch). y.1.entry in
+    let entries = map entry (take i xs) in
+    let lt = found_inside xs i x is in
+    let long : length entries ≡ i = length-map (take i xs) entry ∙ length-take-le i xs (omega arith) in
+    let longer : map entry (take (i + 1) xs) ≡ entries ++ x.1.entry ∷ [] = map_more entry xs i x lt ∙ ap (λ (y : Par × Branch). entries ++ entry y ∷ []) (get_or_from_slice_get xs i x x is) in
+    now ∙ rw (before, longer, number_more n entries x.1.entry at some, long) refl
 
-pub place_entries : (c : Contents) (places : List Place) → ArePlaces c (branch_count c.pars) places → map (λ (p : Place). p.entry) places ≡ map (λ x. x.1.entry) (branches_of c.pars)
-place_entries c places h = entries_placed (branches_of c.pars) places (h.many ∙ sym (many_branches c.pars)) (λ i d lt. (h.each i d lt).entry)
+-- all branches have their numbers
+pub numbers_all : (c : Contents) (places : List Place) (i at : ℕ) → ArePlaces c (branch_count c.pars) places → length places ≤ i
+    → number_from (first_branch c) (map (λ y. y.1.entry) (take i (branches_of c.pars))) at ≡ number_from (first_branch c) (map (λ y. y.1.entry) (branches_of c.pars)) at
+numbers_all c places i at h past =
+    let many = h.many in
+    let all = many_branches c.pars in
+    ap (λ (xs : List (Par × Branch)). number_from (first_branch c) (map (λ y. y.1.entry) xs) at) (take_all i (branches_of c.pars) (omega arith))
 
 -- with the number of its context v
 abbrev pub forked : ℕ → Par × Branch → Forked
@@ -290,11 +290,7 @@ branch_of_number c at = elim (numbered_from (branches_of c.pars) (first_branch c
   | inr found ↦ let v = number_from (first_branch c) (map (λ x. x.1.entry) (branches_of c.pars)) at in found.1 ∙ (let ge : ltb v (first_branch c) ≡ false = le-ltb v (first_branch c) found.0 in rw ge refl)
 ]
 
--- one found item
-pub same_entry : (o : Option Branch) (x y : Branch) → o ≡ Some x → o ≡ Some y → x.entry ≡ y.entry
-same_entry o x y a b = let same : x ≡ y = cc in ap (λ (z : Branch). z.entry) same
-
--- the same for the number that a table of numbers gives
+-- looking up the branch of the number that a table of numbers gives
 pub branch_at_is : (c : Contents) (numbers : List ℕ) (at v : ℕ) → AreNumbers c numbers → v ≡ slice_index numbers at → branch_at c at ≡ option_map (forked v) (numbered_branch c v)
 branch_at_is c numbers at v are is =
     let same : number_from (first_branch c) (map (λ x. x.1.entry) (branches_of c.pars)) at ≡ v = sym (is ∙ are at) in

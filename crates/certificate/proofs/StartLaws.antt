@@ -19,7 +19,7 @@ use Rattle.certificate.specs.Order.{InOrder}
 use Rattle.certificate.specs.Facts.{LabelKeeps, behind_label}
 use Rattle.certificate.specs.Procedures.{ProcedureKeeps, behind_procedure}
 use Rattle.certificate.specs.Keeping.{Keeps}
-use Rattle.certificate.specs.Starts.{procedure_from, procedure_at, EntriesRise, has_mark, Adds, AreStarts}
+use Rattle.certificate.specs.Starts.{procedure_from, procedure_at, IsNowhere, IsFirst, EntriesRise, has_mark, Adds, AreStarts}
 
 -- ---- marks
 
@@ -123,19 +123,15 @@ module _ {X : Type 0} (offset : X → ℕ) where
   non_decreasing low (x ∷ xs) r (suc i) zero d le lt = absurd (omega arith)
   non_decreasing low (x ∷ xs) r (suc i) (suc j) d le lt = non_decreasing (offset x) xs r.1 i j d (omega arith) (omega arith)
 
-  -- no row stands at the offset
-  abbrev pub IsNowhere : List X → ℕ → Type 0
-  IsNowhere xs at = (k : ℕ) (d : X) → k < length xs → offset (get_or xs k d) ≢ at
-
   -- what a search for an offset finds: the first n rows stand before it, and the others don't
   module _ (xs : List X) (at n : ℕ) (point : IsPartitionPoint (λ x. ltb (offset x) at ≡ true) (λ x. ltb (offset x) at ≡ false) xs n) where
     pub before_here : (d : X) (k : ℕ) → k < n → offset (get_or xs k d) ≢ at
     before_here d k lt = let less = ltb-true _ _ (point.0 k d (omega arith) lt) in λ e. absurd (omega arith)
 
-    pub none_past : length xs ≤ n → IsNowhere xs at
+    pub none_past : length xs ≤ n → IsNowhere offset xs at
     none_past past k d lt = before_here d k (omega arith)
 
-    pub none_here : (x : X) → IsNonDecreasingBy offset xs → n < length xs → get_or xs n x ≡ x → offset x ≢ at → IsNowhere xs at
+    pub none_here : (x : X) → IsNonDecreasingBy offset xs → n < length xs → get_or xs n x ≡ x → offset x ≢ at → IsNowhere offset xs at
     none_here x up inside here differs k d lt = elim (cases_lt k n) [
       | inl less ↦ before_here d k less
       | inr ge ↦
@@ -147,7 +143,7 @@ module _ {X : Type 0} (offset : X → ℕ) where
 
 module _ (at : ℕ) where
   -- the first row at the offset
-  pub label_found : (rows : List LabelRow) (n : ℕ) (d : LabelRow) → n < length rows → ((k : ℕ) → k < n → (get_or rows k d).offset ≢ at) → (get_or rows n d).offset ≡ at
+  label_found : (rows : List LabelRow) (n : ℕ) (d : LabelRow) → n < length rows → ((k : ℕ) → k < n → (get_or rows k d).offset ≢ at) → (get_or rows n d).offset ≡ at
       → find (λ row. row.offset == at) (map label_of rows) ≡ Some (label_of (get_or rows n d))
   label_found [] n d lt before here = absurd (omega arith)
   label_found (row ∷ rows) zero d lt before here = let same : eqb row.offset at ≡ true = grind (arith, nat_tests) in rw same refl
@@ -155,6 +151,12 @@ module _ (at : ℕ) where
       let differs : row.offset ≢ at = before 0 (omega arith) in
       let other : eqb row.offset at ≡ false = grind (arith, nat_tests) in
       rw other (label_found rows n d (omega arith) (λ k less. before (suc k) (omega arith)) here)
+
+  -- the same, as a search finds it
+  pub label_is : (rows : List LabelRow) (n : ℕ) (row : LabelRow) → n < length rows → ((k : ℕ) → k < n → (get_or rows k row).offset ≢ at) → row ≡ get_or rows n row → row.offset ≡ at
+      → find (λ row. row.offset == at) (map label_of rows) ≡ Some (label_of row)
+  label_is rows n row lt before is here =
+      label_found rows n row lt before (sym (ap (λ (r : LabelRow). r.offset) is) ∙ here) ∙ ap (λ r. Some (label_of r)) (sym is)
 
   pub label_missing : (rows : List LabelRow) → IsNowhere (λ row. row.offset) rows at → find (λ row. row.offset == at) (map label_of rows) ≡ None
   label_missing [] all = refl
@@ -216,6 +218,8 @@ entry_found n (p ∷ ps) at = elim (p.entry == at) as (λ b. (b || list_any (λ 
   | false ↦ entry_found (n + 1) ps at
 ]
 
-pub is_found : {X Y : Type 0} (r : Option X) (o : Option Y) (f : X → Y) → MatchOption r (o ≡ None) (λ x. o ≡ Some (f x)) → is_some r ≡ is_some o
-is_found None o f h = rw h refl
-is_found (Some x) o f h = rw h refl
+-- the same, as a search in the rows finds it
+pub is_entered : {Y : Type 0} (row : Y → ProcedureRow) (rows : List ProcedureRow) (at : ℕ) (r : Option (ℕ × Y)) → MatchOption r (IsNowhere (λ x. x.entry) rows at) (λ f. IsFirst (λ x. x.entry) rows at f.0 (row f.1))
+    → is_some r ≡ list_any (λ p. p.entry == at) (map procedure_of rows)
+is_entered row rows at None h = rw (entry_found 1 (map procedure_of rows) at, procedure_missing at 1 rows h) refl
+is_entered row rows at (Some f) h = rw (entry_found 1 (map procedure_of rows) at, procedure_is at rows f.0 (row f.1) h.inside (λ k lt. h.before k (row f.1) lt) h.is h.here) refl

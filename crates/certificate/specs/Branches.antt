@@ -45,13 +45,11 @@ abbrev pub AreNumbers : Contents → List ℕ → Type 0
 AreNumbers c numbers =
     (at : ℕ) → slice_index numbers at ≡ number_from (first_branch c) (map (λ x. x.1.entry) (branches_of c.pars)) at
 
--- this is the place of the branch with so many before it: its PAR row, its number in the row, its owner and
--- its entry
+-- this is the place of the branch with so many before it: its PAR row, its number in the row and its owner
 pub record IsPlace (c : Contents) (before : ℕ) (place : Place) : Type 0 where
   pub stands : MatchOption (slice_get c.pars place.par) ⊥ (λ row. MatchOption (slice_get row.branches place.branch) ⊥
       (λ b. slice_get (branches_of c.pars) before ≡ Some (row, b)))
   pub owner : place.owner ≡ owner (first_branch c) c.pars (first_branch c + before)
-  pub entry : MatchOption (slice_get (branches_of c.pars) before) ⊥ (λ x. place.entry ≡ x.1.entry)
 
 -- the places of so many branches, the first ones
 pub record ArePlaces (c : Contents) (count : ℕ) (places : List Place) : Type 0 where

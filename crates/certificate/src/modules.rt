@@ -3,8 +3,8 @@
 use crate::contexts::{Context, Contexts};
 use crate::fault::{FormatFault, MEMORY, ReadError};
 use crate::index::Index;
+use crate::offsets::row_at;
 use crate::places::number_at;
-use crate::procedures::procedure_at;
 use crate::reading::tables_of;
 use crate::rows::{BranchRow, LabelRow, ParRow, Parameter, ProcedureRow};
 use crate::tables::Tables;
@@ -90,12 +90,7 @@ impl<'a> Module<'a> {
     pub fn label_at(&self, offset: u32) -> Option<&LabelRow>
         ensures { MatchOption result (label_at self.now offset ≡ None) (λ row. label_at self.now offset ≡ Some (label_of row.now)) }
     {
-        let rows = &self.tables.labels;
-        let index = rows.partition_point(|row| row.offset < offset);
-        let row = rows.get(index)?;
-        if row.offset != offset {
-            return None;
-        }
+        let (_index, row) = row_at(&self.tables.labels, offset)?;
         Some(row)
     }
 
@@ -105,7 +100,7 @@ impl<'a> Module<'a> {
         ensures { MatchOption result (procedure_at self.now offset ≡ None)
             (λ found. procedure_at self.now offset ≡ Some (record { context = found.0; procedure = procedure_of found.1.now })) }
     {
-        let (index, row) = procedure_at(&self.tables.procedures, offset)?;
+        let (index, row) = row_at(&self.tables.procedures, offset)?;
         Some((index as u32 + 1, row))
     }
 

@@ -18,8 +18,6 @@ pub(crate) struct Place {
     pub branch: u16,
     /// The context of the root or procedure.
     pub owner: u32,
-    /// Where the branch begins.
-    pub entry: u32,
 }
 
 /// The root or procedure that a context is or belongs to, where the first branches have these places.
@@ -51,7 +49,6 @@ pub(crate) fn places_of(alloc: Global, tables: &Tables) -> Result<Vec<Place>, Al
                 par: par as u16,
                 branch: branch as u16,
                 owner,
-                entry: row.branches[branch].entry,
             })?;
         }
     }
@@ -96,8 +93,10 @@ pub(crate) fn numbers_of(
     let own = 1 + tables.procedures.len();
     let mut numbers = Vec::new(alloc);
     for index in 0..places.len() {
-        let place = &places[index];
-        note(&mut numbers, place.entry, (own + index) as u32)?;
+        let place = places[index];
+        let row = &tables.pars[usize::from(place.par)];
+        let branch = &row.branches[usize::from(place.branch)];
+        note(&mut numbers, branch.entry, (own + index) as u32)?;
     }
     Ok(numbers)
 }

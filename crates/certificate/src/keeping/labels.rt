@@ -20,7 +20,7 @@ ghost use Rattle.certificate.specs.Facts.{
 
 use crate::fact::{Fact, Step};
 use crate::keeping::list::{Rule, all_keep};
-use crate::procedures::is_entry;
+use crate::offsets::is_entry;
 use crate::reading::end_of;
 use crate::rows::{Entry, LabelRow, ProcedureRow};
 

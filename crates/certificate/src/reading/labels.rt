@@ -8,7 +8,7 @@ ghost use Rattle.certificate.specs.Reading.{Gives};
 ghost use Rattle.certificate.specs.ReadingRows.{label_offset_at, label_row_at, label_rows_at};
 
 use crate::fault::{ORDER, RANGE, ReadError};
-use crate::procedures::is_entry;
+use crate::offsets::is_entry;
 use crate::reading::facts::{entries_at, registers_at};
 use crate::reading::fields::{fault, i32_at, in_code_at, place, u16_at, u64_at};
 use crate::reading::list::{Reader, list_at};

@@ -1,11 +1,14 @@
-use Rattle.std.proofs.Common.{◌≡◌, ◌+◌, ◌<◌, length, List, ℕ, map, take, ap, ◌∙◌, rules, arith}
-use Rattle.std.proofs.lemmas.List.{length-map, take_all}
+use Rattle.std.proofs.Common.{◌≡◌, ◌+◌, ◌<◌, length, get_or, ◌∙◌, rules, arith}
+use Rattle.std.proofs.lemmas.List.{length-map, get_or_default}
 use Rattle.certificate.specs.declared.places.Place.{Place}
-use Rattle.certificate.specs.Contents.{contents_of, procedure_of}
+use Rattle.certificate.specs.Contents.{contents_of, procedure_of, par_of, branch_of}
 use Rattle.certificate.specs.Contexts.{first_branch}
-use Rattle.certificate.specs.Branches.{number_from}
-use Rattle.certificate.proofs.PlaceLaws.{contexts_fit, numbers_more, place_entries}
+use Rattle.certificate.specs.Branches.{branches_of}
+use Rattle.certificate.proofs.PlaceLaws.{contexts_fit, par_inside, branch_inside, place_stands, numbers_more, numbers_all}
 use Rattle.certificate.proofs.places.numbers_of.Goals as goal
+
+nowhere : Place
+nowhere = record { par = 0; branch = 0; owner = 0 }
 
 pub overflow_cast-own : goal.overflow_cast-own
 overflow_cast-own c =
@@ -16,15 +19,37 @@ overflow_cast-own c =
     let inside : c.loop-index.index < length c.args.places.now = search rules in
     omega arith
 
+pub index-row-requires : goal.index-row-requires
+unfolding nowhere
+index-row-requires c =
+    let places = c.args.places.now in
+    let i = c.loop-index.index in
+    let place = get_or places i nowhere in
+    let is : place ≡ get_or places i place = get_or_default places i nowhere place c.loop-index-test.true in
+    let inside = par_inside c.args.tables.now places i place c.requires.places c.loop-index-test.true is in
+    search (rules, inside)
+
+pub index-branch-requires : goal.index-branch-requires
+unfolding nowhere
+index-branch-requires c =
+    let places = c.args.places.now in
+    let i = c.loop-index.index in
+    let place = get_or places i nowhere in
+    let is : place ≡ get_or places i place = get_or_default places i nowhere place c.loop-index-test.true in
+    let inside = branch_inside c.args.tables.now places i place c.requires.places c.loop-index-test.true is c.index-row.result.now (rw c.from.ensures at c.index-row.ensures) in
+    search (rules, inside)
+
 pub loop-index-preserved : goal.loop-index-preserved
+unfolding nowhere
 loop-index-preserved c = λ at.
     let t = c.args.tables.now in
+    let places = c.args.places.now in
+    let i = c.loop-index.index in
+    let place = get_or places i nowhere in
+    let is : place ≡ get_or places i place = get_or_default places i nowhere place c.loop-index-test.true in
+    let stands = place_stands t places i place c.requires.places c.loop-index-test.true is c.index-row.result.now (rw c.from.ensures at c.index-row.ensures) c.index-branch.result.now (rw c.from-in-loop-index.ensures at c.index-branch.ensures) in
     let first : 1 + c.len-own.result ≡ first_branch (contents_of t) = let long = length-map t.procedures.items procedure_of in search (rules, long) in
-    let inside : c.loop-index.index < length c.args.places.now = search rules in
-    numbers_more (first_branch (contents_of t)) c.args.places.now c.loop-index.index (record { par = 0; branch = 0; owner = 0; entry = 0 }) at _ _ (omega arith) inside (c.loop-index.invariant at) (rw first at (c.in_ok-note.ensures at))
+    numbers_more (first_branch (contents_of t)) (branches_of (contents_of t).pars) i (par_of c.index-row.result.now, branch_of c.index-branch.result.now) at _ _ (omega arith) stands (c.loop-index.invariant at) (rw first at (c.in_ok-note.ensures at))
 
 pub returns : goal.returns
-returns c = λ at.
-    let entry = λ (p : Place). p.entry in
-    let all : take c.loop-index.index c.args.places.now ≡ c.args.places.now = take_all c.loop-index.index c.args.places.now (search rules) in
-    c.loop-index.invariant at ∙ ap (λ (ns : List ℕ). number_from (first_branch (contents_of c.args.tables.now)) ns at) (ap (map entry) all ∙ place_entries (contents_of c.args.tables.now) c.args.places.now c.requires.places)
+returns c = λ at. c.loop-index.invariant at ∙ numbers_all (contents_of c.args.tables.now) c.args.places.now c.loop-index.index at c.requires.places (search rules)

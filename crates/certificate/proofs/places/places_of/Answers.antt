@@ -4,7 +4,7 @@ use Rattle.std.proofs.lemmas.List.{length-map}
 use Rattle.certificate.specs.Contents.{contents_of, par_of, branch_of}
 use Rattle.certificate.specs.Contexts.{first_branch}
 use Rattle.certificate.specs.Pars.{no_branches}
-use Rattle.certificate.proofs.PlaceLaws.{context_before, item_there, same_entry, branches_few, more_places, row_placed}
+use Rattle.certificate.proofs.PlaceLaws.{context_before, item_there, branches_few, more_places, row_placed}
 use Rattle.certificate.proofs.places.places_of.Goals as goal
 
 pub owner_of-owner-requires-clause-there : goal.owner_of-owner-requires-clause-there
@@ -33,7 +33,7 @@ loop-branch-preserved c =
     let is : slice_get m.pars c.loop-par.par ≡ Some row = item_there par_of c.args.tables.now.pars.items c.loop-par.par c.index-row.result.now (search rules) c.index-row.ensures in
     let long : length row.branches ≡ length c.index-row.result.now.branches.items = length-map c.index-row.result.now.branches.items branch_of in
     let inside : c.loop-branch.branch < length c.index-row.result.now.branches.items = search rules in
-    rw (c.in_ok-push.ensures.items) (more_places m c.loop-par.par c.loop-branch.branch row c.loop-branch.places.items _ c.requires.rows is (omega arith) refl refl (rw c.from.ensures at c.owner_of-owner.ensures) (λ x found. same_entry _ _ x (item_there branch_of c.index-row.result.now.branches.items c.loop-branch.branch c.index.result.now inside c.index.ensures) found) c.loop-branch.invariant)
+    rw (c.in_ok-push.ensures.items) (more_places m c.loop-par.par c.loop-branch.branch row c.loop-branch.places.items _ c.requires.rows is (omega arith) refl refl (rw c.from.ensures at c.owner_of-owner.ensures) c.loop-branch.invariant)
 
 pub loop-par-preserved : goal.loop-par-preserved
 loop-par-preserved c =

@@ -1,48 +1,19 @@
-use Rattle.std.proofs.Common.{◌≡◌, ◌<◌, ◌≤◌, ltb, length, get_or, Some, sym, ap, ◌∙◌, rules}
-use Rattle.std.proofs.lemmas.Bool.{ltb-true, ltb-false}
-use Rattle.std.proofs.lemmas.List.Sorted.{IsPartitionPoint-from_clause, IsPartitionedBy-ltb}
-use Rattle.certificate.specs.declared.rows.LabelRow.{LabelRow}
-use Rattle.certificate.specs.Contents.{label_of, label_at}
-use Rattle.certificate.proofs.StartLaws.{module_labels, before_here, none_past, none_here, label_found, label_missing}
+use Rattle.std.proofs.Common.{sym, ap, ◌∙◌}
+use Rattle.certificate.specs.Contents.{label_at}
+use Rattle.certificate.proofs.StartLaws.{module_labels, label_is, label_missing}
 use Rattle.certificate.proofs.modules.Module.label_at.Goals as goal
+
+pub row_at-requires : goal.row_at-requires
+row_at-requires c = rw c.deref.ensures.value (module_labels c.self.inside.tables c.self.invariant.0.keeps)
+
+pub returns-in_err-_index : goal.returns-in_err-_index
+returns-in_err-_index c =
+    let at = c.args.offset in
+    rw c.from_residual.ensures (ap (λ m. label_at m at) (sym c.self.view_is) ∙ label_missing at c.self.inside.tables.labels.items (rw c.deref.ensures.value at c.in_err-_index.ensures))
 
 pub returns : goal.returns
 returns c =
-    let rows = c.self.inside.tables.labels.items in
     let at = c.args.offset in
-    let n = c.partition_point-index.result in
-    let row = c.in_ok-row.row.now in
-    let up = module_labels c.self.inside.tables c.self.invariant.0.keeps in
-    let offset = λ (r : LabelRow). r.offset in
-    let parted = rw c.deref.ensures.value at c.partition_point-index.ensures.partitioned in
-    let point = IsPartitionPoint-from_clause (λ (r : LabelRow). ltb r.offset at) rows n parted (IsPartitionedBy-ltb offset rows at up) (λ a r f' k. search rules) in
-    let inside : n < length rows = rw c.deref-2.ensures.value at (ltb-true n _ (sym c.in_ok-row.ensures.lookup.0)) in
-    let here : row ≡ get_or rows n row = rw c.deref-2.ensures.value at c.in_ok-row.ensures.lookup.1 in
-    let at_here : (get_or rows n row).offset ≡ at = sym (ap offset here) ∙ c.if-row-offset.false in
-    ap (λ m. label_at m at) (sym c.self.view_is) ∙ label_found at rows n row inside (before_here offset rows at n point row) at_here ∙ ap (λ r. Some (label_of r)) (sym here)
-
-pub returns-in_err-row : goal.returns-in_err-row
-returns-in_err-row c =
-    let rows = c.self.inside.tables.labels.items in
-    let at = c.args.offset in
-    let n = c.partition_point-index.result in
-    let up = module_labels c.self.inside.tables c.self.invariant.0.keeps in
-    let offset = λ (r : LabelRow). r.offset in
-    let parted = rw c.deref.ensures.value at c.partition_point-index.ensures.partitioned in
-    let point = IsPartitionPoint-from_clause (λ (r : LabelRow). ltb r.offset at) rows n parted (IsPartitionedBy-ltb offset rows at up) (λ a r f' k. search rules) in
-    let past : length rows ≤ n = rw c.deref-2.ensures.value at (ltb-false n _ (sym c.in_err-row.ensures.lookup.0)) in
-    rw c.from_residual.ensures (ap (λ m. label_at m at) (sym c.self.view_is) ∙ label_missing at rows (none_past offset rows at n point past))
-
-pub returns-then-row-offset : goal.returns-then-row-offset
-returns-then-row-offset c =
-    let rows = c.self.inside.tables.labels.items in
-    let at = c.args.offset in
-    let n = c.partition_point-index.result in
-    let row = c.in_ok-row.row.now in
-    let up = module_labels c.self.inside.tables c.self.invariant.0.keeps in
-    let offset = λ (r : LabelRow). r.offset in
-    let parted = rw c.deref.ensures.value at c.partition_point-index.ensures.partitioned in
-    let point = IsPartitionPoint-from_clause (λ (r : LabelRow). ltb r.offset at) rows n parted (IsPartitionedBy-ltb offset rows at up) (λ a r f' k. search rules) in
-    let inside : n < length rows = rw c.deref-2.ensures.value at (ltb-true n _ (sym c.in_ok-row.ensures.lookup.0)) in
-    let here : row ≡ get_or rows n row = rw c.deref-2.ensures.value at c.in_ok-row.ensures.lookup.1 in
-    ap (λ m. label_at m at) (sym c.self.view_is) ∙ label_missing at rows (none_here offset rows at n point row up inside (sym here) c.if-row-offset.true)
+    let first = rw c.deref.ensures.value at c.in_ok-_index.ensures in
+    let row = c.in_ok-_index.row.now in
+    ap (λ m. label_at m at) (sym c.self.view_is) ∙ label_is at c.self.inside.tables.labels.items c.in_ok-_index._index row first.inside (λ k lt. first.before k row lt) first.is first.here

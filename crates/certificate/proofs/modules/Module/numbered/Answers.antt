@@ -4,7 +4,7 @@ use Rattle.std.proofs.lemmas.List.{length-map}
 use Rattle.certificate.specs.Contents.{contents_of, procedure_of, par_of, branch_of}
 use Rattle.certificate.specs.Contexts.{first_branch}
 use Rattle.certificate.specs.Branches.{numbered_branch}
-use Rattle.certificate.proofs.PlaceLaws.{branch_missing, par_inside, branch_inside, branch_found}
+use Rattle.certificate.proofs.PlaceLaws.{branch_missing, par_inside, branch_inside, place_stands, branch_found}
 use Rattle.certificate.proofs.RightLaws.{found_kept}
 use Rattle.certificate.proofs.modules.Module.numbered.Goals as goal
 
@@ -24,7 +24,7 @@ index-row-requires c =
     let first : 1 + c.len-own.result ≡ first_branch (contents_of t) = let long = length-map t.procedures.items procedure_of in search (rules, long) in
     let lt : n - first_branch (contents_of t) < length c.self.inside.index.places.items = rw (c.deref.ensures.value, first) at (ltb-true _ _ (sym c.in_ok-place.ensures.lookup.0)) in
     let is : c.in_ok-place.place.now ≡ get_or c.self.inside.index.places.items (n - first_branch (contents_of t)) c.in_ok-place.place.now = rw (c.deref.ensures.value, first) at c.in_ok-place.ensures.lookup.1 in
-    let inside = par_inside t c.self.inside.index.places.items n c.in_ok-place.place.now c.self.invariant.1.places lt is in
+    let inside = par_inside t c.self.inside.index.places.items (n - first_branch (contents_of t)) c.in_ok-place.place.now c.self.invariant.1.places lt is in
     search (rules, inside)
 
 pub index-requires : goal.index-requires
@@ -34,7 +34,7 @@ index-requires c =
     let first : 1 + c.len-own.result ≡ first_branch (contents_of t) = let long = length-map t.procedures.items procedure_of in search (rules, long) in
     let lt : n - first_branch (contents_of t) < length c.self.inside.index.places.items = rw (c.deref.ensures.value, first) at (ltb-true _ _ (sym c.in_ok-place.ensures.lookup.0)) in
     let is : c.in_ok-place.place.now ≡ get_or c.self.inside.index.places.items (n - first_branch (contents_of t)) c.in_ok-place.place.now = rw (c.deref.ensures.value, first) at c.in_ok-place.ensures.lookup.1 in
-    let inside = branch_inside t c.self.inside.index.places.items n c.in_ok-place.place.now c.self.invariant.1.places lt is c.index-row.result.now (rw c.from.ensures at c.index-row.ensures) in
+    let inside = branch_inside t c.self.inside.index.places.items (n - first_branch (contents_of t)) c.in_ok-place.place.now c.self.invariant.1.places lt is c.index-row.result.now (rw c.from.ensures at c.index-row.ensures) in
     search (rules, inside)
 
 pub returns-clause-found : goal.returns-clause-found
@@ -46,7 +46,7 @@ returns-clause-found c =
     let lt : n - first_branch (contents_of t) < length c.self.inside.index.places.items = rw (c.deref.ensures.value, first) at (ltb-true _ _ (sym c.in_ok-place.ensures.lookup.0)) in
     let is : c.in_ok-place.place.now ≡ get_or c.self.inside.index.places.items (n - first_branch (contents_of t)) c.in_ok-place.place.now = rw (c.deref.ensures.value, first) at c.in_ok-place.ensures.lookup.1 in
     ap (λ m. numbered_branch m n) (sym c.self.view_is)
-    ∙ branch_found t c.self.inside.index.places.items n c.in_ok-place.place.now c.self.invariant.1.places lt is c.index-row.result.now (rw c.from.ensures at c.index-row.ensures) c.index.result.now (rw c.from-2.ensures at c.index.ensures) ge
+    ∙ branch_found (contents_of t) n (par_of c.index-row.result.now, branch_of c.index.result.now) ge (place_stands t c.self.inside.index.places.items (n - first_branch (contents_of t)) c.in_ok-place.place.now c.self.invariant.1.places lt is c.index-row.result.now (rw c.from.ensures at c.index-row.ensures) c.index.result.now (rw c.from-2.ensures at c.index.ensures))
 
 pub returns-clause-kept : goal.returns-clause-kept
 returns-clause-kept c =
@@ -57,4 +57,4 @@ returns-clause-kept c =
     let lt : n - first_branch (contents_of t) < length c.self.inside.index.places.items = rw (c.deref.ensures.value, first) at (ltb-true _ _ (sym c.in_ok-place.ensures.lookup.0)) in
     let is : c.in_ok-place.place.now ≡ get_or c.self.inside.index.places.items (n - first_branch (contents_of t)) c.in_ok-place.place.now = rw (c.deref.ensures.value, first) at c.in_ok-place.ensures.lookup.1 in
     found_kept (contents_of t) n (par_of c.index-row.result.now, branch_of c.index.result.now) c.self.invariant.0.keeps
-    (branch_found t c.self.inside.index.places.items n c.in_ok-place.place.now c.self.invariant.1.places lt is c.index-row.result.now (rw c.from.ensures at c.index-row.ensures) c.index.result.now (rw c.from-2.ensures at c.index.ensures) ge)
+    (branch_found (contents_of t) n (par_of c.index-row.result.now, branch_of c.index.result.now) ge (place_stands t c.self.inside.index.places.items (n - first_branch (contents_of t)) c.in_ok-place.place.now c.self.invariant.1.places lt is c.index-row.result.now (rw c.from.ensures at c.index-row.ensures) c.index.result.now (rw c.from-2.ensures at c.index.ensures)))
