@@ -67,3 +67,19 @@ item_open r rows rest x b e i h =
 pub item_found : (r : Row) (rows rest after : List Row) (x : ProgramItem) (b : Bool) → start_at r rows ≡ Some (x, rest) → b ≡ is_procedure x → behind_item b rest ≡ Some after → item_at r rows ≡ Some (x, after)
 item_found r rows rest after x b e i h =
     item_is r rows ∙ ap (λ (o : Option (ProgramItem × List Row)). o >>= closed) e ∙ ap (λ (o : Option (List Row)). o >>= λ us. Some (x, us)) (ap (λ c. behind_item c rest) (sym i) ∙ h)
+
+-- ---- the steps of a start
+
+pub procedure_none : (line : ℕ) (ts : List Terminal) (rows : List Row) → proc_head_at ts ≡ None → procedure_start line ts rows ≡ None
+unfolding procedure_start
+procedure_none line ts rows e = ap (λ (o : Option ProcHead). o >>= λ head. with_body line head (process_at 64 1 rows)) e
+
+procedure_is : (line : ℕ) (ts : List Terminal) (rows : List Row) (head : ProcHead) → proc_head_at ts ≡ Some head → procedure_start line ts rows ≡ with_body line head (process_at 64 1 rows)
+unfolding procedure_start
+procedure_is line ts rows head e = ap (λ (o : Option ProcHead). o >>= λ h. with_body line h (process_at 64 1 rows)) e
+
+pub procedure_empty : (line : ℕ) (ts : List Terminal) (rows : List Row) (head : ProcHead) → proc_head_at ts ≡ Some head → process_at 64 1 rows ≡ None → procedure_start line ts rows ≡ None
+procedure_empty line ts rows head e h = procedure_is line ts rows head e ∙ ap (with_body line head) h
+
+pub procedure_found : (line : ℕ) (ts : List Terminal) (rows rest : List Row) (head : ProcHead) (body : Process) → proc_head_at ts ≡ Some head → process_at 64 1 rows ≡ Some (body, rest) → procedure_start line ts rows ≡ Some (record { line = line; head = head; body = body }, rest)
+procedure_found line ts rows rest head body e h = procedure_is line ts rows head e ∙ ap (with_body line head) h

@@ -134,15 +134,18 @@ branch_found level rows rest after r g q low e h p =
 
 -- ---- a block, by its kind
 
-pub kind_found : (kind k : BlockKind) (item : ReadsLines Component) (level : ℕ) (r : Option Replicator) (single : Bool) (rows rest : List Row) (cs : Components) → kind ≡ k → component_at (65 - level) level k ≡ item → single ≡ is_some r
-    → components_of item level single rows ≡ Some (cs, rest) → block_with kind r (components_of (component_at (65 - level) level kind) level (is_some r) rows) ≡ Some (Block k r cs, rest)
-kind_found kind k item level r single rows rest cs same i s e =
-    ap (λ (j : BlockKind). block_with j r (components_of (component_at (65 - level) level j) level (is_some r) rows)) same
-    ∙ block_found_of k r (components_of (component_at (65 - level) level k) level (is_some r) rows) cs rest
-    (ap (λ (q : ReadsLines Component). components_of q level (is_some r) rows) i ∙ ap (λ (b : Bool). components_of item level b rows) (sym s) ∙ e)
+pub kind_reads : (kind k : BlockKind) (item : ReadsLines Component) (level : ℕ) (single : Bool) (rows : List Row) → kind ≡ k → component_at (65 - level) level k ≡ item
+    → components_of (component_at (65 - level) level kind) level single rows ≡ components_of item level single rows
+kind_reads kind k item level single rows same i = ap (λ (j : BlockKind). components_of (component_at (65 - level) level j) level single rows) same ∙ ap (λ (q : ReadsLines Component). components_of q level single rows) i
 
-pub kind_none : (kind k : BlockKind) (item : ReadsLines Component) (level : ℕ) (r : Option Replicator) (single : Bool) (rows : List Row) → kind ≡ k → component_at (65 - level) level k ≡ item → single ≡ is_some r
-    → components_of item level single rows ≡ None → block_with kind r (components_of (component_at (65 - level) level kind) level (is_some r) rows) ≡ None
-kind_none kind k item level r single rows same i s e =
-    block_none_of kind r (components_of (component_at (65 - level) level kind) level (is_some r) rows)
-    (ap (λ (j : BlockKind). components_of (component_at (65 - level) level j) level (is_some r) rows) same ∙ ap (λ (q : ReadsLines Component). components_of q level (is_some r) rows) i ∙ ap (λ (b : Bool). components_of item level b rows) (sym s) ∙ e)
+pub body_none : (kind : BlockKind) (item : ReadsLines Component) (level : ℕ) (r : Option Replicator) (single : Bool) (rows : List Row) → single ≡ is_some r
+    → components_of item level single rows ≡ None → block_with kind r (components_of item level (is_some r) rows) ≡ None
+body_none kind item level r single rows s e = block_none_of kind r (components_of item level (is_some r) rows) (ap (λ (b : Bool). components_of item level b rows) (sym s) ∙ e)
+
+-- the construct that is made of a body
+pub body_found : (kind k : BlockKind) (item : ReadsLines Component) (level : ℕ) (r : Option Replicator) (single : Bool) (rows rest : List Row) (cs : Components) (c : Construct) → single ≡ is_some r
+    → components_of item level single rows ≡ Some (cs, rest) → c ≡ Block k r cs → k ≡ kind
+    → block_with kind r (components_of item level (is_some r) rows) ≡ Some (c, rest)
+body_found kind k item level r single rows rest cs c s e made same =
+    block_found_of kind r (components_of item level (is_some r) rows) cs rest (ap (λ (b : Bool). components_of item level b rows) (sym s) ∙ e)
+    ∙ ap (λ (d : Construct). Some (d, rest)) (sym (made ∙ ap (λ (j : BlockKind). Block j r cs) same))

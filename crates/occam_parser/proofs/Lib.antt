@@ -16,5 +16,6 @@ pub mod Answering
 pub mod Openings
 pub mod Levelled
 pub mod SeenBlocks
+pub mod Taken
 pub mod SeenItems
 pub mod Items

@@ -1,5 +1,6 @@
 -- The trees that processes and programs of the program are.
 use Rattle.std.specs.Prelude.{ℕ, List, [], ◌∷◌, map, fold, Option, option_map}
+use Rattle.occam_parser.specs.declared.head.BlockKind.{BlockKind}
 use Rattle.occam_parser.specs.declared.head.BlockKind.TheVariants as block
 use Rattle.occam_parser.specs.declared.tree.Process.{Process as CodeProcess}
 use Rattle.occam_parser.specs.declared.tree.Construct.{Construct as CodeConstruct}
@@ -8,6 +9,8 @@ use Rattle.occam_parser.specs.declared.tree.Branch.{Branch}
 use Rattle.occam_parser.specs.declared.tree.Construct.TheOpen.{Process-F, Construct-F, Choice-F, Branch-F}
 use Rattle.occam_parser.specs.declared.tree.Construct.TheFolds.{fold-Process, fold-Construct, fold-Choice, fold-Branch}
 use Rattle.occam_parser.specs.declared.block.Opening as opening_type
+use Rattle.occam_parser.specs.declared.block.Body as body_type
+use Rattle.occam_parser.specs.declared.block.Body.TheVariants as body
 use Rattle.occam_parser.specs.declared.tree.Proc as proc_type
 use Rattle.occam_parser.specs.declared.tree.Program as program_type
 use Rattle.occam_parser.specs.declared.tree.Item as item_type
@@ -62,6 +65,18 @@ beginning_of o = record { declarations = map declaration_of o.declarations.items
 
 abbrev pub plain_component : CodeProcess → Component
 plain_component p = Plain (process_of p)
+
+abbrev pub kind_of : body_type.Body → BlockKind
+kind_of (body.Seq components) = block.Seq
+kind_of (body.Par components) = block.Par
+kind_of (body.If choices) = block.If
+kind_of (body.Alt branches) = block.Alt
+
+abbrev pub components_in : body_type.Body → Components
+components_in (body.Seq components) = all_of (map plain_component components.items)
+components_in (body.Par components) = all_of (map plain_component components.items)
+components_in (body.If choices) = all_of (map choice_of choices.items)
+components_in (body.Alt branches) = all_of (map branch_of branches.items)
 
 abbrev pub items_of : program_type.Program → List ProgramItem
 items_of p = map item_of p.items.items

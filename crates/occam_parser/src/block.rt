@@ -1,15 +1,15 @@
 //! Processes, by the levels of their lines.
 
 ghost use Rattle.std.specs.Prelude.{◌≡◌, ◌≤◌, ◌<◌, ◌-◌, [], ◌∷◌, length, map, option_map, IfOk, OnOk};
-ghost use Rattle.occam_parser.specs.Told.{Tells};
+ghost use Rattle.occam_parser.specs.Told.{Tells, Takes};
 ghost use Rattle.occam_parser.specs.declared.head.BlockKind.TheVariants.{If, Alt};
 ghost use Rattle.occam_parser.specs.LineViews.{replicator_of};
 ghost use Rattle.occam_parser.specs.Reading.{Finds};
-ghost use Rattle.occam_parser.specs.Blocks.{row_of, rows_of};
-ghost use Rattle.occam_parser.specs.BlockReading.{first_row, beginning_from, wants, is_some, components_of, plain_at, block_with, process_at, component_at};
-ghost use Rattle.occam_parser.specs.BlockViews.{all_of, process_of, construct_of, choice_of, branch_of, beginning_of, plain_component};
+ghost use Rattle.occam_parser.specs.Blocks.{row_of, rows_of, Block};
+ghost use Rattle.occam_parser.specs.BlockReading.{first_row, beginning_from, wants, components_of, plain_at, process_at, component_at};
+ghost use Rattle.occam_parser.specs.BlockViews.{all_of, process_of, construct_of, choice_of, branch_of, beginning_of, plain_component, kind_of, components_in};
 
-use crate::fault::{Fault, ParseFault};
+use crate::fault::{Fault, ParseFault, at_line};
 use crate::head::{BlockKind, Head, Start, guard, head_of, whole};
 use crate::tree::{Branch, Choice, Construct, Declaration, Process, Replicator};
 use occam_layout::Line;
@@ -65,9 +65,10 @@ fn read_opening<'l, 'a>(
     let mut declarations = Vec::new(alloc);
     let (mut line, mut rest) = first_at(owner, level, lines)?;
     loop {
-        match head_of(alloc, line) {
-            Ok(Head::Declaration(declaration)) => declarations.push(declaration)?,
-            Ok(Head::Start(start)) => {
+        let head = at_line(head_of(alloc, line), line.number)?;
+        match head {
+            Head::Declaration(declaration) => declarations.push(declaration)?,
+            Head::Start(start) => {
                 let line = line.number;
                 return Ok((
                     Opening {
@@ -78,9 +79,41 @@ fn read_opening<'l, 'a>(
                     rest,
                 ));
             }
-            Err(error) => return Err(error.at(line.number)),
         }
         (line, rest) = first_at(owner, level, rest)?;
+    }
+}
+
+/// What stands below the head of a block.
+#[derive(Drop)]
+enum Body<'a> {
+    Seq(Vec<Process<'a>>),
+    Par(Vec<Process<'a>>),
+    If(Vec<Choice<'a>>),
+    Alt(Vec<Branch<'a>>),
+}
+
+/// A block with this body.
+fn block<'a>(replicator: Option<Replicator<'a>>, body: Body<'a>) -> Construct<'a>
+    ensures { construct_of result ≡ Block (kind_of body.entry) (option_map replicator_of replicator.entry) (components_in body.entry) }
+{
+    match body {
+        Body::Seq(components) => Construct::Seq {
+            replicator,
+            components,
+        },
+        Body::Par(components) => Construct::Par {
+            replicator,
+            components,
+        },
+        Body::If(choices) => Construct::If {
+            replicator,
+            choices,
+        },
+        Body::Alt(branches) => Construct::Alt {
+            replicator,
+            branches,
+        },
     }
 }
 
@@ -103,7 +136,11 @@ pub(crate) fn process<'l, 'a>(
     } = opening;
     let (construct, rest) = match start {
         Start::Action(action) => (Construct::Action(action), rest),
-        Start::Block(kind, replicator) => block(alloc, line, level + 1, kind, replicator, rest)?,
+        Start::Block(kind, replicator) => {
+            let single = replicator.is_some();
+            let (body, rest) = components(alloc, line, level + 1, kind, single, rest)?;
+            (block(replicator, body), rest)
+        }
     };
     Ok((
         Process {
@@ -115,60 +152,36 @@ pub(crate) fn process<'l, 'a>(
     ))
 }
 
-/// A block whose head stands on line `owner`, and the lines behind it. Its components are at `level`.
+/// The body of a block whose head stands on line `owner`, and the lines behind it. Its components are at `level`.
 #[cycle(process)]
-fn block<'l, 'a>(
+fn components<'l, 'a>(
     alloc: Global,
     owner: u32,
     level: u32,
     kind: BlockKind,
-    replicator: Option<Replicator<'a>>,
+    single: bool,
     lines: &'l [Line<'a>],
-) -> Result<(Construct<'a>, &'l [Line<'a>]), ParseFault>
-    ensures found { Tells (λ x. (construct_of x.0, rows_of x.1.now)) result (block_with kind (option_map replicator_of replicator.entry) (components_of (component_at (65 - level) level kind) level (is_some (option_map replicator_of replicator.entry)) (rows_of lines.now))) }
+) -> Result<(Body<'a>, &'l [Line<'a>]), ParseFault>
+    ensures found { Tells (λ x. (components_in x.0, rows_of x.1.now)) result (components_of (component_at (65 - level) level kind) level single (rows_of lines.now)) }
+    ensures kind { IfOk result (λ x. kind_of x.0 ≡ kind) }
     ensures within { IfOk result (λ x. length x.1.now ≤ length lines.now) }
 {
-    let single = replicator.is_some();
     match kind {
         BlockKind::Seq => {
             let (components, rest) = processes(alloc, owner, level, single, lines)?;
-            Ok((
-                Construct::Seq {
-                    replicator,
-                    components,
-                },
-                rest,
-            ))
+            Ok((Body::Seq(components), rest))
         }
         BlockKind::Par => {
             let (components, rest) = processes(alloc, owner, level, single, lines)?;
-            Ok((
-                Construct::Par {
-                    replicator,
-                    components,
-                },
-                rest,
-            ))
+            Ok((Body::Par(components), rest))
         }
         BlockKind::If => {
             let (choices, rest) = choices(alloc, owner, level, single, lines)?;
-            Ok((
-                Construct::If {
-                    replicator,
-                    choices,
-                },
-                rest,
-            ))
+            Ok((Body::If(choices), rest))
         }
         BlockKind::Alt => {
             let (branches, rest) = branches(alloc, owner, level, single, lines)?;
-            Ok((
-                Construct::Alt {
-                    replicator,
-                    branches,
-                },
-                rest,
-            ))
+            Ok((Body::Alt(branches), rest))
         }
     }
 }
@@ -201,6 +214,21 @@ fn more<'l, 'a>(
     }
 }
 
+/// Puts a component that was read to those found before, and tells whether another follows, and the lines that come next.
+fn take<'l, 'a, T: Drop>(
+    found: &mut Vec<T>,
+    owner: u32,
+    level: u32,
+    single: bool,
+    read: Result<(T, &'l [Line<'a>]), ParseFault>,
+) -> Result<(bool, &'l [Line<'a>]), ParseFault>
+    ensures { Takes level single read.entry found.old.items found.new.items result }
+{
+    let (component, rest) = read?;
+    found.push(component)?;
+    more(owner, level, single, found.len(), rest)
+}
+
 /// The processes of a block.
 #[cycle(process)]
 fn processes<'l, 'a>(
@@ -216,9 +244,8 @@ fn processes<'l, 'a>(
     let mut found = Vec::new(alloc);
     let (mut goes_on, mut rest) = more(owner, level, single, 0, lines)?;
     while goes_on {
-        let (component, behind) = process(alloc, owner, level, rest)?;
-        found.push(component)?;
-        (goes_on, rest) = more(owner, level, single, found.len(), behind)?;
+        let read = process(alloc, owner, level, rest);
+        (goes_on, rest) = take(&mut found, owner, level, single, read)?;
     }
     Ok((found, rest))
 }
@@ -238,9 +265,8 @@ fn choices<'l, 'a>(
     let mut found = Vec::new(alloc);
     let (mut goes_on, mut rest) = more(owner, level, single, 0, lines)?;
     while goes_on {
-        let (component, behind) = choice(alloc, owner, level, rest)?;
-        found.push(component)?;
-        (goes_on, rest) = more(owner, level, single, found.len(), behind)?;
+        let read = choice(alloc, owner, level, rest);
+        (goes_on, rest) = take(&mut found, owner, level, single, read)?;
     }
     Ok((found, rest))
 }
@@ -260,9 +286,8 @@ fn branches<'l, 'a>(
     let mut found = Vec::new(alloc);
     let (mut goes_on, mut rest) = more(owner, level, single, 0, lines)?;
     while goes_on {
-        let (component, behind) = branch(alloc, owner, level, rest)?;
-        found.push(component)?;
-        (goes_on, rest) = more(owner, level, single, found.len(), behind)?;
+        let read = branch(alloc, owner, level, rest);
+        (goes_on, rest) = take(&mut found, owner, level, single, read)?;
     }
     Ok((found, rest))
 }
@@ -280,10 +305,7 @@ fn choice<'l, 'a>(
 {
     let (first, rest) = first_at(owner, level, lines)?;
     let line = first.number;
-    let condition = match whole(alloc, &first.tokens) {
-        Ok(condition) => condition,
-        Err(error) => return Err(error.at(line)),
-    };
+    let condition = at_line(whole(alloc, &first.tokens), line)?;
     let (process, rest) = process(alloc, line, level + 1, rest)?;
     Ok((
         Choice {
@@ -308,10 +330,7 @@ fn branch<'l, 'a>(
 {
     let (first, rest) = first_at(owner, level, lines)?;
     let line = first.number;
-    let guard = match guard(alloc, &first.tokens) {
-        Ok(guard) => guard,
-        Err(error) => return Err(error.at(line)),
-    };
+    let guard = at_line(guard(alloc, &first.tokens), line)?;
     let (process, rest) = process(alloc, line, level + 1, rest)?;
     Ok((
         Branch {

@@ -1,7 +1,7 @@
 //! Why some lines are no program.
 
 ghost use Rattle.std.specs.Prelude.{◌≡◌};
-ghost use Rattle.occam_parser.specs.Told.{out_of_memory, IsTold};
+ghost use Rattle.occam_parser.specs.Told.{out_of_memory, IsTold, IsToldOf};
 ghost use Rattle.occam_parser.specs.declared.fault.LineError.TheVariants.{Memory, Fault as at_fault};
 
 use std::alloc::{AllocError, AllocFailed};
@@ -86,6 +86,16 @@ impl LineError {
             LineError::Memory => OUT_OF_MEMORY,
             LineError::Fault(fault) => fault.at(line),
         }
+    }
+}
+
+/// What a line gave, with an error told at it.
+pub(crate) fn at_line<T>(gave: Result<T, LineError>, line: u32) -> Result<T, ParseFault>
+    ensures { IsToldOf gave result }
+{
+    match gave {
+        Ok(found) => Ok(found),
+        Err(error) => Err(error.at(line)),
     }
 }
 

@@ -9,7 +9,7 @@ ghost use Rattle.occam_parser.specs.BlockViews.{procedure_of, item_of, items_of}
 
 use crate::block::process;
 use crate::declaration::{constant, proc_head};
-use crate::fault::{Fault, ParseFault};
+use crate::fault::{Fault, ParseFault, at_line};
 use crate::head::expect_end;
 use crate::symbol::{Mark, Symbol, behind, first};
 use crate::tree::{Item, Proc, Program};
@@ -54,7 +54,6 @@ fn behind_item<'l, 'a>(
 }
 
 /// The procedure whose head is a line, behind its `PROC`, and the lines behind its body.
-#[tactic(auto, unfolding(crate::specs::BlockReading::procedure_start))]
 fn proc<'l, 'a>(
     alloc: Global,
     line: u32,
@@ -64,10 +63,7 @@ fn proc<'l, 'a>(
     ensures found { Tells (λ x. (procedure_of x.0, rows_of x.1.now)) result (procedure_start line (terminals_of tokens.now) (rows_of lines.now)) }
     ensures within { IfOk result (λ x. length x.1.now ≤ length lines.now) }
 {
-    let head = match proc_head(alloc, tokens) {
-        Ok(head) => head,
-        Err(error) => return Err(error.at(line)),
-    };
+    let head = at_line(proc_head(alloc, tokens), line)?;
     let (body, rest) = process(alloc, line, 1, lines)?;
     Ok((
         Proc {
@@ -94,10 +90,10 @@ fn item<'l, 'a>(
         return Err(Fault::UnexpectedToken.at(line.number));
     }
     match first(&line.tokens) {
-        Some((Symbol::Mark(Mark::Val), rest)) => match constant(alloc, line.number, rest) {
-            Ok(constant) => Ok((Item::Constant(constant), lines)),
-            Err(error) => Err(error.at(line.number)),
-        },
+        Some((Symbol::Mark(Mark::Val), rest)) => {
+            let constant = at_line(constant(alloc, line.number, rest), line.number)?;
+            Ok((Item::Constant(constant), lines))
+        }
         Some((Symbol::Mark(Mark::Proc), rest)) => {
             let (proc, rest) = proc(alloc, line.number, rest, lines)?;
             Ok((Item::Proc(proc), rest))

@@ -9,8 +9,8 @@ use Rattle.occam_parser.proofs.block.+process.Given as goal
 abbrev pub decreases-process : goal.decreases-process
 decreases-process l = 3 * (66 - l.level)
 
-abbrev pub decreases-block : goal.decreases-block
-decreases-block l = 3 * (66 - l.level) + 2
+abbrev pub decreases-components : goal.decreases-components
+decreases-components l = 3 * (66 - l.level) + 2
 
 abbrev pub decreases-processes : goal.decreases-processes
 decreases-processes l = 3 * (66 - l.level) + 1
