@@ -24,7 +24,7 @@ const ROWS: [u8; 186] = [
 /// Where a number of how many bytes is set to what, and which fault comes where.
 pub type Bad = (usize, usize, i64, u8, usize);
 
-const BAD_HEADERS: [Bad; 31] = [
+const BAD_HEADERS: [Bad; 36] = [
     // the magic
     (0, 1, 0x55, 1, 0),
     (2, 1, 0, 1, 0),
@@ -54,7 +54,12 @@ const BAD_HEADERS: [Bad; 31] = [
     (28, 4, 11, 4, 28),
     // message lengths
     (32, 4, 4_097, 6, 32),
+    (36, 4, 4_097, 6, 36),
+    (40, 4, 4_097, 6, 40),
     (44, 4, 4_097, 6, 44),
+    (48, 4, 4_097, 6, 48),
+    (52, 4, 4_097, 6, 52),
+    (56, 4, 4_097, 6, 56),
     (60, 4, 4_097, 6, 60),
     // numbers of rows
     (64, 4, 1, 4, 94),

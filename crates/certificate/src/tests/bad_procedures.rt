@@ -1,8 +1,9 @@
 //! Procedure rows and label rows, with one field altered.
 
+use super::answer;
 use super::bad_files::{Bad, each_is_refused};
 use super::every_row::EVERY_ROW;
-use super::fields::spelled;
+use super::fields::{BYTES, COUNT, LABEL, POINTER, Row, SIZES, WORDS, spelled};
 use std::test::*;
 
 /// Where the rows of procedures are altered.
@@ -213,5 +214,35 @@ fn bad_procedures(rt: HostRuntime) -> Result<(), Fail> {
 fn bad_labels(rt: HostRuntime) -> Result<(), Fail> {
     let file = spelled(rt.alloc(), EVERY_ROW)?;
     each_is_refused(&rt, rt.alloc(), &file, &LABELS)?;
+    Ok(())
+}
+
+/// Two bytes of code, and a label row of the root with a pointer in each register.
+const POINTERS: &[Row] = &[
+    (&BYTES, &[0x54, 0x50, 0x4d, 0x31]),
+    (&SIZES, &[2, 0, 5, 3, 2, 2]),
+    (&WORDS, &[0, 0, 0, 0, 0, 0, 0, 0]),
+    (&WORDS, &[0, 1, 0]),
+    (&BYTES, &[0x21, 0xf5]),
+    (&LABEL, &[1, 0, 0, 0]),
+    (&POINTER, &[2, 1, 0, 0, 1]),
+    (&POINTER, &[2, 1, 0, 0, 1]),
+    (&POINTER, &[2, 0, 0, 0, 4]),
+    (&COUNT, &[0]),
+];
+
+/// Where the regions of its registers are altered: the root has no parameters.
+const REGIONS: [Bad; 4] = [
+    (97, 2, 2, 4, 97),
+    (109, 2, 2, 4, 109),
+    (121, 2, 2, 4, 121),
+    (121, 2, 65_535, 4, 121),
+];
+
+#[test]
+fn bad_regions(rt: HostRuntime) -> Result<(), Fail> {
+    let file = spelled(rt.alloc(), POINTERS)?;
+    assert_eq!(rt; answer(&rt, rt.alloc(), &file)?, None);
+    each_is_refused(&rt, rt.alloc(), &file, &REGIONS)?;
     Ok(())
 }

@@ -303,7 +303,7 @@ fn many_labels(rt: HostRuntime) -> Result<(), Fail> {
     Ok(())
 }
 
-/// As many entries as a row can have, and one more.
+/// An entry for each word of the greatest frame, and more than it has words.
 #[test]
 fn many_entries(rt: HostRuntime) -> Result<(), Fail> {
     let alloc = rt.alloc();

@@ -140,6 +140,51 @@ fn many_pars(rt: HostRuntime) -> Result<(), Fail> {
     Ok(())
 }
 
+/// As many channels of a PAR as a file can tell, and one more.
+#[test]
+fn many_channels(rt: HostRuntime) -> Result<(), Fail> {
+    let alloc = rt.alloc();
+    for (count, keeps) in [(65_535, true), (65_536, false)] {
+        let mut row = par(alloc, 0, &[1])?;
+        for word in 0..count {
+            row.channels.push(ChannelRow { word, length: 1 })?;
+        }
+        let tables = with_par(alloc, row)?;
+        assert_eq!(rt; tables.keeps(), keeps, "{count}");
+    }
+    Ok(())
+}
+
+/// As many intervals that a branch writes as a file can tell, and one more.
+#[test]
+fn many_intervals(rt: HostRuntime) -> Result<(), Fail> {
+    let alloc = rt.alloc();
+    for (count, keeps) in [(65_535, true), (65_536, false)] {
+        let mut row = branch(alloc, 1);
+        for lo in 0..count {
+            row.writes.push(Interval { lo, hi: lo + 1 })?;
+        }
+        let tables = with_branch(alloc, 0, row)?;
+        assert_eq!(rt; tables.keeps(), keeps, "{count}");
+    }
+    Ok(())
+}
+
+/// As many ends of a branch as a file can tell, and one more.
+#[test]
+fn many_ends(rt: HostRuntime) -> Result<(), Fail> {
+    let alloc = rt.alloc();
+    for (count, keeps) in [(65_535, true), (65_536, false)] {
+        let mut row = branch(alloc, 1);
+        for word in 0..count {
+            row.ends.push(end(0, word, 0, 1))?;
+        }
+        let tables = with_branch(alloc, 0, row)?;
+        assert_eq!(rt; tables.keeps(), keeps, "{count}");
+    }
+    Ok(())
+}
+
 /// Channels of a PAR, and whether they keep the format.
 const CHANNELS: [(&[(i32, u32)], bool); 8] = [
     (&[(i32::MIN, 1), (i32::MAX, 4_096)], true),

@@ -298,3 +298,26 @@ fn table_rows(rt: HostRuntime) -> Result<(), Fail> {
     }
     Ok(())
 }
+
+const ZEROS: [u8; 4_100] = [0; 4_100];
+
+/// As many table rows as a module can have, and one more.
+#[test]
+fn many_table_rows(rt: HostRuntime) -> Result<(), Fail> {
+    let alloc = rt.alloc();
+    for (count, keeps) in [(1_024, true), (1_025, false)] {
+        let mut tables = jump(alloc)?;
+        tables.version = Version::Two;
+        tables.constants = &ZEROS;
+        for word in 0..count {
+            tables.table_rows.push(TableRow {
+                start: 4 * word,
+                end: 4 * word + 4,
+                lo: 0,
+                hi: 0,
+            })?;
+        }
+        assert_eq!(rt; tables.keeps(), keeps, "{count}");
+    }
+    Ok(())
+}

@@ -29,7 +29,7 @@ const FIRST_FAULTS: [Edited; 43] = [
     (&[(303, 4, -9), (847, 4, 4097)], 883, 6, 847),
     // a region before an entry
     (&[(276, 2, 7), (303, 4, -9)], 883, 4, 276),
-    // an entry before the region of its fact
+    // the region of an entry's fact before the next entry
     (&[(363, 2, 7), (374, 4, 16)], 883, 4, 363),
     // an entry outside, and its own region
     (&[(506, 4, -21), (515, 2, 2)], 883, 4, 506),

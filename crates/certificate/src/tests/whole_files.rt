@@ -1,7 +1,7 @@
 //! Whole files: read, kept, written back, cut and altered.
 
 use super::every_row::{EVERY_ROW, EVERY_ROW_AGAIN};
-use super::fields::{Row, spelled};
+use super::fields::{BYTES, Row, SIZES, WORDS, spelled};
 use super::programs::{CALL, CARRY, CHANNEL, CHOICE, ECHO, FIRST_AGAIN, KEPT_LOOP, PAIR, TURNS};
 use super::{FIRST, JUMP, answer, refused};
 use crate::FormatFault;
@@ -31,6 +31,23 @@ fn each_is_read(rt: HostRuntime) -> Result<(), Fail> {
         assert_eq!(rt; file.len(), *len);
         assert_eq!(rt; answer(&rt, rt.alloc(), &file)?, None, "of {len} bytes");
     }
+    Ok(())
+}
+
+/// Version 2, with as much code as it may have.
+const LONGEST: &[Row] = &[
+    (&BYTES, &[0x54, 0x50, 0x4d, 0x32]),
+    (&SIZES, &[262_143, 0, 5, 3, 7, 0]),
+    (&WORDS, &[0, 0, 0, 0, 0, 0, 0, 0]),
+    (&WORDS, &[0, 0, 0, 0, 0]),
+    (&[262_143], &[0]),
+];
+
+#[test]
+fn the_longest_code(rt: HostRuntime) -> Result<(), Fail> {
+    let file = spelled(rt.alloc(), LONGEST)?;
+    assert_eq!(rt; file.len(), 262_227);
+    assert_eq!(rt; answer(&rt, rt.alloc(), &file)?, None);
     Ok(())
 }
 
