@@ -34,6 +34,3 @@ pub use rows::{
 };
 pub use tables::{Tables, Version};
 pub use writing::write;
-
-#[cfg(test)]
-mod tests;

@@ -19,6 +19,3 @@ pub use tree::{
     Formal, FormalKind, Guard, Item, Names, Operand, PairOperator, Place, PrefixOperator, Proc,
     Process, Program, Replicator, ValueType,
 };
-
-#[cfg(test)]
-mod tests;

@@ -1,7 +1,7 @@
 //! Tables by hand: which keep the format, and the file of those that do.
 
 use super::JUMP;
-use crate::{Entry, Fact, LabelRow, Step, Tables, Version, write};
+use certificate::{Entry, Fact, LabelRow, Step, Tables, Version, write};
 use std::alloc::{AllocError, Global};
 use std::test::*;
 

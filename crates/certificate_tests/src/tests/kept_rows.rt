@@ -1,8 +1,8 @@
 //! Procedure rows and table rows in memory, and which keep the format.
 
 use super::by_hand::{jump, tables_with};
-use crate::{Ends, Parameter, ParameterKind, ProcedureRow, TableRow, Tables, Version};
 use bitflags::Flags;
+use certificate::{Ends, Parameter, ParameterKind, ProcedureRow, TableRow, Tables, Version};
 use std::alloc::{AllocError, Global};
 use std::test::*;
 

@@ -2,7 +2,7 @@
 
 use super::by_hand::jump;
 use super::kept_rows::{parameters, procedure, with_procedure};
-use crate::{BranchRow, ChannelRow, Direction, EndKind, EndRow, Interval, ParRow, Tables};
+use certificate::{BranchRow, ChannelRow, Direction, EndKind, EndRow, Interval, ParRow, Tables};
 use smallvec::SmallVec;
 use std::alloc::{AllocError, Global};
 use std::test::*;

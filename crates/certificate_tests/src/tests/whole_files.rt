@@ -4,7 +4,7 @@ use super::every_row::{EVERY_ROW, EVERY_ROW_AGAIN};
 use super::fields::{BYTES, Row, SIZES, WORDS, spelled};
 use super::programs::{CALL, CARRY, CHANNEL, CHOICE, ECHO, FIRST_AGAIN, KEPT_LOOP, PAIR, TURNS};
 use super::{FIRST, JUMP, answer, refused};
-use crate::FormatFault;
+use certificate::FormatFault;
 use std::alloc::{AllocError, Global};
 use std::process::Abort;
 use std::test::*;

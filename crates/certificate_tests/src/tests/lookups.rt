@@ -3,7 +3,7 @@
 use super::every_row::{EVERY_ROW, EVERY_ROW_AGAIN};
 use super::fields::{BRANCH, BYTES, PAR, Row, SIZES, WORDS as FOUR, spelled};
 use super::{FIRST, JUMP};
-use crate::{Direction, EndKind, EndRow, Module};
+use certificate::{Direction, EndKind, EndRow, Module};
 use std::alloc::{AllocError, Global};
 use std::process::Abort;
 use std::test::*;

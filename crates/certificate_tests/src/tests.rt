@@ -15,7 +15,7 @@ mod programs;
 mod several_faults;
 mod whole_files;
 
-use crate::{FormatFault, Module, write};
+use certificate::{FormatFault, Module, write};
 use std::alloc::{AllocError, Global};
 use std::process::Abort;
 use std::test::*;

@@ -6,8 +6,8 @@ mod printed;
 mod refused;
 
 use crate::tests::printed::shown;
-use crate::{MEMORY, MIXTURE, parse};
 use occam_layout::lines;
+use occam_parser::{MEMORY, MIXTURE, parse};
 use std::alloc::{AllocError, Global};
 use std::process::Abort;
 

@@ -1,11 +1,11 @@
 //! Trees as the source that they were read from.
 
-use crate::{
+use occam_layout::{Text, lines};
+use occam_parser::{
     Action, Branch, ChainOperator, Choice, Constant, ConstantValue, Construct, Declaration, Expr,
     Formal, FormalKind, Guard, Item, Names, Operand, PairOperator, ParseFault, Place,
     PrefixOperator, Proc, Process, Program, Replicator, ValueType, parse,
 };
-use occam_layout::{Text, lines};
 use std::alloc::{AllocError, Global};
 use std::fmt::Write;
 

@@ -1,7 +1,7 @@
 //! Lines that are no program, with the number and the line that are told.
 
 use crate::tests::{tells, told};
-use crate::{MAX_LEVEL, MAX_NESTING, MISSING_BODY, MIXTURE, NESTING, UNEXPECTED_TOKEN};
+use occam_parser::{MAX_LEVEL, MAX_NESTING, MISSING_BODY, MIXTURE, NESTING, UNEXPECTED_TOKEN};
 use std::alloc::{AllocError, Global};
 use std::process::Abort;
 

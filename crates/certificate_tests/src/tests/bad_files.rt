@@ -3,7 +3,7 @@
 use super::every_row::{EVERY_ROW, EVERY_ROW_AGAIN};
 use super::fields::spelled;
 use super::{FIRST, answer, patched, refused};
-use crate::{Module, write};
+use certificate::{Module, write};
 use std::alloc::{AllocError, Global};
 use std::process::Abort;
 use std::test::*;
