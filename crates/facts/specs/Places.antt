@@ -3,4 +3,4 @@ use Rattle.facts.specs.declared.place.Place.{Place}
 use Rattle.facts.specs.Rules.{Site}
 
 abbrev pub site_of : Place → Site
-site_of place = record { contents = place.program.now; at = place.at; length = place.len }
+site_of place = record { contents = place.module.now; at = place.at; length = place.len }

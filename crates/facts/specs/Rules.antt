@@ -1,6 +1,6 @@
 -- The rule of each instruction: what it wants of the state before it, and what it leaves. The rules mirror the steps of the
 -- machine, and their tests stand in rising order of the numbers told.
-use Rattle.std.specs.Prelude.{ℕ, ◌+◌, ◌-◌, nat_lt, ◌&&◌, if◌then◌else◌, ℤ, pos, negsuc, ◌+ℤ◌, Option, Some, None, Ok, Err}
+use Rattle.std.specs.Prelude.{ℕ, ◌+◌, ◌-◌, nat_lt, Bool, true, false, ◌&&◌, if◌then◌else◌, is_some, ℤ, pos, negsuc, ◌+ℤ◌, Option, Some, None, Ok, Err}
 use Rattle.prefix_decoder.specs.declared.function.Fun.{Fun}
 use Rattle.prefix_decoder.specs.declared.function.Fun.TheVariants.{Jump, LoadConstant, LoadLocal, AddConstant, StoreLocal, Operate}
 use Rattle.prefix_decoder.specs.declared.decoding.Instr.{Instr}
@@ -160,3 +160,15 @@ rule site _ e s = breaks 1
 -- the rule for the instruction that stands at an offset
 abbrev pub rule_at : Contents → ℕ → Instr → State → Ruling
 rule_at m at i s = rule (record { contents = m; at = at; length = i.len }) i.fun i.operand s
+
+-- Whether an instruction has a rule. One that has none breaks 1 in every state.
+unfoldable pub has_rule : Instr → Bool
+has_rule i = elim i.fun [
+  | LoadConstant ↦ true
+  | LoadLocal ↦ true
+  | StoreLocal ↦ true
+  | AddConstant ↦ true
+  | Jump ↦ true
+  | Operate ↦ is_some (op_of i.operand)
+  | _ ↦ false
+]

@@ -1,13 +1,27 @@
 //! The rule of an instruction, on a state in place.
 
+ghost use Rattle.std.specs.Prelude.{◌≡◌};
 ghost use Rattle.states.specs.Views.{state_of, BelongsTo};
-ghost use Rattle.facts.specs.Rules.{rule_at};
+ghost use Rattle.facts.specs.Rules.{has_rule, rule_at};
 ghost use Rattle.facts.specs.Telling.{Advances};
 
 use crate::place::{Onward, Place};
 use certificate::Module;
+use machine_state::Op;
 use prefix_decoder::{Fun, Instr};
 use states::{RuleFault, SPELLING, State};
+
+/// Whether an instruction has a rule. One that has none breaks `SPELLING` wherever it stands.
+#[tactic(auto, unfolding(crate::specs::Rules::has_rule))]
+pub fn has_rule(instr: Instr) -> bool
+    ensures { result ≡ has_rule instr }
+{
+    match instr.fun {
+        Fun::LoadConstant | Fun::LoadLocal | Fun::StoreLocal | Fun::AddConstant | Fun::Jump => true,
+        Fun::Operate => Op::of(instr.operand).is_some(),
+        _ => false,
+    }
+}
 
 /// Takes a state over the instruction that stands at a code offset, by the rule of that instruction. Where
 /// the rule is broken, the state is left part of the way.
@@ -23,7 +37,7 @@ pub fn advance(
     ensures belongs { BelongsTo «module».now state.new }
 {
     let place = Place {
-        program: module,
+        module,
         at,
         len: instr.len,
     };

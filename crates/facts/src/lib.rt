@@ -9,7 +9,7 @@ mod place;
 #[cfg(test)]
 mod tests;
 
-pub use advancing::advance;
+pub use advancing::{advance, has_rule};
 pub use following::{Successors, transfer};
 pub use laws::rules_fit_steps;
 pub use place::Onward;

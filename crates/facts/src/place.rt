@@ -22,7 +22,7 @@ pub enum Onward {
 /// there. Where a rule is broken, the state is left part of the way.
 #[derive(Clone, Copy)]
 pub(crate) struct Place<'m, 'a> {
-    pub program: &'m Module<'a>,
+    pub module: &'m Module<'a>,
     pub at: usize,
     pub len: usize,
 }
@@ -42,7 +42,7 @@ impl Place<'_, '_> {
     /// The state's context may write the word so far from the workspace.
     #[tactic(auto, unfolding(crate::specs::Rules::writes_word))]
     fn writes_word(&self, state: &State, distance: i32) -> Result<i32, RuleFault>
-        requires { BelongsTo self.now.program.now state.now }
+        requires { BelongsTo self.now.module.now state.now }
         ensures test { Admits result (writes_word (site_of self.now) (state_of state.now) (state.now.depth +ℤ distance)) }
         ensures word { IfOk result (λ k. k ≡ state.now.depth +ℤ distance) }
         ensures room { IfOk result (CanWrite state.now) }
@@ -56,7 +56,7 @@ impl Place<'_, '_> {
     /// The state's context may read the word so far from the workspace.
     #[tactic(auto, unfolding(crate::specs::Rules::reads_word))]
     fn reads_word(&self, state: &State, distance: i32) -> Result<i32, RuleFault>
-        requires { BelongsTo self.now.program.now state.now }
+        requires { BelongsTo self.now.module.now state.now }
         ensures test { Admits result (reads_word (site_of self.now) (state_of state.now) (state.now.depth +ℤ distance)) }
         ensures word { IfOk result (λ k. k ≡ state.now.depth +ℤ distance) }
     {
@@ -69,9 +69,9 @@ impl Place<'_, '_> {
     /// The context may write the three words below the workspace, and they are unknown from now on.
     #[tactic(auto, unfolding(crate::specs::Rules::schedules))]
     fn schedules(&self, state: &mut State) -> Result<(), RuleFault>
-        requires { BelongsTo self.now.program.now state.old }
+        requires { BelongsTo self.now.module.now state.old }
         ensures test { Leaves result (state_of state.new) (schedules (site_of self.now) (state_of state.old)) }
-        ensures belongs { BelongsTo self.now.program.now state.new }
+        ensures belongs { BelongsTo self.now.module.now state.new }
     {
         let first = self.writes_word(state, -1)?;
         let second = self.writes_word(state, -2)?;
@@ -118,10 +118,10 @@ impl Place<'_, '_> {
     /// There is a label at the offset, and the state may go on as it.
     #[tactic(auto, unfolding(crate::specs::Rules::leads_to))]
     fn leads_to(&self, state: &State, to: u32) -> Result<Onward, RuleFault>
-        requires { Keeps self.now.program.now }
+        requires { Keeps self.now.module.now }
         ensures { Advances result (state_of state.now) (leads_to (site_of self.now) to (state_of state.now)) }
     {
-        match self.program.label_at(to) {
+        match self.module.label_at(to) {
             Some(row) => {
                 below(state, row)?;
                 Ok(Onward::Leads(to))
@@ -144,9 +144,9 @@ impl Place<'_, '_> {
 
     #[tactic(auto, unfolding(crate::specs::Rules::rule))]
     pub(crate) fn load_local(&self, state: &mut State, distance: i32) -> Result<Onward, RuleFault>
-        requires { BelongsTo self.now.program.now state.old }
+        requires { BelongsTo self.now.module.now state.old }
         ensures ruling { Advances result (state_of state.new) (rule (site_of self.now) functions.LoadLocal distance (state_of state.old)) }
-        ensures belongs { BelongsTo self.now.program.now state.new }
+        ensures belongs { BelongsTo self.now.module.now state.new }
     {
         outside_starts(state.mode)?;
         let word = self.reads_word(state, distance)?;
@@ -157,9 +157,9 @@ impl Place<'_, '_> {
 
     #[tactic(auto, unfolding(crate::specs::Rules::rule))]
     pub(crate) fn store_local(&self, state: &mut State, distance: i32) -> Result<Onward, RuleFault>
-        requires { BelongsTo self.now.program.now state.old }
+        requires { BelongsTo self.now.module.now state.old }
         ensures ruling { Advances result (state_of state.new) (rule (site_of self.now) functions.StoreLocal distance (state_of state.old)) }
-        ensures belongs { BelongsTo self.now.program.now state.new }
+        ensures belongs { BelongsTo self.now.module.now state.new }
     {
         let fact = uses(state.a)?;
         outside_alternation(state.mode)?;
@@ -172,9 +172,9 @@ impl Place<'_, '_> {
 
     #[tactic(auto, unfolding(crate::specs::Rules::rule))]
     pub(crate) fn add_constant(&self, state: &mut State, value: i32) -> Result<Onward, RuleFault>
-        requires { BelongsTo self.now.program.now state.old }
+        requires { BelongsTo self.now.module.now state.old }
         ensures ruling { Advances result (state_of state.new) (rule (site_of self.now) functions.AddConstant value (state_of state.old)) }
-        ensures belongs { BelongsTo self.now.program.now state.new }
+        ensures belongs { BelongsTo self.now.module.now state.new }
     {
         let fact = uses(state.a)?;
         let (lo, hi) = number(fact)?;
@@ -187,9 +187,9 @@ impl Place<'_, '_> {
 
     #[tactic(auto, unfolding(crate::specs::Rules::rule))]
     pub(crate) fn jump(&self, state: &mut State, distance: i32) -> Result<Onward, RuleFault>
-        requires { BelongsTo self.now.program.now state.old }
+        requires { BelongsTo self.now.module.now state.old }
         ensures ruling { Advances result (state_of state.new) (rule (site_of self.now) functions.Jump distance (state_of state.old)) }
-        ensures belongs { BelongsTo self.now.program.now state.new }
+        ensures belongs { BelongsTo self.now.module.now state.new }
     {
         outside_alternation(state.mode)?;
         forward(distance)?;
@@ -228,9 +228,9 @@ impl Place<'_, '_> {
 
     #[tactic(auto, unfolding(crate::specs::Rules::operation_rule))]
     fn stop_process(&self, state: &mut State) -> Result<Onward, RuleFault>
-        requires { BelongsTo self.now.program.now state.old }
+        requires { BelongsTo self.now.module.now state.old }
         ensures ruling { Advances result (state_of state.new) (operation_rule (site_of self.now) (Some StopProcess) (state_of state.old)) }
-        ensures belongs { BelongsTo self.now.program.now state.new }
+        ensures belongs { BelongsTo self.now.module.now state.new }
     {
         outside_alternation(state.mode)?;
         outside_starts(state.mode)?;
@@ -241,9 +241,9 @@ impl Place<'_, '_> {
 
     #[tactic(auto, unfolding(crate::specs::Rules::operation_rule, crate::specs::Rules::rule))]
     pub(crate) fn operate(&self, state: &mut State, operand: i32) -> Result<Onward, RuleFault>
-        requires { BelongsTo self.now.program.now state.old }
+        requires { BelongsTo self.now.module.now state.old }
         ensures ruling { Advances result (state_of state.new) (rule (site_of self.now) functions.Operate operand (state_of state.old)) }
-        ensures belongs { BelongsTo self.now.program.now state.new }
+        ensures belongs { BelongsTo self.now.module.now state.new }
     {
         match Op::of(operand) {
             Some(Op::Reverse) => self.reverse(state),

@@ -187,6 +187,7 @@ fn each_instruction_leaves_its_state(rt: HostRuntime) {
     ];
     for (instr, follows) in cases {
         check(&rt, rt.alloc(), instr, 100, Ok(follows));
+        assert!(rt; has_rule(instr), "{instr:?}");
     }
 }
 
@@ -211,6 +212,7 @@ fn each_rule_is_told_by_its_number(rt: HostRuntime) {
     ];
     for (instr, number, rule) in cases {
         check(&rt, rt.alloc(), instr, number, Err(rule));
+        assert_eq!(rt; has_rule(instr), rule != 1, "{instr:?}");
     }
 }
 

@@ -7,7 +7,7 @@ use Rattle.certificate.specs.Contents.{Contents}
 use Rattle.certificate.specs.Contexts.{context_at}
 use Rattle.states.specs.State.{written}
 use Rattle.states.specs.Below.{below}
-use Rattle.facts.specs.Rules.{outside_alternation, outside_starts, uses, number, in_word, forward, writes_word, reads_word, schedules, pays, leads_to, goes_on, operation_rule, rule}
+use Rattle.facts.specs.Rules.{outside_alternation, outside_starts, uses, number, in_word, forward, writes_word, reads_word, schedules, pays, leads_to, goes_on, operation_rule, rule, has_rule}
 use Rattle.verifier.specs.Judge.{judged_at, judge, verdict, refused}
 
 -- ldc 5, stl 1, ldl 1, adc 1, stl 1, stopp
@@ -35,6 +35,15 @@ first_is_accepted = refl
 first_is_dear : verdict (first 6) ≡ refused 15 5
 unfolding judge judged_at below written context_at outside_alternation outside_starts uses number in_word forward writes_word reads_word schedules pays leads_to goes_on operation_rule rule
 first_is_dear = refl
+
+-- stopp, and behind it, where nothing leads, ldc 5, which has a rule; or an operation that has none
+nothing_leads_to_it : verdict (record (first 7) { code = 0x21 ∷ 0xf5 ∷ 0x45 ∷ [] }) ≡ refused 3 2
+unfolding judge judged_at below written context_at outside_alternation outside_starts uses number in_word forward writes_word reads_word schedules pays leads_to goes_on operation_rule rule has_rule
+nothing_leads_to_it = refl
+
+it_has_no_rule : verdict (record (first 7) { code = 0x21 ∷ 0xf5 ∷ 0x22 ∷ 0xf2 ∷ [] }) ≡ refused 1 2
+unfolding judge judged_at below written context_at outside_alternation outside_starts uses number in_word forward writes_word reads_word schedules pays leads_to goes_on operation_rule rule has_rule
+it_has_no_rule = refl
 
 -- ldc 5, stl 1, j 0 to the label at 3 of this number, ldl 1, stopp
 abbrev jump : ℕ → ℕ → Contents

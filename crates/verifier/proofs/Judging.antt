@@ -9,9 +9,10 @@ use Rattle.prefix_decoder.specs.Fetching.{fetched}
 use Rattle.certificate.specs.Contents.{Contents}
 use Rattle.certificate.specs.Starts.{is_start}
 use Rattle.states.specs.State.{State, root_state}
-use Rattle.facts.specs.Rules.{Ruling, falls, leads, ends, breaks, rule_at}
+use Rattle.facts.specs.Rules.{Ruling, falls, leads, ends, breaks, rule_at, has_rule}
+use Rattle.facts.proofs.Unruled.{unruled as breaks_one}
 use Rattle.verifier.specs.declared.Refusal.{Refusal}
-use Rattle.verifier.specs.Certified.{falling, given, state_at, entering, Reaches, begins, follows, HoldsAt, HoldsBelow, IsCertified, IsRefused, IsBroken, misspelled, hidden, unreached, fallen_off, entered, broken}
+use Rattle.verifier.specs.Certified.{falling, given, state_at, entering, Reaches, begins, follows, HoldsAt, HoldsBelow, IsCertified, IsRefused, IsBroken, misspelled, unruled, hidden, unreached, fallen_off, entered, broken}
 use Rattle.verifier.proofs.Given.{nothing_given, is_given}
 use Rattle.verifier.specs.Judge.{Verdict, past_starts, past_rule, past_spelling, both, judged_in, judged_at, first_start, refused, at_the_end, judge, verdict}
 
@@ -35,8 +36,12 @@ option_cases (Some x) = inr (x, refl)
 
 excluded : (m : Contents) (v at : ℕ) → IsCertified m → IsBroken m v at → ⊥
 excluded m v at c (misspelled _ r low e) = let h = c.holds.each _ _ low r in ok_or_err (fetched m.code at) h.instr _ h.spelled e
+excluded m v at c (unruled _ r low sp lacking) =
+    let h = c.holds.each _ _ low r in
+    let i_is = same_ok (fetched m.code at) h.instr _ h.spelled sp in
+    h.unbroken 1 (breaks_one m at h.instr h.state (ap has_rule i_is ∙ lacking))
 excluded m v at c (hidden _ low start none) = let r = c.holds.starts _ low start in none r.0 r.1
-excluded m v at c (unreached _ r low g) =
+excluded m v at c (unreached _ r low sp ruled g) =
     let h = c.holds.each _ _ low r in
     let stands : None ≡ Some h.state = sym (nothing_given m at None g) ∙ h.stands in cc
 excluded m v at c (fallen_off {s = s} _ e r) =
@@ -98,15 +103,21 @@ stepped : (m : Contents) (at : ℕ) (before : Option State) (i : Instr) (after :
 unfolding judged_at
 stepped m at before i after h = stepped_in m at before i after (state_at m at before) refl h
 
+told_is : (v w : ℕ) → ◌≡◌ {A = Result (Option State) ℕ} (Err v) (Err w) → v ≡ w
+told_is v w h = cc
+
 -- the rule that the instruction at a reached offset breaks
 broken_in : (m : Contents) (at : ℕ) (before : Option State) (i : Instr) (v : ℕ) (o : Option State) → state_at m at before ≡ o → Reaches m at before → at < length m.code → fetched m.code at ≡ Ok i
     → judged_in m at before i o ≡ Err v → IsBroken m v at
-broken_in m at before i v None e r low sp h =
-    let three : v ≡ 3 = cc in
-    elim (option_cases (given m at)) [
-      | inl g ↦ unreached three (subst (λ b. Reaches m at b) (sym (nothing_given m at before g) ∙ e) r) low g
-      | inr g ↦ absurd (none_or_some (state_at m at before) g.0 e (is_given m at before g.0 g.1))
-    ]
+broken_in m at before i v None e r low sp h = elim (cases_Bool (has_rule i)) [
+  | inr lacking ↦ unruled (told_is _ _ (sym h ∙ ap (λ (b : Bool). Err (if b then 3 else 1)) lacking)) r low sp lacking
+  | inl ruled ↦ elim (option_cases (given m at)) [
+    | inl g ↦
+        let three = told_is _ _ (sym h ∙ ap (λ (b : Bool). Err (if b then 3 else 1)) ruled) in
+        unreached three (subst (λ b. Reaches m at b) (sym (nothing_given m at before g) ∙ e) r) low sp ruled g
+    | inr g ↦ absurd (none_or_some (state_at m at before) g.0 e (is_given m at before g.0 g.1))
+  ]
+]
 broken_in m at before i v (Some s) e r low sp h =
     elim (both_err (entering m at before) (rule_at m at i s) v h) [ inl p ↦ entered r low p | inr p ↦ broken r low e sp p ]
 

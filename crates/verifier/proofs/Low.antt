@@ -7,7 +7,7 @@ use Rattle.certificate.specs.Contents.{Contents, Label, label_at}
 use Rattle.certificate.specs.Starts.{procedure_at}
 use Rattle.states.specs.State.{State}
 use Rattle.states.specs.Below.{below}
-use Rattle.facts.specs.Rules.{Ruling, falls, leads, ends, breaks, rule_at}
+use Rattle.facts.specs.Rules.{Ruling, falls, leads, ends, breaks, rule_at, has_rule}
 use Rattle.facts.proofs.Numbers.{IsLow, IsLowAnswer, low-below, low-rule}
 use Rattle.verifier.specs.declared.Refusal.{Refusal}
 use Rattle.verifier.specs.Certified.{state_at, entering}
@@ -39,8 +39,12 @@ low-entering : (m : Contents) (at : ℕ) (before : Option State) → IsLowAnswer
 low-entering m at None = tt
 low-entering m at (Some s) = low-falling-in (is_some (procedure_at m at)) s (label_at m at)
 
+low-unreached : (b : Bool) → cond b 3 1 < 17
+low-unreached true = lit< tt
+low-unreached false = lit< tt
+
 low-judged-in : (m : Contents) (at : ℕ) (before : Option State) (i : Instr) (o : Option State) → IsLowJudgement (judged_in m at before i o)
-low-judged-in m at before i None = lit< tt
+low-judged-in m at before i None = low-unreached (has_rule i)
 low-judged-in m at before i (Some s) = low-both (entering m at before) (rule_at m at i s) (low-entering m at before) (low-rule _ i.fun i.operand s)
 
 low-judged : (m : Contents) (at : ℕ) (before : Option State) (i : Instr) → IsLowJudgement (judged_at m at before i)

@@ -1,6 +1,5 @@
 -- The pass, one instruction behind another, against the verdict.
-use Rattle.std.proofs.Common.{◌≡◌, ℕ, zero, suc, ◌+◌, ◌-◌, ◌≤◌, ◌<◌, Bool, true, false, cond, leb, length, Option, Some, None, Result, Ok, Err, refl, sym, ap, ◌∙◌, subst, arith, ◌⊎◌, inl, inr}
-use Rattle.std.specs.Prelude.{IfErr}
+use Rattle.std.proofs.Common.{◌≡◌, ℕ, zero, suc, ◌+◌, ◌-◌, ◌≤◌, ◌<◌, Bool, true, false, cond, leb, length, Option, Some, None, Result, Ok, Err, refl, sym, ap, ◌∙◌, arith, ◌⊎◌, inl, inr}
 use Rattle.std.proofs.lemmas.Bool.{cases_eq}
 use Rattle.std.proofs.lemmas.Bool.Decides.{leb_tells}
 use Rattle.prefix_decoder.specs.declared.decoding.Instr.{Instr}
@@ -117,9 +116,8 @@ some-within m from end o low high h here = start-some m from (end - from) o low 
 -- ---- what the pass tells
 
 -- a refusal that the verdict tells
-pub told : (m : Contents) (r : Result (Unit {0}) Refusal) (v o : ℕ) → r ≡ Err (record { number = v; offset = o }) → verdict m ≡ refused v o
-    → IfErr r (λ r. (r ≡ record { number = 17; offset = 0 }) ⊎ (verdict m ≡ Err r))
-told m r v o e h = subst (λ (x : Result (Unit {0}) Refusal). IfErr x (λ r. (r ≡ record { number = 17; offset = 0 }) ⊎ (verdict m ≡ Err r))) (sym e) (inr h)
+pub told : (m : Contents) (r : Refusal) (v o : ℕ) → r ≡ record { number = v; offset = o } → verdict m ≡ refused v o → (r ≡ record { number = 17; offset = 0 }) ⊎ (verdict m ≡ Err r)
+told m r v o e h = inr (h ∙ ap (λ (r : Refusal). Err r) (sym e))
 
 pub fallen-off : (m : Contents) (at : ℕ) (falls : Bool) (s : State) → length m.code ≤ at → OnTheWay m at (falling_state falls s) → falls ≡ true → verdict m ≡ refused 3 at
 fallen-off m at falls s high w e = ended-is m at (falling_state falls s) high w ∙ ap (λ (b : Bool). at_the_end at (falling_state b s)) e

@@ -1,5 +1,5 @@
 -- When a module is certified, and when it is refused.
-use Rattle.std.specs.Prelude.{◌≡◌, ◌≢◌, ℕ, ◌+◌, ◌<◌, true, if◌then◌else◌, is_some, length, Option, Some, None, Result, Ok, Err}
+use Rattle.std.specs.Prelude.{◌≡◌, ◌≢◌, ℕ, ◌+◌, ◌<◌, true, false, if◌then◌else◌, is_some, length, Option, Some, None, Result, Ok, Err}
 use Rattle.prefix_decoder.specs.declared.decoding.Instr.{Instr}
 use Rattle.prefix_decoder.specs.declared.decoding.DecodeFault.{DecodeFault}
 use Rattle.prefix_decoder.specs.Fetching.{fetched}
@@ -7,7 +7,7 @@ use Rattle.certificate.specs.Contents.{Contents, label_at}
 use Rattle.certificate.specs.Starts.{Entered, procedure_at, is_start}
 use Rattle.states.specs.State.{State, root_state, label_state, procedure_state}
 use Rattle.states.specs.Below.{below}
-use Rattle.facts.specs.Rules.{Ruling, falls, leads, ends, breaks, rule_at}
+use Rattle.facts.specs.Rules.{Ruling, falls, leads, ends, breaks, rule_at, has_rule}
 
 -- the state that a ruling lets fall into the next offset
 abbrev pub falling : Ruling → Option State
@@ -70,10 +70,12 @@ pub record IsCertified (m : Contents) : Type 0 where
 pub data IsBroken (m : Contents) : ℕ → ℕ → Type 0 where
   -- no spelling of an instruction stands there
   misspelled : {v at : ℕ} {before : Option State} {e : DecodeFault} → v ≡ 1 → Reaches m at before → at < length m.code → fetched m.code at ≡ Err e → IsBroken m v at
+  -- the instruction has no rule, whether anything leads there or not
+  unruled : {v at : ℕ} {before : Option State} {i : Instr} → v ≡ 1 → Reaches m at before → at < length m.code → fetched m.code at ≡ Ok i → has_rule i ≡ false → IsBroken m v at
   -- a start that the tables tell lies within an instruction
   hidden : {v at : ℕ} → v ≡ 2 → at < length m.code → is_start m at ≡ true → ((before : Option State) → Reaches m at before → ⊥) → IsBroken m v at
-  -- nothing leads there
-  unreached : {v at : ℕ} → v ≡ 3 → Reaches m at None → at < length m.code → given m at ≡ None → IsBroken m v at
+  -- the instruction has a rule, and nothing leads there
+  unreached : {v at : ℕ} {i : Instr} → v ≡ 3 → Reaches m at None → at < length m.code → fetched m.code at ≡ Ok i → has_rule i ≡ true → given m at ≡ None → IsBroken m v at
   -- a state falls off the code
   fallen_off : {v at : ℕ} {s : State} → v ≡ 3 → at ≡ length m.code → Reaches m at (Some s) → IsBroken m v at
   -- what falls into a label is not below it, or something falls into a procedure

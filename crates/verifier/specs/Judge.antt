@@ -6,7 +6,7 @@ use Rattle.prefix_decoder.specs.Fetching.{fetched}
 use Rattle.certificate.specs.Contents.{Contents}
 use Rattle.certificate.specs.Starts.{is_start}
 use Rattle.states.specs.State.{State, root_state}
-use Rattle.facts.specs.Rules.{Ruling, breaks, rule_at}
+use Rattle.facts.specs.Rules.{Ruling, breaks, rule_at, has_rule}
 use Rattle.verifier.specs.declared.Refusal.{Refusal}
 use Rattle.verifier.specs.Certified.{falling, state_at, entering}
 
@@ -17,9 +17,9 @@ both (Ok cost) r = Ok (falling r)
 both (Err u) (breaks v) = Err (min u v)
 both (Err u) _ = Err u
 
--- one instruction, in the state at its offset
+-- one instruction, in the state at its offset, or where there is none
 abbrev pub judged_in : Contents → ℕ → Option State → Instr → Option State → Result (Option State) ℕ
-judged_in m at before i None = Err 3
+judged_in m at before i None = Err (if has_rule i then 3 else 1)
 judged_in m at before i (Some s) = both (entering m at before) (rule_at m at i s)
 
 -- one instruction, where `before` falls into its offset

@@ -1,10 +1,10 @@
 //! The judgement on one instruction.
 
-ghost use Rattle.std.specs.Prelude.{◌≡◌, ℕ};
+ghost use Rattle.std.specs.Prelude.{◌≡◌, ℕ, if◌then◌else◌};
 ghost use Rattle.certificate.specs.Contents.{Contents};
 ghost use Rattle.states.specs.State.{State as Known};
 ghost use Rattle.states.specs.Views.{state_of, numbered, BelongsTo};
-ghost use Rattle.facts.specs.Rules.{Ruling};
+ghost use Rattle.facts.specs.Rules.{Ruling, has_rule};
 ghost use Rattle.facts.specs.Telling.{Advances};
 ghost use Rattle.verifier.specs.Certified.{entering};
 ghost use Rattle.verifier.specs.Judge.{both, judged_at};
@@ -12,9 +12,9 @@ ghost use Rattle.verifier.specs.Judging.{falling_state, Judges, IsComparable, Is
 
 use crate::rows::Given;
 use certificate::Module;
-use facts::{Onward, advance};
+use facts::{Onward, advance, has_rule};
 use prefix_decoder::Instr;
-use states::{FLOW, RuleFault, State, below};
+use states::{FLOW, RuleFault, SPELLING, State, below};
 
 /// What it costs to fall into an offset where this is given. Nothing may fall into a procedure.
 fn entering(state: &State, falls: bool, given: Given) -> Result<u64, RuleFault>
@@ -45,6 +45,14 @@ fn both(
     }
 }
 
+/// The rule that an instruction breaks to which nothing leads: `SPELLING` where it has none, else `FLOW`.
+fn unreached(instr: Instr) -> RuleFault
+    ensures { result.number ≡ (if has_rule instr then 3 else 1) }
+{
+    let number = if has_rule(instr) { FLOW } else { SPELLING };
+    RuleFault { number }
+}
+
 /// One instruction: whether a state falls into the next offset, or the rule that is broken. `falls`: the
 /// state falls into this offset. `given`: what the tables give there.
 #[tactic(auto, unfolding(crate::specs::Judge::judged_at))]
@@ -65,11 +73,8 @@ pub(crate) fn judge<'a>(
     match given {
         Given::Label(row) => state.become_label(module, row),
         Given::Procedure { context, row } => state.become_procedure(module, row, context),
-        Given::Nothing => {
-            if !falls {
-                return Err(RuleFault { number: FLOW });
-            }
-        }
+        Given::Nothing if falls => {}
+        Given::Nothing => return Err(unreached(instr)),
     }
     both(entered, advance(state, module, at, instr))
 }

@@ -13,14 +13,15 @@ use prefix_decoder::fetch;
 use states::{FLOW, INSTRUCTION_START, MEMORY, SPELLING, State};
 use std::alloc::Global;
 
-fn refused(number: u8, at: usize) -> Result<(), Refusal>
+/// The refusal by this rule at this code offset.
+fn refusal(number: u8, at: usize) -> Refusal
     requires { at < 2 ^ 32 }
-    ensures { result ≡ Err (record { number = number; offset = at }) }
+    ensures { result ≡ record { number = number; offset = at } }
 {
-    Err(Refusal {
+    Refusal {
         number,
         offset: at as u32,
-    })
+    }
 }
 
 /// The first offset from `from` up to `end` (not included) at which the tables say that an instruction
@@ -45,28 +46,28 @@ pub(crate) fn pass<'a>(alloc: Global, module: &'a Module<'a>) -> Result<(), Refu
 {
     let tables = module.tables();
     let Ok(mut state) = State::root(alloc, module) else {
-        return refused(MEMORY, 0);
+        return Err(refusal(MEMORY, 0));
     };
     let mut rows = Rows::of(module);
     let mut falls = true;
     let mut at = 0;
     while at < tables.code.len() {
         let Ok(instr) = fetch(tables.code, at) else {
-            return refused(SPELLING, at);
+            return Err(refusal(SPELLING, at));
         };
         let given = rows.take(at);
         falls = match judge(module, &mut state, falls, given, at, instr) {
             Ok(falls) => falls,
-            Err(fault) => return refused(fault.number, at),
+            Err(fault) => return Err(refusal(fault.number, at)),
         };
         let end = at + instr.len;
         if let Some(inside) = start_within(module, at + 1, end) {
-            return refused(INSTRUCTION_START, inside as usize);
+            return Err(refusal(INSTRUCTION_START, inside as usize));
         }
         at = end;
     }
     if falls {
-        return refused(FLOW, at);
+        return Err(refusal(FLOW, at));
     }
     Ok(())
 }

@@ -4,6 +4,7 @@ mod branches;
 mod loops;
 mod procedures;
 mod starts;
+mod unruled;
 
 use super::*;
 use certificate::Module;

@@ -48,5 +48,5 @@ returns-clause-ruling c =
 
 pub returns-clause-belongs : goal.returns-clause-belongs
 returns-clause-belongs c =
-    let belongs = c.pays.ensures.belongs c.args.self.now.program.now c.schedules.ensures.belongs in
+    let belongs = c.pays.ensures.belongs c.args.self.now.module.now c.schedules.ensures.belongs in
     record { kept = belongs.kept; is = belongs.is; room = λ n k h. record { room = (belongs.room n k h).room } }

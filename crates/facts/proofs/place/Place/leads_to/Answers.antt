@@ -7,7 +7,7 @@ use Rattle.facts.proofs.Steps.{leads-on, leads-nowhere}
 use Rattle.facts.proofs.place.Place.leads_to.Goals as goal
 
 pub below-requires : goal.below-requires
-below-requires c = (label_row_at c.args.self.now.program.now c.args.to (label_of c.in-Some.row.now) c.requires c.in-Some.ensures).apart
+below-requires c = (label_row_at c.args.self.now.module.now c.args.to (label_of c.in-Some.row.now) c.requires c.in-Some.ensures).apart
 
 pub returns-in_err-below-in-Some : goal.returns-in_err-below-in-Some
 returns-in_err-below-in-Some c =

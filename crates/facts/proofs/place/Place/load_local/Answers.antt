@@ -24,4 +24,4 @@ returns-clause-ruling c =
     c.goes_on.ensures.ruling
 
 pub returns-clause-belongs : goal.returns-clause-belongs
-returns-clause-belongs c = c.goes_on.ensures.belongs c.args.self.now.program.now (c.push.ensures.belongs c.args.self.now.program.now c.requires)
+returns-clause-belongs c = c.goes_on.ensures.belongs c.args.self.now.module.now (c.push.ensures.belongs c.args.self.now.module.now c.requires)

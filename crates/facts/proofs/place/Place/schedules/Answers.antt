@@ -34,4 +34,4 @@ returns-clause-test c = λ k.
 
 pub returns-clause-belongs : goal.returns-clause-belongs
 returns-clause-belongs c =
-    c.write-3.ensures.belongs c.args.self.now.program.now (c.write-2.ensures.belongs c.args.self.now.program.now (c.write.ensures.belongs c.args.self.now.program.now c.requires))
+    c.write-3.ensures.belongs c.args.self.now.module.now (c.write-2.ensures.belongs c.args.self.now.module.now (c.write.ensures.belongs c.args.self.now.module.now c.requires))

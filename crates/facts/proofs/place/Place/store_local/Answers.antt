@@ -19,4 +19,4 @@ returns-clause-ruling c =
 
 pub returns-clause-belongs : goal.returns-clause-belongs
 returns-clause-belongs c =
-    c.goes_on.ensures.belongs c.args.self.now.program.now (c.pop.ensures.belongs c.args.self.now.program.now (c.write.ensures.belongs c.args.self.now.program.now c.requires))
+    c.goes_on.ensures.belongs c.args.self.now.module.now (c.pop.ensures.belongs c.args.self.now.module.now (c.write.ensures.belongs c.args.self.now.module.now c.requires))
