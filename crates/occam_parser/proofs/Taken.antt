@@ -6,7 +6,7 @@ use Rattle.occam_layout.specs.declared.token.Line.{Line}
 use Rattle.occam_parser.specs.declared.fault.ParseFault.{ParseFault}
 use Rattle.occam_parser.specs.declared.tree.Process.{Process as CodeProcess}
 use Rattle.occam_parser.specs.Reading.{Finds}
-use Rattle.occam_parser.specs.Told.{out_of_memory, Tells, Takes}
+use Rattle.occam_parser.specs.Told.{out_of_memory, Tells, Takes, StandsAbove}
 use Rattle.occam_parser.specs.Blocks.{Row, rows_of, Component}
 use Rattle.occam_parser.specs.BlockReading.{ReadsLines, wants, components_of, process_at, plain_at}
 use Rattle.occam_parser.specs.BlockViews.{all_of, process_of, plain_component}
@@ -54,3 +54,21 @@ turn_kept f item level single start lines old new (Ok x) y w c told less k = (
   subst (λ (us : List Line). wants level single (length new) (rows_of us) ≡ Some y.0) (sym k.1) k.2,
   turn_goes_on f item level single start (rows_of lines) (rows_of x.1.now) (rows_of y.1.now) old new x.0 w told c (rows_less x.1.now lines less) k.0 (ap rows_of k.1),
 )
+
+-- ---- a head, beside what was read below it
+
+pub below_lost : {A B Y : Type 0} (view : B × Bor (List Line) → Y) (head : A) (read : Result (B × Bor (List Line)) ParseFault) (t : ParseFault) (got : Option Y) → StandsAbove head read (Err t) → Tells view read got → (t ≡ out_of_memory) ⊎ (got ≡ None)
+below_lost view head (Err e) t got stands told = let same : e ≡ t = cc stands in subst (λ (u : ParseFault). (u ≡ out_of_memory) ⊎ (got ≡ None)) same told
+below_lost view head (Ok x) t got stands told = absurd (cc stands)
+
+pub below_found : {A B Y : Type 0} (view : B × Bor (List Line) → Y) (head h : A) (x : B) (rest : Bor (List Line)) (read : Result (B × Bor (List Line)) ParseFault) (got : Option Y) → StandsAbove head read (Ok ((h, x), rest)) → Tells view read got → got ≡ Some (view (x, rest))
+below_found view head h x rest (Err e) got stands told = absurd (cc stands)
+below_found {A} {B} view head h x rest (Ok y) got stands told = let same : ((head, y.0), y.1) ≡ ((h, x), rest) = cc stands in told ∙ ap (λ (z : (A × B) × Bor (List Line)). Some (view (z.0.1, z.1))) same
+
+pub below_head : {A B : Type 0} (head h : A) (x : B) (rest : Bor (List Line)) (read : Result (B × Bor (List Line)) ParseFault) → StandsAbove head read (Ok ((h, x), rest)) → head ≡ h
+below_head head h x rest (Err e) stands = absurd (cc stands)
+below_head {A} {B} head h x rest (Ok y) stands = let same : ((head, y.0), y.1) ≡ ((h, x), rest) = cc stands in ap (λ (z : (A × B) × Bor (List Line)). z.0.0) same
+
+pub below_keeps : {A B : Type 0} (P : B × Bor (List Line) → Type 0) (head h : A) (x : B) (rest : Bor (List Line)) (read : Result (B × Bor (List Line)) ParseFault) → StandsAbove head read (Ok ((h, x), rest)) → IfOk read P → P (x, rest)
+below_keeps P head h x rest (Err e) stands kept = absurd (cc stands)
+below_keeps {A} {B} P head h x rest (Ok y) stands kept = let same : ((head, y.0), y.1) ≡ ((h, x), rest) = cc stands in subst (λ (z : (A × B) × Bor (List Line)). P (z.0.1, z.1)) same kept

@@ -1,12 +1,18 @@
 -- How a fault of one line is told.
-use Rattle.std.specs.Prelude.{◌≡◌, ◌⊎◌, ℕ, ◌+◌, Bool, List, [], ◌∷◌, ◌++◌, length, Option, Some, None, Result, Ok, Err}
+use Rattle.std.specs.Prelude.{◌≡◌, ◌⊎◌, ℕ, ◌+◌, Bool, List, [], ◌∷◌, ◌++◌, length, ◌<◌, Option, Some, None, Result, Ok, Err}
 use Rattle.std.specs.Borrow.{Bor}
 use Rattle.occam_layout.specs.declared.token.Line.{Line}
+use Rattle.occam_layout.specs.declared.token.Token.{Token}
 use Rattle.occam_parser.specs.declared.fault.LineError.{LineError}
 use Rattle.occam_parser.specs.declared.fault.LineError.TheVariants as errors
 use Rattle.occam_parser.specs.declared.fault.ParseFault.{ParseFault}
 use Rattle.occam_parser.specs.declared.fault.TheConstants.{MEMORY}
-use Rattle.occam_parser.specs.Blocks.{rows_of}
+use Rattle.occam_parser.specs.declared.symbol.Mark.{Mark}
+use Rattle.occam_parser.specs.declared.tree.ValueType.{ValueType}
+use Rattle.occam_parser.specs.Terminals.{terminals_of}
+use Rattle.occam_parser.specs.Reading.{Reads, ◌>>=◌, Fails, Gives, behind}
+use Rattle.occam_parser.specs.LineReading.{type_at, name_at, only}
+use Rattle.occam_parser.specs.Blocks.{Row, rows_of, Procedure, ProgramItem, GlobalProcedure}
 use Rattle.occam_parser.specs.BlockReading.{wants}
 
 -- want of memory, which no line is to blame for
@@ -33,8 +39,37 @@ abbrev pub Answers : {X Y : Type 0} → (X → Y) → Result X ParseFault → Y 
 Answers view (Ok x) y = view x ≡ y
 Answers view (Err e) y = e ≡ out_of_memory
 
+-- a type, and a name behind it
+unfoldable pub typed_name_at : Reads (ValueType × List ℕ)
+typed_name_at ts = do
+  type ← type_at ts
+  name ← name_at type.1
+  Some ((type.0, name.0), name.1)
+
+-- What was read, up to a mark: its fault, or that of a mark that is missing, or the same and the tokens behind the mark.
+abbrev pub GoesUpTo : {A : Type 0} → Mark → (read answer : Result (A × Bor (List Token)) LineError) → Type 0
+GoesUpTo mark (Err e) answer = answer ≡ Err e
+GoesUpTo mark (Ok x) (Err e) = Fails e (behind mark (terminals_of x.1.now))
+GoesUpTo mark (Ok x) (Ok y) = (y.0 ≡ x.0) × (behind mark (terminals_of x.1.now) ≡ Some (terminals_of y.1.now)) × (length y.1.now < length x.1.now)
+
+-- what was read, where it is all of the line
+abbrev pub IsAll : {A : Type 0} → Result (A × Bor (List Token)) LineError → Result A LineError → Type 0
+IsAll (Err e) answer = answer ≡ Err e
+IsAll (Ok x) answer = Gives (λ y. y) answer (only x.0 (terminals_of x.1.now))
+
 -- A turn of a loop over components, by what was read: its fault, or one component more, whether another follows, and the lines that come next.
 abbrev pub Takes : {A : Type 0} → ℕ → Bool → Result (A × Bor (List Line)) ParseFault → (old new : List A) → Result (Bool × Bor (List Line)) ParseFault → Type 0
 Takes level single (Err e) old new answer = answer ≡ Err e
 Takes level single (Ok x) old new (Err e) = (e ≡ out_of_memory) ⊎ (wants level single (length old + 1) (rows_of x.1.now) ≡ None)
 Takes level single (Ok x) old new (Ok y) = (new ≡ old ++ x.0 ∷ []) × (y.1.now ≡ x.1.now) × (wants level single (length new) (rows_of x.1.now) ≡ Some y.0)
+
+-- What a head has, beside what was read below it: the fault of that, or both, and the lines behind.
+abbrev pub StandsAbove : {A B : Type 0} → A → Result (B × Bor (List Line)) ParseFault → Result ((A × B) × Bor (List Line)) ParseFault → Type 0
+StandsAbove head (Err e) answer = answer ≡ Err e
+StandsAbove head (Ok x) answer = answer ≡ Ok ((head, x.0), x.1)
+
+-- a procedure that was read, as an item
+abbrev pub as_item : Option (Procedure × List Row) → Option (ProgramItem × List Row)
+as_item read = do
+  procedure ← read
+  Some (GlobalProcedure procedure.0, procedure.1)

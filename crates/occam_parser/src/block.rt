@@ -1,7 +1,7 @@
 //! Processes, by the levels of their lines.
 
 ghost use Rattle.std.specs.Prelude.{◌≡◌, ◌≤◌, ◌<◌, ◌-◌, [], ◌∷◌, length, map, option_map, IfOk, OnOk};
-ghost use Rattle.occam_parser.specs.Told.{Tells, Takes};
+ghost use Rattle.occam_parser.specs.Told.{Tells, Takes, StandsAbove};
 ghost use Rattle.occam_parser.specs.declared.head.BlockKind.TheVariants.{If, Alt};
 ghost use Rattle.occam_parser.specs.LineViews.{replicator_of};
 ghost use Rattle.occam_parser.specs.Reading.{Finds};
@@ -117,6 +117,17 @@ fn block<'a>(replicator: Option<Replicator<'a>>, body: Body<'a>) -> Construct<'a
     }
 }
 
+/// What the line of a head says, beside what was read below it, and the lines behind that.
+fn below<'l, 'a, H: Drop, T: Drop>(
+    head: H,
+    read: Result<(T, &'l [Line<'a>]), ParseFault>,
+) -> Result<((H, T), &'l [Line<'a>]), ParseFault>
+    ensures { StandsAbove head read.entry result }
+{
+    let (found, rest) = read?;
+    Ok(((head, found), rest))
+}
+
 /// The process at the front of some lines, at a level, and the lines behind it. It belongs to the head on line `owner`.
 #[cycle(process)]
 pub(crate) fn process<'l, 'a>(
@@ -138,7 +149,10 @@ pub(crate) fn process<'l, 'a>(
         Start::Action(action) => (Construct::Action(action), rest),
         Start::Block(kind, replicator) => {
             let single = replicator.is_some();
-            let (body, rest) = components(alloc, line, level + 1, kind, single, rest)?;
+            let ((replicator, body), rest) = below(
+                replicator,
+                components(alloc, line, level + 1, kind, single, rest),
+            )?;
             (block(replicator, body), rest)
         }
     };
@@ -168,20 +182,24 @@ fn components<'l, 'a>(
 {
     match kind {
         BlockKind::Seq => {
-            let (components, rest) = processes(alloc, owner, level, single, lines)?;
-            Ok((Body::Seq(components), rest))
+            let mut found = Vec::new(alloc);
+            let rest = processes(alloc, owner, level, single, lines, &mut found)?;
+            Ok((Body::Seq(found), rest))
         }
         BlockKind::Par => {
-            let (components, rest) = processes(alloc, owner, level, single, lines)?;
-            Ok((Body::Par(components), rest))
+            let mut found = Vec::new(alloc);
+            let rest = processes(alloc, owner, level, single, lines, &mut found)?;
+            Ok((Body::Par(found), rest))
         }
         BlockKind::If => {
-            let (choices, rest) = choices(alloc, owner, level, single, lines)?;
-            Ok((Body::If(choices), rest))
+            let mut found = Vec::new(alloc);
+            let rest = choices(alloc, owner, level, single, lines, &mut found)?;
+            Ok((Body::If(found), rest))
         }
         BlockKind::Alt => {
-            let (branches, rest) = branches(alloc, owner, level, single, lines)?;
-            Ok((Body::Alt(branches), rest))
+            let mut found = Vec::new(alloc);
+            let rest = branches(alloc, owner, level, single, lines, &mut found)?;
+            Ok((Body::Alt(found), rest))
         }
     }
 }
@@ -229,7 +247,7 @@ fn take<'l, 'a, T: Drop>(
     more(owner, level, single, found.len(), rest)
 }
 
-/// The processes of a block.
+/// Reads the processes of a block into an empty list, and tells the lines behind them.
 #[cycle(process)]
 fn processes<'l, 'a>(
     alloc: Global,
@@ -237,20 +255,26 @@ fn processes<'l, 'a>(
     level: u32,
     single: bool,
     lines: &'l [Line<'a>],
-) -> Result<(Vec<Process<'a>>, &'l [Line<'a>]), ParseFault>
-    ensures found { Tells (λ x. (all_of (map plain_component x.0.items), rows_of x.1.now)) result (components_of (plain_at (65 - level) level) level single (rows_of lines.now)) }
-    ensures within { IfOk result (λ x. length x.1.now ≤ length lines.now) }
+    found: &mut Vec<Process<'a>>,
+) -> Result<&'l [Line<'a>], ParseFault>
+    requires { found.old.items ≡ [] }
+    ensures found { Tells (λ rest. (all_of (map plain_component found.new.items), rows_of rest.now)) result (components_of (plain_at (65 - level) level) level single (rows_of lines.now)) }
+    ensures within { IfOk result (λ rest. length rest.now ≤ length lines.now) }
 {
-    let mut found = Vec::new(alloc);
     let (mut goes_on, mut rest) = more(owner, level, single, 0, lines)?;
     while goes_on {
-        let read = process(alloc, owner, level, rest);
-        (goes_on, rest) = take(&mut found, owner, level, single, read)?;
+        (goes_on, rest) = take(
+            found,
+            owner,
+            level,
+            single,
+            process(alloc, owner, level, rest),
+        )?;
     }
-    Ok((found, rest))
+    Ok(rest)
 }
 
-/// The choices of an `IF`.
+/// Reads the choices of an `IF` into an empty list, and tells the lines behind them.
 #[cycle(process)]
 fn choices<'l, 'a>(
     alloc: Global,
@@ -258,20 +282,26 @@ fn choices<'l, 'a>(
     level: u32,
     single: bool,
     lines: &'l [Line<'a>],
-) -> Result<(Vec<Choice<'a>>, &'l [Line<'a>]), ParseFault>
-    ensures found { Tells (λ x. (all_of (map choice_of x.0.items), rows_of x.1.now)) result (components_of (component_at (65 - level) level If) level single (rows_of lines.now)) }
-    ensures within { IfOk result (λ x. length x.1.now ≤ length lines.now) }
+    found: &mut Vec<Choice<'a>>,
+) -> Result<&'l [Line<'a>], ParseFault>
+    requires { found.old.items ≡ [] }
+    ensures found { Tells (λ rest. (all_of (map choice_of found.new.items), rows_of rest.now)) result (components_of (component_at (65 - level) level If) level single (rows_of lines.now)) }
+    ensures within { IfOk result (λ rest. length rest.now ≤ length lines.now) }
 {
-    let mut found = Vec::new(alloc);
     let (mut goes_on, mut rest) = more(owner, level, single, 0, lines)?;
     while goes_on {
-        let read = choice(alloc, owner, level, rest);
-        (goes_on, rest) = take(&mut found, owner, level, single, read)?;
+        (goes_on, rest) = take(
+            found,
+            owner,
+            level,
+            single,
+            choice(alloc, owner, level, rest),
+        )?;
     }
-    Ok((found, rest))
+    Ok(rest)
 }
 
-/// The branches of an `ALT`.
+/// Reads the branches of an `ALT` into an empty list, and tells the lines behind them.
 #[cycle(process)]
 fn branches<'l, 'a>(
     alloc: Global,
@@ -279,17 +309,23 @@ fn branches<'l, 'a>(
     level: u32,
     single: bool,
     lines: &'l [Line<'a>],
-) -> Result<(Vec<Branch<'a>>, &'l [Line<'a>]), ParseFault>
-    ensures found { Tells (λ x. (all_of (map branch_of x.0.items), rows_of x.1.now)) result (components_of (component_at (65 - level) level Alt) level single (rows_of lines.now)) }
-    ensures within { IfOk result (λ x. length x.1.now ≤ length lines.now) }
+    found: &mut Vec<Branch<'a>>,
+) -> Result<&'l [Line<'a>], ParseFault>
+    requires { found.old.items ≡ [] }
+    ensures found { Tells (λ rest. (all_of (map branch_of found.new.items), rows_of rest.now)) result (components_of (component_at (65 - level) level Alt) level single (rows_of lines.now)) }
+    ensures within { IfOk result (λ rest. length rest.now ≤ length lines.now) }
 {
-    let mut found = Vec::new(alloc);
     let (mut goes_on, mut rest) = more(owner, level, single, 0, lines)?;
     while goes_on {
-        let read = branch(alloc, owner, level, rest);
-        (goes_on, rest) = take(&mut found, owner, level, single, read)?;
+        (goes_on, rest) = take(
+            found,
+            owner,
+            level,
+            single,
+            branch(alloc, owner, level, rest),
+        )?;
     }
-    Ok((found, rest))
+    Ok(rest)
 }
 
 /// A condition, and the process below it.
@@ -306,7 +342,7 @@ fn choice<'l, 'a>(
     let (first, rest) = first_at(owner, level, lines)?;
     let line = first.number;
     let condition = at_line(whole(alloc, &first.tokens), line)?;
-    let (process, rest) = process(alloc, line, level + 1, rest)?;
+    let ((condition, process), rest) = below(condition, process(alloc, line, level + 1, rest))?;
     Ok((
         Choice {
             line,
@@ -331,7 +367,7 @@ fn branch<'l, 'a>(
     let (first, rest) = first_at(owner, level, lines)?;
     let line = first.number;
     let guard = at_line(guard(alloc, &first.tokens), line)?;
-    let (process, rest) = process(alloc, line, level + 1, rest)?;
+    let ((guard, process), rest) = below(guard, process(alloc, line, level + 1, rest))?;
     Ok((
         Branch {
             line,

@@ -6,10 +6,11 @@ ghost use Rattle.occam_parser.specs.Views.{expression_of};
 ghost use Rattle.occam_parser.specs.LineViews.{spelling_of, value_of, constant_of, declaration_of, formal_of, proc_head_of};
 ghost use Rattle.occam_parser.specs.Reading.{Gives, Finds, list_of};
 ghost use Rattle.occam_parser.specs.LineReading.{type_at, shape_at, name_at, value_at, constant_at, names_at, formal_named, formal_at, proc_head_at};
+ghost use Rattle.occam_parser.specs.Told.{typed_name_at};
 
-use crate::expression::{expect, expression, expressions, in_brackets};
+use crate::expression::{expect, expression, expressions, in_brackets, up_to};
 use crate::fault::{Fault, LineError};
-use crate::head::{expect_end, name};
+use crate::head::{at_end, expect_end, name};
 use crate::symbol::{Mark, Symbol, behind, first};
 use crate::tree::{
     Constant, ConstantValue, Declaration, Expr, Formal, FormalKind, Names, ValueType,
@@ -37,6 +38,18 @@ fn value_type<'t, 'a>(tokens: &'t [Token<'a>]) -> Result<(ValueType, &'t [Token<
     Ok((ValueType::Byte, rest))
 }
 
+/// `type name`, and the tokens behind it.
+#[tactic(auto, unfolding(crate::specs::Told::typed_name_at))]
+fn typed_name<'t, 'a>(
+    tokens: &'t [Token<'a>],
+) -> Result<((ValueType, &'a [u8]), &'t [Token<'a>]), LineError>
+    ensures { Gives (λ x. ((x.0.0, x.0.1.now), terminals_of x.1.now)) result (typed_name_at (terminals_of tokens.now)) }
+{
+    let (value_type, rest) = value_type(tokens)?;
+    let (name, rest) = name(rest)?;
+    Ok(((value_type, name), rest))
+}
+
 /// `type`, or `CHAN OF type`: whether it is a channel's, the type, and the tokens behind it.
 #[tactic(auto, unfolding(crate::specs::LineReading::shape_at))]
 fn shape<'t, 'a>(tokens: &'t [Token<'a>]) -> Result<((bool, ValueType), &'t [Token<'a>]), Fault>
@@ -52,7 +65,7 @@ fn shape<'t, 'a>(tokens: &'t [Token<'a>]) -> Result<((bool, ValueType), &'t [Tok
 }
 
 /// A constant, behind its `VAL`.
-#[tactic(auto, unfolding(crate::specs::LineReading::constant_at))]
+#[tactic(auto, unfolding(crate::specs::LineReading::constant_at, crate::specs::Told::typed_name_at))]
 pub(crate) fn constant<'a>(
     alloc: Global,
     line: u32,
@@ -61,10 +74,8 @@ pub(crate) fn constant<'a>(
     ensures { Gives constant_of result (constant_at line (terminals_of tokens.now)) }
 {
     let (size, rest) = in_brackets(alloc, tokens)?;
-    let (value_type, rest) = value_type(rest)?;
-    let (name, rest) = name(rest)?;
-    let (value, rest) = constant_value(alloc, size, expect(Mark::Is, rest)?)?;
-    expect_end(expect(Mark::Colon, rest)?)?;
+    let ((value_type, name), rest) = up_to(Mark::Is, typed_name(rest))?;
+    let value = at_end(up_to(Mark::Colon, constant_value(alloc, size, rest)))?;
     Ok(Constant {
         line,
         value_type,
@@ -89,8 +100,7 @@ fn constant_value<'t, 'a>(
     match first(tokens) {
         Some((Symbol::Text(text), rest)) => Ok((ConstantValue::Text { size, text }, rest)),
         Some((Symbol::Mark(Mark::OpenBracket), rest)) => {
-            let (items, rest) = expressions(alloc, rest)?;
-            let rest = expect(Mark::CloseBracket, rest)?;
+            let (items, rest) = up_to(Mark::CloseBracket, expressions(alloc, rest))?;
             Ok((ConstantValue::Table { size, items }, rest))
         }
         _ => Err(LineError::Fault(Fault::UnexpectedToken)),
@@ -104,8 +114,7 @@ pub(crate) fn typed_names<'a>(alloc: Global, line: &Line<'a>) -> Result<Declarat
 {
     let (size, rest) = in_brackets(alloc, &line.tokens)?;
     let ((is_channel, value_type), rest) = shape(rest)?;
-    let (names, rest) = names(alloc, rest)?;
-    expect_end(expect(Mark::Colon, rest)?)?;
+    let names = at_end(up_to(Mark::Colon, names(alloc, rest)))?;
     let found = Names {
         line: line.number,
         size,
@@ -152,8 +161,7 @@ pub(crate) fn proc_head<'a>(alloc: Global, tokens: &[Token<'a>]) -> Result<ProcH
             formals: Vec::new(alloc),
         });
     }
-    let (formals, rest) = formals(alloc, rest)?;
-    expect_end(expect(Mark::CloseParenthesis, rest)?)?;
+    let formals = at_end(up_to(Mark::CloseParenthesis, formals(alloc, rest)))?;
     Ok(ProcHead { name, formals })
 }
 

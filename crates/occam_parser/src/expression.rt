@@ -5,6 +5,7 @@ ghost use Rattle.occam_parser.specs.Terminals.{terminals_of};
 ghost use Rattle.occam_parser.specs.Views.{expression_of, term_of};
 ghost use Rattle.occam_parser.specs.Reading.{Gives, Finds, behind, behind_operator, prefix_at, begins_with_operator, expression_at, one_operator, chain, term_at, marked, named, converted, up_to, inner_at, operand_within, list_of};
 ghost use Rattle.occam_parser.specs.LineReading.{bracketed_at};
+ghost use Rattle.occam_parser.specs.Told.{GoesUpTo};
 
 use crate::fault::{Fault, LineError};
 use crate::symbol::{Mark, Symbol, behind, first};
@@ -21,6 +22,18 @@ pub(crate) fn expect<'t, 'a>(mark: Mark, tokens: &'t [Token<'a>]) -> Result<&'t 
     ensures within { IfOk result (λ rest. length rest.now < length tokens.now) }
 {
     behind(mark, tokens).ok_or(Fault::UnexpectedToken)
+}
+
+/// What was read, where this mark has to follow it, and the tokens behind the mark.
+pub(crate) fn up_to<'t, 'a, T: Drop>(
+    mark: Mark,
+    read: Result<(T, &'t [Token<'a>]), LineError>,
+) -> Result<(T, &'t [Token<'a>]), LineError>
+    ensures { GoesUpTo mark read.entry result }
+{
+    let (found, rest) = read?;
+    let rest = expect(mark, rest)?;
+    Ok((found, rest))
 }
 
 /// The operator that begins some tokens, if it may stand before an operand, and the tokens behind it.
@@ -256,8 +269,7 @@ fn deeper<'t, 'a>(
     if levels == 0 {
         return Err(LineError::Fault(Fault::Nesting));
     }
-    let (inner, rest) = nested(alloc, levels - 1, tokens)?;
-    let rest = expect(close, rest)?;
+    let (inner, rest) = up_to(close, nested(alloc, levels - 1, tokens))?;
     Ok((Box::new(alloc, inner)?, rest))
 }
 
@@ -273,8 +285,7 @@ pub(crate) fn in_brackets<'t, 'a>(
     let Some(after) = behind(Mark::OpenBracket, tokens) else {
         return Ok((None, tokens));
     };
-    let (inner, rest) = expression(alloc, after)?;
-    let rest = expect(Mark::CloseBracket, rest)?;
+    let (inner, rest) = up_to(Mark::CloseBracket, expression(alloc, after))?;
     Ok((Some(inner), rest))
 }
 

@@ -93,10 +93,7 @@ impl LineError {
 pub(crate) fn at_line<T>(gave: Result<T, LineError>, line: u32) -> Result<T, ParseFault>
     ensures { IsToldOf gave result }
 {
-    match gave {
-        Ok(found) => Ok(found),
-        Err(error) => Err(error.at(line)),
-    }
+    gave.map_err(|error| error.at(line))
 }
 
 impl From<AllocError> for LineError {

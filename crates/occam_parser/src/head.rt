@@ -5,10 +5,11 @@ ghost use Rattle.occam_parser.specs.Terminals.{terminals_of, seen_symbol};
 ghost use Rattle.occam_parser.specs.Views.{expression_of};
 ghost use Rattle.occam_parser.specs.LineViews.{place_of, replicator_of, action_of, guard_of, head_of};
 ghost use Rattle.occam_parser.specs.Reading.{Gives, Finds};
+ghost use Rattle.occam_parser.specs.Told.{IsAll};
 ghost use Rattle.occam_parser.specs.LineReading.{ended, name_at, head_at, marked_head, block_at, replicator_at, place_at, action_at, actuals_at, whole_at, whole_place, is_guard_sign, has_condition, guard_at, input_at};
 
 use crate::declaration::{constant, typed_names};
-use crate::expression::{expect, expression, expressions, in_brackets};
+use crate::expression::{expect, expression, expressions, in_brackets, up_to};
 use crate::fault::{Fault, LineError};
 use crate::symbol::{Mark, Symbol, behind, first};
 use crate::tree::{Action, Declaration, Expr, Guard, PairOperator, Place, Replicator};
@@ -48,6 +49,15 @@ pub(crate) fn expect_end(tokens: &[Token<'_>]) -> Result<(), Fault>
     } else {
         Err(Fault::UnexpectedToken)
     }
+}
+
+/// What was read, where nothing more may stand on the line.
+pub(crate) fn at_end<T: Drop>(read: Result<(T, &[Token<'_>]), LineError>) -> Result<T, LineError>
+    ensures { IsAll read.entry result }
+{
+    let (found, rest) = read?;
+    expect_end(rest)?;
+    Ok(found)
 }
 
 /// The name at the front of some tokens, and the tokens behind it.
@@ -120,7 +130,7 @@ fn block<'a>(alloc: Global, kind: BlockKind, tokens: &[Token<'a>]) -> Result<Hea
 }
 
 /// The replicator up to the end of the line, if anything stands there.
-#[tactic(auto, unfolding(crate::specs::LineReading::replicator_at, crate::specs::LineReading::equals_at))]
+#[tactic(auto, unfolding(crate::specs::LineReading::replicator_at, crate::specs::LineReading::equals_at, crate::specs::LineReading::whole_at))]
 fn replicator<'a>(alloc: Global, tokens: &[Token<'a>]) -> Result<Option<Replicator<'a>>, LineError>
     ensures { Gives (option_map replicator_of) result (replicator_at (terminals_of tokens.now)) }
 {
@@ -131,9 +141,8 @@ fn replicator<'a>(alloc: Global, tokens: &[Token<'a>]) -> Result<Option<Replicat
     let Some((Symbol::Pair(PairOperator::Equal), rest)) = first(rest) else {
         return Err(LineError::Fault(Fault::UnexpectedToken));
     };
-    let (base, rest) = expression(alloc, rest)?;
-    let (count, rest) = expression(alloc, expect(Mark::For, rest)?)?;
-    expect_end(rest)?;
+    let (base, rest) = up_to(Mark::For, expression(alloc, rest))?;
+    let count = whole(alloc, rest)?;
     Ok(Some(Replicator { name, base, count }))
 }
 
@@ -195,9 +204,7 @@ fn actuals<'a>(alloc: Global, tokens: &[Token<'a>]) -> Result<Vec<Expr<'a>>, Lin
         expect_end(rest)?;
         return Ok(Vec::new(alloc));
     }
-    let (actuals, rest) = expressions(alloc, tokens)?;
-    expect_end(expect(Mark::CloseParenthesis, rest)?)?;
-    Ok(actuals)
+    at_end(up_to(Mark::CloseParenthesis, expressions(alloc, tokens)))
 }
 
 /// An expression up to the end of the line.
@@ -205,9 +212,7 @@ fn actuals<'a>(alloc: Global, tokens: &[Token<'a>]) -> Result<Vec<Expr<'a>>, Lin
 pub(crate) fn whole<'a>(alloc: Global, tokens: &[Token<'a>]) -> Result<Expr<'a>, LineError>
     ensures { Gives expression_of result (whole_at (terminals_of tokens.now)) }
 {
-    let (found, rest) = expression(alloc, tokens)?;
-    expect_end(rest)?;
-    Ok(found)
+    at_end(expression(alloc, tokens))
 }
 
 /// A variable up to the end of the line.
@@ -216,9 +221,7 @@ fn whole_place<'a>(alloc: Global, tokens: &[Token<'a>]) -> Result<Place<'a>, Lin
     ensures { Gives place_of result (whole_place (terminals_of tokens.now)) }
 {
     let (name, rest) = name(tokens)?;
-    let (found, rest) = place(alloc, name, rest)?;
-    expect_end(rest)?;
-    Ok(found)
+    at_end(place(alloc, name, rest))
 }
 
 fn is_guard(symbol: Symbol<'_>) -> bool
@@ -255,8 +258,7 @@ pub(crate) fn guard<'a>(alloc: Global, tokens: &[Token<'a>]) -> Result<Guard<'a>
             target,
         });
     }
-    let (condition, rest) = expression(alloc, tokens)?;
-    let rest = expect(Mark::Guard, rest)?;
+    let (condition, rest) = up_to(Mark::Guard, expression(alloc, tokens))?;
     if let Some(rest) = behind(Mark::Skip, rest) {
         expect_end(rest)?;
         return Ok(Guard::Skip { condition });
@@ -275,7 +277,6 @@ fn input<'a>(alloc: Global, tokens: &[Token<'a>]) -> Result<(Place<'a>, Place<'a
     ensures { Gives (λ x. (place_of x.0, place_of x.1)) result (input_at (terminals_of tokens.now)) }
 {
     let (name, rest) = name(tokens)?;
-    let (channel, rest) = place(alloc, name, rest)?;
-    let rest = expect(Mark::Input, rest)?;
+    let (channel, rest) = up_to(Mark::Input, place(alloc, name, rest))?;
     Ok((channel, whole_place(alloc, rest)?))
 }

@@ -1,11 +1,11 @@
 //! Programs: constants and procedures.
 
 ghost use Rattle.std.specs.Prelude.{◌≡◌, ◌≤◌, ◌<◌, List, length, map, IfOk};
-ghost use Rattle.occam_parser.specs.Told.{Tells, Answers};
+ghost use Rattle.occam_parser.specs.Told.{Tells, Answers, as_item};
 ghost use Rattle.occam_parser.specs.Terminals.{terminals_of};
 ghost use Rattle.occam_parser.specs.Blocks.{Row, ProgramItem, row_of, rows_of, IsProgram};
 ghost use Rattle.occam_parser.specs.BlockReading.{is_procedure, behind_item, procedure_start, start_at, program_at};
-ghost use Rattle.occam_parser.specs.BlockViews.{procedure_of, item_of, items_of};
+ghost use Rattle.occam_parser.specs.BlockViews.{item_of, items_of};
 
 use crate::block::process;
 use crate::declaration::{constant, proc_head};
@@ -53,25 +53,25 @@ fn behind_item<'l, 'a>(
     }
 }
 
-/// The procedure whose head is a line, behind its `PROC`, and the lines behind its body.
+/// The item that is the procedure whose head is a line, behind its `PROC`, and the lines behind its body.
 fn proc<'l, 'a>(
     alloc: Global,
     line: u32,
     tokens: &[Token<'a>],
     lines: &'l [Line<'a>],
-) -> Result<(Proc<'a>, &'l [Line<'a>]), ParseFault>
-    ensures found { Tells (λ x. (procedure_of x.0, rows_of x.1.now)) result (procedure_start line (terminals_of tokens.now) (rows_of lines.now)) }
+) -> Result<(Item<'a>, &'l [Line<'a>]), ParseFault>
+    ensures found { Tells (λ x. (item_of x.0, rows_of x.1.now)) result (as_item (procedure_start line (terminals_of tokens.now) (rows_of lines.now))) }
     ensures within { IfOk result (λ x. length x.1.now ≤ length lines.now) }
 {
     let head = at_line(proc_head(alloc, tokens), line)?;
     let (body, rest) = process(alloc, line, 1, lines)?;
     Ok((
-        Proc {
+        Item::Proc(Proc {
             line,
             name: head.name,
             formals: head.formals,
             body,
-        },
+        }),
         rest,
     ))
 }
@@ -94,10 +94,7 @@ fn item<'l, 'a>(
             let constant = at_line(constant(alloc, line.number, rest), line.number)?;
             Ok((Item::Constant(constant), lines))
         }
-        Some((Symbol::Mark(Mark::Proc), rest)) => {
-            let (proc, rest) = proc(alloc, line.number, rest, lines)?;
-            Ok((Item::Proc(proc), rest))
-        }
+        Some((Symbol::Mark(Mark::Proc), rest)) => proc(alloc, line.number, rest, lines),
         _ => Err(Fault::UnexpectedToken.at(line.number)),
     }
 }

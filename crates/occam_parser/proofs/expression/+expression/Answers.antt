@@ -1,10 +1,11 @@
-use Rattle.std.proofs.Common.{◌≡◌, ◌++◌, ◌∷◌, [], Some, None, length, map, sym, refl, ap, subst, rules, arith, ◌∙◌}
+use Rattle.std.proofs.Common.{◌≡◌, ◌++◌, ◌-◌, ◌∷◌, [], Some, None, Ok, Err, length, map, sym, refl, ap, subst, rules, arith, ◌∙◌}
 use Rattle.std.proofs.lemmas.Result.{err_from_is_err_and}
 use Rattle.occam_parser.specs.Terminals.{terminals_of}
 use Rattle.occam_parser.specs.Expressions.{First}
 use Rattle.occam_parser.specs.Views.{expression_of, term_of, with_others}
-use Rattle.occam_parser.specs.Reading.{term_at, inner_at, operand_within, expression_at}
-use Rattle.occam_parser.proofs.Levels.{inner_below, inner_none, operand_below, fails_on, up_to_none, up_to_fails, up_to_found, converted_fails, converted_found}
+use Rattle.occam_parser.specs.Reading.{up_to, term_at, inner_at, operand_within, expression_at}
+use Rattle.occam_parser.proofs.Levels.{inner_below, inner_none, operand_below, fails_on, up_to_none, converted_fails, converted_found}
+use Rattle.occam_parser.proofs.Carried.{seen_up_to}
 use Rattle.occam_parser.proofs.Lists.{Chains, chain_begins, chain_goes_on, chain_fails, chain_ends}
 use Rattle.occam_parser.proofs.Seen.{no_more, operands_push, view-Chain, view-Converted}
 use Rattle.occam_parser.proofs.expression.+expression.Goals as goal
@@ -55,19 +56,20 @@ chain-returns-clause-found t c =
 pub deeper-returns-in_err-inner-clause-found : goal.deeper-returns-in_err-inner-clause-found
 deeper-returns-in_err-inner-clause-found t c =
     let ts = terminals_of c.args.tokens.now in
+    let below = inner_below c.args.levels ts (omega arith) in
     let p = err_from_is_err_and c.from_residual.result c.from_residual.ensures.1 in
-    rw (p.1, p.2) (fails_on _ _ _ (λ none. up_to_none c.args.close _ (inner_below c.args.levels ts (omega arith) ∙ none)) c.in_err-inner.ensures.found)
-
-pub deeper-returns-in_err-rest-clause-found : goal.deeper-returns-in_err-rest-clause-found
-deeper-returns-in_err-rest-clause-found t c =
-    let ts = terminals_of c.args.tokens.now in
-    let p = err_from_is_err_and c.from_residual-in_err-rest.result c.from_residual-in_err-rest.ensures.1 in
-    rw (p.1, p.2) (up_to_fails c.args.close _ _ _ (inner_below c.args.levels ts (omega arith) ∙ c.in_ok-inner.ensures.found) c.in_err-rest.ensures.found)
+    rw (p.1, p.2)
+    (fails_on _ _ _
+    (λ none. ap (up_to c.args.close) below ∙ none)
+    (seen_up_to expression_of c.args.close c.nested.result (Err c.in_err-inner.field-0.0) (expression_at (c.args.levels - 1) ts) c.nested.ensures.found c.in_err-inner.ensures))
 
 pub deeper-returns-clause-found : goal.deeper-returns-clause-found
 deeper-returns-clause-found t c =
     let ts = terminals_of c.args.tokens.now in
-    rw c.in_ok-new.ensures.ok (up_to_found c.args.close _ _ _ _ (inner_below c.args.levels ts (omega arith) ∙ c.in_ok-inner.ensures.found) c.in_ok-rest.ensures.found)
+    let below = inner_below c.args.levels ts (omega arith) in
+    rw c.in_ok-new.ensures.ok
+    (ap (up_to c.args.close) below
+    ∙ seen_up_to expression_of c.args.close c.nested.result (Ok (c.in_ok-inner.inner, c.in_ok-inner.rest)) (expression_at (c.args.levels - 1) ts) c.nested.ensures.found c.in_ok-inner.ensures)
 
 pub converted-returns-in_err-inner-clause-found : goal.converted-returns-in_err-inner-clause-found
 converted-returns-in_err-inner-clause-found t c =
