@@ -6,7 +6,7 @@ use Rattle.std.specs.List.{flat_map, list_any, AllByRecursion}
 use Rattle.std.proofs.lemmas.Bool.{ltb-true, lt-ltb, ltb-false, le-ltb, or_parts}
 use Rattle.certificate.specs.declared.fault.TheConstants.{ORDER, RANGE}
 use Rattle.certificate.specs.declared.rows.Interval.{Interval}
-use Rattle.certificate.specs.declared.reading.branches.Counts.{Counts}
+use Rattle.certificate.specs.declared.reading.branches.BranchCounts.{BranchCounts}
 use Rattle.certificate.specs.Contents.{Branch}
 use Rattle.certificate.specs.Order.{IsBytes, InOrder, least_word}
 use Rattle.certificate.specs.Pars.{IntervalKeeps, behind_interval, meet, ReadKeeps, NumberKeeps, behind_number, Before, IsBranchEntry, GiftsKeep, BranchKeeps}
@@ -104,10 +104,10 @@ module _ (size : ℕ) where
 -- ---- branches
 
 -- the bytes of a branch's numbers of items
-counts_bytes : Counts → List ℕ
+counts_bytes : BranchCounts → List ℕ
 counts_bytes c = u16_bytes c.writes ++ u16_bytes c.reads ++ u16_bytes c.written_parameters ++ u16_bytes c.read_parameters ++ u16_bytes c.ends
 
-record CountsFit (c : Counts) : Type 0 where
+record CountsFit (c : BranchCounts) : Type 0 where
   writes : c.writes < 2 ^ 16
   reads : c.reads < 2 ^ 16
   written : c.written_parameters < 2 ^ 16
@@ -115,14 +115,14 @@ record CountsFit (c : Counts) : Type 0 where
   ends : c.ends < 2 ^ 16
 
 -- the numbers of a branch's items
-record AreCounts (c : Counts) (b : Branch) : Type 0 where
+record AreCounts (c : BranchCounts) (b : Branch) : Type 0 where
   writes : length b.writes ≡ c.writes
   reads : length b.reads ≡ c.reads
   written : length b.written_parameters ≡ c.written_parameters
   read : length b.read_parameters ≡ c.read_parameters
   ends : length b.ends ≡ c.ends
 
-head_is : (c : Counts) (b : Branch) → AreCounts c b → branch_head b ≡ u32_bytes b.entry ++ i32_bytes b.workspace ++ counts_bytes c
+head_is : (c : BranchCounts) (b : Branch) → AreCounts c b → branch_head b ≡ u32_bytes b.entry ++ i32_bytes b.workspace ++ counts_bytes c
 unfolding branch_head counts_bytes
 head_is c b h = rw (h.writes, h.reads, h.written, h.read, h.ends) (simp append_assoc)
 
@@ -135,7 +135,7 @@ module _ (size : ℕ) where
       has_then _ _ (u16_takes size reads.1 h1.rest_fits) (λ written h2.
       has_then _ _ (u16_takes size written.1 h2.rest_fits) (λ read h3.
       has_then _ _ (u16_takes size read.1 h3.rest_fits) (λ ends h4.
-      let made : Counts = record { writes = writes.0; reads = reads.0; written_parameters = written.0; read_parameters = read.0; ends = ends.0 } in
+      let made : BranchCounts = record { writes = writes.0; reads = reads.0; written_parameters = written.0; read_parameters = read.0; ends = ends.0 } in
       let kept : CountsFit made = record { writes = h0.keeps; reads = h1.keeps; written = h2.keeps; read = h3.keeps; ends = h4.keeps } in
       let two = u16_bytes writes.0 ++ u16_bytes reads.0 in
       let three = two ++ u16_bytes written.0 in
@@ -145,7 +145,7 @@ module _ (size : ℕ) where
       let parts : bytes ≡ counts_bytes made ++ ends.1 = join (three ++ u16_bytes read.0) (u16_bytes ends.0) ends.1 j3 h4.parts in
       has_ok (made, ends.1) (record { parts = parts; rest_fits = h4.rest_fits; keeps = kept }))))))
 
-  branch_counts_again : (c : Counts) (rest : List ℕ) → CountsFit c → branch_counts_at size (counts_bytes c ++ rest) ≡ Ok (c, rest)
+  branch_counts_again : (c : BranchCounts) (rest : List ℕ) → CountsFit c → branch_counts_at size (counts_bytes c ++ rest) ≡ Ok (c, rest)
   unfolding branch_counts_at counts_bytes
   branch_counts_again c rest h =
       let tail4 = u16_bytes c.ends ++ rest in
@@ -219,7 +219,7 @@ module _ (size code_len : ℕ) where
   unfolding branch_at branch_bytes
   branch_again small before b rest h =
       let g = h.gifts in
-      let counts : Counts = record { writes = length b.writes; reads = length b.reads; written_parameters = length b.written_parameters; read_parameters = length b.read_parameters; ends = length b.ends } in
+      let counts : BranchCounts = record { writes = length b.writes; reads = length b.reads; written_parameters = length b.written_parameters; read_parameters = length b.read_parameters; ends = length b.ends } in
       let counted : AreCounts counts b = record { writes = refl; reads = refl; written = refl; read = refl; ends = refl } in
       let count_fits : CountsFit counts = record { writes = g.write_count; reads = g.read_count; written = g.written_count; read = g.read_parameter_count; ends = g.end_count } in
       let tail7 = flat_map end_bytes b.ends ++ rest in

@@ -1,11 +1,12 @@
 -- Ends that rise can be searched: their order is strict.
-use Rattle.std.proofs.Common.{◌≡◌, ℕ, zero, suc, ◌<◌, ◌≤◌, Bool, true, false, ◌&&◌, ◌||◌, ltb, eqb, List, [], ◌∷◌, length, get_or, refl, sym, ap, ◌∙◌, inl, inr, arith}
+use Rattle.std.proofs.Common.{◌≡◌, ℕ, ℤ, zero, suc, ◌<◌, ◌≤◌, Bool, true, false, ◌&&◌, ◌||◌, ltb, eqb, List, [], ◌∷◌, length, get_or, refl, sym, inl, inr, arith}
 use Rattle.std.specs.Prelude.{◌<ℤ◌, int_lt, int_le}
 use Rattle.std.specs.List.{list_any}
 use Rattle.std.specs.List.Sorted.{IsPartitionPoint}
 use Rattle.std.proofs.lemmas.Bool.{cases_lt, ltb-true}
 use Rattle.std.proofs.Math.Bool.{or-true}
-use Rattle.std.proofs.lemmas.Bool.Decides.{nat_tests}
+use Rattle.std.proofs.lemmas.Bool.Decides.{nat_tests, same_from_decides, Decides-int_eq}
+use Rattle.std.specs.Ordering.{int_eq}
 use Rattle.std.proofs.lemmas.Int.{ints}
 use Rattle.std.proofs.lemmas.List.Elements.{All-from_get_or}
 use Rattle.std.proofs.lemmas.List.Folds.{list_any_at, list_any_none}
@@ -77,6 +78,18 @@ module _ (x y z : EndKey) where
 
 below_differs : (x y : EndKey) → is_below x y ≡ true → is_same_end x y ≡ false
 below_differs x y a = grind (arith, nat_tests, ints)
+
+-- what `==` answers at two numbers, and at two keys
+same_number : (a b : ℤ) → int_eq a b ≡ (int_le a b && int_le b a)
+same_number a b = same_from_decides _ (int_le a b && int_le b a) (Decides-int_eq a b) (λ t. grind (arith, ints), λ e. grind (arith, ints))
+
+grouped : (a b c d : Bool) → (a && (b && (c && d))) ≡ (a && b && c && d)
+grouped true true c d = refl
+grouped true false c d = refl
+grouped false b c d = refl
+
+pub same_key : (x y : EndKey) → (eqb x.kind y.kind && (int_eq x.number y.number && (eqb x.element y.element && eqb x.direction y.direction))) ≡ is_same_end x y
+same_key x y = rw (same_number x.number y.number) (grouped (eqb x.kind y.kind) (int_le x.number y.number && int_le y.number x.number) (eqb x.element y.element) (eqb x.direction y.direction))
 
 -- ---- ends that rise
 

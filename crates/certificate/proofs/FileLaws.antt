@@ -7,6 +7,8 @@ use Rattle.std.proofs.lemmas.List.{append-nil, length-append, nil_from_length}
 use Rattle.std.proofs.lemmas.List.Elements.{All-from_recursion}
 use Rattle.std.proofs.lemmas.List.Sums.{sum_by-le}
 use Rattle.certificate.specs.declared.fault.FormatFault.{FormatFault}
+use Rattle.certificate.specs.declared.fault.ReadError.{ReadError}
+use Rattle.certificate.specs.declared.fault.ReadError.TheVariants as errors
 use Rattle.certificate.specs.declared.fault.TheConstants.{LEFT_OVER}
 use Rattle.certificate.specs.declared.limits.TheConstants.{MAX_BRANCHES}
 use Rattle.certificate.specs.declared.reading.header.Header.{Header}
@@ -19,7 +21,7 @@ use Rattle.certificate.specs.Contexts.{branch_count, first_branch, HasFewContext
 use Rattle.certificate.specs.Pars.{ParKeeps, behind_par, no_branches}
 use Rattle.certificate.specs.Keeping.{VersionKeeps, SizesKeep, BoundsKeep, LimitsKeep, RowsKeep, NamesAreThere, Keeps, Format}
 use Rattle.certificate.specs.Spelling.{procedure_bytes, label_bytes, par_bytes, table_row_bytes, header_bytes, rows_bytes, file_of}
-use Rattle.certificate.specs.Reading.{fault, place}
+use Rattle.certificate.specs.Reading.{Fails, fault, out_of_memory, fault_of, place}
 use Rattle.certificate.specs.ReadingRows.{table_rows_at}
 use Rattle.certificate.specs.ReadingFile.{header_at, contents_from, ended_at, tables_at, read_contents}
 use Rattle.certificate.proofs.Tools.{Has, has_ok, has_then, has_if, has_at, step, join}
@@ -306,3 +308,8 @@ pub not_refused : (bytes : List ℕ) (c : Contents) (f : FormatFault) → Format
 not_refused bytes c f g e =
     let a : read_contents bytes ≡ Ok c = ap read_contents g.spelled ∙ read_again c g.keeps in
     cc
+
+-- a reader of what spells contents fails for want of memory alone
+pub only_memory : (bytes : List ℕ) (c : Contents) (e : ReadError) → Format bytes c → Fails e (read_contents bytes) → fault_of e ≡ out_of_memory
+only_memory bytes c errors.Memory g h = refl
+only_memory bytes c (errors.Fault f) g h = absurd (not_refused bytes c f g h)

@@ -10,7 +10,7 @@ use Rattle.certificate.specs.declared.limits.TheConstants.{MAX_CONSTANTS, MAX_DA
 use Rattle.certificate.specs.declared.tables.Version.{Version}
 use Rattle.certificate.specs.declared.tables.Version.TheVariants as versions
 use Rattle.certificate.specs.declared.reading.header.Sizes.{Sizes}
-use Rattle.certificate.specs.declared.reading.header.Counts.{Counts}
+use Rattle.certificate.specs.declared.reading.header.RowCounts.{RowCounts}
 use Rattle.certificate.specs.declared.reading.header.Header.{Header}
 use Rattle.certificate.specs.Order.{IsBytes}
 use Rattle.certificate.specs.Keeping.{max_code}
@@ -232,10 +232,10 @@ module _ (size : ℕ) where
       ∙ step _ (flag_again flag (u32_bytes count ++ rest))
       (step _ (limited_again size 4 u32_bytes (2 ^ 32) wide32 MAX_TABLES count rest (omega arith) limit) refl)
 
-abbrev pub counts_bytes : Version → Counts → List ℕ
+abbrev pub counts_bytes : Version → RowCounts → List ℕ
 counts_bytes version n = u32_bytes n.procedures ++ u32_bytes n.labels ++ u32_bytes n.pars ++ flag_bytes version n.has_long_operations n.table_rows
 
-pub record CountsFit (version : Version) (n : Counts) : Type 0 where
+pub record CountsFit (version : Version) (n : RowCounts) : Type 0 where
   pub procedures : n.procedures ≤ MAX_PROCEDURES
   pub labels : n.labels ≤ MAX_LABELS
   pub pars : n.pars ≤ MAX_PARS
@@ -250,14 +250,14 @@ module _ (size : ℕ) (version : Version) where
       has_then _ _ (limited_takes size 4 u32_bytes (2 ^ 32) wide32 MAX_LABELS x0.1 h0.rest_fits) (λ x1 h1.
       has_then _ _ (limited_takes size 4 u32_bytes (2 ^ 32) wide32 MAX_PARS x1.1 h1.rest_fits) (λ x2 h2.
       has_then _ _ (extension_takes size version x2.1 h2.rest_fits) (λ x3 h3.
-      let made : Counts = record { procedures = x0.0; labels = x1.0; pars = x2.0; has_long_operations = x3.0.0; table_rows = x3.0.1 } in
+      let made : RowCounts = record { procedures = x0.0; labels = x1.0; pars = x2.0; has_long_operations = x3.0.0; table_rows = x3.0.1 } in
       let kept : CountsFit version made = record { procedures = h0.keeps.1; labels = h1.keeps.1; pars = h2.keeps.1; table_rows = h3.keeps.limit; flag = h3.keeps.flag } in
       let j1 = join (u32_bytes x0.0) (u32_bytes x1.0) x1.1 h0.parts h1.parts in
       let j2 = join (u32_bytes x0.0 ++ u32_bytes x1.0) (u32_bytes x2.0) x2.1 j1 h2.parts in
       let parts : bytes ≡ counts_bytes version made ++ x3.1 = join (u32_bytes x0.0 ++ u32_bytes x1.0 ++ u32_bytes x2.0) (flag_bytes version x3.0.0 x3.0.1) x3.1 j2 h3.parts in
       has_ok (made, x3.1) (record { parts = parts; rest_fits = h3.rest_fits; keeps = kept })))))
 
-  counts_again : (n : Counts) (rest : List ℕ) → CountsFit version n → counts_at size version (counts_bytes version n ++ rest) ≡ Ok (n, rest)
+  counts_again : (n : RowCounts) (rest : List ℕ) → CountsFit version n → counts_at size version (counts_bytes version n ++ rest) ≡ Ok (n, rest)
   unfolding counts_at
   counts_again n rest h =
       let t3 = flag_bytes version n.has_long_operations n.table_rows ++ rest in

@@ -1,10 +1,10 @@
 -- The laws of parameters, procedure rows and table rows.
 use Rattle.std.proofs.Common.{◌≡◌, ◌≢◌, ℕ, ◌-◌, ◌^◌, ◌<◌, ◌≤◌, ℤ, pos, negsuc, ◌≤ℤ◌, ◌<ℤ◌, true, not, ◌&&◌, ◌||◌, cond, ltb, eqb, List, [], ◌∷◌, ◌++◌, length, take, drop, Ok, Err, refl, ap, ◌∙◌, append_assoc, arith, FitsSigned}
-use Rattle.std.specs.Prelude.{IsTrue, int_lt, int_le}
+use Rattle.std.specs.Prelude.{IsTrue, nat_le, int_le}
 use Rattle.std.specs.Int.{w32}
 use Rattle.std.specs.List.{flat_map, list_all, AllByRecursion}
 use Rattle.std.proofs.lemmas.Int.{ints}
-use Rattle.std.proofs.lemmas.Bool.{ltb-true, lt-ltb, ltb-false, le-ltb, eqb-true, not-true, not-false, and_parts, or_parts}
+use Rattle.std.proofs.lemmas.Bool.{leb-true, le-leb, ltb-true, lt-ltb, ltb-false, le-ltb, eqb-true, not-true, not-false, and_parts, or_parts}
 use Rattle.certificate.specs.declared.fault.TheConstants.{TRUNCATED, ORDER, RANGE}
 use Rattle.certificate.specs.declared.limits.TheConstants.{MAX_PARAMETERS, MAX_MESSAGE}
 use Rattle.certificate.specs.declared.rows.Ends.{Ends}
@@ -16,12 +16,12 @@ use Rattle.certificate.specs.declared.tables.Version.{Version}
 use Rattle.certificate.specs.declared.tables.Version.TheVariants as versions
 use Rattle.certificate.specs.Contents.{Procedure}
 use Rattle.certificate.specs.Order.{IsBytes, InOrder, IsInterval, least_word, greatest_word, is_multiple_of_four}
-use Rattle.certificate.specs.Procedures.{RangeKeeps, IsRegion, AreChannels, KindKeeps, ParameterKeeps, behind_parameter, ProcedureKeeps, behind_procedure, words_of, IsWithin, TableKeeps, behind_table}
+use Rattle.certificate.specs.Procedures.{RangeKeeps, is_region_size, IsRegion, are_ends, AreChannels, is_frame_start, is_frame_end, KindKeeps, ParameterKeeps, behind_parameter, ProcedureKeeps, behind_procedure, words_of, IsWithin, TableKeeps, behind_table}
 use Rattle.certificate.specs.Spelling.{u16_bytes, u32_bytes, u64_bytes, i32_bytes, range_bytes, kind_bytes, parameter_bytes, procedure_bytes, table_row_bytes}
 use Rattle.certificate.specs.Reading.{fault, place, byte_at, interval_at, list_at}
-use Rattle.certificate.specs.ReadingRows.{words_range_at, region_size_at, region_at, ends_at, channels_at, value_at, kind_at, parameter_word_at, parameter_at, parameters_at, bounded_at, rising_at, procedure_row_at, procedure_rows_at, table_start_at, table_end_at, is_within, table_row_at, table_rows_at}
+use Rattle.certificate.specs.ReadingRows.{words_range_at, region_size_at, region_at, ends_at, channels_at, value_at, kind_at, parameter_word_at, parameter_at, parameters_at, frame_start_at, frame_end_at, rising_at, procedure_row_at, procedure_rows_at, table_start_at, table_end_at, is_within, table_row_at, table_rows_at}
 use Rattle.certificate.proofs.Tools.{Has, has_ok, has_err, has_then, has_unless, has_if, has_cond, has_weaker, step, Spelled, join, list_takes, list_again}
-use Rattle.certificate.proofs.FieldLaws.{IsBytes-rest, eqb-false, eqb-differ, int_lt-false, int_le-lt, wide16, wide64, number_takes, number_again, limited_takes, limited_again, u32_takes, u32_again, positive_takes, positive_again, in_code_takes, in_code_again, int_takes, int_again, interval_takes, interval_again, byte_takes, int_le-false, int_lt-le, int_le-true, int_le-le}
+use Rattle.certificate.proofs.FieldLaws.{IsBytes-rest, eqb-differ, wide16, wide64, number_takes, number_again, limited_takes, limited_again, u32_takes, u32_again, positive_takes, positive_again, in_code_takes, in_code_again, int_takes, int_again, interval_takes, interval_again, byte_takes, int_le-false, int_lt-le, int_le-true, int_le-le}
 use Rattle.certificate.proofs.RowLaws.{tagged, span_takes, span_again}
 
 -- tests
@@ -44,13 +44,13 @@ module _ (size : ℕ) where
   unfolding region_size_at
   region_size_takes bytes fits =
       has_then _ _ (u32_takes size bytes fits) (λ n h.
-      has_unless (ltb n.0 4 || not (is_multiple_of_four n.0)) (fault RANGE (place size bytes)) (Ok n) (λ some.
-      let both = or_parts (ltb n.0 4) (not (is_multiple_of_four n.0)) some in
-      has_ok n (record { parts = h.parts; rest_fits = h.rest_fits; keeps = (h.keeps, ltb-false _ _ both.0, not-false _ both.1) })))
+      has_if (is_region_size n.0) (fault RANGE (place size bytes)) (Ok n) (λ whole.
+      let both = and_parts (nat_le 4 n.0) (is_multiple_of_four n.0) whole in
+      has_ok n (record { parts = h.parts; rest_fits = h.rest_fits; keeps = (h.keeps, leb-true _ _ both.0, both.1) })))
 
   region_size_again : (n : ℕ) (rest : List ℕ) → n < 2 ^ 32 → 4 ≤ n → IsTrue (is_multiple_of_four n) → region_size_at size (u32_bytes n ++ rest) ≡ Ok (n, rest)
   unfolding region_size_at
-  region_size_again n rest lt some words = step _ (u32_again size n rest lt) (rw (le-ltb _ _ some, words) refl)
+  region_size_again n rest lt some words = step _ (u32_again size n rest lt) (rw (le-leb _ _ some, words) refl)
 
   -- a region, whose kind has tag n
   region_takes : (version : Version) (kind : ℕ → ℤ → ℤ → ParameterKind) (tag n : ℕ) (bytes : List ℕ)
@@ -80,15 +80,13 @@ module _ (size : ℕ) where
   unfolding ends_at
   ends_take bytes fits =
       has_then _ _ (byte_takes size bytes fits) (λ bits h.
-      has_unless (eqb bits.0 0 || ltb 3 bits.0) (fault RANGE (place size bytes)) (Ok (record { 0 = bits.0 }, bits.1)) (λ some.
-      let both = or_parts (eqb bits.0 0) (ltb 3 bits.0) some in
-      has_ok (record { 0 = bits.0 }, bits.1) (record { parts = h.parts; rest_fits = h.rest_fits; keeps = (let differ : bits.0 ≢ 0 = eqb-false _ _ both.0 in omega arith, ltb-false _ _ both.1) })))
+      has_if (are_ends bits.0) (fault RANGE (place size bytes)) (Ok (record { 0 = bits.0 }, bits.1)) (λ some.
+      let both = and_parts (nat_le 1 bits.0) (nat_le bits.0 3) some in
+      has_ok (record { 0 = bits.0 }, bits.1) (record { parts = h.parts; rest_fits = h.rest_fits; keeps = (leb-true _ _ both.0, leb-true _ _ both.1) })))
 
   ends_again : (ends : Ends) (rest : List ℕ) → 1 ≤ ends.0 → ends.0 ≤ 3 → ends_at size (ends.0 ∷ rest) ≡ Ok (ends, rest)
   unfolding ends_at byte_at
-  ends_again ends rest some few =
-      let differ : ends.0 ≢ 0 = omega arith in
-      step _ refl (rw (eqb-differ _ _ differ, le-ltb _ _ few) refl)
+  ends_again ends rest some few = step _ refl (rw (le-leb _ _ some, le-leb _ _ few) refl)
 
   channels_take : (version : Version) (tag : ℕ) (bytes : List ℕ) → IsBytes bytes → tag ≡ 3 → Has (channels_at size bytes) (Spelled (tag ∷ bytes) (kind_bytes version) (KindKeeps version))
   unfolding channels_at
@@ -197,17 +195,29 @@ module _ (size : ℕ) (version : Version) (hi : ℤ) where
 -- ---- procedure rows
 
 module _ (size : ℕ) where
-  bounded_takes : (low high : ℤ) (bytes : List ℕ) → IsBytes bytes → Has (bounded_at size low high bytes) (Spelled bytes i32_bytes (λ z. (low ≤ℤ z) × (z ≤ℤ high)))
-  unfolding bounded_at
-  bounded_takes low high bytes fits =
-      has_then _ _ (int_takes size bytes fits) (λ z h.
-      has_unless (int_lt z.0 low || int_lt high z.0) (fault RANGE (place size bytes)) (Ok z) (λ inside.
-      let both = or_parts (int_lt z.0 low) (int_lt high z.0) inside in
-      has_ok z (record { parts = h.parts; rest_fits = h.rest_fits; keeps = (int_lt-false _ _ both.0, int_lt-false _ _ both.1) })))
+  frame_start_takes : (bytes : List ℕ) → IsBytes bytes → Has (frame_start_at size bytes) (Spelled bytes i32_bytes (λ lo. (negsuc 16383 ≤ℤ lo) × (lo ≤ℤ pos 0)))
+  unfolding frame_start_at
+  frame_start_takes bytes fits =
+      has_then _ _ (int_takes size bytes fits) (λ lo h.
+      has_if (is_frame_start lo.0) (fault RANGE (place size bytes)) (Ok lo) (λ inside.
+      let both = and_parts (int_le (negsuc 16383) lo.0) (int_le lo.0 (pos 0)) inside in
+      has_ok lo (record { parts = h.parts; rest_fits = h.rest_fits; keeps = (int_le-true _ _ both.0, int_le-true _ _ both.1) })))
 
-  bounded_again : (low high z : ℤ) (rest : List ℕ) → FitsSigned w32 z → low ≤ℤ z → z ≤ℤ high → bounded_at size low high (i32_bytes z ++ rest) ≡ Ok (z, rest)
-  unfolding bounded_at
-  bounded_again low high z rest fits above below = step _ (int_again size z rest fits) (rw (int_le-lt _ _ above, int_le-lt _ _ below) refl)
+  frame_start_again : (lo : ℤ) (rest : List ℕ) → FitsSigned w32 lo → negsuc 16383 ≤ℤ lo → lo ≤ℤ pos 0 → frame_start_at size (i32_bytes lo ++ rest) ≡ Ok (lo, rest)
+  unfolding frame_start_at
+  frame_start_again lo rest fits above below = step _ (int_again size lo rest fits) (rw (int_le-le _ _ above, int_le-le _ _ below) refl)
+
+  frame_end_takes : (bytes : List ℕ) → IsBytes bytes → Has (frame_end_at size bytes) (Spelled bytes i32_bytes (λ hi. (pos 4 ≤ℤ hi) × (hi ≤ℤ pos 16384)))
+  unfolding frame_end_at
+  frame_end_takes bytes fits =
+      has_then _ _ (int_takes size bytes fits) (λ hi h.
+      has_if (is_frame_end hi.0) (fault RANGE (place size bytes)) (Ok hi) (λ inside.
+      let both = and_parts (int_le (pos 4) hi.0) (int_le hi.0 (pos 16384)) inside in
+      has_ok hi (record { parts = h.parts; rest_fits = h.rest_fits; keeps = (int_le-true _ _ both.0, int_le-true _ _ both.1) })))
+
+  frame_end_again : (hi : ℤ) (rest : List ℕ) → FitsSigned w32 hi → pos 4 ≤ℤ hi → hi ≤ℤ pos 16384 → frame_end_at size (i32_bytes hi ++ rest) ≡ Ok (hi, rest)
+  unfolding frame_end_at
+  frame_end_again hi rest fits above below = step _ (int_again size hi rest fits) (rw (int_le-le _ _ above, int_le-le _ _ below) refl)
 
   rising_takes : (code_len low : ℕ) (bytes : List ℕ) → IsBytes bytes → Has (rising_at size code_len low bytes) (Spelled bytes u32_bytes (λ n. (low < n) × (n < code_len)))
   unfolding rising_at
@@ -227,8 +237,8 @@ module _ (size : ℕ) (version : Version) (code_len : ℕ) where
   unfolding procedure_row_at procedure_bytes
   procedure_takes low bytes fits =
       has_then _ _ (rising_takes size code_len low bytes fits) (λ entry h0.
-      has_then _ _ (bounded_takes size (negsuc 16383) (pos 0) entry.1 h0.rest_fits) (λ lo h1.
-      has_then _ _ (bounded_takes size (pos 4) (pos 16384) lo.1 h1.rest_fits) (λ hi h2.
+      has_then _ _ (frame_start_takes size entry.1 h0.rest_fits) (λ lo h1.
+      has_then _ _ (frame_end_takes size lo.1 h1.rest_fits) (λ hi h2.
       has_then _ _ (number_takes size 8 u64_bytes (2 ^ 64) wide64 hi.1 h2.rest_fits) (λ number h3.
       has_then _ _ (parameters_take size version hi.0 number.1 h3.rest_fits) (λ ps h4.
       let made : Procedure = record { entry = entry.0; lo = lo.0; hi = hi.0; number = number.0; parameters = ps.0 } in
@@ -271,8 +281,8 @@ module _ (size : ℕ) (version : Version) (code_len : ℕ) where
         let hi_fits : FitsSigned w32 row.hi = let low = h.hi_low in let high = h.hi_high in omega (arith, ints) in
         ap (procedure_row_at size version code_len low) regrouped
         ∙ step _ (rising_again size code_len low row.entry tail1 fits h.rises h.in_code)
-        (step _ (bounded_again size (negsuc 16383) (pos 0) row.lo tail2 lo_fits h.lo_low h.lo_high)
-        (step _ (bounded_again size (pos 4) (pos 16384) row.hi tail3 hi_fits h.hi_low h.hi_high)
+        (step _ (frame_start_again size row.lo tail2 lo_fits h.lo_low h.lo_high)
+        (step _ (frame_end_again size row.hi tail3 hi_fits h.hi_low h.hi_high)
         (step _ (number_again size 8 u64_bytes (2 ^ 64) wide64 row.number tail4 h.number_fits)
         (step _ (parameters_again size version row.hi h.hi_high row.parameters rest h.few h.parameters) refl))))
 

@@ -1,10 +1,10 @@
 -- The laws of facts, entries and label rows.
 use Rattle.std.proofs.Common.{◌≡◌, ◌≢◌, ℕ, ◌^◌, ◌<◌, ◌≤◌, ℤ, pos, ◌+ℤ◌, ◌≤ℤ◌, true, false, ◌&&◌, ◌||◌, cond, ltb, eqb, List, [], ◌∷◌, ◌++◌, length, Ok, Err, refl, ap, ◌∙◌, append_assoc, arith, FitsSigned}
-use Rattle.std.specs.Prelude.{int_lt}
+use Rattle.std.specs.Prelude.{nat_le, int_lt, int_le}
 use Rattle.std.specs.Int.{w32}
 use Rattle.std.specs.List.{flat_map, list_any, AllByRecursion}
 use Rattle.std.proofs.lemmas.Int.{ints}
-use Rattle.std.proofs.lemmas.Bool.{ltb-true, lt-ltb, eqb-true, and_parts, or_parts}
+use Rattle.std.proofs.lemmas.Bool.{leb-true, le-leb, ltb-true, lt-ltb, eqb-true, and_parts}
 use Rattle.certificate.specs.declared.fault.TheConstants.{TRUNCATED, ORDER, RANGE}
 use Rattle.certificate.specs.declared.fact.Fact.{Fact}
 use Rattle.certificate.specs.declared.fact.Fact.TheVariants as facts
@@ -13,12 +13,12 @@ use Rattle.certificate.specs.declared.fact.Step.TheVariants as steps
 use Rattle.certificate.specs.declared.rows.Entry.{Entry}
 use Rattle.certificate.specs.Contents.{Procedure, Label}
 use Rattle.certificate.specs.Order.{IsBytes, InOrder, IsInterval, least_word, greatest_word, is_stepped}
-use Rattle.certificate.specs.Facts.{IsStepped, IsPointer, IsLoop, RegisterKeeps, WordKeeps, behind_entry, EntryKeeps, IsLabelOffset, LabelKeeps, behind_label}
+use Rattle.certificate.specs.Facts.{IsStepped, IsPointer, is_loop_length, IsLoop, RegisterKeeps, WordKeeps, behind_entry, EntryKeeps, IsLabelOffset, LabelKeeps, behind_label}
 use Rattle.certificate.specs.Spelling.{u16_bytes, u32_bytes, u64_bytes, i32_bytes, step_size, fact_bytes, entry_bytes, label_bytes}
 use Rattle.certificate.specs.Reading.{fault, place, byte_at, list_at}
 use Rattle.certificate.specs.ReadingRows.{range_at, step_at, pointer_at, code_address_at, count_at, loop_at, fact_at, register_at, word_at, first_word_at, span_at, entry_at, entries_at, label_offset_at, registers_at, label_row_at, label_rows_at}
 use Rattle.certificate.proofs.Tools.{Has, has_ok, has_err, has_then, has_unless, has_if, has_cond, has_weaker, step, Spelled, join, list_takes, list_again}
-use Rattle.certificate.proofs.FieldLaws.{IsBytes-rest, eqb-false, eqb-differ, int_lt-false, int_le-lt, wide16, wide64, number_takes, number_again, u32_takes, u32_again, int_takes, int_again, byte_takes, at_most_takes, at_most_again, interval_takes, interval_again, in_code_takes, in_code_again}
+use Rattle.certificate.proofs.FieldLaws.{IsBytes-rest, eqb-false, eqb-differ, int_lt-false, int_le-lt, int_le-true, int_le-le, wide16, wide64, number_takes, number_again, u32_takes, u32_again, int_takes, int_again, byte_takes, at_most_takes, at_most_again, interval_takes, interval_again, in_code_takes, in_code_again}
 
 -- ---- facts
 
@@ -30,6 +30,13 @@ tagged tag n e parts = rw e (ap (λ (t : List ℕ). n ∷ t) parts)
 record IsCommon (code_len : ℕ) (f : Fact) : Type 0 where
   register : RegisterKeeps code_len f
   word : (span : ℕ) → WordKeeps code_len span f
+
+-- the length of a loop, by its parts
+loop_parts : (base : ℤ) (n : ℕ) → is_loop_length base n ≡ true → (1 ≤ n) × (pos n ≤ℤ greatest_word) × ((base +ℤ pos n) ≤ℤ pos 2147483648)
+loop_parts base n all =
+    let both = and_parts (nat_le 1 n && int_le (pos n) greatest_word) (int_le (base +ℤ pos n) (pos 2147483648)) all in
+    let first = and_parts (nat_le 1 n) (int_le (pos n) greatest_word) both.0 in
+    (leb-true _ _ first.0, int_le-true _ _ first.1, int_le-true _ _ both.1)
 
 module _ (size : ℕ) where
   step_takes : (lo hi : ℤ) (bytes : List ℕ) → IsBytes bytes → Has (step_at size lo hi bytes) (Spelled bytes (λ s. step_size s ∷ []) (λ s. IsStepped s lo hi))
@@ -68,19 +75,15 @@ module _ (size : ℕ) where
   count_takes : (base : ℤ) (bytes : List ℕ) → IsBytes bytes → Has (count_at size base bytes) (Spelled bytes u32_bytes (λ n. (1 ≤ n) × (pos n ≤ℤ greatest_word) × ((base +ℤ pos n) ≤ℤ pos 2147483648)))
   unfolding count_at
   count_takes base bytes fits =
-      let wrong = fault RANGE (place size bytes) in
       has_then _ _ (u32_takes size bytes fits) (λ n h.
-      has_unless (eqb n.0 0) wrong (cond (int_lt greatest_word (pos n.0) || int_lt (pos 2147483648) (base +ℤ pos n.0)) (Err wrong) (Ok n)) (λ some.
-      has_unless (int_lt greatest_word (pos n.0) || int_lt (pos 2147483648) (base +ℤ pos n.0)) wrong (Ok n) (λ low.
-      let both = or_parts (int_lt greatest_word (pos n.0)) (int_lt (pos 2147483648) (base +ℤ pos n.0)) low in
-      has_ok n (record { parts = h.parts; rest_fits = h.rest_fits; keeps = (let differ : n.0 ≢ 0 = eqb-false _ _ some in omega arith, int_lt-false _ _ both.0, int_lt-false _ _ both.1) }))))
+      has_if (is_loop_length base n.0) (fault RANGE (place size bytes)) (Ok n) (λ short.
+      has_ok n (record { parts = h.parts; rest_fits = h.rest_fits; keeps = loop_parts base n.0 short })))
 
   count_again : (base : ℤ) (n : ℕ) (rest : List ℕ) → 1 ≤ n → pos n ≤ℤ greatest_word → (base +ℤ pos n) ≤ℤ pos 2147483648 → count_at size base (u32_bytes n ++ rest) ≡ Ok (n, rest)
   unfolding count_at
   count_again base n rest some limit last =
-      let differ : n ≢ 0 = omega arith in
       let lt : n < 2 ^ 32 = omega (arith, ints) in
-      step _ (u32_again size n rest lt) (rw (eqb-differ _ _ differ, int_le-lt _ _ limit, int_le-lt _ _ last) refl)
+      step _ (u32_again size n rest lt) (rw (le-leb _ _ some, int_le-le _ _ limit, int_le-le _ _ last) refl)
 
   loop_again : (base : ℤ) (count weight : ℕ) (rest : List ℕ) → IsLoop base count weight → loop_at size ((i32_bytes base ++ u32_bytes count ++ u64_bytes weight) ++ rest) ≡ Ok (facts.Loop base count weight, rest)
   unfolding loop_at

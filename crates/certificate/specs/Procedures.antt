@@ -1,5 +1,5 @@
 -- The rules of procedure rows and table rows, each by itself.
-use Rattle.std.specs.Prelude.{◌≡◌, ◌^◌, ◌<◌, ◌≤◌, ℕ, ℤ, pos, negsuc, ◌≤ℤ◌, ◌<ℤ◌, ◌-◌, IsTrue, List, [], ◌∷◌, length, take, drop}
+use Rattle.std.specs.Prelude.{◌≡◌, ◌^◌, ◌<◌, ◌≤◌, ℕ, nat_le, ℤ, pos, negsuc, ◌≤ℤ◌, ◌<ℤ◌, int_le, ◌-◌, Bool, ◌&&◌, IsTrue, List, [], ◌∷◌, length, take, drop}
 use Rattle.std.specs.List.{AllByRecursion}
 use Rattle.std.specs.Int.{w32, cast_signed}
 use Rattle.byteorder.specs.Endian.{little_number}
@@ -18,12 +18,20 @@ abbrev pub RangeKeeps : Version → ℤ → ℤ → Type 0
 RangeKeeps versions.One lo hi = (lo ≡ least_word) × (hi ≡ greatest_word)
 RangeKeeps versions.Two lo hi = IsInterval lo hi
 
+-- a region may have so many bytes: whole words, one at least
+abbrev pub is_region_size : ℕ → Bool
+is_region_size bytes = nat_le 4 bytes && is_multiple_of_four bytes
+
 -- a region of words
 pub record IsRegion (version : Version) (size : ℕ) (lo hi : ℤ) : Type 0 where
   pub size_fits : size < 2 ^ 32
   pub some : 4 ≤ size
   pub words : IsTrue (is_multiple_of_four size)
   pub range : RangeKeeps version lo hi
+
+-- one end or both
+abbrev pub are_ends : ℕ → Bool
+are_ends bits = nat_le 1 bits && nat_le bits 3
 
 -- channels, with one of their ends or both
 pub record AreChannels (count len ends : ℕ) : Type 0 where
@@ -49,6 +57,13 @@ pub record ParameterKeeps (version : Version) (hi : ℤ) (low : ℕ) (p : Parame
 -- a parameter leaves its word
 abbrev pub behind_parameter : ℕ → Parameter → ℕ
 behind_parameter low p = p.word
+
+-- a frame may begin at this word, and end before this one
+abbrev pub is_frame_start : ℤ → Bool
+is_frame_start lo = int_le (negsuc 16383) lo && int_le lo (pos 0)
+
+abbrev pub is_frame_end : ℤ → Bool
+is_frame_end hi = int_le (pos 4) hi && int_le hi (pos 16384)
 
 -- a procedure row of a module with this much code, behind a row with its entry at `low`
 pub record ProcedureKeeps (version : Version) (code_len low : ℕ) (row : Procedure) : Type 0 where

@@ -43,6 +43,11 @@ fault number offset = record { number = number; offset = offset }
 abbrev pub out_of_memory : FormatFault
 out_of_memory = fault MEMORY 0
 
+-- the fault that is told of a file whose reader gave this error
+abbrev pub fault_of : ReadError → FormatFault
+fault_of errors.Memory = out_of_memory
+fault_of (errors.Fault f) = f
+
 -- the offset in the file of what is left of it
 abbrev pub place : ℕ → List ℕ → ℕ
 place size rest = size - length rest

@@ -8,7 +8,7 @@ use Rattle.certificate.specs.declared.tables.Version.TheVariants as versions
 use Rattle.certificate.specs.declared.rows.TableRow.{TableRow}
 use Rattle.certificate.specs.declared.limits.TheConstants.{MAX_CONSTANTS, MAX_DATA_WORDS, MAX_BUDGET, MAX_MESSAGE, MAX_PROCEDURES, MAX_LABELS, MAX_PARS, MAX_TABLES}
 use Rattle.certificate.specs.declared.reading.header.Sizes.{Sizes}
-use Rattle.certificate.specs.declared.reading.header.Counts.{Counts}
+use Rattle.certificate.specs.declared.reading.header.RowCounts.{RowCounts}
 use Rattle.certificate.specs.declared.reading.header.Header.{Header}
 use Rattle.certificate.specs.Contents.{Procedure, Label, Par, Contents}
 use Rattle.certificate.specs.Spelling.{magic_one, magic_two}
@@ -65,7 +65,7 @@ extension_at size versions.Two rest = do
   count ← limited_at size 4 MAX_TABLES flag.1
   Ok ((flag.0, count.0), count.1)
 
-unfoldable pub counts_at : ℕ → Version → List ℕ → Read Counts
+unfoldable pub counts_at : ℕ → Version → List ℕ → Read RowCounts
 counts_at size version rest = do
   procedures ← limited_at size 4 MAX_PROCEDURES rest
   labels ← limited_at size 4 MAX_LABELS procedures.1

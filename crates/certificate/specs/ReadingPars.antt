@@ -10,7 +10,7 @@ use Rattle.certificate.specs.declared.rows.Direction.{Direction}
 use Rattle.certificate.specs.declared.rows.Direction.TheVariants as directions
 use Rattle.certificate.specs.declared.rows.EndRow.{EndRow}
 use Rattle.certificate.specs.declared.rows.EndKey.{EndKey}
-use Rattle.certificate.specs.declared.reading.branches.Counts.{Counts}
+use Rattle.certificate.specs.declared.reading.branches.BranchCounts.{BranchCounts}
 use Rattle.certificate.specs.declared.limits.TheConstants.{MAX_BRANCHES, MAX_MESSAGE}
 use Rattle.certificate.specs.Order.{least_word}
 use Rattle.certificate.specs.Contents.{Branch, Par}
@@ -115,7 +115,7 @@ branch_entry_at size code_len before rest = do
       else Err (fault ORDER (place size rest))
 
 -- how many intervals, parameters and ends a branch has
-unfoldable pub branch_counts_at : ℕ → List ℕ → Read Counts
+unfoldable pub branch_counts_at : ℕ → List ℕ → Read BranchCounts
 branch_counts_at size rest = do
   writes ← number_at size 2 rest
   reads ← number_at size 2 writes.1

@@ -1,5 +1,5 @@
 -- Reading facts, procedure rows, label rows and table rows.
-use Rattle.std.specs.Prelude.{ℕ, ◌-◌, ℤ, pos, negsuc, ◌+ℤ◌, int_lt, int_le, nat_lt, Bool, ◌==◌, ◌&&◌, ◌||◌, not, if◌then◌else◌, List, [], ◌∷◌, length, take, drop, Ok, Err}
+use Rattle.std.specs.Prelude.{ℕ, ◌-◌, ℤ, pos, int_lt, int_le, nat_lt, Bool, ◌==◌, ◌&&◌, ◌||◌, not, if◌then◌else◌, List, [], ◌∷◌, length, take, drop, Ok, Err}
 use Rattle.std.specs.List.{list_any, list_all}
 use Rattle.certificate.specs.declared.fault.TheConstants.{TRUNCATED, ORDER, RANGE}
 use Rattle.certificate.specs.declared.fact.Fact.{Fact}
@@ -12,13 +12,15 @@ use Rattle.certificate.specs.declared.rows.Parameter.{Parameter}
 use Rattle.certificate.specs.declared.rows.ParameterKind.{ParameterKind}
 use Rattle.certificate.specs.declared.rows.ParameterKind.TheVariants as kinds
 use Rattle.certificate.specs.declared.rows.TableRow.{TableRow}
+use Rattle.certificate.specs.declared.reading.procedures.Access.{Access}
+use Rattle.certificate.specs.declared.reading.procedures.Access.TheVariants as accesses
 use Rattle.certificate.specs.declared.tables.Version.{Version}
 use Rattle.certificate.specs.declared.tables.Version.TheVariants as versions
 use Rattle.certificate.specs.declared.limits.TheConstants.{MAX_PARAMETERS, MAX_MESSAGE}
 use Rattle.certificate.specs.Order.{least_word, greatest_word, is_multiple_of_four, is_stepped}
 use Rattle.certificate.specs.Contents.{Procedure, Label}
-use Rattle.certificate.specs.Facts.{behind_entry, behind_label}
-use Rattle.certificate.specs.Procedures.{behind_parameter, behind_procedure, words_of, behind_table}
+use Rattle.certificate.specs.Facts.{is_loop_length, behind_entry, behind_label}
+use Rattle.certificate.specs.Procedures.{is_region_size, are_ends, is_frame_start, is_frame_end, behind_parameter, behind_procedure, words_of, behind_table}
 use Rattle.certificate.specs.Reading.{◌>>=◌, Read, fault, place, number_at, int_at, limited_at, positive_at, at_most_at, byte_at, in_code_at, interval_at, list_at}
 
 -- ---- facts
@@ -51,8 +53,7 @@ code_address_at size code_len rest = do
 unfoldable pub count_at : ℕ → ℤ → List ℕ → Read ℕ
 count_at size base rest = do
   count ← number_at size 4 rest
-  if count.0 == 0 then Err (fault RANGE (place size rest))
-      else (if int_lt greatest_word (pos count.0) || int_lt (pos 2147483648) (base +ℤ pos count.0) then Err (fault RANGE (place size rest)) else Ok count)
+  if is_loop_length base count.0 then Ok count else Err (fault RANGE (place size rest))
 
 unfoldable pub loop_at : ℕ → List ℕ → Read Fact
 loop_at size rest = do
@@ -148,7 +149,12 @@ words_range_at size versions.Two rest = interval_at size rest
 unfoldable pub region_size_at : ℕ → List ℕ → Read ℕ
 region_size_at size rest = do
   bytes ← number_at size 4 rest
-  if nat_lt bytes.0 4 || not (is_multiple_of_four bytes.0) then Err (fault RANGE (place size rest)) else Ok bytes
+  if is_region_size bytes.0 then Ok bytes else Err (fault RANGE (place size rest))
+
+-- the kind of a parameter that names a region
+abbrev pub region_kind : Access → ℕ → ℤ → ℤ → ParameterKind
+region_kind accesses.Read = kinds.ReadRegion
+region_kind accesses.Write = kinds.WrittenRegion
 
 -- a region that is read, or one that is written
 unfoldable pub region_at : ℕ → Version → (ℕ → ℤ → ℤ → ParameterKind) → List ℕ → Read ParameterKind
@@ -161,7 +167,7 @@ region_at size version kind rest = do
 unfoldable pub ends_at : ℕ → List ℕ → Read Ends
 ends_at size rest = do
   bits ← byte_at size rest
-  if (bits.0 == 0) || nat_lt 3 bits.0 then Err (fault RANGE (place size rest)) else Ok (record { 0 = bits.0 }, bits.1)
+  if are_ends bits.0 then Ok (record { 0 = bits.0 }, bits.1) else Err (fault RANGE (place size rest))
 
 -- a number of channels, at least 1
 unfoldable pub channels_at : ℕ → List ℕ → Read ParameterKind
@@ -202,11 +208,16 @@ parameters_at size version hi rest = do
   count ← limited_at size 2 MAX_PARAMETERS rest
   list_at (parameter_at size version hi) behind_parameter count.0 0 count.1
 
--- a signed word from low to high
-unfoldable pub bounded_at : ℕ → ℤ → ℤ → List ℕ → Read ℤ
-bounded_at size low high rest = do
-  word ← int_at size rest
-  if int_lt word.0 low || int_lt high word.0 then Err (fault RANGE (place size rest)) else Ok word
+-- the first word of a frame, and the first word behind it
+unfoldable pub frame_start_at : ℕ → List ℕ → Read ℤ
+frame_start_at size rest = do
+  lo ← int_at size rest
+  if is_frame_start lo.0 then Ok lo else Err (fault RANGE (place size rest))
+
+unfoldable pub frame_end_at : ℕ → List ℕ → Read ℤ
+frame_end_at size rest = do
+  hi ← int_at size rest
+  if is_frame_end hi.0 then Ok hi else Err (fault RANGE (place size rest))
 
 -- an offset in the code that isn't its first, behind `low`
 unfoldable pub rising_at : ℕ → ℕ → ℕ → List ℕ → Read ℕ
@@ -217,8 +228,8 @@ rising_at size code_len low rest = do
 unfoldable pub procedure_row_at : ℕ → Version → ℕ → ℕ → List ℕ → Read Procedure
 procedure_row_at size version code_len low rest = do
   entry ← rising_at size code_len low rest
-  lo ← bounded_at size (negsuc 16383) (pos 0) entry.1
-  hi ← bounded_at size (pos 4) (pos 16384) lo.1
+  lo ← frame_start_at size entry.1
+  hi ← frame_end_at size lo.1
   number ← number_at size 8 hi.1
   parameters ← parameters_at size version hi.0 number.1
   Ok (record { entry = entry.0; lo = lo.0; hi = hi.0; number = number.0; parameters = parameters.0 }, parameters.1)

@@ -10,7 +10,7 @@ use crate::tables::Tables;
 use std::marker::Model;
 
 /// The frame words of a context, from `lo` up to `hi` (not included), and how many parameters it has.
-#[derive(Clone, Copy, Debug)]
+#[derive(Clone, Copy, Debug, PartialEq, Eq)]
 pub struct Context {
     pub lo: i64,
     pub hi: i64,
@@ -67,7 +67,7 @@ fn owner(rows: &[ParRow], first: usize, context: u32) -> u32
     }
 }
 
-/// The root, or the procedure of that row.
+/// The root, or the procedure that is the context of a number.
 fn own_context(tables: &Tables, number: u32) -> Option<Context>
     ensures { result ≡ own_context (contents_of tables.now) number }
 {
@@ -80,7 +80,7 @@ fn own_context(tables: &Tables, number: u32) -> Option<Context>
     }
 }
 
-/// The parameters of the procedure of a row; the root, whose number is 0, has none.
+/// The parameters of the procedure that is the context of a number; the root has none.
 fn own_parameters<'t>(tables: &'t Tables, number: u32) -> &'t [Parameter]
     ensures { result.now ≡ own_parameters (contents_of tables.now) number }
 {
@@ -165,7 +165,7 @@ impl<'t, 'a> Contexts<'t, 'a> {
     fn owner(&self, number: u32) -> Option<u32>
         ensures { result ≡ owner_at self.now number }
     {
-        let first = 1 + self.tables.procedures.len();
+        let first = self.tables.first_branch();
         if number as usize >= first + self.branches() {
             return None;
         }

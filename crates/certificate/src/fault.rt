@@ -2,6 +2,7 @@
 
 ghost use Rattle.std.specs.Prelude.{◌≡◌};
 ghost use Rattle.certificate.specs.declared.fault.ReadError.TheVariants.{Memory, Fault};
+ghost use Rattle.certificate.specs.Reading.{out_of_memory, fault_of};
 
 use std::alloc::{AllocError, AllocFailed};
 
@@ -20,7 +21,14 @@ pub const LIMIT: u8 = 6;
 /// Memory ran out.
 pub const MEMORY: u8 = 7;
 
-/// The first fault of a file, in the order of its fields.
+/// The fault where memory ran out.
+const NO_MEMORY: FormatFault = FormatFault {
+    number: MEMORY,
+    offset: 0,
+};
+
+/// The fault that is told of a file: the first in the order of its fields; but whether what rows name is
+/// there is looked at once all rows are read.
 #[derive(Clone, Copy, Debug, PartialEq, Eq)]
 pub struct FormatFault {
     /// Which of the seven faults, C1 to C7.
@@ -28,6 +36,25 @@ pub struct FormatFault {
     /// Where: the first byte of the field. For `TRUNCATED` it is the file's length, for `LEFT_OVER`
     /// the first byte left over, for `MEMORY` 0.
     pub offset: usize,
+}
+
+impl From<ReadError> for FormatFault {
+    ghost from_gives = { λ e fault. fault ≡ fault_of e };
+
+    fn from(e: ReadError) -> FormatFault {
+        match e {
+            ReadError::Memory => NO_MEMORY,
+            ReadError::Fault(fault) => fault,
+        }
+    }
+}
+
+impl From<AllocError> for FormatFault {
+    ghost from_gives = { λ _ fault. fault ≡ out_of_memory };
+
+    fn from(_e: AllocError) -> FormatFault {
+        NO_MEMORY
+    }
 }
 
 /// What a reader of one field answers in place of the field.

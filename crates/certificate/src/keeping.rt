@@ -96,14 +96,13 @@ fn rows_keep(tables: &Tables) -> bool
     ensures { IsTrue result ↔ RowsKeep (contents_of tables.now) }
 {
     let code_len = tables.code.len();
-    let own = 1 + tables.procedures.len();
     if !procedures_keep(tables.version, code_len, &tables.procedures) {
         return false;
     }
     if !labels_keep(code_len, &tables.procedures, &tables.labels) {
         return false;
     }
-    if !pars_keep(own, code_len, &tables.pars) {
+    if !pars_keep(tables.first_branch(), code_len, &tables.pars) {
         return false;
     }
     tables_keep(tables.constants, &tables.table_rows)

@@ -15,6 +15,7 @@ mod places;
 mod reading;
 mod rights;
 mod rows;
+mod rules;
 mod starts;
 mod tables;
 mod writing;

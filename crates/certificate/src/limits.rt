@@ -1,4 +1,5 @@
-//! The limits of the format. A number above one is the fault `LIMIT`.
+//! The limits of the format. A number above one is the fault `LIMIT`, but for the bounds of a frame, where
+//! it is `RANGE`.
 
 /// Bytes of code in version 1.
 pub const MAX_CODE: u32 = 65_535;
@@ -22,5 +23,11 @@ pub const MAX_LONG_CODE: u32 = 262_143;
 pub const MAX_TABLES: u32 = 1_024;
 /// Parameters of a procedure.
 pub const MAX_PARAMETERS: u16 = 64;
+/// The least word at which a procedure's frame begins.
+pub(crate) const MIN_FRAME_START: i32 = -16_384;
+/// The least word before which a procedure's frame ends.
+pub(crate) const MIN_FRAME_END: i32 = 4;
+/// The greatest word before which a procedure's frame ends.
+pub(crate) const MAX_FRAME_END: i32 = 16_384;
 /// Branches of a PAR.
 pub const MAX_BRANCHES: u16 = 64;

@@ -1,7 +1,7 @@
 //! Modules that were read.
 
 use crate::contexts::{Context, Contexts};
-use crate::fault::{FormatFault, MEMORY, ReadError};
+use crate::fault::FormatFault;
 use crate::index::Index;
 use crate::offsets::row_at;
 use crate::places::number_at;
@@ -10,11 +10,6 @@ use crate::rows::{BranchRow, LabelRow, ParRow, Parameter, ProcedureRow};
 use crate::tables::Tables;
 use std::alloc::Global;
 use std::marker::Model;
-
-const NO_MEMORY: FormatFault = FormatFault {
-    number: MEMORY,
-    offset: 0,
-};
 
 /// What a file says, with the file. A `Module` is made by `read` alone, so that each is one that a file
 /// gave.
@@ -50,7 +45,8 @@ impl<'a> Module<'a> {
     ghost use Rattle.certificate.specs.Reading.{out_of_memory};
     ghost use Rattle.certificate.specs.ReadingFile.{read_contents};
 
-    /// What the bytes say, or the first fault in the order of the fields.
+    /// What the bytes say, or the first fault in the order of the fields; but whether what rows name is there
+    /// is looked at once all rows are read.
     // A body that always answers want of memory meets these clauses too, since no clause can say that
     // memory is left: tests show that files are read.
     pub fn read(alloc: Global, bytes: &'a [u8]) -> Result<Module<'a>, FormatFault>
@@ -64,18 +60,13 @@ impl<'a> Module<'a> {
         ensures exact { MatchResult result (λ m. read_contents bytes.now ≡ Ok m)
             (λ f. (f ≡ out_of_memory) ⊎ (read_contents bytes.now ≡ Err f)) }
     {
-        match tables_of(alloc, bytes) {
-            Ok((tables, places)) => match Index::new(alloc, &tables, places) {
-                Ok(index) => Ok(Module {
-                    bytes,
-                    tables,
-                    index,
-                }),
-                Err(_) => Err(NO_MEMORY),
-            },
-            Err(ReadError::Fault(fault)) => Err(fault),
-            Err(ReadError::Memory) => Err(NO_MEMORY),
-        }
+        let (tables, places) = tables_of(alloc, bytes)?;
+        let index = Index::new(alloc, &tables, places)?;
+        Ok(Module {
+            bytes,
+            tables,
+            index,
+        })
     }
 
     /// What the file says. It keeps the format.
@@ -142,7 +133,14 @@ impl<'a> Module<'a> {
         ensures kept { IfSome result (λ found. GiftsKeep (branch_of found.1.now)
             × InOrder ChannelKeeps behind_channel least_word found.0.now.channels.items) }
     {
-        self.numbered(number as usize)
+        let number = number as usize;
+        let first = self.tables.first_branch();
+        if number < first {
+            return None;
+        }
+        let place = self.index.places.get(number - first)?;
+        let row = &self.tables.pars[usize::from(place.par)];
+        Some((row, &row.branches[usize::from(place.branch)]))
     }
 
     /// The branch that begins at a code offset, with the number of its context and its PAR row, found in
@@ -152,24 +150,7 @@ impl<'a> Module<'a> {
             (λ found. branch_at self.now offset ≡ Some (record { context = found.0; par = par_of found.1.now; branch = branch_of found.2.now })) }
     {
         let number = number_at(&self.index.numbers, offset);
-        let (row, branch) = self.numbered(number as usize)?;
+        let (row, branch) = self.branch(number)?;
         Some((number, row, branch))
-    }
-
-    /// The branch that is the context of a number, which may be above those that rows can name.
-    fn numbered(&self, number: usize) -> Option<(&ParRow, &BranchRow)>
-        ensures found { MatchOption result (numbered_branch self.now number ≡ None)
-            (λ found. numbered_branch self.now number ≡ Some (par_of found.0.now, branch_of found.1.now)) }
-        // What the rows say keeps the format.
-        ensures kept { IfSome result (λ found. GiftsKeep (branch_of found.1.now)
-            × InOrder ChannelKeeps behind_channel least_word found.0.now.channels.items) }
-    {
-        let own = 1 + self.tables.procedures.len();
-        if number < own {
-            return None;
-        }
-        let place = self.index.places.get(number - own)?;
-        let row = &self.tables.pars[usize::from(place.par)];
-        Some((row, &row.branches[usize::from(place.branch)]))
     }
 }

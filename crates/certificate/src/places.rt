@@ -26,12 +26,12 @@ pub(crate) fn owner_of(tables: &Tables, places: &[Place], context: u32) -> u32
     requires places { ArePlaces (contents_of tables.now) (length places.now) places.now }
     ensures { result ≡ owner (first_branch (contents_of tables.now)) (contents_of tables.now).pars context }
 {
-    let own = 1 + tables.procedures.len();
+    let first = tables.first_branch();
     let number = context as usize;
-    if number < own {
+    if number < first {
         return context;
     }
-    places[number - own].owner
+    places[number - first].owner
 }
 
 /// The places of all branches, in the order of their contexts.
@@ -90,13 +90,13 @@ pub(crate) fn numbers_of(
     requires places { ArePlaces (contents_of tables.now) (branch_count (contents_of tables.now).pars) places.now }
     ensures { IfOk result (λ numbers. AreNumbers (contents_of tables.now) numbers.items) }
 {
-    let own = 1 + tables.procedures.len();
+    let first = tables.first_branch();
     let mut numbers = Vec::new(alloc);
     for index in 0..places.len() {
         let place = places[index];
         let row = &tables.pars[usize::from(place.par)];
         let branch = &row.branches[usize::from(place.branch)];
-        note(&mut numbers, branch.entry, (own + index) as u32)?;
+        note(&mut numbers, branch.entry, (first + index) as u32)?;
     }
     Ok(numbers)
 }

@@ -94,7 +94,7 @@ fn lists_end(others: &[EndRow], end: &EndRow) -> bool
     let key = end.key();
     let first = others.partition_point(|other| other.key().is_below(&key));
     match others.get(first) {
-        Some(other) => other.key().is_same(&key),
+        Some(other) => other.key() == key,
         None => false,
     }
 }

@@ -12,7 +12,9 @@ pub struct Ends(u8);
 
 bitflag_items! {
     impl Ends: u8 {
+        /// The ends that receive.
         const IN = 1;
+        /// The ends that send.
         const OUT = 2;
     }
 }
@@ -183,7 +185,6 @@ pub(crate) struct EndKey {
 impl EndKey {
     ghost use Rattle.std.specs.Prelude.{◌≡◌};
     ghost use Rattle.certificate.specs.Pars.{first_key, is_below};
-    ghost use Rattle.certificate.specs.Rights.{is_same_end};
 
     /// Below each end.
     pub const fn first() -> EndKey
@@ -211,16 +212,6 @@ impl EndKey {
             return self.element < other.element;
         }
         self.direction < other.direction
-    }
-
-    /// Whether the other key is the same.
-    pub fn is_same(&self, other: &EndKey) -> bool
-        ensures { result ≡ is_same_end self.now other.now }
-    {
-        self.kind == other.kind
-            && self.number == other.number
-            && self.element == other.element
-            && self.direction == other.direction
     }
 }
 

@@ -1,5 +1,7 @@
 //! What a module file says.
 
+ghost use Rattle.std.specs.Prelude.{◌≡◌, ◌+◌, ◌^◌, ◌<◌, length};
+
 use crate::keeping;
 use crate::rows::{LabelRow, ParRow, ProcedureRow, TableRow};
 
@@ -16,6 +18,7 @@ pub enum Version {
 /// the full range of a word, there are no table rows and no long operations.
 #[derive(Debug, Drop)]
 pub struct Tables<'a> {
+    /// The version of the file.
     pub version: Version,
     /// The code, of which the first byte has offset 0.
     pub code: &'a [u8],
@@ -33,22 +36,43 @@ pub struct Tables<'a> {
     pub lengths: [u32; 8],
     /// Whether the operations on double words are there: the flag of version 2.
     pub has_long_operations: bool,
+    /// The procedures, which rise by their entries.
     pub procedures: Vec<ProcedureRow>,
+    /// What holds at the code's labels, by rising offsets.
     pub labels: Vec<LabelRow>,
+    /// The PARs, which rise by the entries of their first branches.
     pub pars: Vec<ParRow>,
+    /// What is known of the constants, by rising bytes. Version 1 has none.
     pub table_rows: Vec<TableRow>,
 }
 
+/// The first context that is a branch's in a module with these procedures.
+pub(crate) fn first_branch(procedures: &[ProcedureRow]) -> usize
+    ensures value { result ≡ 1 + length procedures.now }
+    ensures small { result < 2 ^ 63 }
+{
+    1 + procedures.len()
+}
+
 impl Tables<'_> {
-    ghost use Rattle.std.specs.Prelude.{◌↔◌, IsTrue};
+    ghost use Rattle.std.specs.Prelude.{◌≡◌, ◌↔◌, IsTrue};
     ghost use Rattle.certificate.specs.Contents.{contents_of};
+    ghost use Rattle.certificate.specs.Contexts.{first_branch};
     ghost use Rattle.certificate.specs.Keeping.{Keeps};
 
     /// Whether the tables keep the rules of the format: exactly those have a file. It takes no memory, and
-    /// time square in the number of branches.
+    /// time square in the number of branches; besides it goes over the PAR rows for each label row and each
+    /// PAR row, to look up its context.
     pub fn keeps(&self) -> bool
         ensures { IsTrue result ↔ Keeps (contents_of self.now) }
     {
         keeping::keeps(self)
+    }
+
+    /// The first context that is a branch's: before it stand the root and the procedures.
+    pub(crate) fn first_branch(&self) -> usize
+        ensures { result ≡ first_branch (contents_of self.now) }
+    {
+        first_branch(&self.procedures)
     }
 }

@@ -7,7 +7,6 @@ ghost use Rattle.certificate.specs.Order.{InOrder, IsInterval, least_word};
 ghost use Rattle.certificate.specs.Starts.{EntriesRise};
 ghost use Rattle.certificate.specs.Facts.{
   IsPointer,
-  IsLoop,
   RegisterKeeps,
   WordKeeps,
   EntryKeeps,
@@ -23,6 +22,7 @@ use crate::keeping::list::{Rule, all_keep};
 use crate::offsets::is_entry;
 use crate::reading::end_of;
 use crate::rows::{Entry, LabelRow, ProcedureRow};
+use crate::rules::{is_loop_length, is_stepped};
 
 /// A pointer's bounds and step.
 fn pointer_keeps(region: u16, lo: i32, hi: i32, step: Step) -> bool
@@ -33,19 +33,8 @@ fn pointer_keeps(region: u16, lo: i32, hi: i32, step: Step) -> bool
     }
     match step {
         Step::Byte => true,
-        Step::Word => lo.unsigned_abs() % 4 == 0 && hi.unsigned_abs() % 4 == 0,
+        Step::Word => is_stepped(lo) && is_stepped(hi),
     }
-}
-
-/// A loop's count and last index.
-fn loop_keeps(base: i32, count: u32, weight: u64) -> bool
-    ensures { IsTrue result ↔ IsLoop base count weight }
-{
-    let _weight = weight;
-    if count == 0 || count > i32::MAX as u32 {
-        return false;
-    }
-    i64::from(base) + i64::from(count) <= 2_147_483_648
 }
 
 /// A fact of a register.
@@ -75,8 +64,8 @@ fn word_keeps(code_len: usize, span: u32, fact: &Fact) -> bool
         Fact::Loop {
             base,
             count,
-            weight,
-        } => span == 2 && loop_keeps(base, count, weight),
+            weight: _weight,
+        } => span == 2 && is_loop_length(base, count),
         Fact::ReturnAddress => span == 1,
         Fact::Number { lo, hi } => lo <= hi,
         Fact::Pointer {

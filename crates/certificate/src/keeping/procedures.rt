@@ -1,6 +1,6 @@
 //! Procedure rows and table rows.
 
-ghost use Rattle.std.specs.Prelude.{◌≡◌, ◌↔◌, ◌≤ℤ◌, IsTrue, ℕ, ℤ, pos, negsuc, List, map, length};
+ghost use Rattle.std.specs.Prelude.{◌≡◌, ◌↔◌, IsTrue, ℕ, ℤ, List, map, length};
 ghost use Rattle.certificate.specs.declared.rows.Parameter.{Parameter};
 ghost use Rattle.certificate.specs.declared.rows.TableRow.{TableRow};
 ghost use Rattle.certificate.specs.declared.tables.Version.{Version};
@@ -23,6 +23,7 @@ use crate::keeping::list::{Rule, all_keep};
 use crate::limits::{MAX_MESSAGE, MAX_PARAMETERS};
 use crate::reading::words_lie_within;
 use crate::rows::{Ends, Parameter, ParameterKind, ProcedureRow, TableRow};
+use crate::rules::{are_ends, is_frame_end, is_frame_start, is_multiple_of_four, is_region_size};
 use crate::tables::Version;
 use bitflags::Flags;
 
@@ -40,10 +41,7 @@ fn range_keeps(version: Version, lo: i32, hi: i32) -> bool
 fn is_region(version: Version, size: u32, lo: i32, hi: i32) -> bool
     ensures { IsTrue result ↔ IsRegion version size lo hi }
 {
-    if size < 4 || size % 4 != 0 {
-        return false;
-    }
-    range_keeps(version, lo, hi)
+    is_region_size(size) && range_keeps(version, lo, hi)
 }
 
 /// Channels, with one of their ends or both.
@@ -56,8 +54,7 @@ fn are_channels(count: u32, length: u32, ends: Ends) -> bool
     if length == 0 || length > MAX_MESSAGE {
         return false;
     }
-    let bits = ends.bits();
-    1 <= bits && bits <= 3
+    are_ends(ends.bits())
 }
 
 /// What a parameter word holds.
@@ -124,13 +121,6 @@ fn parameters_keep(version: Version, hi: i32, parameters: &[Parameter]) -> bool
     )
 }
 
-/// The bounds of a procedure's frame.
-fn frame_keeps(lo: i32, hi: i32) -> bool
-    ensures { IsTrue result ↔ ((negsuc 16383 ≤ℤ lo) × (lo ≤ℤ pos 0) × (pos 4 ≤ℤ hi) × (hi ≤ℤ pos 16384)) }
-{
-    -16_384 <= lo && lo <= 0 && 4 <= hi && hi <= 16_384
-}
-
 /// Procedure rows in so much code, behind a row with its entry at `low`.
 #[derive(Drop)]
 struct ProcedureRule {
@@ -159,7 +149,7 @@ impl Rule for ProcedureRule {
         if row.entry <= self.low || row.entry as usize >= self.code_len {
             return false;
         }
-        if !frame_keeps(row.lo, row.hi) {
+        if !is_frame_start(row.lo) || !is_frame_end(row.hi) {
             return false;
         }
         if row.parameters.len() > usize::from(MAX_PARAMETERS) {
@@ -205,7 +195,10 @@ impl Rule for TableRule<'_> {
 
     fn keeps(&mut self, row: &TableRow) -> bool {
         let (start, end) = (row.start as usize, row.end as usize);
-        if row.start % 4 != 0 || row.end % 4 != 0 || row.start < self.low {
+        if !is_multiple_of_four(row.start)
+            || !is_multiple_of_four(row.end)
+            || row.start < self.low
+        {
             return false;
         }
         if start >= end || end > self.constants.len() || row.lo > row.hi {

@@ -40,7 +40,7 @@ use std::alloc::Global;
 
 /// How many intervals, parameters and ends a branch has.
 #[derive(Clone, Copy, Debug)]
-pub struct Counts {
+pub struct BranchCounts {
     pub writes: u16,
     pub reads: u16,
     pub written_parameters: u16,
@@ -246,7 +246,7 @@ fn ends_at(
 
 /// How many intervals, parameters and ends a branch has.
 #[tactic(auto, unfolding(crate::specs::ReadingPars::branch_counts_at, crate::specs::Reading::and_then))]
-fn branch_counts_at(size: usize, rest: &[u8]) -> Result<(Counts, &[u8]), ReadError>
+fn branch_counts_at(size: usize, rest: &[u8]) -> Result<(BranchCounts, &[u8]), ReadError>
     ensures { Gives (λ x. (x.0, x.1.now)) result (branch_counts_at size rest.now) }
 {
     let (writes, rest) = u16_at(size, rest)?;
@@ -254,7 +254,7 @@ fn branch_counts_at(size: usize, rest: &[u8]) -> Result<(Counts, &[u8]), ReadErr
     let (written_parameters, rest) = u16_at(size, rest)?;
     let (read_parameters, rest) = u16_at(size, rest)?;
     let (ends, rest) = u16_at(size, rest)?;
-    let counts = Counts {
+    let counts = BranchCounts {
         writes,
         reads,
         written_parameters,

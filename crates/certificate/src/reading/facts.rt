@@ -1,9 +1,8 @@
 //! Facts and entries.
 
-ghost use Rattle.std.specs.Prelude.{◌≡◌, ◌||◌, ◌+ℤ◌, ℕ, ℤ, length, pos, int_lt};
+ghost use Rattle.std.specs.Prelude.{◌≡◌, ℕ, ℤ, length};
 ghost use Rattle.certificate.specs.declared.rows.Entry.{Entry};
 ghost use Rattle.certificate.specs.Facts.{end_of, behind_entry};
-ghost use Rattle.certificate.specs.Order.{greatest_word};
 ghost use Rattle.certificate.specs.Reading.{Gives};
 ghost use Rattle.certificate.specs.ReadingRows.{
   range_at,
@@ -29,6 +28,7 @@ use crate::reading::fields::{
 };
 use crate::reading::list::{Reader, list_at};
 use crate::rows::Entry;
+use crate::rules::{is_loop_length, is_stepped};
 use std::alloc::Global;
 
 /// The bounds of a number.
@@ -49,7 +49,7 @@ fn step_at(size: usize, lo: i32, hi: i32, rest: &[u8]) -> Result<(Step, &[u8]), 
     if step == 1 {
         return Ok((Step::Byte, behind));
     }
-    if step == 4 && lo.unsigned_abs() % 4 == 0 && hi.unsigned_abs() % 4 == 0 {
+    if step == 4 && is_stepped(lo) && is_stepped(hi) {
         return Ok((Step::Word, behind));
     }
     Err(fault(RANGE, place(size, rest)))
@@ -81,23 +81,13 @@ fn code_address_at(size: usize, code_len: u32, rest: &[u8]) -> Result<(Fact, &[u
     Ok((Fact::CodeAddress { offset }, behind))
 }
 
-/// Whether the last index of a loop is a word, and the count one too.
-fn is_too_long(base: i32, count: u32) -> bool
-    ensures { result ≡ (int_lt greatest_word (pos count) || int_lt (pos 2147483648) (base +ℤ pos count)) }
-{
-    count > i32::MAX as u32 || i64::from(base) + i64::from(count) > 2_147_483_648
-}
-
 /// How often a loop turns.
 #[tactic(auto, unfolding(crate::specs::ReadingRows::count_at, crate::specs::Reading::and_then))]
 fn count_at(size: usize, base: i32, rest: &[u8]) -> Result<(u32, &[u8]), ReadError>
     ensures { Gives (λ x. (x.0, x.1.now)) result (count_at size base rest.now) }
 {
     let (count, behind) = u32_at(size, rest)?;
-    if count == 0 {
-        return Err(fault(RANGE, place(size, rest)));
-    }
-    if is_too_long(base, count) {
+    if !is_loop_length(base, count) {
         return Err(fault(RANGE, place(size, rest)));
     }
     Ok((count, behind))

@@ -152,10 +152,7 @@ pub fn in_code_at(size: usize, code_len: u32, rest: &[u8]) -> Result<(u32, &[u8]
     ensures { Gives (λ x. (x.0, x.1.now)) result (in_code_at size code_len rest.now) }
 {
     let (offset, behind) = u32_at(size, rest)?;
-    if offset == 0 {
-        return Err(fault(RANGE, place(size, rest)));
-    }
-    if offset >= code_len {
+    if offset == 0 || offset >= code_len {
         return Err(fault(RANGE, place(size, rest)));
     }
     Ok((offset, behind))

@@ -17,7 +17,7 @@ use crate::reading::late::late_rows;
 use crate::reading::pars::par_rows_at;
 use crate::reading::procedures::procedure_rows_at;
 use crate::reading::table_rows::table_rows_at;
-use crate::tables::Tables;
+use crate::tables::{Tables, first_branch};
 use std::alloc::Global;
 
 /// The code, the constants and the rows, with the offset of the label rows.
@@ -47,7 +47,7 @@ fn tables_at<'a>(
         rest,
     )?;
     let (labels, rest) = label_rows_at(alloc, size, code_len, &procedures, counts.labels, rows)?;
-    let own = 1 + procedures.len();
+    let own = first_branch(&procedures);
     let (pars, rest) = par_rows_at(alloc, size, own, code_len, counts.pars, rest)?;
     let (table_rows, rest) = table_rows_at(alloc, size, constants, counts.table_rows, rest)?;
     let tables = Tables {

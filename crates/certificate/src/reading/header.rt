@@ -102,7 +102,7 @@ fn lengths_at(size: usize, rest: &[u8]) -> Result<([u32; 8], &[u8]), ReadError>
 
 /// The numbers of rows, and the flag of version 2.
 #[derive(Clone, Copy, Debug)]
-pub struct Counts {
+pub struct RowCounts {
     pub procedures: u32,
     pub labels: u32,
     pub pars: u32,
@@ -139,14 +139,14 @@ fn extension_at(
 }
 
 #[tactic(auto, unfolding(crate::specs::ReadingFile::counts_at, crate::specs::Reading::and_then))]
-fn counts_at(size: usize, version: Version, rest: &[u8]) -> Result<(Counts, &[u8]), ReadError>
+fn counts_at(size: usize, version: Version, rest: &[u8]) -> Result<(RowCounts, &[u8]), ReadError>
     ensures { Gives (λ x. (x.0, x.1.now)) result (counts_at size version rest.now) }
 {
     let (procedures, rest) = limited_at(size, MAX_PROCEDURES, rest)?;
     let (labels, rest) = limited_at(size, MAX_LABELS, rest)?;
     let (pars, rest) = limited_at(size, MAX_PARS, rest)?;
     let ((has_long_operations, table_rows), rest) = extension_at(size, version, rest)?;
-    let counts = Counts {
+    let counts = RowCounts {
         procedures,
         labels,
         pars,
@@ -162,7 +162,7 @@ pub struct Header {
     pub version: Version,
     pub sizes: Sizes,
     pub lengths: [u32; 8],
-    pub counts: Counts,
+    pub counts: RowCounts,
 }
 
 #[tactic(auto, unfolding(crate::specs::ReadingFile::header_at, crate::specs::Reading::and_then))]

@@ -86,10 +86,7 @@ fn late_fact(parameters: usize, at: usize, fact: &Fact) -> Result<(), FormatFaul
     match fact {
         Fact::Pointer { region, .. } => {
             let region = usize::from(*region);
-            if region < 2 {
-                return Ok(());
-            }
-            if region - 2 < parameters {
+            if region < 2 || region - 2 < parameters {
                 return Ok(());
             }
             Err(not_there(at + 1))
@@ -109,10 +106,7 @@ impl Late<Context> for Entry {
 
     #[tactic(auto, using(crate::proofs::Sizes::entry_size), unfolding(crate::specs::Late::late_entry))]
     fn late(&self, context: &Context, at: usize) -> Result<usize, FormatFault> {
-        if i64::from(self.word) < context.lo {
-            return Err(not_there(at));
-        }
-        if end_of(self) > context.hi {
+        if i64::from(self.word) < context.lo || end_of(self) > context.hi {
             return Err(not_there(at));
         }
         late_fact(context.parameters, at + 8, &self.fact)?;

@@ -15,9 +15,9 @@ use crate::rows::{BranchRow, EndKind, EndRow, ParRow, Parameter, ParameterKind};
 
 /// The parameters of a context.
 #[derive(Clone, Copy)]
-pub(crate) struct Parameters<'a>(&'a [Parameter]);
+pub(crate) struct ContextParameters<'a>(&'a [Parameter]);
 
-impl Parameters<'_> {
+impl ContextParameters<'_> {
     /// Whether the parameter of a number is a region.
     fn has_region(&self, number: u16) -> bool
         ensures { result ≡ names is_region self.now.0.now number }
@@ -51,7 +51,7 @@ impl Parameters<'_> {
     }
 }
 
-impl<'p> Late<Parameters<'p>> for u16 {
+impl<'p> Late<ContextParameters<'p>> for u16 {
     ghost Value = { ℕ };
 
     ghost view = { λ n. n };
@@ -61,7 +61,7 @@ impl<'p> Late<Parameters<'p>> for u16 {
     ghost looked = { λ parameters. late_parameter parameters.0.now };
 
     #[tactic(auto, unfolding(crate::specs::Late::late_parameter, crate::specs::Spelling::u16_bytes))]
-    fn late(&self, parameters: &Parameters<'p>, at: usize) -> Result<usize, FormatFault> {
+    fn late(&self, parameters: &ContextParameters<'p>, at: usize) -> Result<usize, FormatFault> {
         if !parameters.has_region(*self) {
             return Err(not_there(at));
         }
@@ -69,7 +69,7 @@ impl<'p> Late<Parameters<'p>> for u16 {
     }
 }
 
-impl<'p> Late<Parameters<'p>> for EndRow {
+impl<'p> Late<ContextParameters<'p>> for EndRow {
     ghost Value = { EndRow };
 
     ghost view = { λ e. e };
@@ -79,7 +79,7 @@ impl<'p> Late<Parameters<'p>> for EndRow {
     ghost looked = { λ parameters. late_end parameters.0.now };
 
     #[tactic(auto, using(crate::proofs::Sizes::end_size), unfolding(crate::specs::Late::late_end))]
-    fn late(&self, parameters: &Parameters<'p>, at: usize) -> Result<usize, FormatFault> {
+    fn late(&self, parameters: &ContextParameters<'p>, at: usize) -> Result<usize, FormatFault> {
         if !parameters.has_end(self.kind) {
             return Err(not_there(at + 1));
         }
@@ -87,7 +87,7 @@ impl<'p> Late<Parameters<'p>> for EndRow {
     }
 }
 
-impl<'p> Late<Parameters<'p>> for BranchRow {
+impl<'p> Late<ContextParameters<'p>> for BranchRow {
     ghost Value = { Branch };
 
     ghost view = { branch_of };
@@ -97,7 +97,7 @@ impl<'p> Late<Parameters<'p>> for BranchRow {
     ghost looked = { λ parameters. late_branch parameters.0.now };
 
     #[tactic(auto, using(crate::proofs::Sizes::branch_size), unfolding(crate::specs::Late::late_branch, crate::specs::Reading::and_then))]
-    fn late(&self, parameters: &Parameters<'p>, at: usize) -> Result<usize, FormatFault> {
+    fn late(&self, parameters: &ContextParameters<'p>, at: usize) -> Result<usize, FormatFault> {
         let written = at + 18 + 8 * self.writes.len() + 8 * self.reads.len();
         let read = late_list(parameters, written, &self.written_parameters)?;
         let ends = late_list(parameters, read, &self.read_parameters)?;
@@ -116,7 +116,7 @@ impl Late<Contexts<'_, '_>> for ParRow {
 
     #[tactic(auto, using(crate::proofs::Sizes::par_size), unfolding(crate::specs::Late::late_par))]
     fn late(&self, contexts: &Contexts<'_, '_>, at: usize) -> Result<usize, FormatFault> {
-        let parameters = Parameters(contexts.parameters(u32::from(self.context)));
+        let parameters = ContextParameters(contexts.parameters(u32::from(self.context)));
         let branches = at + 18 + 8 * self.channels.len();
         late_list(&parameters, branches, &self.branches)
     }

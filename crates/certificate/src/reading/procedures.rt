@@ -4,13 +4,13 @@ ghost use Rattle.std.specs.Prelude.{◌≡◌, ℕ, ℤ, length, map, IfOk};
 ghost use Rattle.certificate.specs.Contents.{Procedure, procedure_of};
 ghost use Rattle.certificate.specs.declared.rows.Parameter.{Parameter};
 ghost use Rattle.certificate.specs.declared.tables.Version.{Version};
-ghost use Rattle.certificate.specs.declared.rows.ParameterKind.TheVariants as kinds;
 ghost use Rattle.certificate.specs.Procedures.{behind_parameter, behind_procedure};
 ghost use Rattle.certificate.specs.Starts.{EntriesRise};
 ghost use Rattle.certificate.specs.Reading.{Gives};
 ghost use Rattle.certificate.specs.ReadingRows.{
   words_range_at,
   region_size_at,
+  region_kind,
   region_at,
   ends_at,
   channels_at,
@@ -19,7 +19,8 @@ ghost use Rattle.certificate.specs.ReadingRows.{
   parameter_word_at,
   parameter_at,
   parameters_at,
-  bounded_at,
+  frame_start_at,
+  frame_end_at,
   rising_at,
   procedure_row_at,
   procedure_rows_at,
@@ -34,6 +35,7 @@ use crate::reading::fields::{
 };
 use crate::reading::list::{Reader, list_at};
 use crate::rows::{Ends, Parameter, ParameterKind, ProcedureRow};
+use crate::rules::{are_ends, is_frame_end, is_frame_start, is_region_size};
 use crate::tables::Version;
 use bitflags::Flags;
 use std::alloc::Global;
@@ -59,48 +61,44 @@ fn region_size_at(size: usize, rest: &[u8]) -> Result<(u32, &[u8]), ReadError>
     ensures { Gives (λ x. (x.0, x.1.now)) result (region_size_at size rest.now) }
 {
     let (bytes, behind) = u32_at(size, rest)?;
-    if bytes < 4 || bytes % 4 != 0 {
+    if !is_region_size(bytes) {
         return Err(fault(RANGE, place(size, rest)));
     }
     Ok((bytes, behind))
 }
 
-/// A region that is read.
-#[tactic(auto, unfolding(crate::specs::ReadingRows::region_at, crate::specs::Reading::and_then))]
-fn read_region_at(
-    size: usize,
-    version: Version,
-    rest: &[u8],
-) -> Result<(ParameterKind, &[u8]), ReadError>
-    ensures { Gives (λ x. (x.0, x.1.now)) result (region_at size version kinds.ReadRegion rest.now) }
-{
-    let (bytes, rest) = region_size_at(size, rest)?;
-    let ((lo, hi), rest) = words_range_at(size, version, rest)?;
-    let kind = ParameterKind::ReadRegion {
-        size: bytes,
-        lo,
-        hi,
-    };
-    Ok((kind, rest))
+/// What a procedure may do with the bytes of a region.
+#[derive(Clone, Copy, Debug)]
+pub(crate) enum Access {
+    Read,
+    Write,
 }
 
-/// A region that is written.
+impl Access {
+    /// The kind of a parameter that names a region of so many bytes, each word of them from `lo` to `hi`.
+    fn region_kind(self, size: u32, lo: i32, hi: i32) -> ParameterKind
+        ensures { result ≡ region_kind self size lo hi }
+    {
+        match self {
+            Access::Read => ParameterKind::ReadRegion { size, lo, hi },
+            Access::Write => ParameterKind::WrittenRegion { size, lo, hi },
+        }
+    }
+}
+
+/// A region: its bytes and the range of its words.
 #[tactic(auto, unfolding(crate::specs::ReadingRows::region_at, crate::specs::Reading::and_then))]
-fn written_region_at(
+fn region_at(
     size: usize,
     version: Version,
+    access: Access,
     rest: &[u8],
 ) -> Result<(ParameterKind, &[u8]), ReadError>
-    ensures { Gives (λ x. (x.0, x.1.now)) result (region_at size version kinds.WrittenRegion rest.now) }
+    ensures { Gives (λ x. (x.0, x.1.now)) result (region_at size version (region_kind access) rest.now) }
 {
     let (bytes, rest) = region_size_at(size, rest)?;
     let ((lo, hi), rest) = words_range_at(size, version, rest)?;
-    let kind = ParameterKind::WrittenRegion {
-        size: bytes,
-        lo,
-        hi,
-    };
-    Ok((kind, rest))
+    Ok((access.region_kind(bytes, lo, hi), rest))
 }
 
 /// One end of channels or both.
@@ -109,7 +107,7 @@ fn ends_at(size: usize, rest: &[u8]) -> Result<(Ends, &[u8]), ReadError>
     ensures { Gives (λ x. (x.0, x.1.now)) result (ends_at size rest.now) }
 {
     let (bits, behind) = byte_at(size, rest)?;
-    if bits == 0 || bits > 3 {
+    if !are_ends(bits) {
         return Err(fault(RANGE, place(size, rest)));
     }
     Ok((Ends::from_bits_retain(bits), behind))
@@ -148,8 +146,8 @@ fn kind_at(size: usize, version: Version, rest: &[u8]) -> Result<(ParameterKind,
     match rest {
         [] => Err(fault(TRUNCATED, size)),
         [0, behind @ ..] => value_at(size, behind),
-        [1, behind @ ..] => read_region_at(size, version, behind),
-        [2, behind @ ..] => written_region_at(size, version, behind),
+        [1, behind @ ..] => region_at(size, version, Access::Read, behind),
+        [2, behind @ ..] => region_at(size, version, Access::Write, behind),
         [3, behind @ ..] => channels_at(size, behind),
         [_, ..] => Err(fault(RANGE, place(size, rest))),
     }
@@ -224,16 +222,28 @@ fn parameters_at(
     list_at(&mut parameters, u32::from(count), Vec::new(alloc), rest)
 }
 
-/// A word from `low` to `high`.
-#[tactic(auto, unfolding(crate::specs::ReadingRows::bounded_at, crate::specs::Reading::and_then))]
-fn bounded_at(size: usize, low: i32, high: i32, rest: &[u8]) -> Result<(i32, &[u8]), ReadError>
-    ensures { Gives (λ x. (x.0, x.1.now)) result (bounded_at size low high rest.now) }
+/// The first word of a frame.
+#[tactic(auto, unfolding(crate::specs::ReadingRows::frame_start_at, crate::specs::Reading::and_then))]
+fn frame_start_at(size: usize, rest: &[u8]) -> Result<(i32, &[u8]), ReadError>
+    ensures { Gives (λ x. (x.0, x.1.now)) result (frame_start_at size rest.now) }
 {
-    let (word, behind) = i32_at(size, rest)?;
-    if word < low || word > high {
+    let (lo, behind) = i32_at(size, rest)?;
+    if !is_frame_start(lo) {
         return Err(fault(RANGE, place(size, rest)));
     }
-    Ok((word, behind))
+    Ok((lo, behind))
+}
+
+/// The first word behind a frame.
+#[tactic(auto, unfolding(crate::specs::ReadingRows::frame_end_at, crate::specs::Reading::and_then))]
+fn frame_end_at(size: usize, rest: &[u8]) -> Result<(i32, &[u8]), ReadError>
+    ensures { Gives (λ x. (x.0, x.1.now)) result (frame_end_at size rest.now) }
+{
+    let (hi, behind) = i32_at(size, rest)?;
+    if !is_frame_end(hi) {
+        return Err(fault(RANGE, place(size, rest)));
+    }
+    Ok((hi, behind))
 }
 
 /// An offset in the code behind `low`.
@@ -276,8 +286,8 @@ impl Reader for Procedures {
     #[tactic(auto, unfolding(crate::specs::ReadingRows::procedure_row_at, crate::specs::Reading::and_then))]
     fn read<'a>(&mut self, rest: &'a [u8]) -> Result<(ProcedureRow, &'a [u8]), ReadError> {
         let (entry, rest) = rising_at(self.size, self.code_len, self.low, rest)?;
-        let (lo, rest) = bounded_at(self.size, -16_384, 0, rest)?;
-        let (hi, rest) = bounded_at(self.size, 4, 16_384, rest)?;
+        let (lo, rest) = frame_start_at(self.size, rest)?;
+        let (hi, rest) = frame_end_at(self.size, rest)?;
         let (number, rest) = u64_at(self.size, rest)?;
         let (parameters, rest) = parameters_at(self.alloc, self.size, self.version, hi, rest)?;
         self.low = entry;

@@ -11,6 +11,7 @@ use crate::fault::{ORDER, RANGE, ReadError};
 use crate::reading::fields::{fault, interval_at, place, u32_at};
 use crate::reading::list::{Reader, list_at};
 use crate::rows::TableRow;
+use crate::rules::is_multiple_of_four;
 use byteorder::{ByteOrder, LittleEndian};
 use std::alloc::Global;
 
@@ -20,7 +21,7 @@ fn table_start_at(size: usize, low: u32, rest: &[u8]) -> Result<(u32, &[u8]), Re
     ensures { Gives (λ x. (x.0, x.1.now)) result (table_start_at size low rest.now) }
 {
     let (start, behind) = u32_at(size, rest)?;
-    if start % 4 != 0 {
+    if !is_multiple_of_four(start) {
         return Err(fault(RANGE, place(size, rest)));
     }
     if start < low {
@@ -41,7 +42,7 @@ fn table_end_at(
     ensures inside { IfOk result (λ x. (start < x.0) × (x.0 ≤ const_len)) }
 {
     let (end, behind) = u32_at(size, rest)?;
-    if end % 4 == 0 && start < end && end as usize <= const_len {
+    if is_multiple_of_four(end) && start < end && end as usize <= const_len {
         return Ok((end, behind));
     }
     Err(fault(RANGE, place(size, rest)))
@@ -55,10 +56,7 @@ pub fn words_lie_within(bytes: &[u8], lo: i32, hi: i32) -> bool
     let mut rest = bytes;
     while rest.len() >= 4 {
         let word = LittleEndian::read_i32(rest);
-        if word < lo {
-            return false;
-        }
-        if word > hi {
+        if word < lo || word > hi {
             return false;
         }
         rest = &rest[4..];
@@ -68,13 +66,13 @@ pub fn words_lie_within(bytes: &[u8], lo: i32, hi: i32) -> bool
 
 /// Table rows over constants, behind a table that ends at `low`.
 #[derive(Drop)]
-struct Tables<'c> {
+struct TableRows<'c> {
     size: usize,
     constants: &'c [u8],
     low: u32,
 }
 
-impl Reader for Tables<'_> {
+impl Reader for TableRows<'_> {
     type Item = TableRow;
 
     ghost State = { ℕ × List ℕ × ℕ };
@@ -113,7 +111,7 @@ pub fn table_rows_at<'a>(
 ) -> Result<(Vec<TableRow>, &'a [u8]), ReadError>
     ensures { Gives (λ x. (x.0.items, x.1.now)) result (table_rows_at size constants.now count bytes.now) }
 {
-    let mut tables = Tables {
+    let mut tables = TableRows {
         size,
         constants,
         low: 0,

@@ -1,7 +1,7 @@
-use Rattle.std.proofs.Common.{◌≡◌, ◌+◌, ◌<◌, length, get_or, ◌∙◌, rules, arith}
-use Rattle.std.proofs.lemmas.List.{length-map, get_or_default}
+use Rattle.std.proofs.Common.{◌≡◌, ◌<◌, length, get_or, ◌∙◌, rules, arith}
+use Rattle.std.proofs.lemmas.List.{get_or_default}
 use Rattle.certificate.specs.declared.places.Place.{Place}
-use Rattle.certificate.specs.Contents.{contents_of, procedure_of, par_of, branch_of}
+use Rattle.certificate.specs.Contents.{contents_of, par_of, branch_of}
 use Rattle.certificate.specs.Contexts.{first_branch}
 use Rattle.certificate.specs.Branches.{branches_of}
 use Rattle.certificate.proofs.PlaceLaws.{contexts_fit, par_inside, branch_inside, place_stands, numbers_more, numbers_all}
@@ -10,10 +10,10 @@ use Rattle.certificate.proofs.places.numbers_of.Goals as goal
 nowhere : Place
 nowhere = record { par = 0; branch = 0; owner = 0 }
 
-pub overflow_cast-own : goal.overflow_cast-own
-overflow_cast-own c =
+pub overflow_cast-first : goal.overflow_cast-first
+overflow_cast-first c =
     let t = c.args.tables.now in
-    let first : 1 + c.len-own.result ≡ first_branch (contents_of t) = let long = length-map t.procedures.items procedure_of in search (rules, long) in
+    let first = c.first_branch-first.ensures in
     let fit = contexts_fit (contents_of t) c.requires.keeps in
     let many = c.requires.places.many in
     let inside : c.loop-index.index < length c.args.places.now = search rules in
@@ -48,7 +48,7 @@ loop-index-preserved c = λ at.
     let place = get_or places i nowhere in
     let is : place ≡ get_or places i place = get_or_default places i nowhere place c.loop-index-test.true in
     let stands = place_stands t places i place c.requires.places c.loop-index-test.true is c.index-row.result.now (rw c.from.ensures at c.index-row.ensures) c.index-branch.result.now (rw c.from-in-loop-index.ensures at c.index-branch.ensures) in
-    let first : 1 + c.len-own.result ≡ first_branch (contents_of t) = let long = length-map t.procedures.items procedure_of in search (rules, long) in
+    let first = c.first_branch-first.ensures in
     numbers_more (first_branch (contents_of t)) (branches_of (contents_of t).pars) i (par_of c.index-row.result.now, branch_of c.index-branch.result.now) at _ _ (omega arith) stands (c.loop-index.invariant at) (rw first at (c.in_ok-note.ensures at))
 
 pub returns : goal.returns

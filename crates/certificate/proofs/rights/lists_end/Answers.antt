@@ -1,4 +1,4 @@
-use Rattle.std.proofs.Common.{◌≡◌, ◌<◌, ◌≤◌, length, get_or, sym, subst, rules, arith, pos}
+use Rattle.std.proofs.Common.{◌≡◌, ◌∙◌, ◌<◌, ◌≤◌, length, get_or, sym, subst, rules, pos}
 use Rattle.std.specs.List.{list_any}
 use Rattle.std.proofs.lemmas.Bool.{ltb-true, ltb-false}
 use Rattle.std.proofs.lemmas.List.Sorted.{IsPartitionPoint-from_clause}
@@ -7,7 +7,7 @@ use Rattle.certificate.specs.declared.rows.EndKind.TheVariants as ends
 use Rattle.certificate.specs.declared.rows.EndRow.{EndRow}
 use Rattle.certificate.specs.Pars.{first_key, is_below, key_of}
 use Rattle.certificate.specs.Rights.{is_same_end}
-use Rattle.certificate.proofs.EndOrder.{parted, none_listed, one_tells}
+use Rattle.certificate.proofs.EndOrder.{same_key, parted, none_listed, one_tells}
 use Rattle.certificate.proofs.rights.lists_end.Goals as goal
 
 pub returns-in-Some : goal.returns-in-Some
@@ -21,7 +21,7 @@ returns-in-Some c =
     let here : get_or es n d ≡ d = sym c.in-Some.ensures.lookup.1 in
     let told : is_same_end (key_of d) key ≡ list_any (λ other. is_same_end (key_of other) key) es =
     subst (λ (e : EndRow). is_same_end (key_of e) key ≡ list_any (λ other. is_same_end (key_of other) key) es) here (one_tells key first_key es n c.requires point d inside) in
-    rw (c.is_same.ensures, c.key.ensures, c.key-key.ensures) told
+    rw (c.eq.ensures, c.key.ensures, c.key-key.ensures) (same_key (key_of d) key ∙ told)
 
 none : EndRow
 none = record { kind = ends.FrameWord (pos 0); direction = directions.In }

@@ -1,24 +1,30 @@
-use Rattle.std.proofs.Common.{arith}
-use Rattle.certificate.specs.Contents.{contents_of}
+use Rattle.std.proofs.Common.{◌≡◌, arith, rules}
+use Rattle.certificate.specs.Contents.{Contents, contents_of}
+use Rattle.certificate.specs.Keeping.{Format}
+use Rattle.certificate.specs.Reading.{fault_of, out_of_memory}
 use Rattle.certificate.proofs.Tools.{has_at}
-use Rattle.certificate.proofs.FileLaws.{read_finds, one_contents, not_refused}
+use Rattle.certificate.proofs.FileLaws.{read_finds, one_contents, only_memory}
 use Rattle.certificate.proofs.modules.Module.read.Goals as goal
 
 pub invariant_of-result : goal.invariant_of-result
-invariant_of-result c = (has_at _ _ (read_finds c.args.bytes.now (λ i. omega (arith, c.type_inv.bytes i))) c.in-Ok.ensures.gives, c.in-Ok-new.ensures)
+invariant_of-result c = (has_at _ _ (read_finds c.args.bytes.now (λ i. omega (arith, c.type_inv.bytes i))) c.in_ok-tables.ensures.gives, c.in_ok-index.ensures)
 
-pub returns-in-Ok-new-clause-found : goal.returns-in-Ok-new-clause-found
-returns-in-Ok-new-clause-found c = has_at _ _ (read_finds c.args.bytes.now (λ i. omega (arith, c.type_inv.bytes i))) c.in-Ok.ensures.gives
+pub returns-clause-found : goal.returns-clause-found
+returns-clause-found c = has_at _ _ (read_finds c.args.bytes.now (λ i. omega (arith, c.type_inv.bytes i))) c.in_ok-tables.ensures.gives
 
-pub returns-in-Ok-new-clause-only : goal.returns-in-Ok-new-clause-only
-returns-in-Ok-new-clause-only c = λ d f.
-    one_contents c.args.bytes.now (contents_of c.in-Ok.tables) d (has_at _ _ (read_finds c.args.bytes.now (λ i. omega (arith, c.type_inv.bytes i))) c.in-Ok.ensures.gives) f
+pub returns-clause-only : goal.returns-clause-only
+returns-clause-only c = λ d f.
+    one_contents c.args.bytes.now (contents_of c.in_ok-tables.tables) d (has_at _ _ (read_finds c.args.bytes.now (λ i. omega (arith, c.type_inv.bytes i))) c.in_ok-tables.ensures.gives) f
 
-pub returns-in-Err-Fault-clause-only : goal.returns-in-Err-Fault-clause-only
-returns-in-Err-Fault-clause-only c = λ d f. absurd (not_refused c.args.bytes.now d c.in-Err-Fault.fault f (rw c.in-Err-Fault.field-0-is at c.in-Err-Fault.ensures.gives))
+pub returns-in_err-tables-clause-only : goal.returns-in_err-tables-clause-only
+returns-in_err-tables-clause-only c = λ d f.
+    let told = only_memory c.args.bytes.now d c.in_err-tables.field-0.0 f c.in_err-tables.ensures.gives in
+    search (rules, told)
 
-pub returns-in-Err-Fault-clause-refused : goal.returns-in-Err-Fault-clause-refused
-returns-in-Err-Fault-clause-refused c = λ _ d f. not_refused c.args.bytes.now d c.in-Err-Fault.fault f (rw c.in-Err-Fault.field-0-is at c.in-Err-Fault.ensures.gives)
+pub returns-in_err-tables-clause-refused : goal.returns-in_err-tables-clause-refused
+returns-in_err-tables-clause-refused c =
+    let told : (d : Contents) → Format c.args.bytes.now d → fault_of c.in_err-tables.field-0.0 ≡ out_of_memory = λ d f. only_memory c.args.bytes.now d c.in_err-tables.field-0.0 f c.in_err-tables.ensures.gives in
+    search (rules, told)
 
 pub new-requires-clause-keeps : goal.new-requires-clause-keeps
-new-requires-clause-keeps c = (has_at _ _ (read_finds c.args.bytes.now (λ i. omega (arith, c.type_inv.bytes i))) c.in-Ok.ensures.gives).keeps
+new-requires-clause-keeps c = (has_at _ _ (read_finds c.args.bytes.now (λ i. omega (arith, c.type_inv.bytes i))) c.in_ok-tables.ensures.gives).keeps

@@ -1,19 +1,18 @@
-use Rattle.std.proofs.Common.{◌≡◌, ◌∙◌, ◌+◌, ◌-◌, ◌<◌, ◌≤◌, length, get_or, sym, ap, rules}
+use Rattle.std.proofs.Common.{◌≡◌, ◌∙◌, ◌-◌, ◌<◌, ◌≤◌, length, get_or, sym, ap, rules}
 use Rattle.std.proofs.lemmas.Bool.{ltb-true, ltb-false}
-use Rattle.std.proofs.lemmas.List.{length-map}
-use Rattle.certificate.specs.Contents.{contents_of, procedure_of, par_of, branch_of}
+use Rattle.certificate.specs.Contents.{contents_of, par_of, branch_of}
 use Rattle.certificate.specs.Contexts.{first_branch}
 use Rattle.certificate.specs.Branches.{numbered_branch}
 use Rattle.certificate.proofs.PlaceLaws.{branch_missing, par_inside, branch_inside, place_stands, branch_found}
 use Rattle.certificate.proofs.RightLaws.{found_kept}
-use Rattle.certificate.proofs.modules.Module.numbered.Goals as goal
+use Rattle.certificate.proofs.modules.Module.branch.Goals as goal
 
 pub returns-in_err-place-clause-found : goal.returns-in_err-place-clause-found
 returns-in_err-place-clause-found c =
     let t = c.self.inside.tables in
     let n = c.args.number in
-    let first : 1 + c.len-own.result ≡ first_branch (contents_of t) = let long = length-map t.procedures.items procedure_of in search (rules, long) in
-    let ge : first_branch (contents_of t) ≤ n = rw first at c.if-number-own.false in
+    let first = c.first_branch-first.ensures in
+    let ge : first_branch (contents_of t) ≤ n = rw first at c.if-number-first.false in
     let past : length c.self.inside.index.places.items ≤ n - first_branch (contents_of t) = rw (c.deref.ensures.value, first) at (ltb-false _ _ (sym c.in_err-place.ensures.lookup.0)) in
     rw c.from_residual.ensures (ap (λ m. numbered_branch m n) (sym c.self.view_is) ∙ branch_missing (contents_of t) c.self.inside.index.places.items n c.self.invariant.1.places ge past)
 
@@ -21,7 +20,7 @@ pub index-row-requires : goal.index-row-requires
 index-row-requires c =
     let t = c.self.inside.tables in
     let n = c.args.number in
-    let first : 1 + c.len-own.result ≡ first_branch (contents_of t) = let long = length-map t.procedures.items procedure_of in search (rules, long) in
+    let first = c.first_branch-first.ensures in
     let lt : n - first_branch (contents_of t) < length c.self.inside.index.places.items = rw (c.deref.ensures.value, first) at (ltb-true _ _ (sym c.in_ok-place.ensures.lookup.0)) in
     let is : c.in_ok-place.place.now ≡ get_or c.self.inside.index.places.items (n - first_branch (contents_of t)) c.in_ok-place.place.now = rw (c.deref.ensures.value, first) at c.in_ok-place.ensures.lookup.1 in
     let inside = par_inside t c.self.inside.index.places.items (n - first_branch (contents_of t)) c.in_ok-place.place.now c.self.invariant.1.places lt is in
@@ -31,7 +30,7 @@ pub index-requires : goal.index-requires
 index-requires c =
     let t = c.self.inside.tables in
     let n = c.args.number in
-    let first : 1 + c.len-own.result ≡ first_branch (contents_of t) = let long = length-map t.procedures.items procedure_of in search (rules, long) in
+    let first = c.first_branch-first.ensures in
     let lt : n - first_branch (contents_of t) < length c.self.inside.index.places.items = rw (c.deref.ensures.value, first) at (ltb-true _ _ (sym c.in_ok-place.ensures.lookup.0)) in
     let is : c.in_ok-place.place.now ≡ get_or c.self.inside.index.places.items (n - first_branch (contents_of t)) c.in_ok-place.place.now = rw (c.deref.ensures.value, first) at c.in_ok-place.ensures.lookup.1 in
     let inside = branch_inside t c.self.inside.index.places.items (n - first_branch (contents_of t)) c.in_ok-place.place.now c.self.invariant.1.places lt is c.index-row.result.now (rw c.from.ensures at c.index-row.ensures) in
@@ -41,8 +40,8 @@ pub returns-clause-found : goal.returns-clause-found
 returns-clause-found c =
     let t = c.self.inside.tables in
     let n = c.args.number in
-    let first : 1 + c.len-own.result ≡ first_branch (contents_of t) = let long = length-map t.procedures.items procedure_of in search (rules, long) in
-    let ge : first_branch (contents_of t) ≤ n = rw first at c.if-number-own.false in
+    let first = c.first_branch-first.ensures in
+    let ge : first_branch (contents_of t) ≤ n = rw first at c.if-number-first.false in
     let lt : n - first_branch (contents_of t) < length c.self.inside.index.places.items = rw (c.deref.ensures.value, first) at (ltb-true _ _ (sym c.in_ok-place.ensures.lookup.0)) in
     let is : c.in_ok-place.place.now ≡ get_or c.self.inside.index.places.items (n - first_branch (contents_of t)) c.in_ok-place.place.now = rw (c.deref.ensures.value, first) at c.in_ok-place.ensures.lookup.1 in
     ap (λ m. numbered_branch m n) (sym c.self.view_is)
@@ -52,8 +51,8 @@ pub returns-clause-kept : goal.returns-clause-kept
 returns-clause-kept c =
     let t = c.self.inside.tables in
     let n = c.args.number in
-    let first : 1 + c.len-own.result ≡ first_branch (contents_of t) = let long = length-map t.procedures.items procedure_of in search (rules, long) in
-    let ge : first_branch (contents_of t) ≤ n = rw first at c.if-number-own.false in
+    let first = c.first_branch-first.ensures in
+    let ge : first_branch (contents_of t) ≤ n = rw first at c.if-number-first.false in
     let lt : n - first_branch (contents_of t) < length c.self.inside.index.places.items = rw (c.deref.ensures.value, first) at (ltb-true _ _ (sym c.in_ok-place.ensures.lookup.0)) in
     let is : c.in_ok-place.place.now ≡ get_or c.self.inside.index.places.items (n - first_branch (contents_of t)) c.in_ok-place.place.now = rw (c.deref.ensures.value, first) at c.in_ok-place.ensures.lookup.1 in
     found_kept (contents_of t) n (par_of c.index-row.result.now, branch_of c.index.result.now) c.self.invariant.0.keeps

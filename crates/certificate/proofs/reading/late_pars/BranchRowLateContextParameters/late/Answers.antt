@@ -8,7 +8,7 @@ use Rattle.certificate.specs.Late.{late_branch}
 use Rattle.certificate.proofs.Tools.{step}
 use Rattle.certificate.proofs.Loop.{ok_weaker, tells_err, tells_same}
 use Rattle.certificate.proofs.Sizes.{branch_size, intervals_size}
-use Rattle.certificate.proofs.reading.late_pars.BranchRowLateParameters.late.Goals as goal
+use Rattle.certificate.proofs.reading.late_pars.BranchRowLateContextParameters.late.Goals as goal
 
 pub overflow_mul-written : goal.overflow_mul-written
 overflow_mul-written c =
