@@ -10,10 +10,10 @@ use Rattle.std.specs.Ordering.{int_eq}
 use Rattle.std.proofs.lemmas.Int.{ints}
 use Rattle.std.proofs.lemmas.List.Elements.{All-from_get_or}
 use Rattle.std.proofs.lemmas.List.Folds.{list_any_at, list_any_none}
-use Rattle.certificate.specs.declared.rows.EndKey.{EndKey}
-use Rattle.certificate.specs.declared.rows.EndRow.{EndRow}
-use Rattle.certificate.specs.Order.{InOrder}
-use Rattle.certificate.specs.Pars.{EndKeeps, behind_end, key_of, is_below}
+use Rattle.module_format.specs.declared.rows.EndKey.{EndKey}
+use Rattle.module_format.specs.declared.rows.EndRow.{EndRow}
+use Rattle.module_format.specs.Order.{InOrder}
+use Rattle.module_format.specs.Pars.{EndKeeps, behind_end, key_of, is_below}
 use Rattle.certificate.specs.Rights.{is_same_end}
 
 -- ---- the order

@@ -6,17 +6,18 @@ use Rattle.std.proofs.lemmas.Bool.{cases_lt}
 use Rattle.std.proofs.lemmas.Int.{ints}
 use Rattle.std.specs.List.Sorted.{IsPartitionPoint}
 use Rattle.std.proofs.lemmas.List.{get_or_default}
-use Rattle.certificate.specs.declared.rows.Interval.{Interval}
-use Rattle.certificate.specs.declared.rows.ChannelRow.{ChannelRow}
-use Rattle.certificate.specs.Contents.{Branch, Par, Contents}
-use Rattle.certificate.specs.Contexts.{first_branch}
-use Rattle.certificate.specs.Order.{InOrder, least_word}
-use Rattle.certificate.specs.Pars.{ChannelKeeps, behind_channel, IntervalKeeps, behind_interval, meet, ReadKeeps, GiftsKeep, BranchKeeps, behind_branch, ParKeeps, behind_par, no_branches}
-use Rattle.certificate.specs.Keeping.{Keeps}
-use Rattle.certificate.specs.Branches.{branches_of, numbered_branch}
+use Rattle.module_format.specs.declared.rows.Interval.{Interval}
+use Rattle.module_format.specs.declared.rows.ChannelRow.{ChannelRow}
+use Rattle.module_format.specs.Contents.{Branch, Par, Contents}
+use Rattle.module_format.specs.Contexts.{first_branch}
+use Rattle.module_format.specs.Order.{InOrder, least_word}
+use Rattle.module_format.specs.Pars.{ChannelKeeps, behind_channel, IntervalKeeps, behind_interval, meet, ReadKeeps, GiftsKeep, BranchKeeps, behind_branch, ParKeeps, behind_par, no_branches}
+use Rattle.module_format.specs.Keeping.{Keeps}
+use Rattle.module_format.specs.Places.{branches_of}
+use Rattle.certificate.specs.Branches.{numbered_branch}
 use Rattle.certificate.specs.Rights.{is_among, listed_length, length_around}
-use Rattle.certificate.proofs.OrderLaws.{each}
-use Rattle.certificate.proofs.FieldLaws.{int_le-false, int_le-true, int_lt-false, int_le-lt, int_lt-holds}
+use Rattle.module_format.proofs.OrderLaws.{each}
+use Rattle.module_format.proofs.FieldLaws.{int_le-false, int_le-true, int_lt-false, int_le-lt, int_lt-holds}
 
 -- ---- what a row says of its branches keeps the rules
 

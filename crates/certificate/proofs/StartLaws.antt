@@ -1,25 +1,23 @@
 -- Where instructions start: the marks, and the rows at an offset.
-use Rattle.std.proofs.Common.{◌≡◌, ◌≢◌, ℕ, zero, suc, ◌+◌, ◌<◌, ◌≤◌, Bool, true, false, cond, eqb, List, [], ◌∷◌, length, map, get_or, Option, Some, None, refl, sym, ap, ◌∙◌, ltb, inl, inr, arith}
-use Rattle.std.specs.Prelude.{⊤, find, is_some, ◌==◌, ◌||◌, MatchOption}
+use Rattle.std.proofs.Common.{◌≡◌, ◌≢◌, ℕ, zero, suc, ◌+◌, ◌<◌, Bool, true, false, cond, eqb, List, [], ◌∷◌, length, map, get_or, Some, None, refl, sym, ap, ◌∙◌, arith}
+use Rattle.std.specs.Prelude.{find, is_some, ◌==◌, ◌||◌}
 use Rattle.std.specs.List.{list_any, flat_map}
+use Rattle.std.specs.List.Sorted.{IsNonDecreasingBy}
 use Rattle.std.proofs.lemmas.List.Folds.{list_any-append}
-use Rattle.certificate.specs.declared.rows.LabelRow.{LabelRow}
-use Rattle.certificate.specs.declared.rows.ProcedureRow.{ProcedureRow}
-use Rattle.certificate.specs.declared.rows.BranchRow.{BranchRow}
-use Rattle.certificate.specs.declared.rows.ParRow.{ParRow}
-use Rattle.certificate.specs.declared.tables.Tables.{Tables}
-use Rattle.certificate.specs.Contents.{Procedure, label_of, procedure_of, par_of, branch_of, contents_of, label_at}
-use Rattle.certificate.specs.Pars.{entries_of, entries_of_rows}
-use Rattle.std.specs.List.Sorted.{IsNonDecreasingBy, IsPartitionPoint}
-use Rattle.std.proofs.lemmas.List.{get_or_default}
-use Rattle.std.proofs.lemmas.Bool.{cases_lt, ltb-true, ltb-false}
 use Rattle.std.proofs.lemmas.Bool.Decides.{nat_tests}
-use Rattle.certificate.specs.declared.tables.Version.{Version}
-use Rattle.certificate.specs.Order.{InOrder}
-use Rattle.certificate.specs.Facts.{LabelKeeps, behind_label}
-use Rattle.certificate.specs.Procedures.{ProcedureKeeps, behind_procedure}
-use Rattle.certificate.specs.Keeping.{Keeps}
-use Rattle.certificate.specs.Starts.{procedure_from, procedure_at, IsNowhere, IsFirst, EntriesRise, has_mark, Adds, AreStarts}
+use Rattle.module_format.specs.declared.rows.LabelRow.{LabelRow}
+use Rattle.module_format.specs.declared.rows.ProcedureRow.{ProcedureRow}
+use Rattle.module_format.specs.declared.rows.BranchRow.{BranchRow}
+use Rattle.module_format.specs.declared.rows.ParRow.{ParRow}
+use Rattle.module_format.specs.declared.tables.Tables.{Tables}
+use Rattle.module_format.specs.Contents.{Procedure, label_of, procedure_of, par_of, branch_of, contents_of, label_at}
+use Rattle.module_format.specs.Order.{InOrder}
+use Rattle.module_format.specs.Facts.{LabelKeeps, behind_label}
+use Rattle.module_format.specs.Pars.{entries_of, entries_of_rows}
+use Rattle.module_format.specs.Keeping.{Keeps}
+use Rattle.module_format.specs.Offsets.{IsNowhere}
+use Rattle.module_format.proofs.OffsetLaws.{Rise, non_decreasing}
+use Rattle.certificate.specs.Starts.{procedure_from, procedure_at, has_mark, Adds, AreStarts}
 
 -- ---- marks
 
@@ -103,43 +101,7 @@ pub adds_par : (before between marks : List Bool) (successor : ℕ) (rows items 
 adds_par before between marks successor rows items same a b n =
     rw (b n, a n, branch_entries rows, same) (swapped (list_any (is n) (entries_of (map branch_of items))) (successor == n) (has_mark before n))
 
--- ---- rows that rise by an offset, and the one at an offset
-
-module _ {X : Type 0} (offset : X → ℕ) where
-  -- each row stands behind the one before, the first behind this offset
-  abbrev pub Rise : ℕ → List X → Type 0
-  Rise low [] = ⊤
-  Rise low (x ∷ xs) = (low < offset x) × Rise (offset x) xs
-
-  rise_at : (low : ℕ) (xs : List X) (n : ℕ) (d : X) → Rise low xs → n < length xs → low < offset (get_or xs n d)
-  rise_at low [] n d r h = absurd (omega arith)
-  rise_at low (x ∷ xs) zero d r h = r.0
-  rise_at low (x ∷ xs) (suc n) d r h = let next = rise_at (offset x) xs n d r.1 (omega arith) in omega (arith, r.0)
-
-  pub non_decreasing : (low : ℕ) (xs : List X) → Rise low xs → IsNonDecreasingBy offset xs
-  non_decreasing low [] r i j d le lt = absurd (omega arith)
-  non_decreasing low (x ∷ xs) r zero zero d le lt = omega arith
-  non_decreasing low (x ∷ xs) r zero (suc j) d le lt = let next = rise_at (offset x) xs j d r.1 (omega arith) in omega arith
-  non_decreasing low (x ∷ xs) r (suc i) zero d le lt = absurd (omega arith)
-  non_decreasing low (x ∷ xs) r (suc i) (suc j) d le lt = non_decreasing (offset x) xs r.1 i j d (omega arith) (omega arith)
-
-  -- what a search for an offset finds: the first n rows stand before it, and the others don't
-  module _ (xs : List X) (at n : ℕ) (point : IsPartitionPoint (λ x. ltb (offset x) at ≡ true) (λ x. ltb (offset x) at ≡ false) xs n) where
-    pub before_here : (d : X) (k : ℕ) → k < n → offset (get_or xs k d) ≢ at
-    before_here d k lt = let less = ltb-true _ _ (point.0 k d (omega arith) lt) in λ e. absurd (omega arith)
-
-    pub none_past : length xs ≤ n → IsNowhere offset xs at
-    none_past past k d lt = before_here d k (omega arith)
-
-    pub none_here : (x : X) → IsNonDecreasingBy offset xs → n < length xs → get_or xs n x ≡ x → offset x ≢ at → IsNowhere offset xs at
-    none_here x up inside here differs k d lt = elim (cases_lt k n) [
-      | inl less ↦ before_here d k less
-      | inr ge ↦
-          let from : at ≤ offset (get_or xs n x) = ltb-false _ _ (point.1 n x (omega arith) inside) in
-          let more = up n k x ge lt in
-          let same : get_or xs k d ≡ get_or xs k x = get_or_default xs k d x lt in
-          λ e. differs (let is : offset (get_or xs n x) ≡ offset x = ap offset here in let as_x : offset (get_or xs k d) ≡ offset (get_or xs k x) = ap offset same in absurd (omega arith))
-    ]
+-- ---- the row at an offset
 
 module _ (at : ℕ) where
   -- the first row at the offset
@@ -195,31 +157,10 @@ module _ (at : ℕ) where
       let other : eqb row.entry at ≡ false = grind (arith, nat_tests) in
       rw other (procedure_missing (first + 1) rows (λ k d less. all (suc k) d (omega arith)))
 
--- the rows of a module rise
+-- the label rows of a module rise
 labels_rise : (code_len : ℕ) (procedures : List Procedure) (low : ℕ) (rows : List LabelRow) → InOrder (LabelKeeps code_len procedures) behind_label low (map label_of rows) → Rise (λ row. row.offset) low rows
 labels_rise code_len procedures low [] keeps = tt
 labels_rise code_len procedures low (row ∷ rows) keeps = (keeps.0.offset.rises, labels_rise code_len procedures row.offset rows keeps.1)
 
-procedures_rise : (version : Version) (code_len low : ℕ) (rows : List ProcedureRow) → InOrder (ProcedureKeeps version code_len) behind_procedure low (map procedure_of rows) → Rise (λ row. row.entry) low rows
-procedures_rise version code_len low [] keeps = tt
-procedures_rise version code_len low (row ∷ rows) keeps = (keeps.0.rises, procedures_rise version code_len row.entry rows keeps.1)
-
 pub module_labels : (t : Tables) → Keeps (contents_of t) → IsNonDecreasingBy (λ row. row.offset) t.labels.items
 module_labels t keeps = non_decreasing (λ row. row.offset) 0 t.labels.items (labels_rise (length t.code.now) (map procedure_of t.procedures.items) 0 t.labels.items keeps.rows.labels)
-
-pub rows_rise : (version : Version) (code_len : ℕ) (rows : List ProcedureRow) → InOrder (ProcedureKeeps version code_len) behind_procedure 0 (map procedure_of rows) → EntriesRise rows
-rows_rise version code_len rows keeps = non_decreasing (λ row. row.entry) 0 rows (procedures_rise version code_len 0 rows keeps)
-
--- a procedure begins somewhere exactly where one is found there
-pub entry_found : (n : ℕ) (ps : List Procedure) (at : ℕ) → list_any (λ p. p.entry == at) ps ≡ is_some (procedure_from n ps at)
-entry_found n [] at = refl
-entry_found n (p ∷ ps) at = elim (p.entry == at) as (λ b. (b || list_any (λ q. q.entry == at) ps) ≡ is_some (cond b (Some (record { context = n; procedure = p })) (procedure_from (n + 1) ps at))) [
-  | true ↦ refl
-  | false ↦ entry_found (n + 1) ps at
-]
-
--- the same, as a search in the rows finds it
-pub is_entered : {Y : Type 0} (row : Y → ProcedureRow) (rows : List ProcedureRow) (at : ℕ) (r : Option (ℕ × Y)) → MatchOption r (IsNowhere (λ x. x.entry) rows at) (λ f. IsFirst (λ x. x.entry) rows at f.0 (row f.1))
-    → is_some r ≡ list_any (λ p. p.entry == at) (map procedure_of rows)
-is_entered row rows at None h = rw (entry_found 1 (map procedure_of rows) at, procedure_missing at 1 rows h) refl
-is_entered row rows at (Some f) h = rw (entry_found 1 (map procedure_of rows) at, procedure_is at rows f.0 (row f.1) h.inside (λ k lt. h.before k (row f.1) lt) h.is h.here) refl

@@ -1,9 +1,10 @@
 -- What look-ups need beside the tables.
 use Rattle.certificate.specs.declared.index.Index.{Index}
-use Rattle.certificate.specs.Contents.{Contents}
-use Rattle.certificate.specs.Contexts.{branch_count}
+use Rattle.module_format.specs.Contents.{Contents}
+use Rattle.module_format.specs.Contexts.{branch_count}
 use Rattle.certificate.specs.Starts.{AreStarts}
-use Rattle.certificate.specs.Branches.{ArePlaces, AreNumbers}
+use Rattle.module_format.specs.Places.{ArePlaces}
+use Rattle.certificate.specs.Branches.{AreNumbers}
 
 -- the index of these contents
 pub record IsIndex (c : Contents) (index : Index) : Type 0 where

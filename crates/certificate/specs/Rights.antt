@@ -1,21 +1,21 @@
 -- What a context may do with the words of its frame and with channels.
 use Rattle.std.specs.Prelude.{ℕ, zero, suc, ℤ, pos, negsuc, ◌==◌, ◌&&◌, ◌||◌, not, nat_lt, int_le, int_lt, Bool, true, false, if◌then◌else◌, List, length, find, get_or, slice_get, Option, Some, None, option_map, is_some, bit_and}
 use Rattle.std.specs.List.{list_any}
-use Rattle.certificate.specs.declared.contexts.Context.{Context}
-use Rattle.certificate.specs.declared.rows.Interval.{Interval}
-use Rattle.certificate.specs.declared.rows.ChannelRow.{ChannelRow}
-use Rattle.certificate.specs.declared.rows.Parameter.{Parameter}
-use Rattle.certificate.specs.declared.rows.ParameterKind.{ParameterKind}
-use Rattle.certificate.specs.declared.rows.ParameterKind.TheVariants as kinds
-use Rattle.certificate.specs.declared.rows.EndKind.{EndKind}
-use Rattle.certificate.specs.declared.rows.EndKind.TheVariants as ends
-use Rattle.certificate.specs.declared.rows.Direction.{Direction}
-use Rattle.certificate.specs.declared.rows.Direction.TheVariants as directions
-use Rattle.certificate.specs.declared.rows.EndRow.{EndRow}
-use Rattle.certificate.specs.declared.rows.EndKey.{EndKey}
-use Rattle.certificate.specs.Contents.{Contents}
-use Rattle.certificate.specs.Contexts.{context_at, parameters_at}
-use Rattle.certificate.specs.Pars.{key_of, direction_number}
+use Rattle.module_format.specs.declared.contexts.Context.{Context}
+use Rattle.module_format.specs.declared.rows.Interval.{Interval}
+use Rattle.module_format.specs.declared.rows.ChannelRow.{ChannelRow}
+use Rattle.module_format.specs.declared.rows.Parameter.{Parameter}
+use Rattle.module_format.specs.declared.rows.ParameterKind.{ParameterKind}
+use Rattle.module_format.specs.declared.rows.ParameterKind.TheVariants as kinds
+use Rattle.module_format.specs.declared.rows.EndKind.{EndKind}
+use Rattle.module_format.specs.declared.rows.EndKind.TheVariants as ends
+use Rattle.module_format.specs.declared.rows.Direction.{Direction}
+use Rattle.module_format.specs.declared.rows.Direction.TheVariants as directions
+use Rattle.module_format.specs.declared.rows.EndRow.{EndRow}
+use Rattle.module_format.specs.declared.rows.EndKey.{EndKey}
+use Rattle.module_format.specs.Contents.{Contents}
+use Rattle.module_format.specs.Contexts.{context_at, parameters_at}
+use Rattle.module_format.specs.Pars.{key_of, direction_number}
 use Rattle.certificate.specs.Branches.{numbered_branch}
 
 -- word k is one of the context's frame

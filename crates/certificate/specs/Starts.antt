@@ -1,10 +1,8 @@
 -- The code offsets where the tables say that an instruction starts, and what begins there.
-use Rattle.std.specs.Prelude.{ℕ, ◌+◌, ◌==◌, ◌||◌, Bool, if◌then◌else◌, List, [], ◌∷◌, get_or, false, Option, Some, None, is_some, ◌≡◌, ◌≢◌, ◌<◌, length, slice_index_or}
+use Rattle.std.specs.Prelude.{◌≡◌, ℕ, ◌+◌, ◌==◌, ◌||◌, Bool, if◌then◌else◌, List, [], ◌∷◌, get_or, false, Option, Some, None, is_some}
 use Rattle.std.specs.List.{list_any}
-use Rattle.std.specs.List.Sorted.{IsNonDecreasingBy}
-use Rattle.certificate.specs.declared.rows.ProcedureRow.{ProcedureRow}
-use Rattle.certificate.specs.Contents.{Procedure, Contents, label_at}
-use Rattle.certificate.specs.Pars.{entries_of_rows}
+use Rattle.module_format.specs.Contents.{Procedure, Contents, label_at}
+use Rattle.module_format.specs.Pars.{entries_of_rows}
 
 -- a procedure that begins at an offset, with the number of its context
 pub record Entered : Type 0 where
@@ -18,21 +16,6 @@ procedure_from n (p ∷ ps) at = if p.entry == at then Some (record { context = 
 
 abbrev pub procedure_at : Contents → ℕ → Option Entered
 procedure_at c at = procedure_from 1 c.procedures at
-
--- no row stands at the offset
-abbrev pub IsNowhere : {X : Type 0} → (X → ℕ) → List X → ℕ → Type 0
-IsNowhere {X} offset xs at = (k : ℕ) (d : X) → k < length xs → offset (slice_index_or xs k d) ≢ at
-
--- the first row at the offset has index n
-pub record IsFirst {X : Type 0} (offset : X → ℕ) (xs : List X) (at n : ℕ) (x : X) : Type 0 where
-  pub inside : n < length xs
-  pub is : x ≡ slice_index_or xs n x
-  pub here : offset x ≡ at
-  pub before : (k : ℕ) (d : X) → k < n → offset (slice_index_or xs k d) ≢ at
-
--- procedure rows in the order of their entries
-abbrev pub EntriesRise : List ProcedureRow → Type 0
-EntriesRise rows = IsNonDecreasingBy (λ (row : ProcedureRow). row.entry) rows
 
 -- the tables say that an instruction starts at the offset: it has a label row, or a procedure or a branch begins
 -- there, or it is the successor of a PAR

@@ -1,16 +1,16 @@
 //! What look-ups need beside the tables.
 
 ghost use Rattle.std.specs.Prelude.{◌≡◌, IfOk};
-ghost use Rattle.certificate.specs.Contents.{contents_of};
-ghost use Rattle.certificate.specs.Contexts.{branch_count};
-ghost use Rattle.certificate.specs.Keeping.{Keeps};
-ghost use Rattle.certificate.specs.Branches.{ArePlaces};
+ghost use Rattle.module_format.specs.Contents.{contents_of};
+ghost use Rattle.module_format.specs.Contexts.{branch_count};
+ghost use Rattle.module_format.specs.Keeping.{Keeps};
+ghost use Rattle.module_format.specs.Places.{ArePlaces};
 ghost use Rattle.certificate.specs.Index.{IsIndex};
 
 use crate::marks::Marks;
-use crate::places::{Place, numbers_of};
+use crate::numbers::numbers_of;
 use crate::starts::starts_of;
-use crate::tables::Tables;
+use module_format::{Place, Tables};
 use std::alloc::{AllocError, Global};
 
 /// Tables that are made once, so that each look-up is short.

@@ -1,37 +1,20 @@
-//! The module file: code, constants and the certificate that comes with them.
+//! What a module is asked: its contexts and branches, where its instructions start, and what a context may
+//! touch. The module file itself is `module_format`, which is passed on.
 #![tactic(auto)]
 
-mod contexts;
-mod fact;
-mod fault;
 mod index;
-mod keeping;
-mod laws;
-mod limits;
 mod marks;
 mod modules;
-mod offsets;
-mod places;
-mod reading;
+mod numbers;
 mod rights;
-mod rows;
-mod rules;
 mod starts;
-mod tables;
-mod writing;
 
-pub use contexts::Context;
-pub use fact::{Fact, Step};
-pub use fault::{FormatFault, LEFT_OVER, LIMIT, MAGIC, MEMORY, ORDER, RANGE, TRUNCATED};
-pub use laws::{one_contents_one_file, one_file_one_contents, reading_again, reading_finds};
-pub use limits::{
-    MAX_BRANCHES, MAX_BUDGET, MAX_CODE, MAX_CONSTANTS, MAX_DATA_WORDS, MAX_LABELS, MAX_LONG_CODE,
-    MAX_MESSAGE, MAX_PARAMETERS, MAX_PARS, MAX_PROCEDURES, MAX_TABLES,
+pub use module_format::{
+    BranchRow, ChannelRow, Context, Direction, EndKind, EndRow, Ends, Entry, Fact, FormatFault,
+    Interval, LEFT_OVER, LIMIT, LabelRow, MAGIC, MAX_BRANCHES, MAX_BUDGET, MAX_CODE, MAX_CONSTANTS,
+    MAX_DATA_WORDS, MAX_LABELS, MAX_LONG_CODE, MAX_MESSAGE, MAX_PARAMETERS, MAX_PARS,
+    MAX_PROCEDURES, MAX_TABLES, MEMORY, ORDER, ParRow, Parameter, ParameterKind, ProcedureRow,
+    RANGE, Step, TRUNCATED, TableRow, Tables, Version, one_contents_one_file,
+    one_file_one_contents, reading_again, reading_finds, write,
 };
 pub use modules::Module;
-pub use rows::{
-    BranchRow, ChannelRow, Direction, EndKind, EndRow, Ends, Entry, Interval, LabelRow, ParRow,
-    Parameter, ParameterKind, ProcedureRow, TableRow,
-};
-pub use tables::{Tables, Version};
-pub use writing::write;

@@ -2,11 +2,11 @@
 
 ghost use Rattle.std.specs.Prelude.{◌≡◌, ◌∷◌, [], ℕ, List, Bool, map, IfOk};
 ghost use Rattle.std.specs.List.{flat_map};
-ghost use Rattle.certificate.specs.Contents.{branch_of};
-ghost use Rattle.certificate.specs.Pars.{entries_of};
+ghost use Rattle.module_format.specs.Contents.{branch_of};
+ghost use Rattle.module_format.specs.Pars.{entries_of};
 ghost use Rattle.certificate.specs.Starts.{has_mark, Adds};
 
-use crate::rows::{BranchRow, LabelRow, ParRow, ProcedureRow};
+use module_format::{BranchRow, LabelRow, ParRow, ProcedureRow};
 use std::alloc::{AllocError, Global};
 use std::marker::Model;
 

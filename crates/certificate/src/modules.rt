@@ -1,13 +1,11 @@
 //! Modules that were read.
 
-use crate::contexts::{Context, Contexts};
-use crate::fault::FormatFault;
 use crate::index::Index;
-use crate::offsets::row_at;
-use crate::places::number_at;
-use crate::reading::tables_of;
-use crate::rows::{BranchRow, LabelRow, ParRow, Parameter, ProcedureRow};
-use crate::tables::Tables;
+use crate::numbers::number_at;
+use module_format::{
+    BranchRow, Context, Contexts, FormatFault, LabelRow, ParRow, Parameter, ProcedureRow, Tables,
+    read, row_at,
+};
 use std::alloc::Global;
 use std::marker::Model;
 
@@ -21,8 +19,8 @@ pub struct Module<'a> {
 }
 
 impl<'a> Model for Module<'a> {
-    ghost use Rattle.certificate.specs.Contents.{Contents, contents_of};
-    ghost use Rattle.certificate.specs.Keeping.{Format};
+    ghost use Rattle.module_format.specs.Contents.{Contents, contents_of};
+    ghost use Rattle.module_format.specs.Keeping.{Format};
     ghost use Rattle.certificate.specs.Index.{IsIndex};
 
     ghost Value = { Contents };
@@ -34,16 +32,16 @@ impl<'a> Model for Module<'a> {
 
 impl<'a> Module<'a> {
     ghost use Rattle.std.specs.Prelude.{◌≡◌, ◌≢◌, ◌⊎◌, IfOk, IfErr, MatchResult, Ok, Err, MatchOption, IfSome, Some, None};
-    ghost use Rattle.certificate.specs.Contents.{Contents, contents_of, label_of, procedure_of, label_at};
-    ghost use Rattle.certificate.specs.Contents.{par_of, branch_of};
-    ghost use Rattle.certificate.specs.Contexts.{context_at, parameters_at};
+    ghost use Rattle.module_format.specs.Contents.{Contents, contents_of, label_of, procedure_of, label_at};
+    ghost use Rattle.module_format.specs.Contents.{par_of, branch_of};
+    ghost use Rattle.module_format.specs.Contexts.{context_at, parameters_at};
     ghost use Rattle.certificate.specs.Starts.{procedure_at, is_start};
     ghost use Rattle.certificate.specs.Branches.{numbered_branch, branch_at};
-    ghost use Rattle.certificate.specs.Order.{InOrder, least_word};
-    ghost use Rattle.certificate.specs.Pars.{GiftsKeep, ChannelKeeps, behind_channel};
-    ghost use Rattle.certificate.specs.Keeping.{Format, Keeps};
-    ghost use Rattle.certificate.specs.Reading.{out_of_memory};
-    ghost use Rattle.certificate.specs.ReadingFile.{read_contents};
+    ghost use Rattle.module_format.specs.Order.{InOrder, least_word};
+    ghost use Rattle.module_format.specs.Pars.{GiftsKeep, ChannelKeeps, behind_channel};
+    ghost use Rattle.module_format.specs.Keeping.{Format, Keeps};
+    ghost use Rattle.module_format.specs.Reading.{out_of_memory};
+    ghost use Rattle.module_format.specs.ReadingFile.{read_contents};
 
     /// What the bytes say, or the first fault in the order of the fields; but whether what rows name is there
     /// is looked at once all rows are read.
@@ -60,7 +58,7 @@ impl<'a> Module<'a> {
         ensures exact { MatchResult result (λ m. read_contents bytes.now ≡ Ok m)
             (λ f. (f ≡ out_of_memory) ⊎ (read_contents bytes.now ≡ Err f)) }
     {
-        let (tables, places) = tables_of(alloc, bytes)?;
+        let (tables, places) = read(alloc, bytes)?;
         let index = Index::new(alloc, &tables, places)?;
         Ok(Module {
             bytes,

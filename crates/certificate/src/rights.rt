@@ -2,15 +2,15 @@
 
 ghost use Rattle.std.specs.Prelude.{◌≡◌};
 ghost use Rattle.std.specs.List.{list_any};
-ghost use Rattle.certificate.specs.Order.{InOrder, least_word};
-ghost use Rattle.certificate.specs.Pars.{IntervalKeeps, behind_interval, ChannelKeeps, behind_channel, EndKeeps, behind_end, first_key, key_of};
+ghost use Rattle.module_format.specs.Order.{InOrder, least_word};
+ghost use Rattle.module_format.specs.Pars.{IntervalKeeps, behind_interval, ChannelKeeps, behind_channel, EndKeeps, behind_end, first_key, key_of};
 ghost use Rattle.certificate.specs.Rights.{is_among, listed_length, gives_link, gives_element, gives_parameter, is_same_end};
 
 use crate::modules::Module;
-use crate::rows::{
+use bitflags::Flags;
+use module_format::{
     ChannelRow, Direction, EndKind, EndRow, Ends, Interval, Parameter, ParameterKind,
 };
-use bitflags::Flags;
 
 /// Whether a word is one of the intervals', which rise. It takes time logarithmic in them.
 fn is_among(intervals: &[Interval], word: i64) -> bool
@@ -101,7 +101,7 @@ fn lists_end(others: &[EndRow], end: &EndRow) -> bool
 
 impl Module<'_> {
     ghost use Rattle.std.specs.Prelude.{◌≡◌};
-    ghost use Rattle.certificate.specs.Contexts.{context_at};
+    ghost use Rattle.module_format.specs.Contexts.{context_at};
     ghost use Rattle.certificate.specs.Rights.{has_word, may_write_word, may_read_word, channel_length, has_end};
 
     /// Whether a word is one of a context's frame.

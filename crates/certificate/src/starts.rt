@@ -1,11 +1,11 @@
 //! Where instructions start.
 
 ghost use Rattle.std.specs.Prelude.{◌≡◌, IfOk};
-ghost use Rattle.certificate.specs.Contents.{contents_of};
+ghost use Rattle.module_format.specs.Contents.{contents_of};
 ghost use Rattle.certificate.specs.Starts.{AreStarts};
 
 use crate::marks::{Marks, mark_all};
-use crate::tables::Tables;
+use module_format::Tables;
 use std::alloc::{AllocError, Global};
 
 /// Marks where the tables say that an instruction starts.

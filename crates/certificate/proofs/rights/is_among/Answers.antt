@@ -4,10 +4,10 @@ use Rattle.std.specs.List.{list_any}
 use Rattle.std.proofs.lemmas.Bool.{ltb-true, ltb-false}
 use Rattle.std.proofs.lemmas.Int.{to_z-of_z}
 use Rattle.std.proofs.lemmas.List.Sorted.{IsPartitionPoint-from_clause}
-use Rattle.certificate.specs.declared.rows.Interval.{Interval}
-use Rattle.certificate.specs.Order.{least_word}
-use Rattle.certificate.specs.Pars.{meet}
-use Rattle.certificate.proofs.IntervalLaws.{parted, one_tells, none_tells}
+use Rattle.module_format.specs.declared.rows.Interval.{Interval}
+use Rattle.module_format.specs.Order.{least_word}
+use Rattle.module_format.specs.Pars.{meet}
+use Rattle.module_format.proofs.IntervalLaws.{parted, one_tells, none_tells}
 use Rattle.certificate.proofs.RightLaws.{single, meets_words, word_lt}
 use Rattle.certificate.proofs.rights.is_among.Goals as goal
 

@@ -3,8 +3,8 @@ use Rattle.std.specs.Prelude.{int_lt}
 use Rattle.std.proofs.lemmas.Int.{to_z-of_z}
 use Rattle.std.proofs.lemmas.Bool.{ltb-true, ltb-false}
 use Rattle.std.proofs.lemmas.List.Sorted.{IsPartitionPoint-from_clause}
-use Rattle.certificate.specs.declared.rows.ChannelRow.{ChannelRow}
-use Rattle.certificate.specs.Order.{least_word}
+use Rattle.module_format.specs.declared.rows.ChannelRow.{ChannelRow}
+use Rattle.module_format.specs.Order.{least_word}
 use Rattle.certificate.proofs.RightLaws.{channels_parted, past_listed, other_listed, here_listed}
 use Rattle.certificate.proofs.rights.listed_length.Goals as goal
 

@@ -2,10 +2,10 @@ use Rattle.std.proofs.Common.{◌≡◌, ◌∙◌, ◌<◌, ◌≤◌, length, 
 use Rattle.std.specs.List.{list_any}
 use Rattle.std.proofs.lemmas.Bool.{ltb-true, ltb-false}
 use Rattle.std.proofs.lemmas.List.Sorted.{IsPartitionPoint-from_clause}
-use Rattle.certificate.specs.declared.rows.Direction.TheVariants as directions
-use Rattle.certificate.specs.declared.rows.EndKind.TheVariants as ends
-use Rattle.certificate.specs.declared.rows.EndRow.{EndRow}
-use Rattle.certificate.specs.Pars.{first_key, is_below, key_of}
+use Rattle.module_format.specs.declared.rows.Direction.TheVariants as directions
+use Rattle.module_format.specs.declared.rows.EndKind.TheVariants as ends
+use Rattle.module_format.specs.declared.rows.EndRow.{EndRow}
+use Rattle.module_format.specs.Pars.{first_key, is_below, key_of}
 use Rattle.certificate.specs.Rights.{is_same_end}
 use Rattle.certificate.proofs.EndOrder.{same_key, parted, none_listed, one_tells}
 use Rattle.certificate.proofs.rights.lists_end.Goals as goal

@@ -1,4 +1,4 @@
-use Rattle.certificate.proofs.Loop.{ok_weaker}
+use Rattle.module_format.proofs.Loop.{ok_weaker}
 use Rattle.certificate.proofs.StartLaws.{adds_par}
 use Rattle.certificate.proofs.marks.ParRowStarting.mark.Goals as goal
 

@@ -1,9 +1,9 @@
 use Rattle.std.proofs.Common.{◌≡◌, ◌∙◌, ◌-◌, ◌<◌, ◌≤◌, length, get_or, sym, ap, rules}
 use Rattle.std.proofs.lemmas.Bool.{ltb-true, ltb-false}
-use Rattle.certificate.specs.Contents.{contents_of, par_of, branch_of}
-use Rattle.certificate.specs.Contexts.{first_branch}
+use Rattle.module_format.specs.Contents.{contents_of, par_of, branch_of}
+use Rattle.module_format.specs.Contexts.{first_branch}
 use Rattle.certificate.specs.Branches.{numbered_branch}
-use Rattle.certificate.proofs.PlaceLaws.{branch_missing, par_inside, branch_inside, place_stands, branch_found}
+use Rattle.certificate.proofs.NumberLaws.{branch_missing, par_inside, branch_inside, place_stands, branch_found}
 use Rattle.certificate.proofs.RightLaws.{found_kept}
 use Rattle.certificate.proofs.modules.Module.branch.Goals as goal
 

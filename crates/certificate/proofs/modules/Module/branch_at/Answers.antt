@@ -1,8 +1,8 @@
 use Rattle.std.proofs.Common.{◌≡◌, ◌∙◌, ap, subst}
 use Rattle.std.specs.Prelude.{option_map, slice_index}
-use Rattle.certificate.specs.Contents.{Contents, contents_of}
+use Rattle.module_format.specs.Contents.{Contents, contents_of}
 use Rattle.certificate.specs.Branches.{numbered_branch, branch_at}
-use Rattle.certificate.proofs.PlaceLaws.{forked, branch_at_is}
+use Rattle.certificate.proofs.NumberLaws.{forked, branch_at_is}
 use Rattle.certificate.proofs.modules.Module.branch_at.Goals as goal
 
 pub returns-in_err-row : goal.returns-in_err-row

@@ -1,5 +1,5 @@
 use Rattle.std.proofs.Common.{◌≡◌, ◌∙◌, ◌+◌, ◌-◌, ℕ, ap, sym, to_z, of_z, w32, arith}
-use Rattle.certificate.specs.Contents.{par_of, branch_of}
+use Rattle.module_format.specs.Contents.{par_of, branch_of}
 use Rattle.certificate.specs.Rights.{length_around, channel_length}
 use Rattle.certificate.proofs.RightLaws.{around_more}
 use Rattle.certificate.proofs.modules.Module.channel_length.Goals as goal

@@ -1,5 +1,5 @@
-use Rattle.certificate.specs.Contents.{contents_of}
-use Rattle.certificate.proofs.FileLaws.{few_contexts}
+use Rattle.module_format.specs.Contents.{contents_of}
+use Rattle.module_format.proofs.FileLaws.{few_contexts}
 use Rattle.certificate.proofs.modules.Module.contexts.Goals as goal
 
 pub of_places-requires-clause-few : goal.of_places-requires-clause-few

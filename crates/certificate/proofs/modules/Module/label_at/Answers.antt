@@ -1,5 +1,5 @@
 use Rattle.std.proofs.Common.{sym, ap, ◌∙◌}
-use Rattle.certificate.specs.Contents.{label_at}
+use Rattle.module_format.specs.Contents.{label_at}
 use Rattle.certificate.proofs.StartLaws.{module_labels, label_is, label_missing}
 use Rattle.certificate.proofs.modules.Module.label_at.Goals as goal
 

@@ -1,4 +1,4 @@
-use Rattle.certificate.specs.Order.{least_word}
+use Rattle.module_format.specs.Order.{least_word}
 use Rattle.certificate.proofs.RightLaws.{reads_order}
 use Rattle.certificate.proofs.modules.Module.may_read_word.Goals as goal
 

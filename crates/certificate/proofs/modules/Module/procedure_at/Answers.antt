@@ -1,6 +1,7 @@
 use Rattle.std.proofs.Common.{ap, sym, ◌∙◌, length}
 use Rattle.certificate.specs.Starts.{procedure_at}
-use Rattle.certificate.proofs.StartLaws.{rows_rise, procedure_is, procedure_missing}
+use Rattle.module_format.proofs.OffsetLaws.{rows_rise}
+use Rattle.certificate.proofs.StartLaws.{procedure_is, procedure_missing}
 use Rattle.certificate.proofs.modules.Module.procedure_at.Goals as goal
 
 pub row_at-requires : goal.row_at-requires

@@ -1,5 +1,0 @@
-use Rattle.std.proofs.Common.{◌∙◌, sym}
-use Rattle.certificate.proofs.laws.one_contents_one_file.Goals as goal
-
-pub returns : goal.returns
-returns c = λ file other d f g. f.spelled ∙ sym g.spelled

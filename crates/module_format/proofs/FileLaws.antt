@@ -1,0 +1,315 @@
+-- The laws of reading a file: what is read is the file of what it says, and the file of contents that
+-- keep the rules is read.
+use Rattle.std.proofs.Common.{◌≡◌, ℕ, ◌+◌, ◌*◌, ◌<◌, ◌≤◌, ◌^◌, Bool, eqb, List, [], ◌++◌, length, Result, Ok, Err, refl, sym, ap, ◌∙◌, append_assoc, arith}
+use Rattle.std.specs.List.{flat_map}
+use Rattle.std.proofs.lemmas.Bool.{eqb-true}
+use Rattle.std.proofs.lemmas.List.{append-nil, length-append, nil_from_length}
+use Rattle.std.proofs.lemmas.List.Elements.{All-from_recursion}
+use Rattle.std.proofs.lemmas.List.Sums.{sum_by-le}
+use Rattle.module_format.specs.declared.fault.FormatFault.{FormatFault}
+use Rattle.module_format.specs.declared.fault.ReadError.{ReadError}
+use Rattle.module_format.specs.declared.fault.ReadError.TheVariants as errors
+use Rattle.module_format.specs.declared.fault.TheConstants.{LEFT_OVER}
+use Rattle.module_format.specs.declared.limits.TheConstants.{MAX_BRANCHES}
+use Rattle.module_format.specs.declared.reading.header.Header.{Header}
+use Rattle.module_format.specs.declared.rows.TableRow.{TableRow}
+use Rattle.module_format.specs.declared.tables.Version.{Version}
+use Rattle.module_format.specs.declared.tables.Version.TheVariants as versions
+use Rattle.module_format.specs.Order.{IsBytes}
+use Rattle.module_format.specs.Contents.{Contents}
+use Rattle.module_format.specs.Contexts.{branch_count, first_branch, HasFewContexts}
+use Rattle.module_format.specs.Pars.{ParKeeps, behind_par, no_branches}
+use Rattle.module_format.specs.Keeping.{VersionKeeps, SizesKeep, BoundsKeep, LimitsKeep, RowsKeep, NamesAreThere, Keeps, Format}
+use Rattle.module_format.specs.Spelling.{procedure_bytes, label_bytes, par_bytes, table_row_bytes, header_bytes, rows_bytes, file_of}
+use Rattle.module_format.specs.Reading.{Fails, fault, out_of_memory, fault_of, place}
+use Rattle.module_format.specs.ReadingRows.{table_rows_at}
+use Rattle.module_format.specs.ReadingFile.{header_at, contents_from, ended_at, tables_at, read_contents}
+use Rattle.module_format.proofs.Tools.{Has, has_ok, has_then, has_if, has_at, step, join}
+use Rattle.module_format.proofs.OrderLaws.{each}
+use Rattle.module_format.proofs.FieldLaws.{bytes_take, bytes_again}
+use Rattle.module_format.proofs.RowLaws.{labels_take, labels_again}
+use Rattle.module_format.proofs.ProcedureLaws.{procedures_take, procedures_again, tables_take as table_rows_take, tables_again as table_rows_again}
+use Rattle.module_format.proofs.ParLaws.{pars_take, pars_again}
+use Rattle.module_format.proofs.LateLaws.{late_fits, late_passes}
+use Rattle.module_format.proofs.HeaderLaws.{sizes_bytes, max_code_small, FlagFits, head_bytes, HeaderFits, header_takes, header_again}
+
+-- ---- the end
+
+ended_takes : (size at : ℕ) (c : Contents) (rest : List ℕ) {Q : Contents → Type 0} → (NamesAreThere c → rest ≡ [] → Q c) → Has (ended_at size at c rest) Q
+unfolding ended_at
+ended_takes size at c rest h =
+    has_then _ _ (late_fits at c) (λ u there.
+    has_if (eqb (length rest) 0) (fault LEFT_OVER (place size rest)) (Ok c) (λ none.
+    has_ok c (h there (nil_from_length rest (eqb-true _ _ none)))))
+
+ended_again : (size at : ℕ) (c : Contents) → NamesAreThere c → ended_at size at c [] ≡ Ok c
+unfolding ended_at
+ended_again size at c there = step _ (late_passes at c there) refl
+
+-- ---- the code, the constants and the rows
+
+-- contents with what the header says
+pub record IsFrom (h : Header) (c : Contents) : Type 0 where
+  pub made : c ≡ contents_from h c.code c.constants c.procedures c.labels c.pars c.table_rows
+  pub code : length c.code ≡ h.sizes.code_len
+  pub constants : length c.constants ≡ h.sizes.const_len
+  pub procedures : length c.procedures ≡ h.counts.procedures
+  pub labels : length c.labels ≡ h.counts.labels
+  pub pars : length c.pars ≡ h.counts.pars
+  pub table_rows : length c.table_rows ≡ h.counts.table_rows
+  pub code_bytes : IsBytes c.code
+  pub constant_bytes : IsBytes c.constants
+  pub rows : RowsKeep c
+
+-- what stands behind the header, and where its label rows begin
+pub record IsTables (size : ℕ) (h : Header) (bytes : List ℕ) (t : (Contents × ℕ) × List ℕ) : Type 0 where
+  pub parts : bytes ≡ (t.0.0.code ++ t.0.0.constants ++ rows_bytes t.0.0) ++ t.1
+  pub from : IsFrom h t.0.0
+  pub inside : length bytes ≤ size → t.0.1 + length (flat_map label_bytes t.0.0.labels) + length (flat_map par_bytes t.0.0.pars) ≤ size
+
+-- where the label rows begin, and all that stands in front of them, behind them and between
+rows_inside : (size : ℕ) (bytes front labels pars behind rest last : List ℕ) → bytes ≡ front ++ behind → behind ≡ labels ++ rest → rest ≡ pars ++ last
+    → length bytes ≤ size → place size behind + length labels + length pars ≤ size
+rows_inside size bytes front labels pars behind rest last p q r fits =
+    let whole : length bytes ≡ length front + length behind = ap length p ∙ length-append front behind in
+    let most : length behind ≡ length labels + length rest = ap length q ∙ length-append labels rest in
+    let less : length rest ≡ length pars + length last = ap length r ∙ length-append pars last in
+    omega arith
+
+pub tables_take : (size : ℕ) (h : Header) (bytes : List ℕ) → IsBytes bytes → Has (tables_at size h bytes) (IsTables size h bytes)
+unfolding tables_at rows_bytes
+tables_take size h bytes fits =
+    has_then _ _ (bytes_take size h.sizes.code_len bytes fits) (λ x0 h0.
+    has_then _ _ (bytes_take size h.sizes.const_len x0.1 h0.rest_fits) (λ x1 h1.
+    has_then _ _ (procedures_take size h.version h.sizes.code_len h.counts.procedures x1.1 h1.rest_fits) (λ x2 h2.
+    has_then _ _ (labels_take size h.sizes.code_len x2.0 h.counts.labels x2.1 h2.rest_fits) (λ x3 h3.
+    has_then _ _ (pars_take size (1 + length x2.0) h.sizes.code_len h.counts.pars x3.1 h3.rest_fits) (λ x4 h4.
+    has_then _ _ (table_rows_take size x1.0 h.counts.table_rows x4.1 h4.rest_fits) (λ x5 h5.
+    let c = contents_from h x0.0 x1.0 x2.0 x3.0 x4.0 x5.0 in
+    let rows : RowsKeep c = record {
+      procedures = rw h0.keeps.0 h2.keeps.1;
+      labels = rw h0.keeps.0 h3.keeps.1;
+      pars = rw h0.keeps.0 h4.keeps.1;
+      table_rows = h5.keeps.1;
+    } in
+    let from : IsFrom h c = record {
+      made = refl;
+      code = h0.keeps.0;
+      constants = h1.keeps.0;
+      procedures = h2.keeps.0;
+      labels = h3.keeps.0;
+      pars = h4.keeps.0;
+      table_rows = h5.keeps.0;
+      code_bytes = h0.keeps.1;
+      constant_bytes = h1.keeps.1;
+      rows = rows;
+    } in
+    let procedures = flat_map (procedure_bytes h.version) x2.0 in
+    let labels = flat_map label_bytes x3.0 in
+    let pars = flat_map par_bytes x4.0 in
+    let table_rows = flat_map table_row_bytes x5.0 in
+    let j1 = join x0.0 x1.0 x1.1 h0.parts h1.parts in
+    let j2 = join (x0.0 ++ x1.0) procedures x2.1 j1 h2.parts in
+    let j3 = join (x0.0 ++ x1.0 ++ procedures) labels x3.1 j2 h3.parts in
+    let j4 = join (x0.0 ++ x1.0 ++ procedures ++ labels) pars x4.1 j3 h4.parts in
+    let j5 = join (x0.0 ++ x1.0 ++ procedures ++ labels ++ pars) table_rows x5.1 j4 h5.parts in
+    let regrouped : x0.0 ++ x1.0 ++ procedures ++ labels ++ pars ++ table_rows ≡ x0.0 ++ x1.0 ++ rows_bytes c = simp append_assoc in
+    let parts : bytes ≡ (x0.0 ++ x1.0 ++ rows_bytes c) ++ x5.1 = j5 ∙ ap (λ (t : List ℕ). t ++ x5.1) regrouped in
+    has_ok ((c, place size x2.1), x5.1) (record {
+      parts = parts;
+      from = from;
+      inside = rows_inside size bytes (x0.0 ++ x1.0 ++ procedures) labels pars x2.1 x3.1 x4.1 j2 h3.parts h4.parts;
+    })))))))
+
+-- ---- contexts
+
+pub few_contexts : (c : Contents) → LimitsKeep c → RowsKeep c → HasFewContexts c
+few_contexts c l r =
+    let few = each (ParKeeps (first_branch c) (length c.code)) behind_par (λ row. length row.branches ≤ MAX_BRANCHES) (λ low row h. h.branch_limit) no_branches c.pars r.pars in
+    let most : branch_count c.pars ≤ length c.pars * MAX_BRANCHES = sum_by-le (λ row. length row.branches) MAX_BRANCHES c.pars (All-from_recursion _ c.pars few) in
+    omega (arith, most, l.procedures, l.pars)
+
+-- ---- what is read is the file of what it says
+
+version_keeps : (version : Version) (flag : Bool) (rows : List TableRow) {count : ℕ} → length rows ≡ count → FlagFits version flag count → VersionKeeps version flag rows
+version_keeps versions.One flag rows e h = (h.0, nil_from_length rows (e ∙ h.1))
+version_keeps versions.Two flag rows e h = tt
+
+flag_fits : (version : Version) (flag : Bool) (rows : List TableRow) → VersionKeeps version flag rows → FlagFits version flag (length rows)
+flag_fits versions.One flag rows h = (h.0, ap length h.1)
+flag_fits versions.Two flag rows h = tt
+
+module _ (h : Header) (c : Contents) (f : HeaderFits h) (e : IsFrom h c) where
+  abbrev version_is : c.version ≡ h.version
+  version_is = ap (λ (d : Contents). d.version) e.made
+
+  -- the numbers of rows are within their limits
+  pub limits_keep : LimitsKeep c
+  limits_keep = record {
+    procedures = rw e.procedures f.counts.procedures;
+    labels = rw e.labels f.counts.labels;
+    pars = rw e.pars f.counts.pars;
+    table_rows = rw e.table_rows f.counts.table_rows;
+  }
+
+  sizes_keep : SizesKeep c
+  sizes_keep =
+      let words : c.data_words ≡ h.sizes.data_words = ap (λ (d : Contents). d.data_words) e.made in
+      let base : c.base ≡ h.sizes.base = ap (λ (d : Contents). d.base) e.made in
+      record {
+        has_code = rw e.code f.sizes.has_code;
+        code_limit = rw (e.code, version_is) f.sizes.code_limit;
+        constants_limit = rw e.constants f.sizes.constants_limit;
+        has_data = rw words f.sizes.has_data;
+        data_limit = rw words f.sizes.data_limit;
+        base = rw (base, words) f.sizes.base;
+      }
+
+  bounds_keep : BoundsKeep c
+  bounds_keep =
+      let budget : c.budget ≡ h.sizes.budget = ap (λ (d : Contents). d.budget) e.made in
+      let finish : c.finish ≡ h.sizes.finish = ap (λ (d : Contents). d.finish) e.made in
+      let lengths : c.lengths ≡ h.lengths = ap (λ (d : Contents). d.lengths) e.made in
+      record {
+        budget = rw budget f.sizes.budget;
+        finish = rw (finish, e.code) f.sizes.finish;
+        eight = rw lengths f.lengths.eight;
+        lengths = rw lengths f.lengths.limit;
+      }
+
+  all_keeps : NamesAreThere c → Keeps c
+  all_keeps there =
+      let flag : c.has_long_operations ≡ h.counts.has_long_operations = ap (λ (d : Contents). d.has_long_operations) e.made in
+      record {
+        version = rw (version_is, flag) (version_keeps h.version h.counts.has_long_operations c.table_rows e.table_rows f.counts.flag);
+        sizes = sizes_keep;
+        bounds = bounds_keep;
+        limits = limits_keep;
+        code_bytes = e.code_bytes;
+        constant_bytes = e.constant_bytes;
+        rows = e.rows;
+        names = there;
+      }
+
+-- rows that were read lie in the file, are few and keep their rules
+pub rows_ready : (bytes : List ℕ) → IsBytes bytes → {h : Header × List ℕ} {t : (Contents × ℕ) × List ℕ} → header_at bytes ≡ Ok h → tables_at (length bytes) h.0 h.1 ≡ Ok t
+    → (t.0.1 + length (flat_map label_bytes t.0.0.labels) + length (flat_map par_bytes t.0.0.pars) ≤ length bytes) × LimitsKeep t.0.0 × RowsKeep t.0.0
+rows_ready bytes fits {h} {t} p q =
+    let f = has_at (header_at bytes) h (header_takes bytes fits) p in
+    let g = has_at (tables_at (length bytes) h.0 h.1) t (tables_take (length bytes) h.0 h.1 f.rest_fits) q in
+    let whole : length bytes ≡ length (head_bytes h.0) + length h.1 = ap length f.parts ∙ length-append (head_bytes h.0) h.1 in
+    (g.inside (omega arith), limits_keep h.0 t.0.0 f.keeps g.from, g.from.rows)
+
+-- the header of these contents
+header_of : Contents → Header
+header_of c = record {
+  version = c.version;
+  sizes = record { code_len = length c.code; const_len = length c.constants; data_words = c.data_words; base = c.base; budget = c.budget; finish = c.finish };
+  lengths = c.lengths;
+  counts = record { procedures = length c.procedures; labels = length c.labels; pars = length c.pars; has_long_operations = c.has_long_operations; table_rows = length c.table_rows };
+}
+
+-- a header with these lengths
+with_lengths : Header → ℕ → ℕ → ℕ → ℕ → ℕ → ℕ → Header
+with_lengths h code constants procedures labels pars table_rows = record {
+  version = h.version;
+  sizes = record { code_len = code; const_len = constants; data_words = h.sizes.data_words; base = h.sizes.base; budget = h.sizes.budget; finish = h.sizes.finish };
+  lengths = h.lengths;
+  counts = record { procedures = procedures; labels = labels; pars = pars; has_long_operations = h.counts.has_long_operations; table_rows = table_rows };
+}
+
+header_is : (h : Header) (c : Contents) → IsFrom h c → header_of c ≡ h
+unfolding header_of with_lengths
+header_is h c e =
+    let same : with_lengths h (length c.code) (length c.constants) (length c.procedures) (length c.labels) (length c.pars) (length c.table_rows) ≡ h =
+    rw (e.code, e.constants, e.procedures, e.labels, e.pars, e.table_rows) refl in
+    ap header_of e.made ∙ same
+
+file_regrouped : (c : Contents) → file_of c ≡ head_bytes (header_of c) ++ (c.code ++ c.constants ++ rows_bytes c)
+unfolding header_of file_of header_bytes sizes_bytes head_bytes
+file_regrouped c = simp append_assoc
+
+pub read_finds : (bytes : List ℕ) → IsBytes bytes → Has (read_contents bytes) (Format bytes)
+unfolding read_contents
+read_finds bytes fits =
+    let size = length bytes in
+    has_then _ _ (header_takes bytes fits) (λ h f.
+    has_then _ _ (tables_take size h.0 h.1 f.rest_fits) (λ t g.
+    let c = t.0.0 in
+    ended_takes size t.0.1 c t.1 (λ there none.
+    let body = c.code ++ c.constants ++ rows_bytes c in
+    let j1 : bytes ≡ (head_bytes h.0 ++ body) ++ t.1 = join (head_bytes h.0) body t.1 f.parts g.parts in
+    let j2 : bytes ≡ head_bytes h.0 ++ body = j1 ∙ ap (λ (r : List ℕ). (head_bytes h.0 ++ body) ++ r) none ∙ append-nil (head_bytes h.0 ++ body) in
+    let spelled : bytes ≡ file_of c = j2 ∙ ap (λ (x : Header). head_bytes x ++ body) (sym (header_is h.0 c g.from)) ∙ sym (file_regrouped c) in
+    let whole : Format bytes c = record { spelled = spelled; keeps = all_keeps h.0 c f.keeps g.from there } in
+    whole)))
+
+-- ---- the file of contents that keep the rules is read
+
+header_fits : (c : Contents) → Keeps c → HeaderFits (header_of c)
+unfolding header_of
+header_fits c k =
+    let h = k.sizes in
+    let g = k.bounds in
+    let l = k.limits in
+    record {
+      sizes = record { has_code = h.has_code; code_limit = h.code_limit; constants_limit = h.constants_limit; has_data = h.has_data; data_limit = h.data_limit; base = h.base; budget = g.budget; finish = g.finish };
+      lengths = record { eight = g.eight; limit = g.lengths };
+      counts = record { procedures = l.procedures; labels = l.labels; pars = l.pars; table_rows = l.table_rows; flag = flag_fits c.version c.has_long_operations c.table_rows k.version };
+    }
+
+read_body : (size : ℕ) (c : Contents) → Keeps c
+    → tables_at size (header_of c) (c.code ++ c.constants ++ rows_bytes c) ≡ Ok ((c, place size (flat_map label_bytes c.labels ++ (flat_map par_bytes c.pars ++ flat_map table_row_bytes c.table_rows))), [])
+unfolding tables_at header_of rows_bytes
+read_body size c k =
+    let code_len = length c.code in
+    let t4 = flat_map table_row_bytes c.table_rows in
+    let t3 = flat_map par_bytes c.pars ++ t4 in
+    let t2 = flat_map label_bytes c.labels ++ t3 in
+    let t1 = flat_map (procedure_bytes c.version) c.procedures ++ t2 in
+    let t0 = c.constants ++ t1 in
+    let regrouped : c.code ++ c.constants ++ rows_bytes c ≡ c.code ++ t0 = simp append_assoc in
+    let small : code_len < 2 ^ 32 = let a = k.sizes.code_limit in omega (arith, max_code_small c.version) in
+    let constants_small : length c.constants < 2 ^ 32 = let a = k.sizes.constants_limit in omega arith in
+    let table_rows : table_rows_at size c.constants (length c.table_rows) t4 ≡ Ok (c.table_rows, []) =
+    ap (table_rows_at size c.constants (length c.table_rows)) (sym (append-nil t4)) ∙ table_rows_again size c.constants constants_small c.table_rows [] k.rows.table_rows in
+    ap (tables_at size (header_of c)) regrouped
+    ∙ step _ (bytes_again size c.code t0)
+    (step _ (bytes_again size c.constants t1)
+    (step _ (procedures_again size c.version code_len small c.procedures t2 k.rows.procedures)
+    (step _ (labels_again size code_len c.procedures small c.labels t3 k.rows.labels)
+    (step _ (pars_again size (1 + length c.procedures) code_len small c.pars t4 k.rows.pars)
+    (step _ table_rows refl)))))
+
+pub read_again : (c : Contents) → Keeps c → read_contents (file_of c) ≡ Ok c
+unfolding read_contents
+read_again c k =
+    let size = length (file_of c) in
+    let body = c.code ++ c.constants ++ rows_bytes c in
+    step _ (ap header_at (file_regrouped c) ∙ header_again (header_of c) body (header_fits c k))
+    (step _ (read_body size c k) (ended_again size _ c k.names))
+
+-- ---- no second partner
+
+abbrev given : Contents → Result Contents FormatFault
+given c = Ok c
+
+ok_same : {c d : Contents} → given c ≡ given d → c ≡ d
+ok_same e = cc
+
+pub one_contents : (bytes : List ℕ) (c d : Contents) → Format bytes c → Format bytes d → c ≡ d
+one_contents bytes c d f g =
+    let a : read_contents bytes ≡ Ok c = ap read_contents f.spelled ∙ read_again c f.keeps in
+    let b : read_contents bytes ≡ Ok d = ap read_contents g.spelled ∙ read_again d g.keeps in
+    ok_same (sym a ∙ b)
+
+-- what spells contents isn't refused
+pub not_refused : (bytes : List ℕ) (c : Contents) (f : FormatFault) → Format bytes c → read_contents bytes ≡ Err f → ⊥
+not_refused bytes c f g e =
+    let a : read_contents bytes ≡ Ok c = ap read_contents g.spelled ∙ read_again c g.keeps in
+    cc
+
+-- a reader of what spells contents fails for want of memory alone
+pub only_memory : (bytes : List ℕ) (c : Contents) (e : ReadError) → Format bytes c → Fails e (read_contents bytes) → fault_of e ≡ out_of_memory
+only_memory bytes c errors.Memory g h = refl
+only_memory bytes c (errors.Fault f) g h = absurd (not_refused bytes c f g h)

@@ -1,0 +1,55 @@
+-- What writing needs of contents that keep the rules.
+use Rattle.std.proofs.Common.{◌≡◌, ℕ, ◌<◌, ◌^◌, arith, length, List, [], ◌∷◌, ◌++◌, map, All, append_assoc, Result, Ok, Err}
+use Rattle.std.specs.Prelude.{⊤, OnOk}
+use Rattle.std.specs.List.{AllByRecursion}
+use Rattle.std.proofs.lemmas.List.Elements.{All-from_recursion}
+use Rattle.module_format.specs.Contents.{Procedure, Label, Branch, Par, Contents}
+use Rattle.module_format.specs.Contexts.{first_branch}
+use Rattle.module_format.specs.Facts.{LabelKeeps, behind_label}
+use Rattle.module_format.specs.Procedures.{ProcedureKeeps, behind_procedure}
+use Rattle.module_format.specs.Pars.{Before, BranchKeeps, behind_branch, ParKeeps, behind_par, no_branches}
+use Rattle.module_format.specs.Keeping.{RowsKeep}
+use Rattle.module_format.specs.Writable.{BranchIsWritable, ParIsWritable}
+use Rattle.module_format.proofs.OrderLaws.{each}
+
+-- one piece written behind another
+pub grows : (before p q : List ℕ) {between after : List ℕ} → between ≡ before ++ p → after ≡ between ++ q → after ≡ before ++ (p ++ q)
+grows before p q e f = rw (f, e) (append_assoc before p q)
+
+unmapped : {A B : Type 0} (view : A → B) (Fits : B → Type 0) (xs : List A) → AllByRecursion Fits (map view xs) → AllByRecursion (λ x. Fits (view x)) xs
+unmapped view Fits [] h = tt
+unmapped view Fits (x ∷ xs) h = (h.0, unmapped view Fits xs h.1)
+
+-- the item at an index fits where all do
+pub item_fits : {A B : Type 0} (view : A → B) (Fits : B → Type 0) (xs : List A) → AllByRecursion Fits (map view xs) → All (λ x. Fits (view x)) xs
+item_fits view Fits xs h = All-from_recursion (λ x. Fits (view x)) xs (unmapped view Fits xs h)
+
+-- what holds where something succeeded
+pub on_ok : {X E : Type 0} {P Q : Type 0} (r : Result X E) → OnOk r P → (P → Q) → OnOk r Q
+on_ok (Ok x) h f = f h
+on_ok (Err e) h f = tt
+
+-- ---- rows that keep their rules can be written
+
+pub nothing_asked : {A : Type 0} (xs : List A) → AllByRecursion (λ (x : A). ⊤) xs
+nothing_asked [] = tt
+nothing_asked (x ∷ xs) = (tt, nothing_asked xs)
+
+pub procedures_writable : (c : Contents) → RowsKeep c → AllByRecursion (λ (row : Procedure). length row.parameters < 2 ^ 16) c.procedures
+procedures_writable c k =
+    each (ProcedureKeeps c.version (length c.code)) behind_procedure (λ row. length row.parameters < 2 ^ 16) (λ low row h. omega (arith, h.few)) 0 c.procedures k.procedures
+
+pub labels_writable : (c : Contents) → RowsKeep c → AllByRecursion (λ (row : Label). length row.entries < 2 ^ 16) c.labels
+labels_writable c k = each (LabelKeeps (length c.code) c.procedures) behind_label (λ row. length row.entries < 2 ^ 16) (λ low row h. h.facts.count_fits) 0 c.labels k.labels
+
+branch_writable : (code_len : ℕ) (before : Before) (b : Branch) → BranchKeeps code_len before b → BranchIsWritable b
+branch_writable code_len before b h =
+    let g = h.gifts in
+    record { writes = g.write_count; reads = g.read_count; written_parameters = g.written_count; read_parameters = g.read_parameter_count; ends = g.end_count }
+
+par_writable : (own code_len : ℕ) (before : Before) (row : Par) → ParKeeps own code_len before row → ParIsWritable row
+par_writable own code_len before row h =
+    record { channels = h.channel_count; branch_count = omega (arith, h.branch_limit); branches = each (BranchKeeps code_len) behind_branch BranchIsWritable (branch_writable code_len) before row.branches h.branches }
+
+pub pars_writable : (c : Contents) → RowsKeep c → AllByRecursion ParIsWritable c.pars
+pars_writable c k = each (ParKeeps (first_branch c) (length c.code)) behind_par ParIsWritable (par_writable (first_branch c) (length c.code)) no_branches c.pars k.pars

@@ -1,0 +1,125 @@
+-- What a module file says, as plain data of lists and numbers. The fields are those of the tables in
+-- memory; facts, entries, parameters, channels, intervals, ends and table rows are the program's own types.
+use Rattle.std.specs.Prelude.{ℕ, ℤ, Bool, List, map, find, get_or, Option, ◌==◌}
+use Rattle.module_format.specs.declared.fact.Fact.{Fact}
+use Rattle.module_format.specs.declared.rows.Parameter.{Parameter}
+use Rattle.module_format.specs.declared.rows.Entry.{Entry}
+use Rattle.module_format.specs.declared.rows.ChannelRow.{ChannelRow}
+use Rattle.module_format.specs.declared.rows.Interval.{Interval}
+use Rattle.module_format.specs.declared.rows.EndRow.{EndRow}
+use Rattle.module_format.specs.declared.rows.TableRow.{TableRow}
+use Rattle.module_format.specs.declared.rows.ProcedureRow.{ProcedureRow}
+use Rattle.module_format.specs.declared.rows.LabelRow.{LabelRow}
+use Rattle.module_format.specs.declared.rows.BranchRow.{BranchRow}
+use Rattle.module_format.specs.declared.rows.ParRow.{ParRow}
+use Rattle.module_format.specs.declared.tables.Version.{Version}
+use Rattle.module_format.specs.declared.tables.Tables.{Tables}
+
+-- a procedure: its entry, its frame words from lo up to hi, its number and its parameters
+pub record Procedure : Type 0 where
+  pub entry : ℕ
+  pub lo : ℤ
+  pub hi : ℤ
+  pub number : ℕ
+  pub parameters : List Parameter
+
+-- what holds at a code offset
+pub record Label : Type 0 where
+  pub offset : ℕ
+  pub context : ℕ
+  pub depth : ℤ
+  pub number : ℕ
+  pub a : Fact
+  pub b : Fact
+  pub c : Fact
+  pub entries : List Entry
+
+-- a branch of a PAR
+pub record Branch : Type 0 where
+  pub entry : ℕ
+  pub workspace : ℤ
+  pub writes : List Interval
+  pub reads : List Interval
+  pub written_parameters : List ℕ
+  pub read_parameters : List ℕ
+  pub ends : List EndRow
+
+-- a PAR
+pub record Par : Type 0 where
+  pub context : ℕ
+  pub depth : ℤ
+  pub block : ℤ
+  pub successor : ℕ
+  pub channels : List ChannelRow
+  pub branches : List Branch
+
+-- what a module file says
+pub record Contents : Type 0 where
+  pub version : Version
+  pub code : List ℕ
+  pub constants : List ℕ
+  pub data_words : ℕ
+  pub base : ℕ
+  pub budget : ℕ
+  pub finish : ℕ
+  pub lengths : List ℕ
+  pub has_long_operations : Bool
+  pub procedures : List Procedure
+  pub labels : List Label
+  pub pars : List Par
+  pub table_rows : List TableRow
+
+-- the rows without where their lists lie in memory
+abbrev pub procedure_of : ProcedureRow → Procedure
+procedure_of row = record { entry = row.entry; lo = row.lo; hi = row.hi; number = row.number; parameters = row.parameters.items }
+
+abbrev pub label_of : LabelRow → Label
+label_of row = record { offset = row.offset; context = row.context; depth = row.depth; number = row.number; a = row.a; b = row.b; c = row.c; entries = row.entries.items }
+
+abbrev pub branch_of : BranchRow → Branch
+branch_of row = record {
+  entry = row.entry;
+  workspace = row.workspace;
+  writes = row.writes.items;
+  reads = row.reads.items;
+  written_parameters = row.written_parameters.items;
+  read_parameters = row.read_parameters.items;
+  ends = row.ends.items;
+}
+
+abbrev pub par_of : ParRow → Par
+par_of row = record {
+  context = row.context;
+  depth = row.depth;
+  block = row.block;
+  successor = row.successor;
+  channels = row.channels.items;
+  branches = map branch_of row.branches.items;
+}
+
+-- what tables in memory say
+abbrev pub contents_of : Tables → Contents
+contents_of t = record {
+  version = t.version;
+  code = t.code.now;
+  constants = t.constants.now;
+  data_words = t.data_words;
+  base = t.base;
+  budget = t.budget;
+  finish = t.finish;
+  lengths = t.lengths;
+  has_long_operations = t.has_long_operations;
+  procedures = map procedure_of t.procedures.items;
+  labels = map label_of t.labels.items;
+  pars = map par_of t.pars.items;
+  table_rows = t.table_rows.items;
+}
+
+-- the label row at a code offset, where there is one
+abbrev pub label_at : Contents → ℕ → Option Label
+label_at c at = find (λ row. row.offset == at) c.labels
+
+-- the bytes of a message on the link of this number: 0 to 3 the output links, 4 to 7 the input links;
+-- 0 for a link that is not used
+abbrev pub link_length : Contents → ℕ → ℕ
+link_length c link = get_or c.lengths link 0

@@ -1,0 +1,16 @@
+pub mod Order
+pub mod Contents
+pub mod Spelling
+pub mod Writable
+pub mod Contexts
+pub mod Places
+pub mod Offsets
+pub mod Facts
+pub mod Procedures
+pub mod Pars
+pub mod Keeping
+pub mod Reading
+pub mod ReadingRows
+pub mod ReadingPars
+pub mod Late
+pub mod ReadingFile

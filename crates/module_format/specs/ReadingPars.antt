@@ -1,0 +1,166 @@
+-- Reading PAR rows.
+use Rattle.std.specs.Prelude.{ℕ, zero, suc, ◌+◌, ℤ, pos, int_lt, int_le, nat_lt, nat_le, ◌==◌, ◌&&◌, ◌||◌, Bool, if◌then◌else◌, List, length, unsigned_abs, Ok, Err}
+use Rattle.std.specs.List.{list_any}
+use Rattle.module_format.specs.declared.fault.TheConstants.{ORDER, RANGE}
+use Rattle.module_format.specs.declared.rows.ChannelRow.{ChannelRow}
+use Rattle.module_format.specs.declared.rows.Interval.{Interval}
+use Rattle.module_format.specs.declared.rows.EndKind.{EndKind}
+use Rattle.module_format.specs.declared.rows.EndKind.TheVariants as ends
+use Rattle.module_format.specs.declared.rows.Direction.{Direction}
+use Rattle.module_format.specs.declared.rows.Direction.TheVariants as directions
+use Rattle.module_format.specs.declared.rows.EndRow.{EndRow}
+use Rattle.module_format.specs.declared.rows.EndKey.{EndKey}
+use Rattle.module_format.specs.declared.reading.branches.BranchCounts.{BranchCounts}
+use Rattle.module_format.specs.declared.limits.TheConstants.{MAX_BRANCHES, MAX_MESSAGE}
+use Rattle.module_format.specs.Order.{least_word}
+use Rattle.module_format.specs.Contents.{Branch, Par}
+use Rattle.module_format.specs.Pars.{behind_channel, behind_interval, meet, behind_number, first_key, behind_end, Before, behind_branch, behind_par, no_branches}
+use Rattle.module_format.specs.Reading.{◌>>=◌, Read, fault, place, number_at, int_at, limited_at, positive_at, byte_at, in_code_at, list_at}
+use Rattle.module_format.specs.ReadingRows.{first_word_at}
+
+-- ---- channels and intervals
+
+unfoldable pub channel_at : ℕ → ℤ → List ℕ → Read ChannelRow
+channel_at size low rest = do
+  word ← first_word_at size low rest
+  len ← positive_at size MAX_MESSAGE word.1
+  Ok (record { word = word.0; length = len.0 }, len.1)
+
+-- the end of an interval, which is not empty
+unfoldable pub interval_end_at : ℕ → ℤ → List ℕ → Read ℤ
+interval_end_at size lo rest = do
+  hi ← int_at size rest
+  if int_lt lo hi.0 then Ok hi else Err (fault RANGE (place size rest))
+
+-- frame words from `low` on
+unfoldable pub words_at : ℕ → ℤ → List ℕ → Read Interval
+words_at size low rest = do
+  lo ← first_word_at size low rest
+  hi ← interval_end_at size lo.0 lo.1
+  Ok (record { lo = lo.0; hi = hi.0 }, hi.1)
+
+-- words that are read, none of them one that is written
+unfoldable pub read_words_at : ℕ → List Interval → ℤ → List ℕ → Read Interval
+read_words_at size writes low rest = do
+  i ← words_at size low rest
+  if list_any (meet i.0) writes then Err (fault ORDER (place size rest)) else Ok i
+
+-- ---- parameters and ends
+
+-- the number of a parameter, from `low` on
+unfoldable pub parameter_number_at : ℕ → ℕ → List ℕ → Read ℕ
+parameter_number_at size low rest = do
+  number ← number_at size 2 rest
+  if nat_lt number.0 low then Err (fault ORDER (place size rest)) else Ok number
+
+-- a kind of end, which is not below that of the end before
+unfoldable pub end_kind_at : ℕ → EndKey → List ℕ → Read ℕ
+end_kind_at size before rest = do
+  kind ← byte_at size rest
+  if nat_lt 2 kind.0 then Err (fault RANGE (place size rest))
+      else (if nat_lt kind.0 before.kind then Err (fault ORDER (place size rest)) else Ok kind)
+
+-- a link has a number from 0 to 7
+abbrev pub is_number_of : ℕ → ℤ → Bool
+is_number_of kind number = nat_lt kind 2 || (int_le (pos 0) number && int_lt number (pos 8))
+
+-- The number of an end: where all fields before it are those of the end before, it is not below that end's.
+unfoldable pub end_number_at : ℕ → EndKey → ℕ → List ℕ → Read ℤ
+end_number_at size before kind rest = do
+  number ← int_at size rest
+  if is_number_of kind number.0
+      then (if (kind == before.kind) && int_lt number.0 before.number then Err (fault ORDER (place size rest)) else Ok number)
+      else Err (fault RANGE (place size rest))
+
+-- the element of an end, of which only a parameter's has one
+unfoldable pub end_element_at : ℕ → EndKey → ℕ → ℤ → List ℕ → Read ℕ
+end_element_at size before kind number rest = do
+  element ← number_at size 4 rest
+  if (kind == 1) || (element.0 == 0)
+      then (if (kind == before.kind) && (int_le number before.number && int_le before.number number) && nat_lt element.0 before.element then Err (fault ORDER (place size rest)) else Ok element)
+      else Err (fault RANGE (place size rest))
+
+-- the direction of an end, by which it is above the end before where all other fields are the same
+unfoldable pub end_direction_at : ℕ → EndKey → ℕ → ℤ → ℕ → List ℕ → Read ℕ
+end_direction_at size before kind number element rest = do
+  direction ← byte_at size rest
+  if (direction.0 == 1) || (direction.0 == 2)
+      then (if (kind == before.kind) && (int_le number before.number && int_le before.number number) && (element == before.element) && nat_le direction.0 before.direction then Err (fault ORDER (place size rest)) else Ok direction)
+      else Err (fault RANGE (place size rest))
+
+abbrev pub end_kind : ℕ → ℤ → ℕ → EndKind
+end_kind zero number element = ends.FrameWord number
+end_kind (suc zero) number element = ends.Parameter number element
+end_kind (suc (suc n)) number element = ends.Link (unsigned_abs number)
+
+abbrev pub direction_of : ℕ → Direction
+direction_of n = if n == 1 then directions.In else directions.Out
+
+unfoldable pub end_at : ℕ → EndKey → List ℕ → Read EndRow
+end_at size before rest = do
+  kind ← end_kind_at size before rest
+  number ← end_number_at size before kind.0 kind.1
+  element ← end_element_at size before kind.0 number.0 number.1
+  direction ← end_direction_at size before kind.0 number.0 element.0 element.1
+  Ok (record { kind = end_kind kind.0 number.0 element.0; direction = direction_of direction.0 }, direction.1)
+
+-- ---- branches
+
+-- the entry of a branch, behind `low`, and no other's
+unfoldable pub branch_entry_at : ℕ → ℕ → Before → List ℕ → Read ℕ
+branch_entry_at size code_len before rest = do
+  entry ← in_code_at size code_len rest
+  if nat_lt before.low entry.0
+      then (if list_any (λ other. other == entry.0) before.entries then Err (fault RANGE (place size rest)) else Ok entry)
+      else Err (fault ORDER (place size rest))
+
+-- how many intervals, parameters and ends a branch has
+unfoldable pub branch_counts_at : ℕ → List ℕ → Read BranchCounts
+branch_counts_at size rest = do
+  writes ← number_at size 2 rest
+  reads ← number_at size 2 writes.1
+  written ← number_at size 2 reads.1
+  read ← number_at size 2 written.1
+  ends ← number_at size 2 read.1
+  Ok (record { writes = writes.0; reads = reads.0; written_parameters = written.0; read_parameters = read.0; ends = ends.0 }, ends.1)
+
+unfoldable pub branch_at : ℕ → ℕ → Before → List ℕ → Read Branch
+branch_at size code_len before rest = do
+  entry ← branch_entry_at size code_len before rest
+  workspace ← int_at size entry.1
+  counts ← branch_counts_at size workspace.1
+  writes ← list_at (words_at size) behind_interval counts.0.writes least_word counts.1
+  reads ← list_at (read_words_at size writes.0) behind_interval counts.0.reads least_word writes.1
+  written ← list_at (parameter_number_at size) behind_number counts.0.written_parameters 0 reads.1
+  read ← list_at (parameter_number_at size) behind_number counts.0.read_parameters 0 written.1
+  ends ← list_at (end_at size) behind_end counts.0.ends first_key read.1
+  Ok (record { entry = entry.0; workspace = workspace.0; writes = writes.0; reads = reads.0; written_parameters = written.0; read_parameters = read.0; ends = ends.0 }, ends.1)
+
+-- ---- rows
+
+-- a context of which there are so many
+unfoldable pub context_number_at : ℕ → ℕ → List ℕ → Read ℕ
+context_number_at size count rest = do
+  context ← number_at size 2 rest
+  if nat_lt context.0 count then Ok context else Err (fault RANGE (place size rest))
+
+-- a number of branches, at least 1
+unfoldable pub branch_count_at : ℕ → List ℕ → Read ℕ
+branch_count_at size rest = do
+  count ← limited_at size 2 MAX_BRANCHES rest
+  if count.0 == 0 then Err (fault RANGE (place size rest)) else Ok count
+
+unfoldable pub par_row_at : ℕ → ℕ → ℕ → Before → List ℕ → Read Par
+par_row_at size own code_len before rest = do
+  context ← context_number_at size (own + length before.entries) rest
+  depth ← int_at size context.1
+  block ← int_at size depth.1
+  successor ← in_code_at size code_len block.1
+  channel_count ← number_at size 2 successor.1
+  branch_count ← branch_count_at size channel_count.1
+  channels ← list_at (channel_at size) behind_channel channel_count.0 least_word branch_count.1
+  branches ← list_at (branch_at size code_len) behind_branch branch_count.0 before channels.1
+  Ok (record { context = context.0; depth = depth.0; block = block.0; successor = successor.0; channels = channels.0; branches = branches.0 }, branches.1)
+
+unfoldable pub par_rows_at : ℕ → ℕ → ℕ → ℕ → List ℕ → Read (List Par)
+par_rows_at size own code_len count rest = list_at (par_row_at size own code_len) behind_par count no_branches rest

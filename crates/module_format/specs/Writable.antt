@@ -1,0 +1,16 @@
+-- Rows whose lists are short enough to be counted in a u16.
+use Rattle.std.specs.Prelude.{◌<◌, ◌^◌, length}
+use Rattle.std.specs.List.{AllByRecursion}
+use Rattle.module_format.specs.Contents.{Branch, Par}
+
+pub record BranchIsWritable (b : Branch) : Type 0 where
+  pub writes : length b.writes < 2 ^ 16
+  pub reads : length b.reads < 2 ^ 16
+  pub written_parameters : length b.written_parameters < 2 ^ 16
+  pub read_parameters : length b.read_parameters < 2 ^ 16
+  pub ends : length b.ends < 2 ^ 16
+
+pub record ParIsWritable (row : Par) : Type 0 where
+  pub channels : length row.channels < 2 ^ 16
+  pub branch_count : length row.branches < 2 ^ 16
+  pub branches : AllByRecursion BranchIsWritable row.branches

@@ -1,0 +1,140 @@
+//! Whether tables keep the rules of the format.
+
+mod labels;
+mod list;
+mod pars;
+mod procedures;
+
+ghost use Rattle.std.specs.Prelude.{◌≡◌, ◌↔◌, ◌≤◌, IsTrue, length};
+ghost use Rattle.std.specs.List.{AllByRecursion};
+ghost use Rattle.module_format.specs.Contents.{contents_of};
+ghost use Rattle.module_format.specs.Order.{IsBytes};
+ghost use Rattle.module_format.specs.Keeping.{VersionKeeps, SizesKeep, BoundsKeep, LimitsKeep, RowsKeep, NamesAreThere, Keeps};
+
+use crate::contexts::Contexts;
+use crate::keeping::labels::labels_keep;
+use crate::keeping::pars::pars_keep;
+use crate::keeping::procedures::{procedures_keep, tables_keep};
+use crate::limits::{
+    MAX_BUDGET, MAX_CONSTANTS, MAX_DATA_WORDS, MAX_LABELS, MAX_MESSAGE, MAX_PARS, MAX_PROCEDURES,
+    MAX_TABLES,
+};
+use crate::reading::{late_rows, max_code};
+use crate::tables::{Tables, Version};
+
+/// Whether there are no more bytes than a limit.
+fn is_within(bytes: &[u8], limit: u32) -> bool
+    ensures within { IsTrue result ↔ (length bytes.now ≤ limit) }
+    ensures bytes { IsBytes bytes.now }
+{
+    bytes.len() <= limit as usize
+}
+
+/// Version 1 has neither long operations nor table rows.
+fn version_keeps(tables: &Tables) -> bool
+    ensures { IsTrue result ↔ VersionKeeps tables.now.version tables.now.has_long_operations tables.now.table_rows.items }
+{
+    match tables.version {
+        Version::One => !tables.has_long_operations && tables.table_rows.is_empty(),
+        Version::Two => true,
+    }
+}
+
+/// The numbers of the code, the constants and the data area.
+fn sizes_keep(tables: &Tables) -> bool
+    ensures sizes { IsTrue result ↔ SizesKeep (contents_of tables.now) }
+    ensures code { IsBytes (contents_of tables.now).code }
+    ensures constants { IsBytes (contents_of tables.now).constants }
+{
+    let code_fits = is_within(tables.code, max_code(tables.version));
+    let constants_fit = is_within(tables.constants, MAX_CONSTANTS);
+    if !code_fits || !constants_fit {
+        return false;
+    }
+    if tables.code.is_empty() {
+        return false;
+    }
+    if tables.data_words == 0 || tables.data_words > MAX_DATA_WORDS {
+        return false;
+    }
+    tables.base <= tables.data_words
+}
+
+/// The other numbers of the header.
+fn bounds_keep(tables: &Tables) -> bool
+    ensures { IsTrue result ↔ BoundsKeep (contents_of tables.now) }
+{
+    if tables.budget > MAX_BUDGET {
+        return false;
+    }
+    if tables.finish as usize > tables.code.len() {
+        return false;
+    }
+    lengths_keep(&tables.lengths)
+}
+
+/// Each length is that of a message.
+fn lengths_keep(lengths: &[u32]) -> bool
+    ensures { IsTrue result ↔ AllByRecursion (λ n. n ≤ MAX_MESSAGE) lengths.now }
+{
+    lengths.iter().all(|length| *length <= MAX_MESSAGE)
+}
+
+/// The numbers of rows.
+fn limits_keep(tables: &Tables) -> bool
+    ensures { IsTrue result ↔ LimitsKeep (contents_of tables.now) }
+{
+    tables.procedures.len() <= MAX_PROCEDURES as usize
+        && tables.labels.len() <= MAX_LABELS as usize
+        && tables.pars.len() <= MAX_PARS as usize
+        && tables.table_rows.len() <= MAX_TABLES as usize
+}
+
+/// The rows, each by itself.
+fn rows_keep(tables: &Tables) -> bool
+    requires { LimitsKeep (contents_of tables.now) }
+    ensures { IsTrue result ↔ RowsKeep (contents_of tables.now) }
+{
+    let code_len = tables.code.len();
+    if !procedures_keep(tables.version, code_len, &tables.procedures) {
+        return false;
+    }
+    if !labels_keep(code_len, &tables.procedures, &tables.labels) {
+        return false;
+    }
+    if !pars_keep(tables.first_branch(), code_len, &tables.pars) {
+        return false;
+    }
+    tables_keep(tables.constants, &tables.table_rows)
+}
+
+/// What the rows name is there.
+fn names_are_there(tables: &Tables) -> bool
+    requires limits { LimitsKeep (contents_of tables.now) }
+    requires rows { RowsKeep (contents_of tables.now) }
+    ensures { IsTrue result ↔ NamesAreThere (contents_of tables.now) }
+{
+    late_rows(&Contexts::of_rows(tables), 0).is_ok()
+}
+
+/// Whether tables keep the rules of the format.
+pub fn keeps(tables: &Tables) -> bool
+    ensures { IsTrue result ↔ Keeps (contents_of tables.now) }
+{
+    if !version_keeps(tables) {
+        return false;
+    }
+    if !sizes_keep(tables) {
+        return false;
+    }
+    if !bounds_keep(tables) {
+        return false;
+    }
+    if !limits_keep(tables) {
+        return false;
+    }
+    if !rows_keep(tables) {
+        return false;
+    }
+    names_are_there(tables)
+}

@@ -1,0 +1,34 @@
+//! The module file: code, constants and the certificate that comes with them.
+#![tactic(auto)]
+
+mod contexts;
+mod fact;
+mod fault;
+mod keeping;
+mod laws;
+mod limits;
+mod offsets;
+mod places;
+mod reading;
+mod rows;
+mod rules;
+mod tables;
+mod writing;
+
+pub use contexts::{Context, Contexts};
+pub use fact::{Fact, Step};
+pub use fault::{FormatFault, LEFT_OVER, LIMIT, MAGIC, MEMORY, ORDER, RANGE, TRUNCATED};
+pub use laws::{one_contents_one_file, one_file_one_contents, reading_again, reading_finds};
+pub use limits::{
+    MAX_BRANCHES, MAX_BUDGET, MAX_CODE, MAX_CONSTANTS, MAX_DATA_WORDS, MAX_LABELS, MAX_LONG_CODE,
+    MAX_MESSAGE, MAX_PARAMETERS, MAX_PARS, MAX_PROCEDURES, MAX_TABLES,
+};
+pub use offsets::{AtOffset, row_at};
+pub use places::Place;
+pub use reading::read;
+pub use rows::{
+    BranchRow, ChannelRow, Direction, EndKey, EndKind, EndRow, Ends, Entry, Interval, LabelRow,
+    ParRow, Parameter, ParameterKind, ProcedureRow, TableRow,
+};
+pub use tables::{Tables, Version};
+pub use writing::write;

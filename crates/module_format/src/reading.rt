@@ -1,0 +1,54 @@
+//! From bytes to tables.
+
+mod branches;
+mod ends;
+mod facts;
+mod fields;
+mod file;
+mod header;
+mod labels;
+mod late;
+mod late_pars;
+mod list;
+mod pars;
+mod procedures;
+mod table_rows;
+mod taken;
+
+ghost use Rattle.std.specs.Prelude.{◌≡◌, ◌≢◌, ◌⊎◌, IfOk, IfErr, MatchResult, Ok, Err};
+ghost use Rattle.module_format.specs.Contents.{Contents, contents_of};
+ghost use Rattle.module_format.specs.Contexts.{branch_count};
+ghost use Rattle.module_format.specs.Places.{ArePlaces};
+ghost use Rattle.module_format.specs.Keeping.{Format};
+ghost use Rattle.module_format.specs.Reading.{out_of_memory};
+ghost use Rattle.module_format.specs.ReadingFile.{read_contents};
+
+use crate::fault::FormatFault;
+use crate::places::Place;
+use crate::reading::file::tables_of;
+use crate::tables::Tables;
+pub use branches::meets_any;
+pub use facts::end_of;
+pub use header::max_code;
+pub use late::late_rows;
+pub use pars::first_entry;
+use std::alloc::Global;
+pub use table_rows::words_lie_within;
+
+/// What the bytes say, with the places of the branches, or the first fault in the order of the fields; but
+/// whether what rows name is there is looked at once all rows are read.
+pub fn read(alloc: Global, bytes: &[u8]) -> Result<(Tables<'_>, Vec<Place>), FormatFault>
+    // What is read is what the bytes spell.
+    ensures found { IfOk result (λ x. Format bytes.now (contents_of x.0)) }
+    // What the bytes spell is read, unless memory runs out.
+    ensures only { (c : Contents) → Format bytes.now c → MatchResult result (λ x. contents_of x.0 ≡ c) (λ f. f ≡ out_of_memory) }
+    // Bytes that are refused spell nothing.
+    ensures refused { IfErr result (λ f. f ≢ out_of_memory → (c : Contents) → Format bytes.now c → ⊥) }
+    // Which fault it is, and where.
+    ensures exact { MatchResult result (λ x. read_contents bytes.now ≡ Ok (contents_of x.0))
+        (λ f. (f ≡ out_of_memory) ⊎ (read_contents bytes.now ≡ Err f)) }
+    ensures places { IfOk result (λ x. ArePlaces (contents_of x.0) (branch_count (contents_of x.0).pars) x.1.items) }
+{
+    let (tables, places) = tables_of(alloc, bytes)?;
+    Ok((tables, places))
+}

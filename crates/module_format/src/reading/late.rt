@@ -1,0 +1,162 @@
+//! What is looked at once all rows are read: whether what the rows name is there.
+
+ghost use Rattle.std.specs.Prelude.{◌≡◌, ◌+◌, ◌^◌, ◌<◌, ◌≤◌, ⊤, ℕ, List, length, map, IfOk, Result};
+ghost use Rattle.std.specs.List.{flat_map};
+ghost use Rattle.module_format.specs.declared.fault.FormatFault.{FormatFault};
+ghost use Rattle.module_format.specs.declared.rows.Entry.{Entry};
+ghost use Rattle.module_format.specs.Contents.{Label, label_of};
+ghost use Rattle.module_format.specs.Spelling.{fact_bytes, entry_bytes, label_bytes, par_bytes};
+ghost use Rattle.module_format.specs.Reading.{fault, Tells};
+ghost use Rattle.module_format.specs.Late.{late_fact, late_entry, late_list, late_row, late_label, late_at};
+
+use crate::contexts::{Context, Contexts};
+use crate::fact::Fact;
+use crate::fault::{FormatFault, RANGE};
+use crate::reading::facts::end_of;
+use crate::rows::{Entry, LabelRow};
+
+/// What a field names is not there.
+pub(crate) fn not_there(offset: usize) -> FormatFault
+    ensures { result ≡ fault RANGE offset }
+{
+    FormatFault {
+        number: RANGE,
+        offset,
+    }
+}
+
+/// An item of a list, which is looked at in a context.
+pub(crate) trait Late<C>: Drop {
+    /// What an item says, apart from where it lies in memory.
+    ghost Value: { Type 0 };
+
+    ghost view: { Self → Value };
+
+    /// The bytes of an item in the file.
+    ghost spelled: { Value → List ℕ };
+
+    /// Whether what the item at an offset names is there.
+    ghost looked: { C → ℕ → Value → Result ⊤ FormatFault };
+
+    /// Answers the offset behind the item.
+    fn late(&self, context: &C, at: usize) -> Result<usize, FormatFault>
+        requires { at + length (spelled (view self.now)) < 2 ^ 64 }
+        ensures gives { Tells result (looked context.now at (view self.now)) }
+        ensures behind { IfOk result (λ end. end ≡ at + length (spelled (view self.now))) };
+}
+
+/// Each item in turn, the first of them at offset `start`. Answers the offset behind the last.
+pub(crate) fn late_list<C, T: Late<C>>(
+    context: &C,
+    start: usize,
+    items: &[T],
+) -> Result<usize, FormatFault>
+    requires { start + length (flat_map T.spelled (map T.view items.now)) < 2 ^ 64 }
+    ensures gives { Tells result (late_list (T.looked context.now) T.spelled start (map T.view items.now)) }
+    ensures behind { IfOk result (λ end. end ≡ start + length (flat_map T.spelled (map T.view items.now))) }
+{
+    let mut at = start;
+    for item in items {
+        at = item.late(context, at)?;
+    }
+    Ok(at)
+}
+
+/// How many bytes a fact has in the file.
+#[tactic(auto, unfolding(crate::specs::Spelling::fact_bytes, crate::specs::Spelling::u16_bytes, crate::specs::Spelling::u32_bytes, crate::specs::Spelling::u64_bytes, crate::specs::Spelling::i32_bytes))]
+fn fact_size(fact: &Fact) -> usize
+    ensures value { result ≡ length (fact_bytes fact.now) }
+    ensures small { result ≤ 17 }
+{
+    match fact {
+        Fact::Unknown | Fact::ReturnAddress => 1,
+        Fact::Number { .. } => 9,
+        Fact::Pointer { .. } => 12,
+        Fact::CodeAddress { .. } => 5,
+        Fact::Loop { .. } => 17,
+    }
+}
+
+/// A pointer's region is there; the fact stands at offset `at`.
+#[tactic(auto, unfolding(crate::specs::Late::late_fact))]
+fn late_fact(parameters: usize, at: usize, fact: &Fact) -> Result<(), FormatFault>
+    requires { at + 1 < 2 ^ 64 }
+    ensures { Tells result (late_fact parameters at fact.now) }
+{
+    match fact {
+        Fact::Pointer { region, .. } => {
+            let region = usize::from(*region);
+            if region < 2 || region - 2 < parameters {
+                return Ok(());
+            }
+            Err(not_there(at + 1))
+        }
+        _ => Ok(()),
+    }
+}
+
+impl Late<Context> for Entry {
+    ghost Value = { Entry };
+
+    ghost view = { λ e. e };
+
+    ghost spelled = { entry_bytes };
+
+    ghost looked = { late_entry };
+
+    #[tactic(auto, using(crate::proofs::Sizes::entry_size), unfolding(crate::specs::Late::late_entry))]
+    fn late(&self, context: &Context, at: usize) -> Result<usize, FormatFault> {
+        if i64::from(self.word) < context.lo || end_of(self) > context.hi {
+            return Err(not_there(at));
+        }
+        late_fact(context.parameters, at + 8, &self.fact)?;
+        Ok(at + 8 + fact_size(&self.fact))
+    }
+}
+
+/// What the row at offset `at` says is there in its context. Answers the offset behind the row.
+#[tactic(auto, using(crate::proofs::Sizes::label_size), unfolding(crate::specs::Late::late_row, crate::specs::Reading::and_then))]
+fn late_row(context: &Context, at: usize, row: &LabelRow) -> Result<usize, FormatFault>
+    requires { at + length (label_bytes (label_of row.now)) < 2 ^ 64 }
+    ensures gives { Tells result (late_row context.now at (label_of row.now)) }
+    ensures behind { IfOk result (λ end. end ≡ at + length (label_bytes (label_of row.now))) }
+{
+    let at_a = at + 18;
+    late_fact(context.parameters, at_a, &row.a)?;
+    let at_b = at_a + fact_size(&row.a);
+    late_fact(context.parameters, at_b, &row.b)?;
+    let at_c = at_b + fact_size(&row.b);
+    late_fact(context.parameters, at_c, &row.c)?;
+    let at_entries = at_c + fact_size(&row.c) + 2;
+    late_list(context, at_entries, &row.entries)
+}
+
+impl Late<Contexts<'_, '_>> for LabelRow {
+    ghost Value = { Label };
+
+    ghost view = { label_of };
+
+    ghost spelled = { label_bytes };
+
+    ghost looked = { late_label };
+
+    #[tactic(auto, using(crate::proofs::Sizes::label_size), unfolding(crate::specs::Late::late_label))]
+    fn late(&self, contexts: &Contexts<'_, '_>, at: usize) -> Result<usize, FormatFault> {
+        match contexts.context(u32::from(self.context)) {
+            Some(context) => late_row(&context, at, self),
+            None => Err(not_there(at + 4)),
+        }
+    }
+}
+
+/// Each label row and then each PAR row in turn, the first label row at offset `start`.
+#[tactic(auto, unfolding(crate::specs::Late::late_at, crate::specs::Reading::and_then))]
+pub fn late_rows(contexts: &Contexts, start: usize) -> Result<(), FormatFault>
+    requires { start + length (flat_map label_bytes contexts.now.labels) + length (flat_map par_bytes contexts.now.pars) < 2 ^ 64 }
+    ensures { Tells result (late_at start contexts.now) }
+{
+    let tables = contexts.tables();
+    let pars = late_list(contexts, start, &tables.labels)?;
+    late_list(contexts, pars, &tables.pars)?;
+    Ok(())
+}

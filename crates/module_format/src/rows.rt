@@ -1,0 +1,242 @@
+//! The rows of a module file.
+
+ghost use Rattle.std.specs.Prelude.{⊤, [], ◌∷◌, codes};
+
+use crate::fact::Fact;
+use bitflags::{Flag, Flags, bitflag_items};
+use smallvec::SmallVec;
+
+/// The ends that a channel parameter brings: a set of `IN` and `OUT`.
+#[derive(Clone, Copy, Debug, PartialEq, Eq)]
+pub struct Ends(u8);
+
+bitflag_items! {
+    impl Ends: u8 {
+        /// The ends that receive.
+        const IN = 1;
+        /// The ends that send.
+        const OUT = 2;
+    }
+}
+
+impl Flags for Ends {
+    type Bits = u8;
+
+    ghost exact = { ⊤ };
+
+    ghost table = { (codes "IN", 1) ∷ (codes "OUT", 2) ∷ [] };
+
+    ghost set_of = { λ ends. ends.0 };
+
+    fn flags<'a>() -> &'a [Flag<Ends>] {
+        Ends::FLAGS
+    }
+
+    fn bits(&self) -> u8 {
+        self.0
+    }
+
+    fn from_bits_retain(bits: u8) -> Ends {
+        Ends(bits)
+    }
+}
+
+/// What a parameter word of a procedure holds.
+#[derive(Clone, Copy, Debug, PartialEq, Eq)]
+pub enum ParameterKind {
+    /// A number from `lo` to `hi`, both included.
+    Value { lo: i32, hi: i32 },
+    /// The address of `size` bytes that may be read, each word of them a number from `lo` to `hi`.
+    ReadRegion { size: u32, lo: i32, hi: i32 },
+    /// The address of `size` bytes that may be written, each word of them a number from `lo` to `hi`.
+    WrittenRegion { size: u32, lo: i32, hi: i32 },
+    /// The address of `count` channels whose messages have `length` bytes.
+    Channels { count: u32, length: u32, ends: Ends },
+}
+
+/// A parameter of a procedure, by its frame word.
+#[derive(Clone, Copy, Debug, PartialEq, Eq)]
+pub struct Parameter {
+    pub word: u16,
+    pub kind: ParameterKind,
+}
+
+/// A procedure: where its code begins, its frame words from `lo` up to `hi` (not included), its
+/// number, and its parameters.
+#[derive(Debug, Drop)]
+pub struct ProcedureRow {
+    pub entry: u32,
+    pub lo: i32,
+    pub hi: i32,
+    pub number: u64,
+    pub parameters: Vec<Parameter>,
+}
+
+/// One fact that holds for each of `span` frame words from `word` on.
+#[derive(Clone, Copy, Debug, PartialEq, Eq)]
+pub struct Entry {
+    pub word: i32,
+    pub span: u32,
+    pub fact: Fact,
+}
+
+/// What holds at a code offset: the context, the depth of the workspace in words of the frame, the
+/// number, the facts of the three registers, and those of the frame's words; a word without an entry
+/// is unknown.
+#[derive(Debug, Drop)]
+pub struct LabelRow {
+    pub offset: u32,
+    pub context: u16,
+    pub depth: i32,
+    pub number: u64,
+    pub a: Fact,
+    pub b: Fact,
+    pub c: Fact,
+    pub entries: Vec<Entry>,
+}
+
+/// A channel of a PAR: the frame word that it lies in and the bytes of its messages.
+#[derive(Clone, Copy, Debug, PartialEq, Eq)]
+pub struct ChannelRow {
+    pub word: i32,
+    pub length: u32,
+}
+
+/// The frame words from `lo` up to `hi`, which is not included.
+#[derive(Clone, Copy, Debug, Default, PartialEq, Eq)]
+pub struct Interval {
+    pub lo: i32,
+    pub hi: i32,
+}
+
+/// Which channel an end belongs to.
+#[derive(Clone, Copy, Debug, PartialEq, Eq)]
+pub enum EndKind {
+    /// The channel in a frame word.
+    FrameWord(i32),
+    /// An element of the channels that a parameter names.
+    Parameter { number: i32, element: u32 },
+    /// A link: 0 to 3 the output links, 4 to 7 the input links.
+    Link(u8),
+}
+
+/// Which way an end is used.
+#[derive(Clone, Copy, Debug, PartialEq, Eq)]
+pub enum Direction {
+    In,
+    Out,
+}
+
+/// A channel end that a branch is given.
+#[derive(Clone, Copy, Debug, PartialEq, Eq)]
+pub struct EndRow {
+    pub kind: EndKind,
+    pub direction: Direction,
+}
+
+/// A branch of a PAR: where its code begins, its workspace in words of the frame, and what it is
+/// given of the frame's words, the context's parameters and channel ends.
+#[derive(Debug, Drop)]
+pub struct BranchRow {
+    pub entry: u32,
+    pub workspace: i32,
+    pub writes: SmallVec<Interval, 2>,
+    pub reads: SmallVec<Interval, 2>,
+    pub written_parameters: SmallVec<u16, 4>,
+    pub read_parameters: SmallVec<u16, 4>,
+    pub ends: Vec<EndRow>,
+}
+
+/// A PAR: the context and depth at which it stands, its join block's frame word, the code offset
+/// behind it, its channels and its branches.
+#[derive(Debug, Drop)]
+pub struct ParRow {
+    pub context: u16,
+    pub depth: i32,
+    pub block: i32,
+    pub successor: u32,
+    pub channels: Vec<ChannelRow>,
+    pub branches: Vec<BranchRow>,
+}
+
+/// The constants from byte `start` up to `end` (not included) are words from `lo` to `hi`.
+#[derive(Clone, Copy, Debug, PartialEq, Eq)]
+pub struct TableRow {
+    pub start: u32,
+    pub end: u32,
+    pub lo: i32,
+    pub hi: i32,
+}
+
+/// The fields of an end, as they stand in a file. The ends of a branch rise by the first of them in
+/// which they differ.
+#[derive(Clone, Copy, Debug, PartialEq, Eq)]
+pub struct EndKey {
+    /// 0 a frame word, 1 a parameter, 2 a link.
+    pub kind: u8,
+    /// The word, the parameter or the link.
+    pub number: i32,
+    /// The channel of a parameter, else 0.
+    pub element: u32,
+    /// 1 in, 2 out.
+    pub direction: u8,
+}
+
+impl EndKey {
+    ghost use Rattle.std.specs.Prelude.{◌≡◌};
+    ghost use Rattle.module_format.specs.Pars.{first_key, is_below};
+
+    /// Below each end.
+    pub const fn first() -> EndKey
+        ensures { result ≡ first_key }
+    {
+        EndKey {
+            kind: 0,
+            number: i32::MIN,
+            element: 0,
+            direction: 0,
+        }
+    }
+
+    /// Whether an end with the other key may stand behind this one.
+    pub fn is_below(&self, other: &EndKey) -> bool
+        ensures { result ≡ is_below self.now other.now }
+    {
+        if self.kind != other.kind {
+            return self.kind < other.kind;
+        }
+        if self.number != other.number {
+            return self.number < other.number;
+        }
+        if self.element != other.element {
+            return self.element < other.element;
+        }
+        self.direction < other.direction
+    }
+}
+
+impl EndRow {
+    ghost use Rattle.std.specs.Prelude.{◌≡◌};
+    ghost use Rattle.module_format.specs.Pars.{key_of};
+
+    /// The fields by which ends rise.
+    pub fn key(&self) -> EndKey
+        ensures { result ≡ key_of self.now }
+    {
+        let direction = match self.direction {
+            Direction::In => 1,
+            Direction::Out => 2,
+        };
+        let (kind, number, element) = match self.kind {
+            EndKind::FrameWord(word) => (0, word, 0),
+            EndKind::Parameter { number, element } => (1, number, element),
+            EndKind::Link(link) => (2, i32::from(link), 0),
+        };
+        EndKey {
+            kind,
+            number,
+            element,
+            direction,
+        }
+    }
+}
