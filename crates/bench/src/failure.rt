@@ -1,6 +1,6 @@
 //! Why there is no checksum.
 
-ghost use Rattle.std.specs.Prelude.{◌≡◌};
+ghost use Rattle.std.specs.Prelude.{◌≡◌, ◌↔◌};
 ghost use Rattle.bench.specs.declared.failure.Failure.TheVariants.{Memory};
 
 use certificate::FormatFault;
@@ -13,7 +13,7 @@ use verifier::Refusal;
 /// Why a call that is repeated has no checksum.
 #[derive(Clone, Copy, Debug, PartialEq, Eq)]
 pub(crate) enum Failure {
-    /// Memory ran out, in making the input or in the call.
+    /// Memory ran out.
     Memory,
     /// The call refused its input.
     Refused,
@@ -35,9 +35,9 @@ impl<T: Drop> From<AllocFailed<T>> for Failure {
     }
 }
 
-/// A refusal by number, of which one tells want of memory.
+/// A refusal by number, of which one reports that memory ran out.
 fn refusal(number: u8, memory: u8) -> Failure
-    ensures { number ≡ memory → result ≡ Memory }
+    ensures { (result ≡ Memory) ↔ (number ≡ memory) }
 {
     if number == memory {
         Failure::Memory
@@ -47,10 +47,6 @@ fn refusal(number: u8, memory: u8) -> Failure
 }
 
 impl From<FormatFault> for Failure {
-    ghost use Rattle.module_format.specs.Reading.{out_of_memory};
-
-    ghost from_gives = { λ fault failure. fault ≡ out_of_memory → failure ≡ Memory };
-
     fn from(fault: FormatFault) -> Failure {
         refusal(fault.number, certificate::MEMORY)
     }

@@ -1,17 +1,14 @@
-//! Repeats one named call on one input as often as it is told, and prints a checksum of the answers, so that
-//! the call's time can be taken from outside.
+//! Repeats one call on the bytes of one file, and prints a checksum of the results, so that the call's time
+//! can be taken from outside.
 //!
-//! The arguments are the name of a call and the number of repetitions. The status is 0 where the checksum was
-//! printed, 1 where a call refused its input, 2 for other arguments, 3 where the arguments could not be had or
-//! the output failed, and 4 where memory ran out.
+//! The arguments are the name of a call, a file and the number of repetitions. The exit status is 0 if the
+//! checksum was printed, 1 if the call refused its input, 2 for other arguments, 3 if the file could not be
+//! read or the output failed, and 4 if memory ran out.
 #![tactic(auto)]
 
 mod call;
 mod failure;
-mod largest_files;
-mod module_files;
 mod repeating;
-mod sources;
 #[cfg(test)]
 mod tests;
 
@@ -19,27 +16,26 @@ use call::{Call, NAMES, call_named};
 use failure::Failure;
 use repeating::checksum_of;
 use std::process::ExitCode;
-use std::{env, io};
+use std::rt::{Env, Files};
+use std::{env, fs, io};
 
-/// What the words of the command line ask for: a call, and how often it is repeated.
-fn asked(words: &[String]) -> Option<(Call, u64)> {
+/// What the words of the command line ask for: a call, the file it is given, and how often it is repeated.
+fn asked(words: &[String]) -> Option<(Call, &str, u64)> {
     match words {
-        [_, name, times] => Some((call_named(name)?, times.parse().ok()?)),
+        [_, name, file, times] => Some((call_named(name)?, file.as_str(), times.parse().ok()?)),
         _ => None,
     }
 }
 
-/// Does what the command line asks for, and answers the status.
-fn run(rt: &(impl env::Env + Print + Eprint + AllocGlobal)) -> io::Result<u8> {
-    let mut words = Vec::new(rt.alloc());
-    for word in env::args(rt)? {
-        words.push(word)?;
-    }
-    let Some((call, times)) = asked(&words) else {
-        eprintln!(rt; "usage: bench NAME TIMES, where NAME is one of {NAMES}")?;
+/// Does what the command line asks for, and returns the exit status.
+fn run(rt: &(impl Env + Files + Print + Eprint + AllocGlobal)) -> io::Result<u8> {
+    let words: Vec<String> = env::args(rt)?.collect(rt.alloc())?;
+    let Some((call, file, times)) = asked(&words) else {
+        eprintln!(rt; "usage: bench CALL FILE TIMES, where CALL is one of {NAMES}")?;
         return Ok(2);
     };
-    match checksum_of(rt.alloc(), call, times) {
+    let bytes = fs::read(rt, file)?;
+    match checksum_of(rt.alloc(), call, &bytes, times) {
         Ok(checksum) => {
             println!(rt; "{checksum}")?;
             Ok(0)

@@ -1,14 +1,7 @@
 //! The calls, repeated.
 
-ghost use Rattle.std.specs.Prelude.{◌≡◌, IfErr};
-ghost use Rattle.bench.specs.declared.failure.Failure.TheVariants.{Memory};
-ghost use Rattle.bench.specs.Files.{IsFile};
-
 use crate::call::Call;
 use crate::failure::Failure;
-use crate::largest_files::largest;
-use crate::module_files::{labelled, straight, turning};
-use crate::sources::{program, source};
 use certificate::{Module, write};
 use machine::Checked;
 use machine_state::{Effect, Event};
@@ -17,21 +10,19 @@ use occam_parser::parse;
 use std::alloc::Global;
 use verifier::verify;
 
-/// One byte of the running process, after which it goes on.
+/// One byte of the running process, which then goes on.
 const STEP: Event = Event::Step {
     slice: false,
     pick: 0,
 };
 
-/// A checksum that one more number went into.
+/// A checksum with one more number in it.
 fn mixed(checksum: u64, number: u64) -> u64 {
     checksum.wrapping_mul(31).wrapping_add(number)
 }
 
-fn read_repeatedly(alloc: Global, file: &[u8], times: u64) -> Result<u64, Failure>
-    // Want of memory is all that stops the reading of a module's file.
-    ensures { IsFile file.now → IfErr result (λ failure. failure ≡ Memory) }
-{
+/// The budgets and the numbers of rows.
+fn read_repeatedly(alloc: Global, file: &[u8], times: u64) -> Result<u64, Failure> {
     let mut checksum = 0;
     for _ in 0..times {
         let module = Module::read(alloc, file)?;
@@ -43,7 +34,7 @@ fn read_repeatedly(alloc: Global, file: &[u8], times: u64) -> Result<u64, Failur
     Ok(checksum)
 }
 
-/// The lengths of what is written.
+/// The lengths of the written files.
 fn write_repeatedly(alloc: Global, file: &[u8], times: u64) -> Result<u64, Failure> {
     let module = Module::read(alloc, file)?;
     let mut checksum = 0;
@@ -64,7 +55,7 @@ fn verify_repeatedly(alloc: Global, file: &[u8], times: u64) -> Result<u64, Fail
     Ok(checksum)
 }
 
-/// Applies so many events to one machine.
+/// Whether each event ran an instruction byte, and how many were executed.
 fn apply_repeatedly(alloc: Global, file: &[u8], times: u64) -> Result<u64, Failure> {
     let module = Module::read(alloc, file)?;
     let mut machine = Checked::load(alloc, &module)?;
@@ -87,7 +78,7 @@ fn lines_repeatedly(alloc: Global, source: &[u8], times: u64) -> Result<u64, Fai
     Ok(checksum)
 }
 
-/// Goes over how many lines were read as a program.
+/// The number of lines that were read as a program.
 fn parse_repeatedly(alloc: Global, source: &[u8], times: u64) -> Result<u64, Failure> {
     let rows = lines(alloc, source)?;
     let mut checksum = 0;
@@ -98,20 +89,19 @@ fn parse_repeatedly(alloc: Global, source: &[u8], times: u64) -> Result<u64, Fai
     Ok(checksum)
 }
 
-/// Makes the call's input once, repeats the call so many times, and gives a checksum of its answers.
-pub(crate) fn checksum_of(alloc: Global, call: Call, times: u64) -> Result<u64, Failure> {
+/// Repeats the call on these bytes, and returns a checksum of its results.
+pub(crate) fn checksum_of(
+    alloc: Global,
+    call: Call,
+    bytes: &[u8],
+    times: u64,
+) -> Result<u64, Failure> {
     match call {
-        Call::Read { rows } => read_repeatedly(alloc, &largest(alloc, rows)?, times),
-        Call::Write { rows } => write_repeatedly(alloc, &largest(alloc, rows)?, times),
-        Call::Verify { loads } => verify_repeatedly(alloc, &straight(alloc, loads)?, times),
-        Call::VerifyLabels => verify_repeatedly(alloc, &labelled(alloc, false)?, times),
-        Call::VerifySpans => verify_repeatedly(alloc, &labelled(alloc, true)?, times),
-        Call::Checked => apply_repeatedly(alloc, &turning(alloc)?, times),
-        Call::Lines { bytes, style } => lines_repeatedly(
-            alloc,
-            &source(alloc, style, bytes)?,
-            times,
-        ),
-        Call::Parse { lines } => parse_repeatedly(alloc, &program(alloc, lines)?, times),
+        Call::Read => read_repeatedly(alloc, bytes, times),
+        Call::Write => write_repeatedly(alloc, bytes, times),
+        Call::Verify => verify_repeatedly(alloc, bytes, times),
+        Call::Apply => apply_repeatedly(alloc, bytes, times),
+        Call::Lines => lines_repeatedly(alloc, bytes, times),
+        Call::Parse => parse_repeatedly(alloc, bytes, times),
     }
 }

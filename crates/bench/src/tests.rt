@@ -1,119 +1,215 @@
-//! Each input is taken, and the checksum of its call is the one that was worked out by other means.
+//! The calls that allocate, with ample memory and with any one allocation refused.
+//!
+//! `scripts/growths` runs these tests over and over, and refuses the first allocation of each, then the second,
+//! and so on. A test `.._with_ample_memory` fails as long as an allocation of its own is refused, which shows
+//! how many there are. A test `.._in_want_of_memory` holds whichever is refused: the answer is the same as
+//! ever, or that memory ran out.
 
-mod growths;
-
-use crate::call::{Call, Rows, Style, call_named};
 use crate::failure::Failure;
-use crate::repeating::checksum_of;
-use std::alloc::Global;
+use certificate::{Module, write};
+use machine::{Checked, replay};
+use machine_state::Event;
+use occam_layout::lines;
+use occam_parser::parse;
+use std::alloc::{AllocError, Global};
+use std::process::Abort;
+use verifier::verify;
 
-/// A source that a test has time for.
-const PLAIN: Call = Call::Lines {
-    bytes: 16_384,
-    style: Style::Plain,
-};
-
-const SHORT_TOKENS: Call = Call::Lines {
-    bytes: 16_384,
-    style: Style::ShortTokens,
-};
-
-/// A call, how often it is repeated, and the checksum. That of a source is over the level and the number of
-/// tokens of each line, and that of a program over the number of its lines.
-const CHECKSUMS: [(Call, u64, u64); 21] = [
-    (Call::Read { rows: Rows::Labels }, 0, 0),
-    (Call::Read { rows: Rows::Labels }, 1, 65_535 * 31 + 8_192),
-    (
-        Call::Read {
-            rows: Rows::Procedures,
-        },
-        1,
-        513 * 31 + 512,
-    ),
-    (Call::Read { rows: Rows::Pars }, 1, 65_537 * 31 + 1_024),
-    (Call::Read { rows: Rows::Tables }, 1, 31 + 1_024),
-    (Call::Write { rows: Rows::Labels }, 1, 393_291),
-    (
-        Call::Write {
-            rows: Rows::Procedures,
-        },
-        2,
-        (84 + 513 + 512 * (22 + 64 * 15)) * 32,
-    ),
-    (
-        Call::Write { rows: Rows::Pars },
-        1,
-        84 + 65_537 + 1_024 * (18 + 64 * 44),
-    ),
-    (
-        Call::Write { rows: Rows::Tables },
-        1,
-        84 + 1 + 16_384 + 1_024 * 16,
-    ),
-    (
-        Call::Verify { loads: 0 },
-        4,
-        2 * (31 * 31 * 31 + 31 * 31 + 31 + 1),
-    ),
-    (Call::Verify { loads: 998 }, 3, 1_000 * (31 * 31 + 31 + 1)),
-    (Call::Verify { loads: 65_533 }, 2, 65_535 * 32),
-    (Call::VerifyLabels, 1, 65_535),
-    (Call::VerifySpans, 2, 65_535 * 32),
-    (Call::Checked, 0, 0),
-    (Call::Checked, 7, 917_087_137 * 31 + 7),
-    (PLAIN, 1, 8_335_618_345_079_623_071),
-    (SHORT_TOKENS, 1, 14_297_627_480_567_787_412),
-    (Call::Parse { lines: 15 }, 2, 0),
-    (Call::Parse { lines: 16 }, 2, 16 * (31 + 1)),
-    (Call::Parse { lines: 1_600 }, 2, 1_600 * (31 + 1)),
+/// `ldc 5`, `stl 1`, `j 0`, `ldl 1`, `stopp`, and a label row behind the jump, by which the word that was
+/// stored is a number from 0 to 5.
+const JUMP: [u8; 122] = [
+    0x54, 0x50, 0x4d, 0x31, 6, 0, 0, 0, 0, 0, 0, 0, 5, 0, 0, 0, 3, 0, 0, 0, 6, 0, 0, 0, 0, 0, 0, 0,
+    6, 0, 0, 0, 0, 0, 0, 0, 0, 0, 0, 0, 0, 0, 0, 0, 0, 0, 0, 0, 0, 0, 0, 0, 0, 0, 0, 0, 0, 0, 0, 0,
+    0, 0, 0, 0, 0, 0, 0, 0, 1, 0, 0, 0, 0, 0, 0, 0, 0x45, 0xd1, 0, 0x71, 0x21, 0xf5, 3, 0, 0, 0, 0,
+    0, 0, 0, 0, 0, 3, 0, 0, 0, 0, 0, 0, 0, 0, 0, 0, 1, 0, 1, 0, 0, 0, 1, 0, 0, 0, 1, 0, 0, 0, 0, 5,
+    0, 0, 0,
 ];
 
-/// The checksum, asked for once more where memory ran out.
-fn checksum(alloc: Global, call: Call, times: u64) -> Result<u64, Failure> {
-    match checksum_of(alloc, call, times) {
-        Err(Failure::Memory) => checksum_of(alloc, call, times),
-        answer => answer,
+/// One byte of the running process, which may then give way.
+const STEP: Event = Event::Step {
+    slice: true,
+    pick: 0,
+};
+
+/// The file of a module with `ldc 0` so many times, and `stopp`. It is one allocation, whatever the number.
+fn straight(alloc: Global, loads: u16) -> Result<Vec<u8>, AllocError> {
+    let code = u64::from(loads) + 2;
+    let before_stop = 76 + usize::from(loads);
+    let mut file = Vec::with_capacity(alloc, before_stop + 2)?;
+    file.extend_from_slice(b"TPM1")?;
+    file.extend_from_slice(&code.to_le_bytes())?;
+    file.extend_from_slice(&[3, 0, 0, 0, 3, 0, 0, 0])?;
+    file.extend_from_slice(&code.to_le_bytes())?;
+    file.extend_from_slice(&code.to_le_bytes())?;
+    file.resize(76, 0)?;
+    file.resize(before_stop, 0x40)?;
+    file.extend_from_slice(&[0x21, 0xf5])?;
+    Ok(file)
+}
+
+/// The budget of a module that is read and verified.
+fn verified(alloc: Global, file: &[u8]) -> Result<u64, Failure> {
+    let module = Module::read(alloc, file)?;
+    let verified = verify(alloc, &module)?;
+    Ok(verified.module().tables().budget)
+}
+
+fn verified_straight(alloc: Global, loads: u16) -> Result<u64, Failure> {
+    verified(alloc, &straight(alloc, loads)?)
+}
+
+/// How many label rows and entries a module has that is read.
+fn read(alloc: Global) -> Result<u64, Failure> {
+    let module = Module::read(alloc, &JUMP)?;
+    let mut count = 0;
+    for row in &module.tables().labels {
+        count = 1 + row.entries.len() as u64;
+    }
+    Ok(count)
+}
+
+/// How many bytes are written of a module that is read, if they are those that it was read from.
+fn written(alloc: Global) -> Result<u64, Failure> {
+    let module = Module::read(alloc, &JUMP)?;
+    let file = write(alloc, module.tables())?;
+    Ok(if file.as_slice() == JUMP.as_slice() {
+        file.len() as u64
+    } else {
+        0
+    })
+}
+
+/// How many bytes are executed by as many events as the code has bytes.
+fn executed(alloc: Global) -> Result<u64, Failure> {
+    let module = Module::read(alloc, &JUMP)?;
+    let mut machine = Checked::load(alloc, &module)?;
+    for _ in 0..6 {
+        machine.apply(STEP)?;
+    }
+    Ok(machine.executed())
+}
+
+/// How many bytes a replay of as many events executes.
+fn replayed(alloc: Global) -> Result<u64, Failure> {
+    let module = Module::read(alloc, &JUMP)?;
+    let verified = verify(alloc, &module)?;
+    let events = [STEP; 6];
+    let told = replay(alloc, &verified, &events)?;
+    Ok(told.executed)
+}
+
+/// How many tokens the last line of a source has.
+fn tokens(alloc: Global) -> Result<u64, Failure> {
+    let mut count = 0;
+    for line in &lines(alloc, b"SEQ\n  c ! x\n  x := (a + b) * \"text\"\n")? {
+        count = line.tokens.len() as u64;
+    }
+    Ok(count)
+}
+
+/// How many lines a program has that are read and parsed.
+fn parsed(alloc: Global) -> Result<u64, Failure> {
+    let rows = lines(
+        alloc,
+        b"VAL [2]INT t IS [1, (2 + 3) + 4]:\nPROC p(INT a)\n  INT x:\n  SEQ i = 0 FOR 2\n    x := t[INT 'a']\n:\n",
+    )?;
+    parse(alloc, &rows)?;
+    Ok(rows.len() as u64)
+}
+
+/// The answer is the expected one, or memory ran out.
+fn may_want_memory(rt: &impl Abort, answer: Result<u64, Failure>, expected: u64) {
+    if answer != Err(Failure::Memory) {
+        assert_eq!(rt; answer, Ok(expected));
     }
 }
 
 #[test]
-fn checksums(rt: HostRuntime) {
-    for (call, times, expected) in CHECKSUMS {
-        assert_eq!(rt;
-            checksum(rt.alloc(), call, times),
-            Ok(expected),
-            "{call:?} {times}"
-        );
-    }
+fn read_with_ample_memory(rt: HostRuntime) {
+    assert_eq!(rt; read(rt.alloc()), Ok(2));
 }
 
 #[test]
-fn names(rt: HostRuntime) {
-    assert_eq!(rt;
-        call_named("read-pars"),
-        Some(Call::Read { rows: Rows::Pars })
-    );
-    assert_eq!(rt;
-        call_named("write-tables"),
-        Some(Call::Write { rows: Rows::Tables })
-    );
-    assert_eq!(rt; call_named("read"), None);
-    assert_eq!(rt;
-        call_named("verify-1000"),
-        Some(Call::Verify { loads: 998 })
-    );
-    assert_eq!(rt;
-        call_named("verify-1002"),
-        Some(Call::Verify { loads: 1_000 })
-    );
-    assert_eq!(rt;
-        call_named("verify-65535"),
-        Some(Call::Verify { loads: 65_533 })
-    );
-    assert_eq!(rt;
-        call_named("parse-32768"),
-        Some(Call::Parse { lines: 32_768 })
-    );
-    assert_eq!(rt; call_named("verify"), None);
-    assert_eq!(rt; call_named(""), None);
+fn read_in_want_of_memory(rt: HostRuntime) {
+    may_want_memory(&rt, read(rt.alloc()), 2);
+}
+
+#[test]
+fn write_with_ample_memory(rt: HostRuntime) {
+    assert_eq!(rt; written(rt.alloc()), Ok(122));
+}
+
+#[test]
+fn write_in_want_of_memory(rt: HostRuntime) {
+    may_want_memory(&rt, written(rt.alloc()), 122);
+}
+
+#[test]
+fn verify_with_ample_memory(rt: HostRuntime) {
+    assert_eq!(rt; verified(rt.alloc(), &JUMP), Ok(6));
+}
+
+#[test]
+fn verify_in_want_of_memory(rt: HostRuntime) {
+    may_want_memory(&rt, verified(rt.alloc(), &JUMP), 6);
+}
+
+#[test]
+fn verify_1000_with_ample_memory(rt: HostRuntime) {
+    assert_eq!(rt; verified_straight(rt.alloc(), 1_000), Ok(1_002));
+}
+
+#[test]
+fn verify_1000_in_want_of_memory(rt: HostRuntime) {
+    may_want_memory(&rt, verified_straight(rt.alloc(), 1_000), 1_002);
+}
+
+#[test]
+fn verify_65533_with_ample_memory(rt: HostRuntime) {
+    assert_eq!(rt; verified_straight(rt.alloc(), 65_533), Ok(65_535));
+}
+
+#[test]
+fn verify_65533_in_want_of_memory(rt: HostRuntime) {
+    may_want_memory(&rt, verified_straight(rt.alloc(), 65_533), 65_535);
+}
+
+#[test]
+fn checked_with_ample_memory(rt: HostRuntime) {
+    assert_eq!(rt; executed(rt.alloc()), Ok(6));
+}
+
+#[test]
+fn checked_in_want_of_memory(rt: HostRuntime) {
+    may_want_memory(&rt, executed(rt.alloc()), 6);
+}
+
+#[test]
+fn replay_with_ample_memory(rt: HostRuntime) {
+    assert_eq!(rt; replayed(rt.alloc()), Ok(6));
+}
+
+#[test]
+fn replay_in_want_of_memory(rt: HostRuntime) {
+    may_want_memory(&rt, replayed(rt.alloc()), 6);
+}
+
+#[test]
+fn lines_with_ample_memory(rt: HostRuntime) {
+    assert_eq!(rt; tokens(rt.alloc()), Ok(9));
+}
+
+#[test]
+fn lines_in_want_of_memory(rt: HostRuntime) {
+    may_want_memory(&rt, tokens(rt.alloc()), 9);
+}
+
+#[test]
+fn parse_with_ample_memory(rt: HostRuntime) {
+    assert_eq!(rt; parsed(rt.alloc()), Ok(6));
+}
+
+#[test]
+fn parse_in_want_of_memory(rt: HostRuntime) {
+    may_want_memory(&rt, parsed(rt.alloc()), 6);
 }
