@@ -4,7 +4,7 @@
 ghost use Rattle.prefix_decoder.specs.declared.function.Fun.TheVariants.{AddConstant};
 ghost use Rattle.machine_state.specs.Performing.{Performs, IsSameElsewhere, direct_outcome};
 
-use machine_state::{Cpu, ERROR_FLAG, Fault, Flow, Store};
+use machine_state::{Cpu, Fault, FaultKind, Flow, Store};
 
 /// `adc`: the operand is added to A; a sum that no word stands for sets the error flag.
 pub(crate) fn add_constant<S: Store>(cpu: &mut Cpu<S>, operand: i32) -> Result<Flow, Fault>
@@ -14,7 +14,9 @@ pub(crate) fn add_constant<S: Store>(cpu: &mut Cpu<S>, operand: i32) -> Result<F
 {
     cpu.alone()?;
     let value = cpu.used(cpu.registers.a)?;
-    let sum = value.checked_add(operand).ok_or(cpu.fault(ERROR_FLAG))?;
+    let sum = value
+        .checked_add(operand)
+        .ok_or(cpu.fault(FaultKind::ErrorFlag))?;
     cpu.in_code(cpu.next())?;
     cpu.registers.a = Some(sum);
     Ok(Flow::Next)

@@ -8,7 +8,7 @@ mod locals;
 ghost use Rattle.std.specs.Prelude.{◌≡◌, ◌≢◌};
 ghost use Rattle.machine_state.specs.Performing.{Performs, IsSameElsewhere, direct_outcome};
 
-use machine_state::{Cpu, Fault, Flow, Store, UNKNOWN_OPERATION};
+use machine_state::{Cpu, Fault, FaultKind, Flow, Store};
 use prefix_decoder::Fun;
 
 /// Executes one direct function of the running process with its whole operand. The registers `at`, `began`
@@ -27,7 +27,7 @@ pub fn direct<S: Store>(cpu: &mut Cpu<S>, fun: Fun, operand: i32) -> Result<Flow
         Fun::StoreLocal => locals::store_local(cpu, operand),
         Fun::AddConstant => arithmetic::add_constant(cpu, operand),
         Fun::Jump => jumps::jump(cpu, operand),
-        _ => Err(cpu.fault(UNKNOWN_OPERATION)),
+        _ => Err(cpu.fault(FaultKind::UnknownOperation)),
     }
 }
 

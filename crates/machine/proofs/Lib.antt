@@ -1,2 +1,3 @@
+mod Settling
 mod Told
 mod Going

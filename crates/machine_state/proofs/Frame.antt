@@ -1,7 +1,6 @@
 -- An instruction changes no byte but those that its process may write: one lemma for each combinator, then one line an instruction.
-use Rattle.std.proofs.Common.{◌≡◌, ℕ, ◌+◌, ◌≤◌, ◌<◌, ℤ, negsuc, Bool, true, false, ◌&&◌, cond, ◌⊎◌, inl, inr, length, Option, Some, None, refl, sym, ap, ◌∙◌, ltb, arith}
+use Rattle.std.proofs.Common.{◌≡◌, ℕ, ◌+◌, ◌≤◌, ◌<◌, ℤ, negsuc, Bool, true, false, ◌&&◌, cond, ◌⊎◌, inl, inr, Option, Some, None, refl, sym, ap, ◌∙◌, ltb, arith}
 use Rattle.std.proofs.lemmas.Bool.{cases_lt}
-use Rattle.prefix_decoder.specs.declared.function.Fun.{Fun}
 use Rattle.prefix_decoder.specs.declared.function.Fun.TheVariants as fun
 use Rattle.machine_state.specs.declared.process.Mode.{Mode}
 use Rattle.machine_state.specs.declared.process.Mode.TheVariants.{Plain, Enabling, Disabling, Starting}

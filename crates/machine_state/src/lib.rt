@@ -20,8 +20,8 @@ pub use address::{DATA_START, local_address, place_of};
 pub use cpu::{Cpu, Flow};
 pub use event::{Effect, Event};
 pub use fault::{
-    ALTERNATION_ORDER, COUNT_RANGE, END_NOT_HELD, ERROR_FLAG, Fault, JOIN_ORDER, NOT_OWN,
-    OUTSIDE_CODE, UNALIGNED, UNDEFINED, UNEQUAL_LENGTHS, UNKNOWN_OPERATION,
+    ALTERNATION_ORDER, COUNT_RANGE, END_NOT_HELD, ERROR_FLAG, Fault, FaultKind, JOIN_ORDER,
+    NOT_OWN, OUTSIDE_CODE, UNALIGNED, UNDEFINED, UNEQUAL_LENGTHS, UNKNOWN_OPERATION,
 };
 pub use holding::{End, Holding, Span};
 pub use laws::{

@@ -5,6 +5,7 @@ ghost use Rattle.certificate.specs.Contents.{contents_of};
 ghost use Rattle.machine_state.specs.World.{IsLoadable, loaded};
 ghost use Rattle.machine_state.specs.Performing.{Performs, IsSameElsewhere, direct_outcome};
 ghost use Rattle.machine_state.specs.Memory.{data_start, place_of, with_byte};
+ghost use Rattle.machine_state.specs.Happens.{most_executed};
 ghost use Rattle.machine_state.specs.Moves.{counted, finished_where, faulty, put, with_condition, leave, enqueue, wake, dispatch, link_index, with_input, with_output};
 ghost use Rattle.machine.specs.Applying.{PerformsFor, outcome_at};
 ghost use Rattle.machine.specs.Moment.{IsSteady, WaitsForMore};
@@ -13,8 +14,8 @@ use super::act::Performed;
 use certificate::Tables;
 use direct_functions::direct;
 use machine_state::{
-    Channel, Condition, Cpu, Fault, Flow, InputLink, Link, Op, OutputLink, Store, TaggedStore,
-    Task, UNKNOWN_OPERATION,
+    Channel, Condition, Cpu, Fault, FaultKind, Flow, InputLink, Link, Op, OutputLink, Store,
+    TaggedStore, Task,
 };
 use operations::operate;
 use prefix_decoder::Fun;
@@ -82,7 +83,7 @@ fn execute<S: Store>(cpu: &mut Cpu<S>, fun: Fun, operand: i32) -> Result<Flow, F
     match fun {
         Fun::Operate => match Op::of(operand) {
             Some(op) => operate(cpu, op),
-            None => Err(cpu.fault(UNKNOWN_OPERATION)),
+            None => Err(cpu.fault(FaultKind::UnknownOperation)),
         },
         _ => direct(cpu, fun, operand),
     }
@@ -119,7 +120,7 @@ impl Machine {
 
     /// One more byte is executed.
     pub(crate) fn count(&mut self)
-        requires { self.old.world.counters.executed < 2 ^ 63 }
+        requires { self.old.world.counters.executed < most_executed }
         ensures { self.new ≡ record self.old { world = counted self.old.world } }
     {
         self.executed += 1;
