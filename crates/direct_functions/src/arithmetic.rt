@@ -14,9 +14,8 @@ pub(crate) fn add_constant<S: Store>(cpu: &mut Cpu<S>, operand: i32) -> Result<F
 {
     cpu.alone()?;
     let value = cpu.used(cpu.registers.a)?;
-    let sum = value
-        .checked_add(operand)
-        .ok_or(cpu.fault(FaultKind::ErrorFlag))?;
+    let sum = value.checked_add(operand);
+    let sum = sum.ok_or(cpu.fault(FaultKind::ErrorFlag))?;
     cpu.in_code(cpu.next())?;
     cpu.registers.a = Some(sum);
     Ok(Flow::Next)

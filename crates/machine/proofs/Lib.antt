@@ -1,3 +1,2 @@
-mod Settling
 mod Told
 mod Going
