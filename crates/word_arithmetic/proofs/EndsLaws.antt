@@ -6,7 +6,7 @@ use Rattle.std.proofs.lemmas.Int.{ints, clamps, to_z-of_z}
 use Rattle.std.proofs.lemmas.Bool.{ltb-true, lt-ltb}
 use Rattle.word_arithmetic.specs.declared.ranges.Range.{Range}
 use Rattle.word_arithmetic.specs.Word.{is_word, checked}
-use Rattle.word_arithmetic.specs.Range.{Ends, ends_of, InRange, IsWithin, fitting, hull}
+use Rattle.word_arithmetic.specs.Range.{Ends, ends_of, InRange, IsRange, IsWithin, WordsInOrderAreRanges, MembersLieBetween, fitting, hull, range_between}
 
 -- ---- words
 
@@ -45,6 +45,9 @@ pub some_out : {X : Type 0} (b : Bool) (x y : X) → cond b (Some x) None ≡ So
 some_out true x y e = (refl, cc)
 some_out false x y e = cc
 
+pub some_same : {X : Type 0} (x y : X) → Some x ≡ Some y → x ≡ y
+some_same x y e = cc
+
 pub none_out : {X : Type 0} (b : Bool) (x : X) → ◌≡◌ {A = Option X} (cond b (Some x) None) None → b ≡ false
 none_out true x e = cc
 none_out false x e = refl
@@ -78,6 +81,10 @@ fitting_none e h =
 -- a number between ends that fit is a word
 pub fits_between : (e : Ends) (z : ℤ) → FitsSigned w32 e.lo → FitsSigned w32 e.hi → InRange e z → FitsSigned w32 z
 fits_between e z f g h = omega (arith, ints)
+
+-- a member of a range is a word
+pub member_fits : (r : Ends) (z : ℤ) → IsRange r → InRange r z → FitsSigned w32 z
+member_fits r z p m = fits_between r z p.lo_fits p.hi_fits m
 
 pub fitting_holds : (e t : Ends) (z : ℤ) → fitting e ≡ Some t → InRange e z → IsSomeAnd (checked z) (InRange t)
 fitting_holds e t z h m =
@@ -139,3 +146,37 @@ hull_least r s t o p h k v m =
     let from = m.from_lo in
     let to = m.to_hi in
     record { from_lo = omega (arith, ints, clamps); to_hi = omega (arith, ints, clamps) }
+
+-- ---- the range between two words
+
+-- what a test says of the option that it lets through
+then_some : {X : Type 0} (b : Bool) (o : Option X) (t : X) → cond b o None ≡ Some t → (b ≡ true) × (o ≡ Some t)
+then_some true o t e = (refl, e)
+then_some false o t e = cc
+
+-- a range is that between its ends
+range_is : (r : Ends) → IsRange r → range_between r.lo r.hi ≡ Some r
+range_is r p =
+    (λ i. cond (le_test r.lo r.hi p.ordered i) (fitting r) None)
+    ∙ (λ i. cond (is_word_in r.lo p.lo_fits i && is_word_in r.hi p.hi_fits i) (Some r) None)
+
+range_out : (lo hi : ℤ) (r : Ends) → range_between lo hi ≡ Some r → IsRange r × (r.lo ≡ lo) × (r.hi ≡ hi)
+range_out lo hi r e =
+    let at : Ends = record { lo = lo; hi = hi } in
+    let o = then_some (int_le lo hi) (fitting at) r e in
+    let w = fitting_some at r o.1 in
+    let p : IsRange at = record { lo_fits = w.lo; hi_fits = w.hi; ordered = omega (arith, ints, o.0) } in
+    (subst IsRange w.same p, ap (λ u. u.lo) (sym w.same), ap (λ u. u.hi) (sym w.same))
+
+pub words_in_order_are_ranges : WordsInOrderAreRanges
+words_in_order_are_ranges lo hi r =
+    (range_out lo hi r, λ p. (λ i. range_between (sym p.1 i) (sym p.2 i)) ∙ range_is r p.0)
+
+pub members_lie_between : MembersLieBetween
+members_lie_between lo hi v r e =
+    let o = range_out lo hi r e in
+    let a = o.1 in
+    let b = o.2 in (
+      (λ m. let p = m.from_lo in let q = m.to_hi in (omega (arith, ints), omega (arith, ints))),
+      (λ p. let c = p.0 in let d = p.1 in record { from_lo = omega (arith, ints); to_hi = omega (arith, ints) }),
+    )

@@ -7,7 +7,7 @@ use Rattle.std.proofs.lemmas.Nat.{mod_below}
 use Rattle.std.proofs.Math.Nat.{mod-le}
 use Rattle.word_arithmetic.specs.Word.{checked_remainder, least_word}
 use Rattle.word_arithmetic.specs.Range.{Ends, InRange, IsRange, HoldsChecked, Reaches, in_range, can_fail_to_divide, greatest_size, lowest_remainder, highest_remainder, remainder_ends, remainder_range}
-use Rattle.word_arithmetic.proofs.EndsLaws.{lo_in, and_failed, and_out, checked_fits, fits_between, le_test}
+use Rattle.word_arithmetic.proofs.EndsLaws.{lo_in, some_same, and_failed, and_out, checked_fits, fits_between, le_test}
 use Rattle.word_arithmetic.proofs.QuotientLaws.{divided_by_more, not_zero, quotient_is, else_some, else_none, in_range_out}
 
 -- ---- the quotient of a word fits, but for MostNeg by -1
@@ -94,9 +94,6 @@ remainder_in : (r : Ends) (x y : ℤ) (size : ℕ) → InRange r x → y ≢ pos
 remainder_in r x y size m e h =
     let some = some_divisor y e in
     record { from_lo = lower r.lo x (unsigned_abs y) size y m.from_lo refl some h; to_hi = upper r.hi x (unsigned_abs y) size y m.to_hi refl some h }
-
-some_same : {X : Type 0} (x y : X) → Some x ≡ Some y → x ≡ y
-some_same x y e = cc
 
 pub remainder_holds : (r s t : Ends) → IsRange r → remainder_range r s ≡ Some t → HoldsChecked checked_remainder r s t
 remainder_holds r s t g h x y p q =
