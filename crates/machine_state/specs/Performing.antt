@@ -9,8 +9,9 @@ use Rattle.machine_state.specs.Faults.{fault_in}
 use Rattle.machine_state.specs.Memory.{Memory}
 use Rattle.machine_state.specs.Holding.{Holding}
 use Rattle.machine_state.specs.World.{Roles}
-use Rattle.machine_state.specs.LocalStep.{Site, Local, Outcome, goes, lands, stops, fails, local_step, operation_step}
+use Rattle.machine_state.specs.LocalStep.{Site, Local, Outcome, goes, lands, stops, fails, local_step, instruction_step, operation_step}
 use Rattle.machine_state.specs.declared.op.Op.{Op}
+use Rattle.machine_state.specs.declared.instruction.Instruction.{Instruction}
 use Rattle.prefix_decoder.specs.declared.function.Fun.{Fun}
 
 -- what an instruction may change of a processor, whose store has these cells
@@ -21,12 +22,16 @@ local_of cells cpu = record { registers = cpu.registers; memory = cells cpu.stor
 abbrev pub site_of : {S : Type 0} → (S → Holding) → Cpu S → Site
 site_of holding cpu = record { code_length = cpu.code_length; next = cpu.registers.at + 1; mode = cpu.mode; holding = holding cpu.store }
 
--- the outcome of a direct function with its operand, and of an operation, there
+-- the outcome of a function with its operand, of an instruction with its operand, and of an operation, there
 abbrev pub direct_outcome : {S : Type 0} → (S → Memory) → (S → Holding) → Cpu S → Fun → ℤ → Outcome
 direct_outcome cells holding cpu f operand = local_step (site_of holding cpu) f operand (local_of cells cpu)
 
+abbrev pub instruction_outcome : {S : Type 0} → (S → Memory) → (S → Holding) → Cpu S → Instruction → ℤ → Outcome
+instruction_outcome cells holding cpu instruction operand =
+    instruction_step (site_of holding cpu) instruction operand (local_of cells cpu)
+
 abbrev pub operation_outcome : {S : Type 0} → (S → Memory) → (S → Holding) → Cpu S → Op → Outcome
-operation_outcome cells holding cpu op = operation_step (site_of holding cpu) (Some op) (local_of cells cpu)
+operation_outcome cells holding cpu op = operation_step (site_of holding cpu) op (local_of cells cpu)
 
 -- a fault in the present instruction
 abbrev pub fault_of : {S : Type 0} → Cpu S → FaultKind → Fault

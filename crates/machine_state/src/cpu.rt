@@ -27,7 +27,7 @@ pub struct Cpu<S> {
 /// How a process goes on after an instruction. Later instructions add kinds.
 #[derive(Clone, Copy, Debug, PartialEq, Eq)]
 pub enum Flow {
-    /// Behind the instruction.
+    /// After the instruction.
     Next,
     /// At a code offset, by an instruction after which the process may go to the back of the ready list.
     Jump { to: u32 },
@@ -54,7 +54,14 @@ impl<S> Cpu<S> {
         register.ok_or(self.fault(FaultKind::Undefined))
     }
 
-    /// The code offset behind the present instruction, whose last byte is at `at`.
+    /// The result of an operation: there is one, else `ErrorFlag`.
+    pub fn computed(&self, value: Option<i32>) -> Result<i32, Fault>
+        ensures { result ≡ ok_or value (fault_of self.now FaultKind.ErrorFlag) }
+    {
+        value.ok_or(self.fault(FaultKind::ErrorFlag))
+    }
+
+    /// The code offset after the present instruction, whose last byte is at `at`.
     pub fn next(&self) -> u64
         ensures { result ≡ self.now.registers.at + 1 }
     {

@@ -7,6 +7,7 @@ mod cpu;
 mod event;
 mod fault;
 mod holding;
+mod instruction;
 mod laws;
 mod link;
 mod loading;
@@ -24,6 +25,7 @@ pub use fault::{
     NOT_OWN, OUTSIDE_CODE, UNALIGNED, UNDEFINED, UNEQUAL_LENGTHS, UNKNOWN_OPERATION,
 };
 pub use holding::{End, Holding, Span};
+pub use instruction::Instruction;
 pub use laws::{
     memory_keeps_its_length, memory_reads_back, memory_stays_elsewhere, small_modules_end,
     steps_change_their_own,
