@@ -1,20 +1,20 @@
 -- The result of an operation of two words is a word, and it lies in the range of the results.
-use Rattle.std.proofs.Common.{◌≡◌, zero, suc, ◌*◌, ◌+◌, ◌-◌, ◌^◌, Bool, true, false, subst, Option, Some, None, IfSome, IsSomeAnd, ℤ, pos, negsuc, ◌+ℤ◌, ◌-ℤ◌, ◌*ℤ◌, int_div, int_rem, int_lt, is_some, FitsSigned, arith}
+use Rattle.std.proofs.Common.{zero, suc, ◌*◌, ◌+◌, ◌-◌, ◌^◌, Bool, true, false, subst, Option, Some, None, IfSome, IsSomeAnd, ℤ, pos, negsuc, ◌+ℤ◌, ◌-ℤ◌, ◌*ℤ◌, int_div, int_rem, int_lt, is_some, FitsSigned, arith}
 use Rattle.std.specs.Int.{w32, cast_unsigned}
 use Rattle.std.specs.Ordering.{int_eq}
 use Rattle.std.proofs.lemmas.Int.{ints}
 use Rattle.std.proofs.lemmas.Bool.{cond_both}
 use Rattle.std.proofs.Math.Nat.{mod-le}
 use Rattle.word_arithmetic.specs.Word.{is_word, checked, checked_quotient, checked_remainder, word_sum, word_difference, word_product, word_and, word_or, word_xor, truth}
-use Rattle.word_arithmetic.specs.Range.{Ends, InRange, IsRange, IsWordIn, Holds, HoldsChecked, truths, word_sum_range, word_difference_range, word_product_range, and_range, or_range, xor_range}
-use Rattle.word_arithmetic.specs.Binary.{computed, result_range, BinaryGivesWords, BinaryHolds}
+use Rattle.word_arithmetic.specs.Range.{Ends, InRange, BoundsResults, IsRange, IsWordIn, Holds, truths, word_sum_range, word_difference_range, word_product_range, and_range, or_range, xor_range}
+use Rattle.word_arithmetic.specs.Binary.{computed, result_range, BinaryGivesWords, BinaryHolds, BinaryFails}
 use Rattle.word_arithmetic.specs.declared.binary.Binary.{Binary}
 use Rattle.word_arithmetic.specs.declared.binary.Binary.TheVariants as binary
-use Rattle.word_arithmetic.proofs.EndsLaws.{some_same, is_word_out, member_fits}
-use Rattle.word_arithmetic.proofs.SumLaws.{sum_holds, difference_holds}
-use Rattle.word_arithmetic.proofs.CornerLaws.{product_holds}
-use Rattle.word_arithmetic.proofs.QuotientLaws.{quotient_holds}
-use Rattle.word_arithmetic.proofs.RemainderLaws.{remainder_holds}
+use Rattle.word_arithmetic.proofs.EndsLaws.{is_word_out, member_fits}
+use Rattle.word_arithmetic.proofs.SumLaws.{members_of, sum_exact, difference_exact}
+use Rattle.word_arithmetic.proofs.CornerLaws.{product_exact}
+use Rattle.word_arithmetic.proofs.QuotientLaws.{quotient_exact}
+use Rattle.word_arithmetic.proofs.RemainderLaws.{remainder_bounds}
 use Rattle.word_arithmetic.proofs.ModularLaws.{word_sum_holds, word_difference_holds, word_product_holds}
 use Rattle.word_arithmetic.proofs.BitLaws.{wrapped_fits, and_fits, or_fits, xor_fits, and_holds, or_holds, xor_holds}
 
@@ -61,28 +61,28 @@ binary_gives_words binary.Equal x y f g = truth_fits (int_eq x y)
 -- ---- the result lies in the range
 
 -- an operation that never sets the error flag
-always_holds : (f : ℤ → ℤ → ℤ) (r s e t : Ends) → Holds f r s e → Some e ≡ Some t → HoldsChecked (λ x y. Some (f x y)) r s t
-always_holds f r s e t h k = subst (Holds f r s) (some_same e t k) h
+always : (f : ℤ → ℤ → ℤ) (r s e : Ends) → Holds f r s e → BoundsResults (λ x y. Some (f x y)) r s (Some e)
+always f r s e h = record { members = h; none = tt }
 
 truth_in : (b : Bool) → InRange truths (truth b)
 truth_in true = record { from_lo = omega (arith, ints); to_hi = omega (arith, ints) }
 truth_in false = record { from_lo = omega (arith, ints); to_hi = omega (arith, ints) }
 
-results_in : (op : Binary) (r s t : Ends) → IsRange r → IsRange s → result_range op r s ≡ Some t → HoldsChecked (computed op) r s t
+results_in : (op : Binary) (r s : Ends) → IsRange r → IsRange s → BoundsResults (computed op) r s (result_range op r s)
 unfolding computed result_range
-results_in binary.Add r s t p q h = sum_holds r s t h
-results_in binary.Subtract r s t p q h = difference_holds r s t h
-results_in binary.Multiply r s t p q h = product_holds r s t h
-results_in binary.Divide r s t p q h = quotient_holds r s t h
-results_in binary.Remainder r s t p q h = remainder_holds r s t p h
-results_in binary.Sum r s t p q h = always_holds word_sum r s (word_sum_range r s) t (word_sum_holds r s p q) h
-results_in binary.Difference r s t p q h = always_holds word_difference r s (word_difference_range r s) t (word_difference_holds r s p q) h
-results_in binary.Product r s t p q h = always_holds word_product r s (word_product_range r s) t (word_product_holds r s p q) h
-results_in binary.And r s t p q h = always_holds word_and r s (and_range r s) t (and_holds r s p q) h
-results_in binary.Or r s t p q h = always_holds word_or r s (or_range r s) t (or_holds r s p q) h
-results_in binary.ExclusiveOr r s t p q h = always_holds word_xor r s (xor_range r s) t (xor_holds r s p q) h
-results_in binary.Greater r s t p q h = always_holds (λ x y. truth (int_lt y x)) r s truths t (λ x y m n. truth_in (int_lt y x)) h
-results_in binary.Equal r s t p q h = always_holds (λ x y. truth (int_eq x y)) r s truths t (λ x y m n. truth_in (int_eq x y)) h
+results_in binary.Add r s p q = (sum_exact r s p.ordered q.ordered).bounds
+results_in binary.Subtract r s p q = (difference_exact r s p.ordered q.ordered).bounds
+results_in binary.Multiply r s p q = (product_exact r s p.ordered q.ordered).bounds
+results_in binary.Divide r s p q = (quotient_exact r s p.ordered q.ordered).bounds
+results_in binary.Remainder r s p q = remainder_bounds r s p
+results_in binary.Sum r s p q = always word_sum r s (word_sum_range r s) (word_sum_holds r s p q)
+results_in binary.Difference r s p q = always word_difference r s (word_difference_range r s) (word_difference_holds r s p q)
+results_in binary.Product r s p q = always word_product r s (word_product_range r s) (word_product_holds r s p q)
+results_in binary.And r s p q = always word_and r s (and_range r s) (and_holds r s p q)
+results_in binary.Or r s p q = always word_or r s (or_range r s) (or_holds r s p q)
+results_in binary.ExclusiveOr r s p q = always word_xor r s (xor_range r s) (xor_holds r s p q)
+results_in binary.Greater r s p q = always (λ x y. truth (int_lt y x)) r s truths (λ x y m n. truth_in (int_lt y x))
+results_in binary.Equal r s p q = always (λ x y. truth (int_eq x y)) r s truths (λ x y m n. truth_in (int_eq x y))
 
 -- ---- both
 
@@ -94,4 +94,7 @@ pub binary_holds : BinaryHolds
 binary_holds op r s t p q h x y m n =
     words_in (computed op x y) t
     (binary_gives_words op x y (member_fits r x p m) (member_fits s y q n))
-    (results_in op r s t p q h x y m n)
+    (members_of (results_in op r s p q) h x y m n)
+
+pub binary_fails : BinaryFails
+binary_fails op r s p q h = (subst (BoundsResults (computed op) r s) h (results_in op r s p q)).none

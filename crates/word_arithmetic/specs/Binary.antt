@@ -1,10 +1,10 @@
 -- The operations of two operands: the result of each, and the range of all its results. The first operand is the one
 -- that a process pushes first: a difference is the first less the second.
-use Rattle.std.specs.Prelude.{◌≡◌, Option, Some, IfSome, ℤ, int_lt, FitsSigned}
+use Rattle.std.specs.Prelude.{◌≡◌, Option, Some, None, IfSome, ℤ, int_lt, FitsSigned}
 use Rattle.std.specs.Int.{w32}
 use Rattle.std.specs.Ordering.{int_eq}
 use Rattle.word_arithmetic.specs.Word.{checked_sum, checked_difference, checked_product, checked_quotient, checked_remainder, word_sum, word_difference, word_product, word_and, word_or, word_xor, truth}
-use Rattle.word_arithmetic.specs.Range.{Ends, IsRange, HoldsWords, truths, sum_range, difference_range, product_range, quotient_range, remainder_range, word_sum_range, word_difference_range, word_product_range, and_range, or_range, xor_range}
+use Rattle.word_arithmetic.specs.Range.{Ends, IsRange, HoldsWords, Reaches, truths, sum_range, difference_range, product_range, quotient_range, remainder_range, word_sum_range, word_difference_range, word_product_range, and_range, or_range, xor_range}
 use Rattle.word_arithmetic.specs.declared.binary.Binary.{Binary}
 use Rattle.word_arithmetic.specs.declared.binary.Binary.TheVariants as binary
 
@@ -49,3 +49,8 @@ BinaryGivesWords = (op : Binary) (x y : ℤ) → FitsSigned w32 x → FitsSigned
 abbrev pub BinaryHolds : Type 0
 BinaryHolds = (op : Binary) (r s t : Ends) → IsRange r → IsRange s
     → result_range op r s ≡ Some t → HoldsWords (computed op) r s t
+
+-- an operation has no range of two ranges only if some of their members set the error flag
+abbrev pub BinaryFails : Type 0
+BinaryFails = (op : Binary) (r s : Ends) → IsRange r → IsRange s
+    → result_range op r s ≡ None → Reaches (computed op) r s None

@@ -1,6 +1,6 @@
 -- Ranges of words, and the range of the results of each operation: the rules by which the certificate's checker
 -- and the compiler bound numbers. The rules are our own choice; they are exact where the ends decide.
-use Rattle.std.specs.Prelude.{◌≡◌, ℕ, ◌-◌, ◌^◌, max, ◌&&◌, ◌||◌, Bool, Option, Some, None, if◌then◌else◌, IsSomeAnd, unwrap_or, ◌↔◌, ℤ, pos, negsuc, ◌+ℤ◌, ◌-ℤ◌, ◌*ℤ◌, ◌≤ℤ◌, int_le, int_div, unsigned_abs, FitsSigned}
+use Rattle.std.specs.Prelude.{◌≡◌, ℕ, ◌-◌, ◌^◌, max, ◌&&◌, ◌||◌, Bool, Option, Some, None, if◌then◌else◌, IfSome, IfNone, IsSomeAnd, unwrap_or, ◌↔◌, ℤ, pos, negsuc, ◌+ℤ◌, ◌-ℤ◌, ◌*ℤ◌, ◌≤ℤ◌, int_le, int_div, unsigned_abs, FitsSigned}
 use Rattle.std.specs.Int.{w32, cast_signed, cast_unsigned, int_min, int_max, leading_zeros}
 use Rattle.std.specs.Ordering.{int_eq}
 use Rattle.word_arithmetic.specs.Word.{is_word, least_word, greatest_word, word_and, word_or, word_xor, word_not}
@@ -76,6 +76,16 @@ pub record Reaches (f : ℤ → ℤ → Option ℤ) (r s : Ends) (outcome : Opti
 pub record ReachesEnds (f : ℤ → ℤ → Option ℤ) (r s t : Ends) : Type 0 where
   pub lo : Reaches f r s (Some t.lo)
   pub hi : Reaches f r s (Some t.hi)
+
+-- the range, if there is one, holds each result of members, and no members set the error flag; if there is none, some do
+pub record BoundsResults (f : ℤ → ℤ → Option ℤ) (r s : Ends) (range : Option Ends) : Type 0 where
+  pub members : IfSome range (HoldsChecked f r s)
+  pub none : IfNone range (Reaches f r s None)
+
+-- and both ends of the range are results of members, so that none is smaller
+pub record BoundsExactly (f : ℤ → ℤ → Option ℤ) (r s : Ends) (range : Option Ends) : Type 0 where
+  pub bounds : BoundsResults f r s range
+  pub reached : IfSome range (ReachesEnds f r s)
 
 -- ---- ranges made of ranges
 

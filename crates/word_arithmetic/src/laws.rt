@@ -1,6 +1,6 @@
 //! The laws of the operations and their ranges, each the contract of a function that does nothing.
 ghost use Rattle.word_arithmetic.specs.Range.{WordsInOrderAreRanges, MembersLieBetween};
-ghost use Rattle.word_arithmetic.specs.Binary.{BinaryGivesWords, BinaryHolds};
+ghost use Rattle.word_arithmetic.specs.Binary.{BinaryGivesWords, BinaryHolds, BinaryFails};
 ghost use Rattle.word_arithmetic.specs.Unary.{UnaryGivesWords, UnaryHolds};
 
 /// The result of words is a word.
@@ -16,6 +16,12 @@ pub fn operations_give_words()
 pub fn ranges_hold_results()
     ensures binary { BinaryHolds }
     ensures unary { UnaryHolds }
+{}
+
+/// The results of an operation have no range only if some members set the error flag.
+#[tactic(auto, using(crate::proofs::BinaryLaws::binary_fails))]
+pub fn no_range_means_failure()
+    ensures { BinaryFails }
 {}
 
 /// Two numbers have a range between them exactly if they are words in order, and its members are the numbers between
