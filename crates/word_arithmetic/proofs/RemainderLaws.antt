@@ -7,7 +7,8 @@ use Rattle.std.proofs.lemmas.Nat.{mod_below}
 use Rattle.std.proofs.Math.Nat.{mod-le}
 use Rattle.word_arithmetic.specs.Word.{checked_remainder, least_word}
 use Rattle.word_arithmetic.specs.Range.{Ends, InRange, IsRange, BoundsResults, in_range, can_fail_to_divide, greatest_size, lowest_remainder, highest_remainder, remainder_ends, remainder_range}
-use Rattle.word_arithmetic.proofs.EndsLaws.{lo_in, and_failed, and_out, checked_fits, fits_between, le_test}
+use Rattle.word_arithmetic.proofs.WordLaws.{checked_fits}
+use Rattle.word_arithmetic.proofs.EndsLaws.{lo_in, and_failed, and_out, fits_between, le_test}
 use Rattle.word_arithmetic.proofs.QuotientLaws.{divided_by_more, not_zero, quotient_is, in_range_out}
 
 -- ---- the quotient of a word fits, but for MostNeg by -1
