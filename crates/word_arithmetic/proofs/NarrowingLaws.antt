@@ -77,8 +77,11 @@ beyond_lo k v h n = by_lt_z v k.lo (λ p. p) (λ p. absurd (n (record { from_lo 
 
 module _ (r k : Ends) (o : r.lo ≤ℤ r.hi) where
   -- the lower end is removed
-  pub upper_left : InRange k r.lo → (InRange k r.hi → ⊥) → IsLeft (λ v. InRange k v → ⊥) r (record { lo = k.hi +ℤ pos 1; hi = r.hi })
-  upper_left m n =
+  pub upper_left : in_range k r.lo ≡ true → in_range k r.hi ≡ false
+      → IsLeft (λ v. InRange k v → ⊥) r (record { lo = k.hi +ℤ pos 1; hi = r.hi })
+  upper_left t u =
+      let m = true_in k r.lo t in
+      let n = false_out k r.hi u in
       let low = m.from_lo in
       let high = m.to_hi in
       let end = beyond_hi k r.hi (omega (arith, ints)) n in
@@ -91,8 +94,11 @@ module _ (r k : Ends) (o : r.lo ≤ℤ r.hi) where
       }
 
   -- the upper end is removed
-  pub lower_left : (InRange k r.lo → ⊥) → InRange k r.hi → IsLeft (λ v. InRange k v → ⊥) r (record { lo = r.lo; hi = k.lo -ℤ pos 1 })
-  lower_left n m =
+  pub lower_left : in_range k r.lo ≡ false → in_range k r.hi ≡ true
+      → IsLeft (λ v. InRange k v → ⊥) r (record { lo = r.lo; hi = k.lo -ℤ pos 1 })
+  lower_left t u =
+      let n = false_out k r.lo t in
+      let m = true_in k r.hi u in
       let low = m.from_lo in
       let high = m.to_hi in
       let end = beyond_lo k r.lo (omega (arith, ints)) n in
@@ -131,9 +137,9 @@ module _ (r k : Ends) (o : r.lo ≤ℤ r.hi) where
       cond_both (in_range k r.lo) (cond (in_range k r.hi) r upper) (cond (in_range k r.hi) lower r) (Narrows P r)
       (λ p. cond_both (in_range k r.hi) r upper (Narrows P r)
       (λ q. old_narrows P r (none_left (true_in k r.lo p) (true_in k r.hi q)))
-      (λ q. left_narrows P r upper (upper_left (true_in k r.lo p) (false_out k r.hi q))))
+      (λ q. left_narrows P r upper (upper_left p q)))
       (λ p. cond_both (in_range k r.hi) lower r (Narrows P r)
-      (λ q. left_narrows P r lower (lower_left (false_out k r.lo p) (true_in k r.hi q)))
+      (λ q. left_narrows P r lower (lower_left p q))
       (λ q. old_narrows P r (ends_left (false_out k r.lo p) (false_out k r.hi q))))
 
 -- ---- a comparison with a constant
