@@ -3,10 +3,11 @@ use Rattle.std.proofs.Common.{T, int_le, int_lt, ◌<ℤ◌, to_z, of_z, ◌≡�
 use Rattle.std.specs.Int.{Width, w32}
 use Rattle.std.specs.Option.{option_map}
 use Rattle.std.proofs.lemmas.Int.{ints, clamps, to_z-of_z}
+use Rattle.std.proofs.lemmas.Bool.{and_from}
 use Rattle.word_arithmetic.specs.declared.ranges.Range.{Range}
 use Rattle.word_arithmetic.specs.Word.{is_word}
 use Rattle.word_arithmetic.proofs.WordLaws.{is_word_out, is_word_in, some_out, then_some}
-use Rattle.word_arithmetic.specs.Range.{Ends, ends_of, InRange, IsRange, IsWithin, Holds, WordsInOrderAreRanges, MembersLieBetween, fitting, hull, range_between}
+use Rattle.word_arithmetic.specs.Range.{Ends, ends_of, InRange, IsRange, IsWithin, Holds, WordsInOrderAreRanges, MembersLieBetween, fitting, hull, in_range, range_between}
 
 -- ---- what is said of a range that may not be there
 
@@ -78,6 +79,24 @@ le_test_fails a b h = by (int_le a b) refl
 
 pub lt_test : (a b : ℤ) → a <ℤ b → int_lt a b ≡ true
 lt_test a b h = true_from_T (int_lt a b) h.lt
+
+-- a number in the range passes the test
+pub in_range_in : (r : Ends) (v : ℤ) → InRange r v → in_range r v ≡ true
+in_range_in r v m = and_from (int_le r.lo v) (int_le v r.hi) (le_test r.lo v m.from_lo) (le_test v r.hi m.to_hi)
+
+-- a number that passes the test lies in the range
+pub in_range_out : (r : Ends) (v : ℤ) → in_range r v ≡ true → InRange r v
+in_range_out r v h =
+    let w = and_out (int_le r.lo v) (int_le v r.hi) h in
+    record { from_lo = omega (arith, ints, w.0); to_hi = omega (arith, ints, w.1) }
+
+-- a number that fails the test does not
+pub not_in_range : (r : Ends) (v : ℤ) → in_range r v ≡ false → InRange r v → ⊥
+not_in_range r v h m =
+    elim (and_failed (int_le r.lo v) (int_le v r.hi) h) [
+      | inl p ↦ omega (arith, ints, p, m.from_lo)
+      | inr p ↦ omega (arith, ints, p, m.to_hi)
+    ]
 
 -- ---- what the code computes, read back
 
