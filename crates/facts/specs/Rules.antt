@@ -4,10 +4,10 @@ use Rattle.std.specs.Prelude.{ℕ, ◌+◌, ◌-◌, nat_lt, Bool, true, false, 
 use Rattle.prefix_decoder.specs.declared.function.Fun.{Fun}
 use Rattle.prefix_decoder.specs.declared.function.Fun.TheVariants.{Jump, LoadConstant, LoadLocal, AddConstant, StoreLocal, Operate}
 use Rattle.prefix_decoder.specs.declared.decoding.Instr.{Instr}
-use Rattle.certificate.specs.declared.fact.Fact.{Fact}
-use Rattle.certificate.specs.declared.fact.Fact.TheVariants.{Unknown, Number}
-use Rattle.certificate.specs.Contents.{Contents, label_at}
-use Rattle.certificate.specs.Order.{least_word}
+use Rattle.module_format.specs.declared.fact.Fact.{Fact}
+use Rattle.module_format.specs.declared.fact.Fact.TheVariants.{Unknown, Number}
+use Rattle.module_format.specs.Contents.{Contents, label_at}
+use Rattle.module_format.specs.Order.{least_word}
 use Rattle.certificate.specs.Rights.{may_write_word, may_read_word}
 use Rattle.machine_state.specs.declared.op.Op.{Op}
 use Rattle.machine_state.specs.declared.op.Op.TheVariants.{Reverse, StopProcess, MinimumInteger}

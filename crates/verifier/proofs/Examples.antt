@@ -1,10 +1,10 @@
 -- Small modules, certified by computation.
 use Rattle.std.proofs.Common.{◌≡◌, ℕ, pos, negsuc, false, List, [], ◌∷◌, Ok, replicate, refl}
-use Rattle.certificate.specs.declared.fact.Fact.TheVariants.{Unknown}
-use Rattle.certificate.specs.declared.rows.ParameterKind.TheVariants.{Value}
-use Rattle.certificate.specs.declared.tables.Version.TheVariants.{One}
-use Rattle.certificate.specs.Contents.{Contents}
-use Rattle.certificate.specs.Contexts.{context_at}
+use Rattle.module_format.specs.declared.fact.Fact.TheVariants.{Unknown}
+use Rattle.module_format.specs.declared.rows.ParameterKind.TheVariants.{Value}
+use Rattle.module_format.specs.declared.tables.Version.TheVariants.{One}
+use Rattle.module_format.specs.Contents.{Contents}
+use Rattle.module_format.specs.Contexts.{context_at}
 use Rattle.states.specs.State.{written}
 use Rattle.states.specs.Below.{below}
 use Rattle.facts.specs.Rules.{outside_alternation, outside_starts, uses, number, in_word, forward, writes_word, reads_word, schedules, pays, leads_to, goes_on, operation_rule, rule, has_rule}

@@ -3,7 +3,7 @@ use Rattle.std.specs.Prelude.{ℕ, zero, suc, ◌+◌, ◌-◌, nat_le, min, if�
 use Rattle.prefix_decoder.specs.declared.decoding.Instr.{Instr}
 use Rattle.prefix_decoder.specs.declared.decoding.DecodeFault.{DecodeFault}
 use Rattle.prefix_decoder.specs.Fetching.{fetched}
-use Rattle.certificate.specs.Contents.{Contents}
+use Rattle.module_format.specs.Contents.{Contents}
 use Rattle.certificate.specs.Starts.{is_start}
 use Rattle.states.specs.State.{State, root_state}
 use Rattle.facts.specs.Rules.{Ruling, breaks, rule_at, has_rule}

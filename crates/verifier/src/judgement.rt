@@ -1,7 +1,7 @@
 //! The judgement on one instruction.
 
 ghost use Rattle.std.specs.Prelude.{◌≡◌, ℕ, if◌then◌else◌};
-ghost use Rattle.certificate.specs.Contents.{Contents};
+ghost use Rattle.module_format.specs.Contents.{Contents};
 ghost use Rattle.states.specs.State.{State as Known};
 ghost use Rattle.states.specs.Views.{state_of, numbered, BelongsTo};
 ghost use Rattle.facts.specs.Rules.{Ruling, has_rule};
