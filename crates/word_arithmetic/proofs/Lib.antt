@@ -1,3 +1,4 @@
+pub mod WordLaws
 pub mod EndsLaws
 pub mod SumLaws
 pub mod CornerLaws
@@ -6,3 +7,5 @@ pub mod RemainderLaws
 pub mod ModularLaws
 pub mod BitLaws
 pub mod NarrowingLaws
+pub mod BinaryLaws
+pub mod UnaryLaws
