@@ -21,6 +21,8 @@ use Rattle.states.specs.declared.known.Mode as states
 use Rattle.states.specs.declared.known.Mode.TheVariants as states_modes
 use Rattle.states.specs.declared.known.WordFact.{WordFact}
 use Rattle.states.specs.declared.known.WordFact.TheVariants.{Alone, Index, Count}
+use Rattle.states.specs.declared.rule.Rule.{Rule}
+use Rattle.states.specs.declared.rule.Rule.TheVariants as rules
 use Rattle.states.specs.State.{State, Facts, label_state, is_word, is_about, by_itself, is_alone, said_of, entry_fact}
 use Rattle.states.specs.Below.{below, agrees, implies, step_implies, is_constant, is_same_loop, says, words_say, entries_hold, are_alike, is_whole, is_plain, cost}
 use Rattle.states.specs.Rows.{IsRowOf, LoopFits, rise_from}
@@ -321,11 +323,11 @@ below_tells s t price h = first (ltb s.number (cost s t)) refl h
     not_below : (m n : ℕ) → ltb m n ≡ false → n ≤ m
     not_below m n e = elim (leb_tells (suc m) n) [ inl p ↦ let no' : true ≡ false = sym p.0 ∙ e in absurd (cc) | inr p ↦ let high : n < suc m = p.1 in omega arith ]
 
-    second : (b : Bool) → agrees s t ≡ b → ◌≡◌ {A = Result ℕ ℕ} (if b then Ok (cost s t) else Err 16) (Ok price) → IsBelow s t
+    second : (b : Bool) → agrees s t ≡ b → ◌≡◌ {A = Result ℕ Rule} (if b then Ok (cost s t) else Err rules.Label) (Ok price) → IsBelow s t
     second true e g = agrees_tells s t e
     second false e g = absurd (cc)
 
-    first : (b : Bool) → ltb s.number (cost s t) ≡ b → ◌≡◌ {A = Result ℕ ℕ} (if b then Err 15 else (if agrees s t then Ok (cost s t) else Err 16)) (Ok price) → (t.number ≤ s.number) × IsBelow s t
+    first : (b : Bool) → ltb s.number (cost s t) ≡ b → ◌≡◌ {A = Result ℕ Rule} (if b then Err rules.Budget else (if agrees s t then Ok (cost s t) else Err rules.Label)) (Ok price) → (t.number ≤ s.number) × IsBelow s t
     first true e g = absurd (cc)
     first false e g = let paid : cost s t ≤ s.number = not_below s.number (cost s t) e in (omega arith, second (agrees s t) refl g)
 

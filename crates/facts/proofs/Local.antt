@@ -28,6 +28,8 @@ use Rattle.machine_state.proofs.Frame.{write_is_own, changes_more}
 use Rattle.states.specs.declared.known.Mode as states
 use Rattle.states.specs.declared.known.Mode.TheVariants as states_modes
 use Rattle.states.specs.declared.known.Known.{Known}
+use Rattle.states.specs.declared.rule.Rule.{Rule}
+use Rattle.states.specs.declared.rule.Rule.TheVariants as rules
 use Rattle.states.specs.State.{State, written, known}
 use Rattle.states.specs.Below.{below}
 use Rattle.states.proofs.RowFacts.{and-parts}
@@ -124,7 +126,7 @@ module _ (x : Here) where
   -- ---- one lemma for each pair of combinators
 
   uses_fact : (fact : Fact) (v : Option ℤ) (r : Ruling) (o : ℤ → Outcome) → Means x.m x.act fact v → ((a : ℤ) → Means x.m x.act fact (Some a) → FitsIf x r (o a))
-      → FitsIf x (elim fact as (λ f. Ruling) [ Unknown ↦ breaks 4 | _ ↦ r ]) (step.uses v o)
+      → FitsIf x (elim fact as (λ f. Ruling) [ Unknown ↦ breaks rules.UnknownRegister | _ ↦ r ]) (step.uses v o)
   unfolding step.uses
   uses_fact Unknown v r o means go = λ next. it_breaks
   uses_fact (Number lo hi) None r o means go = elim means [ ]
@@ -239,9 +241,9 @@ module _ (x : Here) where
   leads_fits wf to s l a changes n =
       on_label (label_at x.m to) refl
     where
-      on_below : (t : Label) → label_at x.m to ≡ Some t → (b : Result ℕ ℕ) → below s t ≡ b
-          → FitsIf x (elim b as (λ b. Ruling) [ Ok cost ↦ leads to | Err v ↦ breaks v ]) (if ltb to (length x.m.code) then lands to l else fails 3)
-      on_below t e (Err v) is = λ next. it_breaks
+      on_below : (t : Label) → label_at x.m to ≡ Some t → (b : Result ℕ Rule) → below s t ≡ b
+          → FitsIf x (elim b as (λ b. Ruling) [ Ok cost ↦ leads to | Err broken ↦ breaks broken ]) (if ltb to (length x.m.code) then lands to l else fails 3)
+      on_below t e (Err broken) is = λ next. it_breaks
       on_below t e (Ok cost) is =
           let low = wf.labels to t e in
           let g = below_tells s t cost is in
@@ -250,7 +252,7 @@ module _ (x : Here) where
           (λ u. absurd (below_not to (length x.m.code) low u))
 
       on_label : (o : Option Label) → label_at x.m to ≡ o
-          → FitsIf x (elim o as (λ o. Ruling) [ None ↦ breaks 16 | Some t ↦ elim (below s t) as (λ b. Ruling) [ Ok cost ↦ leads to | Err v ↦ breaks v ] ]) (if ltb to (length x.m.code) then lands to l else fails 3)
+          → FitsIf x (elim o as (λ o. Ruling) [ None ↦ breaks rules.Label | Some t ↦ elim (below s t) as (λ b. Ruling) [ Ok cost ↦ leads to | Err broken ↦ breaks broken ] ]) (if ltb to (length x.m.code) then lands to l else fails 3)
       on_label None e = λ next. it_breaks
       on_label (Some t) e = on_below t e (below s t) refl
 

@@ -7,7 +7,8 @@ use Rattle.machine_state.specs.declared.op.Op.{Op}
 use Rattle.machine_state.specs.LocalStep.{op_of, target}
 use Rattle.states.specs.declared.known.Known.{Known}
 use Rattle.states.specs.declared.known.WordFact.{WordFact}
-use Rattle.states.specs.declared.rule.RuleFault.{RuleFault}
+use Rattle.states.specs.declared.rule.Rule.{Rule}
+use Rattle.states.specs.declared.rule.Rule.TheVariants as rules
 use Rattle.certificate.specs.Contents.{Label, label_at}
 use Rattle.certificate.specs.Rights.{may_write_word, may_read_word}
 use Rattle.states.specs.State.{State, known, written}
@@ -17,7 +18,7 @@ use Rattle.facts.specs.Rules.{Ruling, Site, leads, breaks, outside_alternation, 
 use Rattle.facts.specs.Telling.{Advances, Gives}
 
 -- the same ruling, told otherwise
-pub advances-by : (r : Result Onward RuleFault) (after : State) (p q : Ruling) → p ≡ q → Advances r after q → Advances r after p
+pub advances-by : (r : Result Onward Rule) (after : State) (p q : Ruling) → p ≡ q → Advances r after q → Advances r after p
 advances-by r after p q e h = subst (λ x. Advances r after x) (sym e) h
 
 -- ---- ldc
@@ -92,16 +93,16 @@ jump-forward site s e d alternation d_is = alternation _ ∙ ap (λ (z : ℤ). f
 
 -- ---- labels
 
-pub leads-on : (site : Site) (to : ℕ) (s : State) (t : Label) (r : Result ℕ ℕ) → label_at site.contents to ≡ Some t → r ≡ below s t → leads_to site to s ≡ elim r as (λ r. Ruling) [ Ok cost ↦ leads to | Err v ↦ breaks v ]
+pub leads-on : (site : Site) (to : ℕ) (s : State) (t : Label) (r : Result ℕ Rule) → label_at site.contents to ≡ Some t → r ≡ below s t → leads_to site to s ≡ elim r as (λ r. Ruling) [ Ok cost ↦ leads to | Err broken ↦ breaks broken ]
 unfolding leads_to
 leads-on site to s t r found is =
-    ap (λ (o : Option Label). elim o as (λ o. Ruling) [ None ↦ breaks 16 | Some t ↦ elim (below s t) as (λ r. Ruling) [ Ok cost ↦ leads to | Err v ↦ breaks v ] ]) found
-    ∙ ap (λ (r : Result ℕ ℕ). elim r as (λ r. Ruling) [ Ok cost ↦ leads to | Err v ↦ breaks v ]) (sym is)
+    ap (λ (o : Option Label). elim o as (λ o. Ruling) [ None ↦ breaks rules.Label | Some t ↦ elim (below s t) as (λ r. Ruling) [ Ok cost ↦ leads to | Err broken ↦ breaks broken ] ]) found
+    ∙ ap (λ (r : Result ℕ Rule). elim r as (λ r. Ruling) [ Ok cost ↦ leads to | Err broken ↦ breaks broken ]) (sym is)
 
-pub leads-nowhere : (site : Site) (to : ℕ) (s : State) → label_at site.contents to ≡ None → leads_to site to s ≡ breaks 16
+pub leads-nowhere : (site : Site) (to : ℕ) (s : State) → label_at site.contents to ≡ None → leads_to site to s ≡ breaks rules.Label
 unfolding leads_to
 leads-nowhere site to s found =
-    ap (λ (o : Option Label). elim o as (λ o. Ruling) [ None ↦ breaks 16 | Some t ↦ elim (below s t) as (λ r. Ruling) [ Ok cost ↦ leads to | Err v ↦ breaks v ] ]) found
+    ap (λ (o : Option Label). elim o as (λ o. Ruling) [ None ↦ breaks rules.Label | Some t ↦ elim (below s t) as (λ r. Ruling) [ Ok cost ↦ leads to | Err broken ↦ breaks broken ] ]) found
 
 -- ---- the words below the workspace
 
@@ -122,14 +123,14 @@ operate-is site s e d o d_is o_is = ap (λ (x : Option Op). operation_rule site 
 
 -- ---- words, where it is known whether they may be written or read
 
-pub written-by : (site : Site) (s : State) (w z : ℤ) (b : Bool) (k : Ruling) → z ≡ w → b ≡ may_write_word site.contents s.context z → writes_word site s w k ≡ cond b k (breaks 14)
+pub written-by : (site : Site) (s : State) (w z : ℤ) (b : Bool) (k : Ruling) → z ≡ w → b ≡ may_write_word site.contents s.context z → writes_word site s w k ≡ cond b k (breaks rules.OwnWord)
 unfolding writes_word
-written-by site s w z b k z_is h = ap (λ b. cond b k (breaks 14)) (ap (may_write_word site.contents s.context) (sym z_is) ∙ sym h)
+written-by site s w z b k z_is h = ap (λ b. cond b k (breaks rules.OwnWord)) (ap (may_write_word site.contents s.context) (sym z_is) ∙ sym h)
 
-pub read-by : (site : Site) (s : State) (w z : ℤ) (b : Bool) (k : Ruling) → z ≡ w → b ≡ may_read_word site.contents s.context z → reads_word site s w k ≡ cond b k (breaks 14)
+pub read-by : (site : Site) (s : State) (w z : ℤ) (b : Bool) (k : Ruling) → z ≡ w → b ≡ may_read_word site.contents s.context z → reads_word site s w k ≡ cond b k (breaks rules.OwnWord)
 unfolding reads_word
-read-by site s w z b k z_is h = ap (λ b. cond b k (breaks 14)) (ap (may_read_word site.contents s.context) (sym z_is) ∙ sym h)
+read-by site s w z b k z_is h = ap (λ b. cond b k (breaks rules.OwnWord)) (ap (may_read_word site.contents s.context) (sym z_is) ∙ sym h)
 
-pub gives-in_word : (r : Result Fact RuleFault) (low high lo hi : ℤ) → Gives (λ fact. fact) r (in_word low high) → low ≡ lo → high ≡ hi → Gives (λ fact. fact) r (in_word lo hi)
+pub gives-in_word : (r : Result Fact Rule) (low high lo hi : ℤ) → Gives (λ fact. fact) r (in_word low high) → low ≡ lo → high ≡ hi → Gives (λ fact. fact) r (in_word lo hi)
 gives-in_word r low high lo hi h low_is high_is =
     subst (λ (z : ℤ). Gives {A = Fact} {B = Fact} (λ fact. fact) r (in_word lo z)) high_is (subst (λ (z : ℤ). Gives {A = Fact} {B = Fact} (λ fact. fact) r (in_word z high)) low_is h)

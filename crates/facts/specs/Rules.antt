@@ -1,5 +1,5 @@
 -- The rule of each instruction: what it wants of the state before it, and what it leaves. The rules mirror the steps of the
--- machine, and their tests stand in rising order of the numbers told.
+-- machine, and their tests stand in rising order of the numbers of rules.
 use Rattle.std.specs.Prelude.{ℕ, ◌+◌, ◌-◌, nat_lt, Bool, true, false, ◌&&◌, if◌then◌else◌, is_some, ℤ, pos, negsuc, ◌+ℤ◌, Option, Some, None, Ok, Err}
 use Rattle.prefix_decoder.specs.declared.function.Fun.{Fun}
 use Rattle.prefix_decoder.specs.declared.function.Fun.TheVariants.{Jump, LoadConstant, LoadLocal, AddConstant, StoreLocal, Operate}
@@ -12,6 +12,8 @@ use Rattle.certificate.specs.Rights.{may_write_word, may_read_word}
 use Rattle.machine_state.specs.declared.op.Op.{Op}
 use Rattle.machine_state.specs.declared.op.Op.TheVariants.{Reverse, StopProcess, MinimumInteger}
 use Rattle.machine_state.specs.LocalStep.{op_of, fits_word, target}
+use Rattle.states.specs.declared.rule.Rule.{Rule}
+use Rattle.states.specs.declared.rule.Rule.TheVariants as rules
 use Rattle.states.specs.declared.known.Known.{Known}
 use Rattle.states.specs.declared.known.Source.{Source}
 use Rattle.states.specs.declared.known.Source.TheVariants.{Nowhere, From}
@@ -29,8 +31,8 @@ pub data Ruling : Type 0 where
   leads : ℕ → Ruling
   -- it stops
   ends : Ruling
-  -- a rule is broken, by this number
-  breaks : ℕ → Ruling
+  -- it breaks this rule
+  breaks : Rule → Ruling
 
 -- the place of an instruction: the module, and the offset and the bytes of the instruction
 pub record Site : Type 0 where
@@ -38,13 +40,13 @@ pub record Site : Type 0 where
   pub at : ℕ
   pub length : ℕ
 
--- ---- combinators, in rising order of the numbers told
+-- ---- combinators, in rising order of the numbers of rules
 
 -- an instruction that may not stand in an alternation
 unfoldable pub outside_alternation : Mode → Ruling → Ruling
 outside_alternation Plain k = k
-outside_alternation Enabling k = breaks 10
-outside_alternation (Disabling done) k = breaks 10
+outside_alternation Enabling k = breaks rules.Alternation
+outside_alternation (Disabling done) k = breaks rules.Alternation
 outside_alternation (Starting row started) k = k
 
 -- one that may not stand among the starts of a PAR
@@ -52,33 +54,33 @@ unfoldable pub outside_starts : Mode → Ruling → Ruling
 outside_starts Plain k = k
 outside_starts Enabling k = k
 outside_starts (Disabling done) k = k
-outside_starts (Starting row started) k = breaks 12
+outside_starts (Starting row started) k = breaks rules.Par
 
 -- a register that is used is known
 unfoldable pub uses : Known → (Fact → Ruling) → Ruling
-uses known k = elim known.fact [ Unknown ↦ breaks 4 | _ ↦ k known.fact ]
+uses known k = elim known.fact [ Unknown ↦ breaks rules.UnknownRegister | _ ↦ k known.fact ]
 
 -- a number is wanted
 unfoldable pub number : Fact → (ℤ → ℤ → Ruling) → Ruling
 number (Number lo hi) k = k lo hi
-number _ k = breaks 5
+number _ k = breaks rules.Number
 
 -- a result that does not fit a word
 unfoldable pub in_word : ℤ → ℤ → (Fact → Ruling) → Ruling
-in_word lo hi k = if fits_word lo && fits_word hi then k (Number lo hi) else breaks 5
+in_word lo hi k = if fits_word lo && fits_word hi then k (Number lo hi) else breaks rules.Number
 
 -- the code offset that is e from the next instruction lies behind it
 unfoldable pub forward : ℤ → Ruling → Ruling
 forward (pos n) k = k
-forward (negsuc n) k = breaks 11
+forward (negsuc n) k = breaks rules.Forward
 
 -- the state's context may write word k of its frame
 unfoldable pub writes_word : Site → State → ℤ → Ruling → Ruling
-writes_word site s k next = if may_write_word site.contents s.context k then next else breaks 14
+writes_word site s k next = if may_write_word site.contents s.context k then next else breaks rules.OwnWord
 
 -- the state's context may read word k of its frame
 unfoldable pub reads_word : Site → State → ℤ → Ruling → Ruling
-reads_word site s k next = if may_read_word site.contents s.context k then next else breaks 14
+reads_word site s k next = if may_read_word site.contents s.context k then next else breaks rules.OwnWord
 
 -- the context may write the three words below the workspace, and they are unknown afterwards
 unfoldable pub schedules : Site → State → (State → Ruling) → Ruling
@@ -89,13 +91,13 @@ schedules site s k =
 
 -- each byte of the instruction is paid from the number
 unfoldable pub pays : Site → State → (State → Ruling) → Ruling
-pays site s k = if nat_lt s.number site.length then breaks 15 else k (record s { number = s.number - site.length })
+pays site s k = if nat_lt s.number site.length then breaks rules.Budget else k (record s { number = s.number - site.length })
 
 -- there is a label at the offset, and the state is below it
 unfoldable pub leads_to : Site → ℕ → State → Ruling
 leads_to site to s = elim (label_at site.contents to) [
-  | None ↦ breaks 16
-  | Some t ↦ elim (below s t) [ Ok cost ↦ leads to | Err v ↦ breaks v ]
+  | None ↦ breaks rules.Label
+  | Some t ↦ elim (below s t) [ Ok cost ↦ leads to | Err broken ↦ breaks broken ]
 ]
 
 unfoldable pub goes_on : Site → State → Ruling
@@ -134,7 +136,7 @@ loaded k word = record { fact = plain word; source = source_of k (plain word) }
 -- ---- the instructions
 
 unfoldable pub operation_rule : Site → Option Op → State → Ruling
-operation_rule site None s = breaks 1
+operation_rule site None s = breaks rules.Spelling
 operation_rule site (Some Reverse) s = outside_alternation s.mode (outside_starts s.mode (goes_on site (reverse s)))
 operation_rule site (Some MinimumInteger) s = outside_starts s.mode (goes_on site (push (constant least_word) s))
 operation_rule site (Some StopProcess) s =
@@ -155,13 +157,13 @@ rule site Jump e s =
     outside_alternation s.mode (forward e (outside_starts s.mode (schedules site s (λ s. pays site s (λ s.
     leads_to site (target (site.at + site.length) e) (without_registers s))))))
 rule site Operate e s = operation_rule site (op_of e) s
-rule site _ e s = breaks 1
+rule site _ e s = breaks rules.Spelling
 
 -- the rule for the instruction that stands at an offset
 abbrev pub rule_at : Contents → ℕ → Instr → State → Ruling
 rule_at m at i s = rule (record { contents = m; at = at; length = i.len }) i.fun i.operand s
 
--- Whether an instruction has a rule. One that has none breaks 1 in every state.
+-- Whether an instruction has a rule. One that has none breaks rules.Spelling in every state.
 unfoldable pub has_rule : Instr → Bool
 has_rule i = elim i.fun [
   | LoadConstant ↦ true

@@ -9,9 +9,9 @@ use crate::place::{Onward, Place};
 use certificate::Module;
 use machine_state::Op;
 use prefix_decoder::{Fun, Instr};
-use states::{RuleFault, SPELLING, State};
+use states::{Rule, State};
 
-/// Whether an instruction has a rule. One that has none breaks `SPELLING` wherever it stands.
+/// Whether an instruction has a rule. One that has none breaks `Rule::Spelling` wherever it stands.
 #[tactic(auto, unfolding(crate::specs::Rules::has_rule))]
 pub fn has_rule(instr: Instr) -> bool
     ensures { result ≡ has_rule instr }
@@ -26,12 +26,7 @@ pub fn has_rule(instr: Instr) -> bool
 /// Takes a state over the instruction that stands at a code offset, by the rule of that instruction. Where
 /// the rule is broken, the state is left part of the way.
 #[tactic(auto, unfolding(crate::specs::Rules::rule))]
-pub fn advance(
-    state: &mut State,
-    module: &Module,
-    at: usize,
-    instr: Instr,
-) -> Result<Onward, RuleFault>
+pub fn advance(state: &mut State, module: &Module, at: usize, instr: Instr) -> Result<Onward, Rule>
     requires { BelongsTo «module».now state.old }
     ensures ruling { Advances result (state_of state.new) (rule_at «module».now at instr (state_of state.old)) }
     ensures belongs { BelongsTo «module».now state.new }
@@ -48,6 +43,6 @@ pub fn advance(
         Fun::AddConstant => place.add_constant(state, instr.operand),
         Fun::Jump => place.jump(state, instr.operand),
         Fun::Operate => place.operate(state, instr.operand),
-        _ => Err(RuleFault { number: SPELLING }),
+        _ => Err(Rule::Spelling),
     }
 }

@@ -1,4 +1,4 @@
-//! The tests that the rules are made of, each with the number of the rule that it keeps.
+//! The tests that the rules are made of, each with the rule that it keeps.
 
 ghost use Rattle.std.specs.Prelude.{◌≡◌, ℤ, ◌+ℤ◌};
 ghost use Rattle.machine_state.specs.LocalStep.{fits_word};
@@ -7,55 +7,49 @@ ghost use Rattle.facts.specs.Rules.{outside_alternation, outside_starts, uses, n
 ghost use Rattle.facts.specs.Telling.{Admits, Gives};
 
 use certificate::Fact;
-use states::{
-    ALTERNATION, FORWARD, Known, Mode, NUMBER, PAR, RuleFault, Source, UNKNOWN_REGISTER, WordFact,
-};
+use states::{Known, Mode, Rule, Source, WordFact};
 
 /// An instruction that may not stand in an alternation.
 #[tactic(auto, unfolding(crate::specs::Rules::outside_alternation))]
-pub(crate) fn outside_alternation(mode: Mode) -> Result<(), RuleFault>
+pub(crate) fn outside_alternation(mode: Mode) -> Result<(), Rule>
     ensures { Admits result (outside_alternation mode) }
 {
     match mode {
         Mode::Plain | Mode::Starting { .. } => Ok(()),
-        Mode::Enabling | Mode::Disabling { .. } => Err(RuleFault {
-            number: ALTERNATION,
-        }),
+        Mode::Enabling | Mode::Disabling { .. } => Err(Rule::Alternation),
     }
 }
 
 /// An instruction that may not stand among the starts of a PAR.
 #[tactic(auto, unfolding(crate::specs::Rules::outside_starts))]
-pub(crate) fn outside_starts(mode: Mode) -> Result<(), RuleFault>
+pub(crate) fn outside_starts(mode: Mode) -> Result<(), Rule>
     ensures { Admits result (outside_starts mode) }
 {
     match mode {
         Mode::Plain | Mode::Enabling | Mode::Disabling { .. } => Ok(()),
-        Mode::Starting { .. } => Err(RuleFault { number: PAR }),
+        Mode::Starting { .. } => Err(Rule::Par),
     }
 }
 
 /// A register that is used is known.
 #[tactic(auto, unfolding(crate::specs::Rules::uses))]
-pub(crate) fn uses(known: Known) -> Result<Fact, RuleFault>
+pub(crate) fn uses(known: Known) -> Result<Fact, Rule>
     ensures { Gives (λ fact. fact) result (uses known) }
 {
     match known.fact {
-        Fact::Unknown => Err(RuleFault {
-            number: UNKNOWN_REGISTER,
-        }),
+        Fact::Unknown => Err(Rule::UnknownRegister),
         fact => Ok(fact),
     }
 }
 
 /// A number is wanted.
 #[tactic(auto, unfolding(crate::specs::Rules::number))]
-pub(crate) fn number(fact: Fact) -> Result<(i32, i32), RuleFault>
+pub(crate) fn number(fact: Fact) -> Result<(i32, i32), Rule>
     ensures { Gives (λ range. range) result (λ k. number fact (λ lo hi. k (lo, hi))) }
 {
     match fact {
         Fact::Number { lo, hi } => Ok((lo, hi)),
-        _ => Err(RuleFault { number: NUMBER }),
+        _ => Err(Rule::Number),
     }
 }
 
@@ -68,11 +62,11 @@ fn fits_word(value: i64) -> bool
 
 /// A range that fits a word.
 #[tactic(auto, unfolding(crate::specs::Rules::in_word))]
-fn in_word(lo: i64, hi: i64) -> Result<Fact, RuleFault>
+fn in_word(lo: i64, hi: i64) -> Result<Fact, Rule>
     ensures { Gives (λ fact. fact) result (in_word lo hi) }
 {
     if !fits_word(lo) || !fits_word(hi) {
-        return Err(RuleFault { number: NUMBER });
+        return Err(Rule::Number);
     }
     Ok(Fact::Number {
         lo: lo as i32,
@@ -81,7 +75,7 @@ fn in_word(lo: i64, hi: i64) -> Result<Fact, RuleFault>
 }
 
 /// A range, moved by a number, that fits a word.
-pub(crate) fn shifted(lo: i32, hi: i32, by: i32) -> Result<Fact, RuleFault>
+pub(crate) fn shifted(lo: i32, hi: i32, by: i32) -> Result<Fact, Rule>
     ensures { Gives (λ fact. fact) result (in_word (lo +ℤ by) (hi +ℤ by)) }
 {
     let by = i64::from(by);
@@ -90,11 +84,11 @@ pub(crate) fn shifted(lo: i32, hi: i32, by: i32) -> Result<Fact, RuleFault>
 
 /// A jump by so many bytes from the next instruction leads forward.
 #[tactic(auto, unfolding(crate::specs::Rules::forward))]
-pub(crate) fn forward(distance: i32) -> Result<(), RuleFault>
+pub(crate) fn forward(distance: i32) -> Result<(), Rule>
     ensures { Admits result (forward distance) }
 {
     if distance < 0 {
-        return Err(RuleFault { number: FORWARD });
+        return Err(Rule::Forward);
     }
     Ok(())
 }

@@ -5,7 +5,7 @@ use crate::combinators::{
 };
 use certificate::{Fact, Module};
 use machine_state::Op;
-use states::{BUDGET, Known, LABEL, OWN_WORD, RuleFault, SPELLING, State, below};
+use states::{Known, Rule, State, cost_below};
 
 /// Where an instruction leads.
 #[derive(Clone, Copy, Debug, PartialEq, Eq)]
@@ -41,7 +41,7 @@ impl Place<'_, '_> {
 
     /// The state's context may write the word so far from the workspace.
     #[tactic(auto, unfolding(crate::specs::Rules::writes_word))]
-    fn writes_word(&self, state: &State, distance: i32) -> Result<i32, RuleFault>
+    fn writes_word(&self, state: &State, distance: i32) -> Result<i32, Rule>
         requires { BelongsTo self.now.module.now state.now }
         ensures test { Admits result (writes_word (site_of self.now) (state_of state.now) (state.now.depth +ℤ distance)) }
         ensures word { IfOk result (λ k. k ≡ state.now.depth +ℤ distance) }
@@ -49,26 +49,26 @@ impl Place<'_, '_> {
     {
         match state.writable_word(i64::from(state.depth) + i64::from(distance)) {
             Some(word) => Ok(word),
-            None => Err(RuleFault { number: OWN_WORD }),
+            None => Err(Rule::OwnWord),
         }
     }
 
     /// The state's context may read the word so far from the workspace.
     #[tactic(auto, unfolding(crate::specs::Rules::reads_word))]
-    fn reads_word(&self, state: &State, distance: i32) -> Result<i32, RuleFault>
+    fn reads_word(&self, state: &State, distance: i32) -> Result<i32, Rule>
         requires { BelongsTo self.now.module.now state.now }
         ensures test { Admits result (reads_word (site_of self.now) (state_of state.now) (state.now.depth +ℤ distance)) }
         ensures word { IfOk result (λ k. k ≡ state.now.depth +ℤ distance) }
     {
         match state.readable_word(i64::from(state.depth) + i64::from(distance)) {
             Some(word) => Ok(word),
-            None => Err(RuleFault { number: OWN_WORD }),
+            None => Err(Rule::OwnWord),
         }
     }
 
     /// The context may write the three words below the workspace, and they are unknown from now on.
     #[tactic(auto, unfolding(crate::specs::Rules::schedules))]
-    fn schedules(&self, state: &mut State) -> Result<(), RuleFault>
+    fn schedules(&self, state: &mut State) -> Result<(), Rule>
         requires { BelongsTo self.now.module.now state.old }
         ensures test { Leaves result (state_of state.new) (schedules (site_of self.now) (state_of state.old)) }
         ensures belongs { BelongsTo self.now.module.now state.new }
@@ -84,13 +84,13 @@ impl Place<'_, '_> {
 
     /// Each byte of the instruction is paid.
     #[tactic(auto, unfolding(crate::specs::Rules::pays))]
-    fn pays(&self, state: &mut State) -> Result<(), RuleFault>
+    fn pays(&self, state: &mut State) -> Result<(), Rule>
         ensures test { Leaves result (state_of state.new) (pays (site_of self.now) (state_of state.old)) }
         ensures belongs { (m : Contents) → BelongsTo m state.old → BelongsTo m state.new }
     {
         let price = self.len as u64;
         if state.number < price {
-            return Err(RuleFault { number: BUDGET });
+            return Err(Rule::Budget);
         }
         state.number -= price;
         Ok(())
@@ -98,7 +98,7 @@ impl Place<'_, '_> {
 
     /// Each byte is paid, and the process goes on behind the instruction.
     #[tactic(auto, unfolding(crate::specs::Rules::goes_on))]
-    fn goes_on(&self, state: &mut State) -> Result<Onward, RuleFault>
+    fn goes_on(&self, state: &mut State) -> Result<Onward, Rule>
         ensures ruling { Advances result (state_of state.new) (goes_on (site_of self.now) (state_of state.old)) }
         ensures belongs { (m : Contents) → BelongsTo m state.old → BelongsTo m state.new }
     {
@@ -117,21 +117,21 @@ impl Place<'_, '_> {
 
     /// There is a label at the offset, and the state may go on as it.
     #[tactic(auto, unfolding(crate::specs::Rules::leads_to))]
-    fn leads_to(&self, state: &State, to: u32) -> Result<Onward, RuleFault>
+    fn leads_to(&self, state: &State, to: u32) -> Result<Onward, Rule>
         requires { Keeps self.now.module.now }
         ensures { Advances result (state_of state.now) (leads_to (site_of self.now) to (state_of state.now)) }
     {
         match self.module.label_at(to) {
             Some(row) => {
-                below(state, row)?;
+                cost_below(state, row)?;
                 Ok(Onward::Leads(to))
             }
-            None => Err(RuleFault { number: LABEL }),
+            None => Err(Rule::Label),
         }
     }
 
     #[tactic(auto, unfolding(crate::specs::Rules::rule))]
-    pub(crate) fn load_constant(&self, state: &mut State, value: i32) -> Result<Onward, RuleFault>
+    pub(crate) fn load_constant(&self, state: &mut State, value: i32) -> Result<Onward, Rule>
         ensures ruling { Advances result (state_of state.new) (rule (site_of self.now) functions.LoadConstant value (state_of state.old)) }
         ensures belongs { (m : Contents) → BelongsTo m state.old → BelongsTo m state.new }
     {
@@ -143,7 +143,7 @@ impl Place<'_, '_> {
     }
 
     #[tactic(auto, unfolding(crate::specs::Rules::rule))]
-    pub(crate) fn load_local(&self, state: &mut State, distance: i32) -> Result<Onward, RuleFault>
+    pub(crate) fn load_local(&self, state: &mut State, distance: i32) -> Result<Onward, Rule>
         requires { BelongsTo self.now.module.now state.old }
         ensures ruling { Advances result (state_of state.new) (rule (site_of self.now) functions.LoadLocal distance (state_of state.old)) }
         ensures belongs { BelongsTo self.now.module.now state.new }
@@ -156,7 +156,7 @@ impl Place<'_, '_> {
     }
 
     #[tactic(auto, unfolding(crate::specs::Rules::rule))]
-    pub(crate) fn store_local(&self, state: &mut State, distance: i32) -> Result<Onward, RuleFault>
+    pub(crate) fn store_local(&self, state: &mut State, distance: i32) -> Result<Onward, Rule>
         requires { BelongsTo self.now.module.now state.old }
         ensures ruling { Advances result (state_of state.new) (rule (site_of self.now) functions.StoreLocal distance (state_of state.old)) }
         ensures belongs { BelongsTo self.now.module.now state.new }
@@ -171,7 +171,7 @@ impl Place<'_, '_> {
     }
 
     #[tactic(auto, unfolding(crate::specs::Rules::rule))]
-    pub(crate) fn add_constant(&self, state: &mut State, value: i32) -> Result<Onward, RuleFault>
+    pub(crate) fn add_constant(&self, state: &mut State, value: i32) -> Result<Onward, Rule>
         requires { BelongsTo self.now.module.now state.old }
         ensures ruling { Advances result (state_of state.new) (rule (site_of self.now) functions.AddConstant value (state_of state.old)) }
         ensures belongs { BelongsTo self.now.module.now state.new }
@@ -186,7 +186,7 @@ impl Place<'_, '_> {
     }
 
     #[tactic(auto, unfolding(crate::specs::Rules::rule))]
-    pub(crate) fn jump(&self, state: &mut State, distance: i32) -> Result<Onward, RuleFault>
+    pub(crate) fn jump(&self, state: &mut State, distance: i32) -> Result<Onward, Rule>
         requires { BelongsTo self.now.module.now state.old }
         ensures ruling { Advances result (state_of state.new) (rule (site_of self.now) functions.Jump distance (state_of state.old)) }
         ensures belongs { BelongsTo self.now.module.now state.new }
@@ -203,7 +203,7 @@ impl Place<'_, '_> {
     }
 
     #[tactic(auto, unfolding(crate::specs::Rules::operation_rule))]
-    fn reverse(&self, state: &mut State) -> Result<Onward, RuleFault>
+    fn reverse(&self, state: &mut State) -> Result<Onward, Rule>
         ensures ruling { Advances result (state_of state.new) (operation_rule (site_of self.now) (Some Reverse) (state_of state.old)) }
         ensures belongs { (m : Contents) → BelongsTo m state.old → BelongsTo m state.new }
     {
@@ -214,7 +214,7 @@ impl Place<'_, '_> {
     }
 
     #[tactic(auto, unfolding(crate::specs::Rules::operation_rule))]
-    fn minimum_integer(&self, state: &mut State) -> Result<Onward, RuleFault>
+    fn minimum_integer(&self, state: &mut State) -> Result<Onward, Rule>
         ensures ruling { Advances result (state_of state.new) (operation_rule (site_of self.now) (Some MinimumInteger) (state_of state.old)) }
         ensures belongs { (m : Contents) → BelongsTo m state.old → BelongsTo m state.new }
     {
@@ -227,7 +227,7 @@ impl Place<'_, '_> {
     }
 
     #[tactic(auto, unfolding(crate::specs::Rules::operation_rule))]
-    fn stop_process(&self, state: &mut State) -> Result<Onward, RuleFault>
+    fn stop_process(&self, state: &mut State) -> Result<Onward, Rule>
         requires { BelongsTo self.now.module.now state.old }
         ensures ruling { Advances result (state_of state.new) (operation_rule (site_of self.now) (Some StopProcess) (state_of state.old)) }
         ensures belongs { BelongsTo self.now.module.now state.new }
@@ -240,7 +240,7 @@ impl Place<'_, '_> {
     }
 
     #[tactic(auto, unfolding(crate::specs::Rules::operation_rule, crate::specs::Rules::rule))]
-    pub(crate) fn operate(&self, state: &mut State, operand: i32) -> Result<Onward, RuleFault>
+    pub(crate) fn operate(&self, state: &mut State, operand: i32) -> Result<Onward, Rule>
         requires { BelongsTo self.now.module.now state.old }
         ensures ruling { Advances result (state_of state.new) (rule (site_of self.now) functions.Operate operand (state_of state.old)) }
         ensures belongs { BelongsTo self.now.module.now state.new }
@@ -249,7 +249,7 @@ impl Place<'_, '_> {
             Some(Op::Reverse) => self.reverse(state),
             Some(Op::MinimumInteger) => self.minimum_integer(state),
             Some(Op::StopProcess) => self.stop_process(state),
-            None => Err(RuleFault { number: SPELLING }),
+            None => Err(Rule::Spelling),
         }
     }
 }

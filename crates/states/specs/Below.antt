@@ -7,6 +7,8 @@ use Rattle.certificate.specs.declared.fact.Step.{Step}
 use Rattle.certificate.specs.declared.fact.Step.TheVariants.{Byte, Word}
 use Rattle.certificate.specs.declared.rows.Entry.{Entry}
 use Rattle.certificate.specs.Contents.{Label}
+use Rattle.states.specs.declared.rule.Rule.{Rule}
+use Rattle.states.specs.declared.rule.Rule.TheVariants as rules
 use Rattle.states.specs.declared.known.WordFact.{WordFact}
 use Rattle.states.specs.declared.known.WordFact.TheVariants.{Alone, Index, Count}
 use Rattle.states.specs.declared.known.Mode.{Mode}
@@ -109,6 +111,6 @@ agrees s t =
     && implies s.a.fact t.a && implies s.b.fact t.b && implies s.c.fact t.c
     && entries_hold s.frame t.entries && list_all (is_whole s.frame) t.entries
 
--- what going on as the label costs, or the number of the rule that is broken: 15 where the state cannot pay, 16 where it knows less
-unfoldable pub below : State → Label → Result ℕ ℕ
-below s t = if nat_lt s.number (cost s t) then Err 15 else if agrees s t then Ok (cost s t) else Err 16
+-- what going on as the label costs, or the rule that is broken: the state cannot pay, or it knows less
+unfoldable pub below : State → Label → Result ℕ Rule
+below s t = if nat_lt s.number (cost s t) then Err rules.Budget else if agrees s t then Ok (cost s t) else Err rules.Label
