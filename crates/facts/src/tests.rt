@@ -8,7 +8,7 @@ ghost use Rattle.states.specs.Views.{BelongsTo};
 use super::*;
 use certificate::{Fact, LabelRow, Module};
 use prefix_decoder::{Fun, Instr};
-use states::{Known, Source, State, WordFact, below};
+use states::{Known, Loop, Source, State, WordFact, below};
 use std::alloc::Global;
 use std::process::Abort;
 
@@ -247,16 +247,16 @@ fn a_loop_is_read_and_broken(rt: HostRuntime) {
     let five = WordFact::Alone(constant(5).fact);
     let turns = Fact::Number { lo: 1, hi: 3 };
     let indices = Fact::Number { lo: 0, hi: 2 };
-    let index = WordFact::Index {
+    let index = WordFact::Index(Loop {
         base: 0,
         count: 3,
         weight: 6,
-    };
-    let count = WordFact::Count {
+    });
+    let count = WordFact::Count(Loop {
         base: 0,
         count: 3,
         weight: 6,
-    };
+    });
     let first = Known {
         fact: indices,
         source: Source::From { word: 1 },

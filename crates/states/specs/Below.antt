@@ -9,6 +9,7 @@ use Rattle.certificate.specs.declared.rows.Entry.{Entry}
 use Rattle.certificate.specs.Contents.{Label}
 use Rattle.states.specs.declared.rule.Rule.{Rule}
 use Rattle.states.specs.declared.rule.Rule.TheVariants as rules
+use Rattle.states.specs.declared.known.Loop.{Loop as CountedLoop}
 use Rattle.states.specs.declared.known.WordFact.{WordFact}
 use Rattle.states.specs.declared.known.WordFact.TheVariants.{Alone, Index, Count}
 use Rattle.states.specs.declared.known.Mode.{Mode}
@@ -42,17 +43,17 @@ is_constant (Number lo hi) number = is_word lo number && is_word hi number
 is_constant _ number = false
 
 -- two loops are the same
-abbrev pub is_same_loop : ℤ → ℕ → ℕ → ℤ → ℕ → ℕ → Bool
-is_same_loop base count weight other turns price = is_word base other && (count == turns) && (weight == price)
+abbrev pub is_same_loop : CountedLoop → CountedLoop → Bool
+is_same_loop loop other = is_word loop.base other.base && (loop.count == other.count) && (loop.weight == other.weight)
 
 -- What is known of a word says at least what is wanted. A number that is the base implies the index, and one that is the
 -- number of turns the count: so a loop is entered.
 abbrev pub says : WordFact → WordFact → Bool
 says fact (Alone wanted) = implies (by_itself fact) wanted
-says (Alone fact) (Index base count weight) = is_constant fact base
-says (Alone fact) (Count base count weight) = is_constant fact (pos count)
-says (Index base count weight) (Index other turns price) = is_same_loop base count weight other turns price
-says (Count base count weight) (Count other turns price) = is_same_loop base count weight other turns price
+says (Alone fact) (Index loop) = is_constant fact loop.base
+says (Alone fact) (Count loop) = is_constant fact (pos loop.count)
+says (Index loop) (Index other) = is_same_loop loop other
+says (Count loop) (Count other) = is_same_loop loop other
 says _ _ = false
 
 -- ---- entries
