@@ -1,21 +1,26 @@
 //! Arithmetic on A.
-#![tactic(auto, unfolding(machine_state::specs::LocalStep::local_step, machine_state::specs::LocalStep::uses, machine_state::specs::LocalStep::in_word, machine_state::specs::LocalStep::goes_on))]
+#![tactic(auto, unfolding(machine_state::specs::LocalStep::instruction_step, machine_state::specs::LocalStep::uses, machine_state::specs::LocalStep::computes, machine_state::specs::LocalStep::goes_on))]
 
-ghost use Rattle.prefix_decoder.specs.declared.function.Fun.TheVariants.{AddConstant};
-ghost use Rattle.machine_state.specs.Performing.{Performs, IsSameElsewhere, direct_outcome};
+ghost use Rattle.machine_state.specs.declared.instruction.Instruction.TheVariants as instruction;
+ghost use Rattle.machine_state.specs.Performing.{Performs, IsSameElsewhere, instruction_outcome};
 
-use machine_state::{Cpu, ERROR_FLAG, Fault, Flow, Store};
+use machine_state::{Cpu, Fault, FaultKind, Flow, Store};
+use word_arithmetic::Binary;
 
-/// `adc`: the operand is added to A; a sum that no word stands for sets the error flag.
-pub(crate) fn add_constant<S: Store>(cpu: &mut Cpu<S>, operand: i32) -> Result<Flow, Fault>
-    ensures performs { let outcome = direct_outcome S.cells S.holding cpu.old AddConstant operand in
+/// `adc` and the like: A becomes the result of the operation on A and the operand, unless that sets the error flag.
+pub(crate) fn with_constant<S: Store>(
+    cpu: &mut Cpu<S>,
+    op: Binary,
+    operand: i32,
+) -> Result<Flow, Fault>
+    ensures performs { let outcome = instruction_outcome S.cells S.holding cpu.old (instruction.WithConstant op) operand in
         Performs S.cells cpu.old cpu.new result outcome }
     ensures elsewhere { IsSameElsewhere S.holding S.roles cpu.old cpu.new }
 {
     cpu.alone()?;
-    let value = cpu.used(cpu.registers.a)?;
-    let sum = value.checked_add(operand).ok_or(cpu.fault(ERROR_FLAG))?;
+    let left = cpu.used(cpu.registers.a)?;
+    let value = cpu.computed(op.apply(left, operand))?;
     cpu.in_code(cpu.next())?;
-    cpu.registers.a = Some(sum);
+    cpu.registers.a = Some(value);
     Ok(Flow::Next)
 }

@@ -1,14 +1,14 @@
 //! Constants, and the words of the workspace.
-#![tactic(auto, unfolding(machine_state::specs::LocalStep::local_step, machine_state::specs::LocalStep::uses, machine_state::specs::LocalStep::reads, machine_state::specs::LocalStep::writes, machine_state::specs::LocalStep::goes_on))]
+#![tactic(auto, unfolding(machine_state::specs::LocalStep::instruction_step, machine_state::specs::LocalStep::uses, machine_state::specs::LocalStep::reads, machine_state::specs::LocalStep::writes, machine_state::specs::LocalStep::goes_on))]
 
-ghost use Rattle.prefix_decoder.specs.declared.function.Fun.TheVariants.{LoadConstant, LoadLocal, StoreLocal};
-ghost use Rattle.machine_state.specs.Performing.{Performs, IsSameElsewhere, direct_outcome};
+ghost use Rattle.machine_state.specs.declared.instruction.Instruction.TheVariants as instruction;
+ghost use Rattle.machine_state.specs.Performing.{Performs, IsSameElsewhere, instruction_outcome};
 
 use machine_state::{Cpu, Fault, Flow, Store, local_address};
 
 /// `ldc`: the operand is pushed.
 pub(crate) fn load_constant<S: Store>(cpu: &mut Cpu<S>, operand: i32) -> Result<Flow, Fault>
-    ensures performs { let outcome = direct_outcome S.cells S.holding cpu.old LoadConstant operand in
+    ensures performs { let outcome = instruction_outcome S.cells S.holding cpu.old instruction.LoadConstant operand in
         Performs S.cells cpu.old cpu.new result outcome }
     ensures elsewhere { IsSameElsewhere S.holding S.roles cpu.old cpu.new }
 {
@@ -19,7 +19,7 @@ pub(crate) fn load_constant<S: Store>(cpu: &mut Cpu<S>, operand: i32) -> Result<
 
 /// `ldl`: the word with this number from the workspace is pushed.
 pub(crate) fn load_local<S: Store>(cpu: &mut Cpu<S>, operand: i32) -> Result<Flow, Fault>
-    ensures performs { let outcome = direct_outcome S.cells S.holding cpu.old LoadLocal operand in
+    ensures performs { let outcome = instruction_outcome S.cells S.holding cpu.old instruction.LoadLocal operand in
         Performs S.cells cpu.old cpu.new result outcome }
     ensures elsewhere { IsSameElsewhere S.holding S.roles cpu.old cpu.new }
 {
@@ -32,7 +32,7 @@ pub(crate) fn load_local<S: Store>(cpu: &mut Cpu<S>, operand: i32) -> Result<Flo
 
 /// `stl`: A goes to the word with this number from the workspace, and is popped.
 pub(crate) fn store_local<S: Store>(cpu: &mut Cpu<S>, operand: i32) -> Result<Flow, Fault>
-    ensures performs { let outcome = direct_outcome S.cells S.holding cpu.old StoreLocal operand in
+    ensures performs { let outcome = instruction_outcome S.cells S.holding cpu.old instruction.StoreLocal operand in
         Performs S.cells cpu.old cpu.new result outcome }
     ensures elsewhere { IsSameElsewhere S.holding S.roles cpu.old cpu.new }
 {

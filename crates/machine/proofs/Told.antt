@@ -11,6 +11,7 @@ use Rattle.machine_state.specs.declared.event.Event.TheVariants.{Step, Arrive, A
 use Rattle.machine_state.specs.declared.link.InputLink.{InputLink}
 use Rattle.machine_state.specs.declared.link.OutputLink.{OutputLink}
 use Rattle.machine_state.specs.declared.fault.Fault.{Fault}
+use Rattle.machine_state.specs.declared.fault.FaultKind.TheVariants.{OutsideCode}
 use Rattle.machine_state.specs.World.{World}
 use Rattle.machine_state.specs.LocalStep.{Outcome, goes, lands, stops, fails, local_step}
 use Rattle.machine_state.specs.Moves.{dispatch, enqueue, leave, put, counted, link_index, with_input, with_output, fill, rouse, wake}
@@ -31,7 +32,7 @@ told-settled : (m : Contents) (p : ℕ) (from : Task) (next : ℕ) (slice : Bool
 told-settled m p from next slice pick (goes l) w = tt
 told-settled m p from next slice pick (lands to l) w = tt
 told-settled m p from next slice pick (stops l) w = tt
-told-settled m p from next slice pick (fails number) w = refl
+told-settled m p from next slice pick (fails kind) w = refl
 
 told-prefix : (m : Contents) (p : ℕ) (task : Task) (operand : ℤ) (w : World) → IsTold (prefix_turn m p task operand w)
 told-prefix m p task operand w = told-either (nat_lt (task.registers.at + 1) (length m.code)) _ _ tt refl
@@ -45,7 +46,7 @@ told-byte m p task slice pick w operand after (Some f) = told-settled m p task (
 told-byte m p task slice pick w operand after None = told-prefix m p task after w
 
 told-task : (m : Contents) (p : ℕ) (slice : Bool) (pick : ℕ) (task : Task) (w : World) (o : Option ℕ)
-    → IsTold (elim o [ None ↦ failed 3 p task w | Some byte ↦ byte_turn m p task byte slice pick w ])
+    → IsTold (elim o [ None ↦ failed OutsideCode p task w | Some byte ↦ byte_turn m p task byte slice pick w ])
 told-task m p slice pick task w None = refl
 told-task m p slice pick task w (Some byte) = told-byte m p task slice pick w _ _ (fun_of (function_code byte))
 

@@ -1,5 +1,5 @@
 -- What a call for one event did, against the turn of the definitions.
-use Rattle.std.specs.Prelude.{◌≡◌, ℕ, ℤ, Result, Ok, Err}
+use Rattle.std.specs.Prelude.{◌≡◌, ℕ, ℤ, Some, Result, Ok, Err}
 use Rattle.prefix_decoder.specs.declared.function.Fun.{Fun}
 use Rattle.certificate.specs.Contents.{Contents}
 use Rattle.machine_state.specs.declared.cpu.Flow.{Flow}
@@ -8,7 +8,8 @@ use Rattle.machine_state.specs.declared.process.Task.{Task}
 use Rattle.machine_state.specs.declared.fault.Fault.{Fault}
 use Rattle.machine_state.specs.Memory.{Memory}
 use Rattle.machine_state.specs.World.{World}
-use Rattle.machine_state.specs.LocalStep.{Local, Outcome, goes, lands, stops, fails, local_step}
+use Rattle.machine_state.specs.LocalStep.{Local, Outcome, goes, lands, stops, local_step}
+use Rattle.machine_state.specs.Performing.{reported}
 use Rattle.machine_state.specs.Happens.{Did, ran, idle, taken, kept, busy, acknowledged, ignored, Turn, site_of}
 use Rattle.machine.specs.declared.checked.act.Act.{Act}
 use Rattle.machine.specs.declared.checked.act.Act.TheVariants.{Ran, Idle, Taken, Kept, Busy, Acknowledged, Ignored}
@@ -61,6 +62,4 @@ PerformsFor p task before after (Ok performed) outcome =
     (outcome ≡ outcome_of performed after.world.memory)
     × (after ≡ record before { world = record before.world { memory = after.world.memory } })
 PerformsFor p task before after (Err fault) outcome =
-    (outcome ≡ fails fault.number)
-    × (fault ≡ record { number = fault.number; process = p; offset = task.registers.began })
-    × (after ≡ before)
+    (reported p task.registers.began outcome ≡ Some fault) × (after ≡ before)

@@ -1,16 +1,18 @@
 -- An instruction changes no byte but those that its process may write: one lemma for each combinator, then one line an instruction.
-use Rattle.std.proofs.Common.{◌≡◌, ℕ, ◌+◌, ◌≤◌, ◌<◌, ℤ, negsuc, Bool, true, false, ◌&&◌, cond, ◌⊎◌, inl, inr, length, Option, Some, None, refl, sym, ap, ◌∙◌, ltb, arith}
+use Rattle.std.proofs.Common.{◌≡◌, ℕ, ◌+◌, ◌≤◌, ◌<◌, ℤ, negsuc, Bool, true, false, ◌&&◌, cond, ◌⊎◌, inl, inr, Option, Some, None, refl, sym, ap, ◌∙◌, ltb, arith}
 use Rattle.std.proofs.lemmas.Bool.{cases_lt}
-use Rattle.prefix_decoder.specs.declared.function.Fun.{Fun}
 use Rattle.prefix_decoder.specs.declared.function.Fun.TheVariants as fun
 use Rattle.machine_state.specs.declared.process.Mode.{Mode}
 use Rattle.machine_state.specs.declared.process.Mode.TheVariants.{Plain, Enabling, Disabling, Starting}
 use Rattle.machine_state.specs.declared.op.Op.{Op}
 use Rattle.machine_state.specs.declared.op.Op.TheVariants.{Reverse, StopProcess, MinimumInteger}
+use Rattle.machine_state.specs.declared.instruction.Instruction.{Instruction}
+use Rattle.machine_state.specs.declared.instruction.Instruction.TheVariants.{Jump, LoadConstant, LoadLocal, StoreLocal, WithConstant, Operate}
+use Rattle.machine_state.specs.Instructions.{instruction_of}
 use Rattle.machine_state.specs.Memory.{Memory, place_of, local_address, word_at, with_word}
 use Rattle.machine_state.specs.Holding.{Holding, may_write, may_write_word, may_read_word}
 use Rattle.machine_state.specs.LocalStep as step
-use Rattle.machine_state.specs.LocalStep.{Site, Local, Outcome, goes, lands, stops, fails, fits_word}
+use Rattle.machine_state.specs.LocalStep.{Site, Local, Outcome, goes, lands, stops, fails}
 use Rattle.machine_state.specs.Frame.{ChangesOwn, LeavesOthers, StepsChangeOwn}
 use Rattle.machine_state.proofs.Reading.{length-with_word, byte_at-with_word_other}
 
@@ -100,9 +102,10 @@ module _ (s : Site) (old : Memory) where
       writes_leaves (word (negsuc 1)) None (record l { memory = m1 }) _ c1 (λ m2 c2.
       writes_leaves (word (negsuc 2)) None (record l { memory = m2 }) k c2 h))
 
-  in_word_leaves : (v : ℤ) (k : ℤ → Outcome) → Leaves (k v) → Leaves (step.in_word v k)
-  unfolding step.in_word
-  in_word_leaves v k h = on_test (fits_word v) _ _ (λ e. h) tt
+  computes_leaves : (v : Option ℤ) (k : ℤ → Outcome) → ((x : ℤ) → Leaves (k x)) → Leaves (step.computes v k)
+  unfolding step.computes
+  computes_leaves None k h = tt
+  computes_leaves (Some x) k h = h x
 
   goes_on_leaves : (l : Local) → ChangesOwn s.holding old l.memory → Leaves (step.goes_on s l)
   unfolding step.goes_on
@@ -112,30 +115,40 @@ module _ (s : Site) (old : Memory) where
   unfolding step.leads_to
   leads_to_leaves to l changes = on_test (ltb to s.code_length) (lands to l) _ (λ e. changes) tt
 
-operation_leaves : (s : Site) (op : Option Op) (l : Local) → LeavesOthers s.holding l.memory (step.operation_step s op l)
-unfolding step.operation_step
-operation_leaves s None l = tt
-operation_leaves s (Some Reverse) l = alone_leaves s l.memory s.mode _ (goes_on_leaves s l.memory (step.reverse l) (changes_nothing s.holding l.memory))
-operation_leaves s (Some MinimumInteger) l = beside_leaves s l.memory s.mode _ (goes_on_leaves s l.memory _ (changes_nothing s.holding l.memory))
-operation_leaves s (Some StopProcess) l = alone_leaves s l.memory s.mode _ (schedules_leaves s l.memory l stops (changes_nothing s.holding l.memory) (λ memory changes. changes))
+-- ---- the instructions
+
+module _ (s : Site) (l : Local) where
+  same : ChangesOwn s.holding l.memory l.memory
+  same = changes_nothing s.holding l.memory
+
+  operation_leaves : (op : Op) → LeavesOthers s.holding l.memory (step.operation_step s op l)
+  unfolding step.operation_step
+  operation_leaves Reverse = alone_leaves s l.memory s.mode _ (goes_on_leaves s l.memory (step.reverse l) same)
+  operation_leaves MinimumInteger = beside_leaves s l.memory s.mode _ (goes_on_leaves s l.memory _ same)
+  operation_leaves StopProcess =
+      alone_leaves s l.memory s.mode _ (schedules_leaves s l.memory l stops same (λ memory changes. changes))
+
+  instruction_leaves : (i : Instruction) (e : ℤ) → LeavesOthers s.holding l.memory (step.instruction_step s i e l)
+  unfolding step.instruction_step
+  instruction_leaves LoadConstant e = goes_on_leaves s l.memory (step.push (Some e) l) same
+  instruction_leaves LoadLocal e =
+      beside_leaves s l.memory s.mode _ (reads_leaves s l.memory _ l _ (λ v. goes_on_leaves s l.memory (step.push v l) same))
+  instruction_leaves StoreLocal e =
+      alone_leaves s l.memory s.mode _ (uses_leaves s l.memory l.registers.a _ (λ a.
+      writes_leaves s l.memory _ (Some a) l _ same (λ memory changes. goes_on_leaves s l.memory _ changes)))
+  instruction_leaves (WithConstant op) e =
+      alone_leaves s l.memory s.mode _ (uses_leaves s l.memory l.registers.a _ (λ a.
+      computes_leaves s l.memory _ _ (λ v. goes_on_leaves s l.memory _ same)))
+  instruction_leaves Jump e =
+      alone_leaves s l.memory s.mode _ (schedules_leaves s l.memory l _ same (λ memory changes.
+      leads_to_leaves s l.memory _ _ changes))
+  instruction_leaves (Operate op) e = operation_leaves op
+
+  decoded_leaves : (o : Option Instruction) (e : ℤ) → LeavesOthers s.holding l.memory (step.step_of s o e l)
+  unfolding step.step_of
+  decoded_leaves None e = tt
+  decoded_leaves (Some i) e = instruction_leaves i e
 
 pub steps_change_own : StepsChangeOwn
 unfolding step.local_step
-steps_change_own s fun.LoadConstant e l = goes_on_leaves s l.memory (step.push (Some e) l) (changes_nothing s.holding l.memory)
-steps_change_own s fun.LoadLocal e l =
-    beside_leaves s l.memory s.mode _ (reads_leaves s l.memory _ l _ (λ v. goes_on_leaves s l.memory (step.push v l) (changes_nothing s.holding l.memory)))
-steps_change_own s fun.StoreLocal e l =
-    alone_leaves s l.memory s.mode _ (uses_leaves s l.memory l.registers.a _ (λ a. writes_leaves s l.memory _ (Some a) l _ (changes_nothing s.holding l.memory) (λ memory changes. goes_on_leaves s l.memory _ changes)))
-steps_change_own s fun.AddConstant e l =
-    alone_leaves s l.memory s.mode _ (uses_leaves s l.memory l.registers.a _ (λ a. in_word_leaves s l.memory _ _ (goes_on_leaves s l.memory _ (changes_nothing s.holding l.memory))))
-steps_change_own s fun.Jump e l =
-    alone_leaves s l.memory s.mode _ (schedules_leaves s l.memory l _ (changes_nothing s.holding l.memory) (λ memory changes. leads_to_leaves s l.memory _ _ changes))
-steps_change_own s fun.Operate e l = operation_leaves s (step.op_of e) l
-steps_change_own s fun.LoadLocalPointer e l = tt
-steps_change_own s fun.LoadNonLocal e l = tt
-steps_change_own s fun.LoadNonLocalPointer e l = tt
-steps_change_own s fun.Call e l = tt
-steps_change_own s fun.ConditionalJump e l = tt
-steps_change_own s fun.AdjustWorkspace e l = tt
-steps_change_own s fun.EqualsConstant e l = tt
-steps_change_own s fun.StoreNonLocal e l = tt
+steps_change_own s f e l = decoded_leaves s l (instruction_of f e) e

@@ -1,5 +1,5 @@
 -- No two processes hold the same, and what open joins keep to themselves is held by nobody.
-use Rattle.std.specs.Prelude.{◌≡◌, ◌≢◌, ℕ, ◌+◌, true, false, List, Option, Some, slice_get}
+use Rattle.std.specs.Prelude.{◌≡◌, ◌≢◌, ℕ, ◌+◌, true, false, List, Some, slice_get}
 use Rattle.machine_state.specs.declared.process.Channel.{Channel}
 use Rattle.machine_state.specs.declared.holding.Span.{Span}
 use Rattle.machine_state.specs.Memory.{place_of}

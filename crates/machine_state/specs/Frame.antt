@@ -15,7 +15,7 @@ abbrev pub LeavesOthers : Holding → Memory → Outcome → Type 0
 LeavesOthers h old (goes l) = ChangesOwn h old l.memory
 LeavesOthers h old (lands to l) = ChangesOwn h old l.memory
 LeavesOthers h old (stops l) = ChangesOwn h old l.memory
-LeavesOthers h old (fails number) = ⊤
+LeavesOthers h old (fails kind) = ⊤
 
 abbrev pub StepsChangeOwn : Type 0
 StepsChangeOwn = (s : Site) (f : Fun) (operand : ℤ) (l : Local) → LeavesOthers s.holding l.memory (local_step s f operand l)

@@ -1,6 +1,8 @@
 pub mod Memory
 pub mod Holding
 pub mod World
+pub mod Faults
+pub mod Instructions
 pub mod LocalStep
 pub mod Moves
 pub mod Happens

@@ -1,5 +1,5 @@
 -- Memory is a list of bytes, each defined or not. A byte's place in the list is its address less that of the data area.
-use Rattle.std.specs.Prelude.{ℕ, ◌+◌, ◌*◌, ◌/◌, ◌%◌, ◌^◌, ℤ, List, Option, None, slice_index_or, slice_set}
+use Rattle.std.specs.Prelude.{ℕ, ◌+◌, ◌-◌, ◌*◌, ◌/◌, ◌%◌, ◌^◌, ℤ, List, Option, None, slice_index_or, slice_set}
 use Rattle.std.specs.Option.{option_map, option_and_then}
 use Rattle.std.specs.Int.{w32, cast_unsigned, cast_signed}
 
@@ -12,7 +12,7 @@ data_start = 0x80000100
 
 -- the place of an address; the addresses before the data area have places far behind its end
 unfoldable pub place_of : ℕ → ℕ
-place_of address = (address + 0x7fffff00) % 2 ^ 32
+place_of address = (address + (2 ^ 32 - data_start)) % 2 ^ 32
 
 -- the address of word e from a workspace (T414 compiler writer's guide: W + 4e, modulo 2^32)
 unfoldable pub local_address : ℕ → ℤ → ℕ

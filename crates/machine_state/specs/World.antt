@@ -83,12 +83,15 @@ loaded_memory m = replicate (4 * m.data_words) None ++ map Some m.code ++ replic
 abbrev pub IsLoadable : Contents → Type 0
 IsLoadable m = data_start + constants_start m + length m.constants ≤ 2 ^ 32
 
--- the words of the links: output link k at MostNeg + 4k, input link k at MostNeg + 16 + 4k (T414 compiler writer's guide)
+-- the words of the links, from MostNeg on: output links 0 to 3, then input links 0 to 3 (T414 compiler writer's guide)
+abbrev pub link_words : ℕ
+link_words = 0x80000000
+
 abbrev pub output_word : ℕ → ℕ
-output_word k = 0x80000000 + 4 * k
+output_word k = link_words + 4 * k
 
 abbrev pub input_word : ℕ → ℕ
-input_word k = 0x80000010 + 4 * k
+input_word k = link_words + 16 + 4 * k
 
 -- The root holds the ends of the links that have a message length.
 abbrev pub link_ends_from : ℕ → List ℕ → List End

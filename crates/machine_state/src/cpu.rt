@@ -8,7 +8,7 @@ ghost use Rattle.machine_state.specs.Memory.{place_of, word_at};
 ghost use Rattle.machine_state.specs.Performing.{fault_of, value_or_fault, Admits};
 
 use crate::address::local_address;
-use crate::fault::{ALTERNATION_ORDER, Fault, JOIN_ORDER, NOT_OWN, OUTSIDE_CODE, UNDEFINED};
+use crate::fault::{Fault, FaultKind};
 use crate::process::{Mode, Registers, Word};
 use crate::store::Store;
 
@@ -27,7 +27,7 @@ pub struct Cpu<S> {
 /// How a process goes on after an instruction. Later instructions add kinds.
 #[derive(Clone, Copy, Debug, PartialEq, Eq)]
 pub enum Flow {
-    /// Behind the instruction.
+    /// After the instruction.
     Next,
     /// At a code offset, by an instruction after which the process may go to the back of the ready list.
     Jump { to: u32 },
@@ -36,62 +36,69 @@ pub enum Flow {
 }
 
 impl<S> Cpu<S> {
-    /// The fault of this number in the present instruction.
-    pub fn fault(&self, number: u8) -> Fault
-        ensures { result ≡ fault_of self.now number }
+    /// A fault in the present instruction.
+    pub fn fault(&self, kind: FaultKind) -> Fault
+        ensures { result ≡ fault_of self.now kind }
     {
         Fault {
-            number,
+            number: kind.number(),
             process: self.process,
             offset: self.registers.began,
         }
     }
 
-    /// The value of a register that an instruction uses: it is defined, else `UNDEFINED`.
+    /// The value of a register that an instruction uses: it is defined, else `Undefined`.
     pub fn used(&self, register: Word) -> Result<i32, Fault>
-        ensures { result ≡ ok_or register (fault_of self.now UNDEFINED) }
+        ensures { result ≡ ok_or register (fault_of self.now FaultKind.Undefined) }
     {
-        register.ok_or(self.fault(UNDEFINED))
+        register.ok_or(self.fault(FaultKind::Undefined))
     }
 
-    /// The code offset behind the present instruction, whose last byte is at `at`.
+    /// The result of an operation: there is one, else `ErrorFlag`.
+    pub fn computed(&self, value: Option<i32>) -> Result<i32, Fault>
+        ensures { result ≡ ok_or value (fault_of self.now FaultKind.ErrorFlag) }
+    {
+        value.ok_or(self.fault(FaultKind::ErrorFlag))
+    }
+
+    /// The code offset after the present instruction, whose last byte is at `at`.
     pub fn next(&self) -> u64
         ensures { result ≡ self.now.registers.at + 1 }
     {
         u64::from(self.registers.at) + 1
     }
 
-    /// Passes where the offset lies in the code, else `OUTSIDE_CODE`.
+    /// Passes where the offset lies in the code, else `OutsideCode`.
     pub fn in_code(&self, offset: u64) -> Result<(), Fault>
-        ensures { result ≡ value_or_fault self.now (nat_lt offset self.now.code_length) tt OUTSIDE_CODE }
+        ensures { result ≡ value_or_fault self.now (nat_lt offset self.now.code_length) tt FaultKind.OutsideCode }
     {
         if offset < u64::from(self.code_length) {
             Ok(())
         } else {
-            Err(self.fault(OUTSIDE_CODE))
+            Err(self.fault(FaultKind::OutsideCode))
         }
     }
 
-    /// Passes outside alternations and the starts of a PAR, else `ALTERNATION_ORDER` or `JOIN_ORDER`.
+    /// Passes outside alternations and the starts of a PAR, else `AlternationOrder` or `JoinOrder`.
     #[tactic(auto, unfolding(crate::specs::LocalStep::alone))]
     pub fn alone(&self) -> Result<(), Fault>
         ensures { Admits self.now result (alone self.now.mode) }
     {
         match self.mode {
             Mode::Plain => Ok(()),
-            Mode::Enabling | Mode::Disabling { .. } => Err(self.fault(ALTERNATION_ORDER)),
-            Mode::Starting { .. } => Err(self.fault(JOIN_ORDER)),
+            Mode::Enabling | Mode::Disabling { .. } => Err(self.fault(FaultKind::AlternationOrder)),
+            Mode::Starting { .. } => Err(self.fault(FaultKind::JoinOrder)),
         }
     }
 
-    /// Passes outside the starts of a PAR, else `JOIN_ORDER`.
+    /// Passes outside the starts of a PAR, else `JoinOrder`.
     #[tactic(auto, unfolding(crate::specs::LocalStep::beside_guards))]
     pub fn beside_guards(&self) -> Result<(), Fault>
         ensures { Admits self.now result (beside_guards self.now.mode) }
     {
         match self.mode {
             Mode::Plain | Mode::Enabling | Mode::Disabling { .. } => Ok(()),
-            Mode::Starting { .. } => Err(self.fault(JOIN_ORDER)),
+            Mode::Starting { .. } => Err(self.fault(FaultKind::JoinOrder)),
         }
     }
 
@@ -107,36 +114,36 @@ impl<S> Cpu<S> {
 }
 
 impl<S: Store> Cpu<S> {
-    /// The word at an address that may be read, else `NOT_OWN`.
+    /// The word at an address that may be read, else `NotOwn`.
     pub fn read(&self, address: u32) -> Result<Word, Fault>
         ensures { let place = place_of address in
             let can_load = may_read_word (S.holding self.now.store) place in
-            result ≡ value_or_fault self.now can_load (word_at (S.cells self.now.store) place) NOT_OWN }
+            result ≡ value_or_fault self.now can_load (word_at (S.cells self.now.store) place) FaultKind.NotOwn }
     {
         if self.store.can_load_word(address) {
             Ok(self.store.load_word(address))
         } else {
-            Err(self.fault(NOT_OWN))
+            Err(self.fault(FaultKind::NotOwn))
         }
     }
 
-    /// Passes where the word at an address may be written, else `NOT_OWN`.
+    /// Passes where the word at an address may be written, else `NotOwn`.
     pub fn writable(&self, address: u32) -> Result<(), Fault>
         ensures { let can_store = may_write_word (S.holding self.now.store) (place_of address) in
-            result ≡ value_or_fault self.now can_store tt NOT_OWN }
+            result ≡ value_or_fault self.now can_store tt FaultKind.NotOwn }
     {
         if self.store.can_store_word(address) {
             Ok(())
         } else {
-            Err(self.fault(NOT_OWN))
+            Err(self.fault(FaultKind::NotOwn))
         }
     }
 
     /// Passes where the process may write the three words below its workspace, which scheduling takes, else
-    /// `NOT_OWN`.
+    /// `NotOwn`.
     pub fn schedulable(&self) -> Result<(), Fault>
         ensures { let holds = holds_scheduling_words (S.holding self.now.store) self.now.registers.workspace in
-            result ≡ value_or_fault self.now holds tt NOT_OWN }
+            result ≡ value_or_fault self.now holds tt FaultKind.NotOwn }
     {
         let workspace = self.registers.workspace;
         self.writable(local_address(workspace, -1))?;

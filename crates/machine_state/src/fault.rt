@@ -1,9 +1,60 @@
 //! Why a machine stopped.
 
-/// A fault of a process.
+ghost use Rattle.std.specs.Prelude.{◌≡◌};
+ghost use Rattle.machine_state.specs.Faults.{number_of};
+
+/// A rule of the machine that a process breaks.
+#[derive(Clone, Copy, Debug, PartialEq, Eq)]
+pub enum FaultKind {
+    /// A result does not fit a word, and sets the error flag.
+    ErrorFlag,
+    /// An undefined value is used.
+    Undefined,
+    /// The process goes on outside the code.
+    OutsideCode,
+    /// A byte outside the regions that the process holds is touched.
+    NotOwn,
+    /// A word address is not a multiple of 4.
+    Unaligned,
+    /// The process does not hold the channel end.
+    EndNotHeld,
+    /// The two sides of a message have unequal lengths.
+    UnequalLengths,
+    /// The machine has no such function or operation.
+    UnknownOperation,
+    /// An instruction of an alternation, or one that is allowed only outside it, comes out of order.
+    AlternationOrder,
+    /// A start or a join, or an instruction that is allowed only outside them, comes out of order.
+    JoinOrder,
+    /// A count is out of range.
+    CountRange,
+}
+
+impl FaultKind {
+    /// The number by which the fault is reported.
+    pub fn number(self) -> u8
+        ensures { result ≡ number_of self }
+    {
+        match self {
+            FaultKind::ErrorFlag => ERROR_FLAG,
+            FaultKind::Undefined => UNDEFINED,
+            FaultKind::OutsideCode => OUTSIDE_CODE,
+            FaultKind::NotOwn => NOT_OWN,
+            FaultKind::Unaligned => UNALIGNED,
+            FaultKind::EndNotHeld => END_NOT_HELD,
+            FaultKind::UnequalLengths => UNEQUAL_LENGTHS,
+            FaultKind::UnknownOperation => UNKNOWN_OPERATION,
+            FaultKind::AlternationOrder => ALTERNATION_ORDER,
+            FaultKind::JoinOrder => JOIN_ORDER,
+            FaultKind::CountRange => COUNT_RANGE,
+        }
+    }
+}
+
+/// A fault of a process, as it is reported.
 #[derive(Clone, Copy, Debug, PartialEq, Eq)]
 pub struct Fault {
-    /// Which fault, 1 to 11.
+    /// The number of its kind, 1 to 11.
     pub number: u8,
     /// The process at fault.
     pub process: u64,
@@ -11,25 +62,25 @@ pub struct Fault {
     pub offset: u32,
 }
 
-/// A result does not fit a word, and sets the error flag.
+/// The number of `FaultKind::ErrorFlag`.
 pub const ERROR_FLAG: u8 = 1;
-/// An undefined value is used.
+/// The number of `FaultKind::Undefined`.
 pub const UNDEFINED: u8 = 2;
-/// The process goes on outside the code.
+/// The number of `FaultKind::OutsideCode`.
 pub const OUTSIDE_CODE: u8 = 3;
-/// A byte outside the regions that the process holds is touched.
+/// The number of `FaultKind::NotOwn`.
 pub const NOT_OWN: u8 = 4;
-/// A word address is not a multiple of 4.
+/// The number of `FaultKind::Unaligned`.
 pub const UNALIGNED: u8 = 5;
-/// The process does not hold the channel end.
+/// The number of `FaultKind::EndNotHeld`.
 pub const END_NOT_HELD: u8 = 6;
-/// The two sides of a message have unequal lengths.
+/// The number of `FaultKind::UnequalLengths`.
 pub const UNEQUAL_LENGTHS: u8 = 7;
-/// The machine has no such operation.
+/// The number of `FaultKind::UnknownOperation`.
 pub const UNKNOWN_OPERATION: u8 = 8;
-/// An instruction of an alternation, or one that must stand outside it, comes out of order.
+/// The number of `FaultKind::AlternationOrder`.
 pub const ALTERNATION_ORDER: u8 = 9;
-/// A start or a join, or an instruction that must stand outside them, comes out of order.
+/// The number of `FaultKind::JoinOrder`.
 pub const JOIN_ORDER: u8 = 10;
-/// A count is out of range.
+/// The number of `FaultKind::CountRange`.
 pub const COUNT_RANGE: u8 = 11;

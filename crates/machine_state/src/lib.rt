@@ -7,6 +7,7 @@ mod cpu;
 mod event;
 mod fault;
 mod holding;
+mod instruction;
 mod laws;
 mod link;
 mod loading;
@@ -20,10 +21,11 @@ pub use address::{DATA_START, local_address, place_of};
 pub use cpu::{Cpu, Flow};
 pub use event::{Effect, Event};
 pub use fault::{
-    ALTERNATION_ORDER, COUNT_RANGE, END_NOT_HELD, ERROR_FLAG, Fault, JOIN_ORDER, NOT_OWN,
-    OUTSIDE_CODE, UNALIGNED, UNDEFINED, UNEQUAL_LENGTHS, UNKNOWN_OPERATION,
+    ALTERNATION_ORDER, COUNT_RANGE, END_NOT_HELD, ERROR_FLAG, Fault, FaultKind, JOIN_ORDER,
+    NOT_OWN, OUTSIDE_CODE, UNALIGNED, UNDEFINED, UNEQUAL_LENGTHS, UNKNOWN_OPERATION,
 };
 pub use holding::{End, Holding, Span};
+pub use instruction::Instruction;
 pub use laws::{
     memory_keeps_its_length, memory_reads_back, memory_stays_elsewhere, small_modules_end,
     steps_change_their_own,

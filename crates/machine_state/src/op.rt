@@ -1,7 +1,7 @@
 //! The operations, which the function `opr` chooses by its operand.
 
 ghost use Rattle.std.specs.Prelude.{◌≡◌};
-ghost use Rattle.machine_state.specs.LocalStep.{op_of};
+ghost use Rattle.machine_state.specs.Instructions.{op_of};
 
 /// An operation.
 #[derive(Clone, Copy, Debug, PartialEq, Eq)]
@@ -16,6 +16,7 @@ pub enum Op {
 
 impl Op {
     /// The operation that an operand of `opr` chooses, if there is one.
+    #[tactic(auto, unfolding(crate::specs::Instructions::op_of))]
     pub fn of(operand: i32) -> Option<Self>
         ensures { result ≡ op_of operand }
     {

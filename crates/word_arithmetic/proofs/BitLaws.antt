@@ -20,6 +20,29 @@ cast_fits n h = omega (arith, ints)
 pub bits_below : (x : ℤ) → FitsSigned w32 x → cast_unsigned w32 x < 2 ^ 32
 bits_below x f = omega (arith, ints)
 
+-- what is left modulo 2^32 stands for a word
+pub wrapped_fits : (n : ℕ) → FitsSigned w32 (cast_signed w32 (n % 2 ^ 32))
+wrapped_fits n = cast_fits (n % 2 ^ 32) (mod_below n (2 ^ 32) (omega arith))
+
+-- ---- results on bits are words
+
+pub and_fits : (x y : ℤ) → FitsSigned w32 x → FitsSigned w32 y → FitsSigned w32 (word_and x y)
+and_fits x y f g =
+    cast_fits (bit_and (cast_unsigned w32 x) (cast_unsigned w32 y))
+    (omega (arith, and_le_l (cast_unsigned w32 x) (cast_unsigned w32 y), bits_below x f))
+
+pub or_fits : (x y : ℤ) → FitsSigned w32 x → FitsSigned w32 y → FitsSigned w32 (word_or x y)
+or_fits x y f g =
+    cast_fits (bit_or (cast_unsigned w32 x) (cast_unsigned w32 y))
+    (or_lt 32 (cast_unsigned w32 x) (cast_unsigned w32 y) (bits_below x f) (bits_below y g))
+
+pub xor_fits : (x y : ℤ) → FitsSigned w32 x → FitsSigned w32 y → FitsSigned w32 (word_xor x y)
+xor_fits x y f g =
+    cast_fits (bit_xor (cast_unsigned w32 x) (cast_unsigned w32 y))
+    (xor_lt 32 (cast_unsigned w32 x) (cast_unsigned w32 y) (bits_below x f) (bits_below y g))
+
+-- ---- the complement
+
 -- the bits from 2^31 on are those of the numbers below 0
 cast_high : (n : ℕ) → 2147483648 ≤ n → cast_signed w32 n ≡ negsuc (4294967296 - suc n)
 cast_high n h = ap (λ b. sel b (pos n) (negsuc (4294967296 - suc n))) (le-ltb n 2147483648 h)
@@ -28,6 +51,9 @@ cast_high n h = ap (λ b. sel b (pos n) (negsuc (4294967296 - suc n))) (le-ltb n
 pub word_not_is : (x : ℤ) → FitsSigned w32 x → word_not x ≡ negsuc 0 -ℤ x
 word_not_is (pos n) f = let h = f.sfits in cast_high (4294967295 - n) (omega arith) ∙ omega (arith, ints)
 word_not_is (negsuc n) f = let h = f.sfits in let e : 4294967295 - (4294967296 - suc n) ≡ n = omega arith in ap (cast_signed w32) e ∙ to_z_pos w32 n h ∙ omega (arith, ints)
+
+pub not_fits : (x : ℤ) → FitsSigned w32 x → FitsSigned w32 (word_not x)
+not_fits x f = subst (FitsSigned w32) (sym (word_not_is x f)) (omega (arith, ints))
 
 pub not_holds : (r : Ends) (x : ℤ) → IsRange r → InRange r x → InRange (not_range r) (word_not x)
 not_holds r x w m =
@@ -77,7 +103,7 @@ below r a p m = (fits_between r (pos a) p.lo_fits p.hi_fits m).sfits
 pub and_holds : (r s : Ends) → IsRange r → IsRange s → Holds word_and r s (and_range r s)
 and_holds r s p q =
     bits_hold word_and (int_min r.hi s.hi) r s p q
-    (λ x y f g. cast_fits (bit_and (cast_unsigned w32 x) (cast_unsigned w32 y)) (omega (arith, and_le_l (cast_unsigned w32 x) (cast_unsigned w32 y), bits_below x f)))
+    and_fits
     (λ a b m n.
     let left = and_le_l a b in
     let right = and_le_r a b in
@@ -134,13 +160,13 @@ either_in of bounded f is r s p q a b m n =
 pub or_holds : (r s : Ends) → IsRange r → IsRange s → Holds word_or r s (or_range r s)
 or_holds r s p q =
     bits_hold word_or (all_ones (int_max r.hi s.hi)) r s p q
-    (λ x y f g. cast_fits (bit_or (cast_unsigned w32 x) (cast_unsigned w32 y)) (or_lt 32 (cast_unsigned w32 x) (cast_unsigned w32 y) (bits_below x f) (bits_below y g)))
+    or_fits
     (either_in bit_or or_lt word_or (λ a b. refl) r s p q)
 
 pub xor_holds : (r s : Ends) → IsRange r → IsRange s → Holds word_xor r s (xor_range r s)
 xor_holds r s p q =
     bits_hold word_xor (all_ones (int_max r.hi s.hi)) r s p q
-    (λ x y f g. cast_fits (bit_xor (cast_unsigned w32 x) (cast_unsigned w32 y)) (xor_lt 32 (cast_unsigned w32 x) (cast_unsigned w32 y) (bits_below x f) (bits_below y g)))
+    xor_fits
     (either_in bit_xor xor_lt word_xor (λ a b. refl) r s p q)
 
 -- ---- shifts
@@ -149,7 +175,7 @@ xor_holds r s p q =
 pub shift_left_holds : (r counts : Ends) → IsRange r → pos 0 ≤ℤ counts.lo → Holds (λ x count. shifted_left x (unsigned_abs count)) r counts (shift_left_range r counts)
 shift_left_holds r counts p z x k m n =
     let hi = r.hi *ℤ pos (2 ^ unsigned_abs counts.hi) in
-    let some_word = in_full (shifted_left x (unsigned_abs k)) (cast_fits ((cast_unsigned w32 x * 2 ^ unsigned_abs k) % 2 ^ 32) (mod_below (cast_unsigned w32 x * 2 ^ unsigned_abs k) (2 ^ 32) (omega arith))) in
+    let some_word = in_full (shifted_left x (unsigned_abs k)) (wrapped_fits (cast_unsigned w32 x * 2 ^ unsigned_abs k)) in
     cond_both (is_not_negative r) (unwrap_or (fitting (zero_to hi)) full) full (λ t. InRange t (shifted_left x (unsigned_abs k)))
     (λ e. let a = not_negative_out r x e m in
     if_fitting (zero_to hi) (shifted_left x (unsigned_abs k)) some_word (λ f.

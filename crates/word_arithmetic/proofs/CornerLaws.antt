@@ -1,14 +1,14 @@
 -- The corners of two ranges bound what is monotone in each operand; so they bound products and quotients.
-use Rattle.std.proofs.Common.{◌≡◌, ℕ, suc, ◌+◌, ◌≤◌, ◌⊎◌, inl, inr, refl, sym, subst, arith, Some, None, ℤ, pos, negsuc, ◌*ℤ◌, ◌≤ℤ◌, int_lt, mul-le-mul_left}
+use Rattle.std.proofs.Common.{ℕ, suc, ◌+◌, ◌≤◌, ◌⊎◌, inl, inr, refl, sym, subst, arith, ℤ, pos, negsuc, ◌*ℤ◌, ◌≤ℤ◌, int_lt, mul-le-mul_left}
 use Rattle.std.specs.Int.{int_min, int_max}
 use Rattle.std.proofs.Math.IntN.{*ℤ_comm}
 use Rattle.std.proofs.lemmas.Bool.{cases_cond}
 use borrow.Author.Differences.{up, down}
 use Rattle.std.proofs.lemmas.Int.{ints, clamps}
 use Rattle.word_arithmetic.specs.Word.{checked_product}
-use Rattle.word_arithmetic.specs.Range.{Ends, InRange, HoldsChecked, Reaches, ReachesEnds, corners, product_range}
-use Rattle.word_arithmetic.proofs.EndsLaws.{fitting_holds, lo_in, hi_in}
-use Rattle.word_arithmetic.proofs.SumLaws.{AtMembers, at_members, fitting_reaches, fitting_fails}
+use Rattle.word_arithmetic.specs.Range.{Ends, InRange, BoundsExactly, corners, product_range}
+use Rattle.word_arithmetic.proofs.EndsLaws.{lo_in, hi_in}
+use Rattle.word_arithmetic.proofs.SumLaws.{AtMembers, at_members, fitting_exact}
 
 -- z lies between p and q, which may stand in either order
 pub record Between (p q z : ℤ) : Type 0 where
@@ -73,9 +73,6 @@ product_in r s x y p q =
     (product_along r.lo s.lo s.hi y q.from_lo q.to_hi)
     (product_along r.hi s.lo s.hi y q.from_lo q.to_hi)
 
-pub product_holds : (r s t : Ends) → product_range r s ≡ Some t → HoldsChecked checked_product r s t
-product_holds r s t h x y p q = fitting_holds (corners (λ x y. x *ℤ y) r s) t (x *ℤ y) h (product_in r s x y p q)
-
 -- each end of the corners is the result of two ends
 least_of : (P : ℤ → Type 0) (a b : ℤ) → P a → P b → P (int_min a b)
 least_of P a b p q = elim (cases_cond (int_lt b a) b a (int_min a b) refl) [ inl e ↦ subst P (sym e) q | inr e ↦ subst P (sym e) p ]
@@ -97,10 +94,7 @@ corners_hi f r s o p =
     (greatest_of (AtMembers f r s) _ _ (at r.lo s.lo (lo_in r o) (lo_in s p)) (at r.lo s.hi (lo_in r o) (hi_in s p)))
     (greatest_of (AtMembers f r s) _ _ (at r.hi s.lo (hi_in r o) (lo_in s p)) (at r.hi s.hi (hi_in r o) (hi_in s p)))
 
-pub product_reaches : (r s t : Ends) → r.lo ≤ℤ r.hi → s.lo ≤ℤ s.hi → product_range r s ≡ Some t → ReachesEnds checked_product r s t
-product_reaches r s t o p h =
-    fitting_reaches (λ x y. x *ℤ y) r s (corners (λ x y. x *ℤ y) r s) t (corners_lo (λ x y. x *ℤ y) r s o p) (corners_hi (λ x y. x *ℤ y) r s o p) h
-
-pub product_fails : (r s : Ends) → r.lo ≤ℤ r.hi → s.lo ≤ℤ s.hi → product_range r s ≡ None → Reaches checked_product r s None
-product_fails r s o p h =
-    fitting_fails (λ x y. x *ℤ y) r s (corners (λ x y. x *ℤ y) r s) (corners_lo (λ x y. x *ℤ y) r s o p) (corners_hi (λ x y. x *ℤ y) r s o p) h
+pub product_exact : (r s : Ends) → r.lo ≤ℤ r.hi → s.lo ≤ℤ s.hi → BoundsExactly checked_product r s (product_range r s)
+product_exact r s o p =
+    fitting_exact checked_product (λ x y. x *ℤ y) r s (corners (λ x y. x *ℤ y) r s) (λ x y m n. refl) (product_in r s)
+    (corners_lo (λ x y. x *ℤ y) r s o p) (corners_hi (λ x y. x *ℤ y) r s o p)

@@ -1,12 +1,12 @@
 -- Laws on words, ends and the tests on them.
-use Rattle.std.proofs.Common.{T, int_le, int_lt, ◌<ℤ◌, to_z, of_z, ◌≡◌, ◌⊎◌, inl, inr, Bool, true, false, ◌&&◌, cond, Option, Some, None, IsSomeAnd, unwrap_or, IfSome, IfNone, refl, sym, ap, ◌∙◌, subst, arith, ℤ, pos, negsuc, ◌≤ℤ◌, FitsSigned}
+use Rattle.std.proofs.Common.{T, int_le, int_lt, ◌<ℤ◌, to_z, of_z, ◌≡◌, ◌⊎◌, inl, inr, Bool, true, false, ◌&&◌, cond, Option, Some, None, unwrap_or, refl, sym, ap, ◌∙◌, subst, arith, ℤ, pos, negsuc, ◌≤ℤ◌, FitsSigned}
 use Rattle.std.specs.Int.{Width, w32}
 use Rattle.std.specs.Option.{option_map}
 use Rattle.std.proofs.lemmas.Int.{ints, clamps, to_z-of_z}
 use Rattle.std.proofs.lemmas.Bool.{ltb-true, lt-ltb}
 use Rattle.word_arithmetic.specs.declared.ranges.Range.{Range}
 use Rattle.word_arithmetic.specs.Word.{is_word, checked}
-use Rattle.word_arithmetic.specs.Range.{Ends, ends_of, InRange, IsWithin, fitting, hull}
+use Rattle.word_arithmetic.specs.Range.{Ends, ends_of, InRange, IsRange, IsWithin, Holds, WordsInOrderAreRanges, MembersLieBetween, fitting, hull, range_between}
 
 -- ---- words
 
@@ -21,15 +21,10 @@ is_word_in (negsuc n) f = lt-ltb n 2147483648 f.sfits
 pub checked_fits : (z : ℤ) → FitsSigned w32 z → checked z ≡ Some z
 checked_fits z f = ap (λ b. cond b (Some z) None) (is_word_in z f)
 
+pub not_checked : (z : ℤ) → is_word z ≡ false → checked z ≡ None
+not_checked z e = ap (λ b. cond b (Some z) None) e
+
 -- ---- what is said of a range that may not be there
-
-pub if_some : (o : Option Range) (e : Option Ends) (P : Ends → Type 0) → option_map ends_of o ≡ e → ((t : Ends) → e ≡ Some t → P t) → IfSome o (λ r. P (ends_of r))
-if_some None e P h f = tt
-if_some (Some r) e P h f = f (ends_of r) (sym h)
-
-pub if_none : (o : Option Range) (e : Option Ends) (P : Type 0) → option_map ends_of o ≡ e → (e ≡ None → P) → IfNone o P
-if_none None e P h f = f (sym h)
-if_none (Some r) e P h f = tt
 
 unwrap_each : (o : Option Range) (d : Range) → ends_of (unwrap_or o d) ≡ unwrap_or (option_map ends_of o) (ends_of d)
 unwrap_each None d = refl
@@ -45,9 +40,8 @@ pub some_out : {X : Type 0} (b : Bool) (x y : X) → cond b (Some x) None ≡ So
 some_out true x y e = (refl, cc)
 some_out false x y e = cc
 
-pub none_out : {X : Type 0} (b : Bool) (x : X) → ◌≡◌ {A = Option X} (cond b (Some x) None) None → b ≡ false
-none_out true x e = cc
-none_out false x e = refl
+pub some_same : {X : Type 0} (x y : X) → Some x ≡ Some y → x ≡ y
+some_same x y e = cc
 
 pub and_out : (a b : Bool) → (a && b) ≡ true → (a ≡ true) × (b ≡ true)
 and_out true b e = (refl, e)
@@ -68,21 +62,20 @@ fitting_some e t h =
     let w = and_out (is_word e.lo) (is_word e.hi) s.0 in
     record { lo = is_word_out e.lo w.0; hi = is_word_out e.hi w.1; same = s.1 }
 
-pub fitting_none : (e : Ends) → fitting e ≡ None → (checked e.lo ≡ None) ⊎ (checked e.hi ≡ None)
-fitting_none e h =
-    elim (and_failed (is_word e.lo) (is_word e.hi) (none_out (is_word e.lo && is_word e.hi) e h)) [
-      | inl p ↦ inl (ap (λ b. cond b (Some e.lo) None) p)
-      | inr p ↦ inr (ap (λ b. cond b (Some e.hi) None) p)
-    ]
-
 -- a number between ends that fit is a word
 pub fits_between : (e : Ends) (z : ℤ) → FitsSigned w32 e.lo → FitsSigned w32 e.hi → InRange e z → FitsSigned w32 z
 fits_between e z f g h = omega (arith, ints)
 
-pub fitting_holds : (e t : Ends) (z : ℤ) → fitting e ≡ Some t → InRange e z → IsSomeAnd (checked z) (InRange t)
-fitting_holds e t z h m =
-    let f = fitting_some e t h in
-    subst (λ o. IsSomeAnd o (InRange t)) (sym (checked_fits z (fits_between e z f.lo f.hi m))) (subst (λ r. InRange r z) f.same m)
+-- a member of a range is a word
+pub member_fits : (r : Ends) (z : ℤ) → IsRange r → InRange r z → FitsSigned w32 z
+member_fits r z p m = fits_between r z p.lo_fits p.hi_fits m
+
+-- what holds in the range of a rule holds in the range that follows the rule
+pub by_rule : {f : ℤ → ℤ → ℤ} {r s new e : Ends} → new ≡ e → Holds f r s e → Holds f r s new
+by_rule {f = f} {r = r} {s = s} h p = subst (Holds f r s) (sym h) p
+
+pub is_range : {r : Ends} → FitsSigned w32 r.lo → FitsSigned w32 r.hi → r.lo ≤ℤ r.hi → IsRange r
+is_range f g h = record { lo_fits = f; hi_fits = g; ordered = h }
 
 -- the ends of a range are members
 pub lo_in : (r : Ends) → r.lo ≤ℤ r.hi → InRange r r.lo
@@ -139,3 +132,37 @@ hull_least r s t o p h k v m =
     let from = m.from_lo in
     let to = m.to_hi in
     record { from_lo = omega (arith, ints, clamps); to_hi = omega (arith, ints, clamps) }
+
+-- ---- the range between two words
+
+-- what a test says of the option that it lets through
+then_some : {X : Type 0} (b : Bool) (o : Option X) (t : X) → cond b o None ≡ Some t → (b ≡ true) × (o ≡ Some t)
+then_some true o t e = (refl, e)
+then_some false o t e = cc
+
+-- a range is that between its ends
+range_is : (r : Ends) → IsRange r → range_between r.lo r.hi ≡ Some r
+range_is r p =
+    (λ i. cond (le_test r.lo r.hi p.ordered i) (fitting r) None)
+    ∙ (λ i. cond (is_word_in r.lo p.lo_fits i && is_word_in r.hi p.hi_fits i) (Some r) None)
+
+range_out : (lo hi : ℤ) (r : Ends) → range_between lo hi ≡ Some r → IsRange r × (r.lo ≡ lo) × (r.hi ≡ hi)
+range_out lo hi r e =
+    let at : Ends = record { lo = lo; hi = hi } in
+    let o = then_some (int_le lo hi) (fitting at) r e in
+    let w = fitting_some at r o.1 in
+    let p : IsRange at = record { lo_fits = w.lo; hi_fits = w.hi; ordered = omega (arith, ints, o.0) } in
+    (subst IsRange w.same p, ap (λ u. u.lo) (sym w.same), ap (λ u. u.hi) (sym w.same))
+
+pub words_in_order_are_ranges : WordsInOrderAreRanges
+words_in_order_are_ranges lo hi r =
+    (range_out lo hi r, λ p. (λ i. range_between (sym p.1 i) (sym p.2 i)) ∙ range_is r p.0)
+
+pub members_lie_between : MembersLieBetween
+members_lie_between lo hi v r e =
+    let o = range_out lo hi r e in
+    let a = o.1 in
+    let b = o.2 in (
+      (λ m. let p = m.from_lo in let q = m.to_hi in (omega (arith, ints), omega (arith, ints))),
+      (λ p. let c = p.0 in let d = p.1 in record { from_lo = omega (arith, ints); to_hi = omega (arith, ints) }),
+    )

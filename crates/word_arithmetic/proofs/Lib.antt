@@ -6,3 +6,5 @@ pub mod RemainderLaws
 pub mod ModularLaws
 pub mod BitLaws
 pub mod NarrowingLaws
+pub mod BinaryLaws
+pub mod UnaryLaws

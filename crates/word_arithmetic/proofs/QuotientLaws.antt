@@ -1,11 +1,12 @@
 -- Quotients lie within the corners, where no divisor is 0.
-use Rattle.std.proofs.Common.{◌≡◌, ◌≢◌, ℕ, zero, suc, ◌/◌, ◌<◌, ◌≤◌, ◌⊎◌, inl, inr, Bool, true, false, cond, refl, sym, subst, ◌∙◌, arith, Option, Some, None, IsSomeAnd, ℤ, pos, negsuc, ◌≤ℤ◌, ◌<ℤ◌, int_div, int_le, mul-le-mul_left, div-mul-le_self}
+use Rattle.std.proofs.Common.{◌≡◌, ◌≢◌, ℕ, zero, suc, ◌/◌, ◌<◌, ◌≤◌, ◌⊎◌, inl, inr, true, false, refl, sym, arith, None, ℤ, pos, negsuc, ◌≤ℤ◌, ◌<ℤ◌, int_div, int_le, mul-le-mul_left, div-mul-le_self}
 use Rattle.std.proofs.lemmas.Int.{ints}
+use Rattle.std.proofs.lemmas.Bool.{cond_both}
 use Rattle.std.proofs.lemmas.Nat.{le-div}
 use Rattle.word_arithmetic.specs.Word.{checked, checked_quotient}
-use Rattle.word_arithmetic.specs.Range.{Ends, InRange, HoldsChecked, Reaches, ReachesEnds, in_range, corners, fitting, quotient_range}
-use Rattle.word_arithmetic.proofs.EndsLaws.{fitting_holds, lo_in, and_failed, and_out}
-use Rattle.word_arithmetic.proofs.SumLaws.{fitting_reaches, fitting_fails}
+use Rattle.word_arithmetic.specs.Range.{Ends, InRange, BoundsExactly, in_range, corners, fitting, quotient_range}
+use Rattle.word_arithmetic.proofs.EndsLaws.{lo_in, and_failed, and_out}
+use Rattle.word_arithmetic.proofs.SumLaws.{fitting_exact}
 use Rattle.word_arithmetic.proofs.CornerLaws.{Between, rising, falling, corners_hold, corners_lo, corners_hi}
 
 -- ---- division rises with the dividend, and falls where the divisor grows
@@ -85,35 +86,15 @@ quotient_is x (pos zero) e = absurd (e refl)
 quotient_is x (pos (suc n)) e = refl
 quotient_is x (negsuc n) e = refl
 
-pub else_some : {X : Type 0} (b : Bool) (o : Option X) (t : X) → cond b None o ≡ Some t → (b ≡ false) × (o ≡ Some t)
-else_some true o t h = cc
-else_some false o t h = (refl, h)
-
-pub else_none : {X : Type 0} (b : Bool) (o : Option X) → cond b None o ≡ None → (b ≡ true) ⊎ ((b ≡ false) × (o ≡ None))
-else_none true o h = inl refl
-else_none false o h = inr (refl, h)
-
-pub quotient_holds : (r s t : Ends) → quotient_range r s ≡ Some t → HoldsChecked checked_quotient r s t
-quotient_holds r s t h x y p q =
-    let w = else_some (in_range s (pos 0)) (fitting (corners int_div r s)) t h in
-    subst (λ o. IsSomeAnd o (InRange t)) (quotient_is x y (not_zero s y w.0 q))
-    (fitting_holds (corners int_div r s) t (int_div x y) w.1 (quotient_in r s x y w.0 p q))
-
-Reaches-quotient : (r s : Ends) (o : Option ℤ) → in_range s (pos 0) ≡ false → Reaches (λ x y. checked (int_div x y)) r s o → Reaches checked_quotient r s o
-Reaches-quotient r s o h a = record { x = a.x; y = a.y; x_in = a.x_in; y_in = a.y_in; is = sym (quotient_is a.x a.y (not_zero s a.y h a.y_in)) ∙ a.is }
-
-pub quotient_reaches : (r s t : Ends) → r.lo ≤ℤ r.hi → s.lo ≤ℤ s.hi → quotient_range r s ≡ Some t → ReachesEnds checked_quotient r s t
-quotient_reaches r s t o p h =
-    let w = else_some (in_range s (pos 0)) (fitting (corners int_div r s)) t h in
-    let a = fitting_reaches int_div r s (corners int_div r s) t (corners_lo int_div r s o p) (corners_hi int_div r s o p) w.1 in
-    record { lo = Reaches-quotient r s (Some t.lo) w.0 a.lo; hi = Reaches-quotient r s (Some t.hi) w.0 a.hi }
-
 pub in_range_out : (s : Ends) (v : ℤ) → in_range s v ≡ true → InRange s v
 in_range_out s v h = let w = and_out (int_le s.lo v) (int_le v s.hi) h in record { from_lo = omega (arith, ints, w.0); to_hi = omega (arith, ints, w.1) }
 
-pub quotient_fails : (r s : Ends) → r.lo ≤ℤ r.hi → s.lo ≤ℤ s.hi → quotient_range r s ≡ None → Reaches checked_quotient r s None
-quotient_fails r s o p h =
-    elim (else_none (in_range s (pos 0)) (fitting (corners int_div r s)) h) [
-      | inl z ↦ record { x = r.lo; y = pos 0; x_in = lo_in r o; y_in = in_range_out s (pos 0) z; is = refl }
-      | inr w ↦ Reaches-quotient r s None w.0 (fitting_fails int_div r s (corners int_div r s) (corners_lo int_div r s o p) (corners_hi int_div r s o p) w.1)
-    ]
+pub quotient_exact : (r s : Ends) → r.lo ≤ℤ r.hi → s.lo ≤ℤ s.hi → BoundsExactly checked_quotient r s (quotient_range r s)
+quotient_exact r s o p =
+    cond_both (in_range s (pos 0)) None (fitting (corners int_div r s)) (BoundsExactly checked_quotient r s)
+    (λ z. record {
+      bounds = record { members = tt; none = record { x = r.lo; y = pos 0; x_in = lo_in r o; y_in = in_range_out s (pos 0) z; is = refl } };
+      reached = tt;
+    })
+    (λ h. fitting_exact checked_quotient int_div r s (corners int_div r s) (λ x y m n. sym (quotient_is x y (not_zero s y h n)))
+    (λ x y m n. quotient_in r s x y h m n) (corners_lo int_div r s o p) (corners_hi int_div r s o p))

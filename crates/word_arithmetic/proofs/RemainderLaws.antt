@@ -1,14 +1,14 @@
 -- A remainder has the sign of the dividend, is no larger than it, and is smaller than the divisor.
-use Rattle.std.proofs.Common.{◌≡◌, ◌≢◌, ℕ, zero, suc, ◌/◌, ◌%◌, ◌<◌, ◌≤◌, inl, inr, ⊎_elim, Bool, true, false, ◌&&◌, ◌||◌, cond, ap, refl, sym, subst, ◌∙◌, arith, Some, None, IsSomeAnd, is_some, ℤ, pos, negsuc, ◌-ℤ◌, ◌≤ℤ◌, int_div, int_rem, int_le, unsigned_abs, FitsSigned, div-le_self, max}
+use Rattle.std.proofs.Common.{◌≡◌, ◌≢◌, ℕ, zero, suc, ◌/◌, ◌%◌, ◌<◌, ◌≤◌, inl, inr, ⊎_elim, Bool, true, false, ◌&&◌, ◌||◌, cond, ap, refl, sym, subst, ◌∙◌, arith, Option, Some, None, IsSomeAnd, is_some, ℤ, pos, negsuc, ◌-ℤ◌, ◌≤ℤ◌, int_div, int_rem, int_le, unsigned_abs, FitsSigned, div-le_self, max}
 use Rattle.std.specs.Int.{w32, int_min, int_max}
 use Rattle.std.proofs.lemmas.Int.{ints, clamps}
 use Rattle.std.proofs.lemmas.Bool.{or_cases, and_from, both_ways, cond_both}
 use Rattle.std.proofs.lemmas.Nat.{mod_below}
 use Rattle.std.proofs.Math.Nat.{mod-le}
 use Rattle.word_arithmetic.specs.Word.{checked_remainder, least_word}
-use Rattle.word_arithmetic.specs.Range.{Ends, InRange, IsRange, HoldsChecked, Reaches, in_range, can_fail_to_divide, greatest_size, lowest_remainder, highest_remainder, remainder_ends, remainder_range}
+use Rattle.word_arithmetic.specs.Range.{Ends, InRange, IsRange, BoundsResults, in_range, can_fail_to_divide, greatest_size, lowest_remainder, highest_remainder, remainder_ends, remainder_range}
 use Rattle.word_arithmetic.proofs.EndsLaws.{lo_in, and_failed, and_out, checked_fits, fits_between, le_test}
-use Rattle.word_arithmetic.proofs.QuotientLaws.{divided_by_more, not_zero, quotient_is, else_some, else_none, in_range_out}
+use Rattle.word_arithmetic.proofs.QuotientLaws.{divided_by_more, not_zero, quotient_is, in_range_out}
 
 -- ---- the quotient of a word fits, but for MostNeg by -1
 
@@ -95,22 +95,24 @@ remainder_in r x y size m e h =
     let some = some_divisor y e in
     record { from_lo = lower r.lo x (unsigned_abs y) size y m.from_lo refl some h; to_hi = upper r.hi x (unsigned_abs y) size y m.to_hi refl some h }
 
-some_same : {X : Type 0} (x y : X) → Some x ≡ Some y → x ≡ y
-some_same x y e = cc
-
-pub remainder_holds : (r s t : Ends) → IsRange r → remainder_range r s ≡ Some t → HoldsChecked checked_remainder r s t
-remainder_holds r s t g h x y p q =
-    let w = else_some (can_fail_to_divide r s) (Some (remainder_ends r (greatest_size s))) t h in
-    let safe = safe_out r s w.0 in
-    subst (λ o. IsSomeAnd o (InRange t)) (sym (remainder_is r s x y g safe p q))
-    (subst (λ u. InRange u (int_rem x y)) (some_same (remainder_ends r (greatest_size s)) t w.1) (remainder_in r x y (greatest_size s) p (not_zero s y safe.no_zero q) (size_between s.lo s.hi y q.from_lo q.to_hi)))
-
-pub remainder_fails : (r s : Ends) → r.lo ≤ℤ r.hi → remainder_range r s ≡ None → Reaches checked_remainder r s None
-remainder_fails r s o h =
-    elim (else_none (can_fail_to_divide r s) (Some (remainder_ends r (greatest_size s))) h) [
-      | inl z ↦ ⊎_elim
-          (λ zero. record { x = r.lo; y = pos 0; x_in = lo_in r o; y_in = in_range_out s (pos 0) zero; is = refl })
+pub remainder_bounds : (r s : Ends) → IsRange r → BoundsResults checked_remainder r s (remainder_range r s)
+remainder_bounds r s g =
+    cond_both (can_fail_to_divide r s) None (Some (remainder_ends r (greatest_size s))) (BoundsResults checked_remainder r s)
+    (λ z. record {
+      members = tt;
+      none = ⊎_elim
+          (λ zero. record { x = r.lo; y = pos 0; x_in = lo_in r g.ordered; y_in = in_range_out s (pos 0) zero; is = refl })
           (λ both. let w = and_out _ _ both in record { x = least_word; y = negsuc 0; x_in = in_range_out r least_word w.0; y_in = in_range_out s (negsuc 0) w.1; is = refl })
-          (or_cases _ _ z)
-      | inr w ↦ let none : Some (remainder_ends r (greatest_size s)) ≡ None = w.1 in cc
-    ]
+          (or_cases _ _ z);
+    })
+    (λ h. let safe = safe_out r s h in record {
+      members = λ x y p q.
+          subst (λ o. IsSomeAnd o (InRange (remainder_ends r (greatest_size s)))) (sym (remainder_is r s x y g safe p q))
+          (remainder_in r x y (greatest_size s) p (not_zero s y safe.no_zero q) (size_between s.lo s.hi y q.from_lo q.to_hi));
+      none = tt;
+    })
+
+pub remainder_by_rule : (r s : Ends) (range : Option Ends) → FitsSigned w32 r.lo → FitsSigned w32 r.hi → r.lo ≤ℤ r.hi
+    → range ≡ remainder_range r s → BoundsResults checked_remainder r s range
+remainder_by_rule r s range f g o h =
+    subst (BoundsResults checked_remainder r s) (sym h) (remainder_bounds r s (record { lo_fits = f; hi_fits = g; ordered = o }))

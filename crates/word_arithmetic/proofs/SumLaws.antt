@@ -1,12 +1,22 @@
--- The ranges of sums and differences hold every result, reach their ends, and are missing only where a result is no word.
-use Rattle.std.proofs.Common.{◌≡◌, inl, inr, Option, Some, None, arith, ℤ, ◌+ℤ◌, ◌-ℤ◌, ap, ◌∙◌, refl, subst, ◌≤ℤ◌}
+-- The range of the sums, and that of the differences, is exact.
+use Rattle.std.proofs.Common.{◌≡◌, inl, inr, Option, Some, None, arith, ℤ, ◌+ℤ◌, ◌-ℤ◌, ap, ◌∙◌, refl, sym, subst, ◌≤ℤ◌, ◌&&◌, IsSomeAnd, FitsSigned}
+use Rattle.std.specs.Int.{w32}
 use Rattle.std.proofs.lemmas.Int.{ints}
-use Rattle.word_arithmetic.specs.Word.{checked, checked_sum, checked_difference}
-use Rattle.word_arithmetic.specs.Range.{Ends, InRange, HoldsChecked, Reaches, ReachesEnds, fitting, sum_range, difference_range}
-use Rattle.word_arithmetic.proofs.EndsLaws.{fitting_some, fitting_none, fitting_holds, checked_fits, lo_in, hi_in}
+use Rattle.std.proofs.lemmas.Bool.{cond_both}
+use Rattle.word_arithmetic.specs.Word.{is_word, checked, checked_sum, checked_difference}
+use Rattle.word_arithmetic.specs.Range.{Ends, InRange, Holds, HoldsChecked, Reaches, BoundsResults, BoundsExactly, fitting, sum_range, difference_range}
+use Rattle.word_arithmetic.proofs.EndsLaws.{is_word_out, and_out, and_failed, checked_fits, not_checked, fits_between, lo_in, hi_in}
 
--- Where the ends of a range are the results of f at members, the range that fits reaches its ends, and one that does
--- not fit has a member that sets the error flag.
+-- ---- what is said of a range that may not be there
+
+pub exact_by : {f : ℤ → ℤ → Option ℤ} {r s : Ends} {o e : Option Ends} → o ≡ e → BoundsExactly f r s e → BoundsExactly f r s o
+exact_by {f = f} {r = r} {s = s} h b = subst (BoundsExactly f r s) (sym h) b
+
+pub members_of : {f : ℤ → ℤ → Option ℤ} {r s t : Ends} {e : Option Ends} → BoundsResults f r s e → e ≡ Some t → HoldsChecked f r s t
+members_of {f = f} {r = r} {s = s} b h = (subst (BoundsResults f r s) h b).members
+
+-- ---- ends that are results of members
+
 pub record AtMembers (f : ℤ → ℤ → ℤ) (r s : Ends) (z : ℤ) : Type 0 where
   pub x : ℤ
   pub y : ℤ
@@ -17,51 +27,51 @@ pub record AtMembers (f : ℤ → ℤ → ℤ) (r s : Ends) (z : ℤ) : Type 0 w
 pub at_members : (f : ℤ → ℤ → ℤ) (r s : Ends) (x y : ℤ) → InRange r x → InRange s y → AtMembers f r s (f x y)
 at_members f r s x y h k = record { x = x; y = y; x_in = h; y_in = k; is = refl }
 
-reaches : (f : ℤ → ℤ → ℤ) (r s : Ends) (z : ℤ) (o : Option ℤ) → AtMembers f r s z → checked z ≡ o → Reaches (λ x y. checked (f x y)) r s o
-reaches f r s z o a h = record { x = a.x; y = a.y; x_in = a.x_in; y_in = a.y_in; is = ap checked a.is ∙ h }
+-- If g is the number f where a word stands for it, and the range e holds each result of f and both its ends are such
+-- results, then e is exact for g where its ends fit, and where one doesn't, some members set the error flag.
+pub fitting_exact : (g : ℤ → ℤ → Option ℤ) (f : ℤ → ℤ → ℤ) (r s e : Ends)
+    → ((x y : ℤ) → InRange r x → InRange s y → g x y ≡ checked (f x y))
+    → Holds f r s e → AtMembers f r s e.lo → AtMembers f r s e.hi → BoundsExactly g r s (fitting e)
+fitting_exact g f r s e is members lo hi =
+    cond_both (is_word e.lo && is_word e.hi) (Some e) None (BoundsExactly g r s)
+    (λ h. let w = and_out (is_word e.lo) (is_word e.hi) h in
+    let p = is_word_out e.lo w.0 in
+    let q = is_word_out e.hi w.1 in
+    record {
+      bounds = record { members = λ x y m n. member p q x y m n; none = tt };
+      reached = record { lo = reaches e.lo (Some e.lo) lo (checked_fits e.lo p); hi = reaches e.hi (Some e.hi) hi (checked_fits e.hi q) };
+    })
+    (λ h. record {
+      bounds = record {
+        members = tt;
+        none = elim (and_failed (is_word e.lo) (is_word e.hi) h) [
+          | inl p ↦ reaches e.lo None lo (not_checked e.lo p)
+          | inr q ↦ reaches e.hi None hi (not_checked e.hi q)
+        ];
+      };
+      reached = tt;
+    })
+  where
+    reaches : (z : ℤ) (o : Option ℤ) → AtMembers f r s z → checked z ≡ o → Reaches g r s o
+    reaches z o a h = record { x = a.x; y = a.y; x_in = a.x_in; y_in = a.y_in; is = is a.x a.y a.x_in a.y_in ∙ ap checked a.is ∙ h }
 
-pub fitting_reaches : (f : ℤ → ℤ → ℤ) (r s e t : Ends) → AtMembers f r s e.lo → AtMembers f r s e.hi → fitting e ≡ Some t → ReachesEnds (λ x y. checked (f x y)) r s t
-fitting_reaches f r s e t a b h =
-    let w = fitting_some e t h in
-    subst (λ u. ReachesEnds (λ x y. checked (f x y)) r s u) w.same
-    (record { lo = reaches f r s e.lo (Some e.lo) a (checked_fits e.lo w.lo); hi = reaches f r s e.hi (Some e.hi) b (checked_fits e.hi w.hi) })
+    member : FitsSigned w32 e.lo → FitsSigned w32 e.hi → (x y : ℤ) → InRange r x → InRange s y → IsSomeAnd (g x y) (InRange e)
+    member p q x y m n =
+        subst (λ o. IsSomeAnd o (InRange e)) (sym (is x y m n ∙ checked_fits (f x y) (fits_between e (f x y) p q (members x y m n))))
+        (members x y m n)
 
-pub fitting_fails : (f : ℤ → ℤ → ℤ) (r s e : Ends) → AtMembers f r s e.lo → AtMembers f r s e.hi → fitting e ≡ None → Reaches (λ x y. checked (f x y)) r s None
-fitting_fails f r s e a b h =
-    elim (fitting_none e h) [ inl p ↦ reaches f r s e.lo None a p | inr p ↦ reaches f r s e.hi None b p ]
+-- ---- the rules
 
--- ---- sums
+pub sum_exact : (r s : Ends) → r.lo ≤ℤ r.hi → s.lo ≤ℤ s.hi → BoundsExactly checked_sum r s (sum_range r s)
+sum_exact r s p q =
+    fitting_exact checked_sum (λ x y. x +ℤ y) r s (record { lo = r.lo +ℤ s.lo; hi = r.hi +ℤ s.hi }) (λ x y m n. refl)
+    (λ x y m n. record { from_lo = omega (arith, ints); to_hi = omega (arith, ints) })
+    (at_members (λ x y. x +ℤ y) r s r.lo s.lo (lo_in r p) (lo_in s q))
+    (at_members (λ x y. x +ℤ y) r s r.hi s.hi (hi_in r p) (hi_in s q))
 
-pub sum_holds : (r s t : Ends) → sum_range r s ≡ Some t → HoldsChecked checked_sum r s t
-sum_holds r s t h x y p q =
-    fitting_holds (record { lo = r.lo +ℤ s.lo; hi = r.hi +ℤ s.hi }) t (x +ℤ y) h (record { from_lo = omega (arith, ints); to_hi = omega (arith, ints) })
-
-pub sum_reaches : (r s t : Ends) → r.lo ≤ℤ r.hi → s.lo ≤ℤ s.hi → sum_range r s ≡ Some t → ReachesEnds checked_sum r s t
-sum_reaches r s t o p h =
-    fitting_reaches (λ x y. x +ℤ y) r s (record { lo = r.lo +ℤ s.lo; hi = r.hi +ℤ s.hi }) t
-    (record { x = r.lo; y = s.lo; x_in = lo_in r o; y_in = lo_in s p; is = refl })
-    (record { x = r.hi; y = s.hi; x_in = hi_in r o; y_in = hi_in s p; is = refl }) h
-
-pub sum_fails : (r s : Ends) → r.lo ≤ℤ r.hi → s.lo ≤ℤ s.hi → sum_range r s ≡ None → Reaches checked_sum r s None
-sum_fails r s o p h =
-    fitting_fails (λ x y. x +ℤ y) r s (record { lo = r.lo +ℤ s.lo; hi = r.hi +ℤ s.hi })
-    (record { x = r.lo; y = s.lo; x_in = lo_in r o; y_in = lo_in s p; is = refl })
-    (record { x = r.hi; y = s.hi; x_in = hi_in r o; y_in = hi_in s p; is = refl }) h
-
--- ---- differences
-
-pub difference_holds : (r s t : Ends) → difference_range r s ≡ Some t → HoldsChecked checked_difference r s t
-difference_holds r s t h x y p q =
-    fitting_holds (record { lo = r.lo -ℤ s.hi; hi = r.hi -ℤ s.lo }) t (x -ℤ y) h (record { from_lo = omega (arith, ints); to_hi = omega (arith, ints) })
-
-pub difference_reaches : (r s t : Ends) → r.lo ≤ℤ r.hi → s.lo ≤ℤ s.hi → difference_range r s ≡ Some t → ReachesEnds checked_difference r s t
-difference_reaches r s t o p h =
-    fitting_reaches (λ x y. x -ℤ y) r s (record { lo = r.lo -ℤ s.hi; hi = r.hi -ℤ s.lo }) t
-    (record { x = r.lo; y = s.hi; x_in = lo_in r o; y_in = hi_in s p; is = refl })
-    (record { x = r.hi; y = s.lo; x_in = hi_in r o; y_in = lo_in s p; is = refl }) h
-
-pub difference_fails : (r s : Ends) → r.lo ≤ℤ r.hi → s.lo ≤ℤ s.hi → difference_range r s ≡ None → Reaches checked_difference r s None
-difference_fails r s o p h =
-    fitting_fails (λ x y. x -ℤ y) r s (record { lo = r.lo -ℤ s.hi; hi = r.hi -ℤ s.lo })
-    (record { x = r.lo; y = s.hi; x_in = lo_in r o; y_in = hi_in s p; is = refl })
-    (record { x = r.hi; y = s.lo; x_in = hi_in r o; y_in = lo_in s p; is = refl }) h
+pub difference_exact : (r s : Ends) → r.lo ≤ℤ r.hi → s.lo ≤ℤ s.hi → BoundsExactly checked_difference r s (difference_range r s)
+difference_exact r s p q =
+    fitting_exact checked_difference (λ x y. x -ℤ y) r s (record { lo = r.lo -ℤ s.hi; hi = r.hi -ℤ s.lo }) (λ x y m n. refl)
+    (λ x y m n. record { from_lo = omega (arith, ints); to_hi = omega (arith, ints) })
+    (at_members (λ x y. x -ℤ y) r s r.lo s.hi (lo_in r p) (hi_in s q))
+    (at_members (λ x y. x -ℤ y) r s r.hi s.lo (hi_in r p) (lo_in s q))

@@ -1,6 +1,6 @@
 -- Ranges of words, and the range of the results of each operation: the rules by which the certificate's checker
 -- and the compiler bound numbers. The rules are our own choice; they are exact where the ends decide.
-use Rattle.std.specs.Prelude.{◌≡◌, ℕ, ◌-◌, ◌^◌, max, ◌&&◌, ◌||◌, Bool, Option, Some, None, if◌then◌else◌, IsSomeAnd, unwrap_or, ◌↔◌, ℤ, pos, negsuc, ◌+ℤ◌, ◌-ℤ◌, ◌*ℤ◌, ◌≤ℤ◌, int_le, int_div, unsigned_abs, FitsSigned}
+use Rattle.std.specs.Prelude.{◌≡◌, ℕ, ◌-◌, ◌^◌, max, ◌&&◌, ◌||◌, Bool, Option, Some, None, if◌then◌else◌, IfSome, IfNone, IsSomeAnd, unwrap_or, ◌↔◌, ℤ, pos, negsuc, ◌+ℤ◌, ◌-ℤ◌, ◌*ℤ◌, ◌≤ℤ◌, int_le, int_div, unsigned_abs, FitsSigned}
 use Rattle.std.specs.Int.{w32, cast_signed, cast_unsigned, int_min, int_max, leading_zeros}
 use Rattle.std.specs.Ordering.{int_eq}
 use Rattle.word_arithmetic.specs.Word.{is_word, least_word, greatest_word, word_and, word_or, word_xor, word_not}
@@ -55,6 +55,15 @@ Holds f r s t = (x y : ℤ) → InRange r x → InRange s y → InRange t (f x y
 abbrev pub HoldsChecked : (ℤ → ℤ → Option ℤ) → Ends → Ends → Ends → Type 0
 HoldsChecked f r s t = (x y : ℤ) → InRange r x → InRange s y → IsSomeAnd (f x y) (InRange t)
 
+-- the number is a word and lies in the range
+pub record IsWordIn (r : Ends) (v : ℤ) : Type 0 where
+  pub member : InRange r v
+  pub word : FitsSigned w32 v
+
+-- no members set the error flag, and each result of members is a word and a member
+abbrev pub HoldsWords : (ℤ → ℤ → Option ℤ) → Ends → Ends → Ends → Type 0
+HoldsWords f r s t = (x y : ℤ) → InRange r x → InRange s y → IsSomeAnd (f x y) (IsWordIn t)
+
 -- some members have this result
 pub record Reaches (f : ℤ → ℤ → Option ℤ) (r s : Ends) (outcome : Option ℤ) : Type 0 where
   pub x : ℤ
@@ -67,6 +76,16 @@ pub record Reaches (f : ℤ → ℤ → Option ℤ) (r s : Ends) (outcome : Opti
 pub record ReachesEnds (f : ℤ → ℤ → Option ℤ) (r s t : Ends) : Type 0 where
   pub lo : Reaches f r s (Some t.lo)
   pub hi : Reaches f r s (Some t.hi)
+
+-- the range, if there is one, holds each result of members, and no members set the error flag; if there is none, some do
+pub record BoundsResults (f : ℤ → ℤ → Option ℤ) (r s : Ends) (range : Option Ends) : Type 0 where
+  pub members : IfSome range (HoldsChecked f r s)
+  pub none : IfNone range (Reaches f r s None)
+
+-- and both ends of the range are results of members, so that none is smaller
+pub record BoundsExactly (f : ℤ → ℤ → Option ℤ) (r s : Ends) (range : Option Ends) : Type 0 where
+  pub bounds : BoundsResults f r s range
+  pub reached : IfSome range (ReachesEnds f r s)
 
 -- ---- ranges made of ranges
 
@@ -101,6 +120,24 @@ corners f r s = hull (hull (constant (f r.lo s.lo)) (constant (f r.lo s.hi))) (h
 -- the range, where its ends are words
 abbrev pub fitting : Ends → Option Ends
 fitting r = if is_word r.lo && is_word r.hi then Some r else None
+
+-- the range with these ends, where they are words in order
+abbrev pub range_between : ℤ → ℤ → Option Ends
+range_between lo hi = if int_le lo hi then fitting (record { lo = lo; hi = hi }) else None
+
+-- two numbers are the ends of a range between them exactly if they are words in order
+abbrev pub WordsInOrderAreRanges : Type 0
+WordsInOrderAreRanges = (lo hi : ℤ) (r : Ends)
+    → (range_between lo hi ≡ Some r) ↔ (IsRange r × (r.lo ≡ lo) × (r.hi ≡ hi))
+
+-- the members of the range between two words are the numbers between them, both included
+abbrev pub MembersLieBetween : Type 0
+MembersLieBetween = (lo hi v : ℤ) (r : Ends) → range_between lo hi ≡ Some r
+    → InRange r v ↔ ((lo ≤ℤ v) × (v ≤ℤ hi))
+
+-- 0 and 1, the truth values
+abbrev pub truths : Ends
+truths = zero_to (pos 1)
 
 -- ---- checked operations: None where some members set the error flag
 

@@ -71,3 +71,7 @@ shifted_right x count = cast_signed w32 (cast_unsigned w32 x / 2 ^ count)
 -- x is below y, both unsigned
 abbrev pub is_below_unsigned : ℤ → ℤ → Bool
 is_below_unsigned x y = nat_lt (cast_unsigned w32 x) (cast_unsigned w32 y)
+
+-- a truth value as a word
+abbrev pub truth : Bool → ℤ
+truth b = if b then pos 1 else pos 0

@@ -1,5 +1,6 @@
 //! Ranges of words: what can be said of a number before the program runs.
 ghost use Rattle.std.specs.Prelude.{◌≡◌, ◌≢◌, ◌≤ℤ◌, ◌↔◌, IsTrue, MatchOption};
+ghost use Rattle.std.specs.Option.{option_map};
 
 mod bits;
 mod checked;
@@ -16,7 +17,7 @@ pub struct Range {
 }
 
 impl Range {
-    ghost use Rattle.word_arithmetic.specs.Range.{Ends, ends_of, InRange, IsWithin, in_range, is_within, constant, constant_of, bytes, full, hull};
+    ghost use Rattle.word_arithmetic.specs.Range.{Ends, ends_of, InRange, IsWithin, in_range, is_within, constant, constant_of, bytes, full, hull, range_between, truths};
 
     /// The words from `lo` to `hi`.
     pub fn new(lo: i32, hi: i32) -> Self
@@ -25,6 +26,17 @@ impl Range {
         ensures hi { result.hi ≡ hi }
     {
         Range { lo, hi }
+    }
+
+    /// The words from `lo` to `hi`; `None` where there is none.
+    #[tactic(auto, using(crate::proofs::EndsLaws::is_word_in))]
+    pub fn between(lo: i32, hi: i32) -> Option<Self>
+        ensures { option_map ends_of result ≡ range_between lo hi }
+    {
+        if hi < lo {
+            return None;
+        }
+        Some(Range::new(lo, hi))
     }
 
     /// One word alone.
@@ -42,6 +54,13 @@ impl Range {
             lo: i32::MIN,
             hi: i32::MAX,
         }
+    }
+
+    /// The truth values: 0 for false and 1 for true.
+    pub fn truths() -> Self
+        ensures { ends_of result ≡ truths }
+    {
+        Range { lo: 0, hi: 1 }
     }
 
     /// Whether the word lies in the range.

@@ -3,8 +3,8 @@
 ghost use Rattle.std.specs.Prelude.{◌≡◌, ◌+◌, ◌*◌, ◌<◌, ◌^◌, Some, length, slice_get, IfOk, IfSome, OnOk};
 ghost use Rattle.certificate.specs.Contents.{contents_of};
 ghost use Rattle.machine_state.specs.World.{IsLoadable, loaded};
-ghost use Rattle.machine_state.specs.Performing.{Performs, IsSameElsewhere, direct_outcome};
 ghost use Rattle.machine_state.specs.Memory.{data_start, place_of, with_byte};
+ghost use Rattle.machine_state.specs.Happens.{most_executed};
 ghost use Rattle.machine_state.specs.Moves.{counted, finished_where, faulty, put, with_condition, leave, enqueue, wake, dispatch, link_index, with_input, with_output};
 ghost use Rattle.machine.specs.Applying.{PerformsFor, outcome_at};
 ghost use Rattle.machine.specs.Moment.{IsSteady, WaitsForMore};
@@ -13,10 +13,8 @@ use super::act::Performed;
 use certificate::Tables;
 use direct_functions::direct;
 use machine_state::{
-    Channel, Condition, Cpu, Fault, Flow, InputLink, Link, Op, OutputLink, Store, TaggedStore,
-    Task, UNKNOWN_OPERATION,
+    Channel, Condition, Cpu, Fault, InputLink, Link, OutputLink, TaggedStore, Task,
 };
-use operations::operate;
 use prefix_decoder::Fun;
 use std::alloc::{AllocError, Global};
 use std::marker::Model;
@@ -72,22 +70,6 @@ impl Model for Machine {
     ghost invariant = { IsSound };
 }
 
-/// Executes one instruction of the running process.
-#[tactic(auto, unfolding(machine_state::specs::LocalStep::local_step, machine_state::specs::LocalStep::operation_step))]
-fn execute<S: Store>(cpu: &mut Cpu<S>, fun: Fun, operand: i32) -> Result<Flow, Fault>
-    ensures performs { let outcome = direct_outcome S.cells S.holding cpu.old fun operand in
-        Performs S.cells cpu.old cpu.new result outcome }
-    ensures elsewhere { IsSameElsewhere S.holding S.roles cpu.old cpu.new }
-{
-    match fun {
-        Fun::Operate => match Op::of(operand) {
-            Some(op) => operate(cpu, op),
-            None => Err(cpu.fault(UNKNOWN_OPERATION)),
-        },
-        _ => direct(cpu, fun, operand),
-    }
-}
-
 impl Machine {
     /// The machine as its module is loaded.
     pub(crate) fn load(alloc: Global, tables: &Tables) -> Result<Self, AllocError>
@@ -119,7 +101,7 @@ impl Machine {
 
     /// One more byte is executed.
     pub(crate) fn count(&mut self)
-        requires { self.old.world.counters.executed < 2 ^ 63 }
+        requires { self.old.world.counters.executed < most_executed }
         ensures { self.new ≡ record self.old { world = counted self.old.world } }
     {
         self.executed += 1;
@@ -224,7 +206,7 @@ impl Machine {
         self.cpu.mode = task.mode;
         self.cpu.code_length = tables.code.len() as u32;
         self.cpu.store.select(process);
-        let flow = execute(&mut self.cpu, fun, operand)?;
+        let flow = direct(&mut self.cpu, fun, operand)?;
         Ok(Performed {
             flow,
             registers: self.cpu.registers,

@@ -2,7 +2,7 @@
 
 ghost use Rattle.std.specs.Prelude.{◌≡◌, ◌+◌, ◌<◌, ◌^◌, IsTrue, length, slice_get, Err};
 ghost use Rattle.certificate.specs.Contents.{contents_of};
-ghost use Rattle.machine_state.specs.Happens.{between, failed, settled, did, ran, prefix_turn, task_turn, step_turn};
+ghost use Rattle.machine_state.specs.Happens.{between, failed, settled, did, ran, prefix_turn, task_turn, step_turn, most_executed};
 ghost use Rattle.machine.specs.Applying.{Applies, turn_of, outcome_of, outcome_at};
 ghost use Rattle.prefix_decoder.specs.Operand.{IsRegister, after_prefix};
 ghost use Rattle.machine.specs.Moment.{IsSteady};
@@ -10,7 +10,7 @@ ghost use Rattle.machine.specs.Moment.{IsSteady};
 use super::act::{Act, Performed, Stop};
 use super::machine::Machine;
 use certificate::Tables;
-use machine_state::{Condition, Fault, Flow, OUTSIDE_CODE, Registers, Task};
+use machine_state::{Condition, Fault, FaultKind, Flow, Registers, Task};
 use prefix_decoder::Fun;
 use prefix_decoder::operand::{after_prefix, with_nibble};
 
@@ -47,11 +47,11 @@ fn byte_at(code: &[u8], at: u32) -> Option<u8>
 
 impl Machine {
     /// The running process is at fault, in the instruction that it is in.
-    fn fail_in(&mut self, process: u64, task: &Task, number: u8) -> Fault
-        ensures { failed number process task.now self.old.world ≡ turn_of self.new.world (Err result) }
+    fn fail_in(&mut self, process: u64, task: &Task, kind: FaultKind) -> Fault
+        ensures { failed kind process task.now self.old.world ≡ turn_of self.new.world (Err result) }
     {
         let fault = Fault {
-            number,
+            number: kind.number(),
             process,
             offset: task.registers.began,
         };
@@ -68,7 +68,7 @@ impl Machine {
         operand: i32,
     ) -> Result<Act, Fault>
         requires code { length tables.now.code.now < 2 ^ 32 }
-        requires executed { self.old.world.counters.executed < 2 ^ 63 }
+        requires executed { self.old.world.counters.executed < most_executed }
         requires task { IsSteady task.now }
         requires operand { IsRegister operand }
         ensures { let m = contents_of tables.now in
@@ -76,7 +76,7 @@ impl Machine {
     {
         let next = u64::from(task.registers.at) + 1;
         if next >= tables.code.len() as u64 {
-            return Err(self.fail_in(process, task, OUTSIDE_CODE));
+            return Err(self.fail_in(process, task, FaultKind::OutsideCode));
         }
         let registers = Registers {
             at: next as u32,
@@ -100,7 +100,7 @@ impl Machine {
         performed: Performed,
         choice: Choice,
     )
-        requires executed { self.old.world.counters.executed < 2 ^ 63 }
+        requires executed { self.old.world.counters.executed < most_executed }
         requires next { task.now.registers.at + 1 < 2 ^ 32 }
         requires task { IsSteady task.now }
         requires room { IsTrue choice.slice → 0 < self.old.room }
@@ -161,7 +161,7 @@ impl Machine {
         choice: Choice,
     ) -> Result<Act, Fault>
         requires code { length tables.now.code.now < 2 ^ 32 }
-        requires executed { self.old.world.counters.executed < 2 ^ 63 }
+        requires executed { self.old.world.counters.executed < most_executed }
         requires next { task.now.registers.at + 1 < 2 ^ 32 }
         requires task { IsSteady task.now }
         requires room { IsTrue choice.slice → 0 < self.old.room }
@@ -192,14 +192,14 @@ impl Machine {
         choice: Choice,
     ) -> Result<Act, Fault>
         requires code { length tables.now.code.now < 2 ^ 32 }
-        requires executed { self.old.world.counters.executed < 2 ^ 63 }
+        requires executed { self.old.world.counters.executed < most_executed }
         requires task { IsSteady task.now }
         requires room { IsTrue choice.slice → 0 < self.old.room }
         ensures { let turn = task_turn (contents_of tables.now) process choice.slice choice.pick task.now self.old.world in
             turn ≡ turn_of self.new.world result }
     {
         let Some(byte) = byte_at(tables.code, task.registers.at) else {
-            return Err(self.fail_in(process, task, OUTSIDE_CODE));
+            return Err(self.fail_in(process, task, FaultKind::OutsideCode));
         };
         let code = byte >> 4;
         let operand = with_nibble(task.registers.operand, byte);

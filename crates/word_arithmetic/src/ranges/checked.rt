@@ -1,8 +1,8 @@
 //! The ranges of the checked operations' results: `None` where some members set the error flag.
-ghost use Rattle.std.specs.Prelude.{◌≡◌, ◌≢◌, None, IfSome, IfNone, pos, ◌*ℤ◌, int_div, ◌<◌, ◌≤◌, ◌^◌, ◌≤ℤ◌};
+ghost use Rattle.std.specs.Prelude.{◌≡◌, ◌≢◌, pos, ◌*ℤ◌, int_div, ◌<◌, ◌≤◌, ◌^◌, ◌≤ℤ◌};
 ghost use Rattle.std.specs.Option.{option_map};
 ghost use Rattle.word_arithmetic.specs.Word.{checked_sum, checked_difference, checked_product, checked_quotient, checked_remainder};
-ghost use Rattle.word_arithmetic.specs.Range.{ends_of, constant, HoldsChecked, Reaches, ReachesEnds, sum_range, difference_range, product_range, quotient_range, can_fail_to_divide, greatest_size, lowest_remainder, highest_remainder, remainder_ends, remainder_range};
+ghost use Rattle.word_arithmetic.specs.Range.{ends_of, constant, BoundsResults, BoundsExactly, sum_range, difference_range, product_range, quotient_range, can_fail_to_divide, greatest_size, lowest_remainder, highest_remainder, remainder_ends, remainder_range};
 
 use crate::ranges::Range;
 use crate::ranges::wide::{corners, fitting};
@@ -11,11 +11,8 @@ impl Range {
     /// The range of the sums.
     pub fn add(self, other: Range) -> Option<Range>
         ensures rule { option_map ends_of result ≡ sum_range (ends_of self) (ends_of other) }
-        ensures members { IfSome result
-            (λ r. HoldsChecked checked_sum (ends_of self) (ends_of other) (ends_of r)) }
-        ensures reached { IfSome result
-            (λ r. ReachesEnds checked_sum (ends_of self) (ends_of other) (ends_of r)) }
-        ensures none { IfNone result (Reaches checked_sum (ends_of self) (ends_of other) None) }
+        ensures exact { BoundsExactly checked_sum
+            (ends_of self) (ends_of other) (option_map ends_of result) }
     {
         fitting(
             i64::from(self.lo) + i64::from(other.lo),
@@ -26,11 +23,8 @@ impl Range {
     /// The range of the sums with one word.
     pub fn add_constant(self, word: i32) -> Option<Range>
         ensures rule { option_map ends_of result ≡ sum_range (ends_of self) (constant word) }
-        ensures members { IfSome result
-            (λ r. HoldsChecked checked_sum (ends_of self) (constant word) (ends_of r)) }
-        ensures reached { IfSome result
-            (λ r. ReachesEnds checked_sum (ends_of self) (constant word) (ends_of r)) }
-        ensures none { IfNone result (Reaches checked_sum (ends_of self) (constant word) None) }
+        ensures exact { BoundsExactly checked_sum
+            (ends_of self) (constant word) (option_map ends_of result) }
     {
         self.add(Range::constant(word))
     }
@@ -38,12 +32,8 @@ impl Range {
     /// The range of the differences, this range's words less the other's.
     pub fn sub(self, other: Range) -> Option<Range>
         ensures rule { option_map ends_of result ≡ difference_range (ends_of self) (ends_of other) }
-        ensures members { IfSome result
-            (λ r. HoldsChecked checked_difference (ends_of self) (ends_of other) (ends_of r)) }
-        ensures reached { IfSome result
-            (λ r. ReachesEnds checked_difference (ends_of self) (ends_of other) (ends_of r)) }
-        ensures none { IfNone result
-            (Reaches checked_difference (ends_of self) (ends_of other) None) }
+        ensures exact { BoundsExactly checked_difference
+            (ends_of self) (ends_of other) (option_map ends_of result) }
     {
         fitting(
             i64::from(self.lo) - i64::from(other.hi),
@@ -54,11 +44,8 @@ impl Range {
     /// The range of the products.
     pub fn mul(self, other: Range) -> Option<Range>
         ensures rule { option_map ends_of result ≡ product_range (ends_of self) (ends_of other) }
-        ensures members { IfSome result
-            (λ r. HoldsChecked checked_product (ends_of self) (ends_of other) (ends_of r)) }
-        ensures reached { IfSome result
-            (λ r. ReachesEnds checked_product (ends_of self) (ends_of other) (ends_of r)) }
-        ensures none { IfNone result (Reaches checked_product (ends_of self) (ends_of other) None) }
+        ensures exact { BoundsExactly checked_product
+            (ends_of self) (ends_of other) (option_map ends_of result) }
     {
         corners(
             product(self.lo, other.lo),
@@ -71,12 +58,8 @@ impl Range {
     /// The range of the quotients, rounded towards zero.
     pub fn div(self, divisor: Range) -> Option<Range>
         ensures rule { option_map ends_of result ≡ quotient_range (ends_of self) (ends_of divisor) }
-        ensures members { IfSome result
-            (λ r. HoldsChecked checked_quotient (ends_of self) (ends_of divisor) (ends_of r)) }
-        ensures reached { IfSome result
-            (λ r. ReachesEnds checked_quotient (ends_of self) (ends_of divisor) (ends_of r)) }
-        ensures none { IfNone result
-            (Reaches checked_quotient (ends_of self) (ends_of divisor) None) }
+        ensures exact { BoundsExactly checked_quotient
+            (ends_of self) (ends_of divisor) (option_map ends_of result) }
     {
         if divisor.contains(0) {
             return None;
@@ -92,10 +75,8 @@ impl Range {
     /// The range of the remainders, which have the sign of the dividend.
     pub fn rem(self, divisor: Range) -> Option<Range>
         ensures rule { option_map ends_of result ≡ remainder_range (ends_of self) (ends_of divisor) }
-        ensures members { IfSome result
-            (λ r. HoldsChecked checked_remainder (ends_of self) (ends_of divisor) (ends_of r)) }
-        ensures none { IfNone result
-            (Reaches checked_remainder (ends_of self) (ends_of divisor) None) }
+        ensures bounds { BoundsResults checked_remainder
+            (ends_of self) (ends_of divisor) (option_map ends_of result) }
     {
         if self.can_fail_to_divide(divisor) {
             return None;

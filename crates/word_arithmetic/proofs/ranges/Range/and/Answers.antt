@@ -1,8 +1,8 @@
-use Rattle.std.proofs.Common.{sym, subst, rules, w32}
+use Rattle.std.proofs.Common.{rules, w32}
 use Rattle.std.specs.Int.{int_min}
 use Rattle.word_arithmetic.specs.Word.{word_and}
-use Rattle.word_arithmetic.specs.Range.{IsRange, Holds, ends_of}
-use Rattle.word_arithmetic.proofs.EndsLaws.{passed_on}
+use Rattle.word_arithmetic.specs.Range.{ends_of}
+use Rattle.word_arithmetic.proofs.EndsLaws.{by_rule, is_range, passed_on}
 use Rattle.word_arithmetic.proofs.BitLaws.{and_holds}
 use Rattle.word_arithmetic.proofs.ranges.Range.and.Goals as goal
 
@@ -15,8 +15,4 @@ returns-clause-rule c =
 
 pub returns-clause-members : goal.returns-clause-members
 returns-clause-members c =
-    let r = ends_of c.args.self in
-    let s = ends_of c.args.other in
-    let left : IsRange r = record { lo_fits = search rules; hi_fits = search rules; ordered = c.args.self.ordered } in
-    let right : IsRange s = record { lo_fits = search rules; hi_fits = search rules; ordered = c.args.other.ordered } in
-    subst (Holds word_and r s) (sym (returns-clause-rule c)) (and_holds r s left right)
+    by_rule (returns-clause-rule c) (and_holds _ _ (search (rules, is_range)) (search (rules, is_range)))

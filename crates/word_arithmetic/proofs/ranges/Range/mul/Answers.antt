@@ -1,8 +1,8 @@
-use Rattle.std.proofs.Common.{None, rules, w32, w64, ℤ, FitsSigned, ◌*ℤ◌}
-use Rattle.word_arithmetic.specs.Word.{checked_product}
-use Rattle.word_arithmetic.specs.Range.{ends_of, HoldsChecked, Reaches, ReachesEnds, product_range}
-use Rattle.word_arithmetic.proofs.EndsLaws.{if_some, if_none, passed_on}
-use Rattle.word_arithmetic.proofs.CornerLaws.{product_holds, product_reaches, product_fails}
+use Rattle.std.proofs.Common.{rules, w32, w64, ℤ, FitsSigned, ◌*ℤ◌}
+use Rattle.word_arithmetic.specs.Range.{ends_of}
+use Rattle.word_arithmetic.proofs.EndsLaws.{passed_on}
+use Rattle.word_arithmetic.proofs.SumLaws.{exact_by}
+use Rattle.word_arithmetic.proofs.CornerLaws.{product_exact}
 use Rattle.word_arithmetic.proofs.ranges.Range.mul.Goals as goal
 
 pub returns-clause-rule : goal.returns-clause-rule
@@ -16,20 +16,6 @@ returns-clause-rule c =
     (at r.hi s.lo c.product-3.result (search rules) (search rules) (search rules) c.product-3.ensures)
     (at r.hi s.hi c.product-4.result (search rules) (search rules) (search rules) c.product-4.ensures)
 
-pub returns-clause-members : goal.returns-clause-members
-returns-clause-members c =
-    let r = ends_of c.args.self in
-    let s = ends_of c.args.other in
-    if_some c.corners.result (product_range r s) (λ t. HoldsChecked checked_product r s t) (returns-clause-rule c) (product_holds r s)
-
-pub returns-clause-reached : goal.returns-clause-reached
-returns-clause-reached c =
-    let r = ends_of c.args.self in
-    let s = ends_of c.args.other in
-    if_some c.corners.result (product_range r s) (λ t. ReachesEnds checked_product r s t) (returns-clause-rule c) (λ t. product_reaches r s t c.args.self.ordered c.args.other.ordered)
-
-pub returns-clause-none : goal.returns-clause-none
-returns-clause-none c =
-    let r = ends_of c.args.self in
-    let s = ends_of c.args.other in
-    if_none c.corners.result (product_range r s) (Reaches checked_product r s None) (returns-clause-rule c) (product_fails r s c.args.self.ordered c.args.other.ordered)
+pub returns-clause-exact : goal.returns-clause-exact
+returns-clause-exact c =
+    exact_by (returns-clause-rule c) (product_exact (ends_of c.args.self) (ends_of c.args.other) c.args.self.ordered c.args.other.ordered)

@@ -1,7 +1,6 @@
-use Rattle.std.proofs.Common.{pos, ◌*ℤ◌, ◌^◌, rules, w32, w64, refl, sym, subst, ap, ◌∙◌, unsigned_abs, unwrap_or}
-use Rattle.word_arithmetic.specs.Word.{shifted_left}
-use Rattle.word_arithmetic.specs.Range.{IsRange, Holds, ends_of, full, zero_to, fitting, is_not_negative}
-use Rattle.word_arithmetic.proofs.EndsLaws.{cond_true, ends_of-unwrap_or, passed_on}
+use Rattle.std.proofs.Common.{pos, ◌*ℤ◌, ◌^◌, rules, w32, w64, refl, sym, ap, ◌∙◌, unsigned_abs, unwrap_or}
+use Rattle.word_arithmetic.specs.Range.{ends_of, full, zero_to, fitting, is_not_negative}
+use Rattle.word_arithmetic.proofs.EndsLaws.{by_rule, is_range, cond_true, ends_of-unwrap_or, passed_on}
 use Rattle.word_arithmetic.proofs.BitLaws.{shift_left_holds}
 use Rattle.word_arithmetic.proofs.ranges.Range.shift_left.Goals as goal
 
@@ -17,8 +16,4 @@ returns-clause-rule c =
     ∙ ends_of-unwrap_or c.fitting.result c.full-2.result (fitting (zero_to hi)) full (c.fitting.ensures (zero_to hi) refl top) c.full-2.ensures)
 
 pub returns-clause-members : goal.returns-clause-members
-returns-clause-members c =
-    let r = ends_of c.args.self in
-    let s = ends_of c.args.counts in
-    let words : IsRange r = record { lo_fits = search rules; hi_fits = search rules; ordered = c.args.self.ordered } in
-    subst (Holds (λ x count. shifted_left x (unsigned_abs count)) r s) (sym (returns-clause-rule c)) (shift_left_holds r s words c.requires.from_zero)
+returns-clause-members c = by_rule (returns-clause-rule c) (shift_left_holds _ _ (search (rules, is_range)) c.requires.from_zero)

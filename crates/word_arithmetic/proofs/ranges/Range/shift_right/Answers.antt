@@ -1,8 +1,7 @@
-use Rattle.std.proofs.Common.{rules, w32, sym, subst, ap, ◌∙◌, unsigned_abs}
+use Rattle.std.proofs.Common.{rules, w32, sym, ap, ◌∙◌}
 use Rattle.std.proofs.lemmas.Int.{to_z-of_z}
-use Rattle.word_arithmetic.specs.Word.{shifted_right}
-use Rattle.word_arithmetic.specs.Range.{IsRange, Holds, ends_of, full, zero_to, is_not_negative}
-use Rattle.word_arithmetic.proofs.EndsLaws.{cond_true, cond_false}
+use Rattle.word_arithmetic.specs.Range.{ends_of, full, zero_to, is_not_negative}
+use Rattle.word_arithmetic.proofs.EndsLaws.{by_rule, is_range, cond_true, cond_false}
 use Rattle.word_arithmetic.proofs.BitLaws.{shift_right_holds}
 use Rattle.word_arithmetic.proofs.ranges.Range.shift_right.Goals as goal
 
@@ -13,11 +12,7 @@ returns-then-not-is_not_negative-clause-rule c =
     (sym c.is_not_negative.ensures ∙ c.if-not-is_not_negative.true) c.full.ensures
 
 pub returns-then-not-is_not_negative-clause-members : goal.returns-then-not-is_not_negative-clause-members
-returns-then-not-is_not_negative-clause-members c =
-    let r = ends_of c.args.self in
-    let s = ends_of c.args.counts in
-    let words : IsRange r = record { lo_fits = search rules; hi_fits = search rules; ordered = c.args.self.ordered } in
-    subst (Holds (λ x count. shifted_right x (unsigned_abs count)) r s) (sym (returns-then-not-is_not_negative-clause-rule c)) (shift_right_holds r s words)
+returns-then-not-is_not_negative-clause-members c = by_rule (returns-then-not-is_not_negative-clause-rule c) (shift_right_holds _ _ (search (rules, is_range)))
 
 pub returns-clause-rule : goal.returns-clause-rule
 returns-clause-rule c =
@@ -27,8 +22,4 @@ returns-clause-rule c =
     (c.zero_to.ensures ∙ ap zero_to (to_z-of_z w32 r.hi (search rules)))
 
 pub returns-clause-members : goal.returns-clause-members
-returns-clause-members c =
-    let r = ends_of c.args.self in
-    let s = ends_of c.args.counts in
-    let words : IsRange r = record { lo_fits = search rules; hi_fits = search rules; ordered = c.args.self.ordered } in
-    subst (Holds (λ x count. shifted_right x (unsigned_abs count)) r s) (sym (returns-clause-rule c)) (shift_right_holds r s words)
+returns-clause-members c = by_rule (returns-clause-rule c) (shift_right_holds _ _ (search (rules, is_range)))

@@ -1,7 +1,6 @@
-use Rattle.std.proofs.Common.{sym, ap, ◌∙◌, subst, rules}
-use Rattle.word_arithmetic.specs.Word.{word_product}
-use Rattle.word_arithmetic.specs.Range.{IsRange, Holds, ends_of, full, product_range}
-use Rattle.word_arithmetic.proofs.EndsLaws.{ends_of-unwrap_or}
+use Rattle.std.proofs.Common.{ap, ◌∙◌, rules}
+use Rattle.word_arithmetic.specs.Range.{ends_of, full, product_range}
+use Rattle.word_arithmetic.proofs.EndsLaws.{by_rule, is_range, ends_of-unwrap_or}
 use Rattle.word_arithmetic.proofs.ModularLaws.{word_product_holds}
 use Rattle.word_arithmetic.proofs.ranges.Range.times.Goals as goal
 
@@ -12,8 +11,4 @@ returns-clause-rule c =
 
 pub returns-clause-members : goal.returns-clause-members
 returns-clause-members c =
-    let r = ends_of c.args.self in
-    let s = ends_of c.args.other in
-    let left : IsRange r = record { lo_fits = search rules; hi_fits = search rules; ordered = c.args.self.ordered } in
-    let right : IsRange s = record { lo_fits = search rules; hi_fits = search rules; ordered = c.args.other.ordered } in
-    subst (Holds word_product r s) (sym (returns-clause-rule c)) (word_product_holds r s left right)
+    by_rule (returns-clause-rule c) (word_product_holds _ _ (search (rules, is_range)) (search (rules, is_range)))

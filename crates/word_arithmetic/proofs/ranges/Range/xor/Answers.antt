@@ -1,9 +1,9 @@
-use Rattle.std.proofs.Common.{ap, sym, ◌∙◌, subst, rules, w32}
+use Rattle.std.proofs.Common.{ap, sym, ◌∙◌, rules, w32}
 use Rattle.std.specs.Int.{int_max}
 use Rattle.std.proofs.lemmas.Int.{to_z-of_z}
 use Rattle.word_arithmetic.specs.Word.{word_xor}
-use Rattle.word_arithmetic.specs.Range.{IsRange, Holds, ends_of, all_ones}
-use Rattle.word_arithmetic.proofs.EndsLaws.{passed_on}
+use Rattle.word_arithmetic.specs.Range.{ends_of, all_ones}
+use Rattle.word_arithmetic.proofs.EndsLaws.{by_rule, is_range, passed_on}
 use Rattle.word_arithmetic.proofs.BitLaws.{xor_holds}
 use Rattle.word_arithmetic.proofs.ranges.Range.xor.Goals as goal
 
@@ -17,8 +17,4 @@ returns-clause-rule c =
 
 pub returns-clause-members : goal.returns-clause-members
 returns-clause-members c =
-    let r = ends_of c.args.self in
-    let s = ends_of c.args.other in
-    let left : IsRange r = record { lo_fits = search rules; hi_fits = search rules; ordered = c.args.self.ordered } in
-    let right : IsRange s = record { lo_fits = search rules; hi_fits = search rules; ordered = c.args.other.ordered } in
-    subst (Holds word_xor r s) (sym (returns-clause-rule c)) (xor_holds r s left right)
+    by_rule (returns-clause-rule c) (xor_holds _ _ (search (rules, is_range)) (search (rules, is_range)))

@@ -1,0 +1,33 @@
+//! The laws of the operations and their ranges, each the contract of a function that does nothing.
+ghost use Rattle.word_arithmetic.specs.Range.{WordsInOrderAreRanges, MembersLieBetween};
+ghost use Rattle.word_arithmetic.specs.Binary.{BinaryGivesWords, BinaryHolds, BinaryFails};
+ghost use Rattle.word_arithmetic.specs.Unary.{UnaryGivesWords, UnaryHolds};
+
+/// The result of words is a word.
+#[tactic(auto, using(crate::proofs::BinaryLaws::binary_gives_words, crate::proofs::UnaryLaws::unary_gives_words))]
+pub fn operations_give_words()
+    ensures binary { BinaryGivesWords }
+    ensures unary { UnaryGivesWords }
+{}
+
+/// Where the results of an operation have a range, no members set the error flag, and each result of members is a
+/// word in that range.
+#[tactic(auto, using(crate::proofs::BinaryLaws::binary_holds, crate::proofs::UnaryLaws::unary_holds))]
+pub fn ranges_hold_results()
+    ensures binary { BinaryHolds }
+    ensures unary { UnaryHolds }
+{}
+
+/// The results of an operation have no range only if some members set the error flag.
+#[tactic(auto, using(crate::proofs::BinaryLaws::binary_fails))]
+pub fn no_range_means_failure()
+    ensures { BinaryFails }
+{}
+
+/// Two numbers have a range between them exactly if they are words in order, and its members are the numbers between
+/// them, both included.
+#[tactic(auto, using(crate::proofs::EndsLaws::words_in_order_are_ranges, crate::proofs::EndsLaws::members_lie_between))]
+pub fn words_in_order_are_ranges()
+    ensures ends { WordsInOrderAreRanges }
+    ensures members { MembersLieBetween }
+{}
