@@ -72,7 +72,7 @@ struct Going {
     after: Word,
 }
 
-const GOING: [Going; 6] = [
+const GOING: [Going; 8] = [
     Going {
         fun: Fun::LoadConstant,
         operand: -5,
@@ -119,6 +119,22 @@ const GOING: [Going; 6] = [
         a: Some(i32::MAX),
         before: None,
         left: [Some(i32::MAX), Some(20), Some(30)],
+        after: None,
+    },
+    Going {
+        fun: Fun::EqualsConstant,
+        operand: -12,
+        a: Some(-12),
+        before: None,
+        left: [Some(1), Some(20), Some(30)],
+        after: None,
+    },
+    Going {
+        fun: Fun::EqualsConstant,
+        operand: -12,
+        a: Some(12),
+        before: None,
+        left: [Some(0), Some(20), Some(30)],
         after: None,
     },
 ];
@@ -197,7 +213,7 @@ struct Failing {
 
 const STARTING: Mode = Mode::Starting { row: 0, started: 1 };
 
-const FAILING: [Failing; 17] = [
+const FAILING: [Failing; 20] = [
     Failing {
         fun: Fun::LoadConstant,
         operand: 5,
@@ -327,6 +343,30 @@ const FAILING: [Failing; 17] = [
         number: 10,
     },
     Failing {
+        fun: Fun::EqualsConstant,
+        operand: 1,
+        mode: Mode::Enabling,
+        at: 5,
+        a: None,
+        number: 9,
+    },
+    Failing {
+        fun: Fun::EqualsConstant,
+        operand: 1,
+        mode: Mode::Plain,
+        at: 5,
+        a: None,
+        number: 2,
+    },
+    Failing {
+        fun: Fun::EqualsConstant,
+        operand: 1,
+        mode: Mode::Plain,
+        at: 5,
+        a: Some(1),
+        number: 3,
+    },
+    Failing {
         fun: Fun::LoadLocalPointer,
         operand: 0,
         mode: Mode::Plain,
@@ -370,5 +410,26 @@ fn jumps_only_where_scheduling_has_its_words(rt: HostRuntime) -> Result<(), Fail
         offset: 1,
     };
     assert_eq!(rt; direct(&mut cpu, Fun::Jump, 0), Err(fault));
+    Ok(())
+}
+
+#[test]
+fn executes_the_operation_of_an_operand(rt: HostRuntime) -> Result<(), Fail> {
+    let mut cpu = machine(rt.alloc())?;
+    assert_eq!(rt; direct(&mut cpu, Fun::Operate, 0x05), Ok(Flow::Next));
+    let expected = Registers {
+        a: Some(30),
+        b: Some(30),
+        c: None,
+        ..REGISTERS
+    };
+    assert_eq!(rt; cpu.registers, expected);
+    let fault = Fault {
+        number: 8,
+        process: 7,
+        offset: 1,
+    };
+    assert_eq!(rt; direct(&mut cpu, Fun::Operate, -1), Err(fault));
+    assert_eq!(rt; cpu.registers, expected);
     Ok(())
 }

@@ -5,7 +5,7 @@ use Rattle.prefix_decoder.specs.declared.function.Fun.TheVariants as fun
 use Rattle.machine_state.specs.declared.process.Mode.{Mode}
 use Rattle.machine_state.specs.declared.process.Mode.TheVariants.{Plain, Enabling, Disabling, Starting}
 use Rattle.machine_state.specs.declared.op.Op.{Op}
-use Rattle.machine_state.specs.declared.op.Op.TheVariants.{Reverse, StopProcess, MinimumInteger}
+use Rattle.machine_state.specs.declared.op.Op.TheVariants.{Reverse, StopProcess, MinimumInteger, Binary, Unary}
 use Rattle.machine_state.specs.declared.instruction.Instruction.{Instruction}
 use Rattle.machine_state.specs.declared.instruction.Instruction.TheVariants.{Jump, LoadConstant, LoadLocal, StoreLocal, WithConstant, Operate}
 use Rattle.machine_state.specs.Instructions.{instruction_of}
@@ -127,6 +127,13 @@ module _ (s : Site) (l : Local) where
   operation_leaves MinimumInteger = beside_leaves s l.memory s.mode _ (goes_on_leaves s l.memory _ same)
   operation_leaves StopProcess =
       alone_leaves s l.memory s.mode _ (schedules_leaves s l.memory l stops same (λ memory changes. changes))
+  operation_leaves (Binary op) =
+      alone_leaves s l.memory s.mode _ (uses_leaves s l.memory l.registers.a _ (λ a.
+      uses_leaves s l.memory l.registers.b _ (λ b.
+      computes_leaves s l.memory _ _ (λ v. goes_on_leaves s l.memory _ same))))
+  operation_leaves (Unary op) =
+      alone_leaves s l.memory s.mode _ (uses_leaves s l.memory l.registers.a _ (λ a.
+      computes_leaves s l.memory _ _ (λ v. goes_on_leaves s l.memory _ same)))
 
   instruction_leaves : (i : Instruction) (e : ℤ) → LeavesOthers s.holding l.memory (step.instruction_step s i e l)
   unfolding step.instruction_step

@@ -36,6 +36,7 @@ impl Instruction {
             Fun::LoadLocal => Some(Instruction::LoadLocal),
             Fun::StoreLocal => Some(Instruction::StoreLocal),
             Fun::AddConstant => Some(Instruction::WithConstant(Binary::Add)),
+            Fun::EqualsConstant => Some(Instruction::WithConstant(Binary::Equal)),
             Fun::Operate => Some(Instruction::Operate(Op::of(operand)?)),
             _ => None,
         }

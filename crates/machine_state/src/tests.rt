@@ -1,13 +1,15 @@
 ghost use Rattle.std.specs.Prelude.{◌≡◌};
 
 use crate::{
-    DATA_START, End, Holding, Join, Link, Op, Role, Span, Store, TaggedStore, Task, Word,
-    local_address, place_of,
+    DATA_START, End, FaultKind, Holding, Instruction, Join, Link, Op, Role, Span, Store,
+    TaggedStore, Task, Word, local_address, place_of,
 };
 use certificate::{Direction, Tables, Version};
+use prefix_decoder::Fun;
 use std::alloc::{AllocError, Global};
 use std::process::Abort;
 use std::test::Fail;
+use word_arithmetic::{Binary, Unary};
 
 /// A module of five data words, of which the root's workspace is word 3, and these parts.
 fn tables<'a>(alloc: Global, code: &'a [u8], constants: &'a [u8], lengths: [u32; 8]) -> Tables<'a>
@@ -268,12 +270,25 @@ fn numbers_links_and_operations(rt: HostRuntime) -> Result<(), Fail> {
         (0, Some(Op::Reverse)),
         (0x15, Some(Op::StopProcess)),
         (0x42, Some(Op::MinimumInteger)),
+        (0x05, Some(Op::Binary(Binary::Add))),
+        (0x32, Some(Op::Unary(Unary::Not))),
         (0x14, None),
         (-0x15, None),
         (-1, None),
     ] {
         assert_eq!(rt; Op::of(operand), op);
+        assert_eq!(rt;
+            Instruction::of(Fun::Operate, operand),
+            op.map(|op| Instruction::Operate(op))
+        );
     }
+    assert_eq!(rt;
+        Instruction::of(Fun::StoreLocal, -1),
+        Some(Instruction::StoreLocal)
+    );
+    assert_eq!(rt; Instruction::of(Fun::Call, 0), None);
+    assert_eq!(rt; FaultKind::ErrorFlag.number(), 1);
+    assert_eq!(rt; FaultKind::CountRange.number(), 11);
     let root = Task::root(&tables(rt.alloc(), b"\x21\xf5", &[], [0; 8]));
     assert_eq!(rt; root.registers.workspace, 0x8000_010c);
     assert_eq!(rt; root.registers.a, None);

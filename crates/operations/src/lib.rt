@@ -1,6 +1,7 @@
 //! The operations of the T414 that touch no other process.
 #![tactic(auto)]
 
+mod arithmetic;
 mod registers;
 mod stopping;
 
@@ -19,6 +20,8 @@ pub fn operate<S: Store>(cpu: &mut Cpu<S>, op: Op) -> Result<Flow, Fault>
         Op::Reverse => registers::reverse(cpu),
         Op::MinimumInteger => registers::minimum_integer(cpu),
         Op::StopProcess => stopping::stop_process(cpu),
+        Op::Binary(op) => arithmetic::binary(cpu, op),
+        Op::Unary(op) => arithmetic::unary(cpu, op),
     }
 }
 

@@ -6,6 +6,7 @@ use machine_state::{
 use std::alloc::{AllocError, Global};
 use std::process::Abort;
 use std::test::Fail;
+use word_arithmetic::{Binary, Unary};
 
 /// The workspace of every case: word 3 of five.
 const WORKSPACE: u32 = 0x8000_010c;
@@ -106,6 +107,114 @@ fn pushes_the_least_word(rt: HostRuntime) -> Result<(), Fail> {
     Ok(())
 }
 
+/// An operand of `opr`, B and A, and the result: none sets the error flag.
+const COMPUTED: [(i32, i32, i32, Option<i32>); 23] = [
+    (0x05, 20, 10, Some(30)),
+    (0x05, 2147483647, 1, None),
+    (0x0c, 20, 30, Some(-10)),
+    (0x0c, -2147483648, 1, None),
+    (0x53, -3, 7, Some(-21)),
+    (0x53, 65536, 32768, None),
+    (0x2c, -7, 2, Some(-3)),
+    (0x2c, -2147483648, -1, None),
+    (0x2c, 1, 0, None),
+    (0x1f, -7, 2, Some(-1)),
+    (0x1f, 7, -2, Some(1)),
+    (0x1f, -2147483648, -1, None),
+    (0x52, 2147483647, 1, Some(-2147483648)),
+    (0x04, -2147483648, 1, Some(2147483647)),
+    (0x04, 3, 5, Some(-2)),
+    (0x08, 65537, 65537, Some(131073)),
+    (0x46, -4, 3855, Some(3852)),
+    (0x4b, 3855, 28672, Some(32527)),
+    (0x33, -1, 3855, Some(-3856)),
+    (0x09, 2, 1, Some(1)),
+    (0x09, 1, 2, Some(0)),
+    (0x09, -1, -1, Some(0)),
+    (0x09, 1, -2147483648, Some(1)),
+];
+
+const FLAGGED: Fault = Fault {
+    number: 1,
+    process: 7,
+    offset: 1,
+};
+
+#[test]
+fn computes_b_and_a(rt: HostRuntime) -> Result<(), Fail> {
+    for (operand, b, a, result) in COMPUTED {
+        let mut cpu = machine(rt.alloc())?;
+        cpu.registers.a = Some(a);
+        cpu.registers.b = Some(b);
+        cpu.registers.c = Some(30);
+        let before = cpu.registers;
+        let answer = operate(&mut cpu, Op::of(operand).ok_or("no operation")?);
+        let after = Registers {
+            a: result,
+            b: Some(30),
+            c: None,
+            ..REGISTERS
+        };
+        if result.is_some() {
+            assert_eq!(rt; answer, Ok(Flow::Next), "{operand}: {b}, {a}");
+            assert_eq!(rt; cpu.registers, after, "{operand}: {b}, {a}");
+        } else {
+            assert_eq!(rt; answer, Err(FLAGGED), "{operand}: {b}, {a}");
+            assert_eq!(rt; cpu.registers, before, "{operand}: {b}, {a}");
+        }
+    }
+    Ok(())
+}
+
+#[test]
+fn complements_a_alone(rt: HostRuntime) -> Result<(), Fail> {
+    for (a, result) in [(5, -6), (-2147483648, 2147483647)] {
+        let mut cpu = machine(rt.alloc())?;
+        cpu.registers.a = Some(a);
+        let op = Op::of(0x32).ok_or("no operation")?;
+        assert_eq!(rt; operate(&mut cpu, op), Ok(Flow::Next), "{a}");
+        let after = Registers {
+            a: Some(result),
+            ..REGISTERS
+        };
+        assert_eq!(rt; cpu.registers, after, "{a}");
+    }
+    Ok(())
+}
+
+/// A division in a mode, with this A and B and so many bytes of code, and the number of its fault.
+#[derive(Clone, Copy)]
+struct Dividing(Mode, Word, Word, u32, u8);
+
+const DIVIDING: [Dividing; 6] = [
+    Dividing(Mode::Enabling, None, None, 3, 9),
+    Dividing(STARTING, None, None, 3, 10),
+    Dividing(Mode::Plain, None, Some(1), 3, 2),
+    Dividing(Mode::Plain, Some(0), None, 3, 2),
+    Dividing(Mode::Plain, Some(0), Some(1), 3, 1),
+    Dividing(Mode::Plain, Some(1), Some(1), 3, 3),
+];
+
+#[test]
+fn reports_the_first_fault_of_a_division(rt: HostRuntime) -> Result<(), Fail> {
+    for Dividing(mode, a, b, code_length, number) in DIVIDING {
+        let mut cpu = machine(rt.alloc())?;
+        cpu.mode = mode;
+        cpu.code_length = code_length;
+        cpu.registers.a = a;
+        cpu.registers.b = b;
+        let before = cpu.registers;
+        let fault = Fault { number, ..FLAGGED };
+        assert_eq!(rt;
+            operate(&mut cpu, Op::Binary(Binary::Divide)),
+            Err(fault),
+            "{a:?}, {b:?}"
+        );
+        assert_eq!(rt; cpu.registers, before, "{a:?}, {b:?}");
+    }
+    Ok(())
+}
+
 #[test]
 fn stops_without_its_scheduling_words(rt: HostRuntime) -> Result<(), Fail> {
     let mut cpu = machine(rt.alloc())?;
@@ -156,7 +265,7 @@ const DISABLING: Mode = Mode::Disabling { selection: None };
 
 const STARTING: Mode = Mode::Starting { row: 0, started: 1 };
 
-const FAILING: [Failing; 11] = [
+const FAILING: [Failing; 14] = [
     Failing(Op::StopProcess, Mode::Enabling, WORKSPACE, 3, 9),
     Failing(Op::StopProcess, DISABLING, WORKSPACE, 3, 9),
     Failing(Op::StopProcess, STARTING, WORKSPACE, 3, 10),
@@ -168,6 +277,9 @@ const FAILING: [Failing; 11] = [
     Failing(Op::Reverse, Mode::Plain, WORKSPACE, 3, 3),
     Failing(Op::MinimumInteger, STARTING, WORKSPACE, 4, 10),
     Failing(Op::MinimumInteger, Mode::Enabling, WORKSPACE, 3, 3),
+    Failing(Op::Unary(Unary::Not), DISABLING, WORKSPACE, 3, 9),
+    Failing(Op::Unary(Unary::Not), STARTING, WORKSPACE, 4, 10),
+    Failing(Op::Unary(Unary::Not), Mode::Plain, WORKSPACE, 3, 3),
 ];
 
 #[test]
