@@ -1,6 +1,6 @@
 pub mod LabelRows
 pub mod Steps
-pub mod Unruled
 pub mod Words
+pub mod Results
 pub mod Entering
 pub mod Local

@@ -1,17 +1,25 @@
 -- The rule of each instruction: what it wants of the state before it, and what it leaves. The rules mirror the steps of the
 -- machine, and their tests stand in rising order of the numbers of rules.
-use Rattle.std.specs.Prelude.{ℕ, ◌+◌, ◌-◌, nat_lt, Bool, true, false, ◌&&◌, if◌then◌else◌, is_some, ℤ, pos, negsuc, ◌+ℤ◌, Option, Some, None, Ok, Err}
+use Rattle.std.specs.Prelude.{ℕ, ◌+◌, ◌-◌, nat_lt, Bool, if◌then◌else◌, is_some, ℤ, pos, negsuc, ◌+ℤ◌, Option, Some, None, Ok, Err}
+use Rattle.std.specs.Option.{option_map}
 use Rattle.prefix_decoder.specs.declared.function.Fun.{Fun}
-use Rattle.prefix_decoder.specs.declared.function.Fun.TheVariants.{Jump, LoadConstant, LoadLocal, AddConstant, StoreLocal, Operate}
 use Rattle.prefix_decoder.specs.declared.decoding.Instr.{Instr}
+use Rattle.word_arithmetic.specs.declared.binary.Binary.{Binary as BinaryOperation}
+use Rattle.word_arithmetic.specs.declared.unary.Unary.{Unary as UnaryOperation}
+use Rattle.word_arithmetic.specs.Word.{least_word}
+use Rattle.word_arithmetic.specs.Range.{Ends, range_between}
+use Rattle.word_arithmetic.specs.Binary.{result_range}
+use Rattle.word_arithmetic.specs.Unary.{unary_result_range}
 use Rattle.certificate.specs.declared.fact.Fact.{Fact}
 use Rattle.certificate.specs.declared.fact.Fact.TheVariants.{Unknown, Number}
 use Rattle.certificate.specs.Contents.{Contents, label_at}
-use Rattle.certificate.specs.Order.{least_word}
 use Rattle.certificate.specs.Rights.{may_write_word, may_read_word}
 use Rattle.machine_state.specs.declared.op.Op.{Op}
-use Rattle.machine_state.specs.declared.op.Op.TheVariants.{Reverse, StopProcess, MinimumInteger}
-use Rattle.machine_state.specs.LocalStep.{op_of, fits_word, target}
+use Rattle.machine_state.specs.declared.op.Op.TheVariants.{Reverse, StopProcess, MinimumInteger, Binary, Unary}
+use Rattle.machine_state.specs.declared.instruction.Instruction.{Instruction}
+use Rattle.machine_state.specs.declared.instruction.Instruction.TheVariants.{Jump, LoadConstant, LoadLocal, StoreLocal, WithConstant, Operate}
+use Rattle.machine_state.specs.Instructions.{instruction_of}
+use Rattle.machine_state.specs.LocalStep.{target}
 use Rattle.states.specs.declared.rule.Rule.{Rule}
 use Rattle.states.specs.declared.rule.Rule.TheVariants as rules
 use Rattle.states.specs.declared.known.Known.{Known}
@@ -59,15 +67,6 @@ outside_starts (Starting row started) k = breaks rules.Par
 -- a register that is used is known
 unfoldable pub uses : Known → (Fact → Ruling) → Ruling
 uses known k = elim known.fact [ Unknown ↦ breaks rules.UnknownRegister | _ ↦ k known.fact ]
-
--- a number is wanted
-unfoldable pub number : Fact → (ℤ → ℤ → Ruling) → Ruling
-number (Number lo hi) k = k lo hi
-number _ k = breaks rules.Number
-
--- a result that does not fit a word
-unfoldable pub in_word : ℤ → ℤ → (Fact → Ruling) → Ruling
-in_word lo hi k = if fits_word lo && fits_word hi then k (Number lo hi) else breaks rules.Number
 
 -- the code offset that is e from the next instruction lies behind it
 unfoldable pub forward : ℤ → Ruling → Ruling
@@ -133,44 +132,72 @@ source_of k _ = Nowhere
 abbrev pub loaded : ℤ → WordFact → Known
 loaded k word = record { fact = plain word; source = source_of k (plain word) }
 
+-- ---- results
+
+-- the range of a number; None of any other fact
+abbrev pub range_of : Fact → Option Ends
+range_of (Number lo hi) = range_between lo hi
+range_of _ = None
+
+abbrev pub number_in : Ends → Fact
+number_in r = Number r.lo r.hi
+
+-- what is known of the results of an operation of two numbers; None where it may fail, or they are no numbers
+unfoldable pub result_fact : BinaryOperation → Fact → Fact → Option Fact
+result_fact op left right = elim (range_of left) [
+  | None ↦ None
+  | Some r ↦ elim (range_of right) [ None ↦ None | Some s ↦ option_map number_in (result_range op r s) ]
+]
+
+-- the same of one number
+unfoldable pub unary_result_fact : UnaryOperation → Fact → Option Fact
+unary_result_fact op operand = elim (range_of operand) [
+  | None ↦ None
+  | Some r ↦ option_map number_in (unary_result_range op r)
+]
+
+-- A becomes the result, of which this is known
+unfoldable pub becomes : Site → Option Fact → State → Ruling
+becomes site None s = breaks rules.Number
+becomes site (Some fact) s = outside_alternation s.mode (outside_starts s.mode (goes_on site (with_a (known fact) s)))
+
 -- ---- the instructions
 
-unfoldable pub operation_rule : Site → Option Op → State → Ruling
-operation_rule site None s = breaks rules.Spelling
-operation_rule site (Some Reverse) s = outside_alternation s.mode (outside_starts s.mode (goes_on site (reverse s)))
-operation_rule site (Some MinimumInteger) s = outside_starts s.mode (goes_on site (push (constant least_word) s))
-operation_rule site (Some StopProcess) s =
+unfoldable pub operation_rule : Site → Op → State → Ruling
+operation_rule site Reverse s = outside_alternation s.mode (outside_starts s.mode (goes_on site (reverse s)))
+operation_rule site MinimumInteger s = outside_starts s.mode (goes_on site (push (constant least_word) s))
+operation_rule site StopProcess s =
     outside_alternation s.mode (outside_starts s.mode (schedules site s (λ s. pays site s (λ s. ends))))
+operation_rule site (Binary op) s = uses s.a (λ a. uses s.b (λ b. becomes site (result_fact op b a) (pop s)))
+operation_rule site (Unary op) s = uses s.a (λ a. becomes site (unary_result_fact op a) s)
 
-unfoldable pub rule : Site → Fun → ℤ → State → Ruling
-rule site LoadConstant e s = goes_on site (push (constant e) s)
-rule site LoadLocal e s =
+unfoldable pub instruction_rule : Site → Instruction → ℤ → State → Ruling
+instruction_rule site LoadConstant e s = goes_on site (push (constant e) s)
+instruction_rule site LoadLocal e s =
     let k = s.depth +ℤ e in
     outside_starts s.mode (reads_word site s k (goes_on site (push (loaded k (s.frame k)) s)))
-rule site StoreLocal e s =
+instruction_rule site StoreLocal e s =
     let k = s.depth +ℤ e in
-    uses s.a (λ a. outside_alternation s.mode (outside_starts s.mode (writes_word site s k (goes_on site (pop (written k a s))))))
-rule site AddConstant e s =
-    uses s.a (λ a. number a (λ lo hi. in_word (lo +ℤ e) (hi +ℤ e) (λ sum.
-    outside_alternation s.mode (outside_starts s.mode (goes_on site (with_a (known sum) s))))))
-rule site Jump e s =
+    uses s.a (λ a. outside_alternation s.mode (outside_starts s.mode (writes_word site s k
+    (goes_on site (pop (written k a s))))))
+instruction_rule site (WithConstant op) e s = uses s.a (λ a. becomes site (result_fact op a (Number e e)) s)
+instruction_rule site Jump e s =
     outside_alternation s.mode (forward e (outside_starts s.mode (schedules site s (λ s. pays site s (λ s.
     leads_to site (target (site.at + site.length) e) (without_registers s))))))
-rule site Operate e s = operation_rule site (op_of e) s
-rule site _ e s = breaks rules.Spelling
+instruction_rule site (Operate op) e s = operation_rule site op s
+
+-- the rule of an instruction that the machine has
+unfoldable pub rule_of : Site → Option Instruction → ℤ → State → Ruling
+rule_of site None e s = breaks rules.Spelling
+rule_of site (Some instruction) e s = instruction_rule site instruction e s
+
+unfoldable pub rule : Site → Fun → ℤ → State → Ruling
+rule site f e s = rule_of site (instruction_of f e) e s
 
 -- the rule for the instruction that stands at an offset
 abbrev pub rule_at : Contents → ℕ → Instr → State → Ruling
 rule_at m at i s = rule (record { contents = m; at = at; length = i.len }) i.fun i.operand s
 
--- Whether an instruction has a rule. One that has none breaks rules.Spelling in every state.
+-- Whether an instruction has a rule: each has that the machine has. One that has none breaks `Spelling` in every state.
 unfoldable pub has_rule : Instr → Bool
-has_rule i = elim i.fun [
-  | LoadConstant ↦ true
-  | LoadLocal ↦ true
-  | StoreLocal ↦ true
-  | AddConstant ↦ true
-  | Jump ↦ true
-  | Operate ↦ is_some (op_of i.operand)
-  | _ ↦ false
-]
+has_rule i = is_some (instruction_of i.fun i.operand)

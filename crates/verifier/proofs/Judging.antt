@@ -14,7 +14,7 @@ use Rattle.states.specs.declared.rule.Rule.TheVariants as rules
 use Rattle.states.specs.Numbers.{number_of}
 use Rattle.states.specs.State.{State, root_state}
 use Rattle.facts.specs.Rules.{Ruling, falls, leads, ends, breaks, rule_at, has_rule}
-use Rattle.facts.proofs.Unruled.{unruled as breaks_one}
+use Rattle.facts.proofs.Steps.{unruled as breaks_one}
 use Rattle.verifier.specs.declared.stop.Breach.{Breach}
 use Rattle.verifier.specs.Certified.{falling, given, state_at, entering, Reaches, begins, follows, HoldsAt, HoldsBelow, IsCertified, IsRefused, IsBroken, misspelled, unruled, hidden, unreached, fallen_off, entered, broken}
 use Rattle.verifier.proofs.Given.{nothing_given, is_given}

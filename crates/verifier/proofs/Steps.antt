@@ -32,7 +32,7 @@ use Rattle.verifier.specs.Invariant.{Lives}
 use Rattle.facts.proofs.Words.{means_same, frame_word_is}
 use Rattle.states.proofs.RowFacts.{and-parts}
 use Rattle.facts.specs.Fitting.{After, Here, step_site, Fits, it_falls, it_leads, it_ends, it_breaks}
-use Rattle.facts.proofs.Local.{instruction_fits}
+use Rattle.facts.proofs.Local.{function_fits}
 use Rattle.facts.proofs.Entering.{below_tells, label_after}
 use Rattle.verifier.proofs.Given.{nothing_given, is_given, given_label, given_none, label_is_start}
 
@@ -232,7 +232,7 @@ module _ (m : Contents) (d : Decodes m) (wf : IsWellFormed m) (c : IsCertified m
       (local_step (step_site (here_of h p.act memory t p.state p.instr)) p.instr.fun p.instr.operand (record { registers = t.registers; memory = memory }))
   point_fits h memory t due p =
       let x = here_of h p.act memory t p.state p.instr in
-      instruction_fits x wf p.state (record { registers = t.registers; memory = memory })
+      function_fits x wf p.state (record { registers = t.registers; memory = memory })
       (record { frame = p.frame; knows = p.knows; same_mode = p.mode })
       (record { size = refl; others = λ place e. refl }) refl
       p.instr.fun p.instr.operand (d.fits t.registers.began p.instr p.reading.spelled)
