@@ -1,7 +1,7 @@
 //! What became of a run.
 
 /// What became of a run over given events.
-#[derive(Debug, Drop)]
+#[derive(Drop)]
 pub struct Replay {
     /// Whether some process has stopped where the module says that it ends.
     pub finished: bool,

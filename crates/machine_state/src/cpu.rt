@@ -13,7 +13,7 @@ use crate::process::{Mode, Registers, Word};
 use crate::store::Store;
 
 /// The running process over a store.
-#[derive(Debug, Drop)]
+#[derive(Drop)]
 pub struct Cpu<S> {
     /// The number of the process.
     pub process: u64,

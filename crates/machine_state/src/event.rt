@@ -3,7 +3,7 @@
 use crate::link::Link;
 
 /// One event.
-#[derive(Clone, Copy, Debug, PartialEq, Eq)]
+#[derive(Clone, Copy)]
 pub enum Event {
     /// One byte of the running process. `slice`: where it completes a jump, the process goes to the
     /// back of the ready list. `pick`: which ready process runs next, counted round the list.

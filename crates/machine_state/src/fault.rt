@@ -4,7 +4,7 @@ ghost use Rattle.std.specs.Prelude.{◌≡◌};
 ghost use Rattle.machine_state.specs.Faults.{number_of};
 
 /// A rule of the machine that a process breaks.
-#[derive(Clone, Copy, Debug, PartialEq, Eq)]
+#[derive(Clone, Copy)]
 pub enum FaultKind {
     /// A result does not fit a word, and sets the error flag.
     ErrorFlag,

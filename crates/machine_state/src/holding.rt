@@ -8,7 +8,7 @@ ghost use Rattle.machine_state.specs.Views.{holding_view};
 use certificate::Direction;
 
 /// Places of memory, from `start` up to `end`, which is not among them.
-#[derive(Clone, Copy, Debug, PartialEq, Eq)]
+#[derive(Clone, Copy)]
 pub struct Span {
     pub start: u32,
     pub end: u32,
@@ -30,7 +30,7 @@ fn any_covers(spans: &[Span], place: u64) -> bool
 }
 
 /// One end of a channel or a link.
-#[derive(Clone, Copy, Debug, PartialEq, Eq)]
+#[derive(Clone, Copy)]
 pub struct End {
     /// The address of the channel word or of the link's word.
     pub address: u32,
@@ -38,7 +38,7 @@ pub struct End {
 }
 
 /// The places that a process may write, those that it may only read, and the ends that it may use.
-#[derive(Debug, Drop)]
+#[derive(Drop)]
 pub struct Holding {
     pub writes: Vec<Span>,
     pub reads: Vec<Span>,

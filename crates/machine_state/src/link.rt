@@ -27,7 +27,7 @@ impl Link {
 }
 
 /// The input side of a link.
-#[derive(Clone, Copy, Debug, PartialEq, Eq)]
+#[derive(Clone, Copy)]
 pub struct InputLink {
     /// The byte that has come and that no process has taken.
     pub kept: Option<u8>,
@@ -38,7 +38,7 @@ pub struct InputLink {
 }
 
 /// The output side of a link.
-#[derive(Clone, Copy, Debug, PartialEq, Eq)]
+#[derive(Clone, Copy)]
 pub struct OutputLink {
     /// The process whose message was emitted and is not acknowledged.
     pub waiting: Option<u64>,

@@ -64,7 +64,7 @@ impl Registers {
 }
 
 /// What a process is in the middle of, apart from waiting.
-#[derive(Clone, Copy, Debug, PartialEq, Eq)]
+#[derive(Clone, Copy, Debug)]
 pub enum Mode {
     Plain,
     /// Between `alt` and `altwt`.
@@ -76,7 +76,7 @@ pub enum Mode {
 }
 
 /// A message that is being sent or received.
-#[derive(Clone, Copy, Debug, PartialEq, Eq)]
+#[derive(Clone, Copy)]
 pub struct Exchange {
     /// The channel's address.
     pub channel: u32,
@@ -87,7 +87,7 @@ pub struct Exchange {
 }
 
 /// Whether a process can run, and what it waits for.
-#[derive(Clone, Copy, Debug, PartialEq, Eq)]
+#[derive(Clone, Copy)]
 pub enum Condition {
     /// It runs, or is in the ready list.
     Ready,
@@ -106,7 +106,7 @@ pub enum Condition {
 }
 
 /// A process at a moment.
-#[derive(Clone, Copy, Debug, PartialEq, Eq)]
+#[derive(Clone, Copy)]
 pub struct Task {
     pub registers: Registers,
     pub mode: Mode,
@@ -137,7 +137,7 @@ impl Task {
 }
 
 /// An internal channel that some open join owns.
-#[derive(Clone, Copy, Debug, PartialEq, Eq)]
+#[derive(Clone, Copy)]
 pub struct Channel {
     /// The address of the channel word.
     pub address: u32,

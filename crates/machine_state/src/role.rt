@@ -8,7 +8,7 @@ ghost use Rattle.machine_state.specs.Views.{holding_view, role_view};
 use crate::holding::Holding;
 
 /// A PAR whose branches are not all joined.
-#[derive(Debug, Drop)]
+#[derive(Drop)]
 pub struct Join {
     /// The PAR's row in the module.
     pub row: u32,
@@ -23,7 +23,7 @@ pub struct Join {
 }
 
 /// What a process has for good, and its part in the open joins.
-#[derive(Debug, Drop)]
+#[derive(Drop)]
 pub struct Role {
     pub own: Holding,
     /// The openers of the joins that it is in, the innermost first.

@@ -14,7 +14,7 @@ use std::marker::Model;
 
 /// The memory of a module's run: for each byte whether it is defined, and for each process what it may
 /// touch. One process's holding counts at a time.
-#[derive(Debug, Drop)]
+#[derive(Drop)]
 pub struct TaggedStore {
     bytes: Vec<u8>,
     tags: Vec<bool>,

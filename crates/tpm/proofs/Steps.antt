@@ -15,6 +15,7 @@ use Rattle.machine_state.specs.declared.fault.Fault.{Fault}
 use Rattle.machine_state.specs.declared.process.Task.{Task}
 use Rattle.machine_state.specs.Memory.{Memory}
 use Rattle.machine_state.specs.World.{World, Queue, loaded}
+use Rattle.machine_state.specs.declared.fault.FaultKind.TheVariants.{OutsideCode}
 use Rattle.machine_state.specs.LocalStep.{Outcome, goes, lands, stops, fails, local_step}
 use Rattle.machine_state.specs.Moves.{counted, finished_where, put, leave, picked, dispatch}
 use Rattle.machine_state.specs.Happens.{Did, ran, idle, did, Turn, turn, happens, run_from, failed, site_of, settled, prefix_turn, byte_turn, task_turn, step_turn, most_executed}
@@ -63,12 +64,12 @@ unfolding dispatch
 steps_settled m p task next (goes l) w = runs _ refl (alone_put p _ l.memory w)
 steps_settled m p task next (lands to l) w = runs _ refl (alone_put p _ l.memory w)
 steps_settled m p task next (stops l) w = runs _ refl (alone_stopped p _ l.memory (next == m.finish) w)
-steps_settled m p task next (fails number) w = faults _ _ refl
+steps_settled m p task next (fails kind) w = faults _ _ refl
 
 steps_prefix : (m : Contents) (p : ℕ) (task : Task) (operand : ℤ) (w : World) → Steps w (prefix_turn m p task operand w)
 steps_prefix m p task operand w =
     let later : Task = record task { registers = record task.registers { at = task.registers.at + 1; operand = operand } } in
-    elim (nat_lt (task.registers.at + 1) (length m.code)) as (λ b. Steps w (cond b (did ran (counted (put p later w.memory w))) (failed 3 p task w))) [
+    elim (nat_lt (task.registers.at + 1) (length m.code)) as (λ b. Steps w (cond b (did ran (counted (put p later w.memory w))) (failed OutsideCode p task w))) [
       | true ↦ runs _ refl (alone_put p later w.memory w)
       | false ↦ faults _ _ refl
     ]
@@ -87,7 +88,7 @@ steps_byte m p task byte w =
 
 steps_task : (m : Contents) (p : ℕ) (task : Task) (w : World) → Steps w (task_turn m p false 0 task w)
 steps_task m p task w =
-    elim (slice_get m.code task.registers.at) as (λ o. Steps w (elim o [ None ↦ failed 3 p task w | Some byte ↦ byte_turn m p task byte false 0 w ])) [
+    elim (slice_get m.code task.registers.at) as (λ o. Steps w (elim o [ None ↦ failed OutsideCode p task w | Some byte ↦ byte_turn m p task byte false 0 w ])) [
       | None ↦ faults _ _ refl
       | Some byte ↦ steps_byte m p task byte w
     ]

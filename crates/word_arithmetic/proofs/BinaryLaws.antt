@@ -10,7 +10,8 @@ use Rattle.word_arithmetic.specs.Range.{Ends, InRange, BoundsResults, IsRange, I
 use Rattle.word_arithmetic.specs.Binary.{computed, result_range, BinaryGivesWords, BinaryHolds, BinaryFails}
 use Rattle.word_arithmetic.specs.declared.binary.Binary.{Binary}
 use Rattle.word_arithmetic.specs.declared.binary.Binary.TheVariants as binary
-use Rattle.word_arithmetic.proofs.EndsLaws.{is_word_out, member_fits}
+use Rattle.word_arithmetic.proofs.WordLaws.{is_word_out}
+use Rattle.word_arithmetic.proofs.EndsLaws.{member_fits}
 use Rattle.word_arithmetic.proofs.SumLaws.{members_of, sum_exact, difference_exact}
 use Rattle.word_arithmetic.proofs.CornerLaws.{product_exact}
 use Rattle.word_arithmetic.proofs.QuotientLaws.{quotient_exact}

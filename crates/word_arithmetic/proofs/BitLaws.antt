@@ -8,7 +8,8 @@ use Rattle.std.proofs.lemmas.Bool.Decides.{Decides-int_eq}
 use mir.Val.{sel}
 use Rattle.word_arithmetic.specs.Word.{is_word, word_and, word_or, word_xor, word_not, shifted_left, shifted_right}
 use Rattle.word_arithmetic.specs.Range.{Ends, InRange, IsRange, Holds, is_constant, is_not_negative, constant, full, zero_to, fitting, bits_range, all_ones, and_range, or_range, xor_range, not_range, shift_left_range, shift_right_range}
-use Rattle.word_arithmetic.proofs.EndsLaws.{fits_between, is_word_out, and_out}
+use Rattle.word_arithmetic.proofs.WordLaws.{is_word_out}
+use Rattle.word_arithmetic.proofs.EndsLaws.{fits_between, and_out}
 use Rattle.word_arithmetic.proofs.ModularLaws.{in_full}
 
 -- ---- words

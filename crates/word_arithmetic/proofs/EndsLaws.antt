@@ -1,28 +1,13 @@
--- Laws on words, ends and the tests on them.
-use Rattle.std.proofs.Common.{T, int_le, int_lt, ◌<ℤ◌, to_z, of_z, ◌≡◌, ◌⊎◌, inl, inr, Bool, true, false, ◌&&◌, cond, Option, Some, None, unwrap_or, refl, sym, ap, ◌∙◌, subst, arith, ℤ, pos, negsuc, ◌≤ℤ◌, FitsSigned}
+-- Laws on ends and the tests on them.
+use Rattle.std.proofs.Common.{T, int_le, int_lt, ◌<ℤ◌, to_z, of_z, ◌≡◌, ◌⊎◌, inl, inr, Bool, true, false, ◌&&◌, cond, Option, Some, None, unwrap_or, refl, sym, ap, ◌∙◌, subst, arith, ℤ, ◌≤ℤ◌, FitsSigned}
 use Rattle.std.specs.Int.{Width, w32}
 use Rattle.std.specs.Option.{option_map}
 use Rattle.std.proofs.lemmas.Int.{ints, clamps, to_z-of_z}
-use Rattle.std.proofs.lemmas.Bool.{ltb-true, lt-ltb}
+use Rattle.std.proofs.lemmas.Bool.{and_from}
 use Rattle.word_arithmetic.specs.declared.ranges.Range.{Range}
-use Rattle.word_arithmetic.specs.Word.{is_word, checked}
-use Rattle.word_arithmetic.specs.Range.{Ends, ends_of, InRange, IsRange, IsWithin, Holds, WordsInOrderAreRanges, MembersLieBetween, fitting, hull, range_between}
-
--- ---- words
-
-pub is_word_out : (z : ℤ) → is_word z ≡ true → FitsSigned w32 z
-is_word_out (pos n) e = record { sfits = ltb-true n 2147483648 e }
-is_word_out (negsuc n) e = record { sfits = ltb-true n 2147483648 e }
-
-pub is_word_in : (z : ℤ) → FitsSigned w32 z → is_word z ≡ true
-is_word_in (pos n) f = lt-ltb n 2147483648 f.sfits
-is_word_in (negsuc n) f = lt-ltb n 2147483648 f.sfits
-
-pub checked_fits : (z : ℤ) → FitsSigned w32 z → checked z ≡ Some z
-checked_fits z f = ap (λ b. cond b (Some z) None) (is_word_in z f)
-
-pub not_checked : (z : ℤ) → is_word z ≡ false → checked z ≡ None
-not_checked z e = ap (λ b. cond b (Some z) None) e
+use Rattle.word_arithmetic.specs.Word.{is_word}
+use Rattle.word_arithmetic.proofs.WordLaws.{is_word_out, is_word_in, some_out, then_some}
+use Rattle.word_arithmetic.specs.Range.{Ends, ends_of, InRange, IsRange, IsWithin, Holds, WordsInOrderAreRanges, MembersLieBetween, fitting, hull, in_range, range_between}
 
 -- ---- what is said of a range that may not be there
 
@@ -34,14 +19,6 @@ pub ends_of-unwrap_or : (o : Option Range) (d : Range) (e : Option Ends) (f : En
 ends_of-unwrap_or o d e f p q = unwrap_each o d ∙ (λ i. unwrap_or (p i) (q i))
 
 -- ---- ends that fit
-
--- what a test says of the option that it decides
-pub some_out : {X : Type 0} (b : Bool) (x y : X) → cond b (Some x) None ≡ Some y → (b ≡ true) × (x ≡ y)
-some_out true x y e = (refl, cc)
-some_out false x y e = cc
-
-pub some_same : {X : Type 0} (x y : X) → Some x ≡ Some y → x ≡ y
-some_same x y e = cc
 
 pub and_out : (a b : Bool) → (a && b) ≡ true → (a ≡ true) × (b ≡ true)
 and_out true b e = (refl, e)
@@ -103,6 +80,24 @@ le_test_fails a b h = by (int_le a b) refl
 pub lt_test : (a b : ℤ) → a <ℤ b → int_lt a b ≡ true
 lt_test a b h = true_from_T (int_lt a b) h.lt
 
+-- a number in the range passes the test
+pub in_range_in : (r : Ends) (v : ℤ) → InRange r v → in_range r v ≡ true
+in_range_in r v m = and_from (int_le r.lo v) (int_le v r.hi) (le_test r.lo v m.from_lo) (le_test v r.hi m.to_hi)
+
+-- a number that passes the test lies in the range
+pub in_range_out : (r : Ends) (v : ℤ) → in_range r v ≡ true → InRange r v
+in_range_out r v h =
+    let w = and_out (int_le r.lo v) (int_le v r.hi) h in
+    record { from_lo = omega (arith, ints, w.0); to_hi = omega (arith, ints, w.1) }
+
+-- a number that fails the test does not
+pub not_in_range : (r : Ends) (v : ℤ) → in_range r v ≡ false → InRange r v → ⊥
+not_in_range r v h m =
+    elim (and_failed (int_le r.lo v) (int_le v r.hi) h) [
+      | inl p ↦ omega (arith, ints, p, m.from_lo)
+      | inr p ↦ omega (arith, ints, p, m.to_hi)
+    ]
+
 -- ---- what the code computes, read back
 
 -- f of two numbers that fit their width
@@ -134,11 +129,6 @@ hull_least r s t o p h k v m =
     record { from_lo = omega (arith, ints, clamps); to_hi = omega (arith, ints, clamps) }
 
 -- ---- the range between two words
-
--- what a test says of the option that it lets through
-then_some : {X : Type 0} (b : Bool) (o : Option X) (t : X) → cond b o None ≡ Some t → (b ≡ true) × (o ≡ Some t)
-then_some true o t e = (refl, e)
-then_some false o t e = cc
 
 -- a range is that between its ends
 range_is : (r : Ends) → IsRange r → range_between r.lo r.hi ≡ Some r

@@ -1,3 +1,4 @@
+pub mod WordLaws
 pub mod EndsLaws
 pub mod SumLaws
 pub mod CornerLaws

@@ -4,7 +4,8 @@ use Rattle.std.specs.Int.{w32, int_wrap}
 use Rattle.std.proofs.lemmas.Int.{ints, int_wrap_fits, SFits-int_wrap, wrapping_add_is, wrapping_sub_is, wrapping_mul_is}
 use Rattle.word_arithmetic.specs.Word.{is_word, checked, word_sum, word_difference, word_product}
 use Rattle.word_arithmetic.specs.Range.{Ends, InRange, IsRange, Holds, BoundsResults, full, sum_range, difference_range, product_range, word_sum_range, word_difference_range, word_product_range}
-use Rattle.word_arithmetic.proofs.EndsLaws.{member_fits, is_word_out}
+use Rattle.word_arithmetic.proofs.WordLaws.{is_word_out}
+use Rattle.word_arithmetic.proofs.EndsLaws.{member_fits}
 use Rattle.word_arithmetic.proofs.SumLaws.{sum_exact, difference_exact}
 use Rattle.word_arithmetic.proofs.CornerLaws.{product_exact}
 

@@ -9,7 +9,7 @@ use Rattle.word_arithmetic.specs.declared.compare.Comparison.{Comparison}
 use Rattle.word_arithmetic.specs.declared.compare.Comparison.TheVariants.{Equal, NotEqual, Less, LessOrEqual, Greater, GreaterOrEqual}
 use Rattle.word_arithmetic.specs.Comparison.{compares}
 use Rattle.word_arithmetic.specs.Range.{Ends, InRange, IsRange, IsLeft, Narrows, in_range, inside, outside, at_least, at_most, constant, narrowed}
-use Rattle.word_arithmetic.proofs.EndsLaws.{and_out, and_failed, fits_between, lo_in, hi_in, le_test, lt_test}
+use Rattle.word_arithmetic.proofs.EndsLaws.{in_range_out, not_in_range, fits_between, lo_in, hi_in, le_test, lt_test}
 
 -- ---- ranges with the same members are one
 
@@ -62,12 +62,6 @@ inside_narrows r k =
 
 -- ---- outside
 
-pub true_in : (k : Ends) (v : ℤ) → in_range k v ≡ true → InRange k v
-true_in k v h = let w = and_out (int_le k.lo v) (int_le v k.hi) h in record { from_lo = omega (arith, ints, w.0); to_hi = omega (arith, ints, w.1) }
-
-pub false_out : (k : Ends) (v : ℤ) → in_range k v ≡ false → InRange k v → ⊥
-false_out k v h m = elim (and_failed (int_le k.lo v) (int_le v k.hi) h) [ inl p ↦ omega (arith, ints, p, m.from_lo) | inr p ↦ omega (arith, ints, p, m.to_hi) ]
-
 -- a number of the range that is not in the other, whose one end holds an end of the range, lies beyond the other end
 beyond_hi : (k : Ends) (v : ℤ) → k.lo ≤ℤ v → (InRange k v → ⊥) → k.hi <ℤ v
 beyond_hi k v h n = by_lt_z k.hi v (λ p. p) (λ p. absurd (n (record { from_lo = h; to_hi = p })))
@@ -77,8 +71,11 @@ beyond_lo k v h n = by_lt_z v k.lo (λ p. p) (λ p. absurd (n (record { from_lo 
 
 module _ (r k : Ends) (o : r.lo ≤ℤ r.hi) where
   -- the lower end is removed
-  pub upper_left : InRange k r.lo → (InRange k r.hi → ⊥) → IsLeft (λ v. InRange k v → ⊥) r (record { lo = k.hi +ℤ pos 1; hi = r.hi })
-  upper_left m n =
+  pub upper_left : in_range k r.lo ≡ true → in_range k r.hi ≡ false
+      → IsLeft (λ v. InRange k v → ⊥) r (record { lo = k.hi +ℤ pos 1; hi = r.hi })
+  upper_left t u =
+      let m = in_range_out k r.lo t in
+      let n = not_in_range k r.hi u in
       let low = m.from_lo in
       let high = m.to_hi in
       let end = beyond_hi k r.hi (omega (arith, ints)) n in
@@ -91,8 +88,11 @@ module _ (r k : Ends) (o : r.lo ≤ℤ r.hi) where
       }
 
   -- the upper end is removed
-  pub lower_left : (InRange k r.lo → ⊥) → InRange k r.hi → IsLeft (λ v. InRange k v → ⊥) r (record { lo = r.lo; hi = k.lo -ℤ pos 1 })
-  lower_left n m =
+  pub lower_left : in_range k r.lo ≡ false → in_range k r.hi ≡ true
+      → IsLeft (λ v. InRange k v → ⊥) r (record { lo = r.lo; hi = k.lo -ℤ pos 1 })
+  lower_left t u =
+      let n = not_in_range k r.lo t in
+      let m = in_range_out k r.hi u in
       let low = m.from_lo in
       let high = m.to_hi in
       let end = beyond_lo k r.lo (omega (arith, ints)) n in
@@ -130,11 +130,11 @@ module _ (r k : Ends) (o : r.lo ≤ℤ r.hi) where
       let lower : Ends = record { lo = r.lo; hi = k.lo -ℤ pos 1 } in
       cond_both (in_range k r.lo) (cond (in_range k r.hi) r upper) (cond (in_range k r.hi) lower r) (Narrows P r)
       (λ p. cond_both (in_range k r.hi) r upper (Narrows P r)
-      (λ q. old_narrows P r (none_left (true_in k r.lo p) (true_in k r.hi q)))
-      (λ q. left_narrows P r upper (upper_left (true_in k r.lo p) (false_out k r.hi q))))
+      (λ q. old_narrows P r (none_left (in_range_out k r.lo p) (in_range_out k r.hi q)))
+      (λ q. left_narrows P r upper (upper_left p q)))
       (λ p. cond_both (in_range k r.hi) lower r (Narrows P r)
-      (λ q. left_narrows P r lower (lower_left (false_out k r.lo p) (true_in k r.hi q)))
-      (λ q. old_narrows P r (ends_left (false_out k r.lo p) (false_out k r.hi q))))
+      (λ q. left_narrows P r lower (lower_left p q))
+      (λ q. old_narrows P r (ends_left (not_in_range k r.lo p) (not_in_range k r.hi q))))
 
 -- ---- a comparison with a constant
 

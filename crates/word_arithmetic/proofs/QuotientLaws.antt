@@ -5,7 +5,7 @@ use Rattle.std.proofs.lemmas.Bool.{cond_both}
 use Rattle.std.proofs.lemmas.Nat.{le-div}
 use Rattle.word_arithmetic.specs.Word.{checked, checked_quotient}
 use Rattle.word_arithmetic.specs.Range.{Ends, InRange, BoundsExactly, in_range, corners, fitting, quotient_range}
-use Rattle.word_arithmetic.proofs.EndsLaws.{lo_in, and_failed, and_out}
+use Rattle.word_arithmetic.proofs.EndsLaws.{lo_in, and_failed, in_range_out}
 use Rattle.word_arithmetic.proofs.SumLaws.{fitting_exact}
 use Rattle.word_arithmetic.proofs.CornerLaws.{Between, rising, falling, corners_hold, corners_lo, corners_hi}
 
@@ -85,9 +85,6 @@ pub quotient_is : (x y : ℤ) → y ≢ pos 0 → checked (int_div x y) ≡ chec
 quotient_is x (pos zero) e = absurd (e refl)
 quotient_is x (pos (suc n)) e = refl
 quotient_is x (negsuc n) e = refl
-
-pub in_range_out : (s : Ends) (v : ℤ) → in_range s v ≡ true → InRange s v
-in_range_out s v h = let w = and_out (int_le s.lo v) (int_le v s.hi) h in record { from_lo = omega (arith, ints, w.0); to_hi = omega (arith, ints, w.1) }
 
 pub quotient_exact : (r s : Ends) → r.lo ≤ℤ r.hi → s.lo ≤ℤ s.hi → BoundsExactly checked_quotient r s (quotient_range r s)
 quotient_exact r s o p =

@@ -2,13 +2,14 @@
 use Rattle.std.proofs.Common.{◌≡◌, ◌≢◌, ℕ, zero, suc, ◌/◌, ◌%◌, ◌<◌, ◌≤◌, inl, inr, ⊎_elim, Bool, true, false, ◌&&◌, ◌||◌, cond, ap, refl, sym, subst, ◌∙◌, arith, Option, Some, None, IsSomeAnd, is_some, ℤ, pos, negsuc, ◌-ℤ◌, ◌≤ℤ◌, int_div, int_rem, int_le, unsigned_abs, FitsSigned, div-le_self, max}
 use Rattle.std.specs.Int.{w32, int_min, int_max}
 use Rattle.std.proofs.lemmas.Int.{ints, clamps}
-use Rattle.std.proofs.lemmas.Bool.{or_cases, and_from, both_ways, cond_both}
+use Rattle.std.proofs.lemmas.Bool.{or_cases, both_ways, cond_both}
 use Rattle.std.proofs.lemmas.Nat.{mod_below}
 use Rattle.std.proofs.Math.Nat.{mod-le}
 use Rattle.word_arithmetic.specs.Word.{checked_remainder, least_word}
 use Rattle.word_arithmetic.specs.Range.{Ends, InRange, IsRange, BoundsResults, in_range, can_fail_to_divide, greatest_size, lowest_remainder, highest_remainder, remainder_ends, remainder_range}
-use Rattle.word_arithmetic.proofs.EndsLaws.{lo_in, and_failed, and_out, checked_fits, fits_between, le_test}
-use Rattle.word_arithmetic.proofs.QuotientLaws.{divided_by_more, not_zero, quotient_is, in_range_out}
+use Rattle.word_arithmetic.proofs.WordLaws.{checked_fits}
+use Rattle.word_arithmetic.proofs.EndsLaws.{lo_in, and_failed, and_out, fits_between, in_range_in, in_range_out}
+use Rattle.word_arithmetic.proofs.QuotientLaws.{divided_by_more, not_zero, quotient_is}
 
 -- ---- the quotient of a word fits, but for MostNeg by -1
 
@@ -39,9 +40,6 @@ or_out false b e = (refl, e)
 
 safe_out : (r s : Ends) → (can_fail_to_divide r s) ≡ false → IsSafe r s
 safe_out r s h = let w = or_out _ _ h in record { no_zero = w.0; no_overflow = w.1 }
-
-in_range_in : (s : Ends) (v : ℤ) → InRange s v → in_range s v ≡ true
-in_range_in s v m = and_from (int_le s.lo v) (int_le v s.hi) (le_test s.lo v m.from_lo) (le_test v s.hi m.to_hi)
 
 no_overflow : (r s : Ends) (x y : ℤ) → IsSafe r s → InRange r x → InRange s y → x ≡ least_word → y ≢ negsuc 0
 no_overflow r s x y h p q e k =

@@ -5,7 +5,8 @@ use Rattle.std.proofs.lemmas.Int.{ints}
 use Rattle.std.proofs.lemmas.Bool.{cond_both}
 use Rattle.word_arithmetic.specs.Word.{is_word, checked, checked_sum, checked_difference}
 use Rattle.word_arithmetic.specs.Range.{Ends, InRange, Holds, HoldsChecked, Reaches, BoundsResults, BoundsExactly, fitting, sum_range, difference_range}
-use Rattle.word_arithmetic.proofs.EndsLaws.{is_word_out, and_out, and_failed, checked_fits, not_checked, fits_between, lo_in, hi_in}
+use Rattle.word_arithmetic.proofs.WordLaws.{is_word_out, checked_fits, not_checked}
+use Rattle.word_arithmetic.proofs.EndsLaws.{and_out, and_failed, fits_between, lo_in, hi_in}
 
 -- ---- what is said of a range that may not be there
 

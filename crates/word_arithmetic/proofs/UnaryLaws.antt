@@ -5,7 +5,8 @@ use Rattle.word_arithmetic.specs.Range.{Ends, InRange, IsRange, not_range}
 use Rattle.word_arithmetic.specs.Unary.{unary_computed, unary_result_range, UnaryGivesWords, UnaryHolds}
 use Rattle.word_arithmetic.specs.declared.unary.Unary.{Unary}
 use Rattle.word_arithmetic.specs.declared.unary.Unary.TheVariants as unary
-use Rattle.word_arithmetic.proofs.EndsLaws.{some_same, member_fits}
+use Rattle.word_arithmetic.proofs.WordLaws.{some_same}
+use Rattle.word_arithmetic.proofs.EndsLaws.{member_fits}
 use Rattle.word_arithmetic.proofs.BitLaws.{not_fits, not_holds}
 use Rattle.word_arithmetic.proofs.BinaryLaws.{words_in}
 

@@ -1,7 +1,7 @@
 -- What the device computes on words. A word has 32 bits and stands here for its signed value; "unsigned" says
 -- where it is read as a number from 0 to 2^32 - 1. From the T414 compiler writer's guide, but for what is
 -- marked as our own choice.
-use Rattle.std.specs.Prelude.{ℕ, zero, ◌/◌, ◌^◌, Bool, Option, Some, None, if◌then◌else◌, nat_lt, ℤ, pos, negsuc, ◌+ℤ◌, ◌-ℤ◌, ◌*ℤ◌, int_div, int_rem, is_some}
+use Rattle.std.specs.Prelude.{◌≡◌, ◌↔◌, IsTrue, FitsSigned, ◌≤ℤ◌, ℕ, zero, ◌/◌, ◌^◌, Bool, Option, Some, None, if◌then◌else◌, nat_lt, ℤ, pos, negsuc, ◌+ℤ◌, ◌-ℤ◌, ◌*ℤ◌, int_div, int_rem, is_some}
 use Rattle.std.specs.Int.{w32, cast_signed, cast_unsigned, int_wrapping_add, int_wrapping_sub, int_wrapping_mul, int_bit_and, int_bit_or, int_bit_xor, int_bit_not, int_shl}
 
 -- MostNeg, and the greatest word
@@ -16,9 +16,21 @@ abbrev pub is_word : ℤ → Bool
 is_word (pos n) = nat_lt n (2 ^ 31)
 is_word (negsuc n) = nat_lt n (2 ^ 31)
 
+-- the words are the numbers of 32 bits with a sign
+abbrev pub WordsFit : Type 0
+WordsFit = (z : ℤ) → IsTrue (is_word z) ↔ FitsSigned w32 z
+
+-- they lie between the least and the greatest, both included
+abbrev pub WordsLieBetween : Type 0
+WordsLieBetween = (z : ℤ) → IsTrue (is_word z) ↔ ((least_word ≤ℤ z) × (z ≤ℤ greatest_word))
+
 -- the result of a checked operation: None sets the error flag
 abbrev pub checked : ℤ → Option ℤ
 checked z = if is_word z then Some z else None
+
+-- a checked result is the number itself, and a word
+abbrev pub CheckedGivesWords : Type 0
+CheckedGivesWords = (z v : ℤ) → (checked z ≡ Some v) ↔ (FitsSigned w32 z × (z ≡ v))
 
 abbrev pub checked_sum : ℤ → ℤ → Option ℤ
 checked_sum x y = checked (x +ℤ y)

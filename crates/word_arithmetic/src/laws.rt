@@ -1,7 +1,16 @@
 //! The laws of the operations and their ranges, each the contract of a function that does nothing.
+ghost use Rattle.word_arithmetic.specs.Word.{WordsFit, WordsLieBetween, CheckedGivesWords};
 ghost use Rattle.word_arithmetic.specs.Range.{WordsInOrderAreRanges, MembersLieBetween};
 ghost use Rattle.word_arithmetic.specs.Binary.{BinaryGivesWords, BinaryHolds, BinaryFails};
 ghost use Rattle.word_arithmetic.specs.Unary.{UnaryGivesWords, UnaryHolds};
+
+/// The words are the numbers of 32 bits, from the least to the greatest, and a checked result is one of them.
+#[tactic(auto, using(crate::proofs::WordLaws::words_fit, crate::proofs::WordLaws::words_lie_between, crate::proofs::WordLaws::checked_gives_words))]
+pub fn words_have_32_bits()
+    ensures fit { WordsFit }
+    ensures between { WordsLieBetween }
+    ensures checked { CheckedGivesWords }
+{}
 
 /// The result of words is a word.
 #[tactic(auto, using(crate::proofs::BinaryLaws::binary_gives_words, crate::proofs::UnaryLaws::unary_gives_words))]

@@ -29,7 +29,7 @@ impl Range {
     }
 
     /// The words from `lo` to `hi`; `None` where there is none.
-    #[tactic(auto, using(crate::proofs::EndsLaws::is_word_in))]
+    #[tactic(auto, using(crate::proofs::WordLaws::is_word_in))]
     pub fn between(lo: i32, hi: i32) -> Option<Self>
         ensures { option_map ends_of result ≡ range_between lo hi }
     {

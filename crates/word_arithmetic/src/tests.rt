@@ -1,9 +1,8 @@
 //! Worked values: every operation at the corners of a word, and the ranges of a few results.
 
 use crate::{
-    Comparison, LongResult, Range, and, checked_add, checked_div, checked_mul, checked_rem,
-    checked_sub, is_below_unsigned, is_greater, long_difference, long_product, long_sum, minus,
-    not, or, plus, shift_left, shift_right, times, xor,
+    Binary, Comparison, LongResult, Range, Unary, is_below_unsigned, is_greater, long_difference,
+    long_product, long_sum, not, shift_left, shift_right,
 };
 use std::process::Abort;
 
@@ -11,8 +10,17 @@ const MIN: i32 = -2_147_483_648;
 
 const MAX: i32 = 2_147_483_647;
 
-/// Two words, and their sum, difference, product, quotient and remainder.
-const CHECKED: [(i32, i32, [Option<i32>; 5]); 26] = [
+/// The operations that may set the error flag.
+const CHECKED: [Binary; 5] = [
+    Binary::Add,
+    Binary::Subtract,
+    Binary::Multiply,
+    Binary::Divide,
+    Binary::Remainder,
+];
+
+/// Two words, and the results of `CHECKED` in its order.
+const CHECKED_RESULTS: [(i32, i32, [Option<i32>; 5]); 26] = [
     (-7, 2, [Some(-5), Some(-9), Some(-14), Some(-3), Some(-1)]),
     (MIN, MIN, [None, Some(0), None, Some(1), Some(0)]),
     (MIN, -1, [None, Some(-MAX), None, None, None]),
@@ -53,33 +61,46 @@ const CHECKED: [(i32, i32, [Option<i32>; 5]); 26] = [
     (MAX, MAX, [None, Some(0), None, Some(1), Some(0)]),
 ];
 
-/// Two words, their sum, difference and product modulo 2^32, and their bits: and, or, exclusive or.
-const MODULAR: [(i32, i32, [i32; 6]); 25] = [
-    (MIN, MIN, [0, 0, 0, MIN, MIN, 0]),
-    (MIN, -1, [MAX, -MAX, MIN, MIN, -1, MAX]),
-    (MIN, 0, [MIN, MIN, 0, 0, MIN, MIN]),
-    (MIN, 1, [-MAX, MAX, MIN, 0, -MAX, -MAX]),
-    (MIN, MAX, [-1, 1, MIN, 0, -1, -1]),
-    (-1, MIN, [MAX, MAX, MIN, MIN, -1, MAX]),
-    (-1, -1, [-2, 0, 1, -1, -1, 0]),
-    (-1, 0, [-1, -1, 0, 0, -1, -1]),
-    (-1, 1, [0, -2, -1, 1, -1, -2]),
-    (-1, MAX, [MAX - 1, MIN, -MAX, MAX, -1, MIN]),
-    (0, MIN, [MIN, MIN, 0, 0, MIN, MIN]),
-    (0, -1, [-1, 1, 0, 0, -1, -1]),
-    (0, 0, [0, 0, 0, 0, 0, 0]),
-    (0, 1, [1, -1, 0, 0, 1, 1]),
-    (0, MAX, [MAX, -MAX, 0, 0, MAX, MAX]),
-    (1, MIN, [-MAX, -MAX, MIN, 0, -MAX, -MAX]),
-    (1, -1, [0, 2, -1, 1, -1, -2]),
-    (1, 0, [1, 1, 0, 0, 1, 1]),
-    (1, 1, [2, 0, 1, 1, 1, 0]),
-    (1, MAX, [MIN, -2147483646, MAX, 1, MAX, MAX - 1]),
-    (MAX, MIN, [-1, -1, MIN, 0, -1, -1]),
-    (MAX, -1, [MAX - 1, MIN, -MAX, MAX, -1, MIN]),
-    (MAX, 0, [MAX, MAX, 0, 0, MAX, MAX]),
-    (MAX, 1, [MIN, MAX - 1, MAX, 1, MAX, MAX - 1]),
-    (MAX, MAX, [-2, 0, 1, MAX, MAX, 0]),
+/// The operations that always have a result.
+const UNCHECKED: [Binary; 8] = [
+    Binary::Sum,
+    Binary::Difference,
+    Binary::Product,
+    Binary::And,
+    Binary::Or,
+    Binary::ExclusiveOr,
+    Binary::Greater,
+    Binary::Equal,
+];
+
+/// Two words, and the results of `UNCHECKED` in its order.
+const UNCHECKED_RESULTS: [(i32, i32, [i32; 8]); 26] = [
+    (-7, 2, [-5, -9, -14, 0, -5, -5, 0, 0]),
+    (MIN, MIN, [0, 0, 0, MIN, MIN, 0, 0, 1]),
+    (MIN, -1, [MAX, -MAX, MIN, MIN, -1, MAX, 0, 0]),
+    (MIN, 0, [MIN, MIN, 0, 0, MIN, MIN, 0, 0]),
+    (MIN, 1, [-MAX, MAX, MIN, 0, -MAX, -MAX, 0, 0]),
+    (MIN, MAX, [-1, 1, MIN, 0, -1, -1, 0, 0]),
+    (-1, MIN, [MAX, MAX, MIN, MIN, -1, MAX, 1, 0]),
+    (-1, -1, [-2, 0, 1, -1, -1, 0, 0, 1]),
+    (-1, 0, [-1, -1, 0, 0, -1, -1, 0, 0]),
+    (-1, 1, [0, -2, -1, 1, -1, -2, 0, 0]),
+    (-1, MAX, [MAX - 1, MIN, -MAX, MAX, -1, MIN, 0, 0]),
+    (0, MIN, [MIN, MIN, 0, 0, MIN, MIN, 1, 0]),
+    (0, -1, [-1, 1, 0, 0, -1, -1, 1, 0]),
+    (0, 0, [0, 0, 0, 0, 0, 0, 0, 1]),
+    (0, 1, [1, -1, 0, 0, 1, 1, 0, 0]),
+    (0, MAX, [MAX, -MAX, 0, 0, MAX, MAX, 0, 0]),
+    (1, MIN, [-MAX, -MAX, MIN, 0, -MAX, -MAX, 1, 0]),
+    (1, -1, [0, 2, -1, 1, -1, -2, 1, 0]),
+    (1, 0, [1, 1, 0, 0, 1, 1, 1, 0]),
+    (1, 1, [2, 0, 1, 1, 1, 0, 0, 1]),
+    (1, MAX, [MIN, -2147483646, MAX, 1, MAX, MAX - 1, 0, 0]),
+    (MAX, MIN, [-1, -1, MIN, 0, -1, -1, 1, 0]),
+    (MAX, -1, [MAX - 1, MIN, -MAX, MAX, -1, MIN, 1, 0]),
+    (MAX, 0, [MAX, MAX, 0, 0, MAX, MAX, 1, 0]),
+    (MAX, 1, [MIN, MAX - 1, MAX, 1, MAX, MAX - 1, 1, 0]),
+    (MAX, MAX, [-2, 0, 1, MAX, MAX, 0, 0, 1]),
 ];
 
 /// A word, its complement, and the word shifted left by 0, 1 and 31 bits, and right.
@@ -150,31 +171,24 @@ const LONG_PRODUCTS: [Long; 5] = [
 ];
 
 #[test]
-fn checks_for_the_error_flag(rt: HostRuntime) {
-    for (left, right, want) in CHECKED {
-        let found = [
-            checked_add(left, right),
-            checked_sub(left, right),
-            checked_mul(left, right),
-            checked_div(left, right),
-            checked_rem(left, right),
-        ];
-        assert_eq!(rt; found, want, "{left} and {right}");
+fn computes(rt: HostRuntime) {
+    for (left, right, results) in CHECKED_RESULTS {
+        for (op, want) in CHECKED.iter().zip(results.iter()) {
+            assert_eq!(rt;
+                op.apply(left, right),
+                *want,
+                "{op:?} of {left} and {right}"
+            );
+        }
     }
-}
-
-#[test]
-fn computes_modulo_and_bitwise(rt: HostRuntime) {
-    for (left, right, want) in MODULAR {
-        let found = [
-            plus(left, right),
-            minus(left, right),
-            times(left, right),
-            and(left, right),
-            or(left, right),
-            xor(left, right),
-        ];
-        assert_eq!(rt; found, want, "{left} and {right}");
+    for (left, right, results) in UNCHECKED_RESULTS {
+        for (op, want) in UNCHECKED.iter().zip(results.iter()) {
+            assert_eq!(rt;
+                op.apply(left, right),
+                Some(*want),
+                "{op:?} of {left} and {right}"
+            );
+        }
     }
 }
 
@@ -191,6 +205,7 @@ fn complements_and_shifts(rt: HostRuntime) {
             shift_right(word, 31),
         ];
         assert_eq!(rt; found, want, "{word}");
+        assert_eq!(rt; Unary::Not.apply(word), Some(want[0]), "{word}");
     }
 }
 
@@ -226,84 +241,69 @@ fn carries_from_word_to_word(rt: HostRuntime) {
 /// The ends of two ranges, and those of their result.
 type Bounds = ((i32, i32), (i32, i32), Option<(i32, i32)>);
 
-const SUMS: [Bounds; 5] = [
-    ((0, 10), (3, 4), Some((3, 14))),
-    ((-5, 5), (-5, 5), Some((-10, 10))),
-    ((MIN, MAX), (0, 0), Some((MIN, MAX))),
-    ((MAX, MAX), (0, 1), None),
-    ((MIN, 0), (-1, -1), None),
-];
-
-const DIFFERENCES: [Bounds; 4] = [
-    ((0, 10), (3, 4), Some((-4, 7))),
-    ((-1, -1), (MIN, 0), Some((-1, MAX))),
-    ((0, 0), (MIN, 0), None),
-    ((MIN, 0), (0, 1), None),
-];
-
-const PRODUCTS: [Bounds; 6] = [
-    ((-2, 3), (-5, 4), Some((-15, 12))),
-    ((46340, 46340), (2, 46340), Some((92680, 2_147_395_600))),
-    ((0, 0), (MIN, MAX), Some((0, 0))),
-    ((-3, -2), (-7, -5), Some((10, 21))),
-    ((MIN, MIN), (-1, -1), None),
-    ((65536, 65536), (0, 32768), None),
-];
-
-const QUOTIENTS: [Bounds; 6] = [
-    ((-7, 7), (2, 2), Some((-3, 3))),
-    ((10, 20), (-5, -2), Some((-10, -2))),
-    ((MIN, -1), (MIN, -2), Some((0, 1_073_741_824))),
-    ((MIN, MAX), (1, MAX), Some((MIN, MAX))),
-    ((0, 9), (-1, 1), None),
-    ((MIN, 0), (-1, -1), None),
-];
-
-const REMAINDERS: [Bounds; 7] = [
-    ((-7, 7), (1, 3), Some((-2, 2))),
-    ((0, 5), (MIN, -1), Some((0, 5))),
-    ((MIN, MIN), (MIN, -2), Some((-MAX, 0))),
-    ((-3, 10), (4, 4), Some((-3, 3))),
-    ((-1, -1), (1, 1), Some((0, 0))),
-    ((5, 9), (0, 3), None),
-    ((MIN, 0), (-1, -1), None),
-];
-
-const MODULAR_SUMS: [Bounds; 2] = [
-    ((0, 10), (3, 4), Some((3, 14))),
-    ((MAX, MAX), (0, 1), Some((MIN, MAX))),
-];
-
-const MODULAR_DIFFERENCES: [Bounds; 2] = [
-    ((0, 10), (3, 4), Some((-4, 7))),
-    ((MIN, 0), (0, 1), Some((MIN, MAX))),
-];
-
-const MODULAR_PRODUCTS: [Bounds; 2] = [
-    ((-2, 3), (-5, 4), Some((-15, 12))),
-    ((MIN, MIN), (-1, -1), Some((MIN, MAX))),
-];
-
-const ANDS: [Bounds; 4] = [
-    ((12, 12), (10, 10), Some((8, 8))),
-    ((-1, -1), (7, 7), Some((7, 7))),
-    ((0, 5), (0, 9), Some((0, 5))),
-    ((-1, 0), (0, 9), Some((MIN, MAX))),
-];
-
-const ORS: [Bounds; 6] = [
-    ((0, 5), (0, 9), Some((0, 15))),
-    ((0, 0), (0, 1), Some((0, 1))),
-    ((5, 5), (-8, -8), Some((-3, -3))),
-    ((0, MAX), (0, 0), Some((0, MAX))),
-    ((0, 0), (0, 4), Some((0, 7))),
-    ((-1, 0), (0, 9), Some((MIN, MAX))),
-];
-
-const XORS: [Bounds; 3] = [
-    ((0, 5), (0, 9), Some((0, 15))),
-    ((6, 6), (3, 3), Some((5, 5))),
-    ((-1, 5), (0, 0), Some((MIN, MAX))),
+/// An operation, the ends of two ranges, and those of the range of its results.
+const BOUNDS: [(Binary, (i32, i32), (i32, i32), Option<(i32, i32)>); 51] = [
+    (Binary::Add, (0, 10), (3, 4), Some((3, 14))),
+    (Binary::Add, (-5, 5), (-5, 5), Some((-10, 10))),
+    (Binary::Add, (MIN, MAX), (0, 0), Some((MIN, MAX))),
+    (Binary::Add, (MAX, MAX), (0, 1), None),
+    (Binary::Add, (MIN, 0), (-1, -1), None),
+    (Binary::Subtract, (0, 10), (3, 4), Some((-4, 7))),
+    (Binary::Subtract, (-1, -1), (MIN, 0), Some((-1, MAX))),
+    (Binary::Subtract, (0, 0), (MIN, 0), None),
+    (Binary::Subtract, (MIN, 0), (0, 1), None),
+    (Binary::Multiply, (-2, 3), (-5, 4), Some((-15, 12))),
+    (
+        Binary::Multiply,
+        (46340, 46340),
+        (2, 46340),
+        Some((92680, 2_147_395_600)),
+    ),
+    (Binary::Multiply, (0, 0), (MIN, MAX), Some((0, 0))),
+    (Binary::Multiply, (-3, -2), (-7, -5), Some((10, 21))),
+    (Binary::Multiply, (MIN, MIN), (-1, -1), None),
+    (Binary::Multiply, (65536, 65536), (0, 32768), None),
+    (Binary::Divide, (-7, 7), (2, 2), Some((-3, 3))),
+    (Binary::Divide, (10, 20), (-5, -2), Some((-10, -2))),
+    (
+        Binary::Divide,
+        (MIN, -1),
+        (MIN, -2),
+        Some((0, 1_073_741_824)),
+    ),
+    (Binary::Divide, (MIN, MAX), (1, MAX), Some((MIN, MAX))),
+    (Binary::Divide, (0, 9), (-1, 1), None),
+    (Binary::Divide, (MIN, 0), (-1, -1), None),
+    (Binary::Remainder, (-7, 7), (1, 3), Some((-2, 2))),
+    (Binary::Remainder, (0, 5), (MIN, -1), Some((0, 5))),
+    (Binary::Remainder, (MIN, MIN), (MIN, -2), Some((-MAX, 0))),
+    (Binary::Remainder, (-3, 10), (4, 4), Some((-3, 3))),
+    (Binary::Remainder, (-1, -1), (1, 1), Some((0, 0))),
+    (Binary::Remainder, (5, 9), (0, 3), None),
+    (Binary::Remainder, (MIN, 0), (-1, -1), None),
+    (Binary::Sum, (0, 10), (3, 4), Some((3, 14))),
+    (Binary::Sum, (MAX, MAX), (0, 1), Some((MIN, MAX))),
+    (Binary::Difference, (0, 10), (3, 4), Some((-4, 7))),
+    (Binary::Difference, (MIN, 0), (0, 1), Some((MIN, MAX))),
+    (Binary::Product, (-2, 3), (-5, 4), Some((-15, 12))),
+    (Binary::Product, (MIN, MIN), (-1, -1), Some((MIN, MAX))),
+    (Binary::And, (12, 12), (10, 10), Some((8, 8))),
+    (Binary::And, (-1, -1), (7, 7), Some((7, 7))),
+    (Binary::And, (0, 5), (0, 9), Some((0, 5))),
+    (Binary::And, (-1, 0), (0, 9), Some((MIN, MAX))),
+    (Binary::Or, (0, 5), (0, 9), Some((0, 15))),
+    (Binary::Or, (0, 0), (0, 1), Some((0, 1))),
+    (Binary::Or, (5, 5), (-8, -8), Some((-3, -3))),
+    (Binary::Or, (0, MAX), (0, 0), Some((0, MAX))),
+    (Binary::Or, (0, 0), (0, 4), Some((0, 7))),
+    (Binary::Or, (-1, 0), (0, 9), Some((MIN, MAX))),
+    (Binary::ExclusiveOr, (0, 5), (0, 9), Some((0, 15))),
+    (Binary::ExclusiveOr, (6, 6), (3, 3), Some((5, 5))),
+    (Binary::ExclusiveOr, (-1, 5), (0, 0), Some((MIN, MAX))),
+    (Binary::Greater, (0, 10), (3, 4), Some((0, 1))),
+    (Binary::Greater, (MIN, MAX), (MIN, MAX), Some((0, 1))),
+    (Binary::Equal, (5, 5), (5, 5), Some((0, 1))),
+    (Binary::Equal, (MIN, -1), (0, MAX), Some((0, 1))),
 ];
 
 const LEFT_SHIFTS: [Bounds; 4] = [
@@ -363,49 +363,30 @@ fn range(rt: &impl Abort, ends: (i32, i32)) -> Range {
     Range::new(ends.0, ends.1)
 }
 
+fn ends(range: Option<Range>) -> Option<(i32, i32)> {
+    match range {
+        Some(range) => Some((range.lo, range.hi)),
+        None => None,
+    }
+}
+
 /// Asserts that the operation gives these ranges.
 fn gives<F: Fn(Range, Range) -> Option<Range>>(rt: &impl Abort, rows: &[Bounds], operation: F)
     requires { F.IsAlwaysCallable operation }
 {
     for (left, right, want) in rows {
-        let found = match operation(range(rt, *left), range(rt, *right)) {
-            Some(found) => Some((found.lo, found.hi)),
-            None => None,
-        };
+        let found = ends(operation(range(rt, *left), range(rt, *right)));
         assert_eq!(rt; found, *want, "{left:?} and {right:?}");
     }
 }
 
 #[test]
-fn bounds_checked_results(rt: HostRuntime) {
-    gives(&rt, &SUMS, |left, right| left.add(right));
-    gives(&rt, &DIFFERENCES, |left, right| left.sub(right));
-    gives(&rt, &PRODUCTS, |left, right| left.mul(right));
-    gives(&rt, &QUOTIENTS, |left, right| left.div(right));
-    gives(&rt, &REMAINDERS, |left, right| left.rem(right));
-}
-
-#[test]
-fn bounds_modular_results(rt: HostRuntime) {
-    gives(&rt, &MODULAR_SUMS, |left, right| Some(left.plus(right)));
-    gives(
-        &rt,
-        &MODULAR_DIFFERENCES,
-        |left, right| Some(left.minus(right)),
-    );
-    gives(
-        &rt,
-        &MODULAR_PRODUCTS,
-        |left, right| Some(left.times(right)),
-    );
-}
-
-#[test]
-fn bounds_bits(rt: HostRuntime) {
-    gives(&rt, &ANDS, |left, right| Some(left.and(right)));
-    gives(&rt, &ORS, |left, right| Some(left.or(right)));
-    gives(&rt, &XORS, |left, right| Some(left.xor(right)));
-    assert_eq!(rt; range(&rt, (-1, 5)).not(), range(&rt, (-6, 0)));
+fn bounds_results(rt: HostRuntime) {
+    for (op, left, right, want) in BOUNDS {
+        let found = op.range(range(&rt, left), range(&rt, right));
+        assert_eq!(rt; ends(found), want, "{op:?} of {left:?} and {right:?}");
+    }
+    assert_eq!(rt; ends(Unary::Not.range(range(&rt, (-1, 5)))), Some((-6, 0)));
 }
 
 #[test]
@@ -461,6 +442,9 @@ fn knows_its_words(rt: HostRuntime) {
     assert!(rt; !range(&rt, (0, 256)).fits_byte() && !range(&rt, (-1, 0)).fits_byte());
     assert_eq!(rt; words.is_constant(), None);
     assert_eq!(rt; Range::constant(MIN).is_constant(), Some(MIN));
+    assert_eq!(rt; Range::between(0, 255), Some(words));
+    assert_eq!(rt; Range::between(MIN, MIN), Some(Range::constant(MIN)));
+    assert_eq!(rt; Range::between(1, 0), None);
     assert_eq!(rt; Range::full().add_constant(1), None);
     assert_eq!(rt; words.add_constant(-5), Some(range(&rt, (-5, 250))));
 }

@@ -4,7 +4,7 @@ use machine_state::{Fault, Flow, Registers};
 use std::alloc::AllocError;
 
 /// What an event did, before its bytes are lent.
-#[derive(Clone, Copy, Debug, PartialEq, Eq)]
+#[derive(Clone, Copy)]
 pub(crate) enum Act {
     Ran,
     Idle,
@@ -47,7 +47,7 @@ impl From<AllocError> for Stop {
 }
 
 /// An instruction that was performed: how its process goes on, and with which registers.
-#[derive(Clone, Copy, Debug, PartialEq, Eq)]
+#[derive(Clone, Copy)]
 pub(crate) struct Performed {
     pub(crate) flow: Flow,
     pub(crate) registers: Registers,

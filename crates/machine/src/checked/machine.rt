@@ -30,7 +30,7 @@ const QUIET_INPUT: InputLink = InputLink {
 const QUIET_OUTPUT: OutputLink = OutputLink { waiting: None };
 
 /// The whole machine at a moment, apart from its module.
-#[derive(Debug, Drop)]
+#[derive(Drop)]
 pub(crate) struct Machine {
     /// It runs the instructions of whichever process runs. Between two instructions only its store counts.
     cpu: Cpu<TaggedStore>,

@@ -18,7 +18,7 @@ use prefix_decoder::operand::{after_prefix, with_nibble};
 const MOST_EXECUTED: u64 = 1 << 63;
 
 /// What a step leaves to its caller.
-#[derive(Clone, Copy, Debug)]
+#[derive(Clone, Copy)]
 pub(crate) struct Choice {
     /// Whether the process goes to the back of the ready list where it completes a jump.
     pub(crate) slice: bool,
@@ -111,22 +111,23 @@ impl Machine {
             settled m process task.now next choice.slice choice.pick outcome w ≡ did ran self.new.world }
     {
         let next = task.registers.at + 1;
+        let (at, condition) = match performed.flow {
+            Flow::Next => (next, task.condition),
+            Flow::Jump { to } => (to, task.condition),
+            Flow::Stop => (next, Condition::Stopped),
+        };
+        let registers = between(at, performed.registers);
+        self.put(
+            process,
+            Task {
+                registers,
+                condition,
+                ..*task
+            },
+        );
         match performed.flow {
-            Flow::Next => self.put(
-                process,
-                Task {
-                    registers: between(next, performed.registers),
-                    ..*task
-                },
-            ),
-            Flow::Jump { to } => {
-                self.put(
-                    process,
-                    Task {
-                        registers: between(to, performed.registers),
-                        ..*task
-                    },
-                );
+            Flow::Next => {}
+            Flow::Jump { .. } => {
                 if choice.slice {
                     self.leave();
                     self.enqueue(process);
@@ -134,14 +135,6 @@ impl Machine {
                 }
             }
             Flow::Stop => {
-                self.put(
-                    process,
-                    Task {
-                        registers: between(next, performed.registers),
-                        condition: Condition::Stopped,
-                        ..*task
-                    },
-                );
                 self.finish_where(next == tables.finish);
                 self.leave();
                 self.dispatch(choice.pick);
