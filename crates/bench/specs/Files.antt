@@ -1,7 +1,7 @@
 -- What the inputs are.
 use Rattle.std.specs.Prelude.{ℕ, List}
-use Rattle.certificate.specs.Contents.{Contents}
-use Rattle.certificate.specs.Keeping.{Format}
+use Rattle.module_format.specs.Contents.{Contents}
+use Rattle.module_format.specs.Keeping.{Format}
 
 -- bytes that are the file of some module
 pub record IsFile (bytes : List ℕ) : Type 0 where

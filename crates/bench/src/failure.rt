@@ -47,7 +47,7 @@ fn refusal(number: u8, memory: u8) -> Failure
 }
 
 impl From<FormatFault> for Failure {
-    ghost use Rattle.certificate.specs.Reading.{out_of_memory};
+    ghost use Rattle.module_format.specs.Reading.{out_of_memory};
 
     ghost from_gives = { λ fault failure. fault ≡ out_of_memory → failure ≡ Memory };
 

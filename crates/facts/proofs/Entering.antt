@@ -5,14 +5,14 @@ use Rattle.std.proofs.lemmas.Int.{ints}
 use Rattle.std.specs.Prelude.{int_le, int_lt, ◌==◌}
 use Rattle.std.specs.List.{list_all}
 use Rattle.std.specs.Int.{w32}
-use Rattle.certificate.specs.declared.fact.Fact.{Fact}
-use Rattle.certificate.specs.declared.fact.Fact.TheVariants.{Unknown, Number, Pointer, CodeAddress, Loop, ReturnAddress}
-use Rattle.certificate.specs.declared.fact.Step.{Step}
-use Rattle.certificate.specs.declared.fact.Step.TheVariants.{Byte, Word}
-use Rattle.certificate.specs.declared.rows.Entry.{Entry}
-use Rattle.certificate.specs.Order.{least_word}
-use Rattle.certificate.specs.Facts.{end_of}
-use Rattle.certificate.specs.Contents.{Contents, Label, label_at}
+use Rattle.module_format.specs.declared.fact.Fact.{Fact}
+use Rattle.module_format.specs.declared.fact.Fact.TheVariants.{Unknown, Number, Pointer, CodeAddress, Loop, ReturnAddress}
+use Rattle.module_format.specs.declared.fact.Step.{Step}
+use Rattle.module_format.specs.declared.fact.Step.TheVariants.{Byte, Word}
+use Rattle.module_format.specs.declared.rows.Entry.{Entry}
+use Rattle.module_format.specs.Order.{least_word}
+use Rattle.module_format.specs.Facts.{end_of}
+use Rattle.module_format.specs.Contents.{Contents, Label, label_at}
 use Rattle.certificate.specs.Rights.{may_write_word, may_read_word}
 use Rattle.machine_state.specs.declared.process.Mode as machine
 use Rattle.machine_state.specs.Holding.{Holding}

@@ -2,13 +2,13 @@
 use Rattle.std.proofs.Common.{◌≡◌, ℕ, ℤ, Bool, cond, List, [], ◌∷◌, length, Some, sym, ap, ◌∙◌, subst, inl, inr}
 use Rattle.std.specs.Prelude.{find, ◌==◌}
 use Rattle.std.proofs.lemmas.Bool.{cases_Bool}
-use Rattle.certificate.specs.declared.fact.Fact.{Fact}
-use Rattle.certificate.specs.declared.fact.Fact.TheVariants.{Unknown, Number, Pointer, CodeAddress, Loop, ReturnAddress}
-use Rattle.certificate.specs.declared.rows.Entry.{Entry}
-use Rattle.certificate.specs.Contents.{Label, Contents, Procedure, label_at}
-use Rattle.certificate.specs.Order.{InOrder, least_word}
-use Rattle.certificate.specs.Facts.{LabelKeeps, behind_label, WordKeeps, EntryKeeps, behind_entry, end_of}
-use Rattle.certificate.specs.Keeping.{Keeps}
+use Rattle.module_format.specs.declared.fact.Fact.{Fact}
+use Rattle.module_format.specs.declared.fact.Fact.TheVariants.{Unknown, Number, Pointer, CodeAddress, Loop, ReturnAddress}
+use Rattle.module_format.specs.declared.rows.Entry.{Entry}
+use Rattle.module_format.specs.Contents.{Label, Contents, Procedure, label_at}
+use Rattle.module_format.specs.Order.{InOrder, least_word}
+use Rattle.module_format.specs.Facts.{LabelKeeps, behind_label, WordKeeps, EntryKeeps, behind_entry, end_of}
+use Rattle.module_format.specs.Keeping.{Keeps}
 use Rattle.facts.specs.Meaning.{IsSpan, ArePairs}
 
 fact-span : (code_len span : ℕ) (fact : Fact) → WordKeeps code_len span fact → IsSpan span fact

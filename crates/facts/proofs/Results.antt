@@ -9,9 +9,9 @@ use Rattle.word_arithmetic.specs.Unary.{unary_computed, unary_result_range}
 use Rattle.word_arithmetic.proofs.EndsLaws.{words_in_order_are_ranges, members_lie_between}
 use Rattle.word_arithmetic.proofs.BinaryLaws.{binary_holds}
 use Rattle.word_arithmetic.proofs.UnaryLaws.{unary_holds}
-use Rattle.certificate.specs.declared.fact.Fact.{Fact}
-use Rattle.certificate.specs.declared.fact.Fact.TheVariants.{Unknown, Number, Pointer, CodeAddress, Loop, ReturnAddress}
-use Rattle.certificate.specs.Contents.{Contents}
+use Rattle.module_format.specs.declared.fact.Fact.{Fact}
+use Rattle.module_format.specs.declared.fact.Fact.TheVariants.{Unknown, Number, Pointer, CodeAddress, Loop, ReturnAddress}
+use Rattle.module_format.specs.Contents.{Contents}
 use Rattle.facts.specs.Meaning.{Activation, Means, is_number}
 use Rattle.facts.specs.Rules.{range_of, number_in, result_fact, unary_result_fact}
 

@@ -1,8 +1,8 @@
 -- The rules, one test behind another.
 use Rattle.std.proofs.Common.{◌≡◌, ℕ, ℤ, negsuc, ◌+ℤ◌, ◌+◌, Result, Ok, Err, Option, Some, None, sym, ap, ◌∙◌, subst, refl, Bool, false, is_some, cond}
 use Rattle.prefix_decoder.specs.declared.decoding.Instr.{Instr}
-use Rattle.certificate.specs.declared.fact.Fact.{Fact}
-use Rattle.certificate.specs.declared.fact.Fact.TheVariants.{Unknown, Number}
+use Rattle.module_format.specs.declared.fact.Fact.{Fact}
+use Rattle.module_format.specs.declared.fact.Fact.TheVariants.{Unknown, Number}
 use Rattle.machine_state.specs.declared.instruction.Instruction.{Instruction}
 use Rattle.machine_state.specs.declared.instruction.Instruction.TheVariants.{Jump, LoadConstant, LoadLocal, StoreLocal}
 use Rattle.machine_state.specs.Instructions.{instruction_of}
@@ -11,7 +11,7 @@ use Rattle.states.specs.declared.known.Known.{Known}
 use Rattle.states.specs.declared.known.WordFact.{WordFact}
 use Rattle.states.specs.declared.rule.Rule.{Rule}
 use Rattle.states.specs.declared.rule.Rule.TheVariants as rules
-use Rattle.certificate.specs.Contents.{Contents, Label, label_at}
+use Rattle.module_format.specs.Contents.{Contents, Label, label_at}
 use Rattle.certificate.specs.Rights.{may_write_word, may_read_word}
 use Rattle.states.specs.State.{State, known, written}
 use Rattle.states.specs.Below.{below}

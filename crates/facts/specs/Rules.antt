@@ -10,9 +10,9 @@ use Rattle.word_arithmetic.specs.Word.{least_word}
 use Rattle.word_arithmetic.specs.Range.{Ends, range_between}
 use Rattle.word_arithmetic.specs.Binary.{result_range}
 use Rattle.word_arithmetic.specs.Unary.{unary_result_range}
-use Rattle.certificate.specs.declared.fact.Fact.{Fact}
-use Rattle.certificate.specs.declared.fact.Fact.TheVariants.{Unknown, Number}
-use Rattle.certificate.specs.Contents.{Contents, label_at}
+use Rattle.module_format.specs.declared.fact.Fact.{Fact}
+use Rattle.module_format.specs.declared.fact.Fact.TheVariants.{Unknown, Number}
+use Rattle.module_format.specs.Contents.{Contents, label_at}
 use Rattle.certificate.specs.Rights.{may_write_word, may_read_word}
 use Rattle.machine_state.specs.declared.op.Op.{Op}
 use Rattle.machine_state.specs.declared.op.Op.TheVariants.{Reverse, StopProcess, MinimumInteger, Binary, Unary}

@@ -1,6 +1,6 @@
 -- What follows an instruction, in terms of its ruling.
 use Rattle.std.specs.Prelude.{◌≡◌, ◌⊎◌, ⊤, Result, Ok, Err}
-use Rattle.certificate.specs.Contents.{Contents}
+use Rattle.module_format.specs.Contents.{Contents}
 use Rattle.states.specs.declared.rule.Rule.{Rule}
 use Rattle.states.specs.declared.rule.RuleFault.{RuleFault}
 use Rattle.states.specs.Numbers.{fault_of, out_of_memory}

@@ -30,8 +30,8 @@ pub(crate) struct Place<'m, 'a> {
 
 impl Place<'_, '_> {
     ghost use Rattle.std.specs.Prelude.{◌≡◌, ◌+◌, ℤ, ◌+ℤ◌, IfOk};
-    ghost use Rattle.certificate.specs.Contents.{Contents};
-    ghost use Rattle.certificate.specs.Keeping.{Keeps};
+    ghost use Rattle.module_format.specs.Contents.{Contents};
+    ghost use Rattle.module_format.specs.Keeping.{Keeps};
     ghost use Rattle.machine_state.specs.LocalStep.{target};
     ghost use Rattle.machine_state.specs.declared.op.Op.TheVariants.{Reverse, StopProcess, MinimumInteger, Binary, Unary};
     ghost use Rattle.machine_state.specs.declared.instruction.Instruction.TheVariants.{Jump, LoadConstant, LoadLocal, StoreLocal, WithConstant};

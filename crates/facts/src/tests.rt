@@ -1,7 +1,7 @@
 //! The states that follow one instruction, worked out by hand.
 
 ghost use Rattle.std.specs.Prelude.{IfSome};
-ghost use Rattle.certificate.specs.Contents.{label_of};
+ghost use Rattle.module_format.specs.Contents.{label_of};
 ghost use Rattle.states.specs.Rows.{IsRowOf};
 ghost use Rattle.states.specs.Views.{BelongsTo};
 

@@ -4,7 +4,7 @@ use Rattle.std.proofs.lemmas.Bool.{eqb-false}
 use Rattle.std.proofs.lemmas.List.{append-nil}
 use Rattle.std.specs.Global.{Vec}
 use Rattle.machine_state.specs.Moves.{link_index}
-use Rattle.certificate.specs.Contents.{Contents}
+use Rattle.module_format.specs.Contents.{Contents}
 use Rattle.machine_state.specs.declared.event.Event.{Event}
 use Rattle.machine_state.specs.declared.link.Link.{Link}
 use Rattle.machine_state.specs.declared.link.Link.TheVariants.{Zero, One, Two, Three}

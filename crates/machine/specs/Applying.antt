@@ -1,7 +1,7 @@
 -- What a call for one event did, against the turn of the definitions.
 use Rattle.std.specs.Prelude.{◌≡◌, ℕ, ℤ, Some, Result, Ok, Err}
 use Rattle.prefix_decoder.specs.declared.function.Fun.{Fun}
-use Rattle.certificate.specs.Contents.{Contents}
+use Rattle.module_format.specs.Contents.{Contents}
 use Rattle.machine_state.specs.declared.cpu.Flow.{Flow}
 use Rattle.machine_state.specs.declared.cpu.Flow.TheVariants.{Next, Jump, Stop as Stops}
 use Rattle.machine_state.specs.declared.process.Task.{Task}

@@ -1,6 +1,6 @@
 -- What can be asked of a machine. The questions are our own choice: what a runner of the links has to know.
 use Rattle.std.specs.Prelude.{Bool, false, ◌&&◌, ◌||◌, is_some, is_none, Some, None, slice_get}
-use Rattle.certificate.specs.Contents.{Contents}
+use Rattle.module_format.specs.Contents.{Contents}
 use Rattle.machine_state.specs.declared.link.Link.{Link}
 use Rattle.machine_state.specs.declared.link.InputLink.{InputLink}
 use Rattle.machine_state.specs.Moves.{link_index}

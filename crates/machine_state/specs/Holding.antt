@@ -1,8 +1,8 @@
 -- What a process holds: the places that it may write, those that it may only read, and the channel ends that it may use.
 use Rattle.std.specs.Prelude.{ℕ, ◌+◌, ◌≡◌, ◌==◌, ◌&&◌, ◌||◌, nat_le, nat_lt, Bool, true, false, List, []}
 use Rattle.std.specs.List.{list_any}
-use Rattle.certificate.specs.declared.rows.Direction.{Direction}
-use Rattle.certificate.specs.declared.rows.Direction.TheVariants.{In, Out}
+use Rattle.module_format.specs.declared.rows.Direction.{Direction}
+use Rattle.module_format.specs.declared.rows.Direction.TheVariants.{In, Out}
 use Rattle.machine_state.specs.declared.holding.Span.{Span}
 use Rattle.machine_state.specs.declared.holding.End.{End}
 

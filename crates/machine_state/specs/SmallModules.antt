@@ -1,7 +1,7 @@
 -- Small modules, and how they end.
 use Rattle.std.specs.Prelude.{◌≡◌, ℕ, true, false, List, [], ◌∷◌, ◌++◌, None, replicate}
-use Rattle.certificate.specs.declared.tables.Version.TheVariants.{One}
-use Rattle.certificate.specs.Contents.{Contents}
+use Rattle.module_format.specs.declared.tables.Version.TheVariants.{One}
+use Rattle.module_format.specs.Contents.{Contents}
 use Rattle.machine_state.specs.declared.event.Event.{Event}
 use Rattle.machine_state.specs.declared.event.Event.TheVariants.{Step}
 use Rattle.machine_state.specs.World.{World}

@@ -1,7 +1,7 @@
 -- The whole machine at a moment, as parts: an event that leaves a part alone leaves what is known of it alone.
 use Rattle.std.specs.Prelude.{ℕ, ◌+◌, ◌-◌, ◌*◌, ◌%◌, ◌^◌, ◌≤◌, ◌==◌, nat_lt, pos, Bool, false, if◌then◌else◌, List, [], ◌∷◌, ◌++◌, length, map, replicate, Option, Some, None, slice_get}
-use Rattle.certificate.specs.declared.rows.Direction.TheVariants.{In, Out}
-use Rattle.certificate.specs.Contents.{Contents}
+use Rattle.module_format.specs.declared.rows.Direction.TheVariants.{In, Out}
+use Rattle.module_format.specs.Contents.{Contents}
 use Rattle.machine_state.specs.Memory.{Memory, data_start}
 use Rattle.machine_state.specs.Holding.{Holding, nothing}
 use Rattle.machine_state.specs.declared.process.Task.{Task}

@@ -1,7 +1,7 @@
 //! What a module looks like when it is loaded.
 
 ghost use Rattle.std.specs.Prelude.{◌≡◌, ◌+◌, ◌*◌, ◌<◌, ◌^◌, ◌++◌, true, false, length, replicate, vec_len, IfOk};
-ghost use Rattle.certificate.specs.Contents.{contents_of};
+ghost use Rattle.module_format.specs.Contents.{contents_of};
 ghost use Rattle.machine_state.specs.World.{IsLoadable, padding, link_ends_from, root_holding, root_role};
 ghost use Rattle.machine_state.specs.Views.{holding_view, role_view};
 

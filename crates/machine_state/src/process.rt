@@ -1,7 +1,7 @@
 //! One process: its registers, and what it is doing.
 
 ghost use Rattle.std.specs.Prelude.{◌≡◌, ◌+◌, ◌*◌, ◌<◌, ◌^◌, None};
-ghost use Rattle.certificate.specs.Contents.{contents_of};
+ghost use Rattle.module_format.specs.Contents.{contents_of};
 ghost use Rattle.machine_state.specs.Memory.{data_start};
 ghost use Rattle.machine_state.specs.World.{root_task};
 

@@ -40,7 +40,7 @@ impl Model for TaggedStore {
 
 impl TaggedStore {
     ghost use Rattle.machine_state.specs.Holding.{nothing};
-    ghost use Rattle.certificate.specs.Contents.{contents_of};
+    ghost use Rattle.module_format.specs.Contents.{contents_of};
     ghost use Rattle.machine_state.specs.World.{holding_at, IsLoadable, loaded_memory, root_role};
     ghost use Rattle.machine_state.specs.Views.{holding_view};
     ghost use Rattle.machine_state.specs.Memory.{place_of, with_byte};

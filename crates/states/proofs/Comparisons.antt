@@ -5,17 +5,17 @@ use Rattle.std.proofs.lemmas.List.{get_or_default}
 use Rattle.std.proofs.lemmas.Bool.{cases_eq, cases_lt, cases_Bool}
 use Rattle.std.proofs.lemmas.Bool.Decides.{nat_tests}
 use Rattle.std.proofs.lemmas.Int.{ints, by_lt_z}
-use Rattle.certificate.specs.declared.fact.Fact.{Fact}
-use Rattle.certificate.specs.declared.fact.Fact.TheVariants.{Unknown, Number, Pointer, CodeAddress, Loop, ReturnAddress}
-use Rattle.certificate.specs.declared.rows.Entry.{Entry}
+use Rattle.module_format.specs.declared.fact.Fact.{Fact}
+use Rattle.module_format.specs.declared.fact.Fact.TheVariants.{Unknown, Number, Pointer, CodeAddress, Loop, ReturnAddress}
+use Rattle.module_format.specs.declared.rows.Entry.{Entry}
 use Rattle.states.specs.declared.overlay.Written.{Written}
 use Rattle.states.specs.Lookup.{lookup, ArePlaced}
 use Rattle.states.specs.declared.known.WordFact.{WordFact}
 use Rattle.states.specs.declared.known.WordFact.TheVariants.{Alone}
 use Rattle.states.specs.State.{Facts, by_itself, is_word, is_about, said_of, entry_fact}
 use Rattle.states.specs.Below.{implies, says, words_say, entries_hold}
-use Rattle.certificate.specs.Order.{least_word}
-use Rattle.certificate.specs.Facts.{end_of}
+use Rattle.module_format.specs.Order.{least_word}
+use Rattle.module_format.specs.Facts.{end_of}
 use Rattle.states.specs.Rows.{rise_from, AreApart}
 use Rattle.states.specs.Frames.{fact_of_index, facts_over}
 use Rattle.states.specs.Comparing.{SaysAll, SaysLess, OneSaysAll, WrittenSaysAll}

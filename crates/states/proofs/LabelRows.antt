@@ -4,17 +4,17 @@ use Rattle.std.specs.Prelude.{MatchOption, find, ◌==◌}
 use Rattle.std.specs.List.{AllByRecursion}
 use Rattle.std.proofs.lemmas.Bool.{cases_Bool}
 use Rattle.std.proofs.lemmas.Int.{ints}
-use Rattle.certificate.specs.declared.fact.Fact.{Fact}
-use Rattle.certificate.specs.declared.fact.Fact.TheVariants.{Unknown, Number, Pointer, CodeAddress, Loop, ReturnAddress}
-use Rattle.certificate.specs.declared.rows.Entry.{Entry}
-use Rattle.certificate.specs.declared.rows.LabelRow.{LabelRow}
-use Rattle.certificate.specs.declared.contexts.Context.{Context}
-use Rattle.certificate.specs.Contents.{Contents, Procedure, Label, label_of, label_at}
-use Rattle.certificate.specs.Contexts.{context_at}
+use Rattle.module_format.specs.declared.fact.Fact.{Fact}
+use Rattle.module_format.specs.declared.fact.Fact.TheVariants.{Unknown, Number, Pointer, CodeAddress, Loop, ReturnAddress}
+use Rattle.module_format.specs.declared.rows.Entry.{Entry}
+use Rattle.module_format.specs.declared.rows.LabelRow.{LabelRow}
+use Rattle.module_format.specs.declared.contexts.Context.{Context}
+use Rattle.module_format.specs.Contents.{Contents, Procedure, Label, label_of, label_at}
+use Rattle.module_format.specs.Contexts.{context_at}
 use Rattle.certificate.specs.Rights.{has_word}
-use Rattle.certificate.specs.Order.{InOrder, least_word}
-use Rattle.certificate.specs.Facts.{WordKeeps, EntryKeeps, behind_entry, end_of, LabelKeeps, behind_label}
-use Rattle.certificate.specs.Keeping.{Keeps, LabelFits, RowFits, EntryFits}
+use Rattle.module_format.specs.Order.{InOrder, least_word}
+use Rattle.module_format.specs.Facts.{WordKeeps, EntryKeeps, behind_entry, end_of, LabelKeeps, behind_label}
+use Rattle.module_format.specs.Keeping.{Keeps, LabelFits, RowFits, EntryFits}
 use Rattle.states.specs.declared.known.WordFact.{WordFact}
 use Rattle.states.specs.declared.known.WordFact.TheVariants.{Alone}
 use Rattle.states.specs.State.{is_word, is_about, said_of, entry_fact}

@@ -2,7 +2,7 @@
 use Rattle.std.proofs.Common.{◌≡◌, ℤ, true, false, Option, Some, None, refl, sym, ap, ◌∙◌}
 use Rattle.std.specs.Prelude.{option_map, unwrap_or}
 use Rattle.std.proofs.Math.Logic.{∥∥₁_elim}
-use Rattle.certificate.specs.declared.fact.Fact.{Fact}
+use Rattle.module_format.specs.declared.fact.Fact.{Fact}
 use Rattle.std.specs.Coded.{Unit-prop}
 use Rattle.std.proofs.Props.{props}
 use Rattle.states.specs.declared.known.WordFact.{WordFact}

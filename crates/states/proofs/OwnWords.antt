@@ -1,7 +1,7 @@
 -- The words that a context may use are words of its frame.
 use Rattle.std.proofs.Common.{◌≡◌, ℕ, ℤ, true}
-use Rattle.certificate.specs.Contents.{Contents}
-use Rattle.certificate.specs.Contexts.{context_at}
+use Rattle.module_format.specs.Contents.{Contents}
+use Rattle.module_format.specs.Contexts.{context_at}
 use Rattle.certificate.specs.Rights.{has_word, may_write_word, may_read_word}
 use Rattle.states.proofs.RowFacts.{and-parts}
 

@@ -7,16 +7,16 @@ use Rattle.std.proofs.lemmas.List.{append-nil}
 use Rattle.std.proofs.lemmas.Option.{slice_get_within}
 use Rattle.std.proofs.lemmas.Bool.Decides.{nat_tests}
 use Rattle.std.proofs.lemmas.Int.{ints}
-use Rattle.certificate.specs.declared.fact.Fact.TheVariants.{ReturnAddress}
-use Rattle.certificate.specs.declared.fact.Fact.{Fact}
-use Rattle.certificate.specs.declared.rows.Parameter.{Parameter}
-use Rattle.certificate.specs.declared.tables.Version.{Version}
-use Rattle.certificate.specs.Contents.{Contents, Procedure, Par}
-use Rattle.certificate.specs.Contexts.{context_at, owner, branch_count, procedure_context}
+use Rattle.module_format.specs.declared.fact.Fact.TheVariants.{ReturnAddress}
+use Rattle.module_format.specs.declared.fact.Fact.{Fact}
+use Rattle.module_format.specs.declared.rows.Parameter.{Parameter}
+use Rattle.module_format.specs.declared.tables.Version.{Version}
+use Rattle.module_format.specs.Contents.{Contents, Procedure, Par}
+use Rattle.module_format.specs.Contexts.{context_at, owner, branch_count, procedure_context}
 use Rattle.certificate.specs.Rights.{has_word}
-use Rattle.certificate.specs.Order.{InOrder}
-use Rattle.certificate.specs.Procedures.{ParameterKeeps, behind_parameter, ProcedureKeeps, behind_procedure}
-use Rattle.certificate.specs.Keeping.{Keeps}
+use Rattle.module_format.specs.Order.{InOrder}
+use Rattle.module_format.specs.Procedures.{ParameterKeeps, behind_parameter, ProcedureKeeps, behind_procedure}
+use Rattle.module_format.specs.Keeping.{Keeps}
 use Rattle.states.specs.declared.frame.Frame.{Frame}
 use Rattle.states.specs.State.{Facts, entry_fact, parameter_fact, parameter_facts, procedure_facts}
 use Rattle.states.specs.Frames.{with_alone, HasRoom, HasRoomForAll, SameRoom}

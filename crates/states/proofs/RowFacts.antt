@@ -3,12 +3,12 @@ use Rattle.std.proofs.Common.{◌≡◌, ℕ, zero, suc, ◌<◌, ℤ, ◌≤ℤ
 use Rattle.std.specs.Prelude.{int_le, int_lt}
 use Rattle.std.proofs.lemmas.List.{get_or-drop}
 use Rattle.std.proofs.lemmas.Int.{ints, by_lt_z}
-use Rattle.certificate.specs.declared.fact.Fact.TheVariants.{Unknown}
-use Rattle.certificate.specs.declared.rows.Entry.{Entry}
+use Rattle.module_format.specs.declared.fact.Fact.TheVariants.{Unknown}
+use Rattle.module_format.specs.declared.rows.Entry.{Entry}
 use Rattle.states.specs.declared.known.WordFact.TheVariants.{Alone}
 use Rattle.states.specs.State.{is_word, is_about, said_of, entry_fact}
-use Rattle.certificate.specs.Order.{least_word}
-use Rattle.certificate.specs.Facts.{end_of}
+use Rattle.module_format.specs.Order.{least_word}
+use Rattle.module_format.specs.Facts.{end_of}
 use Rattle.states.specs.Rows.{rise_from, AreApart}
 
 -- ---- tests of numbers

@@ -6,11 +6,11 @@ use Rattle.std.specs.Result.{result_ok, OkIff}
 use Rattle.std.proofs.lemmas.List.{get_or_default}
 use Rattle.std.proofs.lemmas.Bool.{cases_Bool, cases_lt}
 use Rattle.std.proofs.lemmas.Int.{ints}
-use Rattle.certificate.specs.declared.fact.Fact.{Fact}
-use Rattle.certificate.specs.declared.contexts.Context.{Context}
-use Rattle.certificate.specs.declared.rows.ProcedureRow.{ProcedureRow}
-use Rattle.certificate.specs.Contents.{Contents, procedure_of}
-use Rattle.certificate.specs.Contexts.{context_at, own_context, owner, branch_count, root_context, procedure_context}
+use Rattle.module_format.specs.declared.fact.Fact.{Fact}
+use Rattle.module_format.specs.declared.contexts.Context.{Context}
+use Rattle.module_format.specs.declared.rows.ProcedureRow.{ProcedureRow}
+use Rattle.module_format.specs.Contents.{Contents, procedure_of}
+use Rattle.module_format.specs.Contexts.{context_at, own_context, owner, branch_count, root_context, procedure_context}
 use Rattle.certificate.specs.Rights.{has_word}
 use Rattle.states.specs.declared.known.Known.{Known}
 use Rattle.states.specs.State.{State, Facts, with_fact, forgets, written}

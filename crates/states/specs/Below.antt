@@ -1,12 +1,12 @@
 -- When a state may go on as a label's: it knows at least as much, and can pay.
 use Rattle.std.specs.Prelude.{ℕ, zero, suc, ◌+◌, ◌-◌, ◌*◌, ℤ, pos, ◌+ℤ◌, int_le, nat_lt, ◌==◌, ◌&&◌, Bool, true, false, not, if◌then◌else◌, List, sum_by, Result, Ok, Err}
 use Rattle.std.specs.List.{list_all}
-use Rattle.certificate.specs.declared.fact.Fact.{Fact}
-use Rattle.certificate.specs.declared.fact.Fact.TheVariants.{Unknown, Number, Pointer, CodeAddress, Loop, ReturnAddress}
-use Rattle.certificate.specs.declared.fact.Step.{Step}
-use Rattle.certificate.specs.declared.fact.Step.TheVariants.{Byte, Word}
-use Rattle.certificate.specs.declared.rows.Entry.{Entry}
-use Rattle.certificate.specs.Contents.{Label}
+use Rattle.module_format.specs.declared.fact.Fact.{Fact}
+use Rattle.module_format.specs.declared.fact.Fact.TheVariants.{Unknown, Number, Pointer, CodeAddress, Loop, ReturnAddress}
+use Rattle.module_format.specs.declared.fact.Step.{Step}
+use Rattle.module_format.specs.declared.fact.Step.TheVariants.{Byte, Word}
+use Rattle.module_format.specs.declared.rows.Entry.{Entry}
+use Rattle.module_format.specs.Contents.{Label}
 use Rattle.states.specs.declared.rule.Rule.{Rule}
 use Rattle.states.specs.declared.rule.Rule.TheVariants as rules
 use Rattle.states.specs.declared.known.Loop.{Loop as CountedLoop}

@@ -1,7 +1,7 @@
 -- Facts by index, as they are kept in memory: the last fact of each index that was written, in a list,
 -- and for each index the place in the list at which it may stand.
 use Rattle.std.specs.Prelude.{◌≡◌, ℕ, ◌<◌, ◌==◌, if◌then◌else◌, List, [], ◌∷◌, length, map, slice_index, Option, Some, None}
-use Rattle.certificate.specs.declared.fact.Fact.{Fact}
+use Rattle.module_format.specs.declared.fact.Fact.{Fact}
 use Rattle.states.specs.declared.overlay.Written.{Written}
 
 -- the fact of an index, where it was written

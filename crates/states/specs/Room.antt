@@ -1,7 +1,7 @@
 -- Bounds on the frame words of all contexts of a module.
 use Rattle.std.specs.Prelude.{◌≡◌, ℕ, ℤ, ◌≤ℤ◌, ◌<ℤ◌, true}
-use Rattle.certificate.specs.Contents.{Contents}
-use Rattle.certificate.specs.Contexts.{context_at}
+use Rattle.module_format.specs.Contents.{Contents}
+use Rattle.module_format.specs.Contexts.{context_at}
 use Rattle.certificate.specs.Rights.{has_word}
 
 -- each word of each context lies from lo up to hi

@@ -1,12 +1,12 @@
 -- The entries of label rows: their words rise, no two entries overlap, and their loops are those of the format.
 use Rattle.std.specs.Prelude.{◌≡◌, ⊤, ℕ, ℤ, pos, ◌+ℤ◌, ◌≤ℤ◌, ◌<ℤ◌, int_le, ◌&&◌, Bool, true, false, List, [], ◌∷◌, IsTrue}
-use Rattle.certificate.specs.declared.fact.Fact.TheVariants.{Unknown}
-use Rattle.certificate.specs.declared.rows.Entry.{Entry}
-use Rattle.certificate.specs.Order.{least_word}
-use Rattle.certificate.specs.Contents.{Contents, Label}
-use Rattle.certificate.specs.Contexts.{context_at}
+use Rattle.module_format.specs.declared.fact.Fact.TheVariants.{Unknown}
+use Rattle.module_format.specs.declared.rows.Entry.{Entry}
+use Rattle.module_format.specs.Order.{least_word}
+use Rattle.module_format.specs.Contents.{Contents, Label}
+use Rattle.module_format.specs.Contexts.{context_at}
 use Rattle.certificate.specs.Rights.{has_word}
-use Rattle.certificate.specs.Facts.{end_of, IsLoop}
+use Rattle.module_format.specs.Facts.{end_of, IsLoop}
 use Rattle.states.specs.declared.known.WordFact.{WordFact}
 use Rattle.states.specs.declared.known.WordFact.TheVariants.{Alone, Index, Count}
 use Rattle.states.specs.State.{is_alone, entry_fact}

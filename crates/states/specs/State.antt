@@ -1,13 +1,13 @@
 -- What is known of a process at a place of its code.
 use Rattle.std.specs.Prelude.{ℕ, ◌+◌, ℤ, pos, ◌+ℤ◌, ◌-ℤ◌, int_le, int_lt, ◌&&◌, Bool, true, false, if◌then◌else◌, List, [], ◌∷◌}
-use Rattle.certificate.specs.declared.fact.Fact.{Fact}
-use Rattle.certificate.specs.declared.fact.Fact.TheVariants.{Unknown, Number, Pointer, Loop, ReturnAddress}
-use Rattle.certificate.specs.declared.fact.Step.TheVariants.{Word}
-use Rattle.certificate.specs.declared.rows.Entry.{Entry}
-use Rattle.certificate.specs.declared.rows.Parameter.{Parameter}
-use Rattle.certificate.specs.declared.rows.ParameterKind.{ParameterKind}
-use Rattle.certificate.specs.declared.rows.ParameterKind.TheVariants.{Value}
-use Rattle.certificate.specs.Contents.{Contents, Procedure, Label}
+use Rattle.module_format.specs.declared.fact.Fact.{Fact}
+use Rattle.module_format.specs.declared.fact.Fact.TheVariants.{Unknown, Number, Pointer, Loop, ReturnAddress}
+use Rattle.module_format.specs.declared.fact.Step.TheVariants.{Word}
+use Rattle.module_format.specs.declared.rows.Entry.{Entry}
+use Rattle.module_format.specs.declared.rows.Parameter.{Parameter}
+use Rattle.module_format.specs.declared.rows.ParameterKind.{ParameterKind}
+use Rattle.module_format.specs.declared.rows.ParameterKind.TheVariants.{Value}
+use Rattle.module_format.specs.Contents.{Contents, Procedure, Label}
 use Rattle.states.specs.declared.known.WordFact.{WordFact}
 use Rattle.states.specs.declared.known.WordFact.TheVariants.{Alone, Index, Count}
 use Rattle.states.specs.declared.known.Known.{Known}

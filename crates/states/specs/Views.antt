@@ -1,8 +1,8 @@
 -- A state in memory, as the state that it is, and the module that it is one of.
 use Rattle.std.specs.Prelude.{◌≡◌, ℕ, ℤ, true}
-use Rattle.certificate.specs.Contents.{Contents}
-use Rattle.certificate.specs.Contexts.{context_at}
-use Rattle.certificate.specs.Keeping.{Keeps}
+use Rattle.module_format.specs.Contents.{Contents}
+use Rattle.module_format.specs.Contexts.{context_at}
+use Rattle.module_format.specs.Keeping.{Keeps}
 use Rattle.certificate.specs.Rights.{has_word}
 use Rattle.states.specs.declared.state.State.{State as InMemory}
 use Rattle.states.specs.State.{State}

@@ -1,7 +1,7 @@
 //! When a state may go on as a label's.
 
 ghost use Rattle.std.specs.Prelude.{◌≡◌, ◌≤◌, SomeIff};
-ghost use Rattle.certificate.specs.Contents.{label_of};
+ghost use Rattle.module_format.specs.Contents.{label_of};
 ghost use Rattle.states.specs.Below.{cost, is_plain, agrees, below};
 ghost use Rattle.states.specs.Rows.{AreApart};
 ghost use Rattle.states.specs.Views.{state_of};

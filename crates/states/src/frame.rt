@@ -2,8 +2,8 @@
 
 ghost use Rattle.std.specs.Prelude.{◌≡◌, ◌≤◌, ◌<◌, ◌-◌, ℤ, pos, ◌+ℤ◌, ◌-ℤ◌, ◌≤ℤ◌, ◌<ℤ◌, ◌⊎◌, ◌^◌, IfOk, IsTrue, IsFalse, true, false, SomeIff, sum_by, length, Some, None, vec_len};
 ghost use Rattle.std.specs.List.{list_all};
-ghost use Rattle.certificate.specs.Contents.{procedure_of};
-ghost use Rattle.certificate.specs.Order.{least_word};
+ghost use Rattle.module_format.specs.Contents.{procedure_of};
+ghost use Rattle.module_format.specs.Order.{least_word};
 ghost use Rattle.states.specs.Rows.{AreApart, LoopFits, IsRow};
 ghost use Rattle.states.specs.State.{is_alone, entry_fact, parameter_fact};
 

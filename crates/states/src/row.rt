@@ -1,7 +1,7 @@
 //! The entries of a label row.
 
 ghost use Rattle.std.specs.Prelude.{◌≡◌, ◌≤◌, ℤ, pos, ◌+ℤ◌, ◌≤ℤ◌, ◌<ℤ◌, ◌<◌, ◌^◌, true, length};
-ghost use Rattle.certificate.specs.Facts.{end_of};
+ghost use Rattle.module_format.specs.Facts.{end_of};
 ghost use Rattle.states.specs.Rows.{AreApart};
 ghost use Rattle.states.specs.State.{is_word, is_about, said_of, entry_fact};
 

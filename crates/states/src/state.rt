@@ -1,9 +1,9 @@
 //! What is known of a process at a place of its code.
 
 ghost use Rattle.std.specs.Prelude.{◌≡◌, ◌≤◌, ◌-◌, ◌≤ℤ◌, ℤ, IfOk, IfSome, Some, is_some, slice_get};
-ghost use Rattle.certificate.specs.Contents.{Contents, contents_of, procedure_of, label_of};
+ghost use Rattle.module_format.specs.Contents.{Contents, contents_of, procedure_of, label_of};
 ghost use Rattle.certificate.specs.Rights.{may_write_word, may_read_word};
-ghost use Rattle.certificate.specs.Keeping.{Keeps};
+ghost use Rattle.module_format.specs.Keeping.{Keeps};
 ghost use Rattle.states.specs.State.{unknown, known, without_source, forgets, written, begun, root_state, procedure_state, label_state};
 ghost use Rattle.states.specs.Rows.{LoopFits, IsRowOf};
 ghost use Rattle.states.specs.Views.{state_of, CanWrite, BelongsTo};

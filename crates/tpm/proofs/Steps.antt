@@ -6,8 +6,8 @@ use Rattle.std.proofs.lemmas.Option.{slice_get_cases}
 use Rattle.prefix_decoder.specs.declared.function.Fun.{Fun}
 use Rattle.prefix_decoder.specs.Functions.{fun_of, function_code, nibble}
 use Rattle.prefix_decoder.specs.Operand.{with_nibble, after_prefix}
-use Rattle.certificate.specs.Contents.{Contents}
-use Rattle.certificate.specs.Keeping.{Keeps}
+use Rattle.module_format.specs.Contents.{Contents}
+use Rattle.module_format.specs.Keeping.{Keeps}
 use Rattle.machine_state.specs.declared.event.Event.{Event}
 use Rattle.machine_state.specs.declared.event.Effect.{Effect}
 use Rattle.machine_state.specs.declared.event.Effect.TheVariants as effects

@@ -1,11 +1,11 @@
 -- What the program answers, and when: our own choice.
 use Rattle.std.specs.Prelude.{◌≡◌, ◌≢◌, ◌⊎◌, ⊤, ℕ, List, Option, Some, None, Result, Ok, Err}
 use Rattle.std.specs.Io.KnownBytes.{Appends}
-use Rattle.certificate.specs.declared.fault.FormatFault.{FormatFault}
-use Rattle.certificate.specs.Contents.{Contents}
-use Rattle.certificate.specs.Keeping.{Format}
-use Rattle.certificate.specs.Reading.{out_of_memory}
-use Rattle.certificate.specs.ReadingFile.{read_contents}
+use Rattle.module_format.specs.declared.fault.FormatFault.{FormatFault}
+use Rattle.module_format.specs.Contents.{Contents}
+use Rattle.module_format.specs.Keeping.{Format}
+use Rattle.module_format.specs.Reading.{out_of_memory}
+use Rattle.module_format.specs.ReadingFile.{read_contents}
 use Rattle.verifier.specs.declared.Refusal.{Refusal}
 use Rattle.verifier.specs.Certified.{IsCertified, Reports}
 use Rattle.tpm.specs.declared.files.FileFault.{FileFault}

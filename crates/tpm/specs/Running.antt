@@ -1,6 +1,6 @@
 -- The run of a module without links, until nobody runs.
 use Rattle.std.specs.Prelude.{◌≡◌, ℕ, false, replicate, if◌then◌else◌}
-use Rattle.certificate.specs.Contents.{Contents}
+use Rattle.module_format.specs.Contents.{Contents}
 use Rattle.machine_state.specs.declared.event.Event.{Event}
 use Rattle.machine_state.specs.declared.event.Event.TheVariants.{Step}
 use Rattle.machine_state.specs.World.{World}

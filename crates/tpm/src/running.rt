@@ -1,7 +1,7 @@
 //! The run of a module without links.
 
 ghost use Rattle.std.specs.Prelude.{◌≡◌, ◌+◌, IfOk, OnOk, None, true, false, Ok};
-ghost use Rattle.certificate.specs.Keeping.{Keeps};
+ghost use Rattle.module_format.specs.Keeping.{Keeps};
 ghost use Rattle.machine_state.specs.Happens.{happens, turn, idle};
 ghost use Rattle.verifier.specs.Headline.{RunsWell};
 ghost use Rattle.tpm.specs.Running.{EndsIn, plain_step};

@@ -1,11 +1,11 @@
 -- Small modules, certified by computation.
 use Rattle.std.proofs.Common.{◌≡◌, ℕ, pos, negsuc, false, List, [], ◌∷◌, Ok, replicate, refl}
 use Rattle.word_arithmetic.specs.Binary.{result_range}
-use Rattle.certificate.specs.declared.fact.Fact.TheVariants.{Unknown}
-use Rattle.certificate.specs.declared.rows.ParameterKind.TheVariants.{Value}
-use Rattle.certificate.specs.declared.tables.Version.TheVariants.{One}
-use Rattle.certificate.specs.Contents.{Contents}
-use Rattle.certificate.specs.Contexts.{context_at}
+use Rattle.module_format.specs.declared.fact.Fact.TheVariants.{Unknown}
+use Rattle.module_format.specs.declared.rows.ParameterKind.TheVariants.{Value}
+use Rattle.module_format.specs.declared.tables.Version.TheVariants.{One}
+use Rattle.module_format.specs.Contents.{Contents}
+use Rattle.module_format.specs.Contexts.{context_at}
 use Rattle.machine_state.specs.Instructions.{op_of, instruction_of}
 use Rattle.states.specs.declared.rule.Rule.TheVariants as rules
 use Rattle.states.specs.State.{written}

@@ -1,6 +1,6 @@
 -- The states that the tables give, and the starts that they tell.
 use Rattle.std.proofs.Common.{◌≡◌, ℕ, Bool, true, false, ◌||◌, is_some, Option, Some, None, refl, ap, ◌∙◌}
-use Rattle.certificate.specs.Contents.{Contents, Label, label_at}
+use Rattle.module_format.specs.Contents.{Contents, Label, label_at}
 use Rattle.certificate.specs.Starts.{procedure_at, is_start}
 use Rattle.states.specs.State.{State, label_state}
 use Rattle.verifier.specs.Certified.{first_state, given, state_at}

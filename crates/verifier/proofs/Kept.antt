@@ -9,12 +9,12 @@ use Rattle.std.specs.Str.{bytes_eq}
 use Rattle.prefix_decoder.specs.Spelling.{spelling}
 use Rattle.prefix_decoder.specs.Fetching.{read, checked, fetched, StandsAt}
 use Rattle.prefix_decoder.proofs.Outcomes.{fetched-found, StandsAt-length}
-use Rattle.certificate.specs.Contents.{Contents, Procedure, Label}
-use Rattle.certificate.specs.Order.{InOrder}
-use Rattle.certificate.specs.Facts.{LabelKeeps, behind_label}
-use Rattle.certificate.specs.declared.tables.Version.{Version}
-use Rattle.certificate.specs.declared.tables.Version.TheVariants as versions
-use Rattle.certificate.specs.Keeping.{max_code, Keeps}
+use Rattle.module_format.specs.Contents.{Contents, Procedure, Label}
+use Rattle.module_format.specs.Order.{InOrder}
+use Rattle.module_format.specs.Facts.{LabelKeeps, behind_label}
+use Rattle.module_format.specs.declared.tables.Version.{Version}
+use Rattle.module_format.specs.declared.tables.Version.TheVariants as versions
+use Rattle.module_format.specs.Keeping.{max_code, Keeps}
 use Rattle.states.proofs.LabelRows.{label_row_at}
 use Rattle.facts.specs.Meaning.{IsWellFormed}
 use Rattle.facts.proofs.LabelRows.{label_pairs}

@@ -1,7 +1,7 @@
 -- What is reported of a module where the pass stops.
 use Rattle.std.proofs.Common.{refl, inl, inr}
-use Rattle.certificate.specs.Contents.{Contents}
-use Rattle.certificate.specs.Keeping.{Keeps}
+use Rattle.module_format.specs.Contents.{Contents}
+use Rattle.module_format.specs.Keeping.{Keeps}
 use Rattle.verifier.specs.declared.stop.Stop.{Stop}
 use Rattle.verifier.specs.declared.stop.Stop.TheVariants as stops
 use Rattle.verifier.specs.Certified.{Reports}

@@ -4,14 +4,14 @@ use Rattle.std.specs.Prelude.{◌==◌, find, slice_get}
 use Rattle.std.specs.List.{AllByRecursion}
 use Rattle.std.proofs.lemmas.Bool.{cases_lt}
 use Rattle.std.proofs.lemmas.Bool.Decides.{nat_tests}
-use Rattle.certificate.specs.declared.rows.LabelRow.{LabelRow}
-use Rattle.certificate.specs.declared.rows.ProcedureRow.{ProcedureRow}
-use Rattle.certificate.specs.Contents.{Contents, Procedure, label_at, label_of, procedure_of}
-use Rattle.certificate.specs.Facts.{LabelKeeps, behind_label}
-use Rattle.certificate.specs.Procedures.{ProcedureKeeps, behind_procedure}
-use Rattle.certificate.specs.declared.tables.Version.{Version}
-use Rattle.certificate.specs.Keeping.{Keeps}
-use Rattle.certificate.specs.Order.{InOrder}
+use Rattle.module_format.specs.declared.rows.LabelRow.{LabelRow}
+use Rattle.module_format.specs.declared.rows.ProcedureRow.{ProcedureRow}
+use Rattle.module_format.specs.Contents.{Contents, Procedure, label_at, label_of, procedure_of}
+use Rattle.module_format.specs.Facts.{LabelKeeps, behind_label}
+use Rattle.module_format.specs.Procedures.{ProcedureKeeps, behind_procedure}
+use Rattle.module_format.specs.declared.tables.Version.{Version}
+use Rattle.module_format.specs.Keeping.{Keeps}
+use Rattle.module_format.specs.Order.{InOrder}
 use Rattle.certificate.specs.Starts.{procedure_from, procedure_at}
 use Rattle.states.specs.Rows.{IsRowOf}
 use Rattle.states.proofs.LabelRows.{label_rows}

@@ -4,10 +4,10 @@ use Rattle.std.proofs.lemmas.List.{length-append, length-map, length-replicate}
 use Rattle.std.proofs.lemmas.Bool.{le-leb}
 use Rattle.std.proofs.lemmas.Int.{ints}
 use Rattle.std.specs.Prelude.{slice_get, int_le, int_lt}
-use Rattle.certificate.specs.Contents.{Contents, Par}
+use Rattle.module_format.specs.Contents.{Contents, Par}
 use Rattle.certificate.specs.Rights as rights
 use Rattle.certificate.specs.Rights.{has_word}
-use Rattle.certificate.specs.Contexts.{root_context, own_context, branch_count, owner, context_at}
+use Rattle.module_format.specs.Contexts.{root_context, own_context, branch_count, owner, context_at}
 use Rattle.machine_state.specs.declared.process.Mode.TheVariants as machine_modes
 use Rattle.machine_state.specs.declared.link.InputLink.{InputLink}
 use Rattle.machine_state.specs.declared.link.OutputLink.{OutputLink}

@@ -8,7 +8,7 @@ use Rattle.prefix_decoder.specs.declared.decoding.DecodeFault.{DecodeFault}
 use Rattle.prefix_decoder.specs.Functions.{fun_of, function_code, nibble}
 use Rattle.prefix_decoder.specs.Operand.{with_nibble, after_prefix}
 use Rattle.prefix_decoder.specs.Fetching.{ended_or, read, fetched}
-use Rattle.certificate.specs.Contents.{Contents, Label, label_at}
+use Rattle.module_format.specs.Contents.{Contents, Label, label_at}
 use Rattle.certificate.specs.Rights as rights
 use Rattle.certificate.specs.Starts.{procedure_at, Entered as Begun}
 use Rattle.machine_state.specs.declared.process.Registers.{Registers}

@@ -7,7 +7,7 @@ use Rattle.std.specs.Prelude.{slice_get, slice_set}
 use Rattle.prefix_decoder.specs.declared.function.Fun.{Fun}
 use Rattle.prefix_decoder.specs.Functions.{fun_of, function_code, nibble}
 use Rattle.prefix_decoder.specs.Operand.{with_nibble, after_prefix}
-use Rattle.certificate.specs.Contents.{Contents}
+use Rattle.module_format.specs.Contents.{Contents}
 use Rattle.machine_state.specs.declared.process.Task.{Task}
 use Rattle.machine_state.specs.declared.process.Exchange.{Exchange}
 use Rattle.machine_state.specs.declared.process.Condition.{Condition}

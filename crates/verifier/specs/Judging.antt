@@ -1,9 +1,9 @@
 -- What the functions of the code tell, in terms of the verdict.
 use Rattle.std.specs.Prelude.{◌≡◌, ℕ, ◌+◌, ◌-◌, ◌≤◌, Bool, List, [], ◌∷◌, map, drop, find, ◌==◌, slice_get, Option, Some, None, Result, Ok, Err, ⊤, if◌then◌else◌}
 use Rattle.std.specs.List.{AllByRecursion}
-use Rattle.certificate.specs.declared.rows.LabelRow.{LabelRow}
-use Rattle.certificate.specs.declared.rows.ProcedureRow.{ProcedureRow}
-use Rattle.certificate.specs.Contents.{Contents, Label, label_at, label_of, procedure_of}
+use Rattle.module_format.specs.declared.rows.LabelRow.{LabelRow}
+use Rattle.module_format.specs.declared.rows.ProcedureRow.{ProcedureRow}
+use Rattle.module_format.specs.Contents.{Contents, Label, label_at, label_of, procedure_of}
 use Rattle.certificate.specs.Starts.{procedure_from, procedure_at}
 use Rattle.states.specs.Rows.{AreApart, IsRowOf}
 use Rattle.states.specs.declared.rule.Rule.{Rule}

@@ -3,7 +3,7 @@ use Rattle.std.specs.Prelude.{◌≡◌, ℕ, ◌+◌, ◌≤◌, pos, FitsSigne
 use Rattle.std.specs.Int.{w32}
 use Rattle.prefix_decoder.specs.declared.decoding.Instr.{Instr}
 use Rattle.prefix_decoder.specs.Fetching.{read, fetched}
-use Rattle.certificate.specs.Contents.{Contents}
+use Rattle.module_format.specs.Contents.{Contents}
 use Rattle.certificate.specs.Rights.{may_write_word, may_read_word}
 use Rattle.machine_state.specs.declared.process.Registers.{Registers}
 use Rattle.machine_state.specs.declared.process.Task.{Task}

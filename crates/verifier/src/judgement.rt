@@ -2,7 +2,7 @@
 
 ghost use Rattle.std.specs.Prelude.{◌≡◌, ℕ, if◌then◌else◌};
 ghost use Rattle.states.specs.declared.rule.Rule.TheVariants as rules;
-ghost use Rattle.certificate.specs.Contents.{Contents};
+ghost use Rattle.module_format.specs.Contents.{Contents};
 ghost use Rattle.states.specs.State.{State as Known};
 ghost use Rattle.states.specs.Views.{state_of, BelongsTo};
 ghost use Rattle.facts.specs.Rules.{Ruling, has_rule};

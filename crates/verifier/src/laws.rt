@@ -1,7 +1,7 @@
 //! The laws of certified modules, each the contract of a function that does nothing.
 ghost use Rattle.std.specs.Prelude.{◌≡◌, ℕ, Ok};
-ghost use Rattle.certificate.specs.Contents.{Contents};
-ghost use Rattle.certificate.specs.Keeping.{Keeps};
+ghost use Rattle.module_format.specs.Contents.{Contents};
+ghost use Rattle.module_format.specs.Keeping.{Keeps};
 ghost use Rattle.machine_state.specs.declared.event.Event.{Event};
 ghost use Rattle.machine_state.specs.World.{World};
 ghost use Rattle.machine_state.specs.Happens.{happens};

@@ -1,7 +1,7 @@
 //! The one pass over the code.
 
 ghost use Rattle.std.specs.Prelude.{◌≡◌, ◌-◌, ◌<◌, ◌≤◌, ◌^◌, OnOk, IfErr, Ok};
-ghost use Rattle.certificate.specs.Keeping.{Keeps};
+ghost use Rattle.module_format.specs.Keeping.{Keeps};
 ghost use Rattle.verifier.specs.declared.stop.Stop.TheVariants as stops;
 ghost use Rattle.verifier.specs.Judge.{first_start, verdict};
 ghost use Rattle.verifier.specs.Judging.{StopsBy};

@@ -1,7 +1,7 @@
 //! The rows of labels and procedures, met in the order of their offsets.
 
 ghost use Rattle.std.specs.Prelude.{◌+◌, ◌≤◌, length};
-ghost use Rattle.certificate.specs.declared.limits.TheConstants.{MAX_PROCEDURES};
+ghost use Rattle.module_format.specs.declared.limits.TheConstants.{MAX_PROCEDURES};
 
 use certificate::{LabelRow, Module, ProcedureRow};
 
@@ -26,7 +26,7 @@ pub(crate) struct Rows<'a> {
 
 impl<'a> Rows<'a> {
     ghost use Rattle.std.specs.Prelude.{◌≡◌, ℕ, MatchOption, None};
-    ghost use Rattle.certificate.specs.Contents.{Contents, label_at};
+    ghost use Rattle.module_format.specs.Contents.{Contents, label_at};
     ghost use Rattle.certificate.specs.Starts.{procedure_at};
     ghost use Rattle.verifier.specs.Judging.{LabelsLeft, ProceduresLeft, AreLeft, IsLabelRow, Begins, IsGiven};
 

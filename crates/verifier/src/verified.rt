@@ -14,8 +14,8 @@ pub struct Verified<'a> {
 }
 
 impl<'a> Model for Verified<'a> {
-    ghost use Rattle.certificate.specs.Contents.{Contents};
-    ghost use Rattle.certificate.specs.Keeping.{Keeps};
+    ghost use Rattle.module_format.specs.Contents.{Contents};
+    ghost use Rattle.module_format.specs.Keeping.{Keeps};
     ghost use Rattle.verifier.specs.Certified.{IsCertified};
 
     ghost Value = { Contents };

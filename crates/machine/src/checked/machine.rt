@@ -1,7 +1,7 @@
 //! The whole machine at a moment, and the moves that its events are made of.
 
 ghost use Rattle.std.specs.Prelude.{◌≡◌, ◌+◌, ◌*◌, ◌<◌, ◌^◌, Some, length, slice_get, IfOk, IfSome, OnOk};
-ghost use Rattle.certificate.specs.Contents.{contents_of};
+ghost use Rattle.module_format.specs.Contents.{contents_of};
 ghost use Rattle.machine_state.specs.World.{IsLoadable, loaded};
 ghost use Rattle.machine_state.specs.Memory.{data_start, place_of, with_byte};
 ghost use Rattle.machine_state.specs.Happens.{most_executed};

@@ -1,7 +1,7 @@
 //! One byte of the running process.
 
 ghost use Rattle.std.specs.Prelude.{◌≡◌, ◌+◌, ◌<◌, ◌^◌, IsTrue, length, slice_get, Err};
-ghost use Rattle.certificate.specs.Contents.{contents_of};
+ghost use Rattle.module_format.specs.Contents.{contents_of};
 ghost use Rattle.machine_state.specs.Happens.{between, failed, settled, did, ran, prefix_turn, task_turn, step_turn, most_executed};
 ghost use Rattle.machine.specs.Applying.{Applies, turn_of, outcome_of, outcome_at};
 ghost use Rattle.prefix_decoder.specs.Operand.{IsRegister, after_prefix};

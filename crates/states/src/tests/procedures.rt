@@ -1,7 +1,7 @@
 //! Where a procedure begins.
 
 ghost use Rattle.std.specs.Prelude.{◌≡◌, IfSome, Some, slice_get};
-ghost use Rattle.certificate.specs.Contents.{procedure_of};
+ghost use Rattle.module_format.specs.Contents.{procedure_of};
 
 use super::files::{FIELDS, spelled};
 use super::{root, write};

@@ -1,9 +1,9 @@
 use Rattle.std.proofs.Common.{IfSome, ◌≡◌, ◌∙◌, List, [], ◌∷◌, map, length, Option, Some, None, sym, ap, subst, Bor, arith}
 use Rattle.std.specs.Prelude.{slice_get}
 use Rattle.std.specs.Option.{option_copied}
-use Rattle.certificate.specs.declared.rows.LabelRow.{LabelRow}
-use Rattle.certificate.specs.Contents.{Contents, label_of}
-use Rattle.certificate.specs.Keeping.{Keeps}
+use Rattle.module_format.specs.declared.rows.LabelRow.{LabelRow}
+use Rattle.module_format.specs.Contents.{Contents, label_of}
+use Rattle.module_format.specs.Keeping.{Keeps}
 use Rattle.states.specs.Rows.{IsRowOf}
 use Rattle.states.proofs.LabelRows.{label_row_of}
 use Rattle.facts.proofs.tests.first_row.Goals as goal

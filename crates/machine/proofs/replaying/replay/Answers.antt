@@ -1,6 +1,6 @@
 use Rattle.std.proofs.Common.{◌+◌, refl, ap, subst, drop, List, rules, ◌∷◌, ◌∙◌}
 use Rattle.std.proofs.lemmas.List.{drop_all}
-use Rattle.certificate.proofs.Loop.{item_at}
+use Rattle.module_format.proofs.Loop.{item_at}
 use Rattle.machine_state.specs.declared.event.Event.{Event}
 use Rattle.machine_state.specs.World.{World}
 use Rattle.machine.proofs.Going.{IsGoing, nothing_out, begins, goes_on, is_over}

@@ -1,4 +1,4 @@
-use Rattle.certificate.specs.Contents.{label_of}
+use Rattle.module_format.specs.Contents.{label_of}
 use Rattle.std.proofs.lemmas.Result.{err_from_is_err_and}
 use Rattle.states.specs.Views.{state_of}
 use Rattle.states.proofs.LabelRows.{label_row_at}

@@ -1,6 +1,6 @@
 use Rattle.std.proofs.Common.{rules, arith, ◌+◌, ◌∙◌, refl, length}
 use Rattle.std.proofs.lemmas.Int.{ints}
-use Rattle.certificate.specs.Contents.{procedure_of}
+use Rattle.module_format.specs.Contents.{procedure_of}
 use Rattle.states.specs.Frames.{frame_facts}
 use Rattle.states.proofs.Procedures.{parameters-none, parameters-more, parameter-room, parameters-all}
 use Rattle.states.proofs.frame.Frame.begin.Goals as goal

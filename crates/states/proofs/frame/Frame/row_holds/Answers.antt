@@ -1,6 +1,6 @@
 use Rattle.std.proofs.Common.{rules, arith, ◌≡◌, ◌∙◌, sym, subst, refl}
 use Rattle.std.proofs.lemmas.Int.{ints, clamps}
-use Rattle.certificate.specs.Order.{least_word}
+use Rattle.module_format.specs.Order.{least_word}
 use Rattle.states.specs.State.{entry_fact}
 use Rattle.states.specs.Frames.{frame_facts}
 use Rattle.states.proofs.Comparisons.{says-none, says-more, says-less, ahead-falls}

@@ -1,6 +1,6 @@
 use Rattle.std.proofs.Common.{rules, arith, length, get_or, true, false, subst, List}
 use Rattle.std.proofs.lemmas.Int.{ints}
-use Rattle.certificate.specs.declared.fact.Fact.TheVariants.{Unknown}
+use Rattle.module_format.specs.declared.fact.Fact.TheVariants.{Unknown}
 use Rattle.states.specs.declared.overlay.Written.{Written}
 use Rattle.states.specs.State.{entry_fact}
 use Rattle.states.proofs.Lookups.{index-low}

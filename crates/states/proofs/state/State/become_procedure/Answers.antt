@@ -1,4 +1,4 @@
-use Rattle.certificate.specs.Contents.{procedure_of}
+use Rattle.module_format.specs.Contents.{procedure_of}
 use Rattle.states.proofs.Procedures.{begins}
 use Rattle.states.proofs.state.State.become_procedure.Goals as goal
 

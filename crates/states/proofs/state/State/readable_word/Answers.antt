@@ -2,7 +2,7 @@ use Rattle.std.proofs.Common.{true, ◌≡◌, sym, ◌∙◌, ap, subst, Some}
 use Rattle.std.specs.Prelude.{IfSome, is_some, FitsSigned}
 use Rattle.std.proofs.lemmas.Int.{to_z-of_z}
 use Rattle.std.specs.Int.{w32, w64}
-use Rattle.certificate.specs.Contents.{Contents}
+use Rattle.module_format.specs.Contents.{Contents}
 use Rattle.certificate.specs.Rights.{may_read_word}
 use Rattle.states.specs.Views.{BelongsTo, CanWrite}
 use Rattle.states.proofs.States.{room-fits, converted}

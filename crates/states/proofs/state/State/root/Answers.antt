@@ -1,6 +1,6 @@
 use Rattle.std.proofs.Common.{arith, refl}
 use Rattle.std.proofs.lemmas.Int.{ints}
-use Rattle.certificate.specs.Contents.{contents_of}
+use Rattle.module_format.specs.Contents.{contents_of}
 use Rattle.states.proofs.States.{covered}
 use Rattle.states.proofs.state.State.root.Goals as goal
 

@@ -1,6 +1,6 @@
 use Rattle.std.proofs.Common.{◌∙◌, sym, ap, subst, map, List}
-use Rattle.certificate.specs.declared.rows.LabelRow.{LabelRow}
-use Rattle.certificate.specs.Contents.{Contents, label_of}
+use Rattle.module_format.specs.declared.rows.LabelRow.{LabelRow}
+use Rattle.module_format.specs.Contents.{Contents, label_of}
 use Rattle.states.specs.Rows.{IsRowOf}
 use Rattle.states.proofs.LabelRows.{label_row_of}
 use Rattle.states.proofs.tests.loops.label.Goals as goal

@@ -1,5 +1,5 @@
 use Rattle.std.proofs.Common.{sym, ap, refl}
-use Rattle.certificate.specs.Contents.{Contents}
+use Rattle.module_format.specs.Contents.{Contents}
 use Rattle.verifier.proofs.RowsLeft.{left-first}
 use Rattle.verifier.proofs.rows.Rows.of.Goals as goal
 

@@ -1,5 +1,5 @@
 use Rattle.std.proofs.Common.{◌+◌, sym, subst}
-use Rattle.certificate.specs.Contents.{Contents}
+use Rattle.module_format.specs.Contents.{Contents}
 use Rattle.verifier.specs.Judging.{LabelsLeft, ProceduresLeft, AreLeft}
 use Rattle.verifier.proofs.rows.Rows.take.Goals as goal
 use Rattle.verifier.proofs.rows.Rows.take.Goals.{After-take_procedure-procedure}
