@@ -11,7 +11,7 @@ use Rattle.module_format.specs.declared.fact.Step.{Step}
 use Rattle.module_format.specs.declared.fact.Step.TheVariants.{Byte, Word}
 use Rattle.module_format.specs.declared.rows.Entry.{Entry}
 use Rattle.module_format.specs.Order.{least_word}
-use Rattle.module_format.specs.Facts.{end_of, IsLoop}
+use Rattle.module_format.specs.Facts.{end_of}
 use Rattle.module_format.specs.Contents.{Contents, Label, label_at}
 use Rattle.certificate.specs.Rights.{may_write_word, may_read_word}
 use Rattle.machine_state.specs.declared.process.Mode as machine
@@ -19,8 +19,11 @@ use Rattle.machine_state.specs.Holding.{Holding}
 use Rattle.machine_state.specs.LocalStep.{Local}
 use Rattle.states.specs.declared.known.Mode as states
 use Rattle.states.specs.declared.known.Mode.TheVariants as states_modes
+use Rattle.states.specs.declared.known.Loop.{Loop as CountedLoop}
 use Rattle.states.specs.declared.known.WordFact.{WordFact}
 use Rattle.states.specs.declared.known.WordFact.TheVariants.{Alone, Index, Count}
+use Rattle.states.specs.declared.rule.Rule.{Rule}
+use Rattle.states.specs.declared.rule.Rule.TheVariants as rules
 use Rattle.states.specs.State.{State, Facts, label_state, is_word, is_about, by_itself, is_alone, said_of, entry_fact}
 use Rattle.states.specs.Below.{below, agrees, implies, step_implies, is_constant, is_same_loop, says, words_say, entries_hold, are_alike, is_whole, is_plain, cost}
 use Rattle.states.specs.Rows.{IsRowOf, LoopFits, rise_from}
@@ -74,11 +77,11 @@ module _ (m : Contents) (act : Activation) where
 
 -- ---- facts of words
 
-same_loop : (base other : ℤ) (count turns weight price : ℕ) → is_same_loop base count weight other turns price ≡ true → (base ≡ other) × (count ≡ turns) × (weight ≡ price)
-same_loop base other count turns weight price t =
+same_loop : (loop other : CountedLoop) → is_same_loop loop other ≡ true → (loop.base ≡ other.base) × (loop.count ≡ other.count)
+same_loop loop other t =
     let all = and-parts _ _ t in
     let first = and-parts _ _ all.0 in
-    (same_word base other first.0, same_number count turns first.1, same_number weight price all.1)
+    (same_word loop.base other.base first.0, same_number loop.count other.count first.1)
 
 -- a number that is exactly this one
 constant_means : (m : Contents) (act : Activation) (f : Fact) (v : Option ℤ) (number : ℤ) → is_constant f number ≡ true → Means m act f v → (FitsSigned w32 number) × (v ≡ Some number)
@@ -97,41 +100,44 @@ module _ (m : Contents) (act : Activation) (turns : ℤ → ℕ) (k : ℤ) (v : 
   alone_means said wanted t means = is_fact (other_turns m act turns wanted v (implies_means m act (by_itself said) wanted v t (itself_means m act k said v means)))
 
   -- the index of a loop
-  index_means : (said : WordFact) (base : ℤ) (count weight : ℕ) → says said (Index base count weight) ≡ true → IsLoop base count weight → turns k ≡ turns_from said (Index base count weight) (act.turns k)
-      → MeansWord m act k said v → MeansWord m (with_turns turns act) k (Index base count weight) v
-  index_means (Alone fact) base count weight t loop left (is_fact means) =
-      let constant = constant_means m act fact v base t means in
-      let some : 1 ≤ count = loop.some in
-      subst (λ (x : Option ℤ). MeansWord m (with_turns turns act) k (Index base count weight) x) (sym constant.1)
+  index_means : (said : WordFact) (loop : CountedLoop) → says said (Index loop) ≡ true → LoopFits (Index loop)
+      → turns k ≡ turns_from said (Index loop) (act.turns k) → MeansWord m act k said v
+      → MeansWord m (with_turns turns act) k (Index loop) v
+  index_means (Alone fact) loop t fits left (is_fact means) =
+      let constant = constant_means m act fact v loop.base t means in
+      let some : 1 ≤ loop.count = fits.some in
+      subst (λ (x : Option ℤ). MeansWord m (with_turns turns act) k (Index loop) x) (sym constant.1)
       (is_index (omega arith) (omega arith) (omega (arith, ints)) constant.0)
-  index_means (Index other n w) base count weight t loop left means = under_way v means
+  index_means (Index other) loop t fits left means = under_way v means
     where
-      under_way : (u : Option ℤ) → MeansWord m act k (Index other n w) u → MeansWord m (with_turns turns act) k (Index base count weight) u
+      under_way : (u : Option ℤ) → MeansWord m act k (Index other) u → MeansWord m (with_turns turns act) k (Index loop) u
       under_way None known = elim known [ ]
       under_way (Some x) (is_index some most is fits) =
-          let same = same_loop other base n count w weight t in
-          let first : other ≡ base = same.0 in
-          let number : n ≡ count = same.1 in
+          let same = same_loop other loop t in
+          let first : other.base ≡ loop.base = same.0 in
+          let number : other.count ≡ loop.count = same.1 in
           is_index (omega arith) (omega arith) (omega (arith, ints)) fits
-  index_means (Count other n w) base count weight t loop left means = absurd (cc)
+  index_means (Count other) loop t fits left means = absurd (cc)
 
   -- the count of a loop whose index is in the word before
-  count_means : (said first : WordFact) (base : ℤ) (count weight : ℕ) → says said (Count base count weight) ≡ true → says first (Index base count weight) ≡ true → are_alike (is_alone first) (is_alone said) ≡ true
-      → IsLoop base count weight → turns (k -ℤ pos 1) ≡ turns_from first (Index base count weight) (act.turns (k -ℤ pos 1)) → MeansWord m act k said v → MeansWord m (with_turns turns act) k (Count base count weight) v
-  count_means (Alone fact) (Alone one) base count weight t u alike loop left (is_fact means) =
-      let constant = constant_means m act fact v (pos count) t means in
-      let some : 1 ≤ count = loop.some in
-      subst (λ (x : Option ℤ). MeansWord m (with_turns turns act) k (Count base count weight) x) (sym constant.1)
+  count_means : (said first : WordFact) (loop : CountedLoop) → says said (Count loop) ≡ true → says first (Index loop) ≡ true
+      → are_alike (is_alone first) (is_alone said) ≡ true → LoopFits (Count loop)
+      → turns (k -ℤ pos 1) ≡ turns_from first (Index loop) (act.turns (k -ℤ pos 1)) → MeansWord m act k said v
+      → MeansWord m (with_turns turns act) k (Count loop) v
+  count_means (Alone fact) (Alone one) loop t u alike fits left (is_fact means) =
+      let constant = constant_means m act fact v (pos loop.count) t means in
+      let some : 1 ≤ loop.count = fits.some in
+      subst (λ (x : Option ℤ). MeansWord m (with_turns turns act) k (Count loop) x) (sym constant.1)
       (is_count (omega arith) (omega arith) (ap (λ (n : ℕ). pos n) (sym left)) constant.0)
-  count_means (Count other n w) (Index index number price) base count weight t u alike loop left means = under_way v means
+  count_means (Count other) (Index index) loop t u alike fits left means = under_way v means
     where
-      under_way : (u : Option ℤ) → MeansWord m act k (Count other n w) u → MeansWord m (with_turns turns act) k (Count base count weight) u
+      under_way : (u : Option ℤ) → MeansWord m act k (Count other) u → MeansWord m (with_turns turns act) k (Count loop) u
       under_way None known = elim known [ ]
       under_way (Some x) (is_count some most is fits) =
-          let same = same_loop other base n count w weight t in
-          let all : n ≡ count = same.1 in
+          let same = same_loop other loop t in
+          let all : other.count ≡ loop.count = same.1 in
           is_count (omega arith) (omega arith) (is ∙ ap (λ (c : ℕ). pos c) (sym left)) fits
-  count_means said first base count weight t u alike loop left means = absurd (cc)
+  count_means said first loop t u alike fits left means = absurd (cc)
 
 -- ---- entries
 
@@ -179,9 +185,9 @@ entries_said facts (entry ∷ entries) k t =
     ]
 
 -- what rises behind a word says nothing of words before
-index_behind : (low : ℤ) (entries : List Entry) (k base : ℤ) (count weight : ℕ) → rise_from low entries ≡ true → entry_fact entries k ≡ Index base count weight → low ≤ℤ k
-index_behind low [] k base count weight rise h = absurd (cc)
-index_behind low (entry ∷ entries) k base count weight rise h =
+index_behind : (low : ℤ) (entries : List Entry) (k : ℤ) (loop : CountedLoop) → rise_from low entries ≡ true → entry_fact entries k ≡ Index loop → low ≤ℤ k
+index_behind low [] k loop rise h = absurd (cc)
+index_behind low (entry ∷ entries) k loop rise h =
     let parts = rise-parts low entry entries rise in
     let below : low ≤ℤ entry.word = parts.0 in
     elim (bool_cases (is_about entry k)) [
@@ -190,63 +196,61 @@ index_behind low (entry ∷ entries) k base count weight rise h =
           let here : entry.word ≤ℤ k = le-from entry.word k place.0 in
           omega (arith, ints)
       | inr e ↦
-          let behind : end_of entry ≤ℤ k = index_behind (end_of entry) entries k base count weight parts.1 (sym (entry_later entry entries k e) ∙ h) in
+          let behind : end_of entry ≤ℤ k = index_behind (end_of entry) entries k loop parts.1 (sym (entry_later entry entries k e) ∙ h) in
           omega (arith, ints)
     ]
 
 -- only the second word of a loop's entry is a count
-count_of : (fact : Fact) (first : Bool) (base : ℤ) (count weight : ℕ) → said_of fact first ≡ Count base count weight → (fact ≡ Loop base count weight) × (first ≡ false)
-count_of (Loop b n w) false base count weight h =
-    let one : b ≡ base = cc in
-    let two : n ≡ count = cc in
-    let three : w ≡ weight = cc in
-    (cc, refl)
-count_of (Loop b n w) true base count weight h = absurd (cc)
-count_of Unknown first base count weight h = absurd (cc)
-count_of (Number lo hi) first base count weight h = absurd (cc)
-count_of (Pointer region lo hi step) first base count weight h = absurd (cc)
-count_of (CodeAddress offset) first base count weight h = absurd (cc)
-count_of ReturnAddress first base count weight h = absurd (cc)
+count_of : (fact : Fact) (first : Bool) (loop : CountedLoop) → said_of fact first ≡ Count loop
+    → (fact ≡ Loop loop.base loop.count loop.weight) × (first ≡ false)
+count_of (Loop b n w) false loop h = (cc, refl)
+count_of (Loop b n w) true loop h = absurd (cc)
+count_of Unknown first loop h = absurd (cc)
+count_of (Number lo hi) first loop h = absurd (cc)
+count_of (Pointer region lo hi step) first loop h = absurd (cc)
+count_of (CodeAddress offset) first loop h = absurd (cc)
+count_of ReturnAddress first loop h = absurd (cc)
 
 -- the word before the count of a loop
-record HasIndex (facts : Facts) (entries : List Entry) (k base : ℤ) (count weight : ℕ) : Type 0 where
-  index : entry_fact entries (k -ℤ pos 1) ≡ Index base count weight
+record HasIndex (facts : Facts) (entries : List Entry) (k : ℤ) (loop : CountedLoop) : Type 0 where
+  index : entry_fact entries (k -ℤ pos 1) ≡ Index loop
   alike : are_alike (is_alone (facts (k -ℤ pos 1))) (is_alone (facts k)) ≡ true
 
-count_behind_index : (facts : Facts) (low : ℤ) (entries : List Entry) (k base : ℤ) (count weight : ℕ) → rise_from low entries ≡ true → ArePairs entries → list_all (is_whole facts) entries ≡ true
-    → entry_fact entries k ≡ Count base count weight → HasIndex facts entries k base count weight
-count_behind_index facts low [] k base count weight rise pairs whole h = absurd (cc)
-count_behind_index facts low (entry ∷ entries) k base count weight rise pairs whole h =
+count_behind_index : (facts : Facts) (low : ℤ) (entries : List Entry) (k : ℤ) (loop : CountedLoop) → rise_from low entries ≡ true → ArePairs entries → list_all (is_whole facts) entries ≡ true
+    → entry_fact entries k ≡ Count loop → HasIndex facts entries k loop
+count_behind_index facts low [] k loop rise pairs whole h = absurd (cc)
+count_behind_index facts low (entry ∷ entries) k loop rise pairs whole h =
     let both = and-parts (is_whole facts entry) (list_all (is_whole facts) entries) whole in
     let parts = rise-parts low entry entries rise in
     elim (bool_cases (is_about entry k)) [
-      | inl e ↦ here e (count_of entry.fact (is_word entry.word k) base count weight (sym (entry_here entry entries k e) ∙ h)) both.0
+      | inl e ↦ here e (count_of entry.fact (is_word entry.word k) loop (sym (entry_here entry entries k e) ∙ h)) both.0
       | inr e ↦
-          let later = count_behind_index facts (end_of entry) entries k base count weight parts.1 pairs.1 both.1 (sym (entry_later entry entries k e) ∙ h) in
-          let behind : end_of entry ≤ℤ (k -ℤ pos 1) = index_behind (end_of entry) entries (k -ℤ pos 1) base count weight parts.1 later.index in
+          let later = count_behind_index facts (end_of entry) entries k loop parts.1 pairs.1 both.1 (sym (entry_later entry entries k e) ∙ h) in
+          let behind : end_of entry ≤ℤ (k -ℤ pos 1) = index_behind (end_of entry) entries (k -ℤ pos 1) loop parts.1 later.index in
           record { index = entry_later entry entries (k -ℤ pos 1) (about-behind entry (k -ℤ pos 1) behind) ∙ later.index; alike = later.alike }
     ]
   where
-    here : is_about entry k ≡ true → (entry.fact ≡ Loop base count weight) × (is_word entry.word k ≡ false) → is_whole facts entry ≡ true → HasIndex facts (entry ∷ entries) k base count weight
-    here e loop alike =
+    here : is_about entry k ≡ true → (entry.fact ≡ Loop loop.base loop.count loop.weight) × (is_word entry.word k ≡ false)
+        → is_whole facts entry ≡ true → HasIndex facts (entry ∷ entries) k loop
+    here e known alike =
         let place = and-parts (int_le entry.word k) (int_lt k (entry.word +ℤ pos entry.span)) e in
         let low' : entry.word ≤ℤ k = le-from entry.word k place.0 in
         let high : k <ℤ (entry.word +ℤ pos entry.span) = lt-from k (entry.word +ℤ pos entry.span) place.1 in
-        let two : entry.span ≡ 2 = subst (λ (f : Fact). IsSpan entry.span f) loop.0 pairs.0 in
+        let two : entry.span ≡ 2 = subst (λ (f : Fact). IsSpan entry.span f) known.0 pairs.0 in
         elim (word_test entry.word k) [
-          | inl p ↦ let no' : true ≡ false = sym p.0 ∙ loop.1 in absurd (cc)
+          | inl p ↦ let no' : true ≡ false = sym p.0 ∙ known.1 in absurd (cc)
           | inr p ↦
               let second : k ≡ entry.word +ℤ pos 1 = next low' high two p.1 in
               let first : k -ℤ pos 1 ≡ entry.word = omega (arith, ints) in
               record {
                 index =
                     entry_here entry entries (k -ℤ pos 1) (about-within entry (k -ℤ pos 1) (omega (arith, ints)) (omega (arith, ints)))
-                    ∙ ap (λ (f : Fact). said_of f (is_word entry.word (k -ℤ pos 1))) loop.0
-                    ∙ ap (λ (b : Bool). said_of (Loop base count weight) b) (is_same first);
+                    ∙ ap (λ (f : Fact). said_of f (is_word entry.word (k -ℤ pos 1))) known.0
+                    ∙ ap (λ (b : Bool). said_of (Loop loop.base loop.count loop.weight) b) (is_same first);
                 alike =
                     ap (λ (j : ℤ). are_alike (is_alone (facts j)) (is_alone (facts k))) first
                     ∙ ap (λ (j : ℤ). are_alike (is_alone (facts entry.word)) (is_alone (facts j))) second
-                    ∙ subst (λ (f : Fact). (elim f as (λ f. Bool) [ Loop b n w ↦ are_alike (is_alone (facts entry.word)) (is_alone (facts (entry.word +ℤ pos 1))) | _ ↦ true ]) ≡ true) loop.0 alike;
+                    ∙ subst (λ (f : Fact). (elim f as (λ f. Bool) [ Loop b n w ↦ are_alike (is_alone (facts entry.word)) (is_alone (facts (entry.word +ℤ pos 1))) | _ ↦ true ]) ≡ true) known.0 alike;
               }
         ]
       where
@@ -272,15 +276,15 @@ label_words m act facts t k v row pairs hold whole means = on_fact (entry_fact t
     on_fact : (f : WordFact) → entry_fact t.entries k ≡ f → MeansWord m (with_turns turns act) k (entry_fact t.entries k) v
     on_fact (Alone wanted) e =
         means_same (alone_means m act turns k v (facts k) wanted (ap (says (facts k)) (sym e) ∙ entries_said facts t.entries k hold) means) (sym e) refl
-    on_fact (Index base count weight) e =
+    on_fact (Index loop) e =
         means_same
-        (index_means m act turns k v (facts k) base count weight (ap (says (facts k)) (sym e) ∙ entries_said facts t.entries k hold) (subst LoopFits e (row.loops k))
+        (index_means m act turns k v (facts k) loop (ap (says (facts k)) (sym e) ∙ entries_said facts t.entries k hold) (subst LoopFits e (row.loops k))
         (ap (λ (f : WordFact). turns_from (facts k) f (act.turns k)) e) means) (sym e) refl
-    on_fact (Count base count weight) e =
-        let before = count_behind_index facts least_word t.entries k base count weight row.apart pairs whole e in
+    on_fact (Count loop) e =
+        let before = count_behind_index facts least_word t.entries k loop row.apart pairs whole e in
         let j = k -ℤ pos 1 in
         means_same
-        (count_means m act turns k v (facts k) (facts j) base count weight (ap (says (facts k)) (sym e) ∙ entries_said facts t.entries k hold) (ap (says (facts j)) (sym before.index) ∙ entries_said facts t.entries j hold)
+        (count_means m act turns k v (facts k) (facts j) loop (ap (says (facts k)) (sym e) ∙ entries_said facts t.entries k hold) (ap (says (facts j)) (sym before.index) ∙ entries_said facts t.entries j hold)
         before.alike (subst LoopFits e (row.loops k)) (ap (λ (f : WordFact). turns_from (facts j) f (act.turns j)) before.index) means) (sym e) refl
 
 -- what a state that is below a label has
@@ -321,11 +325,11 @@ below_tells s t price h = first (ltb s.number (cost s t)) refl h
     not_below : (m n : ℕ) → ltb m n ≡ false → n ≤ m
     not_below m n e = elim (leb_tells (suc m) n) [ inl p ↦ let no' : true ≡ false = sym p.0 ∙ e in absurd (cc) | inr p ↦ let high : n < suc m = p.1 in omega arith ]
 
-    second : (b : Bool) → agrees s t ≡ b → ◌≡◌ {A = Result ℕ ℕ} (if b then Ok (cost s t) else Err 16) (Ok price) → IsBelow s t
+    second : (b : Bool) → agrees s t ≡ b → ◌≡◌ {A = Result ℕ Rule} (if b then Ok (cost s t) else Err rules.Label) (Ok price) → IsBelow s t
     second true e g = agrees_tells s t e
     second false e g = absurd (cc)
 
-    first : (b : Bool) → ltb s.number (cost s t) ≡ b → ◌≡◌ {A = Result ℕ ℕ} (if b then Err 15 else (if agrees s t then Ok (cost s t) else Err 16)) (Ok price) → (t.number ≤ s.number) × IsBelow s t
+    first : (b : Bool) → ltb s.number (cost s t) ≡ b → ◌≡◌ {A = Result ℕ Rule} (if b then Err rules.Budget else (if agrees s t then Ok (cost s t) else Err rules.Label)) (Ok price) → (t.number ≤ s.number) × IsBelow s t
     first true e g = absurd (cc)
     first false e g = let paid : cost s t ≤ s.number = not_below s.number (cost s t) e in (omega arith, second (agrees s t) refl g)
 
@@ -337,8 +341,8 @@ nothing_said (Alone (Pointer region lo hi step)) h = absurd (cc)
 nothing_said (Alone (CodeAddress offset)) h = absurd (cc)
 nothing_said (Alone (Loop base count weight)) h = absurd (cc)
 nothing_said (Alone ReturnAddress) h = absurd (cc)
-nothing_said (Index base count weight) h = absurd (cc)
-nothing_said (Count base count weight) h = absurd (cc)
+nothing_said (Index loop) h = absurd (cc)
+nothing_said (Count loop) h = absurd (cc)
 
 -- what holds behind an instruction holds as the label's state, where the state is below the label
 pub label_after : (m : Contents) (h : Holding) (mode : machine.Mode) (act : Activation) (s : State) (t : Label) (l : Local) → IsWellFormed m → (at : ℕ) → label_at m at ≡ Some t → IsBelow s t

@@ -1,7 +1,6 @@
 pub mod LabelRows
 pub mod Steps
-pub mod Unruled
-pub mod Numbers
 pub mod Words
+pub mod Results
 pub mod Entering
 pub mod Local

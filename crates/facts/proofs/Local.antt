@@ -1,15 +1,15 @@
 -- The rule of an instruction and its step fit each other: where the rule is not broken, the step is no fault, and what the rule says of the state behind holds.
-use Rattle.std.proofs.Common.{lit<, ◌≡◌, ℕ, ◌+◌, ◌-◌, ◌^◌, ◌≤◌, ◌<◌, ℤ, pos, negsuc, ◌+ℤ◌, ◌≤ℤ◌, FitsSigned, Bool, true, false, cond, if◌then◌else◌, ◌&&◌, ◌||◌, suc, inl, inr, length, Option, Some, None, Result, Ok, Err, refl, sym, ap, ◌∙◌, subst, arith, ltb}
+use Rattle.std.proofs.Common.{lit<, ◌≡◌, ℕ, ◌+◌, ◌-◌, ◌≤◌, ◌<◌, ℤ, pos, negsuc, ◌+ℤ◌, FitsSigned, Bool, true, false, cond, if◌then◌else◌, ◌&&◌, ◌||◌, suc, inl, inr, length, Option, Some, None, Result, Ok, Err, refl, sym, ap, ◌∙◌, subst, arith, ltb}
 use Rattle.std.proofs.lemmas.Bool.Decides.{leb_tells}
 use Rattle.std.proofs.lemmas.Int.{ints}
 use Rattle.std.specs.Int.{w32}
 use Rattle.std.specs.List.{list_any}
 use Rattle.prefix_decoder.specs.declared.function.Fun.{Fun}
-use Rattle.prefix_decoder.specs.declared.function.Fun.TheVariants as fun
+use Rattle.word_arithmetic.specs.declared.binary.Binary.{Binary as BinaryOperation}
+use Rattle.word_arithmetic.specs.Word.{least_word}
 use Rattle.module_format.specs.declared.fact.Fact.{Fact}
 use Rattle.module_format.specs.declared.fact.Fact.TheVariants.{Unknown, Number, Pointer, CodeAddress, Loop, ReturnAddress}
 use Rattle.module_format.specs.Contents.{Contents, Label, label_at}
-use Rattle.module_format.specs.Order.{least_word}
 use Rattle.module_format.specs.Contents.{Par, Branch}
 use Rattle.certificate.specs.Branches.{numbered_branch}
 use Rattle.certificate.specs.Rights as rights
@@ -17,17 +17,23 @@ use Rattle.machine_state.specs.declared.process.Registers.{Registers}
 use Rattle.machine_state.specs.declared.process.Mode as machine
 use Rattle.machine_state.specs.declared.process.Mode.TheVariants as machine_modes
 use Rattle.machine_state.specs.declared.op.Op.{Op}
-use Rattle.machine_state.specs.declared.op.Op.TheVariants.{Reverse, StopProcess, MinimumInteger}
+use Rattle.machine_state.specs.declared.op.Op.TheVariants as operations
+use Rattle.machine_state.specs.declared.instruction.Instruction.{Instruction}
+use Rattle.machine_state.specs.declared.instruction.Instruction.TheVariants as instructions
+use Rattle.machine_state.specs.Instructions.{instruction_of}
+use Rattle.machine_state.specs.declared.fault.FaultKind.TheVariants.{OutsideCode}
 use Rattle.machine_state.specs.Memory.{Memory, place_of, local_address, word_at, with_word}
 use Rattle.machine_state.specs.Holding.{Holding, covers, may_write, may_read, may_write_word, may_read_word}
 use Rattle.machine_state.specs.Frame.{ChangesOwn}
 use Rattle.machine_state.specs.LocalStep as step
-use Rattle.machine_state.specs.LocalStep.{Outcome, goes, lands, stops, fails, Local, fits_word, target}
+use Rattle.machine_state.specs.LocalStep.{Outcome, goes, lands, stops, fails, Local, target}
 use Rattle.machine_state.proofs.Reading.{length-with_word}
 use Rattle.machine_state.proofs.Frame.{write_is_own, changes_more}
 use Rattle.states.specs.declared.known.Mode as states
 use Rattle.states.specs.declared.known.Mode.TheVariants as states_modes
 use Rattle.states.specs.declared.known.Known.{Known}
+use Rattle.states.specs.declared.rule.Rule.{Rule}
+use Rattle.states.specs.declared.rule.Rule.TheVariants as rules
 use Rattle.states.specs.State.{State, written, known}
 use Rattle.states.specs.Below.{below}
 use Rattle.states.proofs.RowFacts.{and-parts}
@@ -36,26 +42,11 @@ use Rattle.facts.specs.Rules.{Ruling, falls, leads, ends, breaks}
 use Rattle.facts.specs.Meaning.{Activation, Means, says_nothing, is_number, IsOwnWord, HasFrame, Knows, IsWellFormed, SameMode, both_plain, label_turns}
 use Rattle.facts.specs.Fitting.{After, Here, rule_site, step_site, Fits, it_falls, it_leads, it_ends, it_breaks, HasNext, RulesFitSteps}
 use Rattle.facts.proofs.Words.{local_place, frame_word_is, knows_written, means_same, stored_means, plain_means}
+use Rattle.facts.proofs.Results.{ResultMeans, result_means, unary_result_means}
 use Rattle.facts.proofs.Entering.{below_tells, label_after}
 
 abbrev pub FitsIf : Here → Ruling → Outcome → Type 0
 FitsIf x r o = HasNext x r → Fits x r o
-
--- the test says what it should
-word_fits : (a : ℤ) → fits_word a ≡ true → FitsSigned w32 a
-word_fits (pos n) t = elim (leb_tells (suc n) (2 ^ 31)) [ inl p ↦ let low : n < 2 ^ 31 = p.1 in omega (arith, ints) | inr p ↦ let no' : true ≡ false = sym t ∙ p.0 in absurd (cc) ]
-word_fits (negsuc n) t = elim (leb_tells (suc n) (2 ^ 31)) [ inl p ↦ let low : n < 2 ^ 31 = p.1 in omega (arith, ints) | inr p ↦ let no' : true ≡ false = sym t ∙ p.0 in absurd (cc) ]
-
-fits_or_not : (a : ℤ) → FitsSigned w32 a → fits_word a ≡ false → ⊥
-fits_or_not (pos n) fits t = elim (leb_tells (suc n) (2 ^ 31)) [ inl p ↦ let no' : true ≡ false = sym p.0 ∙ t in (cc) | inr p ↦ let high : 2 ^ 31 ≤ n = omega (arith, p.1) in omega (arith, ints) ]
-fits_or_not (negsuc n) fits t = elim (leb_tells (suc n) (2 ^ 31)) [ inl p ↦ let no' : true ≡ false = sym p.0 ∙ t in (cc) | inr p ↦ let high : 2 ^ 31 ≤ n = omega (arith, p.1) in omega (arith, ints) ]
-
--- what lies between two words is a word
-between_fits : (lo a hi : ℤ) → fits_word lo ≡ true → fits_word hi ≡ true → lo ≤ℤ a → a ≤ℤ hi → FitsSigned w32 a
-between_fits lo a hi p q low high =
-    let f : FitsSigned w32 lo = word_fits lo p in
-    let g : FitsSigned w32 hi = word_fits hi q in
-    omega (arith, ints)
 
 or_true : (a b : Bool) → a ≡ true → (a || b) ≡ true
 or_true true b h = refl
@@ -124,7 +115,7 @@ module _ (x : Here) where
   -- ---- one lemma for each pair of combinators
 
   uses_fact : (fact : Fact) (v : Option ℤ) (r : Ruling) (o : ℤ → Outcome) → Means x.m x.act fact v → ((a : ℤ) → Means x.m x.act fact (Some a) → FitsIf x r (o a))
-      → FitsIf x (elim fact as (λ f. Ruling) [ Unknown ↦ breaks 4 | _ ↦ r ]) (step.uses v o)
+      → FitsIf x (elim fact as (λ f. Ruling) [ Unknown ↦ breaks rules.UnknownRegister | _ ↦ r ]) (step.uses v o)
   unfolding step.uses
   uses_fact Unknown v r o means go = λ next. it_breaks
   uses_fact (Number lo hi) None r o means go = elim means [ ]
@@ -140,21 +131,6 @@ module _ (x : Here) where
   uses_fits : (k : Known) (v : Option ℤ) (r : Fact → Ruling) (o : ℤ → Outcome) → Means x.m x.act k.fact v → ((a : ℤ) → Means x.m x.act k.fact (Some a) → FitsIf x (r k.fact) (o a)) → FitsIf x (rule.uses k r) (step.uses v o)
   unfolding rule.uses
   uses_fits k v r o means go = uses_fact k.fact v (r k.fact) o means go
-
-  number_fits : (fact : Fact) (a : ℤ) (r : ℤ → ℤ → Ruling) (o : Outcome) → Means x.m x.act fact (Some a) → ((lo hi : ℤ) → lo ≤ℤ a → a ≤ℤ hi → FitsSigned w32 a → FitsIf x (r lo hi) o) → FitsIf x (rule.number fact r) o
-  unfolding rule.number
-  number_fits (Number lo hi) a r o (is_number low high fits) go = go lo hi low high fits
-  number_fits fact a r o means go = λ next. it_breaks
-
-  in_word_fits : (lo hi e a : ℤ) (r : Fact → Ruling) (o : ℤ → Outcome) → lo ≤ℤ a → a ≤ℤ hi → (Means x.m x.act (Number (lo +ℤ e) (hi +ℤ e)) (Some (a +ℤ e)) → FitsIf x (r (Number (lo +ℤ e) (hi +ℤ e))) (o (a +ℤ e)))
-      → FitsIf x (rule.in_word (lo +ℤ e) (hi +ℤ e) r) (step.in_word (a +ℤ e) o)
-  unfolding rule.in_word step.in_word
-  in_word_fits lo hi e a r o low high go =
-      on_rule_test (fits_word (lo +ℤ e) && fits_word (hi +ℤ e)) _ _ _
-      (λ t. let p = and-parts _ _ t in
-      let fits : FitsSigned w32 (a +ℤ e) = between_fits (lo +ℤ e) (a +ℤ e) (hi +ℤ e) p.0 p.1 (omega (arith, ints)) (omega (arith, ints)) in
-      on_step_test (fits_word (a +ℤ e)) _ _ _ (λ u. go (is_number (omega (arith, ints)) (omega (arith, ints)) fits)) (λ u. absurd (fits_or_not (a +ℤ e) fits u)))
-      (λ t next. it_breaks)
 
   -- the frame's word at depth + e, which is written
   writes_word_fits : (s : State) (e : ℤ) (r : Ruling) (o : Outcome) → (rights.may_write_word x.m s.context (s.depth +ℤ e) ≡ true → FitsIf x r o) → FitsIf x (rule.writes_word (rule_site x) s (s.depth +ℤ e) r) o
@@ -239,9 +215,9 @@ module _ (x : Here) where
   leads_fits wf to s l a changes n =
       on_label (label_at x.m to) refl
     where
-      on_below : (t : Label) → label_at x.m to ≡ Some t → (b : Result ℕ ℕ) → below s t ≡ b
-          → FitsIf x (elim b as (λ b. Ruling) [ Ok cost ↦ leads to | Err v ↦ breaks v ]) (if ltb to (length x.m.code) then lands to l else fails 3)
-      on_below t e (Err v) is = λ next. it_breaks
+      on_below : (t : Label) → label_at x.m to ≡ Some t → (b : Result ℕ Rule) → below s t ≡ b
+          → FitsIf x (elim b as (λ b. Ruling) [ Ok cost ↦ leads to | Err broken ↦ breaks broken ]) (if ltb to (length x.m.code) then lands to l else fails OutsideCode)
+      on_below t e (Err broken) is = λ next. it_breaks
       on_below t e (Ok cost) is =
           let low = wf.labels to t e in
           let g = below_tells s t cost is in
@@ -250,7 +226,7 @@ module _ (x : Here) where
           (λ u. absurd (below_not to (length x.m.code) low u))
 
       on_label : (o : Option Label) → label_at x.m to ≡ o
-          → FitsIf x (elim o as (λ o. Ruling) [ None ↦ breaks 16 | Some t ↦ elim (below s t) as (λ b. Ruling) [ Ok cost ↦ leads to | Err v ↦ breaks v ] ]) (if ltb to (length x.m.code) then lands to l else fails 3)
+          → FitsIf x (elim o as (λ o. Ruling) [ None ↦ breaks rules.Label | Some t ↦ elim (below s t) as (λ b. Ruling) [ Ok cost ↦ leads to | Err broken ↦ breaks broken ] ]) (if ltb to (length x.m.code) then lands to l else fails OutsideCode)
       on_label None e = λ next. it_breaks
       on_label (Some t) e = on_below t e (below s t) refl
 
@@ -283,8 +259,8 @@ module _ (x : Here) where
           same_mode = a.same_mode;
         }) changes n
 
-    ldl_fits : (e : ℤ) → FitsSigned w32 e → FitsIf x (rule.rule (rule_site x) fun.LoadLocal e s) (step.local_step (step_site x) fun.LoadLocal e l)
-    unfolding rule.rule step.local_step
+    ldl_fits : (e : ℤ) → FitsSigned w32 e → FitsIf x (rule.instruction_rule (rule_site x) instructions.LoadLocal e s) (step.instruction_step (step_site x) instructions.LoadLocal e l)
+    unfolding rule.instruction_rule step.instruction_step
     ldl_fits e fits =
         beside_plain_rule s a.same_mode _ _ (beside_plain_step s a.same_mode _ _ (reads_word_fits s e _ _ (λ t.
         let w = a.frame.readable (s.depth +ℤ e) t in
@@ -302,8 +278,8 @@ module _ (x : Here) where
           same_mode = a.same_mode;
         }) changes n))))
 
-    stl_fits : (e : ℤ) → FitsSigned w32 e → FitsIf x (rule.rule (rule_site x) fun.StoreLocal e s) (step.local_step (step_site x) fun.StoreLocal e l)
-    unfolding rule.rule step.local_step written
+    stl_fits : (e : ℤ) → FitsSigned w32 e → FitsIf x (rule.instruction_rule (rule_site x) instructions.StoreLocal e s) (step.instruction_step (step_site x) instructions.StoreLocal e l)
+    unfolding rule.instruction_rule step.instruction_step written
     stl_fits e fits =
         in_plain_step s a.same_mode _ _ (uses_fits s.a l.registers.a _ _ a.knows.a (λ v means.
         in_plain_rule s a.same_mode _ _ (beside_plain_rule s a.same_mode _ _ (writes_word_fits s e _ _ (λ t.
@@ -315,26 +291,37 @@ module _ (x : Here) where
           same_mode = b.same_mode;
         }) c n))))))
 
-    adc_fits : (e : ℤ) → FitsSigned w32 e → FitsIf x (rule.rule (rule_site x) fun.AddConstant e s) (step.local_step (step_site x) fun.AddConstant e l)
-    unfolding rule.rule step.local_step
-    adc_fits e fits =
-        in_plain_step s a.same_mode _ _ (uses_fits s.a l.registers.a _ _ a.knows.a (λ v means.
-        number_fits s.a.fact v _ _ means (λ lo hi low high word.
-        in_word_fits lo hi e v _ _ low high (λ sum.
-        in_plain_rule s a.same_mode _ _ (beside_plain_rule s a.same_mode _ _
-        (goes_on_fits (rule.with_a (known (Number (lo +ℤ e) (hi +ℤ e))) s) (step.with_a (v +ℤ e) l)
+    -- what A becomes
+    becomes_fits : (s' : State) (l' : Local) (fact : Option Fact) (result : Option ℤ) → After x.m x.h x.mode x.act s' l'
+        → ChangesOwn x.h x.memory l'.memory → s'.number ≡ x.number → ResultMeans x.m x.act fact result
+        → FitsIf x (rule.becomes (rule_site x) fact s') (step.computes result (λ v. step.goes_on (step_site x) (step.with_a v l')))
+    unfolding rule.becomes step.computes
+    becomes_fits s' l' None result b c e means = λ next. it_breaks
+    becomes_fits s' l' (Some f) None b c e means = absurd means
+    becomes_fits s' l' (Some f) (Some v) b c e means =
+        in_plain_rule s' b.same_mode _ _ (beside_plain_rule s' b.same_mode _ _
+        (goes_on_fits (rule.with_a (known f) s') (step.with_a v l')
         (record {
-          frame = a.frame;
-          knows = record { a = sum; b = a.knows.b; c = a.knows.c; words = a.knows.words; within = a.knows.within };
-          same_mode = a.same_mode;
-        }) changes n))))))
+          frame = b.frame;
+          knows = record { a = means; b = b.knows.b; c = b.knows.c; words = b.knows.words; within = b.knows.within };
+          same_mode = b.same_mode;
+        }) c e))
+
+    constant_fits : (op : BinaryOperation) (e : ℤ) → FitsSigned w32 e
+        → FitsIf x (rule.instruction_rule (rule_site x) (instructions.WithConstant op) e s)
+        (step.instruction_step (step_site x) (instructions.WithConstant op) e l)
+    unfolding rule.instruction_rule step.instruction_step
+    constant_fits op e fits =
+        in_plain_step s a.same_mode _ _ (uses_fits s.a l.registers.a _ _ a.knows.a (λ v means.
+        becomes_fits s l _ _ a changes n
+        (result_means x.m x.act op s.a.fact (Number e e) v e means (is_number (omega (arith, ints)) (omega (arith, ints)) fits))))
 
     pays_fits : (s' : State) (r : State → Ruling) (o : Outcome) → s'.number ≡ s.number → (s'.number - x.len + x.len ≡ x.number → FitsIf x (r (record s' { number = s'.number - x.len })) o) → FitsIf x (rule.pays (rule_site x) s' r) o
     unfolding rule.pays
     pays_fits s' r o e go = on_rule_test (ltb s'.number x.len) _ _ _ (λ t next. it_breaks) (λ t. go (enough s'.number x.len x.number t (e ∙ n)))
 
-    j_fits : (e : ℤ) → FitsSigned w32 e → FitsIf x (rule.rule (rule_site x) fun.Jump e s) (step.local_step (step_site x) fun.Jump e l)
-    unfolding rule.rule step.local_step rule.forward
+    j_fits : (e : ℤ) → FitsSigned w32 e → FitsIf x (rule.instruction_rule (rule_site x) instructions.Jump e s) (step.instruction_step (step_site x) instructions.Jump e l)
+    unfolding rule.instruction_rule step.instruction_step rule.forward
     j_fits (negsuc k) fits = in_plain_rule s a.same_mode _ _ (λ next. it_breaks)
     j_fits (pos k) fits =
         in_plain_step s a.same_mode _ _ (in_plain_rule s a.same_mode _ _ (beside_plain_rule s a.same_mode _ _
@@ -347,10 +334,9 @@ module _ (x : Here) where
           same_mode = b.same_mode;
         }) c left)))))
 
-    operation_fits : (op : Option Op) → FitsIf x (rule.operation_rule (rule_site x) op s) (step.operation_step (step_site x) op l)
+    operation_fits : (op : Op) → FitsIf x (rule.operation_rule (rule_site x) op s) (step.operation_step (step_site x) op l)
     unfolding rule.operation_rule step.operation_step
-    operation_fits None = λ next. it_breaks
-    operation_fits (Some Reverse) =
+    operation_fits operations.Reverse =
         in_plain_step s a.same_mode _ _ (in_plain_rule s a.same_mode _ _ (beside_plain_rule s a.same_mode _ _
         (goes_on_fits (rule.reverse s) (step.reverse l)
         (record {
@@ -358,28 +344,44 @@ module _ (x : Here) where
           knows = record { a = a.knows.b; b = a.knows.a; c = a.knows.c; words = a.knows.words; within = a.knows.within };
           same_mode = a.same_mode;
         }) changes n)))
-    operation_fits (Some MinimumInteger) =
+    operation_fits operations.MinimumInteger =
         beside_plain_rule s a.same_mode _ _ (beside_plain_step s a.same_mode _ _ (ldc_fits least_word (record { sfits = lit< tt })))
-    operation_fits (Some StopProcess) =
+    operation_fits operations.StopProcess =
         in_plain_step s a.same_mode _ _ (in_plain_rule s a.same_mode _ _ (beside_plain_rule s a.same_mode _ _
         (schedules_fits s l _ _ a changes (λ s' memory b c e. pays_fits s' _ _ e (λ left next. it_ends c (omega arith))))))
+    operation_fits (operations.Binary op) =
+        in_plain_step s a.same_mode _ _ (uses_fits s.a l.registers.a _ _ a.knows.a (λ v means.
+        uses_fits s.b l.registers.b _ _ a.knows.b (λ u other.
+        becomes_fits (rule.pop s) (step.pop l) _ _
+        (record {
+          frame = a.frame;
+          knows = record { a = a.knows.b; b = a.knows.c; c = says_nothing; words = a.knows.words; within = a.knows.within };
+          same_mode = a.same_mode;
+        }) changes n (result_means x.m x.act op s.b.fact s.a.fact u v other means))))
+    operation_fits (operations.Unary op) =
+        in_plain_step s a.same_mode _ _ (uses_fits s.a l.registers.a _ _ a.knows.a (λ v means.
+        becomes_fits s l _ _ a changes n (unary_result_means x.m x.act op s.a.fact v means)))
 
-    pub instruction_fits : (f : Fun) (e : ℤ) → FitsSigned w32 e → FitsIf x (rule.rule (rule_site x) f e s) (step.local_step (step_site x) f e l)
+    instruction_fits : (i : Instruction) (e : ℤ) → FitsSigned w32 e
+        → FitsIf x (rule.instruction_rule (rule_site x) i e s) (step.instruction_step (step_site x) i e l)
+    unfolding rule.instruction_rule step.instruction_step
+    instruction_fits instructions.LoadConstant e fits = ldc_fits e fits
+    instruction_fits instructions.LoadLocal e fits = ldl_fits e fits
+    instruction_fits instructions.StoreLocal e fits = stl_fits e fits
+    instruction_fits (instructions.WithConstant op) e fits = constant_fits op e fits
+    instruction_fits instructions.Jump e fits = j_fits e fits
+    instruction_fits (instructions.Operate op) e fits = operation_fits op
+
+    option_fits : (i : Option Instruction) (e : ℤ) → FitsSigned w32 e
+        → FitsIf x (rule.rule_of (rule_site x) i e s) (step.step_of (step_site x) i e l)
+    unfolding rule.rule_of step.step_of
+    option_fits None e fits = λ next. it_breaks
+    option_fits (Some i) e fits = instruction_fits i e fits
+
+    pub function_fits : (f : Fun) (e : ℤ) → FitsSigned w32 e
+        → FitsIf x (rule.rule (rule_site x) f e s) (step.local_step (step_site x) f e l)
     unfolding rule.rule step.local_step
-    instruction_fits fun.LoadConstant e fits = ldc_fits e fits
-    instruction_fits fun.LoadLocal e fits = ldl_fits e fits
-    instruction_fits fun.StoreLocal e fits = stl_fits e fits
-    instruction_fits fun.AddConstant e fits = adc_fits e fits
-    instruction_fits fun.Jump e fits = j_fits e fits
-    instruction_fits fun.Operate e fits = operation_fits (step.op_of e)
-    instruction_fits fun.LoadLocalPointer e fits = λ next. it_breaks
-    instruction_fits fun.LoadNonLocal e fits = λ next. it_breaks
-    instruction_fits fun.LoadNonLocalPointer e fits = λ next. it_breaks
-    instruction_fits fun.Call e fits = λ next. it_breaks
-    instruction_fits fun.ConditionalJump e fits = λ next. it_breaks
-    instruction_fits fun.AdjustWorkspace e fits = λ next. it_breaks
-    instruction_fits fun.EqualsConstant e fits = λ next. it_breaks
-    instruction_fits fun.StoreNonLocal e fits = λ next. it_breaks
+    function_fits f e fits = option_fits (instruction_of f e) e fits
 
 pub rules_fit_steps : RulesFitSteps
-rules_fit_steps x s l f e wf a changes n fits next = instruction_fits x wf s l a changes n f e fits next
+rules_fit_steps x s l f e wf a changes n fits next = function_fits x wf s l a changes n f e fits next

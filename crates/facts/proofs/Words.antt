@@ -67,10 +67,10 @@ stored_means m act f v memory place inside means = elim (means_word m act f v me
 -- what is known of a word of a loop says this by itself
 pub itself_means : (m : Contents) (act : Activation) (k : ℤ) (f : WordFact) (v : Option ℤ) → MeansWord m act k f v → Means m act (by_itself f) v
 itself_means m act k (Alone f) v (is_fact means) = means
-itself_means m act k (Index base count weight) None means = elim means [ ]
-itself_means m act k (Index base count weight) (Some x) (is_index some most is fits) = is_number (omega (arith, ints)) (omega (arith, ints)) fits
-itself_means m act k (Count base count weight) None means = elim means [ ]
-itself_means m act k (Count base count weight) (Some x) (is_count some most is fits) = is_number (omega (arith, ints)) (omega (arith, ints)) fits
+itself_means m act k (Index loop) None means = elim means [ ]
+itself_means m act k (Index loop) (Some x) (is_index some most is fits) = is_number (omega (arith, ints)) (omega (arith, ints)) fits
+itself_means m act k (Count loop) None means = elim means [ ]
+itself_means m act k (Count loop) (Some x) (is_count some most is fits) = is_number (omega (arith, ints)) (omega (arith, ints)) fits
 
 -- what is handed out of it
 pub plain_means : (m : Contents) (act : Activation) (k : ℤ) (f : WordFact) (v : Option ℤ) → MeansWord m act k f v → Means m act (plain f) v

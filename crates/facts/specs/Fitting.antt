@@ -11,6 +11,7 @@ use Rattle.machine_state.specs.Holding.{Holding}
 use Rattle.machine_state.specs.Frame.{ChangesOwn}
 use Rattle.machine_state.specs.LocalStep as step
 use Rattle.machine_state.specs.LocalStep.{Outcome, goes, lands, stops, fails, Local}
+use Rattle.states.specs.declared.rule.Rule.{Rule}
 use Rattle.states.specs.State.{State, label_state}
 use Rattle.facts.specs.Rules as rule
 use Rattle.facts.specs.Rules.{Ruling, falls, leads, ends, breaks}
@@ -44,7 +45,7 @@ pub data Fits (x : Here) : Ruling → Outcome → Type 0 where
   it_falls : {s : State} {l : Local} → x.at + x.len < length x.m.code → After x.m x.h x.mode x.act s l → ChangesOwn x.h x.memory l.memory → s.number + x.len ≡ x.number → Fits x (falls s) (goes l)
   it_leads : {to : ℕ} {l : Local} {t : Label} (turns : ℤ → ℕ) → label_at x.m to ≡ Some t → to < length x.m.code → After x.m x.h x.mode (with_turns turns x.act) (label_state t) l → ChangesOwn x.h x.memory l.memory → t.number + x.len ≤ x.number → Fits x (leads to) (lands to l)
   it_ends : {l : Local} → ChangesOwn x.h x.memory l.memory → x.len ≤ x.number → Fits x ends (stops l)
-  it_breaks : {v : ℕ} {o : Outcome} → Fits x (breaks v) o
+  it_breaks : {broken : Rule} {o : Outcome} → Fits x (breaks broken) o
 
 -- what falls through has code behind it
 abbrev pub HasNext : Here → Ruling → Type 0

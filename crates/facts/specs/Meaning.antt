@@ -17,6 +17,7 @@ use Rattle.machine_state.specs.Holding.{Holding, may_write_word, may_read_word}
 use Rattle.machine_state.specs.World.{constants_start}
 use Rattle.states.specs.declared.known.Mode as states
 use Rattle.states.specs.declared.known.Mode.TheVariants as states_modes
+use Rattle.states.specs.declared.known.Loop.{Loop as CountedLoop}
 use Rattle.states.specs.declared.known.WordFact.{WordFact}
 use Rattle.states.specs.declared.known.WordFact.TheVariants.{Alone, Index, Count}
 use Rattle.states.specs.State.{State, Facts, entry_fact}
@@ -65,8 +66,10 @@ pub data Means (m : Contents) (act : Activation) : Fact → Option ℤ → Type 
 -- What is known of word k holds of its value: by itself; or it is the index of a loop that has c turns left, base + count - c; or the count of one, c.
 pub data MeansWord (m : Contents) (act : Activation) (k : ℤ) : WordFact → Option ℤ → Type 0 where
   is_fact : {fact : Fact} {v : Option ℤ} → Means m act fact v → MeansWord m act k (Alone fact) v
-  is_index : {base x : ℤ} {count weight : ℕ} → 1 ≤ act.turns k → act.turns k ≤ count → x ≡ base +ℤ pos count -ℤ pos (act.turns k) → FitsSigned w32 x → MeansWord m act k (Index base count weight) (Some x)
-  is_count : {base x : ℤ} {count weight : ℕ} → 1 ≤ act.turns (k -ℤ pos 1) → act.turns (k -ℤ pos 1) ≤ count → x ≡ pos (act.turns (k -ℤ pos 1)) → FitsSigned w32 x → MeansWord m act k (Count base count weight) (Some x)
+  is_index : {loop : CountedLoop} {x : ℤ} → 1 ≤ act.turns k → act.turns k ≤ loop.count
+      → x ≡ loop.base +ℤ pos loop.count -ℤ pos (act.turns k) → FitsSigned w32 x → MeansWord m act k (Index loop) (Some x)
+  is_count : {loop : CountedLoop} {x : ℤ} → 1 ≤ act.turns (k -ℤ pos 1) → act.turns (k -ℤ pos 1) ≤ loop.count
+      → x ≡ pos (act.turns (k -ℤ pos 1)) → FitsSigned w32 x → MeansWord m act k (Count loop) (Some x)
 
 pub means_unknown : (m : Contents) (act : Activation) (v : Option ℤ) → Means m act Unknown v
 means_unknown m act v = says_nothing
@@ -126,8 +129,8 @@ pub data SameMode : states.Mode → machine.Mode → Type 0 where
 
 -- the turns left of a loop where a label stands: those that it had, where it is under way, else all
 abbrev pub turns_from : WordFact → WordFact → ℕ → ℕ
-turns_from (Index b n w) wanted turns = turns
-turns_from said (Index base count weight) turns = count
+turns_from (Index loop) wanted turns = turns
+turns_from said (Index loop) turns = loop.count
 turns_from said wanted turns = turns
 
 -- what turns are left where these facts go on as those of a label

@@ -1,17 +1,27 @@
 -- The rule of each instruction: what it wants of the state before it, and what it leaves. The rules mirror the steps of the
--- machine, and their tests stand in rising order of the numbers told.
-use Rattle.std.specs.Prelude.{ℕ, ◌+◌, ◌-◌, nat_lt, Bool, true, false, ◌&&◌, if◌then◌else◌, is_some, ℤ, pos, negsuc, ◌+ℤ◌, Option, Some, None, Ok, Err}
+-- machine, and their tests stand in rising order of the numbers of rules.
+use Rattle.std.specs.Prelude.{ℕ, ◌+◌, ◌-◌, nat_lt, Bool, if◌then◌else◌, is_some, ℤ, pos, negsuc, ◌+ℤ◌, Option, Some, None, Ok, Err}
+use Rattle.std.specs.Option.{option_map}
 use Rattle.prefix_decoder.specs.declared.function.Fun.{Fun}
-use Rattle.prefix_decoder.specs.declared.function.Fun.TheVariants.{Jump, LoadConstant, LoadLocal, AddConstant, StoreLocal, Operate}
 use Rattle.prefix_decoder.specs.declared.decoding.Instr.{Instr}
+use Rattle.word_arithmetic.specs.declared.binary.Binary.{Binary as BinaryOperation}
+use Rattle.word_arithmetic.specs.declared.unary.Unary.{Unary as UnaryOperation}
+use Rattle.word_arithmetic.specs.Word.{least_word}
+use Rattle.word_arithmetic.specs.Range.{Ends, range_between}
+use Rattle.word_arithmetic.specs.Binary.{result_range}
+use Rattle.word_arithmetic.specs.Unary.{unary_result_range}
 use Rattle.module_format.specs.declared.fact.Fact.{Fact}
 use Rattle.module_format.specs.declared.fact.Fact.TheVariants.{Unknown, Number}
 use Rattle.module_format.specs.Contents.{Contents, label_at}
-use Rattle.module_format.specs.Order.{least_word}
 use Rattle.certificate.specs.Rights.{may_write_word, may_read_word}
 use Rattle.machine_state.specs.declared.op.Op.{Op}
-use Rattle.machine_state.specs.declared.op.Op.TheVariants.{Reverse, StopProcess, MinimumInteger}
-use Rattle.machine_state.specs.LocalStep.{op_of, fits_word, target}
+use Rattle.machine_state.specs.declared.op.Op.TheVariants.{Reverse, StopProcess, MinimumInteger, Binary, Unary}
+use Rattle.machine_state.specs.declared.instruction.Instruction.{Instruction}
+use Rattle.machine_state.specs.declared.instruction.Instruction.TheVariants.{Jump, LoadConstant, LoadLocal, StoreLocal, WithConstant, Operate}
+use Rattle.machine_state.specs.Instructions.{instruction_of}
+use Rattle.machine_state.specs.LocalStep.{target}
+use Rattle.states.specs.declared.rule.Rule.{Rule}
+use Rattle.states.specs.declared.rule.Rule.TheVariants as rules
 use Rattle.states.specs.declared.known.Known.{Known}
 use Rattle.states.specs.declared.known.Source.{Source}
 use Rattle.states.specs.declared.known.Source.TheVariants.{Nowhere, From}
@@ -29,8 +39,8 @@ pub data Ruling : Type 0 where
   leads : ℕ → Ruling
   -- it stops
   ends : Ruling
-  -- a rule is broken, by this number
-  breaks : ℕ → Ruling
+  -- it breaks this rule
+  breaks : Rule → Ruling
 
 -- the place of an instruction: the module, and the offset and the bytes of the instruction
 pub record Site : Type 0 where
@@ -38,13 +48,13 @@ pub record Site : Type 0 where
   pub at : ℕ
   pub length : ℕ
 
--- ---- combinators, in rising order of the numbers told
+-- ---- combinators, in rising order of the numbers of rules
 
 -- an instruction that may not stand in an alternation
 unfoldable pub outside_alternation : Mode → Ruling → Ruling
 outside_alternation Plain k = k
-outside_alternation Enabling k = breaks 10
-outside_alternation (Disabling done) k = breaks 10
+outside_alternation Enabling k = breaks rules.Alternation
+outside_alternation (Disabling done) k = breaks rules.Alternation
 outside_alternation (Starting row started) k = k
 
 -- one that may not stand among the starts of a PAR
@@ -52,33 +62,24 @@ unfoldable pub outside_starts : Mode → Ruling → Ruling
 outside_starts Plain k = k
 outside_starts Enabling k = k
 outside_starts (Disabling done) k = k
-outside_starts (Starting row started) k = breaks 12
+outside_starts (Starting row started) k = breaks rules.Par
 
 -- a register that is used is known
 unfoldable pub uses : Known → (Fact → Ruling) → Ruling
-uses known k = elim known.fact [ Unknown ↦ breaks 4 | _ ↦ k known.fact ]
-
--- a number is wanted
-unfoldable pub number : Fact → (ℤ → ℤ → Ruling) → Ruling
-number (Number lo hi) k = k lo hi
-number _ k = breaks 5
-
--- a result that does not fit a word
-unfoldable pub in_word : ℤ → ℤ → (Fact → Ruling) → Ruling
-in_word lo hi k = if fits_word lo && fits_word hi then k (Number lo hi) else breaks 5
+uses known k = elim known.fact [ Unknown ↦ breaks rules.UnknownRegister | _ ↦ k known.fact ]
 
 -- the code offset that is e from the next instruction lies behind it
 unfoldable pub forward : ℤ → Ruling → Ruling
 forward (pos n) k = k
-forward (negsuc n) k = breaks 11
+forward (negsuc n) k = breaks rules.Forward
 
 -- the state's context may write word k of its frame
 unfoldable pub writes_word : Site → State → ℤ → Ruling → Ruling
-writes_word site s k next = if may_write_word site.contents s.context k then next else breaks 14
+writes_word site s k next = if may_write_word site.contents s.context k then next else breaks rules.OwnWord
 
 -- the state's context may read word k of its frame
 unfoldable pub reads_word : Site → State → ℤ → Ruling → Ruling
-reads_word site s k next = if may_read_word site.contents s.context k then next else breaks 14
+reads_word site s k next = if may_read_word site.contents s.context k then next else breaks rules.OwnWord
 
 -- the context may write the three words below the workspace, and they are unknown afterwards
 unfoldable pub schedules : Site → State → (State → Ruling) → Ruling
@@ -89,13 +90,13 @@ schedules site s k =
 
 -- each byte of the instruction is paid from the number
 unfoldable pub pays : Site → State → (State → Ruling) → Ruling
-pays site s k = if nat_lt s.number site.length then breaks 15 else k (record s { number = s.number - site.length })
+pays site s k = if nat_lt s.number site.length then breaks rules.Budget else k (record s { number = s.number - site.length })
 
 -- there is a label at the offset, and the state is below it
 unfoldable pub leads_to : Site → ℕ → State → Ruling
 leads_to site to s = elim (label_at site.contents to) [
-  | None ↦ breaks 16
-  | Some t ↦ elim (below s t) [ Ok cost ↦ leads to | Err v ↦ breaks v ]
+  | None ↦ breaks rules.Label
+  | Some t ↦ elim (below s t) [ Ok cost ↦ leads to | Err broken ↦ breaks broken ]
 ]
 
 unfoldable pub goes_on : Site → State → Ruling
@@ -131,44 +132,72 @@ source_of k _ = Nowhere
 abbrev pub loaded : ℤ → WordFact → Known
 loaded k word = record { fact = plain word; source = source_of k (plain word) }
 
+-- ---- results
+
+-- the range of a number; None of any other fact
+abbrev pub range_of : Fact → Option Ends
+range_of (Number lo hi) = range_between lo hi
+range_of _ = None
+
+abbrev pub number_in : Ends → Fact
+number_in r = Number r.lo r.hi
+
+-- what is known of the results of an operation of two numbers; None where it may fail, or they are no numbers
+unfoldable pub result_fact : BinaryOperation → Fact → Fact → Option Fact
+result_fact op left right = elim (range_of left) [
+  | None ↦ None
+  | Some r ↦ elim (range_of right) [ None ↦ None | Some s ↦ option_map number_in (result_range op r s) ]
+]
+
+-- the same of one number
+unfoldable pub unary_result_fact : UnaryOperation → Fact → Option Fact
+unary_result_fact op operand = elim (range_of operand) [
+  | None ↦ None
+  | Some r ↦ option_map number_in (unary_result_range op r)
+]
+
+-- A becomes the result, of which this is known
+unfoldable pub becomes : Site → Option Fact → State → Ruling
+becomes site None s = breaks rules.Number
+becomes site (Some fact) s = outside_alternation s.mode (outside_starts s.mode (goes_on site (with_a (known fact) s)))
+
 -- ---- the instructions
 
-unfoldable pub operation_rule : Site → Option Op → State → Ruling
-operation_rule site None s = breaks 1
-operation_rule site (Some Reverse) s = outside_alternation s.mode (outside_starts s.mode (goes_on site (reverse s)))
-operation_rule site (Some MinimumInteger) s = outside_starts s.mode (goes_on site (push (constant least_word) s))
-operation_rule site (Some StopProcess) s =
+unfoldable pub operation_rule : Site → Op → State → Ruling
+operation_rule site Reverse s = outside_alternation s.mode (outside_starts s.mode (goes_on site (reverse s)))
+operation_rule site MinimumInteger s = outside_starts s.mode (goes_on site (push (constant least_word) s))
+operation_rule site StopProcess s =
     outside_alternation s.mode (outside_starts s.mode (schedules site s (λ s. pays site s (λ s. ends))))
+operation_rule site (Binary op) s = uses s.a (λ a. uses s.b (λ b. becomes site (result_fact op b a) (pop s)))
+operation_rule site (Unary op) s = uses s.a (λ a. becomes site (unary_result_fact op a) s)
 
-unfoldable pub rule : Site → Fun → ℤ → State → Ruling
-rule site LoadConstant e s = goes_on site (push (constant e) s)
-rule site LoadLocal e s =
+unfoldable pub instruction_rule : Site → Instruction → ℤ → State → Ruling
+instruction_rule site LoadConstant e s = goes_on site (push (constant e) s)
+instruction_rule site LoadLocal e s =
     let k = s.depth +ℤ e in
     outside_starts s.mode (reads_word site s k (goes_on site (push (loaded k (s.frame k)) s)))
-rule site StoreLocal e s =
+instruction_rule site StoreLocal e s =
     let k = s.depth +ℤ e in
-    uses s.a (λ a. outside_alternation s.mode (outside_starts s.mode (writes_word site s k (goes_on site (pop (written k a s))))))
-rule site AddConstant e s =
-    uses s.a (λ a. number a (λ lo hi. in_word (lo +ℤ e) (hi +ℤ e) (λ sum.
-    outside_alternation s.mode (outside_starts s.mode (goes_on site (with_a (known sum) s))))))
-rule site Jump e s =
+    uses s.a (λ a. outside_alternation s.mode (outside_starts s.mode (writes_word site s k
+    (goes_on site (pop (written k a s))))))
+instruction_rule site (WithConstant op) e s = uses s.a (λ a. becomes site (result_fact op a (Number e e)) s)
+instruction_rule site Jump e s =
     outside_alternation s.mode (forward e (outside_starts s.mode (schedules site s (λ s. pays site s (λ s.
     leads_to site (target (site.at + site.length) e) (without_registers s))))))
-rule site Operate e s = operation_rule site (op_of e) s
-rule site _ e s = breaks 1
+instruction_rule site (Operate op) e s = operation_rule site op s
+
+-- the rule of an instruction that the machine has
+unfoldable pub rule_of : Site → Option Instruction → ℤ → State → Ruling
+rule_of site None e s = breaks rules.Spelling
+rule_of site (Some instruction) e s = instruction_rule site instruction e s
+
+unfoldable pub rule : Site → Fun → ℤ → State → Ruling
+rule site f e s = rule_of site (instruction_of f e) e s
 
 -- the rule for the instruction that stands at an offset
 abbrev pub rule_at : Contents → ℕ → Instr → State → Ruling
 rule_at m at i s = rule (record { contents = m; at = at; length = i.len }) i.fun i.operand s
 
--- Whether an instruction has a rule. One that has none breaks 1 in every state.
+-- Whether an instruction has a rule: each has that the machine has. One that has none breaks `Spelling` in every state.
 unfoldable pub has_rule : Instr → Bool
-has_rule i = elim i.fun [
-  | LoadConstant ↦ true
-  | LoadLocal ↦ true
-  | StoreLocal ↦ true
-  | AddConstant ↦ true
-  | Jump ↦ true
-  | Operate ↦ is_some (op_of i.operand)
-  | _ ↦ false
-]
+has_rule i = is_some (instruction_of i.fun i.operand)

@@ -1,29 +1,29 @@
 -- What the functions of the code tell, in terms of the rules.
 use Rattle.std.specs.Prelude.{◌≡◌, Result, Ok, Err}
-use Rattle.states.specs.declared.rule.RuleFault.{RuleFault}
+use Rattle.states.specs.declared.rule.Rule.{Rule}
 use Rattle.states.specs.State.{State}
 use Rattle.facts.specs.declared.place.Onward.{Onward}
 use Rattle.facts.specs.declared.place.Onward.TheVariants as onward
 use Rattle.facts.specs.Rules.{Ruling, falls, leads, ends, breaks}
 
 -- a test passes, or it alone decides the ruling
-abbrev pub Admits : {A : Type 0} → Result A RuleFault → (Ruling → Ruling) → Type 0
+abbrev pub Admits : {A : Type 0} → Result A Rule → (Ruling → Ruling) → Type 0
 Admits (Ok x) test = (k : Ruling) → test k ≡ k
-Admits (Err fault) test = (k : Ruling) → test k ≡ breaks fault.number
+Admits (Err broken) test = (k : Ruling) → test k ≡ breaks broken
 
 -- a test gives a value, or it alone decides the ruling
-abbrev pub Gives : {A B : Type 0} → (A → B) → Result A RuleFault → ((B → Ruling) → Ruling) → Type 0
+abbrev pub Gives : {A B : Type 0} → (A → B) → Result A Rule → ((B → Ruling) → Ruling) → Type 0
 Gives {A} {B} view (Ok x) test = (k : B → Ruling) → test k ≡ k (view x)
-Gives {A} {B} view (Err fault) test = (k : B → Ruling) → test k ≡ breaks fault.number
+Gives {A} {B} view (Err broken) test = (k : B → Ruling) → test k ≡ breaks broken
 
 -- a test leaves a state, or it alone decides the ruling
-abbrev pub Leaves : {A : Type 0} → Result A RuleFault → State → ((State → Ruling) → Ruling) → Type 0
+abbrev pub Leaves : {A : Type 0} → Result A Rule → State → ((State → Ruling) → Ruling) → Type 0
 Leaves (Ok x) after test = (k : State → Ruling) → test k ≡ k after
-Leaves (Err fault) after test = (k : State → Ruling) → test k ≡ breaks fault.number
+Leaves (Err broken) after test = (k : State → Ruling) → test k ≡ breaks broken
 
 -- a state was taken on as the ruling says
-abbrev pub Advances : Result Onward RuleFault → State → Ruling → Type 0
+abbrev pub Advances : Result Onward Rule → State → Ruling → Type 0
 Advances (Ok onward.Falls) after ruling = ruling ≡ falls after
 Advances (Ok (onward.Leads to)) after ruling = ruling ≡ leads to
 Advances (Ok onward.Ends) after ruling = ruling ≡ ends
-Advances (Err fault) after ruling = ruling ≡ breaks fault.number
+Advances (Err broken) after ruling = ruling ≡ breaks broken

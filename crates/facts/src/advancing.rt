@@ -7,31 +7,22 @@ ghost use Rattle.facts.specs.Telling.{Advances};
 
 use crate::place::{Onward, Place};
 use certificate::Module;
-use machine_state::Op;
-use prefix_decoder::{Fun, Instr};
-use states::{RuleFault, SPELLING, State};
+use machine_state::Instruction;
+use prefix_decoder::Instr;
+use states::{Rule, State};
 
-/// Whether an instruction has a rule. One that has none breaks `SPELLING` wherever it stands.
+/// Whether an instruction has a rule: each has that the machine has. One that has none breaks `Rule::Spelling` wherever it stands.
 #[tactic(auto, unfolding(crate::specs::Rules::has_rule))]
 pub fn has_rule(instr: Instr) -> bool
     ensures { result ≡ has_rule instr }
 {
-    match instr.fun {
-        Fun::LoadConstant | Fun::LoadLocal | Fun::StoreLocal | Fun::AddConstant | Fun::Jump => true,
-        Fun::Operate => Op::of(instr.operand).is_some(),
-        _ => false,
-    }
+    Instruction::of(instr.fun, instr.operand).is_some()
 }
 
 /// Takes a state over the instruction that stands at a code offset, by the rule of that instruction. Where
 /// the rule is broken, the state is left part of the way.
-#[tactic(auto, unfolding(crate::specs::Rules::rule))]
-pub fn advance(
-    state: &mut State,
-    module: &Module,
-    at: usize,
-    instr: Instr,
-) -> Result<Onward, RuleFault>
+#[tactic(auto, unfolding(crate::specs::Rules::rule, crate::specs::Rules::rule_of, crate::specs::Rules::instruction_rule))]
+pub fn advance(state: &mut State, module: &Module, at: usize, instr: Instr) -> Result<Onward, Rule>
     requires { BelongsTo «module».now state.old }
     ensures ruling { Advances result (state_of state.new) (rule_at «module».now at instr (state_of state.old)) }
     ensures belongs { BelongsTo «module».now state.new }
@@ -41,13 +32,13 @@ pub fn advance(
         at,
         len: instr.len,
     };
-    match instr.fun {
-        Fun::LoadConstant => place.load_constant(state, instr.operand),
-        Fun::LoadLocal => place.load_local(state, instr.operand),
-        Fun::StoreLocal => place.store_local(state, instr.operand),
-        Fun::AddConstant => place.add_constant(state, instr.operand),
-        Fun::Jump => place.jump(state, instr.operand),
-        Fun::Operate => place.operate(state, instr.operand),
-        _ => Err(RuleFault { number: SPELLING }),
+    let instruction = Instruction::of(instr.fun, instr.operand).ok_or(Rule::Spelling)?;
+    match instruction {
+        Instruction::LoadConstant => place.load_constant(state, instr.operand),
+        Instruction::LoadLocal => place.load_local(state, instr.operand),
+        Instruction::StoreLocal => place.store_local(state, instr.operand),
+        Instruction::WithConstant(op) => place.with_constant(state, op, instr.operand),
+        Instruction::Jump => place.jump(state, instr.operand),
+        Instruction::Operate(op) => place.operate(state, op),
     }
 }

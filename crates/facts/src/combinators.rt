@@ -1,100 +1,56 @@
-//! The tests that the rules are made of, each with the number of the rule that it keeps.
+//! The tests that the rules are made of, each with the rule that it keeps.
 
-ghost use Rattle.std.specs.Prelude.{◌≡◌, ℤ, ◌+ℤ◌};
-ghost use Rattle.machine_state.specs.LocalStep.{fits_word};
+ghost use Rattle.std.specs.Prelude.{◌≡◌};
+ghost use Rattle.std.specs.Option.{option_map};
+ghost use Rattle.word_arithmetic.specs.Range.{ends_of};
 ghost use Rattle.states.specs.Rows.{LoopFits};
-ghost use Rattle.facts.specs.Rules.{outside_alternation, outside_starts, uses, number, in_word, forward, source_of, loaded};
+ghost use Rattle.facts.specs.Rules.{outside_alternation, outside_starts, uses, forward, source_of, loaded, range_of, number_in, result_fact, unary_result_fact};
 ghost use Rattle.facts.specs.Telling.{Admits, Gives};
 
 use certificate::Fact;
-use states::{
-    ALTERNATION, FORWARD, Known, Mode, NUMBER, PAR, RuleFault, Source, UNKNOWN_REGISTER, WordFact,
-};
+use states::{Known, Mode, Rule, Source, WordFact};
+use word_arithmetic::{Binary, Range, Unary};
 
 /// An instruction that may not stand in an alternation.
 #[tactic(auto, unfolding(crate::specs::Rules::outside_alternation))]
-pub(crate) fn outside_alternation(mode: Mode) -> Result<(), RuleFault>
+pub(crate) fn outside_alternation(mode: Mode) -> Result<(), Rule>
     ensures { Admits result (outside_alternation mode) }
 {
     match mode {
         Mode::Plain | Mode::Starting { .. } => Ok(()),
-        Mode::Enabling | Mode::Disabling { .. } => Err(RuleFault {
-            number: ALTERNATION,
-        }),
+        Mode::Enabling | Mode::Disabling { .. } => Err(Rule::Alternation),
     }
 }
 
 /// An instruction that may not stand among the starts of a PAR.
 #[tactic(auto, unfolding(crate::specs::Rules::outside_starts))]
-pub(crate) fn outside_starts(mode: Mode) -> Result<(), RuleFault>
+pub(crate) fn outside_starts(mode: Mode) -> Result<(), Rule>
     ensures { Admits result (outside_starts mode) }
 {
     match mode {
         Mode::Plain | Mode::Enabling | Mode::Disabling { .. } => Ok(()),
-        Mode::Starting { .. } => Err(RuleFault { number: PAR }),
+        Mode::Starting { .. } => Err(Rule::Par),
     }
 }
 
 /// A register that is used is known.
 #[tactic(auto, unfolding(crate::specs::Rules::uses))]
-pub(crate) fn uses(known: Known) -> Result<Fact, RuleFault>
+pub(crate) fn uses(known: Known) -> Result<Fact, Rule>
     ensures { Gives (λ fact. fact) result (uses known) }
 {
     match known.fact {
-        Fact::Unknown => Err(RuleFault {
-            number: UNKNOWN_REGISTER,
-        }),
+        Fact::Unknown => Err(Rule::UnknownRegister),
         fact => Ok(fact),
     }
 }
 
-/// A number is wanted.
-#[tactic(auto, unfolding(crate::specs::Rules::number))]
-pub(crate) fn number(fact: Fact) -> Result<(i32, i32), RuleFault>
-    ensures { Gives (λ range. range) result (λ k. number fact (λ lo hi. k (lo, hi))) }
-{
-    match fact {
-        Fact::Number { lo, hi } => Ok((lo, hi)),
-        _ => Err(RuleFault { number: NUMBER }),
-    }
-}
-
-/// Whether a number fits a word.
-fn fits_word(value: i64) -> bool
-    ensures { result ≡ fits_word value }
-{
-    i64::from(i32::MIN) <= value && value <= i64::from(i32::MAX)
-}
-
-/// A range that fits a word.
-#[tactic(auto, unfolding(crate::specs::Rules::in_word))]
-fn in_word(lo: i64, hi: i64) -> Result<Fact, RuleFault>
-    ensures { Gives (λ fact. fact) result (in_word lo hi) }
-{
-    if !fits_word(lo) || !fits_word(hi) {
-        return Err(RuleFault { number: NUMBER });
-    }
-    Ok(Fact::Number {
-        lo: lo as i32,
-        hi: hi as i32,
-    })
-}
-
-/// A range, moved by a number, that fits a word.
-pub(crate) fn shifted(lo: i32, hi: i32, by: i32) -> Result<Fact, RuleFault>
-    ensures { Gives (λ fact. fact) result (in_word (lo +ℤ by) (hi +ℤ by)) }
-{
-    let by = i64::from(by);
-    in_word(i64::from(lo) + by, i64::from(hi) + by)
-}
-
 /// A jump by so many bytes from the next instruction leads forward.
 #[tactic(auto, unfolding(crate::specs::Rules::forward))]
-pub(crate) fn forward(distance: i32) -> Result<(), RuleFault>
+pub(crate) fn forward(distance: i32) -> Result<(), Rule>
     ensures { Admits result (forward distance) }
 {
     if distance < 0 {
-        return Err(RuleFault { number: FORWARD });
+        return Err(Rule::Forward);
     }
     Ok(())
 }
@@ -119,4 +75,42 @@ pub(crate) fn loaded(word: i32, fact: WordFact) -> Known
         fact: plain,
         source: source_of(word, plain),
     }
+}
+
+/// The range of a number; `None` of any other fact.
+fn range_of(fact: Fact) -> Option<Range>
+    ensures { option_map ends_of result ≡ range_of fact }
+{
+    match fact {
+        Fact::Number { lo, hi } => Range::between(lo, hi),
+        _ => None,
+    }
+}
+
+fn number_in(range: Range) -> Fact
+    ensures { result ≡ number_in (ends_of range) }
+{
+    Fact::Number {
+        lo: range.lo,
+        hi: range.hi,
+    }
+}
+
+/// What is known of the results of an operation of two numbers; `None` where it may fail, or they are no
+/// numbers.
+#[tactic(auto, unfolding(crate::specs::Rules::result_fact))]
+pub(crate) fn result_fact(op: Binary, left: Fact, right: Fact) -> Option<Fact>
+    ensures { result ≡ result_fact op left right }
+{
+    let range = op.range(range_of(left)?, range_of(right)?)?;
+    Some(number_in(range))
+}
+
+/// The same of one number.
+#[tactic(auto, unfolding(crate::specs::Rules::unary_result_fact))]
+pub(crate) fn unary_result_fact(op: Unary, operand: Fact) -> Option<Fact>
+    ensures { result ≡ unary_result_fact op operand }
+{
+    let range = op.range(range_of(operand)?)?;
+    Some(number_in(range))
 }

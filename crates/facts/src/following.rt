@@ -9,7 +9,7 @@ use crate::advancing::advance;
 use crate::place::Onward;
 use certificate::Module;
 use prefix_decoder::Instr;
-use states::{MEMORY, RuleFault, State};
+use states::{RuleFault, State};
 use std::alloc::Global;
 
 /// The states that follow an instruction, and where.
@@ -23,8 +23,8 @@ pub enum Successors<'a> {
     Ends,
 }
 
-/// The states that follow the instruction at a code offset, by the rule of that instruction. Want of memory
-/// is told as rule 17.
+/// The states that follow the instruction at a code offset, by the rule of that instruction. Running out of
+/// memory is reported as `states::MEMORY`.
 // A body that always answers want of memory meets these clauses too, since no clause can say that memory
 // is left: tests show the states that follow.
 pub fn transfer<'a>(
@@ -38,9 +38,7 @@ pub fn transfer<'a>(
     ensures ruling { Succeeds result (rule_at «module».now at instr (state_of state.now)) }
     ensures belongs { IfOk result (Follow «module».now) }
 {
-    let Ok(mut next) = state.copy(alloc) else {
-        return Err(RuleFault { number: MEMORY });
-    };
+    let mut next = state.copy(alloc)?;
     match advance(&mut next, module, at, instr)? {
         Onward::Falls => Ok(Successors::Falls(next)),
         Onward::Leads(to) => Ok(Successors::Leads(to)),

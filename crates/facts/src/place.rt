@@ -1,11 +1,12 @@
 //! The place of an instruction, and the rules there.
 
 use crate::combinators::{
-    forward, loaded, number, outside_alternation, outside_starts, shifted, uses,
+    forward, loaded, outside_alternation, outside_starts, result_fact, unary_result_fact, uses,
 };
 use certificate::{Fact, Module};
 use machine_state::Op;
-use states::{BUDGET, Known, LABEL, OWN_WORD, RuleFault, SPELLING, State, below};
+use states::{Known, Rule, State, cost_below};
+use word_arithmetic::{Binary as BinaryOperation, Unary as UnaryOperation};
 
 /// Where an instruction leads.
 #[derive(Clone, Copy, Debug, PartialEq, Eq)]
@@ -28,20 +29,20 @@ pub(crate) struct Place<'m, 'a> {
 }
 
 impl Place<'_, '_> {
-    ghost use Rattle.std.specs.Prelude.{◌≡◌, ◌+◌, ℤ, ◌+ℤ◌, IfOk, Some};
-    ghost use Rattle.prefix_decoder.specs.declared.function.Fun.TheVariants as functions;
+    ghost use Rattle.std.specs.Prelude.{◌≡◌, ◌+◌, ℤ, ◌+ℤ◌, IfOk};
     ghost use Rattle.module_format.specs.Contents.{Contents};
     ghost use Rattle.module_format.specs.Keeping.{Keeps};
     ghost use Rattle.machine_state.specs.LocalStep.{target};
-    ghost use Rattle.machine_state.specs.declared.op.Op.TheVariants.{Reverse, StopProcess, MinimumInteger};
+    ghost use Rattle.machine_state.specs.declared.op.Op.TheVariants.{Reverse, StopProcess, MinimumInteger, Binary, Unary};
+    ghost use Rattle.machine_state.specs.declared.instruction.Instruction.TheVariants.{Jump, LoadConstant, LoadLocal, StoreLocal, WithConstant};
     ghost use Rattle.states.specs.Views.{state_of, CanWrite, BelongsTo};
-    ghost use Rattle.facts.specs.Rules.{writes_word, reads_word, schedules, pays, goes_on, leads_to, operation_rule, rule};
+    ghost use Rattle.facts.specs.Rules.{writes_word, reads_word, schedules, pays, goes_on, leads_to, becomes, operation_rule, instruction_rule};
     ghost use Rattle.facts.specs.Telling.{Admits, Leaves, Advances};
     ghost use Rattle.facts.specs.Places.{site_of};
 
     /// The state's context may write the word so far from the workspace.
     #[tactic(auto, unfolding(crate::specs::Rules::writes_word))]
-    fn writes_word(&self, state: &State, distance: i32) -> Result<i32, RuleFault>
+    fn writes_word(&self, state: &State, distance: i32) -> Result<i32, Rule>
         requires { BelongsTo self.now.module.now state.now }
         ensures test { Admits result (writes_word (site_of self.now) (state_of state.now) (state.now.depth +ℤ distance)) }
         ensures word { IfOk result (λ k. k ≡ state.now.depth +ℤ distance) }
@@ -49,26 +50,26 @@ impl Place<'_, '_> {
     {
         match state.writable_word(i64::from(state.depth) + i64::from(distance)) {
             Some(word) => Ok(word),
-            None => Err(RuleFault { number: OWN_WORD }),
+            None => Err(Rule::OwnWord),
         }
     }
 
     /// The state's context may read the word so far from the workspace.
     #[tactic(auto, unfolding(crate::specs::Rules::reads_word))]
-    fn reads_word(&self, state: &State, distance: i32) -> Result<i32, RuleFault>
+    fn reads_word(&self, state: &State, distance: i32) -> Result<i32, Rule>
         requires { BelongsTo self.now.module.now state.now }
         ensures test { Admits result (reads_word (site_of self.now) (state_of state.now) (state.now.depth +ℤ distance)) }
         ensures word { IfOk result (λ k. k ≡ state.now.depth +ℤ distance) }
     {
         match state.readable_word(i64::from(state.depth) + i64::from(distance)) {
             Some(word) => Ok(word),
-            None => Err(RuleFault { number: OWN_WORD }),
+            None => Err(Rule::OwnWord),
         }
     }
 
     /// The context may write the three words below the workspace, and they are unknown from now on.
     #[tactic(auto, unfolding(crate::specs::Rules::schedules))]
-    fn schedules(&self, state: &mut State) -> Result<(), RuleFault>
+    fn schedules(&self, state: &mut State) -> Result<(), Rule>
         requires { BelongsTo self.now.module.now state.old }
         ensures test { Leaves result (state_of state.new) (schedules (site_of self.now) (state_of state.old)) }
         ensures belongs { BelongsTo self.now.module.now state.new }
@@ -84,13 +85,13 @@ impl Place<'_, '_> {
 
     /// Each byte of the instruction is paid.
     #[tactic(auto, unfolding(crate::specs::Rules::pays))]
-    fn pays(&self, state: &mut State) -> Result<(), RuleFault>
+    fn pays(&self, state: &mut State) -> Result<(), Rule>
         ensures test { Leaves result (state_of state.new) (pays (site_of self.now) (state_of state.old)) }
         ensures belongs { (m : Contents) → BelongsTo m state.old → BelongsTo m state.new }
     {
         let price = self.len as u64;
         if state.number < price {
-            return Err(RuleFault { number: BUDGET });
+            return Err(Rule::Budget);
         }
         state.number -= price;
         Ok(())
@@ -98,7 +99,7 @@ impl Place<'_, '_> {
 
     /// Each byte is paid, and the process goes on behind the instruction.
     #[tactic(auto, unfolding(crate::specs::Rules::goes_on))]
-    fn goes_on(&self, state: &mut State) -> Result<Onward, RuleFault>
+    fn goes_on(&self, state: &mut State) -> Result<Onward, Rule>
         ensures ruling { Advances result (state_of state.new) (goes_on (site_of self.now) (state_of state.old)) }
         ensures belongs { (m : Contents) → BelongsTo m state.old → BelongsTo m state.new }
     {
@@ -117,22 +118,22 @@ impl Place<'_, '_> {
 
     /// There is a label at the offset, and the state may go on as it.
     #[tactic(auto, unfolding(crate::specs::Rules::leads_to))]
-    fn leads_to(&self, state: &State, to: u32) -> Result<Onward, RuleFault>
+    fn leads_to(&self, state: &State, to: u32) -> Result<Onward, Rule>
         requires { Keeps self.now.module.now }
         ensures { Advances result (state_of state.now) (leads_to (site_of self.now) to (state_of state.now)) }
     {
         match self.module.label_at(to) {
             Some(row) => {
-                below(state, row)?;
+                cost_below(state, row)?;
                 Ok(Onward::Leads(to))
             }
-            None => Err(RuleFault { number: LABEL }),
+            None => Err(Rule::Label),
         }
     }
 
-    #[tactic(auto, unfolding(crate::specs::Rules::rule))]
-    pub(crate) fn load_constant(&self, state: &mut State, value: i32) -> Result<Onward, RuleFault>
-        ensures ruling { Advances result (state_of state.new) (rule (site_of self.now) functions.LoadConstant value (state_of state.old)) }
+    #[tactic(auto, unfolding(crate::specs::Rules::instruction_rule))]
+    pub(crate) fn load_constant(&self, state: &mut State, value: i32) -> Result<Onward, Rule>
+        ensures ruling { Advances result (state_of state.new) (instruction_rule (site_of self.now) LoadConstant value (state_of state.old)) }
         ensures belongs { (m : Contents) → BelongsTo m state.old → BelongsTo m state.new }
     {
         state.push(Known::of(Fact::Number {
@@ -142,10 +143,10 @@ impl Place<'_, '_> {
         self.goes_on(state)
     }
 
-    #[tactic(auto, unfolding(crate::specs::Rules::rule))]
-    pub(crate) fn load_local(&self, state: &mut State, distance: i32) -> Result<Onward, RuleFault>
+    #[tactic(auto, unfolding(crate::specs::Rules::instruction_rule))]
+    pub(crate) fn load_local(&self, state: &mut State, distance: i32) -> Result<Onward, Rule>
         requires { BelongsTo self.now.module.now state.old }
-        ensures ruling { Advances result (state_of state.new) (rule (site_of self.now) functions.LoadLocal distance (state_of state.old)) }
+        ensures ruling { Advances result (state_of state.new) (instruction_rule (site_of self.now) LoadLocal distance (state_of state.old)) }
         ensures belongs { BelongsTo self.now.module.now state.new }
     {
         outside_starts(state.mode)?;
@@ -155,10 +156,10 @@ impl Place<'_, '_> {
         self.goes_on(state)
     }
 
-    #[tactic(auto, unfolding(crate::specs::Rules::rule))]
-    pub(crate) fn store_local(&self, state: &mut State, distance: i32) -> Result<Onward, RuleFault>
+    #[tactic(auto, unfolding(crate::specs::Rules::instruction_rule))]
+    pub(crate) fn store_local(&self, state: &mut State, distance: i32) -> Result<Onward, Rule>
         requires { BelongsTo self.now.module.now state.old }
-        ensures ruling { Advances result (state_of state.new) (rule (site_of self.now) functions.StoreLocal distance (state_of state.old)) }
+        ensures ruling { Advances result (state_of state.new) (instruction_rule (site_of self.now) StoreLocal distance (state_of state.old)) }
         ensures belongs { BelongsTo self.now.module.now state.new }
     {
         let fact = uses(state.a)?;
@@ -170,25 +171,41 @@ impl Place<'_, '_> {
         self.goes_on(state)
     }
 
-    #[tactic(auto, unfolding(crate::specs::Rules::rule))]
-    pub(crate) fn add_constant(&self, state: &mut State, value: i32) -> Result<Onward, RuleFault>
-        requires { BelongsTo self.now.module.now state.old }
-        ensures ruling { Advances result (state_of state.new) (rule (site_of self.now) functions.AddConstant value (state_of state.old)) }
-        ensures belongs { BelongsTo self.now.module.now state.new }
+    /// A becomes the result, of which this is known.
+    #[tactic(auto, unfolding(crate::specs::Rules::becomes))]
+    fn becomes(&self, state: &mut State, known: Option<Fact>) -> Result<Onward, Rule>
+        ensures ruling { Advances result (state_of state.new) (becomes (site_of self.now) known (state_of state.old)) }
+        ensures belongs { (m : Contents) → BelongsTo m state.old → BelongsTo m state.new }
     {
-        let fact = uses(state.a)?;
-        let (lo, hi) = number(fact)?;
-        let sum = shifted(lo, hi, value)?;
+        let fact = known.ok_or(Rule::Number)?;
         outside_alternation(state.mode)?;
         outside_starts(state.mode)?;
-        state.a = Known::of(sum);
+        state.a = Known::of(fact);
         self.goes_on(state)
     }
 
-    #[tactic(auto, unfolding(crate::specs::Rules::rule))]
-    pub(crate) fn jump(&self, state: &mut State, distance: i32) -> Result<Onward, RuleFault>
+    #[tactic(auto, unfolding(crate::specs::Rules::instruction_rule))]
+    pub(crate) fn with_constant(
+        &self,
+        state: &mut State,
+        op: BinaryOperation,
+        value: i32,
+    ) -> Result<Onward, Rule>
+        ensures ruling { Advances result (state_of state.new) (instruction_rule (site_of self.now) (WithConstant op) value (state_of state.old)) }
+        ensures belongs { (m : Contents) → BelongsTo m state.old → BelongsTo m state.new }
+    {
+        let left = uses(state.a)?;
+        let right = Fact::Number {
+            lo: value,
+            hi: value,
+        };
+        self.becomes(state, result_fact(op, left, right))
+    }
+
+    #[tactic(auto, unfolding(crate::specs::Rules::instruction_rule))]
+    pub(crate) fn jump(&self, state: &mut State, distance: i32) -> Result<Onward, Rule>
         requires { BelongsTo self.now.module.now state.old }
-        ensures ruling { Advances result (state_of state.new) (rule (site_of self.now) functions.Jump distance (state_of state.old)) }
+        ensures ruling { Advances result (state_of state.new) (instruction_rule (site_of self.now) Jump distance (state_of state.old)) }
         ensures belongs { BelongsTo self.now.module.now state.new }
     {
         outside_alternation(state.mode)?;
@@ -203,8 +220,8 @@ impl Place<'_, '_> {
     }
 
     #[tactic(auto, unfolding(crate::specs::Rules::operation_rule))]
-    fn reverse(&self, state: &mut State) -> Result<Onward, RuleFault>
-        ensures ruling { Advances result (state_of state.new) (operation_rule (site_of self.now) (Some Reverse) (state_of state.old)) }
+    fn reverse(&self, state: &mut State) -> Result<Onward, Rule>
+        ensures ruling { Advances result (state_of state.new) (operation_rule (site_of self.now) Reverse (state_of state.old)) }
         ensures belongs { (m : Contents) → BelongsTo m state.old → BelongsTo m state.new }
     {
         outside_alternation(state.mode)?;
@@ -214,8 +231,8 @@ impl Place<'_, '_> {
     }
 
     #[tactic(auto, unfolding(crate::specs::Rules::operation_rule))]
-    fn minimum_integer(&self, state: &mut State) -> Result<Onward, RuleFault>
-        ensures ruling { Advances result (state_of state.new) (operation_rule (site_of self.now) (Some MinimumInteger) (state_of state.old)) }
+    fn minimum_integer(&self, state: &mut State) -> Result<Onward, Rule>
+        ensures ruling { Advances result (state_of state.new) (operation_rule (site_of self.now) MinimumInteger (state_of state.old)) }
         ensures belongs { (m : Contents) → BelongsTo m state.old → BelongsTo m state.new }
     {
         outside_starts(state.mode)?;
@@ -227,9 +244,9 @@ impl Place<'_, '_> {
     }
 
     #[tactic(auto, unfolding(crate::specs::Rules::operation_rule))]
-    fn stop_process(&self, state: &mut State) -> Result<Onward, RuleFault>
+    fn stop_process(&self, state: &mut State) -> Result<Onward, Rule>
         requires { BelongsTo self.now.module.now state.old }
-        ensures ruling { Advances result (state_of state.new) (operation_rule (site_of self.now) (Some StopProcess) (state_of state.old)) }
+        ensures ruling { Advances result (state_of state.new) (operation_rule (site_of self.now) StopProcess (state_of state.old)) }
         ensures belongs { BelongsTo self.now.module.now state.new }
     {
         outside_alternation(state.mode)?;
@@ -239,17 +256,37 @@ impl Place<'_, '_> {
         Ok(Onward::Ends)
     }
 
-    #[tactic(auto, unfolding(crate::specs::Rules::operation_rule, crate::specs::Rules::rule))]
-    pub(crate) fn operate(&self, state: &mut State, operand: i32) -> Result<Onward, RuleFault>
+    #[tactic(auto, unfolding(crate::specs::Rules::operation_rule))]
+    fn binary(&self, state: &mut State, op: BinaryOperation) -> Result<Onward, Rule>
+        ensures ruling { Advances result (state_of state.new) (operation_rule (site_of self.now) (Binary op) (state_of state.old)) }
+        ensures belongs { (m : Contents) → BelongsTo m state.old → BelongsTo m state.new }
+    {
+        let right = uses(state.a)?;
+        let left = uses(state.b)?;
+        state.pop();
+        self.becomes(state, result_fact(op, left, right))
+    }
+
+    #[tactic(auto, unfolding(crate::specs::Rules::operation_rule))]
+    fn unary(&self, state: &mut State, op: UnaryOperation) -> Result<Onward, Rule>
+        ensures ruling { Advances result (state_of state.new) (operation_rule (site_of self.now) (Unary op) (state_of state.old)) }
+        ensures belongs { (m : Contents) → BelongsTo m state.old → BelongsTo m state.new }
+    {
+        let operand = uses(state.a)?;
+        self.becomes(state, unary_result_fact(op, operand))
+    }
+
+    pub(crate) fn operate(&self, state: &mut State, op: Op) -> Result<Onward, Rule>
         requires { BelongsTo self.now.module.now state.old }
-        ensures ruling { Advances result (state_of state.new) (rule (site_of self.now) functions.Operate operand (state_of state.old)) }
+        ensures ruling { Advances result (state_of state.new) (operation_rule (site_of self.now) op (state_of state.old)) }
         ensures belongs { BelongsTo self.now.module.now state.new }
     {
-        match Op::of(operand) {
-            Some(Op::Reverse) => self.reverse(state),
-            Some(Op::MinimumInteger) => self.minimum_integer(state),
-            Some(Op::StopProcess) => self.stop_process(state),
-            None => Err(RuleFault { number: SPELLING }),
+        match op {
+            Op::Reverse => self.reverse(state),
+            Op::MinimumInteger => self.minimum_integer(state),
+            Op::StopProcess => self.stop_process(state),
+            Op::Binary(op) => self.binary(state, op),
+            Op::Unary(op) => self.unary(state, op),
         }
     }
 }

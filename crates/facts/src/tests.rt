@@ -8,7 +8,7 @@ ghost use Rattle.states.specs.Views.{BelongsTo};
 use super::*;
 use certificate::{Fact, LabelRow, Module};
 use prefix_decoder::{Fun, Instr};
-use states::{Known, Source, State, WordFact, below};
+use states::{Known, Loop, Source, State, WordFact, below};
 use std::alloc::Global;
 use std::process::Abort;
 
@@ -54,11 +54,12 @@ enum Follows {
     Ends,
 }
 
+fn range(lo: i32, hi: i32) -> Fact {
+    Fact::Number { lo, hi }
+}
+
 fn constant(value: i32) -> Known {
-    Known::of(Fact::Number {
-        lo: value,
-        hi: value,
-    })
+    Known::of(range(value, value))
 }
 
 /// An instruction of one byte.
@@ -67,6 +68,15 @@ fn byte(fun: Fun, operand: i32) -> Instr {
         fun,
         operand,
         len: 1,
+    }
+}
+
+/// An operation whose spelling has two bytes.
+fn operation(operand: i32) -> Instr {
+    Instr {
+        fun: Fun::Operate,
+        operand,
+        len: 2,
     }
 }
 
@@ -88,14 +98,14 @@ fn write(module: &Module, state: &mut State, word: i64, fact: Fact) -> Option<()
     Some(())
 }
 
-/// The state where the module begins, but that B is 7, A is 5 and the word 1 is from 1 to 5.
-fn before<'a>(alloc: Global, module: &'a Module<'a>) -> Option<State<'a>>
+/// The state where the module begins, but that this is known of B and A, and the word 1 is from 1 to 5.
+fn before<'a>(alloc: Global, module: &'a Module<'a>, b: Known, a: Known) -> Option<State<'a>>
     ensures { IfSome result (BelongsTo «module».now) }
 {
     let mut state = root(alloc, module)?;
-    write(module, &mut state, 1, Fact::Number { lo: 1, hi: 5 })?;
-    state.push(constant(7));
-    state.push(constant(5));
+    write(module, &mut state, 1, range(1, 5))?;
+    state.push(b);
+    state.push(a);
     Some(state)
 }
 
@@ -124,7 +134,7 @@ fn outcome(
 /// What follows the instruction at offset 0 where B is 7, A is 5 and the word 1 is from 1 to 5.
 fn follow(alloc: Global, instr: Instr, number: u64) -> Option<Result<Follows, u8>> {
     let module = Module::read(alloc, &JUMP).ok()?;
-    let mut state = before(alloc, &module)?;
+    let mut state = before(alloc, &module, constant(7), constant(5))?;
     state.number = number;
     outcome(alloc, &module, &state, 0, instr)
 }
@@ -142,20 +152,10 @@ fn each_instruction_leaves_its_state(rt: HostRuntime) {
     let seven = constant(7);
     let unknown = Known::UNKNOWN;
     let word = Known {
-        fact: Fact::Number { lo: 1, hi: 5 },
+        fact: range(1, 5),
         source: Source::From { word: 1 },
     };
     let least = constant(-2_147_483_648);
-    let mint = Instr {
-        fun: Fun::Operate,
-        operand: 0x42,
-        len: 2,
-    };
-    let stop = Instr {
-        fun: Fun::Operate,
-        operand: 0x15,
-        len: 2,
-    };
     let cases = [
         (
             byte(Fun::LoadConstant, -3),
@@ -181,8 +181,21 @@ fn each_instruction_leaves_its_state(rt: HostRuntime) {
             byte(Fun::Operate, 0),
             Follows::Falls([seven, five, unknown], 99),
         ),
-        (mint, Follows::Falls([least, five, seven], 98)),
-        (stop, Follows::Ends),
+        (operation(0x42), Follows::Falls([least, five, seven], 98)),
+        (operation(0x15), Follows::Ends),
+        // add; not; eqc 5.
+        (
+            operation(0x05),
+            Follows::Falls([constant(12), unknown, unknown], 98),
+        ),
+        (
+            operation(0x32),
+            Follows::Falls([constant(-6), seven, unknown], 98),
+        ),
+        (
+            byte(Fun::EqualsConstant, 5),
+            Follows::Falls([Known::of(range(0, 1)), seven, unknown], 99),
+        ),
         (byte(Fun::Jump, 0), Follows::Leads(1)),
     ];
     for (instr, follows) in cases {
@@ -213,6 +226,65 @@ fn each_rule_is_told_by_its_number(rt: HostRuntime) {
     for (instr, number, rule) in cases {
         check(&rt, rt.alloc(), instr, number, Err(rule));
         assert_eq!(rt; has_rule(instr), rule != 1, "{instr:?}");
+    }
+}
+
+/// What follows an operation where this is known of B and A; an outer nothing where memory ran out.
+fn result(alloc: Global, b: Fact, a: Fact, operand: i32) -> Option<Result<Follows, u8>> {
+    let module = Module::read(alloc, &JUMP).ok()?;
+    let state = before(alloc, &module, Known::of(b), Known::of(a))?;
+    outcome(alloc, &module, &state, 0, operation(operand))
+}
+
+#[test]
+fn results_have_the_range_of_their_operation(rt: HostRuntime) {
+    const MIN: i32 = i32::MIN;
+    const MAX: i32 = i32::MAX;
+    // B, A, the operation, and what is known of the result or the rule that is broken.
+    let cases = [
+        // add
+        (range(1, 5), range(10, 20), 0x05, Ok(range(11, 25))),
+        (range(1, 5), range(MAX - 4, MAX - 4), 0x05, Err(5)),
+        // sub
+        (range(1, 5), range(10, 20), 0x0c, Ok(range(-19, -5))),
+        (range(MIN, 5), range(0, 1), 0x0c, Err(5)),
+        // mul
+        (range(-2, 3), range(4, 5), 0x53, Ok(range(-10, 15))),
+        (range(0, 65_536), range(0, 32_768), 0x53, Err(5)),
+        // div
+        (range(-7, 7), range(2, 3), 0x2c, Ok(range(-3, 3))),
+        (range(1, 5), range(-1, 1), 0x2c, Err(5)),
+        (range(MIN, 5), range(-1, -1), 0x2c, Err(5)),
+        // rem
+        (range(-7, 7), range(1, 3), 0x1f, Ok(range(-2, 2))),
+        (range(1, 5), range(0, 3), 0x1f, Err(5)),
+        (range(MIN, 5), range(-1, -1), 0x1f, Err(5)),
+        // sum, diff and prod
+        (range(1, 5), range(10, 20), 0x52, Ok(range(11, 25))),
+        (range(1, 5), range(MAX, MAX), 0x52, Ok(range(MIN, MAX))),
+        (range(1, 5), range(10, 20), 0x04, Ok(range(-19, -5))),
+        (range(-2, 3), range(4, 5), 0x08, Ok(range(-10, 15))),
+        // and, or and xor
+        (range(0, 5), range(0, 9), 0x46, Ok(range(0, 5))),
+        (range(0, 5), range(0, 9), 0x4b, Ok(range(0, 15))),
+        (range(0, 5), range(0, 9), 0x33, Ok(range(0, 15))),
+        (range(-1, 5), range(0, 9), 0x33, Ok(range(MIN, MAX))),
+        // gt
+        (range(1, 5), range(10, 20), 0x09, Ok(range(0, 1))),
+        // Nothing is known of a register, or that it is no number.
+        (Fact::Unknown, Fact::Unknown, 0x05, Err(4)),
+        (range(1, 5), Fact::Unknown, 0x05, Err(4)),
+        (Fact::Unknown, range(1, 5), 0x05, Err(4)),
+        (range(1, 5), Fact::CodeAddress { offset: 1 }, 0x05, Err(5)),
+        (Fact::CodeAddress { offset: 1 }, range(1, 5), 0x05, Err(5)),
+    ];
+    for (b, a, operand, expected) in cases {
+        let first = result(rt.alloc(), b, a, operand);
+        let found = first.or_else(|| result(rt.alloc(), b, a, operand));
+        let follows = expected.map(|fact| {
+            Follows::Falls([Known::of(fact), Known::UNKNOWN, Known::UNKNOWN], 998)
+        });
+        assert_eq!(rt; found, Some(follows), "{b:?} {operand} {a:?}");
     }
 }
 
@@ -247,16 +319,16 @@ fn a_loop_is_read_and_broken(rt: HostRuntime) {
     let five = WordFact::Alone(constant(5).fact);
     let turns = Fact::Number { lo: 1, hi: 3 };
     let indices = Fact::Number { lo: 0, hi: 2 };
-    let index = WordFact::Index {
+    let index = WordFact::Index(Loop {
         base: 0,
         count: 3,
         weight: 6,
-    };
-    let count = WordFact::Count {
+    });
+    let count = WordFact::Count(Loop {
         base: 0,
         count: 3,
         weight: 6,
-    };
+    });
     let first = Known {
         fact: indices,
         source: Source::From { word: 1 },

@@ -10,6 +10,7 @@ use Rattle.module_format.specs.declared.rows.Entry.{Entry}
 use Rattle.states.specs.declared.overlay.Written.{Written}
 use Rattle.states.specs.Lookup.{lookup}
 use Rattle.states.specs.State.{Facts, by_itself, is_word, is_tied, with_fact, entry_fact}
+use Rattle.states.specs.declared.known.Loop.{Loop}
 use Rattle.states.specs.declared.known.WordFact.{WordFact}
 use Rattle.states.specs.declared.known.WordFact.TheVariants.{Alone, Index, Count}
 use Rattle.states.specs.Below.{says}
@@ -92,17 +93,19 @@ part-alone true false fact = refl
 part-alone false true fact = refl
 part-alone false false fact = refl
 
-part-index : (before behind : Bool) (base : ℤ) (count weight : ℕ) → parted_if behind is_count (parted_if before is_index (Index base count weight)) ≡ cond before (Alone (by_itself (Index base count weight))) (Index base count weight)
-part-index true true base count weight = refl
-part-index true false base count weight = refl
-part-index false true base count weight = refl
-part-index false false base count weight = refl
+part-index : (before behind : Bool) (loop : Loop)
+    → parted_if behind is_count (parted_if before is_index (Index loop)) ≡ cond before (Alone (by_itself (Index loop))) (Index loop)
+part-index true true loop = refl
+part-index true false loop = refl
+part-index false true loop = refl
+part-index false false loop = refl
 
-part-count : (before behind : Bool) (base : ℤ) (count weight : ℕ) → parted_if behind is_count (parted_if before is_index (Count base count weight)) ≡ cond behind (Alone (by_itself (Count base count weight))) (Count base count weight)
-part-count true true base count weight = refl
-part-count true false base count weight = refl
-part-count false true base count weight = refl
-part-count false false base count weight = refl
+part-count : (before behind : Bool) (loop : Loop)
+    → parted_if behind is_count (parted_if before is_index (Count loop)) ≡ cond behind (Alone (by_itself (Count loop))) (Count loop)
+part-count true true loop = refl
+part-count true false loop = refl
+part-count false true loop = refl
+part-count false false loop = refl
 
 -- the word before one is the word that one is behind
 before-behind : (w j : ℤ) → is_word j (w -ℤ pos 1) ≡ is_word w (j +ℤ pos 1)
@@ -121,10 +124,10 @@ before-behind w j = elim (word-cases j (w -ℤ pos 1)) [
 -- what is known of a word once those are parted that are in a loop with word w
 parted-word : (w j : ℤ) (fact : WordFact) → parted_if (is_word j (w +ℤ pos 1)) is_count (parted_if (is_word j (w -ℤ pos 1)) is_index fact) ≡ cond (is_tied j fact w) (Alone (by_itself fact)) fact
 parted-word w j (Alone fact) = part-alone (is_word j (w -ℤ pos 1)) (is_word j (w +ℤ pos 1)) fact
-parted-word w j (Index base count weight) =
-    part-index (is_word j (w -ℤ pos 1)) (is_word j (w +ℤ pos 1)) base count weight
-    ∙ ap (λ b. cond b (Alone (by_itself (Index base count weight))) (Index base count weight)) (before-behind w j)
-parted-word w j (Count base count weight) = part-count (is_word j (w -ℤ pos 1)) (is_word j (w +ℤ pos 1)) base count weight
+parted-word w j (Index loop) =
+    part-index (is_word j (w -ℤ pos 1)) (is_word j (w +ℤ pos 1)) loop
+    ∙ ap (λ b. cond b (Alone (by_itself (Index loop))) (Index loop)) (before-behind w j)
+parted-word w j (Count loop) = part-count (is_word j (w -ℤ pos 1)) (is_word j (w +ℤ pos 1)) loop
 
 -- a word is written once the words are parted that can be in a loop with it
 pub parts-write : (w : ℤ) (fact : Fact) (facts : Facts) → with_alone w fact (parted is_count (w +ℤ pos 1) (parted is_index (w -ℤ pos 1) facts)) ≡ with_fact w fact facts

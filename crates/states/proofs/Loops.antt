@@ -14,8 +14,8 @@ use Rattle.states.specs.Frames.{frame_facts, is_index, is_count, HasRoom}
 
 pub loop_fits_prop : (fact : WordFact) → IsProp (LoopFits fact)
 loop_fits_prop (Alone fact) = Unit-prop
-loop_fits_prop (Index base count weight) = hlevel props
-loop_fits_prop (Count base count weight) = hlevel props
+loop_fits_prop (Index loop) = hlevel props
+loop_fits_prop (Count loop) = hlevel props
 
 -- the loop that a word is in
 pub loop-at : (facts : Facts) (k : ℤ) → ∥ ((k : ℤ) → LoopFits (facts k)) ∥₁ → LoopFits (facts k)
@@ -38,10 +38,10 @@ room-of frame k fact is loop =
 
 pub index-apart : (fact : WordFact) → is_index fact ≡ true → is_alone fact ≡ false
 index-apart (Alone fact) h = absurd (cc)
-index-apart (Index base count weight) h = refl
-index-apart (Count base count weight) h = refl
+index-apart (Index loop) h = refl
+index-apart (Count loop) h = refl
 
 pub count-apart : (fact : WordFact) → is_count fact ≡ true → is_alone fact ≡ false
 count-apart (Alone fact) h = absurd (cc)
-count-apart (Index base count weight) h = refl
-count-apart (Count base count weight) h = refl
+count-apart (Index loop) h = refl
+count-apart (Count loop) h = refl

@@ -7,6 +7,9 @@ use Rattle.module_format.specs.declared.fact.Step.{Step}
 use Rattle.module_format.specs.declared.fact.Step.TheVariants.{Byte, Word}
 use Rattle.module_format.specs.declared.rows.Entry.{Entry}
 use Rattle.module_format.specs.Contents.{Label}
+use Rattle.states.specs.declared.rule.Rule.{Rule}
+use Rattle.states.specs.declared.rule.Rule.TheVariants as rules
+use Rattle.states.specs.declared.known.Loop.{Loop as CountedLoop}
 use Rattle.states.specs.declared.known.WordFact.{WordFact}
 use Rattle.states.specs.declared.known.WordFact.TheVariants.{Alone, Index, Count}
 use Rattle.states.specs.declared.known.Mode.{Mode}
@@ -40,17 +43,17 @@ is_constant (Number lo hi) number = is_word lo number && is_word hi number
 is_constant _ number = false
 
 -- two loops are the same
-abbrev pub is_same_loop : ℤ → ℕ → ℕ → ℤ → ℕ → ℕ → Bool
-is_same_loop base count weight other turns price = is_word base other && (count == turns) && (weight == price)
+abbrev pub is_same_loop : CountedLoop → CountedLoop → Bool
+is_same_loop loop other = is_word loop.base other.base && (loop.count == other.count) && (loop.weight == other.weight)
 
 -- What is known of a word says at least what is wanted. A number that is the base implies the index, and one that is the
 -- number of turns the count: so a loop is entered.
 abbrev pub says : WordFact → WordFact → Bool
 says fact (Alone wanted) = implies (by_itself fact) wanted
-says (Alone fact) (Index base count weight) = is_constant fact base
-says (Alone fact) (Count base count weight) = is_constant fact (pos count)
-says (Index base count weight) (Index other turns price) = is_same_loop base count weight other turns price
-says (Count base count weight) (Count other turns price) = is_same_loop base count weight other turns price
+says (Alone fact) (Index loop) = is_constant fact loop.base
+says (Alone fact) (Count loop) = is_constant fact (pos loop.count)
+says (Index loop) (Index other) = is_same_loop loop other
+says (Count loop) (Count other) = is_same_loop loop other
 says _ _ = false
 
 -- ---- entries
@@ -109,6 +112,6 @@ agrees s t =
     && implies s.a.fact t.a && implies s.b.fact t.b && implies s.c.fact t.c
     && entries_hold s.frame t.entries && list_all (is_whole s.frame) t.entries
 
--- what going on as the label costs, or the number of the rule that is broken: 15 where the state cannot pay, 16 where it knows less
-unfoldable pub below : State → Label → Result ℕ ℕ
-below s t = if nat_lt s.number (cost s t) then Err 15 else if agrees s t then Ok (cost s t) else Err 16
+-- what going on as the label costs, or the rule that is broken: the state cannot pay, or it knows less
+unfoldable pub below : State → Label → Result ℕ Rule
+below s t = if nat_lt s.number (cost s t) then Err rules.Budget else if agrees s t then Ok (cost s t) else Err rules.Label

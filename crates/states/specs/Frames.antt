@@ -27,11 +27,11 @@ abbrev pub with_alone : ℤ → Fact → Facts → Facts
 with_alone k fact facts = λ j. if is_word j k then Alone fact else facts j
 
 abbrev pub is_index : WordFact → Bool
-is_index (Index base count weight) = true
+is_index (Index loop) = true
 is_index _ = false
 
 abbrev pub is_count : WordFact → Bool
-is_count (Count base count weight) = true
+is_count (Count loop) = true
 is_count _ = false
 
 -- if word k is such a word of a loop, it is what it says by itself from now on

@@ -1,3 +1,4 @@
+pub mod Numbers
 pub mod State
 pub mod Below
 pub mod Lookup

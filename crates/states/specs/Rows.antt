@@ -22,8 +22,8 @@ AreApart entries = IsTrue (rise_from least_word entries)
 -- a loop that a word is in is one of the format: its last index and its number of turns are words
 abbrev pub LoopFits : WordFact → Type 0
 LoopFits (Alone fact) = ⊤
-LoopFits (Index base count weight) = IsLoop base count weight
-LoopFits (Count base count weight) = IsLoop base count weight
+LoopFits (Index loop) = IsLoop loop.base loop.count loop.weight
+LoopFits (Count loop) = IsLoop loop.base loop.count loop.weight
 
 -- the entries of a frame that has so many words from lo on: each word of a loop is one of them
 pub record IsRow (lo : ℤ) (room : ℕ) (entries : List Entry) : Type 0 where

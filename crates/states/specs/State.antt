@@ -46,8 +46,8 @@ known fact = record { fact = fact; source = Nowhere }
 -- number of turns.
 abbrev pub by_itself : WordFact → Fact
 by_itself (Alone fact) = fact
-by_itself (Index base count weight) = Number base (base +ℤ pos count -ℤ pos 1)
-by_itself (Count base count weight) = Number (pos 1) (pos count)
+by_itself (Index loop) = Number loop.base (loop.base +ℤ pos loop.count -ℤ pos 1)
+by_itself (Count loop) = Number (pos 1) (pos loop.count)
 
 -- what an instruction learns of a fact: a return address is not handed out, and no word is a loop
 abbrev pub handed_out : Fact → Fact
@@ -61,8 +61,8 @@ plain fact = handed_out (by_itself fact)
 
 abbrev pub is_alone : WordFact → Bool
 is_alone (Alone fact) = true
-is_alone (Index base count weight) = false
-is_alone (Count base count weight) = false
+is_alone (Index loop) = false
+is_alone (Count loop) = false
 
 abbrev pub no_facts : Facts
 no_facts = λ _. Alone Unknown
@@ -74,8 +74,8 @@ is_word j k = int_le j k && int_le k j
 -- word j, of which this is known, is in one loop with word k
 abbrev pub is_tied : ℤ → WordFact → ℤ → Bool
 is_tied j (Alone fact) k = false
-is_tied j (Index base count weight) k = is_word k (j +ℤ pos 1)
-is_tied j (Count base count weight) k = is_word j (k +ℤ pos 1)
+is_tied j (Index loop) k = is_word k (j +ℤ pos 1)
+is_tied j (Count loop) k = is_word j (k +ℤ pos 1)
 
 -- word k has this fact from now on; a loop that loses one of its words leaves what the other says by itself
 abbrev pub with_fact : ℤ → Fact → Facts → Facts
@@ -90,8 +90,8 @@ is_about entry k = int_le entry.word k && int_lt k (entry.word +ℤ pos entry.sp
 
 -- what an entry's fact says of one of its words, which is the first or another one: the first word of a loop is the index
 abbrev pub said_of : Fact → Bool → WordFact
-said_of (Loop base count weight) true = Index base count weight
-said_of (Loop base count weight) false = Count base count weight
+said_of (Loop base count weight) true = Index (record { base = base; count = count; weight = weight })
+said_of (Loop base count weight) false = Count (record { base = base; count = count; weight = weight })
 said_of fact is_first = Alone fact
 
 -- what the entries of a label say of word k: entries do not overlap

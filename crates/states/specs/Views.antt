@@ -1,11 +1,10 @@
 -- A state in memory, as the state that it is, and the module that it is one of.
-use Rattle.std.specs.Prelude.{◌≡◌, ℕ, ℤ, true, Result, Ok, Err}
+use Rattle.std.specs.Prelude.{◌≡◌, ℕ, ℤ, true}
 use Rattle.module_format.specs.Contents.{Contents}
 use Rattle.module_format.specs.Contexts.{context_at}
 use Rattle.module_format.specs.Keeping.{Keeps}
 use Rattle.certificate.specs.Rights.{has_word}
 use Rattle.states.specs.declared.state.State.{State as InMemory}
-use Rattle.states.specs.declared.rule.RuleFault.{RuleFault}
 use Rattle.states.specs.State.{State}
 use Rattle.states.specs.Frames.{frame_facts, HasRoom}
 
@@ -32,8 +31,3 @@ pub record BelongsTo (m : Contents) (s : InMemory) : Type 0 where
   pub kept : Keeps m
   pub is : s.module.now ≡ m
   pub room : (n : ℕ) (k : ℤ) → has_word (context_at m n) k ≡ true → CanWrite s k
-
--- an answer with its fault as a number
-abbrev pub numbered : {A : Type 0} → Result A RuleFault → Result A ℕ
-numbered (Ok x) = Ok x
-numbered (Err fault) = Err fault.number

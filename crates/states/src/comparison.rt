@@ -4,11 +4,12 @@ ghost use Rattle.std.specs.Prelude.{◌≡◌, ◌≤◌, SomeIff};
 ghost use Rattle.module_format.specs.Contents.{label_of};
 ghost use Rattle.states.specs.Below.{cost, is_plain, agrees, below};
 ghost use Rattle.states.specs.Rows.{AreApart};
-ghost use Rattle.states.specs.Views.{state_of, numbered};
+ghost use Rattle.states.specs.Views.{state_of};
+ghost use Rattle.states.specs.Numbers.{reported};
 
 use crate::implication::implies;
 use crate::known::Mode;
-use crate::rule::{BUDGET, LABEL, RuleFault};
+use crate::rule::{Rule, RuleFault};
 use crate::state::State;
 use certificate::LabelRow;
 
@@ -43,20 +44,25 @@ fn cost(state: &State, row: &LabelRow) -> Option<u64>
 }
 
 /// What it costs a state to go on as a label's: the label's number, and for each loop that it enters the
-/// loop's weight for each turn but the first. `BUDGET`: it cannot pay. `LABEL`: it stands elsewhere, or
-/// knows less. The time goes with the entries of the row and of the label before, and with the words
-/// written since then.
+/// loop's weight for each turn but the first. `Rule::Budget`: it cannot pay. `Rule::Label`: it stands
+/// elsewhere, or knows less. The time goes with the entries of the row and of the label before, and with
+/// the words written since then.
 #[tactic(auto, unfolding(crate::specs::Below::below))]
-pub fn below(state: &State, row: &LabelRow) -> Result<u64, RuleFault>
+pub fn cost_below(state: &State, row: &LabelRow) -> Result<u64, Rule>
     requires { AreApart row.now.entries.items }
-    ensures { numbered result ≡ below (state_of state.now) (label_of row.now) }
+    ensures { result ≡ below (state_of state.now) (label_of row.now) }
 {
-    let cost = match cost(state, row) {
-        Some(cost) => cost,
-        None => return Err(RuleFault { number: BUDGET }),
-    };
+    let cost = cost(state, row).ok_or(Rule::Budget)?;
     if !agrees(state, row) {
-        return Err(RuleFault { number: LABEL });
+        return Err(Rule::Label);
     }
     Ok(cost)
+}
+
+/// What `cost_below` answers, with the rule as its number.
+pub fn below(state: &State, row: &LabelRow) -> Result<u64, RuleFault>
+    requires { AreApart row.now.entries.items }
+    ensures { result ≡ reported (below (state_of state.now) (label_of row.now)) }
+{
+    Ok(cost_below(state, row)?)
 }

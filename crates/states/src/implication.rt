@@ -76,38 +76,16 @@ pub fn says(fact: WordFact, wanted: WordFact) -> bool
 {
     match (fact, wanted) {
         (_, WordFact::Alone(other)) => implies(fact.by_itself(), other),
-        (WordFact::Alone(known), WordFact::Index { base, .. }) => is_constant(
+        (WordFact::Alone(known), WordFact::Index(wanted)) => is_constant(
             known,
-            i64::from(base),
+            i64::from(wanted.base),
         ),
-        (WordFact::Alone(known), WordFact::Count { count, .. }) => is_constant(
+        (WordFact::Alone(known), WordFact::Count(wanted)) => is_constant(
             known,
-            i64::from(count),
+            i64::from(wanted.count),
         ),
-        (
-            WordFact::Index {
-                base,
-                count,
-                weight,
-            },
-            WordFact::Index {
-                base: other,
-                count: turns,
-                weight: price,
-            },
-        ) => base == other && count == turns && weight == price,
-        (
-            WordFact::Count {
-                base,
-                count,
-                weight,
-            },
-            WordFact::Count {
-                base: other,
-                count: turns,
-                weight: price,
-            },
-        ) => base == other && count == turns && weight == price,
+        (WordFact::Index(known), WordFact::Index(wanted))
+        | (WordFact::Count(known), WordFact::Count(wanted)) => known == wanted,
         _ => false,
     }
 }

@@ -7,15 +7,26 @@ ghost use Rattle.states.specs.Frames.{is_index, is_count};
 
 use certificate::Fact;
 
+/// A loop that a frame counts in two words, its index and its count.
+#[derive(Clone, Copy, Debug, PartialEq, Eq)]
+pub struct Loop {
+    /// The index in the first turn.
+    pub base: i32,
+    /// How many turns there are.
+    pub count: u32,
+    /// What a turn may cost.
+    pub weight: u64,
+}
+
 /// What is known of a word of the frame.
 #[derive(Clone, Copy, Debug, PartialEq, Eq)]
 pub enum WordFact {
     /// This, by itself.
     Alone(Fact),
     /// It is the first word of a loop, its index: `base + count - c`, where c is the second word.
-    Index { base: i32, count: u32, weight: u64 },
+    Index(Loop),
     /// It is the second word of a loop, its count: the turns that are left, from 1 to `count`.
-    Count { base: i32, count: u32, weight: u64 },
+    Count(Loop),
 }
 
 impl WordFact {
@@ -27,11 +38,11 @@ impl WordFact {
     {
         match self {
             WordFact::Alone(fact) => fact,
-            WordFact::Index { base, count, .. } => Fact::Number {
+            WordFact::Index(Loop { base, count, .. }) => Fact::Number {
                 lo: base,
                 hi: base + (count - 1) as i32,
             },
-            WordFact::Count { count, .. } => Fact::Number {
+            WordFact::Count(Loop { count, .. }) => Fact::Number {
                 lo: 1,
                 hi: count as i32,
             },
@@ -57,14 +68,14 @@ impl WordFact {
     pub(crate) fn is_index(self) -> bool
         ensures { result ≡ is_index self }
     {
-        matches!(self, WordFact::Index { .. })
+        matches!(self, WordFact::Index(_))
     }
 
     /// Whether the word is the count of a loop.
     pub(crate) fn is_count(self) -> bool
         ensures { result ≡ is_count self }
     {
-        matches!(self, WordFact::Count { .. })
+        matches!(self, WordFact::Count(_))
     }
 }
 

@@ -12,12 +12,12 @@ mod state;
 #[cfg(test)]
 mod tests;
 
-pub use comparison::below;
+pub use comparison::{below, cost_below};
 pub use implication::{implies, says};
-pub use known::{Guard, Known, Mode, Source, WordFact};
+pub use known::{Guard, Known, Loop, Mode, Source, WordFact};
 pub use rule::{
     ALTERNATION, BUDGET, CALL, CHANNEL, FLOW, FORWARD, INSTRUCTION_START, LABEL, MEMORY,
-    MESSAGE_LENGTH, NUMBER, OWN_WORD, PAR, POINTER, REGIONS_MEET, RuleFault, SPELLING,
+    MESSAGE_LENGTH, NUMBER, OWN_WORD, PAR, POINTER, REGIONS_MEET, Rule, RuleFault, SPELLING,
     UNKNOWN_REGISTER,
 };
 pub use state::State;

@@ -5,7 +5,7 @@ ghost use Rattle.module_format.specs.Facts.{end_of};
 ghost use Rattle.states.specs.Rows.{AreApart};
 ghost use Rattle.states.specs.State.{is_word, is_about, said_of, entry_fact};
 
-use crate::known::WordFact;
+use crate::known::{Loop, WordFact};
 use certificate::{Entry, Fact};
 
 /// The first word of an entry.
@@ -40,20 +40,20 @@ fn said_of(fact: Fact, is_first: bool) -> WordFact
             base,
             count,
             weight,
-        } if is_first => WordFact::Index {
+        } if is_first => WordFact::Index(Loop {
             base,
             count,
             weight,
-        },
+        }),
         Fact::Loop {
             base,
             count,
             weight,
-        } => WordFact::Count {
+        } => WordFact::Count(Loop {
             base,
             count,
             weight,
-        },
+        }),
         _ => WordFact::Alone(fact),
     }
 }
@@ -96,7 +96,7 @@ fn stretch_from(entry: &Entry, word: i64) -> (WordFact, i64)
 {
     let fact = said_of(entry.fact, start_of(entry) == word);
     match fact {
-        WordFact::Index { .. } => (fact, word + 1),
+        WordFact::Index(_) => (fact, word + 1),
         _ => (fact, end_of(entry)),
     }
 }

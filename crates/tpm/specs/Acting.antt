@@ -7,7 +7,7 @@ use Rattle.module_format.specs.Keeping.{Format}
 use Rattle.module_format.specs.Reading.{out_of_memory}
 use Rattle.module_format.specs.ReadingFile.{read_contents}
 use Rattle.verifier.specs.declared.Refusal.{Refusal}
-use Rattle.verifier.specs.Certified.{IsCertified, IsRefused}
+use Rattle.verifier.specs.Certified.{IsCertified, Reports}
 use Rattle.tpm.specs.declared.files.FileFault.{FileFault}
 use Rattle.tpm.specs.declared.files.FileFault.TheVariants as file_faults
 use Rattle.tpm.specs.declared.report.Report.{Report}
@@ -42,8 +42,7 @@ pub record IsMalformed (bytes : List ℕ) (fault : FormatFault) : Type 0 where
 pub record IsUncertified (bytes : List ℕ) (refusal : Refusal) : Type 0 where
   pub contents : Contents
   pub format : Format bytes contents
-  pub refused : refusal.number ≢ 17 → IsRefused contents refusal.number refusal.offset
-  pub memory : refusal.number ≡ 17 → refusal.offset ≡ 0
+  pub reported : Reports contents refusal
 
 -- why nothing is told of the module in the bytes
 abbrev pub IsHindered : List ℕ → Failure → Type 0

@@ -1,5 +1,6 @@
 -- The verdict on a module is right: Ok where the module is certified, and else the first rule that is broken. No module is both.
-use Rattle.std.proofs.Common.{◌≡◌, ℕ, zero, suc, ◌+◌, ◌-◌, ◌≤◌, ◌<◌, Bool, true, false, cond, if◌then◌else◌, leb, eqb, length, Option, Some, None, Result, Ok, Err, ◌⊎◌, inl, inr, refl, sym, ap, ◌∙◌, subst, arith, min}
+use Rattle.std.proofs.Common.{◌≡◌, ℕ, zero, suc, ◌+◌, ◌-◌, ◌≤◌, ◌<◌, Bool, true, false, cond, if◌then◌else◌, leb, eqb, length, Option, Some, None, Result, Ok, Err, ◌⊎◌, inl, inr, refl, sym, ap, ◌∙◌, subst, arith}
+use Rattle.std.specs.Prelude.{nat_lt}
 use Rattle.std.proofs.lemmas.Bool.{cases_lt, cases_eq, cases_Bool, le-leb}
 use Rattle.std.proofs.lemmas.Bool.Decides.{leb_tells, eqb_tells, nat_tests}
 use Rattle.std.proofs.lemmas.Option.{some_pair_parts}
@@ -8,13 +9,16 @@ use Rattle.prefix_decoder.specs.declared.decoding.DecodeFault.{DecodeFault}
 use Rattle.prefix_decoder.specs.Fetching.{fetched}
 use Rattle.module_format.specs.Contents.{Contents}
 use Rattle.certificate.specs.Starts.{is_start}
+use Rattle.states.specs.declared.rule.Rule.{Rule}
+use Rattle.states.specs.declared.rule.Rule.TheVariants as rules
+use Rattle.states.specs.Numbers.{number_of}
 use Rattle.states.specs.State.{State, root_state}
 use Rattle.facts.specs.Rules.{Ruling, falls, leads, ends, breaks, rule_at, has_rule}
-use Rattle.facts.proofs.Unruled.{unruled as breaks_one}
-use Rattle.verifier.specs.declared.Refusal.{Refusal}
+use Rattle.facts.proofs.Steps.{unruled as breaks_one}
+use Rattle.verifier.specs.declared.stop.Breach.{Breach}
 use Rattle.verifier.specs.Certified.{falling, given, state_at, entering, Reaches, begins, follows, HoldsAt, HoldsBelow, IsCertified, IsRefused, IsBroken, misspelled, unruled, hidden, unreached, fallen_off, entered, broken}
 use Rattle.verifier.proofs.Given.{nothing_given, is_given}
-use Rattle.verifier.specs.Judge.{Verdict, past_starts, past_rule, past_spelling, both, judged_in, judged_at, first_start, refused, at_the_end, judge, verdict}
+use Rattle.verifier.specs.Judge.{Verdict, lower, past_starts, past_rule, past_spelling, both, judged_in, judged_at, first_start, refused, at_the_end, judge, verdict}
 
 -- ---- no module is both
 
@@ -34,12 +38,12 @@ option_cases : {A : Type 0} (o : Option A) → (o ≡ None) ⊎ ((x : A) × (o �
 option_cases None = inl refl
 option_cases (Some x) = inr (x, refl)
 
-excluded : (m : Contents) (v at : ℕ) → IsCertified m → IsBroken m v at → ⊥
+excluded : (m : Contents) (v : Rule) (at : ℕ) → IsCertified m → IsBroken m v at → ⊥
 excluded m v at c (misspelled _ r low e) = let h = c.holds.each _ _ low r in ok_or_err (fetched m.code at) h.instr _ h.spelled e
 excluded m v at c (unruled _ r low sp lacking) =
     let h = c.holds.each _ _ low r in
     let i_is = same_ok (fetched m.code at) h.instr _ h.spelled sp in
-    h.unbroken 1 (breaks_one m at h.instr h.state (ap has_rule i_is ∙ lacking))
+    h.unbroken rules.Spelling (breaks_one m at h.instr h.state (ap has_rule i_is ∙ lacking))
 excluded m v at c (hidden _ low start none) = let r = c.holds.starts _ low start in none r.0 r.1
 excluded m v at c (unreached _ r low sp ruled g) =
     let h = c.holds.each _ _ low r in
@@ -54,7 +58,7 @@ excluded m v at c (broken {before = before} {s = s} {i = i} r low st sp b) =
     let s_is : s ≡ h.state = same_some (state_at m at before) s h.state st h.stands in
     h.unbroken v (ap (λ j. rule_at m at j h.state) (sym i_is) ∙ ap (λ t. rule_at m at i t) (sym s_is) ∙ b)
 
-pub not_both : (m : Contents) (v at : ℕ) → IsCertified m → IsRefused m v at → ⊥
+pub not_both : (m : Contents) (v : Rule) (at : ℕ) → IsCertified m → IsRefused m v at → ⊥
 not_both m v at c r = excluded m v at c r.broken
 
 -- ---- what one step of the verdict says
@@ -65,10 +69,10 @@ pub record Stepped (m : Contents) (at : ℕ) (before : Option State) (i : Instr)
   pub stands : state_at m at before ≡ Some state
   pub cost : ℕ
   pub enters : entering m at before ≡ Ok cost
-  pub unbroken : (v : ℕ) → rule_at m at i state ≡ breaks v → ⊥
+  pub unbroken : (v : Rule) → rule_at m at i state ≡ breaks v → ⊥
   pub after_is : after ≡ falling (rule_at m at i state)
 
-both_ok : (e : Result ℕ ℕ) (r : Ruling) (after : Option State) → both e r ≡ Ok after → (cost : ℕ) × (e ≡ Ok cost) × ((v : ℕ) → r ≡ breaks v → ⊥) × (after ≡ falling r)
+both_ok : (e : Result ℕ Rule) (r : Ruling) (after : Option State) → both e r ≡ Ok after → (cost : ℕ) × (e ≡ Ok cost) × ((v : Rule) → r ≡ breaks v → ⊥) × (after ≡ falling r)
 both_ok (Ok cost) (falls s) after h = (cost, refl, (λ v e. cc), cc)
 both_ok (Ok cost) (leads to) after h = (cost, refl, (λ v e. cc), cc)
 both_ok (Ok cost) ends after h = (cost, refl, (λ v e. cc), cc)
@@ -78,10 +82,11 @@ both_ok (Err u) (leads to) after h = absurd (cc)
 both_ok (Err u) ends after h = absurd (cc)
 both_ok (Err u) (breaks v) after h = absurd (cc)
 
-min_is : (u w : ℕ) → (min u w ≡ u) ⊎ (min u w ≡ w)
-min_is u w = elim (cases_lt u w) [ inl h ↦ inl (omega arith) | inr h ↦ inr (omega arith) ]
+lower_is : (u w : Rule) (b : Bool) → ((if b then w else u) ≡ u) ⊎ ((if b then w else u) ≡ w)
+lower_is u w true = inr refl
+lower_is u w false = inl refl
 
-both_err : (e : Result ℕ ℕ) (r : Ruling) (v : ℕ) → both e r ≡ Err v → (e ≡ Err v) ⊎ (r ≡ breaks v)
+both_err : (e : Result ℕ Rule) (r : Ruling) (v : Rule) → both e r ≡ Err v → (e ≡ Err v) ⊎ (r ≡ breaks v)
 both_err (Ok cost) (falls s) v h = absurd (cc)
 both_err (Ok cost) (leads to) v h = absurd (cc)
 both_err (Ok cost) ends v h = absurd (cc)
@@ -90,8 +95,11 @@ both_err (Err u) (falls s) v h = inl (cc)
 both_err (Err u) (leads to) v h = inl (cc)
 both_err (Err u) ends v h = inl (cc)
 both_err (Err u) (breaks w) v h =
-    let e : min u w ≡ v = cc in
-    elim (min_is u w) [ inl p ↦ inl (ap Err (sym p ∙ e)) | inr p ↦ inr (ap breaks (sym p ∙ e)) ]
+    let e : lower u w ≡ v = cc in
+    elim (lower_is u w (nat_lt (number_of w) (number_of u))) [
+      | inl p ↦ inl (ap Err (sym p ∙ e))
+      | inr p ↦ inr (ap breaks (sym p ∙ e))
+    ]
 
 stepped_in : (m : Contents) (at : ℕ) (before : Option State) (i : Instr) (after : Option State) (o : Option State) → state_at m at before ≡ o → judged_in m at before i o ≡ Ok after → Stepped m at before i after
 stepped_in m at before i after None e h = absurd (cc)
@@ -103,17 +111,17 @@ stepped : (m : Contents) (at : ℕ) (before : Option State) (i : Instr) (after :
 unfolding judged_at
 stepped m at before i after h = stepped_in m at before i after (state_at m at before) refl h
 
-told_is : (v w : ℕ) → ◌≡◌ {A = Result (Option State) ℕ} (Err v) (Err w) → v ≡ w
+told_is : (v w : Rule) → ◌≡◌ {A = Result (Option State) Rule} (Err v) (Err w) → v ≡ w
 told_is v w h = cc
 
 -- the rule that the instruction at a reached offset breaks
-broken_in : (m : Contents) (at : ℕ) (before : Option State) (i : Instr) (v : ℕ) (o : Option State) → state_at m at before ≡ o → Reaches m at before → at < length m.code → fetched m.code at ≡ Ok i
+broken_in : (m : Contents) (at : ℕ) (before : Option State) (i : Instr) (v : Rule) (o : Option State) → state_at m at before ≡ o → Reaches m at before → at < length m.code → fetched m.code at ≡ Ok i
     → judged_in m at before i o ≡ Err v → IsBroken m v at
 broken_in m at before i v None e r low sp h = elim (cases_Bool (has_rule i)) [
-  | inr lacking ↦ unruled (told_is _ _ (sym h ∙ ap (λ (b : Bool). Err (if b then 3 else 1)) lacking)) r low sp lacking
+  | inr lacking ↦ unruled (told_is _ _ (sym h ∙ ap (λ (b : Bool). Err (if b then rules.Flow else rules.Spelling)) lacking)) r low sp lacking
   | inl ruled ↦ elim (option_cases (given m at)) [
     | inl g ↦
-        let three = told_is _ _ (sym h ∙ ap (λ (b : Bool). Err (if b then 3 else 1)) ruled) in
+        let three = told_is _ _ (sym h ∙ ap (λ (b : Bool). Err (if b then rules.Flow else rules.Spelling)) ruled) in
         unreached three (subst (λ b. Reaches m at b) (sym (nothing_given m at before g) ∙ e) r) low sp ruled g
     | inr g ↦ absurd (none_or_some (state_at m at before) g.0 e (is_given m at before g.0 g.1))
   ]
@@ -121,7 +129,7 @@ broken_in m at before i v None e r low sp h = elim (cases_Bool (has_rule i)) [
 broken_in m at before i v (Some s) e r low sp h =
     elim (both_err (entering m at before) (rule_at m at i s) v h) [ inl p ↦ entered r low p | inr p ↦ broken r low e sp p ]
 
-broken_at : (m : Contents) (at : ℕ) (before : Option State) (i : Instr) (v : ℕ) → Reaches m at before → at < length m.code → fetched m.code at ≡ Ok i → judged_at m at before i ≡ Err v → IsBroken m v at
+broken_at : (m : Contents) (at : ℕ) (before : Option State) (i : Instr) (v : Rule) → Reaches m at before → at < length m.code → fetched m.code at ≡ Ok i → judged_at m at before i ≡ Err v → IsBroken m v at
 unfolding judged_at
 broken_at m at before i v r low sp h = broken_in m at before i v (state_at m at before) refl r low sp h
 
@@ -330,7 +338,7 @@ leb-false a b h = elim (leb_tells a b) [ inl t ↦ absurd (omega (arith, t.1)) |
 
 -- ---- the states that the pass gives
 
-abbrev walk_on : (ℕ → Option State → Option State) → ℕ → Result (Option State) ℕ → Option State
+abbrev walk_on : (ℕ → Option State → Option State) → ℕ → Result (Option State) Rule → Option State
 walk_on go to (Err v) = None
 walk_on go to (Ok after) = go to after
 
@@ -367,28 +375,28 @@ pub record Passed (n : ℕ) (m : Contents) (at : ℕ) (before : Option State) (v
   pub rest : judge n m (at + instr.len) after ≡ v
 
 -- one at which it refuses
-pub data Halted (m : Contents) (at : ℕ) (before : Option State) : ℕ → ℕ → Type 0 where
-  at_spelling : {v o : ℕ} {e : DecodeFault} → v ≡ 1 → o ≡ at → fetched m.code at ≡ Err e → Halted m at before v o
-  at_rule : {v o : ℕ} {i : Instr} → o ≡ at → fetched m.code at ≡ Ok i → judged_at m at before i ≡ Err v → Halted m at before v o
-  at_start_within : {v o : ℕ} {i : Instr} {after : Option State} → v ≡ 2 → fetched m.code at ≡ Ok i → judged_at m at before i ≡ Ok after → first_start m (at + 1) (i.len - 1) ≡ Some o → Halted m at before v o
+pub data Halted (m : Contents) (at : ℕ) (before : Option State) : Rule → ℕ → Type 0 where
+  at_spelling : {v : Rule} {o : ℕ} {e : DecodeFault} → v ≡ rules.Spelling → o ≡ at → fetched m.code at ≡ Err e → Halted m at before v o
+  at_rule : {v : Rule} {o : ℕ} {i : Instr} → o ≡ at → fetched m.code at ≡ Ok i → judged_at m at before i ≡ Err v → Halted m at before v o
+  at_start_within : {v : Rule} {o : ℕ} {i : Instr} {after : Option State} → v ≡ rules.InstructionStart → fetched m.code at ≡ Ok i → judged_at m at before i ≡ Ok after → first_start m (at + 1) (i.len - 1) ≡ Some o → Halted m at before v o
 
 module _ (n : ℕ) (m : Contents) (at : ℕ) (before : Option State) where
   past_starts_is : (i : Instr) (after : Option State) (found : Option ℕ) (v : Verdict) → fetched m.code at ≡ Ok i → judged_at m at before i ≡ Ok after → first_start m (at + 1) (i.len - 1) ≡ found
-      → past_starts (λ to after. judge n m to after) (at + i.len) after found ≡ v → Passed n m at before v ⊎ ((r : Refusal) × (v ≡ Err r) × Halted m at before r.number r.offset)
-  past_starts_is i after (Some o) v sp j l h = inr (record { number = 2; offset = o }, sym h, at_start_within refl sp j l)
+      → past_starts (λ to after. judge n m to after) (at + i.len) after found ≡ v → Passed n m at before v ⊎ ((r : Breach) × (v ≡ Err r) × Halted m at before r.rule r.offset)
+  past_starts_is i after (Some o) v sp j l h = inr (record { rule = rules.InstructionStart; offset = o }, sym h, at_start_within refl sp j l)
   past_starts_is i after None v sp j l h = inl (record { instr = i; spelled = sp; after = after; judged = j; no_start = l; rest = h })
 
-  past_rule_is : (i : Instr) (judged : Result (Option State) ℕ) (v : Verdict) → fetched m.code at ≡ Ok i → judged_at m at before i ≡ judged
-      → past_rule m (λ to after. judge n m to after) at i.len judged ≡ v → Passed n m at before v ⊎ ((r : Refusal) × (v ≡ Err r) × Halted m at before r.number r.offset)
-  past_rule_is i (Err u) v sp j h = inr (record { number = u; offset = at }, sym h, at_rule refl sp j)
+  past_rule_is : (i : Instr) (judged : Result (Option State) Rule) (v : Verdict) → fetched m.code at ≡ Ok i → judged_at m at before i ≡ judged
+      → past_rule m (λ to after. judge n m to after) at i.len judged ≡ v → Passed n m at before v ⊎ ((r : Breach) × (v ≡ Err r) × Halted m at before r.rule r.offset)
+  past_rule_is i (Err u) v sp j h = inr (record { rule = u; offset = at }, sym h, at_rule refl sp j)
   past_rule_is i (Ok after) v sp j h = past_starts_is i after (first_start m (at + 1) (i.len - 1)) v sp j refl h
 
   past_spelling_is : (fetch : Result Instr DecodeFault) (v : Verdict) → fetched m.code at ≡ fetch
-      → past_spelling m (λ to after. judge n m to after) at before fetch ≡ v → Passed n m at before v ⊎ ((r : Refusal) × (v ≡ Err r) × Halted m at before r.number r.offset)
-  past_spelling_is (Err e) v sp h = inr (record { number = 1; offset = at }, sym h, at_spelling refl refl sp)
+      → past_spelling m (λ to after. judge n m to after) at before fetch ≡ v → Passed n m at before v ⊎ ((r : Breach) × (v ≡ Err r) × Halted m at before r.rule r.offset)
+  past_spelling_is (Err e) v sp h = inr (record { rule = rules.Spelling; offset = at }, sym h, at_spelling refl refl sp)
   past_spelling_is (Ok i) v sp h = past_rule_is i (judged_at m at before i) v sp refl h
 
-  judge_step : (v : Verdict) → at < length m.code → judge (suc n) m at before ≡ v → Passed n m at before v ⊎ ((r : Refusal) × (v ≡ Err r) × Halted m at before r.number r.offset)
+  judge_step : (v : Verdict) → at < length m.code → judge (suc n) m at before ≡ v → Passed n m at before v ⊎ ((r : Breach) × (v ≡ Err r) × Halted m at before r.rule r.offset)
   unfolding judge
   judge_step v low h =
       let e : past_spelling m (λ to after. judge n m to after) at before (fetched m.code at) ≡ v =
@@ -551,7 +559,7 @@ module _ (m : Contents) (spans : Spans m) where
     ];
   }
 
-  halted_is_refused : (at : ℕ) (before : Option State) (n v o : ℕ) → at < length m.code → Arrived at before (suc n) → Halted m at before v o → IsRefused m v o
+  halted_is_refused : (at : ℕ) (before : Option State) (n : ℕ) (v : Rule) (o : ℕ) → at < length m.code → Arrived at before (suc n) → Halted m at before v o → IsRefused m v o
   halted_is_refused at before n v o low a (at_spelling v_is o_is sp) =
       rw o_is (record { states = states_of m; holds = a.below; broken = misspelled v_is a.reached low sp })
   halted_is_refused at before n v o low a (at_rule {i = i} o_is sp j) =
@@ -568,14 +576,14 @@ module _ (m : Contents) (spans : Spans m) where
         broken = hidden v_is (omega arith) f.here (λ b r. none_within m spans at o before b i sp above high a.reached r);
       }
 
-  ended_is_refused : (at : ℕ) (before : Option State) (n : ℕ) (r : Refusal) → at ≡ length m.code → Arrived at before n → at_the_end at before ≡ Err r → IsRefused m r.number r.offset
+  ended_is_refused : (at : ℕ) (before : Option State) (n : ℕ) (r : Breach) → at ≡ length m.code → Arrived at before n → at_the_end at before ≡ Err r → IsRefused m r.rule r.offset
   ended_is_refused at None n r e a h = absurd (cc)
   ended_is_refused at (Some s) n r e a h =
-      let same : ◌≡◌ {A = Verdict} (refused 3 at) (Err r) = h in
-      let r_is : record { number = 3; offset = at } ≡ r = cc in
-      subst (λ (r : Refusal). IsRefused m r.number r.offset) r_is (record { states = states_of m; holds = a.below; broken = fallen_off refl e a.reached })
+      let same : ◌≡◌ {A = Verdict} (refused rules.Flow at) (Err r) = h in
+      let r_is : record { rule = rules.Flow; offset = at } ≡ r = cc in
+      subst (λ (r : Breach). IsRefused m r.rule r.offset) r_is (record { states = states_of m; holds = a.below; broken = fallen_off refl e a.reached })
 
-  judged_is_refused : (n at : ℕ) (before : Option State) (r : Refusal) → Arrived at before n → judge n m at before ≡ Err r → IsRefused m r.number r.offset
+  judged_is_refused : (n at : ℕ) (before : Option State) (r : Breach) → Arrived at before n → judge n m at before ≡ Err r → IsRefused m r.rule r.offset
   judged_is_refused zero at before r a h =
       ended_is_refused at before zero r (omega (arith, a.enough, a.inside)) a (sym (judge_end zero m at before (omega (arith, a.enough))) ∙ h)
   judged_is_refused (suc n) at before r a h = elim (cases_lt at (length m.code)) [
@@ -584,7 +592,7 @@ module _ (m : Contents) (spans : Spans m) where
       | inr x ↦
           let same : ◌≡◌ {A = Verdict} (Err r) (Err x.0) = x.1 in
           let r_is : x.0 ≡ r = cc in
-          subst (λ (r : Refusal). IsRefused m r.number r.offset) r_is (halted_is_refused at before n x.0.number x.0.offset low a x.2)
+          subst (λ (r : Breach). IsRefused m r.rule r.offset) r_is (halted_is_refused at before n x.0.rule x.0.offset low a x.2)
       | inl p ↦
           let step = stepped m at before p.instr p.after p.judged in
           let some = spans.some at p.instr p.spelled in
@@ -600,7 +608,7 @@ module _ (m : Contents) (spans : Spans m) where
     ]
   ]
 
-  pub refused_is_refused : (r : Refusal) → verdict m ≡ Err r → IsRefused m r.number r.offset
+  pub refused_is_refused : (r : Breach) → verdict m ≡ Err r → IsRefused m r.rule r.offset
   refused_is_refused r h = judged_is_refused (length m.code) 0 (Some (root_state m)) r (record {
     reached = begins;
     enough = omega arith;

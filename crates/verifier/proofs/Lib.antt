@@ -1,8 +1,8 @@
 pub mod Given
 pub mod Judging
+pub mod Reporting
 pub mod RowsLeft
 pub mod Passing
-pub mod Low
 pub mod Lists
 pub mod Steps
 pub mod Worlds

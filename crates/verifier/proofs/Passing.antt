@@ -1,5 +1,5 @@
 -- The pass, one instruction behind another, against the verdict.
-use Rattle.std.proofs.Common.{◌≡◌, ℕ, zero, suc, ◌+◌, ◌-◌, ◌≤◌, ◌<◌, Bool, true, false, cond, leb, length, Option, Some, None, Result, Ok, Err, refl, sym, ap, ◌∙◌, arith, ◌⊎◌, inl, inr}
+use Rattle.std.proofs.Common.{◌≡◌, ℕ, zero, suc, ◌+◌, ◌-◌, ◌≤◌, ◌<◌, Bool, true, false, cond, leb, length, Option, Some, None, Result, Ok, Err, refl, sym, ap, ◌∙◌, subst, arith, inl, inr}
 use Rattle.std.proofs.lemmas.Bool.{cases_eq}
 use Rattle.std.proofs.lemmas.Bool.Decides.{leb_tells}
 use Rattle.prefix_decoder.specs.declared.decoding.Instr.{Instr}
@@ -7,10 +7,13 @@ use Rattle.prefix_decoder.specs.declared.decoding.DecodeFault.{DecodeFault}
 use Rattle.prefix_decoder.specs.Fetching.{fetched}
 use Rattle.module_format.specs.Contents.{Contents}
 use Rattle.certificate.specs.Starts.{is_start}
+use Rattle.states.specs.declared.rule.Rule.{Rule}
+use Rattle.states.specs.declared.rule.Rule.TheVariants as rules
 use Rattle.states.specs.State.{State, root_state}
-use Rattle.verifier.specs.declared.Refusal.{Refusal}
+use Rattle.verifier.specs.declared.stop.Stop.{Stop}
+use Rattle.verifier.specs.declared.stop.Stop.TheVariants as stops
 use Rattle.verifier.specs.Judge.{past_starts, past_rule, past_spelling, judged_at, first_start, refused, at_the_end, judge, verdict}
-use Rattle.verifier.specs.Judging.{falling_state}
+use Rattle.verifier.specs.Judging.{falling_state, StopsBy}
 use Rattle.verifier.proofs.Judging.{Spans, judge_end}
 
 -- ---- the verdict from an offset on
@@ -45,24 +48,24 @@ further : (m : Contents) (at : ℕ) (before : Option State) → at < length m.co
 further m at before low w = further-by m at w.fuel before low w.enough w.same
 
 -- where no spelling stands
-pub misspelled-is : (m : Contents) (at : ℕ) (before : Option State) (e : DecodeFault) → at < length m.code → OnTheWay m at before → fetched m.code at ≡ Err e → verdict m ≡ refused 1 at
+pub misspelled-is : (m : Contents) (at : ℕ) (before : Option State) (e : DecodeFault) → at < length m.code → OnTheWay m at before → fetched m.code at ≡ Err e → verdict m ≡ refused rules.Spelling at
 misspelled-is m at before e low w sp =
     let f = further m at before low w in
     sym f.same ∙ ap (past_spelling m (λ to after. judge f.fuel m to after) at before) sp
 
-judged-is : (m : Contents) (at : ℕ) (before : Option State) (i : Instr) (judged : Result (Option State) ℕ) (low : at < length m.code) (w : OnTheWay m at before) → fetched m.code at ≡ Ok i → judged_at m at before i ≡ judged
+judged-is : (m : Contents) (at : ℕ) (before : Option State) (i : Instr) (judged : Result (Option State) Rule) (low : at < length m.code) (w : OnTheWay m at before) → fetched m.code at ≡ Ok i → judged_at m at before i ≡ judged
     → verdict m ≡ past_rule m (λ to after. judge (further m at before low w).fuel m to after) at i.len judged
 judged-is m at before i judged low w sp j =
     let f = further m at before low w in
     sym f.same ∙ ap (past_spelling m (λ to after. judge f.fuel m to after) at before) sp ∙ ap (past_rule m (λ to after. judge f.fuel m to after) at i.len) j
 
 -- where a rule is broken
-pub broken-is : (m : Contents) (at v : ℕ) (before : Option State) (i : Instr) → at < length m.code → OnTheWay m at before → fetched m.code at ≡ Ok i → judged_at m at before i ≡ Err v → verdict m ≡ refused v at
+pub broken-is : (m : Contents) (at : ℕ) (v : Rule) (before : Option State) (i : Instr) → at < length m.code → OnTheWay m at before → fetched m.code at ≡ Ok i → judged_at m at before i ≡ Err v → verdict m ≡ refused v at
 broken-is m at v before i low w sp j = judged-is m at before i (Err v) low w sp j
 
 -- where a start lies within the instruction
 pub hidden-is : (m : Contents) (at o : ℕ) (before after : Option State) (i : Instr) → at < length m.code → OnTheWay m at before → fetched m.code at ≡ Ok i → judged_at m at before i ≡ Ok after
-    → first_start m (at + 1) (i.len - 1) ≡ Some o → verdict m ≡ refused 2 o
+    → first_start m (at + 1) (i.len - 1) ≡ Some o → verdict m ≡ refused rules.InstructionStart o
 hidden-is m at o before after i low w sp j l =
     judged-is m at before i (Ok after) low w sp j ∙ ap (past_starts (λ to after. judge (further m at before low w).fuel m to after) (at + i.len) after) l
 
@@ -115,11 +118,12 @@ some-within m from end o low high h here = start-some m from (end - from) o low 
 
 -- ---- what the pass tells
 
--- a refusal that the verdict tells
-pub told : (m : Contents) (r : Refusal) (v o : ℕ) → r ≡ record { number = v; offset = o } → verdict m ≡ refused v o → (r ≡ record { number = 17; offset = 0 }) ⊎ (verdict m ≡ Err r)
-told m r v o e h = inr (h ∙ ap (λ (r : Refusal). Err r) (sym e))
+-- a stop that is the verdict's
+pub told : (m : Contents) (stop : Stop) (v : Rule) (o : ℕ) → stop ≡ stops.Broken (record { rule = v; offset = o })
+    → verdict m ≡ refused v o → StopsBy m stop
+told m stop v o e h = subst (StopsBy m) (sym e) h
 
-pub fallen-off : (m : Contents) (at : ℕ) (falls : Bool) (s : State) → length m.code ≤ at → OnTheWay m at (falling_state falls s) → falls ≡ true → verdict m ≡ refused 3 at
+pub fallen-off : (m : Contents) (at : ℕ) (falls : Bool) (s : State) → length m.code ≤ at → OnTheWay m at (falling_state falls s) → falls ≡ true → verdict m ≡ refused rules.Flow at
 fallen-off m at falls s high w e = ended-is m at (falling_state falls s) high w ∙ ap (λ (b : Bool). at_the_end at (falling_state b s)) e
 
 pub all-judged : (m : Contents) (at : ℕ) (falls : Bool) (s : State) → length m.code ≤ at → OnTheWay m at (falling_state falls s) → falls ≡ false → verdict m ≡ Ok tt

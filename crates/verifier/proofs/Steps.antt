@@ -19,6 +19,8 @@ use Rattle.machine_state.specs.Memory.{Memory, byte_at, word_at}
 use Rattle.machine_state.specs.Holding.{Holding, may_read, may_read_word}
 use Rattle.machine_state.specs.LocalStep.{Local, Outcome, goes, lands, stops, local_step}
 use Rattle.machine_state.specs.Happens.{between}
+use Rattle.states.specs.declared.rule.Rule.{Rule}
+use Rattle.states.specs.declared.rule.Rule.TheVariants as rules
 use Rattle.states.specs.State.{State, label_state}
 use Rattle.states.specs.Below.{below}
 use Rattle.facts.specs.Rules.{Ruling, falls, breaks, rule_at}
@@ -30,7 +32,7 @@ use Rattle.verifier.specs.Invariant.{Lives}
 use Rattle.facts.proofs.Words.{means_same, frame_word_is}
 use Rattle.states.proofs.RowFacts.{and-parts}
 use Rattle.facts.specs.Fitting.{After, Here, step_site, Fits, it_falls, it_leads, it_ends, it_breaks}
-use Rattle.facts.proofs.Local.{instruction_fits}
+use Rattle.facts.proofs.Local.{function_fits}
 use Rattle.facts.proofs.Entering.{below_tells, label_after}
 use Rattle.verifier.proofs.Given.{nothing_given, is_given, given_label, given_none, label_is_start}
 
@@ -137,11 +139,11 @@ after_some (Some f) g e n rest i some h =
     let fg : f ≡ g = cc in
     (sym fg ∙ ap (λ (j : Instr). j.fun) is, ap (λ (j : Instr). j.operand) is, ap (λ (j : Instr). j.len) is)
 
-fits_pays : (x : Here) {r : Ruling} {o : Outcome} → Fits x r o → ((v : ℕ) → r ≡ breaks v → ⊥) → x.len ≤ x.number
+fits_pays : (x : Here) {r : Ruling} {o : Outcome} → Fits x r o → ((v : Rule) → r ≡ breaks v → ⊥) → x.len ≤ x.number
 fits_pays x (it_falls low after changes pay) whole = omega arith
 fits_pays x (it_leads turns label low after changes pay) whole = omega arith
 fits_pays x (it_ends changes pay) whole = pay
-fits_pays x (it_breaks {v = v}) whole = absurd (whole v refl)
+fits_pays x (it_breaks {broken = v}) whole = absurd (whole v refl)
 
 -- ---- a process at its point
 
@@ -171,7 +173,7 @@ module _ (m : Contents) (d : Decodes m) (wf : IsWellFormed m) (c : IsCertified m
 
   -- at a label, or where the tables give no state
   enter_on : (h : Holding) (mode : machine.Mode) (act : Activation) (at : ℕ) (s : State) (l : Local) (cost : ℕ) (label : Option Label) (begun : Option Begun) → label_at m at ≡ label → procedure_at m at ≡ begun
-      → After m h mode act s l → elim label as (λ o. Result ℕ ℕ) [ None ↦ cond (is_some begun) (Err 3) (Ok 0) | Some t ↦ below s t ] ≡ Ok cost → Entered h mode at s.number (Some s) l
+      → After m h mode act s l → elim label as (λ o. Result ℕ Rule) [ None ↦ cond (is_some begun) (Err rules.Flow) (Ok 0) | Some t ↦ below s t ] ≡ Ok cost → Entered h mode at s.number (Some s) l
   enter_on h mode act at s l cost None None no_label no_procedure a ok = record {
     state = s;
     stands = nothing_given m at (Some s) (given_none m at no_label no_procedure);
@@ -230,14 +232,14 @@ module _ (m : Contents) (d : Decodes m) (wf : IsWellFormed m) (c : IsCertified m
       (local_step (step_site (here_of h p.act memory t p.state p.instr)) p.instr.fun p.instr.operand (record { registers = t.registers; memory = memory }))
   point_fits h memory t due p =
       let x = here_of h p.act memory t p.state p.instr in
-      instruction_fits x wf p.state (record { registers = t.registers; memory = memory })
+      function_fits x wf p.state (record { registers = t.registers; memory = memory })
       (record { frame = p.frame; knows = p.knows; same_mode = p.mode })
       (record { size = refl; others = λ place e. refl }) refl
       p.instr.fun p.instr.operand (d.fits t.registers.began p.instr p.reading.spelled)
       (has_next t.registers.began p.before p.state p.instr p.reached p.stands p.reading.spelled)
 
   -- the rule at the process's point is not broken
-  pub unbroken : (h : Holding) (memory : Memory) (t : Task) (due : ℕ) (p : Stands m h memory t due) → t.registers.began < length m.code → (v : ℕ) → rule_at m t.registers.began p.instr p.state ≡ breaks v → ⊥
+  pub unbroken : (h : Holding) (memory : Memory) (t : Task) (due : ℕ) (p : Stands m h memory t due) → t.registers.began < length m.code → (v : Rule) → rule_at m t.registers.began p.instr p.state ≡ breaks v → ⊥
   unbroken h memory t due p low v e =
       let holds = c.holds.each t.registers.began p.before low p.reached in
       let i_is : p.instr ≡ holds.instr = same_ok (fetched m.code t.registers.began) p.instr holds.instr p.reading.spelled holds.spelled in
@@ -313,7 +315,7 @@ module _ (m : Contents) (d : Decodes m) (wf : IsWellFormed m) (c : IsCertified m
       let st : state_at m to r.0 ≡ Some (label_state label) = is_given m to r.0 (label_state label) (given_label m to label is) in
       comes_to label.number changes (lives_at h t.mode (with_turns turns p.act) to r.0 (label_state label) l r.1 low st after) (omega (arith, p.paid))
   comes h memory t due p r o e last (it_ends changes pay) = comes_down changes (omega (arith, p.paid))
-  comes h memory t due p r o e last (it_breaks {v = v}) = absurd (unbroken h memory t due p (began_inside h memory t due p) v (sym e))
+  comes h memory t due p r o e last (it_breaks {broken = v}) = absurd (unbroken h memory t due p (began_inside h memory t due p) v (sym e))
 
   -- the last byte of an instruction
   pub comes_last : (h : Holding) (memory : Memory) (t : Task) (due byte : ℕ) (f : Fun) → Stands m h memory t due → slice_get m.code t.registers.at ≡ Some byte → fun_of (function_code byte) ≡ Some f

@@ -16,6 +16,7 @@ use Rattle.machine_state.specs.declared.event.Event.{Event}
 use Rattle.machine_state.specs.declared.event.Event.TheVariants.{Step, Arrive, Acknowledge}
 use Rattle.machine_state.specs.declared.link.InputLink.{InputLink}
 use Rattle.machine_state.specs.declared.link.OutputLink.{OutputLink}
+use Rattle.machine_state.specs.declared.fault.FaultKind.TheVariants.{OutsideCode}
 use Rattle.machine_state.specs.Memory.{Memory, byte_at, with_byte}
 use Rattle.machine_state.specs.Holding.{Holding, nothing, may_write, may_read, IsApart}
 use Rattle.machine_state.specs.World.{World, Role, Links, held, holding_at, input_word, output_word}
@@ -234,7 +235,7 @@ module _ (m : Contents) (d : Decodes m) (wf : IsWellFormed m) (c : IsCertified m
       u = record r.task { registers = record r.task.registers { at = r.task.registers.at + 1; operand = after_prefix (function_code byte) (with_nibble r.task.registers.operand (nibble byte)) } }
 
       on_test : (b : Bool) → ltb (r.task.registers.at + 1) (length m.code) ≡ b → r.task.registers.at + 1 < length m.code → Holds m (counted (put p u w.memory w))
-          → Holds m (if b then did ran (counted (put p u w.memory w)) else failed 3 p r.task w).world
+          → Holds m (if b then did ran (counted (put p u w.memory w)) else failed OutsideCode p r.task w).world
       on_test true e low holds = holds
       on_test false e low holds = elim (leb_tells (suc (r.task.registers.at + 1)) (length m.code)) [ inl t ↦ let no' : true ≡ false = sym t.0 ∙ e in absurd (cc) | inr t ↦ let high : length m.code < suc (r.task.registers.at + 1) = t.1 in absurd (omega arith) ]
 
@@ -280,7 +281,7 @@ module _ (m : Contents) (d : Decodes m) (wf : IsWellFormed m) (c : IsCertified m
   step_holds slice pick w h = on_running w.queue.running refl
     where
       on_byte : (p : ℕ) → w.queue.running ≡ Some p → (r : Runs m w h.dues p) (o : Option ℕ) → slice_get m.code r.task.registers.at ≡ o
-          → Holds m (elim o as (λ o. Turn) [ None ↦ failed 3 p r.task w | Some byte ↦ byte_turn m p r.task byte slice pick w ]).world
+          → Holds m (elim o as (λ o. Turn) [ None ↦ failed OutsideCode p r.task w | Some byte ↦ byte_turn m p r.task byte slice pick w ]).world
       on_byte p running r None e =
           let now = stands_now w h p r in
           let b = byte_here m r.task.registers now.instr now.taken now.reading in

@@ -1,20 +1,25 @@
 -- When a module is certified, and when it is refused.
-use Rattle.std.specs.Prelude.{◌≡◌, ◌≢◌, ℕ, ◌+◌, ◌<◌, true, false, if◌then◌else◌, is_some, length, Option, Some, None, Result, Ok, Err}
+use Rattle.std.specs.Prelude.{◌≡◌, ◌≢◌, ◌⊎◌, ℕ, ◌+◌, ◌<◌, true, false, if◌then◌else◌, is_some, length, Option, Some, None, Result, Ok, Err}
 use Rattle.prefix_decoder.specs.declared.decoding.Instr.{Instr}
 use Rattle.prefix_decoder.specs.declared.decoding.DecodeFault.{DecodeFault}
 use Rattle.prefix_decoder.specs.Fetching.{fetched}
 use Rattle.module_format.specs.Contents.{Contents, label_at}
 use Rattle.certificate.specs.Starts.{Entered, procedure_at, is_start}
+use Rattle.states.specs.declared.rule.Rule.{Rule}
+use Rattle.states.specs.declared.rule.Rule.TheVariants as rules
+use Rattle.states.specs.declared.rule.TheConstants.{MEMORY}
+use Rattle.states.specs.Numbers.{number_of}
 use Rattle.states.specs.State.{State, root_state, label_state, procedure_state}
 use Rattle.states.specs.Below.{below}
 use Rattle.facts.specs.Rules.{Ruling, falls, leads, ends, breaks, rule_at, has_rule}
+use Rattle.verifier.specs.declared.Refusal.{Refusal}
 
 -- the state that a ruling lets fall into the next offset
 abbrev pub falling : Ruling → Option State
 falling (falls s) = Some s
 falling (leads to) = None
 falling ends = None
-falling (breaks v) = None
+falling (breaks broken) = None
 
 -- the state in which the procedure begins that was found
 abbrev pub first_state : Option Entered → Option State
@@ -30,11 +35,11 @@ abbrev pub state_at : Contents → ℕ → Option State → Option State
 state_at m at before = elim (given m at) [ None ↦ before | Some s ↦ Some s ]
 
 -- what it costs this state to fall into the offset, or the rule that it breaks: nothing falls into a procedure
-abbrev pub falling_into : Contents → ℕ → State → Result ℕ ℕ
-falling_into m at s = elim (label_at m at) [ None ↦ if is_some (procedure_at m at) then Err 3 else Ok 0 | Some t ↦ below s t ]
+abbrev pub falling_into : Contents → ℕ → State → Result ℕ Rule
+falling_into m at s = elim (label_at m at) [ None ↦ if is_some (procedure_at m at) then Err rules.Flow else Ok 0 | Some t ↦ below s t ]
 
 -- what falling into the offset costs, or the rule that it breaks
-abbrev pub entering : Contents → ℕ → Option State → Result ℕ ℕ
+abbrev pub entering : Contents → ℕ → Option State → Result ℕ Rule
 entering m at before = elim before [ None ↦ Ok 0 | Some s ↦ falling_into m at s ]
 
 -- An instruction starts at the offset, and this state falls into it, or none.
@@ -53,7 +58,7 @@ pub record HoldsAt (m : Contents) (states : ℕ → Option State) (at : ℕ) (be
   pub enters : entering m at before ≡ Ok cost
   pub instr : Instr
   pub spelled : fetched m.code at ≡ Ok instr
-  pub unbroken : (v : ℕ) → rule_at m at instr state ≢ breaks v
+  pub unbroken : (broken : Rule) → rule_at m at instr state ≢ breaks broken
 
 -- All holds at each instruction start below an offset, and each start that the tables tell below it is one.
 pub record HoldsBelow (m : Contents) (states : ℕ → Option State) (end : ℕ) : Type 0 where
@@ -66,26 +71,41 @@ pub record IsCertified (m : Contents) : Type 0 where
   pub holds : HoldsBelow m states (length m.code)
   pub ends : (before : Option State) → Reaches m (length m.code) before → before ≡ None
 
--- The rule of this number is broken at the offset.
-pub data IsBroken (m : Contents) : ℕ → ℕ → Type 0 where
+-- The rule is broken at the offset.
+pub data IsBroken (m : Contents) : Rule → ℕ → Type 0 where
   -- no spelling of an instruction stands there
-  misspelled : {v at : ℕ} {before : Option State} {e : DecodeFault} → v ≡ 1 → Reaches m at before → at < length m.code → fetched m.code at ≡ Err e → IsBroken m v at
+  misspelled : {rule : Rule} {at : ℕ} {before : Option State} {e : DecodeFault} → rule ≡ rules.Spelling → Reaches m at before
+      → at < length m.code → fetched m.code at ≡ Err e → IsBroken m rule at
   -- the instruction has no rule, whether anything leads there or not
-  unruled : {v at : ℕ} {before : Option State} {i : Instr} → v ≡ 1 → Reaches m at before → at < length m.code → fetched m.code at ≡ Ok i → has_rule i ≡ false → IsBroken m v at
+  unruled : {rule : Rule} {at : ℕ} {before : Option State} {i : Instr} → rule ≡ rules.Spelling → Reaches m at before
+      → at < length m.code → fetched m.code at ≡ Ok i → has_rule i ≡ false → IsBroken m rule at
   -- a start that the tables tell lies within an instruction
-  hidden : {v at : ℕ} → v ≡ 2 → at < length m.code → is_start m at ≡ true → ((before : Option State) → Reaches m at before → ⊥) → IsBroken m v at
+  hidden : {rule : Rule} {at : ℕ} → rule ≡ rules.InstructionStart → at < length m.code → is_start m at ≡ true
+      → ((before : Option State) → Reaches m at before → ⊥) → IsBroken m rule at
   -- the instruction has a rule, and nothing leads there
-  unreached : {v at : ℕ} {i : Instr} → v ≡ 3 → Reaches m at None → at < length m.code → fetched m.code at ≡ Ok i → has_rule i ≡ true → given m at ≡ None → IsBroken m v at
+  unreached : {rule : Rule} {at : ℕ} {i : Instr} → rule ≡ rules.Flow → Reaches m at None → at < length m.code
+      → fetched m.code at ≡ Ok i → has_rule i ≡ true → given m at ≡ None → IsBroken m rule at
   -- a state falls off the code
-  fallen_off : {v at : ℕ} {s : State} → v ≡ 3 → at ≡ length m.code → Reaches m at (Some s) → IsBroken m v at
+  fallen_off : {rule : Rule} {at : ℕ} {s : State} → rule ≡ rules.Flow → at ≡ length m.code → Reaches m at (Some s)
+      → IsBroken m rule at
   -- what falls into a label is not below it, or something falls into a procedure
-  entered : {v at : ℕ} {before : Option State} → Reaches m at before → at < length m.code → entering m at before ≡ Err v → IsBroken m v at
+  entered : {rule : Rule} {at : ℕ} {before : Option State} → Reaches m at before → at < length m.code
+      → entering m at before ≡ Err rule → IsBroken m rule at
   -- the instruction breaks its rule
-  broken : {v at : ℕ} {before : Option State} {s : State} {i : Instr} → Reaches m at before → at < length m.code → state_at m at before ≡ Some s
-      → fetched m.code at ≡ Ok i → rule_at m at i s ≡ breaks v → IsBroken m v at
+  broken : {rule : Rule} {at : ℕ} {before : Option State} {s : State} {i : Instr} → Reaches m at before → at < length m.code
+      → state_at m at before ≡ Some s → fetched m.code at ≡ Ok i → rule_at m at i s ≡ breaks rule → IsBroken m rule at
 
--- All holds below the offset, and there the rule of this number is broken.
-pub record IsRefused (m : Contents) (v at : ℕ) : Type 0 where
+-- All holds below the offset, and there the rule is broken.
+pub record IsRefused (m : Contents) (rule : Rule) (at : ℕ) : Type 0 where
   pub states : ℕ → Option State
   pub holds : HoldsBelow m states at
-  pub broken : IsBroken m v at
+  pub broken : IsBroken m rule at
+
+-- no rule is reported by this number
+abbrev pub out_of_memory : Refusal
+out_of_memory = record { number = MEMORY; offset = 0 }
+
+-- What a refusal reports: the rule for which the module is refused, by its number, and where; or that memory ran out.
+abbrev pub Reports : Contents → Refusal → Type 0
+Reports m refusal =
+    (refusal ≡ out_of_memory) ⊎ ((rule : Rule) × (refusal.number ≡ number_of rule) × IsRefused m rule refusal.offset)

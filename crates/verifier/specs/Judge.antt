@@ -1,29 +1,36 @@
 -- The verdict on a module, found in one pass.
-use Rattle.std.specs.Prelude.{ℕ, zero, suc, ◌+◌, ◌-◌, nat_le, min, if◌then◌else◌, length, Option, Some, None, Result, Ok, Err}
+use Rattle.std.specs.Prelude.{ℕ, zero, suc, ◌+◌, ◌-◌, nat_le, nat_lt, if◌then◌else◌, length, Option, Some, None, Result, Ok, Err}
 use Rattle.prefix_decoder.specs.declared.decoding.Instr.{Instr}
 use Rattle.prefix_decoder.specs.declared.decoding.DecodeFault.{DecodeFault}
 use Rattle.prefix_decoder.specs.Fetching.{fetched}
 use Rattle.module_format.specs.Contents.{Contents}
 use Rattle.certificate.specs.Starts.{is_start}
+use Rattle.states.specs.declared.rule.Rule.{Rule}
+use Rattle.states.specs.declared.rule.Rule.TheVariants as rules
+use Rattle.states.specs.Numbers.{number_of}
 use Rattle.states.specs.State.{State, root_state}
 use Rattle.facts.specs.Rules.{Ruling, breaks, rule_at, has_rule}
-use Rattle.verifier.specs.declared.Refusal.{Refusal}
+use Rattle.verifier.specs.declared.stop.Breach.{Breach}
 use Rattle.verifier.specs.Certified.{falling, state_at, entering}
 
+-- of two rules the one with the lower number
+abbrev pub lower : Rule → Rule → Rule
+lower first second = if nat_lt (number_of second) (number_of first) then second else first
+
 -- what falls into the next offset, or the lower of two rules that are broken
-abbrev pub both : Result ℕ ℕ → Ruling → Result (Option State) ℕ
-both (Ok cost) (breaks v) = Err v
+abbrev pub both : Result ℕ Rule → Ruling → Result (Option State) Rule
+both (Ok cost) (breaks broken) = Err broken
 both (Ok cost) r = Ok (falling r)
-both (Err u) (breaks v) = Err (min u v)
-both (Err u) _ = Err u
+both (Err first) (breaks second) = Err (lower first second)
+both (Err first) _ = Err first
 
 -- one instruction, in the state at its offset, or where there is none
-abbrev pub judged_in : Contents → ℕ → Option State → Instr → Option State → Result (Option State) ℕ
-judged_in m at before i None = Err (if has_rule i then 3 else 1)
+abbrev pub judged_in : Contents → ℕ → Option State → Instr → Option State → Result (Option State) Rule
+judged_in m at before i None = Err (if has_rule i then rules.Flow else rules.Spelling)
 judged_in m at before i (Some s) = both (entering m at before) (rule_at m at i s)
 
 -- one instruction, where `before` falls into its offset
-unfoldable pub judged_at : Contents → ℕ → Option State → Instr → Result (Option State) ℕ
+unfoldable pub judged_at : Contents → ℕ → Option State → Instr → Result (Option State) Rule
 judged_at m at before i = judged_in m at before i (state_at m at before)
 
 -- the first of so many offsets from `at` on that the tables say is a start
@@ -32,26 +39,26 @@ first_start m at zero = None
 first_start m at (suc more) = if is_start m at then Some at else first_start m (at + 1) more
 
 abbrev pub Verdict : Type 0
-Verdict = Result (Unit {0}) Refusal
+Verdict = Result (Unit {0}) Breach
 
-abbrev pub refused : ℕ → ℕ → Verdict
-refused v at = Err (record { number = v; offset = at })
+abbrev pub refused : Rule → ℕ → Verdict
+refused rule at = Err (record { rule = rule; offset = at })
 
 abbrev pub at_the_end : ℕ → Option State → Verdict
 at_the_end at None = Ok tt
-at_the_end at (Some s) = refused 3 at
+at_the_end at (Some s) = refused rules.Flow at
 
 -- A start within the instruction is refused; else `go` judges the rest.
 abbrev pub past_starts : (ℕ → Option State → Verdict) → ℕ → Option State → Option ℕ → Verdict
-past_starts go to after (Some inside) = refused 2 inside
+past_starts go to after (Some inside) = refused rules.InstructionStart inside
 past_starts go to after None = go to after
 
-abbrev pub past_rule : Contents → (ℕ → Option State → Verdict) → ℕ → ℕ → Result (Option State) ℕ → Verdict
-past_rule m go at len (Err v) = refused v at
+abbrev pub past_rule : Contents → (ℕ → Option State → Verdict) → ℕ → ℕ → Result (Option State) Rule → Verdict
+past_rule m go at len (Err broken) = refused broken at
 past_rule m go at len (Ok after) = past_starts go (at + len) after (first_start m (at + 1) (len - 1))
 
 abbrev pub past_spelling : Contents → (ℕ → Option State → Verdict) → ℕ → Option State → Result Instr DecodeFault → Verdict
-past_spelling m go at before (Err e) = refused 1 at
+past_spelling m go at before (Err e) = refused rules.Spelling at
 past_spelling m go at before (Ok i) = past_rule m go at i.len (judged_at m at before i)
 
 -- from an offset on, with at most so many instructions

@@ -6,8 +6,14 @@ use Rattle.module_format.specs.declared.rows.ProcedureRow.{ProcedureRow}
 use Rattle.module_format.specs.Contents.{Contents, Label, label_at, label_of, procedure_of}
 use Rattle.certificate.specs.Starts.{procedure_from, procedure_at}
 use Rattle.states.specs.Rows.{AreApart, IsRowOf}
-use Rattle.states.specs.declared.rule.RuleFault.{RuleFault}
+use Rattle.states.specs.declared.rule.Rule.{Rule}
+use Rattle.states.specs.Numbers.{number_of}
 use Rattle.states.specs.State.{State}
+use Rattle.verifier.specs.declared.Refusal.{Refusal}
+use Rattle.verifier.specs.declared.stop.Stop.{Stop}
+use Rattle.verifier.specs.declared.stop.Stop.TheVariants as stops
+use Rattle.verifier.specs.Certified.{out_of_memory}
+use Rattle.verifier.specs.Judge.{verdict}
 use Rattle.verifier.specs.declared.rows.Given.{Given}
 use Rattle.verifier.specs.declared.rows.Given.TheVariants as given_variants
 use Rattle.verifier.specs.declared.rows.Rows.{Rows}
@@ -17,9 +23,19 @@ abbrev pub falling_state : Bool → State → Option State
 falling_state falls s = if falls then Some s else None
 
 -- what falls into the next offset, where the state after the instruction is this one
-abbrev pub Judges : Result Bool RuleFault → State → Result (Option State) ℕ → Type 0
+abbrev pub Judges : Result Bool Rule → State → Result (Option State) Rule → Type 0
 Judges (Ok falls) after judged = judged ≡ Ok (falling_state falls after)
-Judges (Err fault) after judged = judged ≡ Err fault.number
+Judges (Err broken) after judged = judged ≡ Err broken
+
+-- the pass stops as the verdict says, unless memory ran out
+abbrev pub StopsBy : Contents → Stop → Type 0
+StopsBy m (stops.Broken breach) = verdict m ≡ Err breach
+StopsBy m stops.Memory = ⊤
+
+-- a stop, as it is reported
+abbrev pub refusal_of : Stop → Refusal
+refusal_of (stops.Broken breach) = record { number = number_of breach.rule; offset = breach.offset }
+refusal_of stops.Memory = out_of_memory
 
 -- ---- the rows that are left
 

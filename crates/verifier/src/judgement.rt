@@ -1,56 +1,65 @@
 //! The judgement on one instruction.
 
 ghost use Rattle.std.specs.Prelude.{◌≡◌, ℕ, if◌then◌else◌};
+ghost use Rattle.states.specs.declared.rule.Rule.TheVariants as rules;
 ghost use Rattle.module_format.specs.Contents.{Contents};
 ghost use Rattle.states.specs.State.{State as Known};
-ghost use Rattle.states.specs.Views.{state_of, numbered, BelongsTo};
+ghost use Rattle.states.specs.Views.{state_of, BelongsTo};
 ghost use Rattle.facts.specs.Rules.{Ruling, has_rule};
 ghost use Rattle.facts.specs.Telling.{Advances};
 ghost use Rattle.verifier.specs.Certified.{entering};
-ghost use Rattle.verifier.specs.Judge.{both, judged_at};
+ghost use Rattle.verifier.specs.Judge.{lower, both, judged_at};
 ghost use Rattle.verifier.specs.Judging.{falling_state, Judges, IsComparable, IsGiven};
 
 use crate::rows::Given;
 use certificate::Module;
 use facts::{Onward, advance, has_rule};
 use prefix_decoder::Instr;
-use states::{FLOW, RuleFault, SPELLING, State, below};
+use states::{Rule, State, cost_below};
 
 /// What it costs to fall into an offset where this is given. Nothing may fall into a procedure.
-fn entering(state: &State, falls: bool, given: Given) -> Result<u64, RuleFault>
+fn entering(state: &State, falls: bool, given: Given) -> Result<u64, Rule>
     requires { IsComparable given }
-    ensures { (m : Contents) (at : ℕ) → IsGiven m at given.entry → numbered result ≡ entering m at (falling_state falls (state_of state.now)) }
+    ensures { (m : Contents) (at : ℕ) → IsGiven m at given.entry → result ≡ entering m at (falling_state falls (state_of state.now)) }
 {
     match given {
-        Given::Label(row) if falls => below(state, row),
-        Given::Procedure { .. } if falls => Err(RuleFault { number: FLOW }),
+        Given::Label(row) if falls => cost_below(state, row),
+        Given::Procedure { .. } if falls => Err(Rule::Flow),
         _ => Ok(0),
     }
 }
 
+/// Of two rules the one with the lower number.
+fn lower(first: Rule, second: Rule) -> Rule
+    ensures { result ≡ lower first second }
+{
+    if second.number() < first.number() {
+        return second;
+    }
+    first
+}
+
 /// Whether a state falls into the next offset, or the lower of two rules that are broken.
-fn both(
-    entered: Result<u64, RuleFault>,
-    onward: Result<Onward, RuleFault>,
-) -> Result<bool, RuleFault>
-    ensures { (ruling : Ruling) (after : Known) → Advances onward after ruling → Judges result after (both (numbered entered) ruling) }
+fn both(entered: Result<u64, Rule>, onward: Result<Onward, Rule>) -> Result<bool, Rule>
+    ensures { (ruling : Ruling) (after : Known) → Advances onward after ruling → Judges result after (both entered ruling) }
 {
     match (entered, onward) {
         (Ok(_), Ok(onward)) => Ok(onward == Onward::Falls),
-        (Ok(_), Err(fault)) => Err(fault),
-        (Err(fault), Ok(_)) => Err(fault),
-        (Err(first), Err(second)) => Err(RuleFault {
-            number: first.number.min(second.number),
-        }),
+        (Ok(_), Err(rule)) => Err(rule),
+        (Err(rule), Ok(_)) => Err(rule),
+        (Err(first), Err(second)) => Err(lower(first, second)),
     }
 }
 
-/// The rule that an instruction breaks to which nothing leads: `SPELLING` where it has none, else `FLOW`.
-fn unreached(instr: Instr) -> RuleFault
-    ensures { result.number ≡ (if has_rule instr then 3 else 1) }
+/// The rule that an instruction breaks to which nothing leads: `Rule::Spelling` where it has none, else
+/// `Rule::Flow`.
+fn unreached(instr: Instr) -> Rule
+    ensures { result ≡ (if has_rule instr then rules.Flow else rules.Spelling) }
 {
-    let number = if has_rule(instr) { FLOW } else { SPELLING };
-    RuleFault { number }
+    if has_rule(instr) {
+        return Rule::Flow;
+    }
+    Rule::Spelling
 }
 
 /// One instruction: whether a state falls into the next offset, or the rule that is broken. `falls`: the
@@ -63,7 +72,7 @@ pub(crate) fn judge<'a>(
     given: Given<'a>,
     at: usize,
     instr: Instr,
-) -> Result<bool, RuleFault>
+) -> Result<bool, Rule>
     requires belongs { BelongsTo «module».now state.old }
     requires here { IsGiven «module».now at given }
     ensures judged { Judges result (state_of state.new) (judged_at «module».now at (falling_state falls (state_of state.old)) instr) }

@@ -1,26 +1,26 @@
 //! The laws of certified modules, each the contract of a function that does nothing.
-ghost use Rattle.std.specs.Prelude.{◌≡◌, ℕ, Ok, Err};
+ghost use Rattle.std.specs.Prelude.{◌≡◌, ℕ, Ok};
 ghost use Rattle.module_format.specs.Contents.{Contents};
 ghost use Rattle.module_format.specs.Keeping.{Keeps};
 ghost use Rattle.machine_state.specs.declared.event.Event.{Event};
 ghost use Rattle.machine_state.specs.World.{World};
 ghost use Rattle.machine_state.specs.Happens.{happens};
-ghost use Rattle.verifier.specs.declared.Refusal.{Refusal};
+ghost use Rattle.states.specs.declared.rule.Rule.{Rule};
 ghost use Rattle.verifier.specs.Certified.{IsCertified, IsRefused};
-ghost use Rattle.verifier.specs.Judge.{verdict};
+ghost use Rattle.verifier.specs.Judge.{verdict, refused};
 ghost use Rattle.verifier.specs.Invariant.{Holds};
 ghost use Rattle.verifier.specs.Headline.{IsEvent, RunsWell};
 
 /// No module is both certified and refused.
 pub fn not_both()
-    ensures { (m : Contents) (v at : ℕ) → IsCertified m → IsRefused m v at → ⊥ }
+    ensures { (m : Contents) (rule : Rule) (at : ℕ) → IsCertified m → IsRefused m rule at → ⊥ }
 {}
 
 /// One pass over the code decides: what it accepts is certified, and what it refuses is refused by that
 /// rule at that offset.
 pub fn verdict_is_right()
     ensures accepts { (m : Contents) → Keeps m → verdict m ≡ Ok tt → IsCertified m }
-    ensures refuses { (m : Contents) (r : Refusal) → Keeps m → verdict m ≡ Err r → IsRefused m r.number r.offset }
+    ensures refuses { (m : Contents) (rule : Rule) (at : ℕ) → Keeps m → verdict m ≡ refused rule at → IsRefused m rule at }
 {}
 
 /// Whatever event comes to whatever world in which the invariant of a certified module holds, it holds

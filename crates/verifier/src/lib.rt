@@ -5,6 +5,7 @@ mod judgement;
 mod laws;
 mod pass;
 mod rows;
+mod stop;
 #[cfg(test)]
 mod tests;
 mod verified;

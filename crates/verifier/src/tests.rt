@@ -1,5 +1,6 @@
 //! Small modules and the verdict on each, worked out by hand.
 
+mod arithmetic;
 mod branches;
 mod loops;
 mod procedures;

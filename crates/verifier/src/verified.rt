@@ -41,20 +41,20 @@ impl<'a> Verified<'a> {
     }
 }
 
-ghost use Rattle.std.specs.Prelude.{◌≡◌, ◌≢◌, OnOk, IfOk, IfErr};
-ghost use Rattle.verifier.specs.Certified.{IsCertified, IsRefused};
+ghost use Rattle.std.specs.Prelude.{◌≡◌, OnOk, IfOk, IfErr};
+ghost use Rattle.verifier.specs.Certified.{IsCertified, Reports};
 ghost use Rattle.verifier.specs.Headline.{RunsWell};
 
-/// Whether a module is certified, or else the first rule that is broken and where. Want of memory is told
-/// as rule 17 at offset 0.
-// A body that always answers want of memory meets these clauses too, since no clause can say that memory
+/// Whether a module is certified, or else the first rule that is broken and where. Running out of memory is
+/// reported as `states::MEMORY` at offset 0.
+// A body that always reports that memory ran out meets these clauses too, since no clause can say that memory
 // is left: tests show that modules are accepted.
 pub fn verify<'a>(alloc: Global, module: &'a Module<'a>) -> Result<Verified<'a>, Refusal>
     // Whatever events come, in whatever order: no fault, all holdings apart, and no more bytes than the budget.
     ensures headline { OnOk result (RunsWell «module».now) }
     ensures accepts { IfOk result (λ v. (v ≡ «module».now) × IsCertified «module».now) }
-    ensures refuses { IfErr result (λ r. r.number ≢ 17 → IsRefused «module».now r.number r.offset) }
-    ensures memory { IfErr result (λ r. r.number ≡ 17 → r.offset ≡ 0) }
+    // The rule that is broken, by its number, and where; or `states::MEMORY` and 0.
+    ensures refuses { IfErr result (Reports «module».now) }
 {
     pass(alloc, module)?;
     Ok(Verified { module })

@@ -7,7 +7,7 @@ ghost use Rattle.states.specs.Views.{BelongsTo};
 
 use super::files::{FIELDS, spelled};
 use super::{root, write};
-use crate::{BUDGET, LABEL, State, WordFact, below};
+use crate::{BUDGET, LABEL, Loop, State, WordFact, below};
 use certificate::{Fact, LabelRow, Module};
 use std::alloc::Global;
 use std::process::Abort;
@@ -74,17 +74,17 @@ fn loops_are_entered(rt: HostRuntime) {
     assert!(&rt; enters(&rt, rt.alloc()).is_some() || enters(&rt, rt.alloc()).is_some());
 }
 
-const INDEX: WordFact = WordFact::Index {
+const INDEX: WordFact = WordFact::Index(Loop {
     base: -3,
     count: 5,
     weight: 7,
-};
+});
 
-const COUNT: WordFact = WordFact::Count {
+const COUNT: WordFact = WordFact::Count(Loop {
     base: -3,
     count: 5,
     weight: 7,
-};
+});
 
 fn number(lo: i32, hi: i32) -> WordFact {
     WordFact::Alone(Fact::Number { lo, hi })

@@ -2,36 +2,36 @@
 
 ghost use Rattle.states.specs.Rows.{LoopFits};
 
-use crate::{WordFact, says};
+use crate::{Loop, WordFact, says};
 use certificate::{Fact, Step};
 use std::process::Abort;
 use std::test::*;
 
 /// A loop of five turns from -3 on.
-const INDEX: WordFact = WordFact::Index {
+const INDEX: WordFact = WordFact::Index(Loop {
     base: -3,
     count: 5,
     weight: 7,
-};
+});
 
-const COUNT: WordFact = WordFact::Count {
+const COUNT: WordFact = WordFact::Count(Loop {
     base: -3,
     count: 5,
     weight: 7,
-};
+});
 
 /// A loop with the greatest numbers.
-const LAST_INDEX: WordFact = WordFact::Index {
+const LAST_INDEX: WordFact = WordFact::Index(Loop {
     base: 1,
     count: 0x7fffffff,
     weight: u64::MAX,
-};
+});
 
-const LAST_COUNT: WordFact = WordFact::Count {
+const LAST_COUNT: WordFact = WordFact::Count(Loop {
     base: 1,
     count: 0x7fffffff,
     weight: u64::MAX,
-};
+});
 
 fn number(lo: i32, hi: i32) -> Fact {
     Fact::Number { lo, hi }
@@ -107,35 +107,35 @@ const SAID: [(WordFact, [bool; 4]); 11] = [
     (INDEX, [true, false, true, false]),
     (COUNT, [false, true, false, true]),
     (
-        WordFact::Index {
+        WordFact::Index(Loop {
             base: -3,
             count: 5,
             weight: 8,
-        },
+        }),
         [false, false, true, false],
     ),
     (
-        WordFact::Index {
+        WordFact::Index(Loop {
             base: -2,
             count: 5,
             weight: 7,
-        },
+        }),
         [false, false, false, false],
     ),
     (
-        WordFact::Count {
+        WordFact::Count(Loop {
             base: -2,
             count: 5,
             weight: 7,
-        },
+        }),
         [false, false, false, true],
     ),
     (
-        WordFact::Count {
+        WordFact::Count(Loop {
             base: -3,
             count: 6,
             weight: 7,
-        },
+        }),
         [false, false, false, false],
     ),
 ];

@@ -155,9 +155,9 @@ fn nothing_falls_into_a_procedure(rt: HostRuntime) {
 fn a_procedure_begins_at_the_last_byte(rt: HostRuntime) {
     let rows = [begins(2, 100)];
     let cases = [
-        // ldc 5 falls off the code; no such operation; within stopp.
+        // ldc 5 falls off the code; ldnl 0, which has no rule; within stopp.
         (b"\x21\xf5\x45", (3, 3)),
-        (b"\x21\xf5\xf5", (1, 2)),
+        (b"\x21\xf5\x30", (1, 2)),
         (b"\x45\x21\xf5", (2, 2)),
     ];
     for (code, expected) in cases {

@@ -1,6 +1,7 @@
 use Rattle.std.proofs.Common.{arith, ◌≡◌, ◌∙◌, sym, ap, subst, ℕ, ◌+◌, ◌-◌, ◌<◌, ◌≤◌, List, length, Some, None, Ok}
 use Rattle.prefix_decoder.specs.Fetching.{fetched}
 use Rattle.module_format.specs.Contents.{Contents}
+use Rattle.states.specs.declared.rule.Rule.TheVariants as rules
 use Rattle.states.specs.State.{State}
 use Rattle.states.specs.Views.{state_of}
 use Rattle.verifier.specs.Judge.{first_start}
@@ -31,14 +32,14 @@ loop-at-init c = record {
 
 pub returns-in_default-fetch-clause-refuses : goal.returns-in_default-fetch-clause-refuses
 returns-in_default-fetch-clause-refuses c =
-    told c.args.module.now c.refusal-in_default-fetch.result 1 c.loop-at.at c.refusal-in_default-fetch.ensures
+    told c.args.module.now c.broken.result rules.Spelling c.loop-at.at c.broken.ensures
     (misspelled-is c.args.module.now c.loop-at.at _ c.in_default-fetch.field-0 (low (goal.at.returns-in_default-fetch-clause-refuses c).After-fetch) c.loop-at.invariant.on_the_way
     (ap (λ (code : List ℕ). fetched code c.loop-at.at) (sym (ap (λ (m : Contents). m.code) c.tables-tables.ensures.contents)) ∙ sym c.in_default-fetch.ensures.exact))
 
 pub returns-in-Err-clause-refuses : goal.returns-in-Err-clause-refuses
 returns-in-Err-clause-refuses c =
-    told c.args.module.now c.refusal-in-Err.result c.in-Err.fault.number c.loop-at.at c.refusal-in-Err.ensures
-    (broken-is c.args.module.now c.loop-at.at c.in-Err.fault.number _ c.in-Ok-fetch.instr (low (goal.at.returns-in-Err-clause-refuses c).After-fetch) c.loop-at.invariant.on_the_way
+    told c.args.module.now c.broken-in-Err.result c.in-Err.rule c.loop-at.at c.broken-in-Err.ensures
+    (broken-is c.args.module.now c.loop-at.at c.in-Err.rule _ c.in-Ok-fetch.instr (low (goal.at.returns-in-Err-clause-refuses c).After-fetch) c.loop-at.invariant.on_the_way
     (spelled (goal.at.returns-in-Err-clause-refuses c).In-Ok-fetch) c.in-Err.ensures.judged)
 
 -- how many bytes of the instruction are behind its first
@@ -47,7 +48,7 @@ behind_first c = let some = c.in-Ok-fetch.ensures.length.0 in omega arith
 
 pub returns-in-Some-clause-refuses : goal.returns-in-Some-clause-refuses
 returns-in-Some-clause-refuses c =
-    told c.args.module.now c.refusal-in-Some.result 2 c.in-Some.inside c.refusal-in-Some.ensures
+    told c.args.module.now c.broken-in-Some.result rules.InstructionStart c.in-Some.inside c.broken-in-Some.ensures
     (hidden-is c.args.module.now c.loop-at.at c.in-Some.inside _ _ c.in-Ok-fetch.instr (low (goal.at.returns-in-Some-clause-refuses c).After-fetch) c.loop-at.invariant.on_the_way
     (spelled (goal.at.returns-in-Some-clause-refuses c).In-Ok-fetch) c.in-Ok-judge.ensures.judged
     (ap (first_start c.args.module.now (c.loop-at.at + 1)) (sym (behind_first (goal.at.returns-in-Some-clause-refuses c).In-Ok-judge)) ∙ sym c.in-Some.ensures))
@@ -74,7 +75,7 @@ pub returns-then-falls-clause-refuses : goal.returns-then-falls-clause-refuses
 returns-then-falls-clause-refuses c =
     let high : length c.args.module.now.code ≤ c.loop-at.at =
     subst (λ (code : List ℕ). length code ≤ c.loop-at.at) (ap (λ (m : Contents). m.code) c.tables-tables.ensures.contents) c.loop-at-test.false in
-    told c.args.module.now c.refusal-then-falls.result 3 c.loop-at.at c.refusal-then-falls.ensures
+    told c.args.module.now c.broken-then-falls.result rules.Flow c.loop-at.at c.broken-then-falls.ensures
     (fallen-off c.args.module.now c.loop-at.at c.loop-at.falls (state_of c.loop-at.state) high c.loop-at.invariant.on_the_way c.if-falls.true)
 
 pub returns-clause-accepts : goal.returns-clause-accepts

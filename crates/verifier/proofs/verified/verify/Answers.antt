@@ -1,27 +1,15 @@
-use Rattle.std.proofs.Common.{arith, ap, refl, inl, inr}
+use Rattle.std.proofs.Common.{refl}
 use Rattle.std.proofs.lemmas.Result.{err_from_is_err_and}
-use Rattle.verifier.specs.declared.Refusal.{Refusal}
-use Rattle.verifier.proofs.Judging.{accepted_is_certified, refused_is_refused}
-use Rattle.verifier.proofs.Low.{low-verdict}
+use Rattle.verifier.proofs.Judging.{accepted_is_certified}
 use Rattle.verifier.proofs.Kept.{decodes, well_formed, spans}
+use Rattle.verifier.proofs.Reporting.{reports}
 use Rattle.verifier.proofs.Start.{runs_well}
 use Rattle.verifier.proofs.verified.verify.Goals as goal
 
 pub returns-in_err-pass-clause-refuses : goal.returns-in_err-pass-clause-refuses
 returns-in_err-pass-clause-refuses c =
     let p = err_from_is_err_and c.from_residual.result c.from_residual.ensures.1 in
-    rw (p.1, p.2) (λ other. elim c.in_err-pass.ensures.refuses [
-      | inl e ↦ absurd (other (ap (λ (r : Refusal). r.number) e))
-      | inr h ↦ refused_is_refused c.args.module.now (spans c.args.module.now c.pass.ensures.kept) c.in_err-pass.field-0.0 h
-    ])
-
-pub returns-in_err-pass-clause-memory : goal.returns-in_err-pass-clause-memory
-returns-in_err-pass-clause-memory c =
-    let p = err_from_is_err_and c.from_residual.result c.from_residual.ensures.1 in
-    rw (p.1, p.2) (λ e. elim c.in_err-pass.ensures.refuses [
-      | inl same ↦ ap (λ (r : Refusal). r.offset) same
-      | inr h ↦ let low = low-verdict c.args.module.now c.in_err-pass.field-0.0 h in absurd (omega arith)
-    ])
+    rw (p.1, p.2) (reports c.args.module.now c.pass.ensures.kept c.in_err-pass.field-0.0 c.in_err-pass.ensures.refuses)
 
 pub invariant_of-result : goal.invariant_of-result
 invariant_of-result c = ∣ (c.pass.ensures.kept, accepted_is_certified c.args.module.now (spans c.args.module.now c.pass.ensures.kept) c.in_ok-pass.ensures.accepts) ∣₁

@@ -3,13 +3,13 @@ use Rattle.std.proofs.lemmas.Int.{to_z-of_z}
 use Rattle.std.proofs.lemmas.Result.{err_from_is_err_and}
 use Rattle.std.specs.Int.{w32}
 use Rattle.states.specs.Views.{state_of}
-use Rattle.facts.specs.Rules.{rule, leads_to, without_registers}
+use Rattle.facts.specs.Rules.{instruction_rule, leads_to, without_registers}
 use Rattle.facts.specs.Places.{site_of}
 use Rattle.facts.proofs.Steps.{advances-by, jump-forward}
 use Rattle.facts.proofs.place.Place.jump.Goals as goal
 
 pub returns-in_err-outside_alternation-clause-ruling : goal.returns-in_err-outside_alternation-clause-ruling
-unfolding rule
+unfolding instruction_rule
 returns-in_err-outside_alternation-clause-ruling c =
     let p = err_from_is_err_and c.from_residual.result c.from_residual.ensures.1 in
     rw (p.1, p.2) (c.in_err-outside_alternation.ensures _)

@@ -1,0 +1,39 @@
+//! Why the pass stops before the end of the code.
+
+use crate::Refusal;
+use states::{MEMORY, Rule};
+
+/// A rule that is broken, and the code offset where.
+#[derive(Clone, Copy)]
+pub(crate) struct Breach {
+    pub rule: Rule,
+    pub offset: u32,
+}
+
+/// Why the pass stops before the end of the code.
+#[derive(Clone, Copy)]
+pub(crate) enum Stop {
+    Broken(Breach),
+    /// Memory ran out.
+    Memory,
+}
+
+impl From<Stop> for Refusal {
+    ghost use Rattle.std.specs.Prelude.{◌≡◌};
+    ghost use Rattle.verifier.specs.Judging.{refusal_of};
+
+    ghost from_gives = { λ stop refusal. refusal ≡ refusal_of stop };
+
+    fn from(stop: Stop) -> Refusal {
+        match stop {
+            Stop::Broken(breach) => Refusal {
+                number: breach.rule.number(),
+                offset: breach.offset,
+            },
+            Stop::Memory => Refusal {
+                number: MEMORY,
+                offset: 0,
+            },
+        }
+    }
+}
