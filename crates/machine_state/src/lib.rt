@@ -36,6 +36,3 @@ pub use process::{Channel, Condition, Exchange, Mode, Registers, Task, Word};
 pub use role::{Join, Role};
 pub use store::Store;
 pub use tagged::TaggedStore;
-
-#[cfg(test)]
-mod tests;

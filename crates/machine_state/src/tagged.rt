@@ -82,7 +82,7 @@ impl TaggedStore {
     }
 
     /// What the selected process holds, if it is there and has not ended.
-    pub(crate) fn current(&self) -> Option<&Holding>
+    pub fn current(&self) -> Option<&Holding>
         ensures { let holding = holding_at self.now.roles self.now.holder in
             MatchOption result (holding ≡ nothing) (λ h. holding ≡ holding_view h.now) }
     {

@@ -9,8 +9,6 @@ mod overlay;
 mod row;
 mod rule;
 mod state;
-#[cfg(test)]
-mod tests;
 
 pub use comparison::{below, cost_below};
 pub use implication::{implies, says};

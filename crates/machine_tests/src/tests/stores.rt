@@ -1,10 +1,12 @@
+//! Memory with tags, what a process holds, and the names of links, operations and instructions.
+
 ghost use Rattle.std.specs.Prelude.{◌≡◌};
 
-use crate::{
+use certificate::{Direction, Tables, Version};
+use machine_state::{
     DATA_START, End, FaultKind, Holding, Instruction, Join, Link, Op, Role, Span, Store,
     TaggedStore, Task, Word, local_address, place_of,
 };
-use certificate::{Direction, Tables, Version};
 use prefix_decoder::Fun;
 use std::alloc::{AllocError, Global};
 use std::process::Abort;

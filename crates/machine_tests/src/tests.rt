@@ -1,0 +1,2 @@
+mod states;
+mod stores;
