@@ -28,7 +28,7 @@ WordsLieBetween = (z : ℤ) → IsTrue (is_word z) ↔ ((least_word ≤ℤ z) ×
 abbrev pub checked : ℤ → Option ℤ
 checked z = if is_word z then Some z else None
 
--- a checked result is the number itself, and a word
+-- the checked result is there exactly where the number is a word, and it is that number
 abbrev pub CheckedGivesWords : Type 0
 CheckedGivesWords = (z v : ℤ) → (checked z ≡ Some v) ↔ (FitsSigned w32 z × (z ≡ v))
 

@@ -7,7 +7,8 @@ use Rattle.word_arithmetic.proofs.ranges.Range.minus.Goals as goal
 pub returns-clause-rule : goal.returns-clause-rule
 returns-clause-rule c =
     ap ends_of c.unwrap_or.ensures
-    ∙ ends_of-unwrap_or c.sub.result c.full.result (difference_range (ends_of c.args.self) (ends_of c.args.other)) full c.sub.ensures.rule c.full.ensures
+    ∙ ends_of-unwrap_or c.sub.result c.full.result
+    (difference_range (ends_of c.args.self) (ends_of c.args.other)) full c.sub.ensures.rule c.full.ensures
 
 pub returns-clause-members : goal.returns-clause-members
 returns-clause-members c =

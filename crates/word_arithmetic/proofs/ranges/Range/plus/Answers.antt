@@ -7,7 +7,8 @@ use Rattle.word_arithmetic.proofs.ranges.Range.plus.Goals as goal
 pub returns-clause-rule : goal.returns-clause-rule
 returns-clause-rule c =
     ap ends_of c.unwrap_or.ensures
-    ∙ ends_of-unwrap_or c.add.result c.full.result (sum_range (ends_of c.args.self) (ends_of c.args.other)) full c.add.ensures.rule c.full.ensures
+    ∙ ends_of-unwrap_or c.add.result c.full.result
+    (sum_range (ends_of c.args.self) (ends_of c.args.other)) full c.add.ensures.rule c.full.ensures
 
 pub returns-clause-members : goal.returns-clause-members
 returns-clause-members c =
