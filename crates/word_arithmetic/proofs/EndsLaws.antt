@@ -16,10 +16,10 @@ unwrap_each : (o : Option Range) (d : Range) → ends_of (unwrap_or o d) ≡ unw
 unwrap_each None d = refl
 unwrap_each (Some r) d = refl
 
--- the same, along what both are
-pub ends_of-unwrap_or : (o : Option Range) (d : Range) (e : Option Ends) (f : Ends) → option_map ends_of o ≡ e
-    → ends_of d ≡ f → ends_of (unwrap_or o d) ≡ unwrap_or e f
-ends_of-unwrap_or o d e f p q = unwrap_each o d ∙ (λ i. unwrap_or (p i) (q i))
+-- the same of a result, along what both are
+pub unwrap_or_ends : (o : Option Range) (d : Range) {new : Range} {e : Option Ends} {f : Ends}
+    → new ≡ unwrap_or o d → option_map ends_of o ≡ e → ends_of d ≡ f → ends_of new ≡ unwrap_or e f
+unwrap_or_ends o d h p q = ap ends_of h ∙ unwrap_each o d ∙ (λ i. unwrap_or (p i) (q i))
 
 -- ---- ends that fit
 

@@ -1,4 +1,4 @@
--- What the device computes on words. A word has 32 bits and stands here for its signed value; "unsigned" says
+-- What the T414 computes on words. A word has 32 bits and stands here for its signed value; "unsigned" says
 -- where it is read as a number from 0 to 2^32 - 1. From the T414 compiler writer's guide, but for what is
 -- marked as our own choice.
 use Rattle.std.specs.Prelude.{◌≡◌, ◌↔◌, IsTrue, FitsSigned, ◌≤ℤ◌, ℕ, zero, ◌/◌, ◌^◌, Bool, Option, Some, None, if◌then◌else◌, nat_lt, ℤ, pos, negsuc, ◌+ℤ◌, ◌-ℤ◌, ◌*ℤ◌, int_div, int_rem, is_some}
