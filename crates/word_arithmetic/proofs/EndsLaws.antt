@@ -11,19 +11,24 @@ use Rattle.word_arithmetic.specs.Range.{Ends, ends_of, InRange, IsRange, IsWithi
 
 -- ---- what is said of a range that may not be there
 
+-- the ends of a range that is there or of another in its place
 unwrap_each : (o : Option Range) (d : Range) → ends_of (unwrap_or o d) ≡ unwrap_or (option_map ends_of o) (ends_of d)
 unwrap_each None d = refl
 unwrap_each (Some r) d = refl
 
-pub ends_of-unwrap_or : (o : Option Range) (d : Range) (e : Option Ends) (f : Ends) → option_map ends_of o ≡ e → ends_of d ≡ f → ends_of (unwrap_or o d) ≡ unwrap_or e f
-ends_of-unwrap_or o d e f p q = unwrap_each o d ∙ (λ i. unwrap_or (p i) (q i))
+-- the same of a result, along what both are
+pub unwrap_or_ends : (o : Option Range) (d : Range) {new : Range} {e : Option Ends} {f : Ends}
+    → new ≡ unwrap_or o d → option_map ends_of o ≡ e → ends_of d ≡ f → ends_of new ≡ unwrap_or e f
+unwrap_or_ends o d h p q = ap ends_of h ∙ unwrap_each o d ∙ (λ i. unwrap_or (p i) (q i))
 
 -- ---- ends that fit
 
+-- two tests that both pass
 pub and_out : (a b : Bool) → (a && b) ≡ true → (a ≡ true) × (b ≡ true)
 and_out true b e = (refl, e)
 and_out false b e = cc
 
+-- of two tests that do not both pass, one fails
 pub and_failed : (a b : Bool) → (a && b) ≡ false → (a ≡ false) ⊎ (b ≡ false)
 and_failed true b e = inr e
 and_failed false b e = inl refl
@@ -33,6 +38,7 @@ pub record Fits (e t : Ends) : Type 0 where
   pub hi : FitsSigned w32 e.hi
   pub same : e ≡ t
 
+-- a range that fits is its ends, which are words
 pub fitting_some : (e t : Ends) → fitting e ≡ Some t → Fits e t
 fitting_some e t h =
     let s = some_out (is_word e.lo && is_word e.hi) e t h in
@@ -51,6 +57,7 @@ member_fits r z p m = fits_between r z p.lo_fits p.hi_fits m
 pub by_rule : {f : ℤ → ℤ → ℤ} {r s new e : Ends} → new ≡ e → Holds f r s e → Holds f r s new
 by_rule {f = f} {r = r} {s = s} h p = subst (Holds f r s) (sym h) p
 
+-- words in order are the ends of a range
 pub is_range : {r : Ends} → FitsSigned w32 r.lo → FitsSigned w32 r.hi → r.lo ≤ℤ r.hi → IsRange r
 is_range f g h = record { lo_fits = f; hi_fits = g; ordered = h }
 
@@ -67,9 +74,11 @@ true_from_T : (b : Bool) → T b → b ≡ true
 true_from_T true h = refl
 true_from_T false h = absurd h
 
+-- a number up to another passes the test
 pub le_test : (a b : ℤ) → a ≤ℤ b → int_le a b ≡ true
 le_test a b h = true_from_T (int_le a b) h.le
 
+-- and one above it fails
 pub le_test_fails : (a b : ℤ) → b <ℤ a → int_le a b ≡ false
 le_test_fails a b h = by (int_le a b) refl
   where
@@ -77,6 +86,7 @@ le_test_fails a b h = by (int_le a b) refl
     by true e = absurd (omega (arith, ints))
     by false e = refl
 
+-- a number below another passes the test
 pub lt_test : (a b : ℤ) → a <ℤ b → int_lt a b ≡ true
 lt_test a b h = true_from_T (int_lt a b) h.lt
 
@@ -101,23 +111,28 @@ not_in_range r v h m =
 -- ---- what the code computes, read back
 
 -- f of two numbers that fit their width
-pub read_back : (w : Width) (f : ℤ → ℤ → ℤ) (x y z : ℤ) → FitsSigned w x → FitsSigned w y → z ≡ f (to_z w (of_z w x)) (to_z w (of_z w y)) → f x y ≡ z
+pub read_back : (w : Width) (f : ℤ → ℤ → ℤ) (x y z : ℤ) → FitsSigned w x → FitsSigned w y
+    → z ≡ f (to_z w (of_z w x)) (to_z w (of_z w y)) → f x y ≡ z
 read_back w f x y z p q e = sym (e ∙ (λ i. f (to_z-of_z w x p i) (to_z-of_z w y q i)))
 
 -- the same, where the result is passed on
-pub passed_on : (w v : Width) (f : ℤ → ℤ → ℤ) (x y z : ℤ) → FitsSigned w x → FitsSigned w y → FitsSigned v z → z ≡ f (to_z w (of_z w x)) (to_z w (of_z w y)) → f x y ≡ to_z v (of_z v z)
+pub passed_on : (w v : Width) (f : ℤ → ℤ → ℤ) (x y z : ℤ) → FitsSigned w x → FitsSigned w y → FitsSigned v z
+    → z ≡ f (to_z w (of_z w x)) (to_z w (of_z w y)) → f x y ≡ to_z v (of_z v z)
 passed_on w v f x y z p q r e = read_back w f x y z p q e ∙ sym (to_z-of_z v z r)
 
 -- ---- a choice whose test is known
 
+-- the test passes
 pub cond_true : {X : Type 0} (b : Bool) (x y z : X) → b ≡ true → z ≡ x → z ≡ cond b x y
 cond_true b x y z e h = h ∙ ap (λ t. cond t x y) (sym e)
 
+-- the test fails
 pub cond_false : {X : Type 0} (b : Bool) (x y z : X) → b ≡ false → z ≡ y → z ≡ cond b x y
 cond_false b x y z e h = h ∙ ap (λ t. cond t x y) (sym e)
 
 -- ---- the hull
 
+-- a range with all members of both has all between them
 pub hull_least : (r s t : Ends) → r.lo ≤ℤ r.hi → s.lo ≤ℤ s.hi → IsWithin r t → IsWithin s t → IsWithin (hull r s) t
 hull_least r s t o p h k v m =
     let a = (h r.lo (lo_in r o)).from_lo in
@@ -136,6 +151,7 @@ range_is r p =
     (λ i. cond (le_test r.lo r.hi p.ordered i) (fitting r) None)
     ∙ (λ i. cond (is_word_in r.lo p.lo_fits i && is_word_in r.hi p.hi_fits i) (Some r) None)
 
+-- the range between two numbers has them as ends, and they are words in order
 range_out : (lo hi : ℤ) (r : Ends) → range_between lo hi ≡ Some r → IsRange r × (r.lo ≡ lo) × (r.hi ≡ hi)
 range_out lo hi r e =
     let at : Ends = record { lo = lo; hi = hi } in
@@ -144,10 +160,12 @@ range_out lo hi r e =
     let p : IsRange at = record { lo_fits = w.lo; hi_fits = w.hi; ordered = omega (arith, ints, o.0) } in
     (subst IsRange w.same p, ap (λ u. u.lo) (sym w.same), ap (λ u. u.hi) (sym w.same))
 
+-- two numbers have a range between them exactly if they are words in order
 pub words_in_order_are_ranges : WordsInOrderAreRanges
 words_in_order_are_ranges lo hi r =
     (range_out lo hi r, λ p. (λ i. range_between (sym p.1 i) (sym p.2 i)) ∙ range_is r p.0)
 
+-- its members are the numbers between them
 pub members_lie_between : MembersLieBetween
 members_lie_between lo hi v r e =
     let o = range_out lo hi r e in

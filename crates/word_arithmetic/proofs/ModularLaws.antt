@@ -9,6 +9,7 @@ use Rattle.word_arithmetic.proofs.EndsLaws.{member_fits}
 use Rattle.word_arithmetic.proofs.SumLaws.{sum_exact, difference_exact}
 use Rattle.word_arithmetic.proofs.CornerLaws.{product_exact}
 
+-- each word lies in the range of all words
 pub in_full : (z : ℤ) → FitsSigned w32 z → InRange full z
 in_full z f = record { from_lo = omega (arith, ints); to_hi = omega (arith, ints) }
 
@@ -17,22 +18,33 @@ modular_holds : (g f : ℤ → ℤ → ℤ) → ((x y : ℤ) → FitsSigned w32 
     → (r s : Ends) (o : Option Ends) → IsRange r → IsRange s
     → BoundsResults (λ x y. checked (f x y)) r s o → Holds g r s (unwrap_or o full)
 modular_holds g f is r s None p q b x y m n =
-    subst (InRange full) (sym (is x y (member_fits r x p m) (member_fits s y q n))) (in_full (int_wrap w32 (f x y)) (SFits-int_wrap w32 (f x y)))
+    subst (InRange full) (sym (is x y (member_fits r x p m) (member_fits s y q n)))
+    (in_full (int_wrap w32 (f x y)) (SFits-int_wrap w32 (f x y)))
 modular_holds g f is r s (Some t) p q b x y m n =
     let e = exact (f x y) (is_word (f x y)) t refl (b.members x y m n) in
     subst (InRange t) (sym (is x y (member_fits r x p m) (member_fits s y q n) ∙ int_wrap_fits w32 (f x y) e.0)) e.1
   where
     -- a checked result that lies in a range is the number itself, and a word
-    exact : (z : ℤ) (b : Bool) (t : Ends) → b ≡ is_word z → IsSomeAnd (cond b (Some z) None) (InRange t) → FitsSigned w32 z × InRange t z
+    exact : (z : ℤ) (b : Bool) (t : Ends) → b ≡ is_word z → IsSomeAnd (cond b (Some z) None) (InRange t)
+        → FitsSigned w32 z × InRange t z
     exact z true t e h = (is_word_out z (sym e), h)
     exact z false t e h = absurd h
 
 module _ (r s : Ends) (p : IsRange r) (q : IsRange s) where
+  -- the range of the sums modulo 2^32 holds them
   pub word_sum_holds : Holds word_sum r s (word_sum_range r s)
-  word_sum_holds = modular_holds word_sum (λ x y. x +ℤ y) (wrapping_add_is w32) r s (sum_range r s) p q (sum_exact r s p.ordered q.ordered).bounds
+  word_sum_holds =
+      modular_holds word_sum (λ x y. x +ℤ y) (wrapping_add_is w32) r s (sum_range r s) p q
+      (sum_exact r s p.ordered q.ordered).bounds
 
+  -- that of the differences
   pub word_difference_holds : Holds word_difference r s (word_difference_range r s)
-  word_difference_holds = modular_holds word_difference (λ x y. x -ℤ y) (wrapping_sub_is w32) r s (difference_range r s) p q (difference_exact r s p.ordered q.ordered).bounds
+  word_difference_holds =
+      modular_holds word_difference (λ x y. x -ℤ y) (wrapping_sub_is w32) r s (difference_range r s) p q
+      (difference_exact r s p.ordered q.ordered).bounds
 
+  -- that of the products
   pub word_product_holds : Holds word_product r s (word_product_range r s)
-  word_product_holds = modular_holds word_product (λ x y. x *ℤ y) (wrapping_mul_is w32) r s (product_range r s) p q (product_exact r s p.ordered q.ordered).bounds
+  word_product_holds =
+      modular_holds word_product (λ x y. x *ℤ y) (wrapping_mul_is w32) r s (product_range r s) p q
+      (product_exact r s p.ordered q.ordered).bounds

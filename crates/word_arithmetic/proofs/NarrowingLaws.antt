@@ -1,5 +1,5 @@
 -- What is left of a range inside and outside another, and by a comparison.
-use Rattle.std.proofs.Common.{◌≡◌, ◌↔◌, inl, inr, Bool, true, false, not, cond, refl, sym, subst, ap, ◌∙◌, arith, IsTrue, ℤ, pos, ◌+ℤ◌, ◌-ℤ◌, ◌≤ℤ◌, ◌<ℤ◌, int_le, int_lt, FitsSigned, to_z, of_z}
+use Rattle.std.proofs.Common.{◌≡◌, ◌↔◌, Bool, true, false, not, cond, refl, sym, subst, ap, ◌∙◌, arith, IsTrue, ℤ, pos, ◌+ℤ◌, ◌-ℤ◌, ◌≤ℤ◌, ◌<ℤ◌, int_le, int_lt, FitsSigned, to_z, of_z}
 use Rattle.std.specs.Int.{w32, int_min, int_max}
 use Rattle.std.specs.Ordering.{int_eq}
 use Rattle.std.proofs.lemmas.Int.{ints, clamps, by_lt_z, to_z-of_z}
@@ -13,12 +13,15 @@ use Rattle.word_arithmetic.proofs.EndsLaws.{in_range_out, not_in_range, fits_bet
 
 -- ---- ranges with the same members are one
 
+-- two numbers, each up to the other, are one
 antisym : (a b : ℤ) → a ≤ℤ b → b ≤ℤ a → a ≡ b
 antisym a b h k = omega (arith, ints)
 
+-- ranges with the same ends are one
 pub same_ends : (r s : Ends) → r.lo ≡ s.lo → r.hi ≡ s.hi → r ≡ s
 same_ends r s p q = λ i. record { lo = p i; hi = q i }
 
+-- ranges with the same members have the same ends
 pub one_range : (r s : Ends) → r.lo ≤ℤ r.hi → s.lo ≤ℤ s.hi → ((v : ℤ) → InRange r v ↔ InRange s v) → r ≡ s
 one_range r s p q h =
     let a = (h r.lo).0 (lo_in r p) in
@@ -34,7 +37,8 @@ left_narrows : (P : ℤ → Type 0) (r new : Ends) → IsLeft P r new → Narrow
 left_narrows P r new h = record {
   members = λ v m p. (h.members v).1 (m, p);
   within = λ v m. ((h.members v).0 m).0;
-  left = λ l k. one_range new l h.ordered k.ordered (λ v. ((λ m. (k.members v).1 ((h.members v).0 m)), (λ m. (h.members v).1 ((k.members v).0 m))));
+  left = λ l k. one_range new l h.ordered k.ordered
+      (λ v. ((λ m. (k.members v).1 ((h.members v).0 m)), (λ m. (h.members v).1 ((k.members v).0 m))));
   unchanged = λ none. absurd (none new h);
 }
 
@@ -44,13 +48,24 @@ old_narrows P r h = record { members = λ v m p. m; within = λ v m. m; left = h
 
 -- ---- inside
 
-in_both : (r k : Ends) (v : ℤ) → InRange (record { lo = int_max r.lo k.lo; hi = int_min r.hi k.hi }) v ↔ (InRange r v × InRange k v)
+-- a number lies in both ranges if it lies between the greater lower end and the lesser upper one
+in_both : (r k : Ends) (v : ℤ)
+    → InRange (record { lo = int_max r.lo k.lo; hi = int_min r.hi k.hi }) v ↔ (InRange r v × InRange k v)
 in_both r k v = (
-  (λ m. let a = m.from_lo in let b = m.to_hi in
-      (record { from_lo = omega (arith, ints, clamps); to_hi = omega (arith, ints, clamps) }, record { from_lo = omega (arith, ints, clamps); to_hi = omega (arith, ints, clamps) })),
-  (λ m. let a = m.0 in let b = m.1 in record { from_lo = omega (arith, ints, clamps); to_hi = omega (arith, ints, clamps) }),
+  (λ m. let a = m.from_lo in let b = m.to_hi in (
+    record { from_lo = omega (arith, ints, clamps); to_hi = omega (arith, ints, clamps) },
+    record {
+      from_lo = omega (arith, ints, clamps);
+      to_hi = omega (arith, ints, clamps);
+    },
+  )),
+  (λ m. let a = m.0 in let b = m.1 in record {
+    from_lo = omega (arith, ints, clamps);
+    to_hi = omega (arith, ints, clamps);
+  }),
 )
 
+-- the part inside is what is left
 pub inside_narrows : (r k : Ends) → Narrows (λ v. InRange k v) r (inside r k)
 inside_narrows r k =
     let both : Ends = record { lo = int_max r.lo k.lo; hi = int_min r.hi k.hi } in
@@ -82,8 +97,10 @@ module _ (r k : Ends) (o : r.lo ≤ℤ r.hi) where
       record {
         ordered = omega (arith, ints);
         members = λ v. (
-          (λ p. let a = p.from_lo in let b = p.to_hi in (record { from_lo = omega (arith, ints); to_hi = b }, λ q. let d = q.to_hi in omega (arith, ints))),
-          (λ p. let a = p.0.from_lo in let b = beyond_hi k v (omega (arith, ints)) p.1 in record { from_lo = omega (arith, ints); to_hi = p.0.to_hi }),
+          (λ p. let a = p.from_lo in let b = p.to_hi in
+              (record { from_lo = omega (arith, ints); to_hi = b }, λ q. let d = q.to_hi in omega (arith, ints))),
+          (λ p. let a = p.0.from_lo in let b = beyond_hi k v (omega (arith, ints)) p.1 in
+              record { from_lo = omega (arith, ints); to_hi = p.0.to_hi }),
         );
       }
 
@@ -99,8 +116,10 @@ module _ (r k : Ends) (o : r.lo ≤ℤ r.hi) where
       record {
         ordered = omega (arith, ints);
         members = λ v. (
-          (λ p. let a = p.from_lo in let b = p.to_hi in (record { from_lo = a; to_hi = omega (arith, ints) }, λ q. let d = q.from_lo in omega (arith, ints))),
-          (λ p. let a = p.0.to_hi in let b = beyond_lo k v (omega (arith, ints)) p.1 in record { from_lo = p.0.from_lo; to_hi = omega (arith, ints) }),
+          (λ p. let a = p.from_lo in let b = p.to_hi in
+              (record { from_lo = a; to_hi = omega (arith, ints) }, λ q. let d = q.from_lo in omega (arith, ints))),
+          (λ p. let a = p.0.to_hi in let b = beyond_lo k v (omega (arith, ints)) p.1 in
+              record { from_lo = p.0.from_lo; to_hi = omega (arith, ints) }),
         );
       }
 
@@ -123,6 +142,7 @@ module _ (r k : Ends) (o : r.lo ≤ℤ r.hi) where
       let d = (h.members l.hi).0 (hi_in l h.ordered) in
       same_ends r l (antisym r.lo l.lo c.0.from_lo a.from_lo) (antisym r.hi l.hi b.to_hi d.0.to_hi)
 
+  -- the part outside is what is left, where it is one range
   pub outside_narrows : Narrows (λ v. InRange k v → ⊥) r (outside r k)
   outside_narrows =
       let P = λ (v : ℤ). InRange k v → ⊥ in
@@ -142,10 +162,15 @@ module _ (r k : Ends) (o : r.lo ≤ℤ r.hi) where
 same_left : (P Q : ℤ → Type 0) (r l : Ends) → ((v : ℤ) → InRange r v → P v ↔ Q v) → IsLeft Q r l → IsLeft P r l
 same_left P Q r l e h = record {
   ordered = h.ordered;
-  members = λ v. ((λ m. let x = (h.members v).0 m in (x.0, (e v x.0).1 x.1)), (λ x. (h.members v).1 (x.0, (e v x.0).0 x.1)));
+  members = λ v. (
+    (λ m. let x = (h.members v).0 m in (x.0, (e v x.0).1 x.1)),
+    (λ x. (h.members v).1 (x.0, (e v x.0).0 x.1)),
+  );
 }
 
-same_narrows : (P Q : ℤ → Type 0) (r new : Ends) → ((v : ℤ) → InRange r v → P v ↔ Q v) → Narrows P r new → Narrows Q r new
+-- facts that say the same of the members narrow alike
+same_narrows : (P Q : ℤ → Type 0) (r new : Ends) → ((v : ℤ) → InRange r v → P v ↔ Q v) → Narrows P r new
+    → Narrows Q r new
 same_narrows P Q r new e h = record {
   members = λ v m q. h.members v m ((e v m).1 q);
   within = h.within;
@@ -153,6 +178,7 @@ same_narrows P Q r new e h = record {
   unchanged = λ none. h.unchanged (λ l k. none l (same_left Q P r l (λ v m. ((e v m).1, (e v m).0)) k));
 }
 
+-- to lie in the range of one number is to be it
 equal_is : (c : ℤ) (v : ℤ) → InRange (constant c) v ↔ IsTrue (int_eq v c)
 equal_is c v = (
   (λ m. let a = m.from_lo in let b = m.to_hi in (Decides-int_eq v c).1 (antisym v c b a)),
@@ -160,27 +186,41 @@ equal_is c v = (
 )
 
 module _ (r : Ends) (w : IsRange r) (c : ℤ) where
+  -- a member is a word
   word : (v : ℤ) → InRange r v → FitsSigned w32 v
   word v m = fits_between r v w.lo_fits w.hi_fits m
 
+  -- to lie in the words from c on is to be c at least
   from_is : (v : ℤ) → InRange r v → InRange (at_least c) v ↔ IsTrue (int_le c v)
-  from_is v m = let f = word v m in ((λ p. let a = p.from_lo in le_test c v a), (λ h. record { from_lo = omega (arith, ints, h); to_hi = omega (arith, ints) }))
+  from_is v m =
+      let f = word v m in (
+        (λ p. let a = p.from_lo in le_test c v a),
+        (λ h. record { from_lo = omega (arith, ints, h); to_hi = omega (arith, ints) }),
+      )
 
+  -- to lie in the words up to c is to be c at most
   upto_is : (v : ℤ) → InRange r v → InRange (at_most c) v ↔ IsTrue (int_le v c)
-  upto_is v m = let f = word v m in ((λ p. let a = p.to_hi in le_test v c a), (λ h. record { from_lo = omega (arith, ints); to_hi = omega (arith, ints, h) }))
+  upto_is v m =
+      let f = word v m in (
+        (λ p. let a = p.to_hi in le_test v c a),
+        (λ h. record { from_lo = omega (arith, ints); to_hi = omega (arith, ints, h) }),
+      )
 
+  -- to lie outside the words from c on is to be less
   below_is : (v : ℤ) → InRange r v → (InRange (at_least c) v → ⊥) ↔ IsTrue (int_lt v c)
   below_is v m = let f = word v m in (
     (λ n. by_lt_z v c (λ p. lt_test v c p) (λ p. absurd (n (record { from_lo = p; to_hi = omega (arith, ints) })))),
     (λ h p. let a = p.from_lo in omega (arith, ints, h)),
   )
 
+  -- to lie outside the words up to c is to be greater
   beyond_is : (v : ℤ) → InRange r v → (InRange (at_most c) v → ⊥) ↔ IsTrue (int_lt c v)
   beyond_is v m = let f = word v m in (
     (λ n. by_lt_z c v (λ p. lt_test c v p) (λ p. absurd (n (record { from_lo = omega (arith, ints); to_hi = p })))),
     (λ h p. let a = p.to_hi in omega (arith, ints, h)),
   )
 
+  -- to lie outside the range of one number is to differ from it
   differs_is : (v : ℤ) → (InRange (constant c) v → ⊥) ↔ IsTrue (not (int_eq v c))
   differs_is v = (
     (λ n. ap not (not-true-from (int_eq v c) (λ h. n ((equal_is c v).1 h)))),
@@ -191,29 +231,53 @@ module _ (r : Ends) (w : IsRange r) (c : ℤ) where
       not-true-from true n = absurd (n refl)
       not-true-from false n = refl
 
-  pub narrowed_narrows : (comparison : Comparison) → Narrows (λ v. IsTrue (compares comparison v c)) r (narrowed comparison c r)
-  narrowed_narrows Equal = same_narrows (λ v. InRange (constant c) v) (λ v. IsTrue (int_eq v c)) r (inside r (constant c)) (λ v m. equal_is c v) (inside_narrows r (constant c))
-  narrowed_narrows NotEqual = same_narrows (λ v. InRange (constant c) v → ⊥) (λ v. IsTrue (not (int_eq v c))) r (outside r (constant c)) (λ v m. differs_is v) (outside_narrows r (constant c) w.ordered)
-  narrowed_narrows Less = same_narrows (λ v. InRange (at_least c) v → ⊥) (λ v. IsTrue (int_lt v c)) r (outside r (at_least c)) below_is (outside_narrows r (at_least c) w.ordered)
-  narrowed_narrows LessOrEqual = same_narrows (λ v. InRange (at_most c) v) (λ v. IsTrue (int_le v c)) r (inside r (at_most c)) upto_is (inside_narrows r (at_most c))
-  narrowed_narrows Greater = same_narrows (λ v. InRange (at_most c) v → ⊥) (λ v. IsTrue (int_lt c v)) r (outside r (at_most c)) beyond_is (outside_narrows r (at_most c) w.ordered)
-  narrowed_narrows GreaterOrEqual = same_narrows (λ v. InRange (at_least c) v) (λ v. IsTrue (int_le c v)) r (inside r (at_least c)) from_is (inside_narrows r (at_least c))
+  -- the rule of each comparison keeps what is left
+  pub narrowed_narrows : (comparison : Comparison)
+      → Narrows (λ v. IsTrue (compares comparison v c)) r (narrowed comparison c r)
+  narrowed_narrows Equal =
+      same_narrows (λ v. InRange (constant c) v) (λ v. IsTrue (int_eq v c)) r (inside r (constant c))
+      (λ v m. equal_is c v) (inside_narrows r (constant c))
+  narrowed_narrows NotEqual =
+      same_narrows (λ v. InRange (constant c) v → ⊥) (λ v. IsTrue (not (int_eq v c))) r (outside r (constant c))
+      (λ v m. differs_is v) (outside_narrows r (constant c) w.ordered)
+  narrowed_narrows Less =
+      same_narrows (λ v. InRange (at_least c) v → ⊥) (λ v. IsTrue (int_lt v c)) r (outside r (at_least c)) below_is
+      (outside_narrows r (at_least c) w.ordered)
+  narrowed_narrows LessOrEqual =
+      same_narrows (λ v. InRange (at_most c) v) (λ v. IsTrue (int_le v c)) r (inside r (at_most c)) upto_is
+      (inside_narrows r (at_most c))
+  narrowed_narrows Greater =
+      same_narrows (λ v. InRange (at_most c) v → ⊥) (λ v. IsTrue (int_lt c v)) r (outside r (at_most c)) beyond_is
+      (outside_narrows r (at_most c) w.ordered)
+  narrowed_narrows GreaterOrEqual =
+      same_narrows (λ v. InRange (at_least c) v) (λ v. IsTrue (int_le c v)) r (inside r (at_least c)) from_is
+      (inside_narrows r (at_least c))
 
 -- ---- what the code computes, read back
 
+-- what follows the rule keeps what is left inside
 pub inside_by_rule : (r k new : Ends) → new ≡ inside r k → Narrows (λ v. InRange k v) r new
 inside_by_rule r k new e = subst (Narrows (λ v. InRange k v) r) (sym e) (inside_narrows r k)
 
+-- what follows the rule keeps what is left outside
 pub outside_by_rule : (r k new : Ends) → r.lo ≤ℤ r.hi → new ≡ outside r k → Narrows (λ v. InRange k v → ⊥) r new
 outside_by_rule r k new o e = subst (Narrows (λ v. InRange k v → ⊥) r) (sym e) (outside_narrows r k o)
 
-pub narrowed_by_rule : (r : Ends) (c : ℤ) (new : Ends) (comparison : Comparison) → IsRange r → new ≡ narrowed comparison c r → Narrows (λ v. IsTrue (compares comparison v c)) r new
-narrowed_by_rule r c new comparison w e = subst (Narrows (λ v. IsTrue (compares comparison v c)) r) (sym e) (narrowed_narrows r w c comparison)
+-- what follows the rule keeps what a comparison leaves
+pub narrowed_by_rule : (r : Ends) (c : ℤ) (new : Ends) (comparison : Comparison) → IsRange r
+    → new ≡ narrowed comparison c r → Narrows (λ v. IsTrue (compares comparison v c)) r new
+narrowed_by_rule r c new comparison w e =
+    subst (Narrows (λ v. IsTrue (compares comparison v c)) r) (sym e) (narrowed_narrows r w c comparison)
 
 -- a test of a word that was passed on
-pub tested : (k : Ends) (v : ℤ) (b : Bool) → FitsSigned w32 v → b ≡ in_range k (to_z w32 (of_z w32 v)) → in_range k v ≡ b
+pub tested : (k : Ends) (v : ℤ) (b : Bool) → FitsSigned w32 v → b ≡ in_range k (to_z w32 (of_z w32 v))
+    → in_range k v ≡ b
 tested k v b f e = ap (in_range k) (sym (to_z-of_z w32 v f)) ∙ sym e
 
+-- the part outside, by the tests of both ends
 pub outside_at : (r k : Ends) (a b : Bool) → in_range k r.lo ≡ a → in_range k r.hi ≡ b
-    → outside r k ≡ cond a (cond b r (record { lo = k.hi +ℤ pos 1; hi = r.hi })) (cond b (record { lo = r.lo; hi = k.lo -ℤ pos 1 }) r)
-outside_at r k a b p q = λ i. cond (p i) (cond (q i) r (record { lo = k.hi +ℤ pos 1; hi = r.hi })) (cond (q i) (record { lo = r.lo; hi = k.lo -ℤ pos 1 }) r)
+    → outside r k ≡ cond a (cond b r (record { lo = k.hi +ℤ pos 1; hi = r.hi }))
+    (cond b (record { lo = r.lo; hi = k.lo -ℤ pos 1 }) r)
+outside_at r k a b p q =
+    λ i. cond (p i) (cond (q i) r (record { lo = k.hi +ℤ pos 1; hi = r.hi }))
+    (cond (q i) (record { lo = r.lo; hi = k.lo -ℤ pos 1 }) r)

@@ -13,10 +13,13 @@ use Rattle.word_arithmetic.proofs.QuotientLaws.{divided_by_more, not_zero, quoti
 
 -- ---- the quotient of a word fits, but for MostNeg by -1
 
+-- a number below 2^31 is a word
 fits_positive : (n : ℕ) → n < 2147483648 → FitsSigned w32 (pos n)
 fits_positive n h = record { sfits = h }
 
-quotient_fits : (x y : ℤ) → FitsSigned w32 x → y ≢ pos 0 → (x ≡ least_word → y ≢ negsuc 0) → FitsSigned w32 (int_div x y)
+-- the quotient of a word by a word is one too, but for MostNeg by -1
+quotient_fits : (x y : ℤ) → FitsSigned w32 x → y ≢ pos 0 → (x ≡ least_word → y ≢ negsuc 0)
+    → FitsSigned w32 (int_div x y)
 quotient_fits x (pos zero) f e n = absurd (e refl)
 quotient_fits (pos a) (pos (suc b)) f e n = omega (arith, ints, div-le_self a (suc b))
 quotient_fits (negsuc a) (pos (suc b)) f e n = omega (arith, ints, div-le_self (suc a) (suc b))
@@ -25,19 +28,24 @@ quotient_fits (negsuc a) (negsuc zero) f e n =
     let h = f.sfits in
     let apart : a ≢ 2147483647 = λ same. n (ap negsuc same) refl in
     fits_positive (suc a / 1) (omega arith)
-quotient_fits (negsuc a) (negsuc (suc b)) f e n = fits_positive (suc a / suc (suc b)) (let h = f.sfits in omega (arith, divided_by_more (suc a) 2 (suc (suc b)) (omega arith) (omega arith)))
+quotient_fits (negsuc a) (negsuc (suc b)) f e n =
+    fits_positive (suc a / suc (suc b)) (let h = f.sfits in
+    omega (arith, divided_by_more (suc a) 2 (suc (suc b)) (omega arith) (omega arith)))
 
 -- ---- what the rule rules out
 
 -- no divisor is 0, and no members are MostNeg and -1
 record IsSafe (r s : Ends) : Type 0 where
   no_zero : in_range s (pos 0) ≡ false
+  -- no members are MostNeg and -1
   no_overflow : (in_range r least_word && in_range s (negsuc 0)) ≡ false
 
+-- two tests that both fail
 or_out : (a b : Bool) → (a || b) ≡ false → (a ≡ false) × (b ≡ false)
 or_out true b e = cc
 or_out false b e = (refl, e)
 
+-- where the rule has a range, all members have a quotient
 safe_out : (r s : Ends) → (can_fail_to_divide r s) ≡ false → IsSafe r s
 safe_out r s h = let w = or_out _ _ h in record { no_zero = w.0; no_overflow = w.1 }
 
@@ -48,7 +56,9 @@ no_overflow r s x y h p q e k =
       | inr b ↦ both_ways _ b (subst (λ v. in_range s v ≡ true) k (in_range_in s y q))
     ]
 
-remainder_is : (r s : Ends) (x y : ℤ) → IsRange r → IsSafe r s → InRange r x → InRange s y → checked_remainder x y ≡ Some (int_rem x y)
+-- so the checked remainder is the remainder
+remainder_is : (r s : Ends) (x y : ℤ) → IsRange r → IsSafe r s → InRange r x → InRange s y
+    → checked_remainder x y ≡ Some (int_rem x y)
 remainder_is r s x y g h p q =
     let apart = not_zero s y h.no_zero q in
     let fits = quotient_fits x y (fits_between r x g.lo_fits g.hi_fits p) apart (no_overflow r s x y h p q) in
@@ -63,12 +73,15 @@ size_between l (negsuc h) (pos y) p q = absurd q.le
 size_between (pos l) h (negsuc y) p q = absurd p.le
 size_between (negsuc l) h (negsuc y) p q = omega (arith, ints)
 
+-- a number that is not 0 has a size above 0
 some_divisor : (y : ℤ) → y ≢ pos 0 → 0 < unsigned_abs y
 some_divisor (pos zero) e = absurd (e refl)
 some_divisor (pos (suc n)) e = omega arith
 some_divisor (negsuc n) e = omega arith
 
-lower : (l x : ℤ) (n size : ℕ) (y : ℤ) → l ≤ℤ x → n ≡ unsigned_abs y → 0 < n → n ≤ size → lowest_remainder l size ≤ℤ int_rem x y
+-- a remainder is at least the lower bound
+lower : (l x : ℤ) (n size : ℕ) (y : ℤ) → l ≤ℤ x → n ≡ unsigned_abs y → 0 < n → n ≤ size
+    → lowest_remainder l size ≤ℤ int_rem x y
 lower l (pos a) n size y h e p q =
     cond_both (int_le (pos 0) l) (pos 0) (int_max l (pos 1 -ℤ pos size)) (λ z. z ≤ℤ int_rem (pos a) y)
     (λ t. omega (arith, ints)) (λ t. omega (arith, ints, clamps))
@@ -78,7 +91,9 @@ lower l (negsuc a) n size y h e p q =
     cond_both (int_le (pos 0) l) (pos 0) (int_max l (pos 1 -ℤ pos size)) (λ z. z ≤ℤ int_rem (negsuc a) y)
     (λ t. omega (arith, ints)) (λ t. omega (arith, ints, clamps))
 
-upper : (h x : ℤ) (n size : ℕ) (y : ℤ) → x ≤ℤ h → n ≡ unsigned_abs y → 0 < n → n ≤ size → int_rem x y ≤ℤ highest_remainder h size
+-- and at most the upper one
+upper : (h x : ℤ) (n size : ℕ) (y : ℤ) → x ≤ℤ h → n ≡ unsigned_abs y → 0 < n → n ≤ size
+    → int_rem x y ≤ℤ highest_remainder h size
 upper h (pos a) n size y k e p q =
     let small : a % unsigned_abs y < size = omega (arith, mod_below a (unsigned_abs y) (omega arith)) in
     let below = mod-le a (unsigned_abs y) in
@@ -88,29 +103,52 @@ upper h (negsuc a) n size y k e p q =
     cond_both (int_le h (pos 0)) (pos 0) (int_min h (pos size -ℤ pos 1)) (λ z. int_rem (negsuc a) y ≤ℤ z)
     (λ t. omega (arith, ints)) (λ t. omega (arith, ints, clamps))
 
-remainder_in : (r : Ends) (x y : ℤ) (size : ℕ) → InRange r x → y ≢ pos 0 → unsigned_abs y ≤ size → InRange (remainder_ends r size) (int_rem x y)
+-- so it lies between the bounds
+remainder_in : (r : Ends) (x y : ℤ) (size : ℕ) → InRange r x → y ≢ pos 0 → unsigned_abs y ≤ size
+    → InRange (remainder_ends r size) (int_rem x y)
 remainder_in r x y size m e h =
     let some = some_divisor y e in
-    record { from_lo = lower r.lo x (unsigned_abs y) size y m.from_lo refl some h; to_hi = upper r.hi x (unsigned_abs y) size y m.to_hi refl some h }
+    record {
+      from_lo = lower r.lo x (unsigned_abs y) size y m.from_lo refl some h;
+      to_hi = upper r.hi x (unsigned_abs y) size y m.to_hi refl some h;
+    }
 
+-- the range of the remainders bounds them
 pub remainder_bounds : (r s : Ends) → IsRange r → BoundsResults checked_remainder r s (remainder_range r s)
 remainder_bounds r s g =
-    cond_both (can_fail_to_divide r s) None (Some (remainder_ends r (greatest_size s))) (BoundsResults checked_remainder r s)
+    cond_both (can_fail_to_divide r s) None (Some (remainder_ends r (greatest_size s)))
+    (BoundsResults checked_remainder r s)
     (λ z. record {
       members = tt;
       none = ⊎_elim
-          (λ zero. record { x = r.lo; y = pos 0; x_in = lo_in r g.ordered; y_in = in_range_out s (pos 0) zero; is = refl })
-          (λ both. let w = and_out _ _ both in record { x = least_word; y = negsuc 0; x_in = in_range_out r least_word w.0; y_in = in_range_out s (negsuc 0) w.1; is = refl })
+          (λ zero. record {
+            x = r.lo;
+            y = pos 0;
+            x_in = lo_in r g.ordered;
+            y_in = in_range_out s (pos 0) zero;
+            is = refl;
+          })
+          (λ both. let w = and_out _ _ both in record {
+            x = least_word;
+            y = negsuc 0;
+            x_in = in_range_out r least_word w.0;
+            y_in = in_range_out s (negsuc 0) w.1;
+            is = refl;
+          })
           (or_cases _ _ z);
     })
     (λ h. let safe = safe_out r s h in record {
       members = λ x y p q.
-          subst (λ o. IsSomeAnd o (InRange (remainder_ends r (greatest_size s)))) (sym (remainder_is r s x y g safe p q))
-          (remainder_in r x y (greatest_size s) p (not_zero s y safe.no_zero q) (size_between s.lo s.hi y q.from_lo q.to_hi));
+          subst (λ o. IsSomeAnd o (InRange (remainder_ends r (greatest_size s))))
+          (sym (remainder_is r s x y g safe p q))
+          (remainder_in r x y (greatest_size s) p (not_zero s y safe.no_zero q)
+          (size_between s.lo s.hi y q.from_lo q.to_hi));
       none = tt;
     })
 
+-- and so does what follows the rule
 pub remainder_by_rule : (r s : Ends) (range : Option Ends) → FitsSigned w32 r.lo → FitsSigned w32 r.hi → r.lo ≤ℤ r.hi
     → range ≡ remainder_range r s → BoundsResults checked_remainder r s range
 remainder_by_rule r s range f g o h =
-    subst (BoundsResults checked_remainder r s) (sym h) (remainder_bounds r s (record { lo_fits = f; hi_fits = g; ordered = o }))
+    subst (BoundsResults checked_remainder r s) (sym h)
+    (remainder_bounds r s (record { lo_fits = f; hi_fits = g; ordered = o }))

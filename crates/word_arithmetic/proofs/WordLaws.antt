@@ -43,15 +43,18 @@ not_checked z e = ap (λ b. cond b (Some z) None) e
 
 -- ---- the laws
 
+-- the words are the numbers of 32 bits
 pub words_fit : WordsFit
 words_fit z = (is_word_out z, is_word_in z)
 
+-- they lie between the least and the greatest
 pub words_lie_between : WordsLieBetween
 words_lie_between z = (
   (λ h. let f = is_word_out z h in (omega (arith, ints), omega (arith, ints))),
   (λ p. let a = p.0 in let b = p.1 in is_word_in z (omega (arith, ints))),
 )
 
+-- a checked result is the number itself, and a word
 pub checked_gives_words : CheckedGivesWords
 checked_gives_words z v = (
   (λ e. let s = some_out (is_word z) z v e in (is_word_out z s.0, s.1)),

@@ -77,7 +77,8 @@ pub record ReachesEnds (f : ℤ → ℤ → Option ℤ) (r s t : Ends) : Type 0 
   pub lo : Reaches f r s (Some t.lo)
   pub hi : Reaches f r s (Some t.hi)
 
--- the range, if there is one, holds each result of members, and no members set the error flag; if there is none, some do
+-- the range, if there is one, holds each result of members, and no members set the error flag; if there is none, some
+-- do
 pub record BoundsResults (f : ℤ → ℤ → Option ℤ) (r s : Ends) (range : Option Ends) : Type 0 where
   pub members : IfSome range (HoldsChecked f r s)
   pub none : IfNone range (Reaches f r s None)
@@ -115,7 +116,9 @@ hull r s = record { lo = int_min r.lo s.lo; hi = int_max r.hi s.hi }
 
 -- the least range with all results of the ends
 abbrev pub corners : (ℤ → ℤ → ℤ) → Ends → Ends → Ends
-corners f r s = hull (hull (constant (f r.lo s.lo)) (constant (f r.lo s.hi))) (hull (constant (f r.hi s.lo)) (constant (f r.hi s.hi)))
+corners f r s =
+    hull (hull (constant (f r.lo s.lo)) (constant (f r.lo s.hi)))
+    (hull (constant (f r.hi s.lo)) (constant (f r.hi s.hi)))
 
 -- the range, where its ends are words
 abbrev pub fitting : Ends → Option Ends

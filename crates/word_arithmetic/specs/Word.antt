@@ -1,4 +1,4 @@
--- What the device computes on words. A word has 32 bits and stands here for its signed value; "unsigned" says
+-- What the T414 computes on words. A word has 32 bits and stands here for its signed value; "unsigned" says
 -- where it is read as a number from 0 to 2^32 - 1. From the T414 compiler writer's guide, but for what is
 -- marked as our own choice.
 use Rattle.std.specs.Prelude.{◌≡◌, ◌↔◌, IsTrue, FitsSigned, ◌≤ℤ◌, ℕ, zero, ◌/◌, ◌^◌, Bool, Option, Some, None, if◌then◌else◌, nat_lt, ℤ, pos, negsuc, ◌+ℤ◌, ◌-ℤ◌, ◌*ℤ◌, int_div, int_rem, is_some}
@@ -28,7 +28,7 @@ WordsLieBetween = (z : ℤ) → IsTrue (is_word z) ↔ ((least_word ≤ℤ z) ×
 abbrev pub checked : ℤ → Option ℤ
 checked z = if is_word z then Some z else None
 
--- a checked result is the number itself, and a word
+-- the checked result is there exactly where the number is a word, and it is that number
 abbrev pub CheckedGivesWords : Type 0
 CheckedGivesWords = (z v : ℤ) → (checked z ≡ Some v) ↔ (FitsSigned w32 z × (z ≡ v))
 

@@ -10,7 +10,8 @@ use crate::compare::is_greater;
 use crate::modular::{minus, plus, times};
 use crate::ranges::Range;
 
-/// An operation of two operands. The first operand is the one that a process pushes first.
+/// An operation of two operands. The first is the one that a process pushes first, which is in register B at the
+/// instruction, and the second is the one in A.
 #[derive(Clone, Copy, Debug, PartialEq, Eq)]
 pub enum Binary {
     /// The checked sum.

@@ -1,4 +1,5 @@
-//! The checked operations: `None` exactly where the device sets the error flag.
+//! The checked operations: `None` exactly where the T414 sets the error flag. They are those of the standard library;
+//! what they add is the contract.
 ghost use Rattle.std.specs.Prelude.{◌≡◌};
 ghost use Rattle.word_arithmetic.specs.Word.{checked_sum, checked_difference, checked_product, checked_quotient, checked_remainder};
 

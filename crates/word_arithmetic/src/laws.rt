@@ -4,12 +4,17 @@ ghost use Rattle.word_arithmetic.specs.Range.{WordsInOrderAreRanges, MembersLieB
 ghost use Rattle.word_arithmetic.specs.Binary.{BinaryGivesWords, BinaryHolds, BinaryFails};
 ghost use Rattle.word_arithmetic.specs.Unary.{UnaryGivesWords, UnaryHolds};
 
-/// The words are the numbers of 32 bits, from the least to the greatest, and a checked result is one of them.
-#[tactic(auto, using(crate::proofs::WordLaws::words_fit, crate::proofs::WordLaws::words_lie_between, crate::proofs::WordLaws::checked_gives_words))]
+/// The words are the numbers of 32 bits with a sign, from the least to the greatest.
+#[tactic(auto, using(crate::proofs::WordLaws::words_fit, crate::proofs::WordLaws::words_lie_between))]
 pub fn words_have_32_bits()
     ensures fit { WordsFit }
     ensures between { WordsLieBetween }
-    ensures checked { CheckedGivesWords }
+{}
+
+/// A checked result is the number itself, and a word.
+#[tactic(auto, using(crate::proofs::WordLaws::checked_gives_words))]
+pub fn checked_results_are_words()
+    ensures { CheckedGivesWords }
 {}
 
 /// The result of words is a word.

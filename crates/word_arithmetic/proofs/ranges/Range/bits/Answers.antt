@@ -10,7 +10,8 @@ returns-then-is_single_with c value hi p q =
     let s = ends_of c.args.other in
     cond_true (is_constant r && is_constant s) (constant value)
     (cond (is_not_negative r && is_not_negative s) (zero_to hi) full)
-    (ends_of c.constant.result) (sym c.is_single_with.ensures ∙ c.if-is_single_with.true) (c.constant.ensures ∙ ap constant (to_z-of_z w32 c.args.of_constants (search rules) ∙ sym p))
+    (ends_of c.constant.result) (sym c.is_single_with.ensures ∙ c.if-is_single_with.true)
+    (c.constant.ensures ∙ ap constant (to_z-of_z w32 c.args.of_constants (search rules) ∙ sym p))
 
 pub returns-then-is_not_negative_with : goal.returns-then-is_not_negative_with
 returns-then-is_not_negative_with c value hi p q =
@@ -20,7 +21,8 @@ returns-then-is_not_negative_with c value hi p q =
     (cond (is_not_negative r && is_not_negative s) (zero_to hi) full)
     (ends_of c.zero_to.result) (sym c.is_single_with.ensures ∙ c.if-is_single_with.false)
     (cond_true (is_not_negative r && is_not_negative s) (zero_to hi) full
-    (ends_of c.zero_to.result) (sym c.is_not_negative_with.ensures ∙ c.if-is_not_negative_with.true) (c.zero_to.ensures ∙ ap zero_to (to_z-of_z w32 c.args.top (search rules) ∙ sym q)))
+    (ends_of c.zero_to.result) (sym c.is_not_negative_with.ensures ∙ c.if-is_not_negative_with.true)
+    (c.zero_to.ensures ∙ ap zero_to (to_z-of_z w32 c.args.top (search rules) ∙ sym q)))
 
 pub returns : goal.returns
 returns c value hi p q =

@@ -9,5 +9,6 @@ pub returns-then-outer-self-clause-members : goal.returns-then-outer-self-clause
 returns-then-outer-self-clause-members c =
     let low = c.if-outer-self.true in (
       λ h v m. record { from_lo = omega (arith, ints); to_hi = omega (arith, ints) },
-      λ f. let top = f c.args.self.now.hi (hi_in (ends_of c.args.self.now) c.args.self.now.ordered) in le_test (to_z w32 (of_z w32 c.args.self.now.hi)) (to_z w32 (of_z w32 c.args.outer.hi)) (omega (arith, ints)),
+      λ f. let top = f c.args.self.now.hi (hi_in (ends_of c.args.self.now) c.args.self.now.ordered) in
+          le_test (to_z w32 (of_z w32 c.args.self.now.hi)) (to_z w32 (of_z w32 c.args.outer.hi)) (omega (arith, ints)),
     )

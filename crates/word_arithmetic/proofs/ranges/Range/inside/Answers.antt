@@ -11,8 +11,10 @@ returns-then-hi-lo-clause-rule c =
     let r = ends_of c.args.self in
     let k = ends_of c.args.kept in
     let both : Ends = record { lo = int_max r.lo k.lo; hi = int_min r.hi k.hi } in
-    let lo = passed_on w32 w32 int_max r.lo k.lo c.max-lo.result (search rules) (search rules) (search rules) c.max-lo.ensures.value in
-    let hi = passed_on w32 w32 int_min r.hi k.hi c.min-hi.result (search rules) (search rules) (search rules) c.min-hi.ensures.value in
+    let lo = passed_on w32 w32 int_max r.lo k.lo c.max-lo.result
+    (search rules) (search rules) (search rules) c.max-lo.ensures.value in
+    let hi = passed_on w32 w32 int_min r.hi k.hi c.min-hi.result
+    (search rules) (search rules) (search rules) c.min-hi.ensures.value in
     cond_false (int_le both.lo both.hi) both r r (le_test_fails both.lo both.hi (omega (arith, ints))) refl
 
 pub returns-then-hi-lo-clause-narrows : goal.returns-then-hi-lo-clause-narrows
@@ -23,10 +25,13 @@ pub returns-clause-rule : goal.returns-clause-rule
 returns-clause-rule c =
     let r = ends_of c.args.self in
     let k = ends_of c.args.kept in
-    let lo = passed_on w32 w32 int_max r.lo k.lo c.max-lo.result (search rules) (search rules) (search rules) c.max-lo.ensures.value in
-    let hi = passed_on w32 w32 int_min r.hi k.hi c.min-hi.result (search rules) (search rules) (search rules) c.min-hi.ensures.value in
+    let lo = passed_on w32 w32 int_max r.lo k.lo c.max-lo.result
+    (search rules) (search rules) (search rules) c.max-lo.ensures.value in
+    let hi = passed_on w32 w32 int_min r.hi k.hi c.min-hi.result
+    (search rules) (search rules) (search rules) c.min-hi.ensures.value in
     let both : Ends = record { lo = int_max r.lo k.lo; hi = int_min r.hi k.hi } in
-    cond_true (int_le both.lo both.hi) both r (ends_of c.new.result) (le_test both.lo both.hi (omega (arith, ints))) (λ i. record { lo = (c.new.ensures.lo ∙ sym lo) i; hi = (c.new.ensures.hi ∙ sym hi) i })
+    cond_true (int_le both.lo both.hi) both r (ends_of c.new.result) (le_test both.lo both.hi (omega (arith, ints)))
+    (λ i. record { lo = (c.new.ensures.lo ∙ sym lo) i; hi = (c.new.ensures.hi ∙ sym hi) i })
 
 pub returns-clause-narrows : goal.returns-clause-narrows
 returns-clause-narrows c =

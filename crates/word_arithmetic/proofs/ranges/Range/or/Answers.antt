@@ -11,7 +11,8 @@ pub returns-clause-rule : goal.returns-clause-rule
 returns-clause-rule c =
     let r = ends_of c.args.self in
     let s = ends_of c.args.other in
-    let top = passed_on w32 w32 int_max r.hi s.hi c.max.result (search rules) (search rules) (search rules) c.max.ensures.value in
+    let top = passed_on w32 w32 int_max r.hi s.hi c.max.result
+    (search rules) (search rules) (search rules) c.max.ensures.value in
     c.bits.ensures (word_or r.lo s.lo) (all_ones (int_max r.hi s.hi)) (search rules)
     (ap all_ones top ∙ sym c.all_ones.ensures.value ∙ sym (to_z-of_z w32 c.all_ones.result (search rules)))
 

@@ -1,13 +1,11 @@
-use Rattle.std.proofs.Common.{ap, ◌∙◌, rules}
-use Rattle.word_arithmetic.specs.Range.{ends_of, full, sum_range}
-use Rattle.word_arithmetic.proofs.EndsLaws.{by_rule, is_range, ends_of-unwrap_or}
+use Rattle.std.proofs.Common.{rules}
+use Rattle.word_arithmetic.proofs.EndsLaws.{by_rule, is_range, unwrap_or_ends}
 use Rattle.word_arithmetic.proofs.ModularLaws.{word_sum_holds}
 use Rattle.word_arithmetic.proofs.ranges.Range.plus.Goals as goal
 
 pub returns-clause-rule : goal.returns-clause-rule
 returns-clause-rule c =
-    ap ends_of c.unwrap_or.ensures
-    ∙ ends_of-unwrap_or c.add.result c.full.result (sum_range (ends_of c.args.self) (ends_of c.args.other)) full c.add.ensures.rule c.full.ensures
+    unwrap_or_ends c.add.result c.full.result c.unwrap_or.ensures c.add.ensures.rule c.full.ensures
 
 pub returns-clause-members : goal.returns-clause-members
 returns-clause-members c =

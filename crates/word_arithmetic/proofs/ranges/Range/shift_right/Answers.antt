@@ -12,7 +12,8 @@ returns-then-not-is_not_negative-clause-rule c =
     (sym c.is_not_negative.ensures ∙ c.if-not-is_not_negative.true) c.full.ensures
 
 pub returns-then-not-is_not_negative-clause-members : goal.returns-then-not-is_not_negative-clause-members
-returns-then-not-is_not_negative-clause-members c = by_rule (returns-then-not-is_not_negative-clause-rule c) (shift_right_holds _ _ (search (rules, is_range)))
+returns-then-not-is_not_negative-clause-members c =
+    by_rule (returns-then-not-is_not_negative-clause-rule c) (shift_right_holds _ _ (search (rules, is_range)))
 
 pub returns-clause-rule : goal.returns-clause-rule
 returns-clause-rule c =

@@ -12,8 +12,10 @@ fitting-requires c =
 
 pub returns-clause-rule : goal.returns-clause-rule
 returns-clause-rule c =
-    c.fitting.ensures (record { lo = c.args.self.lo -ℤ c.args.other.hi; hi = c.args.self.hi -ℤ c.args.other.lo }) (omega (arith, ints)) (omega (arith, ints))
+    c.fitting.ensures (record { lo = c.args.self.lo -ℤ c.args.other.hi; hi = c.args.self.hi -ℤ c.args.other.lo })
+    (omega (arith, ints)) (omega (arith, ints))
 
 pub returns-clause-exact : goal.returns-clause-exact
 returns-clause-exact c =
-    exact_by (returns-clause-rule c) (difference_exact (ends_of c.args.self) (ends_of c.args.other) c.args.self.ordered c.args.other.ordered)
+    exact_by (returns-clause-rule c)
+    (difference_exact (ends_of c.args.self) (ends_of c.args.other) c.args.self.ordered c.args.other.ordered)

@@ -6,4 +6,5 @@ pub returns-clause-value : goal.returns-clause-value
 returns-clause-value c = search rules
 
 pub returns-clause-sign : goal.returns-clause-sign
-returns-clause-sign c h = subst (λ z. pos 0 ≤ℤ z) (sym (returns-clause-value c)) (all_ones_sign c.args.word (search rules) h)
+returns-clause-sign c h =
+    subst (λ z. pos 0 ≤ℤ z) (sym (returns-clause-value c)) (all_ones_sign c.args.word (search rules) h)
