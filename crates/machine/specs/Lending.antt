@@ -6,7 +6,8 @@ use Rattle.std.specs.Io.BufRead.{Rests}
 use mir.Syntax.{named}
 use Rattle.machine_state.specs.declared.event.Event.{Event}
 use Rattle.machine_state.specs.declared.event.Effect.{Effect}
-use Rattle.machine_state.specs.declared.event.Effect.TheVariants.{Ran, Idle, Emitted, Taken, Kept, Busy, Acknowledged, Ignored}
+use Rattle.machine_state.specs.declared.event.Effect.TheVariants.{Ran, Idle, Emitted, Taken, Kept, Busy, Acknowledged}
+use Rattle.machine_state.specs.declared.event.Effect.TheVariants.{Ignored}
 use Rattle.machine_state.specs.World.{World}
 use Rattle.machine_state.specs.Happens.{Did, ran, idle, emitted, taken, kept, busy, acknowledged, ignored, Turn, turn}
 use Rattle.machine.specs.declared.checked.act.Stop.{Stop}

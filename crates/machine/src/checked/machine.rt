@@ -5,7 +5,8 @@ ghost use Rattle.certificate.specs.Contents.{contents_of};
 ghost use Rattle.machine_state.specs.World.{IsLoadable, loaded};
 ghost use Rattle.machine_state.specs.Memory.{data_start, place_of, with_byte};
 ghost use Rattle.machine_state.specs.Happens.{most_executed};
-ghost use Rattle.machine_state.specs.Moves.{counted, finished_where, faulty, put, with_condition, leave, enqueue, wake, dispatch, link_index, with_input, with_output};
+ghost use Rattle.machine_state.specs.Moves.{counted, finished_where, faulty, put, with_condition, leave, enqueue};
+ghost use Rattle.machine_state.specs.Moves.{wake, dispatch, link_index, with_input, with_output};
 ghost use Rattle.machine.specs.Applying.{PerformsFor, outcome_at};
 ghost use Rattle.machine.specs.Moment.{IsSteady, WaitsForMore};
 
