@@ -1,4 +1,4 @@
--- No two processes hold the same, and what open joins keep to themselves is held by nobody.
+-- No two processes hold the same, and no process holds what open joins keep to themselves.
 use Rattle.std.specs.Prelude.{◌≡◌, ◌≢◌, ℕ, ◌+◌, true, false, List, Some, slice_get}
 use Rattle.machine_state.specs.declared.process.Channel.{Channel}
 use Rattle.machine_state.specs.declared.holding.Span.{Span}

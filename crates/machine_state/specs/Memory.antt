@@ -11,7 +11,7 @@ Memory = List (Option ℕ)
 abbrev pub data_start : ℕ
 data_start = 0x80000100
 
--- the place of an address; the addresses before the data area have places far behind its end
+-- the place of an address; the addresses before the data area have places far after its end
 unfoldable pub place_of : ℕ → ℕ
 place_of address = (address + (2 ^ 32 - data_start)) % 2 ^ 32
 

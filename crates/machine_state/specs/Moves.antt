@@ -38,7 +38,7 @@ with_condition p condition w = elim (slice_get w.tasks p) [
 
 -- ---- the queue
 
--- nobody runs
+-- no process is running
 abbrev pub leave : World → World
 leave w = record w { queue = record w.queue { running = None } }
 
@@ -49,7 +49,7 @@ enqueue p w = record w { queue = record w.queue { ready = w.queue.ready ++ p ∷
 abbrev pub wake : ℕ → World → World
 wake p w = enqueue p (with_condition p Ready w)
 
--- Where nobody runs, the ready process number pick, counted round the list, is taken out and runs.
+-- If no process is running, the ready process number pick, counted round the list, is taken out and runs.
 abbrev pub picked : ℕ → Queue → Queue
 picked pick queue = elim queue.running [
   | Some p ↦ queue

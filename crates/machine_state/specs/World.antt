@@ -74,7 +74,7 @@ pub record World : Type 0 where
 abbrev pub padding : ℕ → ℕ
 padding code_length = (4 - code_length % 4) % 4
 
--- the places of the constants: from the first to the one behind the last
+-- the places of the constants: from the first to the one after the last
 abbrev pub constants_start : Contents → ℕ
 constants_start m = 4 * m.data_words + length m.code + padding (length m.code)
 

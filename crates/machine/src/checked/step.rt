@@ -91,7 +91,7 @@ impl Machine {
 }
 
 impl Machine {
-    /// An instruction was performed: its process goes on behind it or elsewhere, or stops.
+    /// An instruction was performed: its process goes on after it or elsewhere, or stops.
     #[tactic(auto, unfolding(machine_state::specs::Moves::dispatch))]
     fn settle(
         &mut self,
@@ -204,7 +204,7 @@ impl Machine {
         }
     }
 
-    /// A step: one byte of the running process, unless nobody runs or enough bytes were executed.
+    /// A step: one byte of the running process, unless no process is running or enough bytes were executed.
     pub(crate) fn step(&mut self, tables: &Tables, choice: Choice) -> Result<Act, Stop>
         requires { length tables.now.code.now < 2 ^ 32 }
         ensures { let turn = step_turn (contents_of tables.now) choice.slice choice.pick self.old.world in
