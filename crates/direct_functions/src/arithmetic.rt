@@ -13,7 +13,8 @@ pub(crate) fn with_constant<S: Store>(
     op: Binary,
     operand: i32,
 ) -> Result<Flow, Fault>
-    ensures performs { let outcome = instruction_outcome S.cells S.holding cpu.old (instruction.WithConstant op) operand in
+    ensures performs { let computing = instruction.WithConstant op in
+        let outcome = instruction_outcome S.cells S.holding cpu.old computing operand in
         Performs S.cells cpu.old cpu.new result outcome }
     ensures elsewhere { IsSameElsewhere S.holding S.roles cpu.old cpu.new }
 {

@@ -1,5 +1,6 @@
 -- A run goes on, event by event.
-use Rattle.std.proofs.Common.{◌≡◌, ℕ, Bool, true, false, if◌then◌else◌, nat_eq, List, [], ◌∷◌, ◌++◌, None, Some, Ok, Err, refl, sym, ap, subst, ◌∙◌, append_assoc, slice_get, slice_set, eqb-true}
+use Rattle.std.proofs.Common.{◌≡◌, ℕ, Bool, true, false, if◌then◌else◌, nat_eq, List, [], ◌∷◌, ◌++◌, None, Some, Ok}
+use Rattle.std.proofs.Common.{Err, refl, sym, ap, subst, ◌∙◌, append_assoc, slice_get, slice_set, eqb-true}
 use Rattle.std.proofs.lemmas.Bool.{eqb-false}
 use Rattle.std.proofs.lemmas.List.{append-nil}
 use Rattle.std.specs.Global.{Vec}
@@ -11,32 +12,37 @@ use Rattle.machine_state.specs.declared.link.Link.TheVariants.{Zero, One, Two, T
 use Rattle.machine_state.specs.declared.fault.Fault.{Fault}
 use Rattle.machine_state.specs.World.{World}
 use Rattle.machine_state.specs.World.{loaded}
-use Rattle.machine_state.specs.Happens.{happens, turn, run_from, world_after, emitted, emitted_by, emitted_from, emitted_on}
+use Rattle.machine_state.specs.Happens.{happens, turn, run_from, world_after, emitted, emitted_by, emitted_from}
+use Rattle.machine_state.specs.Happens.{emitted_on}
 use Rattle.std.proofs.lemmas.Grind.{not_there}
 use Rattle.verifier.specs.Headline.{IsEvent, RunsWell}
 use Rattle.machine.specs.Asking.{Execution}
 use Rattle.machine.specs.Replaying.{NeverFails, GoesOut, bytes_of, out_on}
 use Rattle.verifier.proofs.Lists.{got_set, got_other}
-use Rattle.machine.proofs.Told.{told}
+use Rattle.machine.proofs.FaultsStay.{fault_stays}
 
 -- no event that can happen is a fault
-pub no_fault : (m : Contents) (w : World) (e : Event) (f : Fault) → NeverFails m w → IsEvent e → (turn m w e).answer ≡ Err f → ⊥
-no_fault m w e f never is fails = never.always (e ∷ []) f (is, tt) (told m w e f fails)
+pub no_fault : (m : Contents) (w : World) (e : Event) (f : Fault) → NeverFails m w → IsEvent e
+    → (turn m w e).answer ≡ Err f → ⊥
+no_fault m w e f never is fails = never.always (e ∷ []) f (is, tt) (fault_stays m w e f fails)
 
--- The run of a module that runs well, in the middle of a list of events: what is left of them leads to the same world, and puts out what is left to be put out.
+-- The run of a module that runs well, in the middle of a list of events: what is left of them leads to the same
+-- world, and puts out what is left to be put out.
 pub record IsGoing (m : Contents) (events rest : List Event) (c : Execution) (out : List (Vec ℕ)) : Type 0 where
   pub contents : c.contents ≡ m
   pub never : NeverFails m c.world
   pub world : run_from m c.world rest ≡ world_after m events
   pub puts : (link : Link) → out_on out link ++ emitted_from m c.world link rest ≡ emitted_on m link events
 
-pub nothing_out : (a b c d : Vec ℕ) → a.items ≡ [] → b.items ≡ [] → c.items ≡ [] → d.items ≡ [] → (link : Link) → out_on (a ∷ b ∷ c ∷ d ∷ []) link ≡ []
+pub nothing_out : (a b c d : Vec ℕ) → a.items ≡ [] → b.items ≡ [] → c.items ≡ [] → d.items ≡ [] → (link : Link)
+    → out_on (a ∷ b ∷ c ∷ d ∷ []) link ≡ []
 nothing_out a b c d p q r s Zero = p
 nothing_out a b c d p q r s One = q
 nothing_out a b c d p q r s Two = r
 nothing_out a b c d p q r s Three = s
 
-pub begins : (m : Contents) (events rest : List Event) (c : Execution) (out : List (Vec ℕ)) → ∥ RunsWell m ∥₁ → c ≡ record { contents = m; world = loaded m } → rest ≡ events
+pub begins : (m : Contents) (events rest : List Event) (c : Execution) (out : List (Vec ℕ)) → ∥ RunsWell m ∥₁
+    → c ≡ record { contents = m; world = loaded m } → rest ≡ events
     → ((link : Link) → out_on out link ≡ []) → IsGoing m events rest c out
 begins m events rest c out well is all none = rw (is, all) (record {
   contents = refl;
@@ -45,8 +51,10 @@ begins m events rest c out well is all none = rw (is, all) (record {
   puts = λ link. rw (none link) refl;
 })
 
-pub goes_on : (m : Contents) (events : List Event) (e : Event) (rest : List Event) (before after : Execution) (old new : List (Vec ℕ)) → IsGoing m events (e ∷ rest) before old
-    → IsEvent e → after.contents ≡ before.contents → after.world ≡ happens before.contents before.world e → GoesOut (turn before.contents before.world e).answer old new
+pub goes_on : (m : Contents) (events : List Event) (e : Event) (rest : List Event) (before after : Execution)
+    (old new : List (Vec ℕ)) → IsGoing m events (e ∷ rest) before old
+    → IsEvent e → after.contents ≡ before.contents → after.world ≡ happens before.contents before.world e
+    → GoesOut (turn before.contents before.world e).answer old new
     → IsGoing m events rest after new
 goes_on m events e rest before after old new going is same moved puts =
     let w = before.world in
@@ -56,17 +64,26 @@ goes_on m events e rest before after old new going is same moved puts =
       never = rw here (record { always = λ es f are. going.never.always (e ∷ es) f (is, are) });
       world = rw here going.world;
       puts = λ link. rw here (
-          let puts_here : out_on new link ≡ out_on old link ++ emitted_by link (turn m w e).answer = puts link ∙ ap (λ (c : Contents). out_on old link ++ emitted_by link (turn c w e).answer) going.contents in
-          rw puts_here (append_assoc (out_on old link) (emitted_by link (turn m w e).answer) (emitted_from m (happens m w e) link rest) ∙ going.puts link));
+          let puts_here : out_on new link ≡ out_on old link ++ emitted_by link (turn m w e).answer = puts link ∙ ap
+          (λ (c : Contents). out_on old link ++ emitted_by link (turn c w e).answer) going.contents in
+          rw puts_here (append_assoc (out_on old link) (emitted_by link (turn m w e).answer)
+          (emitted_from m (happens m w e) link rest) ∙ going.puts link));
     }
 
-pub is_over : (m : Contents) (events rest : List Event) (c : Execution) (out : List (Vec ℕ)) → IsGoing m events rest c out → rest ≡ [] → (c.world ≡ world_after m events) × ((link : Link) → out_on out link ≡ emitted_on m link events)
-is_over m events rest c out going done =
-    (sym (ap (run_from m c.world) done) ∙ going.world, λ link. sym (append-nil (out_on out link)) ∙ (sym (ap (λ (es : List Event). out_on out link ++ emitted_from m c.world link es) done) ∙ going.puts link))
+pub is_over : (m : Contents) (events rest : List Event) (c : Execution) (out : List (Vec ℕ))
+    → IsGoing m events rest c out → rest ≡ []
+    → (c.world ≡ world_after m events) × ((link : Link) → out_on out link ≡ emitted_on m link events)
+is_over m events rest c out going done = (
+  sym (ap (run_from m c.world) done) ∙ going.world,
+  λ link. sym (append-nil (out_on out link)) ∙
+      (sym (ap (λ (es : List Event). out_on out link ++ emitted_from m c.world link es) done) ∙ going.puts link),
+)
 
--- Bytes that go behind what is out at one place go out there, and elsewhere nothing does.
-put_at : (out : List (Vec ℕ)) (at : ℕ) (old new : Vec ℕ) (bytes : List ℕ) → slice_get out at ≡ Some old → new.items ≡ old.items ++ bytes
-    → (on : ℕ) (b : Bool) → nat_eq at on ≡ b → bytes_of (slice_get (slice_set out at new) on) ≡ bytes_of (slice_get out on) ++ (if b then bytes else [])
+-- Bytes that go after what is out at one place go out there, and elsewhere nothing does.
+put_at : (out : List (Vec ℕ)) (at : ℕ) (old new : Vec ℕ) (bytes : List ℕ) → slice_get out at ≡ Some old
+    → new.items ≡ old.items ++ bytes
+    → (on : ℕ) (b : Bool) → nat_eq at on ≡ b
+    → bytes_of (slice_get (slice_set out at new) on) ≡ bytes_of (slice_get out on) ++ (if b then bytes else [])
 put_at out at old new bytes here is on true e =
     let same : at ≡ on = eqb-true at on e in
     ap bytes_of (subst (λ k. slice_get (slice_set out at new) k ≡ Some new) same (got_set out at old new here)) ∙ (is
@@ -74,6 +91,8 @@ put_at out at old new bytes here is on true e =
 put_at out at old new bytes here is on false e =
     ap bytes_of (got_other out at on new (eqb-false at on e)) ∙ sym (append-nil (bytes_of (slice_get out on)))
 
-pub put_on : (out : List (Vec ℕ)) (link : Link) (old new : Vec ℕ) (bytes : List ℕ) → slice_get out (link_index link) ≡ Some old → new.items ≡ old.items ++ bytes
+pub put_on : (out : List (Vec ℕ)) (link : Link) (old new : Vec ℕ) (bytes : List ℕ)
+    → slice_get out (link_index link) ≡ Some old → new.items ≡ old.items ++ bytes
     → GoesOut (Ok (emitted link bytes)) out (slice_set out (link_index link) new)
-put_on out link old new bytes here is on = put_at out (link_index link) old new bytes here is (link_index on) (nat_eq (link_index link) (link_index on)) refl
+put_on out link old new bytes here is on = put_at out (link_index link) old new bytes here is (link_index on)
+    (nat_eq (link_index link) (link_index on)) refl

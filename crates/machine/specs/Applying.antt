@@ -43,7 +43,8 @@ Applies before after (Err stops.Memory) turn = after ≡ before
 
 -- the outcome of an instruction of this process
 abbrev pub outcome_at : Contents → ℕ → Task → Fun → ℤ → World → Outcome
-outcome_at m p task f operand w = local_step (site_of m p task w) f operand (record { registers = task.registers; memory = w.memory })
+outcome_at m p task f operand w =
+    local_step (site_of m p task w) f operand (record { registers = task.registers; memory = w.memory })
 
 -- the outcome of an instruction after which its process goes on so
 abbrev pub outcome_by : Flow → Local → Outcome

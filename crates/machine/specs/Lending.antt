@@ -6,7 +6,8 @@ use Rattle.std.specs.Io.BufRead.{Rests}
 use mir.Syntax.{named}
 use Rattle.machine_state.specs.declared.event.Event.{Event}
 use Rattle.machine_state.specs.declared.event.Effect.{Effect}
-use Rattle.machine_state.specs.declared.event.Effect.TheVariants.{Ran, Idle, Emitted, Taken, Kept, Busy, Acknowledged, Ignored}
+use Rattle.machine_state.specs.declared.event.Effect.TheVariants.{Ran, Idle, Emitted, Taken, Kept, Busy, Acknowledged}
+use Rattle.machine_state.specs.declared.event.Effect.TheVariants.{Ignored}
 use Rattle.machine_state.specs.World.{World}
 use Rattle.machine_state.specs.Happens.{Did, ran, idle, emitted, taken, kept, busy, acknowledged, ignored, Turn, turn}
 use Rattle.machine.specs.declared.checked.act.Stop.{Stop}
@@ -14,7 +15,7 @@ use Rattle.machine.specs.declared.checked.act.Stop.TheVariants.{Fault, Memory}
 use Rattle.machine.specs.contracts.checked.Checked.{the_row}
 use Rattle.machine.specs.Asking.{Execution}
 
--- what an effect tells
+-- what an effect reports
 abbrev pub shown : Effect → Did
 shown Ran = ran
 shown Idle = idle
@@ -25,7 +26,7 @@ shown Busy = busy
 shown Acknowledged = acknowledged
 shown Ignored = ignored
 
--- The result tells the answer of this turn, unless memory ran out.
+-- The result reports the answer of this turn, unless memory ran out.
 abbrev pub Tells : Result Effect Stop → Turn → Type 0
 Tells (Ok effect) t = t.answer ≡ Ok (shown effect)
 Tells (Err (Fault f)) t = t.answer ≡ Err f

@@ -3,7 +3,8 @@ use Rattle.std.specs.Prelude.{⊤, ℕ, ◌<◌}
 use Rattle.prefix_decoder.specs.Operand.{IsRegister}
 use Rattle.machine_state.specs.declared.process.Task.{Task}
 use Rattle.machine_state.specs.declared.process.Condition.{Condition}
-use Rattle.machine_state.specs.declared.process.Condition.TheVariants.{Ready, Sending, Receiving, OnLink, Alternating, Stopped, Ended}
+use Rattle.machine_state.specs.declared.process.Condition.TheVariants.{Ready, Sending, Receiving, OnLink, Alternating}
+use Rattle.machine_state.specs.declared.process.Condition.TheVariants.{Stopped, Ended}
 use Rattle.machine_state.specs.World.{World}
 
 -- a world, and how many more processes its ready list can take without growing

@@ -1,4 +1,4 @@
--- What a replay tells of a run.
+-- What a replay reports of a run.
 use Rattle.std.specs.Prelude.{◌≡◌, ◌≢◌, ℕ, List, [], ◌++◌, Option, Some, None, Result, slice_get}
 use Rattle.std.specs.Global.{Vec}
 use Rattle.module_format.specs.Contents.{Contents}
@@ -19,7 +19,7 @@ bytes_of (Some bytes) = bytes.items
 abbrev pub out_on : List (Vec ℕ) → Link → List ℕ
 out_on out link = bytes_of (slice_get out (link_index link))
 
--- The replay tells of the world after these events, and for each link all that they emitted there.
+-- The replay reports the world after these events, and for each link all that they emitted there.
 pub record Tells (m : Contents) (events : List Event) (r : Replay) : Type 0 where
   pub finished : r.finished ≡ (world_after m events).counters.is_finished
   pub executed : r.executed ≡ (world_after m events).counters.executed
@@ -29,6 +29,6 @@ pub record Tells (m : Contents) (events : List Event) (r : Replay) : Type 0 wher
 pub record NeverFails (m : Contents) (w : World) : Type 0 where
   pub always : (events : List Event) (f : Fault) → AreEvents events → (run_from m w events).fault ≢ Some f
 
--- behind what went out on each link stands what this answer emits there
+-- what went out on each link is followed by what this answer emits there
 abbrev pub GoesOut : Result Did Fault → List (Vec ℕ) → List (Vec ℕ) → Type 0
 GoesOut answer old new = (link : Link) → out_on new link ≡ out_on old link ++ emitted_by link answer

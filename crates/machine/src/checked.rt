@@ -1,4 +1,4 @@
-//! The reference machine: it runs any module, and tells the first rule that a process breaks.
+//! The reference machine: it runs any module, and reports the first rule that a process breaks.
 
 mod act;
 mod links;
@@ -81,7 +81,7 @@ impl<'a> Checked<'a> {
         Ok(self.effect(act))
     }
 
-    /// What the last event did, as it is told.
+    /// What the last event did, as it is reported.
     fn effect(&self, act: Act) -> Effect<'_>
         ensures { shown result ≡ did_of act }
     {

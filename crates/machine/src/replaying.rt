@@ -14,7 +14,7 @@ use machine_state::{Effect, Event, Link};
 use std::alloc::{AllocError, Global};
 use verifier::Verified;
 
-/// The bytes go behind what went out on the link.
+/// The bytes go after what went out on the link.
 fn put_out(out: &mut [Vec<u8>; 4], link: Link, bytes: &[u8]) -> Result<(), AllocError>
     ensures { OnOk result (GoesOut (Ok (emitted link bytes.now)) out.old out.new) }
 {
@@ -26,7 +26,7 @@ fn can_happen(_event: Event)
     ensures { IsEvent _event }
 {}
 
-/// One event of a machine that is never at fault: what it emits goes behind what went out before.
+/// One event of a machine that is never at fault: what it emits goes after what went out before.
 fn follow(machine: &mut Checked, event: Event, out: &mut [Vec<u8>; 4]) -> Result<(), AllocError>
     requires never { NeverFails machine.old.contents machine.old.world }
     requires event { IsEvent event }

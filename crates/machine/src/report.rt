@@ -7,6 +7,6 @@ pub struct Replay {
     pub finished: bool,
     /// How many instruction bytes were executed.
     pub executed: u64,
-    /// What was emitted on each link, by its number: its messages, one behind the other.
+    /// What was emitted on each link, by its number: its messages, one after the other.
     pub out: [Vec<u8>; 4],
 }

@@ -1,13 +1,15 @@
--- An instruction changes no byte but those that its process may write: one lemma for each combinator, then one line an instruction.
-use Rattle.std.proofs.Common.{◌≡◌, ℕ, ◌+◌, ◌≤◌, ◌<◌, ℤ, negsuc, Bool, true, false, ◌&&◌, cond, ◌⊎◌, inl, inr, Option, Some, None, refl, sym, ap, ◌∙◌, ltb, arith}
+-- An instruction changes no byte but those that its process may write: one lemma for each combinator, then one line
+-- an instruction.
+use Rattle.std.proofs.Common.{◌≡◌, ℕ, ◌+◌, ◌≤◌, ◌<◌, ℤ, negsuc, Bool, true, false, ◌&&◌, cond, ◌⊎◌, inl, inr, Option}
+use Rattle.std.proofs.Common.{Some, None, refl, sym, ap, ◌∙◌, ltb, arith}
 use Rattle.std.proofs.lemmas.Bool.{cases_lt}
-use Rattle.prefix_decoder.specs.declared.function.Fun.TheVariants as fun
 use Rattle.machine_state.specs.declared.process.Mode.{Mode}
 use Rattle.machine_state.specs.declared.process.Mode.TheVariants.{Plain, Enabling, Disabling, Starting}
 use Rattle.machine_state.specs.declared.op.Op.{Op}
 use Rattle.machine_state.specs.declared.op.Op.TheVariants.{Reverse, StopProcess, MinimumInteger, Binary, Unary}
 use Rattle.machine_state.specs.declared.instruction.Instruction.{Instruction}
-use Rattle.machine_state.specs.declared.instruction.Instruction.TheVariants.{Jump, LoadConstant, LoadLocal, StoreLocal, WithConstant, Operate}
+use Rattle.machine_state.specs.declared.instruction.Instruction.TheVariants.{Jump, LoadConstant, LoadLocal}
+use Rattle.machine_state.specs.declared.instruction.Instruction.TheVariants.{StoreLocal, WithConstant, Operate}
 use Rattle.machine_state.specs.Instructions.{instruction_of}
 use Rattle.machine_state.specs.Memory.{Memory, place_of, local_address, word_at, with_word}
 use Rattle.machine_state.specs.Holding.{Holding, may_write, may_write_word, may_read_word}
@@ -21,7 +23,13 @@ and_true true true h = (refl, refl)
 and_true true false h = absurd (cc)
 and_true false b h = absurd (cc)
 
-pub four_mine : (h : Holding) (place : ℕ) → may_write_word h place ≡ true → (may_write h place ≡ true) × (may_write h (place + 1) ≡ true) × (may_write h (place + 2) ≡ true) × (may_write h (place + 3) ≡ true)
+abbrev FourMine : Holding → ℕ → Type 0
+FourMine h place =
+    (may_write h place ≡ true) × (may_write h (place + 1) ≡ true)
+    × (may_write h (place + 2) ≡ true) × (may_write h (place + 3) ≡ true)
+
+-- all four bytes of an own word are own bytes
+four_mine : (h : Holding) (place : ℕ) → may_write_word h place ≡ true → FourMine h place
 unfolding may_write_word
 four_mine h place e =
     let p = and_true _ _ e in
@@ -30,13 +38,14 @@ four_mine h place e =
     (r.0, r.1, q.1, p.1)
 
 -- a write to an own word changes own bytes only
-pub write_is_own : (h : Holding) (memory : Memory) (word : ℕ) (v : Option ℤ) → may_write_word h word ≡ true → ChangesOwn h memory (with_word memory word v)
+pub write_is_own : (h : Holding) (memory : Memory) (word : ℕ) (v : Option ℤ) → may_write_word h word ≡ true
+    → ChangesOwn h memory (with_word memory word v)
 write_is_own h memory word v own = record {
   size = length-with_word memory word v;
   others = λ place e. byte_at-with_word_other memory word place v (apart place e);
 }
   where
-    mine : (may_write h word ≡ true) × (may_write h (word + 1) ≡ true) × (may_write h (word + 2) ≡ true) × (may_write h (word + 3) ≡ true)
+    mine : FourMine h word
     mine = four_mine h word own
 
     differs : (place q : ℕ) → may_write h place ≡ false → may_write h q ≡ true → place ≡ q → ⊥
@@ -83,18 +92,25 @@ module _ (s : Site) (old : Memory) where
   uses_leaves None k h = tt
   uses_leaves (Some x) k h = h x
 
-  reads_leaves : (address : ℕ) (l : Local) (k : Option ℤ → Outcome) → ((v : Option ℤ) → Leaves (k v)) → Leaves (step.reads s address l k)
+  reads_leaves : (address : ℕ) (l : Local) (k : Option ℤ → Outcome) → ((v : Option ℤ) → Leaves (k v))
+      → Leaves (step.reads s address l k)
   unfolding step.reads
-  reads_leaves address l k h = on_test (may_read_word s.holding (place_of address)) _ _ (λ e. h (word_at l.memory (place_of address))) tt
+  reads_leaves address l k h = on_test (may_read_word s.holding (place_of address)) _ _
+      (λ e. h (word_at l.memory (place_of address))) tt
 
   writes_leaves : (address : ℕ) (v : Option ℤ) (l : Local) (k : Local → Outcome) → ChangesOwn s.holding old l.memory
-      → ((memory : Memory) → ChangesOwn s.holding old memory → Leaves (k (record l { memory = memory }))) → Leaves (step.writes s address v l k)
+      → ((memory : Memory) → ChangesOwn s.holding old memory → Leaves (k (record l { memory = memory })))
+      → Leaves (step.writes s address v l k)
   unfolding step.writes
   writes_leaves address v l k changes h =
       let place = place_of address in
-      on_test (may_write_word s.holding place) _ _ (λ e. h (with_word l.memory place v) (changes_more s.holding old l.memory _ changes (write_is_own s.holding l.memory place v e))) tt
+      on_test (may_write_word s.holding place) _ _
+      (λ e. h (with_word l.memory place v)
+      (changes_more s.holding old l.memory _ changes (write_is_own s.holding l.memory place v e))) tt
 
-  schedules_leaves : (l : Local) (k : Local → Outcome) → ChangesOwn s.holding old l.memory → ((memory : Memory) → ChangesOwn s.holding old memory → Leaves (k (record l { memory = memory }))) → Leaves (step.schedules s l k)
+  schedules_leaves : (l : Local) (k : Local → Outcome) → ChangesOwn s.holding old l.memory
+      → ((memory : Memory) → ChangesOwn s.holding old memory → Leaves (k (record l { memory = memory })))
+      → Leaves (step.schedules s l k)
   unfolding step.schedules
   schedules_leaves l k changes h =
       let word = local_address l.registers.workspace in
@@ -139,7 +155,8 @@ module _ (s : Site) (l : Local) where
   unfolding step.instruction_step
   instruction_leaves LoadConstant e = goes_on_leaves s l.memory (step.push (Some e) l) same
   instruction_leaves LoadLocal e =
-      beside_leaves s l.memory s.mode _ (reads_leaves s l.memory _ l _ (λ v. goes_on_leaves s l.memory (step.push v l) same))
+      beside_leaves s l.memory s.mode _
+      (reads_leaves s l.memory _ l _ (λ v. goes_on_leaves s l.memory (step.push v l) same))
   instruction_leaves StoreLocal e =
       alone_leaves s l.memory s.mode _ (uses_leaves s l.memory l.registers.a _ (λ a.
       writes_leaves s l.memory _ (Some a) l _ same (λ memory changes. goes_on_leaves s l.memory _ changes)))

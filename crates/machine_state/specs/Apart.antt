@@ -1,4 +1,4 @@
--- No two processes hold the same, and what open joins keep to themselves is held by nobody.
+-- No two processes hold the same, and no process holds what open joins keep to themselves.
 use Rattle.std.specs.Prelude.{◌≡◌, ◌≢◌, ℕ, ◌+◌, true, false, List, Some, slice_get}
 use Rattle.machine_state.specs.declared.process.Channel.{Channel}
 use Rattle.machine_state.specs.declared.holding.Span.{Span}
@@ -20,9 +20,17 @@ abbrev pub AreDisjoint : Span → Span → Type 0
 AreDisjoint a b = (place : ℕ) → covers a place ≡ true → covers b place ≡ false
 
 pub record AllApart (roles : List Role) (channels : List Channel) : Type 0 where
-  pub processes : (p q : ℕ) (r s : Role) → p ≢ q → slice_get roles p ≡ Some r → slice_get roles q ≡ Some s → IsApart (held r) (held s)
-  pub blocks : (p q : ℕ) (r s : Role) (join : Join) → slice_get roles p ≡ Some r → r.opened ≡ Some join → slice_get roles q ≡ Some s → IsFree (held s) (block_words join)
-  pub channel_words : (k q : ℕ) (channel : Channel) (s : Role) → slice_get channels k ≡ Some channel → slice_get roles q ≡ Some s → IsFree (held s) (channel_word channel)
-  pub blocks_once : (p q : ℕ) (r s : Role) (a b : Join) → p ≢ q → slice_get roles p ≡ Some r → slice_get roles q ≡ Some s → r.opened ≡ Some a → s.opened ≡ Some b → AreDisjoint (block_words a) (block_words b)
-  pub channels_once : (j k : ℕ) (a b : Channel) → j ≢ k → slice_get channels j ≡ Some a → slice_get channels k ≡ Some b → AreDisjoint (channel_word a) (channel_word b)
-  pub both_once : (p k : ℕ) (r : Role) (join : Join) (channel : Channel) → slice_get roles p ≡ Some r → r.opened ≡ Some join → slice_get channels k ≡ Some channel → AreDisjoint (block_words join) (channel_word channel)
+  pub processes : (p q : ℕ) (r s : Role) → p ≢ q → slice_get roles p ≡ Some r → slice_get roles q ≡ Some s
+      → IsApart (held r) (held s)
+  pub blocks : (p q : ℕ) (r s : Role) (join : Join) → slice_get roles p ≡ Some r → r.opened ≡ Some join
+      → slice_get roles q ≡ Some s → IsFree (held s) (block_words join)
+  pub channel_words : (k q : ℕ) (channel : Channel) (s : Role) → slice_get channels k ≡ Some channel
+      → slice_get roles q ≡ Some s → IsFree (held s) (channel_word channel)
+  pub blocks_once : (p q : ℕ) (r s : Role) (a b : Join) → p ≢ q → slice_get roles p ≡ Some r
+      → slice_get roles q ≡ Some s → r.opened ≡ Some a → s.opened ≡ Some b
+      → AreDisjoint (block_words a) (block_words b)
+  pub channels_once : (j k : ℕ) (a b : Channel) → j ≢ k → slice_get channels j ≡ Some a
+      → slice_get channels k ≡ Some b → AreDisjoint (channel_word a) (channel_word b)
+  pub both_once : (p k : ℕ) (r : Role) (join : Join) (channel : Channel) → slice_get roles p ≡ Some r
+      → r.opened ≡ Some join → slice_get channels k ≡ Some channel
+      → AreDisjoint (block_words join) (channel_word channel)

@@ -1,4 +1,5 @@
--- One instruction of one process changes no byte but those that the process may write. This is our own choice: the device has no such bound.
+-- One instruction of one process changes no byte but those that the process may write. This is our own choice: the
+-- device has no such bound.
 use Rattle.std.specs.Prelude.{◌≡◌, ⊤, ℕ, ℤ, false, length}
 use Rattle.prefix_decoder.specs.declared.function.Fun.{Fun}
 use Rattle.machine_state.specs.Memory.{Memory, byte_at}
@@ -18,4 +19,5 @@ LeavesOthers h old (stops l) = ChangesOwn h old l.memory
 LeavesOthers h old (fails kind) = ⊤
 
 abbrev pub StepsChangeOwn : Type 0
-StepsChangeOwn = (s : Site) (f : Fun) (operand : ℤ) (l : Local) → LeavesOthers s.holding l.memory (local_step s f operand l)
+StepsChangeOwn = (s : Site) (f : Fun) (operand : ℤ) (l : Local)
+    → LeavesOthers s.holding l.memory (local_step s f operand l)

@@ -1,4 +1,5 @@
--- What a process holds: the places that it may write, those that it may only read, and the channel ends that it may use.
+-- What a process holds: the places that it may write, those that it may only read, and the channel ends that it may
+-- use.
 use Rattle.std.specs.Prelude.{ℕ, ◌+◌, ◌≡◌, ◌==◌, ◌&&◌, ◌||◌, nat_le, nat_lt, Bool, true, false, List, []}
 use Rattle.std.specs.List.{list_any}
 use Rattle.module_format.specs.declared.rows.Direction.{Direction}
@@ -25,10 +26,12 @@ may_read h place = may_write h place || list_any (λ span. covers span place) h.
 
 -- the same of all four bytes of a word
 unfoldable pub may_write_word : Holding → ℕ → Bool
-may_write_word h place = may_write h place && may_write h (place + 1) && may_write h (place + 2) && may_write h (place + 3)
+may_write_word h place =
+    may_write h place && may_write h (place + 1) && may_write h (place + 2) && may_write h (place + 3)
 
 unfoldable pub may_read_word : Holding → ℕ → Bool
-may_read_word h place = may_read h place && may_read h (place + 1) && may_read h (place + 2) && may_read h (place + 3)
+may_read_word h place =
+    may_read h place && may_read h (place + 1) && may_read h (place + 2) && may_read h (place + 3)
 
 abbrev pub same_direction : Direction → Direction → Bool
 same_direction In In = true

@@ -1,4 +1,5 @@
--- Memory is a list of bytes, each defined or not. A byte's place in the list is its address less that of the data area.
+-- Memory is a list of bytes, each defined or not. A byte's place in the list is its address less that of the data
+-- area.
 use Rattle.std.specs.Prelude.{ℕ, ◌+◌, ◌-◌, ◌*◌, ◌/◌, ◌%◌, ◌^◌, ℤ, List, Option, None, slice_index_or, slice_set}
 use Rattle.std.specs.Option.{option_map, option_and_then}
 use Rattle.std.specs.Int.{w32, cast_unsigned, cast_signed}
@@ -10,7 +11,7 @@ Memory = List (Option ℕ)
 abbrev pub data_start : ℕ
 data_start = 0x80000100
 
--- the place of an address; the addresses before the data area have places far behind its end
+-- the place of an address; the addresses before the data area have places far after its end
 unfoldable pub place_of : ℕ → ℕ
 place_of address = (address + (2 ^ 32 - data_start)) % 2 ^ 32
 
@@ -27,10 +28,14 @@ with_byte memory place byte = slice_set memory place byte
 
 -- four bytes are a word, the least significant first; it is undefined where one of them is
 abbrev pub joined : Option ℕ → Option ℕ → Option ℕ → Option ℕ → Option ℤ
-joined p q r s = option_and_then (λ p. option_and_then (λ q. option_and_then (λ r. option_map (λ s. cast_signed w32 (p + 256 * q + 65536 * r + 16777216 * s)) s) r) q) p
+joined p q r s =
+    option_and_then (λ p. option_and_then (λ q. option_and_then (λ r.
+    option_map (λ s. cast_signed w32 (p + 256 * q + 65536 * r + 16777216 * s)) s) r) q) p
 
 unfoldable pub word_at : Memory → ℕ → Option ℤ
-word_at memory place = joined (byte_at memory place) (byte_at memory (place + 1)) (byte_at memory (place + 2)) (byte_at memory (place + 3))
+word_at memory place =
+    joined (byte_at memory place) (byte_at memory (place + 1)) (byte_at memory (place + 2))
+    (byte_at memory (place + 3))
 
 -- the byte of a word whose lowest bit is worth this
 abbrev pub byte_worth : ℕ → ℤ → ℕ

@@ -1,5 +1,6 @@
 -- The moves that events are made of. Each changes one or two parts of the world, and reads the process itself.
-use Rattle.std.specs.Prelude.{ℕ, ◌+◌, ◌%◌, ◌^◌, ◌==◌, Bool, ◌||◌, if◌then◌else◌, [], ◌∷◌, ◌++◌, length, Option, Some, None, slice_get, slice_set}
+use Rattle.std.specs.Prelude.{ℕ, ◌+◌, ◌%◌, ◌^◌, ◌==◌, Bool, ◌||◌, if◌then◌else◌, [], ◌∷◌, ◌++◌, length, Option, Some}
+use Rattle.std.specs.Prelude.{None, slice_get, slice_set}
 use Rattle.std.specs.List.{remove}
 use Rattle.machine_state.specs.declared.process.Task.{Task}
 use Rattle.machine_state.specs.declared.process.Condition.{Condition}
@@ -30,11 +31,14 @@ abbrev pub put : ℕ → Task → Memory → World → World
 put p task memory w = record w { tasks = slice_set w.tasks p task; memory = memory }
 
 abbrev pub with_condition : ℕ → Condition → World → World
-with_condition p condition w = elim (slice_get w.tasks p) [ None ↦ w | Some task ↦ record w { tasks = slice_set w.tasks p (record task { condition = condition }) } ]
+with_condition p condition w = elim (slice_get w.tasks p) [
+  | None ↦ w
+  | Some task ↦ record w { tasks = slice_set w.tasks p (record task { condition = condition }) }
+]
 
 -- ---- the queue
 
--- nobody runs
+-- no process is running
 abbrev pub leave : World → World
 leave w = record w { queue = record w.queue { running = None } }
 
@@ -45,13 +49,15 @@ enqueue p w = record w { queue = record w.queue { ready = w.queue.ready ++ p ∷
 abbrev pub wake : ℕ → World → World
 wake p w = enqueue p (with_condition p Ready w)
 
--- Where nobody runs, the ready process number pick, counted round the list, is taken out and runs.
+-- If no process is running, the ready process number pick, counted round the list, is taken out and runs.
 abbrev pub picked : ℕ → Queue → Queue
 picked pick queue = elim queue.running [
   | Some p ↦ queue
   | None ↦ elim queue.ready [
     | [] ↦ queue
-    | p ∷ ps ↦ let place = pick % length (p ∷ ps) in record { running = slice_get (p ∷ ps) place; ready = remove (p ∷ ps) place }
+    | p ∷ ps ↦
+        let place = pick % length (p ∷ ps) in
+        record { running = slice_get (p ∷ ps) place; ready = remove (p ∷ ps) place }
   ]
 ]
 
@@ -75,14 +81,16 @@ with_output k link w = record w { links = record w.links { outputs = slice_set w
 -- The byte goes into the buffer of the process that waits on the input link; with the last one it becomes ready.
 abbrev pub fill_condition : ℕ → ℕ → ℕ → InputLink → Condition → World → World
 fill_condition p k byte link (OnLink exchange done) w =
-    let filled = record w { memory = with_byte w.memory (place_of ((exchange.address + done) % 2 ^ 32)) (Some byte) } in
+    let place = place_of ((exchange.address + done) % 2 ^ 32) in
+    let filled = record w { memory = with_byte w.memory place (Some byte) } in
     if done + 1 == exchange.length
     then wake p (with_input k (record link { waiting = None }) filled)
     else with_condition p (OnLink exchange (done + 1)) filled
 fill_condition p k byte link _ w = w
 
 abbrev pub fill : ℕ → ℕ → ℕ → InputLink → World → World
-fill p k byte link w = elim (slice_get w.tasks p) [ None ↦ w | Some task ↦ fill_condition p k byte link task.condition w ]
+fill p k byte link w =
+    elim (slice_get w.tasks p) [ None ↦ w | Some task ↦ fill_condition p k byte link task.condition w ]
 
 -- A process that has enabled the link and waits becomes ready.
 abbrev pub rouse_condition : ℕ → Condition → World → World

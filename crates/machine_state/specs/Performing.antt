@@ -9,7 +9,8 @@ use Rattle.machine_state.specs.Faults.{fault_in}
 use Rattle.machine_state.specs.Memory.{Memory}
 use Rattle.machine_state.specs.Holding.{Holding}
 use Rattle.machine_state.specs.World.{Roles}
-use Rattle.machine_state.specs.LocalStep.{Site, Local, Outcome, goes, lands, stops, fails, local_step, instruction_step, operation_step}
+use Rattle.machine_state.specs.LocalStep.{Site, Local, Outcome, goes, lands, stops, fails, local_step}
+use Rattle.machine_state.specs.LocalStep.{instruction_step, operation_step}
 use Rattle.machine_state.specs.declared.op.Op.{Op}
 use Rattle.machine_state.specs.declared.instruction.Instruction.{Instruction}
 use Rattle.prefix_decoder.specs.declared.function.Fun.{Fun}
@@ -20,7 +21,12 @@ local_of cells cpu = record { registers = cpu.registers; memory = cells cpu.stor
 
 -- what it finds there and does not change
 abbrev pub site_of : {S : Type 0} → (S → Holding) → Cpu S → Site
-site_of holding cpu = record { code_length = cpu.code_length; next = cpu.registers.at + 1; mode = cpu.mode; holding = holding cpu.store }
+site_of holding cpu = record {
+  code_length = cpu.code_length;
+  next = cpu.registers.at + 1;
+  mode = cpu.mode;
+  holding = holding cpu.store;
+}
 
 -- the outcome of a function with its operand, of an instruction with its operand, and of an operation, there
 abbrev pub direct_outcome : {S : Type 0} → (S → Memory) → (S → Holding) → Cpu S → Fun → ℤ → Outcome
@@ -66,7 +72,8 @@ Performs cells before after (Err fault) outcome =
     (faulted before outcome ≡ Some fault) × (local_of cells after ≡ local_of cells before)
 
 -- all but the registers and the memory stays
-pub record IsSameElsewhere {S : Type 0} (holding : S → Holding) (roles : S → Roles) (before after : Cpu S) : Type 0 where
+pub record IsSameElsewhere {S : Type 0} (holding : S → Holding) (roles : S → Roles)
+    (before after : Cpu S) : Type 0 where
   pub process : after.process ≡ before.process
   pub mode : after.mode ≡ before.mode
   pub code_length : after.code_length ≡ before.code_length

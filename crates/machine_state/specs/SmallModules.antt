@@ -25,14 +25,14 @@ of_code code finish = record {
   table_rows = [];
 }
 
--- so many bytes executed, the last of them a stopp at the finish, and no fault
+-- this count of bytes executed, the last of them a stopp at the finish, and no fault
 pub record IsFinished (w : World) (executed : ℕ) : Type 0 where
   pub no_fault : w.fault ≡ None
   pub count : w.counters.executed ≡ executed
   pub finished : w.counters.is_finished ≡ true
   pub nobody_runs : w.queue.running ≡ None
 
--- so many bytes, with no slice, and always the front of the ready list
+-- n bytes, with no slice, and always the front of the ready list
 abbrev pub steps : ℕ → List Event
 steps n = replicate n (Step false 0)
 

@@ -10,7 +10,18 @@ abbrev pub holding_view : kept.Holding → Holding
 holding_view h = record { writes = h.writes.items; reads = h.reads.items; ends = h.ends.items }
 
 abbrev pub join_view : kept_join.Join → Join
-join_view j = record { row = j.row; block = j.block; rest = holding_view j.rest; members = j.members.items; is_starting = j.is_starting }
+join_view j = record {
+  row = j.row;
+  block = j.block;
+  rest = holding_view j.rest;
+  members = j.members.items;
+  is_starting = j.is_starting;
+}
 
 abbrev pub role_view : kept_role.Role → Role
-role_view r = record { own = holding_view r.own; above = r.above.items; opened = option_map join_view r.opened; is_over = r.is_over }
+role_view r = record {
+  own = holding_view r.own;
+  above = r.above.items;
+  opened = option_map join_view r.opened;
+  is_over = r.is_over;
+}

@@ -1,5 +1,6 @@
 -- The whole machine at a moment, as parts: an event that leaves a part alone leaves what is known of it alone.
-use Rattle.std.specs.Prelude.{ℕ, ◌+◌, ◌-◌, ◌*◌, ◌%◌, ◌^◌, ◌≤◌, ◌==◌, nat_lt, pos, Bool, false, if◌then◌else◌, List, [], ◌∷◌, ◌++◌, length, map, replicate, Option, Some, None, slice_get}
+use Rattle.std.specs.Prelude.{ℕ, ◌+◌, ◌-◌, ◌*◌, ◌%◌, ◌^◌, ◌≤◌, ◌==◌, nat_lt, pos, Bool, false, if◌then◌else◌, List}
+use Rattle.std.specs.Prelude.{[], ◌∷◌, ◌++◌, length, map, replicate, Option, Some, None, slice_get}
 use Rattle.module_format.specs.declared.rows.Direction.TheVariants.{In, Out}
 use Rattle.module_format.specs.Contents.{Contents}
 use Rattle.machine_state.specs.Memory.{Memory, data_start}
@@ -21,7 +22,8 @@ pub record Join : Type 0 where
   pub members : List ℕ
   pub is_starting : Bool
 
--- What a process has for good, the openers of the joins that it is in (innermost first), and the join that it has open.
+-- What a process has for good, the openers of the joins that it is in (innermost first), and the join that it has
+-- open.
 pub record Role : Type 0 where
   pub own : Holding
   pub above : List ℕ
@@ -72,12 +74,14 @@ pub record World : Type 0 where
 abbrev pub padding : ℕ → ℕ
 padding code_length = (4 - code_length % 4) % 4
 
--- the places of the constants: from the first to the one behind the last
+-- the places of the constants: from the first to the one after the last
 abbrev pub constants_start : Contents → ℕ
 constants_start m = 4 * m.data_words + length m.code + padding (length m.code)
 
 abbrev pub loaded_memory : Contents → Memory
-loaded_memory m = replicate (4 * m.data_words) None ++ map Some m.code ++ replicate (padding (length m.code)) None ++ map Some m.constants
+loaded_memory m =
+    replicate (4 * m.data_words) None ++ map Some m.code
+    ++ replicate (padding (length m.code)) None ++ map Some m.constants
 
 -- the constants, which lie last, end within the address space
 abbrev pub IsLoadable : Contents → Type 0
@@ -109,7 +113,15 @@ root_holding m = record {
 
 abbrev pub root_task : Contents → Task
 root_task m = record {
-  registers = record { workspace = data_start + 4 * m.base; at = 0; began = 0; operand = pos 0; a = None; b = None; c = None };
+  registers = record {
+    workspace = data_start + 4 * m.base;
+    at = 0;
+    began = 0;
+    operand = pos 0;
+    a = None;
+    b = None;
+    c = None;
+  };
   mode = Plain;
   condition = Ready;
 }

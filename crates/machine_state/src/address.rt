@@ -7,7 +7,7 @@ ghost use Rattle.machine_state.specs.Memory.{place_of, local_address};
 pub const DATA_START: u32 = 0x8000_0100;
 
 /// The place of the byte at an address, counted from the start of the data area. The addresses before the
-/// data area have places far behind its end.
+/// data area have places far after its end.
 #[tactic(auto, unfolding(crate::specs::Memory::place_of))]
 pub fn place_of(address: u32) -> u32
     ensures { result ≡ place_of address }

@@ -3,7 +3,8 @@
 ghost use Rattle.std.specs.Prelude.{◌≡◌, ◌+◌, nat_lt, IsTrue};
 ghost use Rattle.std.specs.Option.{ok_or};
 ghost use Rattle.machine_state.specs.Holding.{may_write_word, may_read_word};
-ghost use Rattle.machine_state.specs.LocalStep.{alone, beside_guards, target, holds_scheduling_words, without_scheduling_words};
+ghost use Rattle.machine_state.specs.LocalStep.{alone, beside_guards, target, holds_scheduling_words};
+ghost use Rattle.machine_state.specs.LocalStep.{without_scheduling_words};
 ghost use Rattle.machine_state.specs.Memory.{place_of, word_at};
 ghost use Rattle.machine_state.specs.Performing.{fault_of, value_or_fault, Admits};
 

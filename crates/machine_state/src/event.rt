@@ -19,7 +19,7 @@ pub enum Event {
 pub enum Effect<'a> {
     /// A byte was executed.
     Ran,
-    /// Nobody runs, and nothing changed.
+    /// No process is running, and nothing changed.
     Idle,
     /// A byte was executed, and with it this message went out.
     Emitted { link: Link, bytes: &'a [u8] },
@@ -31,6 +31,6 @@ pub enum Effect<'a> {
     Busy,
     /// The sender goes on.
     Acknowledged,
-    /// Nobody waits for it, and nothing changed.
+    /// No process waits for it, and nothing changed.
     Ignored,
 }

@@ -1,6 +1,8 @@
 //! Laws of the definitions.
 
-ghost use Rattle.machine_state.specs.MemoryLaws.{ByteReadsBack, WordReadsBack, UndefinedReadsBack, ByteElsewhereStays, WordBesideByteStays, ByteBesideWordStays, WordElsewhereStays, ByteKeepsLength, WordKeepsLength};
+ghost use Rattle.machine_state.specs.MemoryLaws.{ByteReadsBack, WordReadsBack, UndefinedReadsBack};
+ghost use Rattle.machine_state.specs.MemoryLaws.{ByteElsewhereStays, WordBesideByteStays, ByteBesideWordStays};
+ghost use Rattle.machine_state.specs.MemoryLaws.{WordElsewhereStays, ByteKeepsLength, WordKeepsLength};
 ghost use Rattle.machine_state.specs.Frame.{StepsChangeOwn};
 ghost use Rattle.machine_state.specs.SmallModules.{FirstEnds, JumpEnds, SlicedJumpEnds};
 

@@ -182,7 +182,7 @@ fn complements_a_alone(rt: HostRuntime) -> Result<(), Fail> {
     Ok(())
 }
 
-/// A division in a mode, with this A and B and so many bytes of code, and the number of its fault.
+/// A division in a mode, with this A and B and a code of this length, and the number of its fault.
 #[derive(Clone, Copy)]
 struct Dividing(Mode, Word, Word, u32, u8);
 
@@ -233,7 +233,7 @@ fn stops_without_its_scheduling_words(rt: HostRuntime) -> Result<(), Fail> {
     Ok(())
 }
 
-/// An operation in a mode, with the workspace here and so many bytes of code, and the number of its fault.
+/// An operation in a mode, with the workspace here and a code of this length, and the number of its fault.
 #[derive(Clone, Copy)]
 struct Failing(Op, Mode, u32, u32, u8);
 

@@ -5,7 +5,8 @@ ghost use Rattle.module_format.specs.Contents.{contents_of};
 ghost use Rattle.machine_state.specs.World.{IsLoadable, loaded};
 ghost use Rattle.machine_state.specs.Memory.{data_start, place_of, with_byte};
 ghost use Rattle.machine_state.specs.Happens.{most_executed};
-ghost use Rattle.machine_state.specs.Moves.{counted, finished_where, faulty, put, with_condition, leave, enqueue, wake, dispatch, link_index, with_input, with_output};
+ghost use Rattle.machine_state.specs.Moves.{counted, finished_where, faulty, put, with_condition, leave, enqueue};
+ghost use Rattle.machine_state.specs.Moves.{wake, dispatch, link_index, with_input, with_output};
 ghost use Rattle.machine.specs.Applying.{PerformsFor, outcome_at};
 ghost use Rattle.machine.specs.Moment.{IsSteady, WaitsForMore};
 
@@ -19,14 +20,14 @@ use prefix_decoder::Fun;
 use std::alloc::{AllocError, Global};
 use std::marker::Model;
 
-/// An input link on which nothing has come and nobody waits.
+/// An input link on which nothing has come and no process waits.
 const QUIET_INPUT: InputLink = InputLink {
     kept: None,
     waiting: None,
     enabled: None,
 };
 
-/// An output link on which nobody waits.
+/// An output link on which no process waits.
 const QUIET_OUTPUT: OutputLink = OutputLink { waiting: None };
 
 /// The whole machine at a moment, apart from its module.
@@ -213,7 +214,7 @@ impl Machine {
         })
     }
 
-    /// Nobody runs.
+    /// No process is running.
     pub(crate) fn leave(&mut self)
         ensures { self.new ≡ record self.old { world = leave self.old.world } }
     {
@@ -236,7 +237,7 @@ impl Machine {
         self.ready.push(process).unwrap();
     }
 
-    /// The process becomes ready, behind all that are.
+    /// The process becomes ready, after all that are.
     pub(crate) fn wake(&mut self, process: u64)
         requires { 0 < self.old.room }
         ensures { self.new.world ≡ wake process self.old.world }
@@ -245,7 +246,7 @@ impl Machine {
         self.enqueue(process);
     }
 
-    /// Where nobody runs, the ready process number `pick`, counted round the list, is taken out and runs.
+    /// If no process is running, the ready process number `pick`, counted round the list, is taken out and runs.
     #[tactic(auto, unfolding(machine_state::specs::Moves::dispatch))]
     pub(crate) fn dispatch(&mut self, pick: u64)
         ensures { self.new.world ≡ dispatch pick self.old.world }

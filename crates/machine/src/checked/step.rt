@@ -2,7 +2,8 @@
 
 ghost use Rattle.std.specs.Prelude.{◌≡◌, ◌+◌, ◌<◌, ◌^◌, IsTrue, length, slice_get, Err};
 ghost use Rattle.module_format.specs.Contents.{contents_of};
-ghost use Rattle.machine_state.specs.Happens.{between, failed, settled, did, ran, prefix_turn, task_turn, step_turn, most_executed};
+ghost use Rattle.machine_state.specs.Happens.{between, failed, settled, did, ran, prefix_turn, task_turn, step_turn};
+ghost use Rattle.machine_state.specs.Happens.{most_executed};
 ghost use Rattle.machine.specs.Applying.{Applies, turn_of, outcome_of, outcome_at};
 ghost use Rattle.prefix_decoder.specs.Operand.{IsRegister, after_prefix};
 ghost use Rattle.machine.specs.Moment.{IsSteady};
@@ -90,7 +91,7 @@ impl Machine {
 }
 
 impl Machine {
-    /// An instruction was performed: its process goes on behind it or elsewhere, or stops.
+    /// An instruction was performed: its process goes on after it or elsewhere, or stops.
     #[tactic(auto, unfolding(machine_state::specs::Moves::dispatch))]
     fn settle(
         &mut self,
@@ -188,7 +189,8 @@ impl Machine {
         requires executed { self.old.world.counters.executed < most_executed }
         requires task { IsSteady task.now }
         requires room { IsTrue choice.slice → 0 < self.old.room }
-        ensures { let turn = task_turn (contents_of tables.now) process choice.slice choice.pick task.now self.old.world in
+        ensures { let m = contents_of tables.now in
+            let turn = task_turn m process choice.slice choice.pick task.now self.old.world in
             turn ≡ turn_of self.new.world result }
     {
         let Some(byte) = byte_at(tables.code, task.registers.at) else {
@@ -202,7 +204,7 @@ impl Machine {
         }
     }
 
-    /// A step: one byte of the running process, unless nobody runs or enough bytes were executed.
+    /// A step: one byte of the running process, unless no process is running or enough bytes were executed.
     pub(crate) fn step(&mut self, tables: &Tables, choice: Choice) -> Result<Act, Stop>
         requires { length tables.now.code.now < 2 ^ 32 }
         ensures { let turn = step_turn (contents_of tables.now) choice.slice choice.pick self.old.world in

@@ -129,7 +129,7 @@ fn straight(code: &[u8], steps: u64) -> Case<'_> {
     }
 }
 
-/// A module of this code that is at fault after so many bytes.
+/// A module of this code that is at fault, and the bytes executed before.
 fn faulty(code: &[u8], executed: u32, number: u8, offset: u32) -> Case<'_> {
     let executed = u64::from(executed);
     Case {
@@ -173,9 +173,9 @@ fn tells_each_fault(rt: HostRuntime) {
     let cases = [
         // The greatest word and 1: the error flag.
         faulty(b"\x27\x2f\x2f\x2f\x2f\x2f\x2f\x4f\x81\x21\xf5", 8, 1, 8),
-        // A jump behind the code.
+        // A jump past the code.
         faulty(b"\x0f\x21\xf5", 0, 3, 0),
-        // Nothing stands behind the instruction.
+        // Nothing follows the instruction.
         faulty(b"\x45", 0, 3, 0),
         // With two words below it the workspace has no room for scheduling.
         Case {
