@@ -259,7 +259,9 @@ module _ (x : Here) where
           same_mode = a.same_mode;
         }) changes n
 
-    ldl_fits : (e : ℤ) → FitsSigned w32 e → FitsIf x (rule.instruction_rule (rule_site x) instructions.LoadLocal e s) (step.instruction_step (step_site x) instructions.LoadLocal e l)
+    ldl_fits : (e : ℤ) → FitsSigned w32 e
+        → FitsIf x (rule.instruction_rule (rule_site x) instructions.LoadLocal e s)
+        (step.instruction_step (step_site x) instructions.LoadLocal e l)
     unfolding rule.instruction_rule step.instruction_step
     ldl_fits e fits =
         beside_plain_rule s a.same_mode _ _ (beside_plain_step s a.same_mode _ _ (reads_word_fits s e _ _ (λ t.
@@ -278,7 +280,9 @@ module _ (x : Here) where
           same_mode = a.same_mode;
         }) changes n))))
 
-    stl_fits : (e : ℤ) → FitsSigned w32 e → FitsIf x (rule.instruction_rule (rule_site x) instructions.StoreLocal e s) (step.instruction_step (step_site x) instructions.StoreLocal e l)
+    stl_fits : (e : ℤ) → FitsSigned w32 e
+        → FitsIf x (rule.instruction_rule (rule_site x) instructions.StoreLocal e s)
+        (step.instruction_step (step_site x) instructions.StoreLocal e l)
     unfolding rule.instruction_rule step.instruction_step written
     stl_fits e fits =
         in_plain_step s a.same_mode _ _ (uses_fits s.a l.registers.a _ _ a.knows.a (λ v means.
@@ -294,7 +298,8 @@ module _ (x : Here) where
     -- what A becomes
     becomes_fits : (s' : State) (l' : Local) (fact : Option Fact) (result : Option ℤ) → After x.m x.h x.mode x.act s' l'
         → ChangesOwn x.h x.memory l'.memory → s'.number ≡ x.number → ResultMeans x.m x.act fact result
-        → FitsIf x (rule.becomes (rule_site x) fact s') (step.computes result (λ v. step.goes_on (step_site x) (step.with_a v l')))
+        → FitsIf x (rule.becomes (rule_site x) fact s')
+        (step.computes result (λ v. step.goes_on (step_site x) (step.with_a v l')))
     unfolding rule.becomes step.computes
     becomes_fits s' l' None result b c e means = λ next. it_breaks
     becomes_fits s' l' (Some f) None b c e means = absurd means
@@ -313,14 +318,16 @@ module _ (x : Here) where
     unfolding rule.instruction_rule step.instruction_step
     constant_fits op e fits =
         in_plain_step s a.same_mode _ _ (uses_fits s.a l.registers.a _ _ a.knows.a (λ v means.
-        becomes_fits s l _ _ a changes n
-        (result_means x.m x.act op s.a.fact (Number e e) v e means (is_number (omega (arith, ints)) (omega (arith, ints)) fits))))
+        let constant = is_number (omega (arith, ints)) (omega (arith, ints)) fits in
+        becomes_fits s l _ _ a changes n (result_means x.m x.act op s.a.fact (Number e e) v e means constant)))
 
     pays_fits : (s' : State) (r : State → Ruling) (o : Outcome) → s'.number ≡ s.number → (s'.number - x.len + x.len ≡ x.number → FitsIf x (r (record s' { number = s'.number - x.len })) o) → FitsIf x (rule.pays (rule_site x) s' r) o
     unfolding rule.pays
     pays_fits s' r o e go = on_rule_test (ltb s'.number x.len) _ _ _ (λ t next. it_breaks) (λ t. go (enough s'.number x.len x.number t (e ∙ n)))
 
-    j_fits : (e : ℤ) → FitsSigned w32 e → FitsIf x (rule.instruction_rule (rule_site x) instructions.Jump e s) (step.instruction_step (step_site x) instructions.Jump e l)
+    j_fits : (e : ℤ) → FitsSigned w32 e
+        → FitsIf x (rule.instruction_rule (rule_site x) instructions.Jump e s)
+        (step.instruction_step (step_site x) instructions.Jump e l)
     unfolding rule.instruction_rule step.instruction_step rule.forward
     j_fits (negsuc k) fits = in_plain_rule s a.same_mode _ _ (λ next. it_breaks)
     j_fits (pos k) fits =

@@ -36,7 +36,8 @@ module _ (m : Contents) (act : Activation) where
   abbrev pub ResultMeans : Option Fact → Option ℤ → Type 0
   ResultMeans fact result = IfSome fact (λ f. IsSomeAnd result (λ v. Means m act f (Some v)))
 
-  in_range : (t : Ends) (result : Option ℤ) → IsSomeAnd result (IsWordIn t) → IsSomeAnd result (λ v. Means m act (number_in t) (Some v))
+  in_range : (t : Ends) (result : Option ℤ) → IsSomeAnd result (IsWordIn t)
+      → IsSomeAnd result (λ v. Means m act (number_in t) (Some v))
   in_range t None h = h
   in_range t (Some v) h = is_number h.member.from_lo h.member.to_hi h.word
 
@@ -46,13 +47,16 @@ module _ (m : Contents) (act : Activation) where
   of_range None result holds = tt
   of_range (Some t) result holds = in_range t result (holds t refl)
 
-  pub result_means : (op : BinaryOperation) (left right : Fact) (x y : ℤ) → Means m act left (Some x) → Means m act right (Some y)
-      → ResultMeans (result_fact op left right) (computed op x y)
+  pub result_means : (op : BinaryOperation) (left right : Fact) (x y : ℤ) → Means m act left (Some x)
+      → Means m act right (Some y) → ResultMeans (result_fact op left right) (computed op x y)
   unfolding result_fact
   result_means op left right x y p q = on_left (range_of left) refl
     where
       on_right : (r : Ends) → Lies r x → (o : Option Ends) → range_of right ≡ o
-          → ResultMeans (elim o as (λ o. Option Fact) [ None ↦ None | Some s ↦ option_map number_in (result_range op r s) ]) (computed op x y)
+          → ResultMeans (elim o as (λ o. Option Fact) [
+            | None ↦ None
+            | Some s ↦ option_map number_in (result_range op r s)
+          ]) (computed op x y)
       on_right r first None is = tt
       on_right r first (Some s) is =
           let second = lies right y s q is in
@@ -62,7 +66,10 @@ module _ (m : Contents) (act : Activation) where
       on_left : (o : Option Ends) → range_of left ≡ o
           → ResultMeans (elim o as (λ o. Option Fact) [
             | None ↦ None
-            | Some r ↦ elim (range_of right) as (λ o. Option Fact) [ None ↦ None | Some s ↦ option_map number_in (result_range op r s) ]
+            | Some r ↦ elim (range_of right) as (λ o. Option Fact) [
+              | None ↦ None
+              | Some s ↦ option_map number_in (result_range op r s)
+            ]
           ]) (computed op x y)
       on_left None is = tt
       on_left (Some r) is = on_right r (lies left x r p is) (range_of right) refl
@@ -73,9 +80,12 @@ module _ (m : Contents) (act : Activation) where
   unary_result_means op operand x p = on_operand (range_of operand) refl
     where
       on_operand : (o : Option Ends) → range_of operand ≡ o
-          → ResultMeans (elim o as (λ o. Option Fact) [ None ↦ None | Some r ↦ option_map number_in (unary_result_range op r) ])
-          (unary_computed op x)
+          → ResultMeans (elim o as (λ o. Option Fact) [
+            | None ↦ None
+            | Some r ↦ option_map number_in (unary_result_range op r)
+          ]) (unary_computed op x)
       on_operand None is = tt
       on_operand (Some r) is =
           let first = lies operand x r p is in
-          of_range (unary_result_range op r) (unary_computed op x) (λ t e. unary_holds op r t first.range e x first.member)
+          of_range (unary_result_range op r) (unary_computed op x)
+          (λ t e. unary_holds op r t first.range e x first.member)

@@ -67,7 +67,8 @@ pub data Means (m : Contents) (act : Activation) : Fact → Option ℤ → Type 
 pub data MeansWord (m : Contents) (act : Activation) (k : ℤ) : WordFact → Option ℤ → Type 0 where
   is_fact : {fact : Fact} {v : Option ℤ} → Means m act fact v → MeansWord m act k (Alone fact) v
   is_index : {loop : CountedLoop} {x : ℤ} → 1 ≤ act.turns k → act.turns k ≤ loop.count
-      → x ≡ loop.base +ℤ pos loop.count -ℤ pos (act.turns k) → FitsSigned w32 x → MeansWord m act k (Index loop) (Some x)
+      → x ≡ loop.base +ℤ pos loop.count -ℤ pos (act.turns k) → FitsSigned w32 x
+      → MeansWord m act k (Index loop) (Some x)
   is_count : {loop : CountedLoop} {x : ℤ} → 1 ≤ act.turns (k -ℤ pos 1) → act.turns (k -ℤ pos 1) ≤ loop.count
       → x ≡ pos (act.turns (k -ℤ pos 1)) → FitsSigned w32 x → MeansWord m act k (Count loop) (Some x)
 

@@ -1,5 +1,5 @@
--- The rule of each instruction: what it wants of the state before it, and what it leaves. The rules mirror the steps of the
--- machine, and their tests stand in rising order of the numbers of rules.
+-- The rule of each instruction: what it wants of the state before it, and what it leaves. The rules mirror the steps
+-- of the machine, and their tests are in rising order of the numbers of rules.
 use Rattle.std.specs.Prelude.{ℕ, ◌+◌, ◌-◌, nat_lt, Bool, if◌then◌else◌, is_some, ℤ, pos, negsuc, ◌+ℤ◌, Option, Some, None, Ok, Err}
 use Rattle.std.specs.Option.{option_map}
 use Rattle.prefix_decoder.specs.declared.function.Fun.{Fun}
@@ -33,7 +33,7 @@ use Rattle.states.specs.Below.{below}
 
 -- where a rule leads
 pub data Ruling : Type 0 where
-  -- the process goes on behind the instruction, in this state
+  -- the process goes on after the instruction, in this state
   falls : State → Ruling
   -- it goes on at the label at this offset, and nothing falls through
   leads : ℕ → Ruling
@@ -68,7 +68,7 @@ outside_starts (Starting row started) k = breaks rules.Par
 unfoldable pub uses : Known → (Fact → Ruling) → Ruling
 uses known k = elim known.fact [ Unknown ↦ breaks rules.UnknownRegister | _ ↦ k known.fact ]
 
--- the code offset that is e from the next instruction lies behind it
+-- the code offset that is e from the next instruction lies after it
 unfoldable pub forward : ℤ → Ruling → Ruling
 forward (pos n) k = k
 forward (negsuc n) k = breaks rules.Forward
@@ -90,7 +90,8 @@ schedules site s k =
 
 -- each byte of the instruction is paid from the number
 unfoldable pub pays : Site → State → (State → Ruling) → Ruling
-pays site s k = if nat_lt s.number site.length then breaks rules.Budget else k (record s { number = s.number - site.length })
+pays site s k =
+    if nat_lt s.number site.length then breaks rules.Budget else k (record s { number = s.number - site.length })
 
 -- there is a label at the offset, and the state is below it
 unfoldable pub leads_to : Site → ℕ → State → Ruling

@@ -11,7 +11,8 @@ use machine_state::Instruction;
 use prefix_decoder::Instr;
 use states::{Rule, State};
 
-/// Whether an instruction has a rule: each has that the machine has. One that has none breaks `Rule::Spelling` wherever it stands.
+/// Whether an instruction has a rule: each has that the machine has. One that has none breaks
+/// `Rule::Spelling` wherever it stands.
 #[tactic(auto, unfolding(crate::specs::Rules::has_rule))]
 pub fn has_rule(instr: Instr) -> bool
     ensures { result ≡ has_rule instr }
@@ -21,7 +22,7 @@ pub fn has_rule(instr: Instr) -> bool
 
 /// Takes a state over the instruction that stands at a code offset, by the rule of that instruction. Where
 /// the rule is broken, the state is left part of the way.
-#[tactic(auto, unfolding(crate::specs::Rules::rule, crate::specs::Rules::rule_of, crate::specs::Rules::instruction_rule))]
+#[tactic(auto, unfolding(crate::specs::Rules::rule, crate::specs::Rules::rule_of))]
 pub fn advance(state: &mut State, module: &Module, at: usize, instr: Instr) -> Result<Onward, Rule>
     requires { BelongsTo «module».now state.old }
     ensures ruling { Advances result (state_of state.new) (rule_at «module».now at instr (state_of state.old)) }

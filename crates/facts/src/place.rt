@@ -11,9 +11,9 @@ use word_arithmetic::{Binary as BinaryOperation, Unary as UnaryOperation};
 /// Where an instruction leads.
 #[derive(Clone, Copy, Debug, PartialEq, Eq)]
 pub enum Onward {
-    /// Behind itself, in the state that it leaves.
+    /// To what is after it, in the state that it leaves.
     Falls,
-    /// To the label at this code offset, and not behind itself.
+    /// To the label at this code offset, and not to what is after it.
     Leads(u32),
     /// Nowhere: the process stops.
     Ends,
@@ -34,7 +34,7 @@ impl Place<'_, '_> {
     ghost use Rattle.module_format.specs.Keeping.{Keeps};
     ghost use Rattle.machine_state.specs.LocalStep.{target};
     ghost use Rattle.machine_state.specs.declared.op.Op.TheVariants.{Reverse, StopProcess, MinimumInteger, Binary, Unary};
-    ghost use Rattle.machine_state.specs.declared.instruction.Instruction.TheVariants.{Jump, LoadConstant, LoadLocal, StoreLocal, WithConstant};
+    ghost use Rattle.machine_state.specs.declared.instruction.Instruction.TheVariants.{Jump, LoadConstant, LoadLocal, StoreLocal, WithConstant, Operate};
     ghost use Rattle.states.specs.Views.{state_of, CanWrite, BelongsTo};
     ghost use Rattle.facts.specs.Rules.{writes_word, reads_word, schedules, pays, goes_on, leads_to, becomes, operation_rule, instruction_rule};
     ghost use Rattle.facts.specs.Telling.{Admits, Leaves, Advances};
@@ -44,7 +44,8 @@ impl Place<'_, '_> {
     #[tactic(auto, unfolding(crate::specs::Rules::writes_word))]
     fn writes_word(&self, state: &State, distance: i32) -> Result<i32, Rule>
         requires { BelongsTo self.now.module.now state.now }
-        ensures test { Admits result (writes_word (site_of self.now) (state_of state.now) (state.now.depth +ℤ distance)) }
+        ensures test { let word = state.now.depth +ℤ distance in
+            Admits result (writes_word (site_of self.now) (state_of state.now) word) }
         ensures word { IfOk result (λ k. k ≡ state.now.depth +ℤ distance) }
         ensures room { IfOk result (CanWrite state.now) }
     {
@@ -58,7 +59,8 @@ impl Place<'_, '_> {
     #[tactic(auto, unfolding(crate::specs::Rules::reads_word))]
     fn reads_word(&self, state: &State, distance: i32) -> Result<i32, Rule>
         requires { BelongsTo self.now.module.now state.now }
-        ensures test { Admits result (reads_word (site_of self.now) (state_of state.now) (state.now.depth +ℤ distance)) }
+        ensures test { let word = state.now.depth +ℤ distance in
+            Admits result (reads_word (site_of self.now) (state_of state.now) word) }
         ensures word { IfOk result (λ k. k ≡ state.now.depth +ℤ distance) }
     {
         match state.readable_word(i64::from(state.depth) + i64::from(distance)) {
@@ -97,7 +99,7 @@ impl Place<'_, '_> {
         Ok(())
     }
 
-    /// Each byte is paid, and the process goes on behind the instruction.
+    /// Each byte is paid, and the process goes on after the instruction.
     #[tactic(auto, unfolding(crate::specs::Rules::goes_on))]
     fn goes_on(&self, state: &mut State) -> Result<Onward, Rule>
         ensures ruling { Advances result (state_of state.new) (goes_on (site_of self.now) (state_of state.old)) }
@@ -133,7 +135,8 @@ impl Place<'_, '_> {
 
     #[tactic(auto, unfolding(crate::specs::Rules::instruction_rule))]
     pub(crate) fn load_constant(&self, state: &mut State, value: i32) -> Result<Onward, Rule>
-        ensures ruling { Advances result (state_of state.new) (instruction_rule (site_of self.now) LoadConstant value (state_of state.old)) }
+        ensures ruling { let ruling = instruction_rule (site_of self.now) LoadConstant value (state_of state.old) in
+            Advances result (state_of state.new) ruling }
         ensures belongs { (m : Contents) → BelongsTo m state.old → BelongsTo m state.new }
     {
         state.push(Known::of(Fact::Number {
@@ -146,7 +149,8 @@ impl Place<'_, '_> {
     #[tactic(auto, unfolding(crate::specs::Rules::instruction_rule))]
     pub(crate) fn load_local(&self, state: &mut State, distance: i32) -> Result<Onward, Rule>
         requires { BelongsTo self.now.module.now state.old }
-        ensures ruling { Advances result (state_of state.new) (instruction_rule (site_of self.now) LoadLocal distance (state_of state.old)) }
+        ensures ruling { let ruling = instruction_rule (site_of self.now) LoadLocal distance (state_of state.old) in
+            Advances result (state_of state.new) ruling }
         ensures belongs { BelongsTo self.now.module.now state.new }
     {
         outside_starts(state.mode)?;
@@ -159,7 +163,8 @@ impl Place<'_, '_> {
     #[tactic(auto, unfolding(crate::specs::Rules::instruction_rule))]
     pub(crate) fn store_local(&self, state: &mut State, distance: i32) -> Result<Onward, Rule>
         requires { BelongsTo self.now.module.now state.old }
-        ensures ruling { Advances result (state_of state.new) (instruction_rule (site_of self.now) StoreLocal distance (state_of state.old)) }
+        ensures ruling { let ruling = instruction_rule (site_of self.now) StoreLocal distance (state_of state.old) in
+            Advances result (state_of state.new) ruling }
         ensures belongs { BelongsTo self.now.module.now state.new }
     {
         let fact = uses(state.a)?;
@@ -191,7 +196,8 @@ impl Place<'_, '_> {
         op: BinaryOperation,
         value: i32,
     ) -> Result<Onward, Rule>
-        ensures ruling { Advances result (state_of state.new) (instruction_rule (site_of self.now) (WithConstant op) value (state_of state.old)) }
+        ensures ruling { let ruling = instruction_rule (site_of self.now) (WithConstant op) value (state_of state.old) in
+            Advances result (state_of state.new) ruling }
         ensures belongs { (m : Contents) → BelongsTo m state.old → BelongsTo m state.new }
     {
         let left = uses(state.a)?;
@@ -205,7 +211,8 @@ impl Place<'_, '_> {
     #[tactic(auto, unfolding(crate::specs::Rules::instruction_rule))]
     pub(crate) fn jump(&self, state: &mut State, distance: i32) -> Result<Onward, Rule>
         requires { BelongsTo self.now.module.now state.old }
-        ensures ruling { Advances result (state_of state.new) (instruction_rule (site_of self.now) Jump distance (state_of state.old)) }
+        ensures ruling { let ruling = instruction_rule (site_of self.now) Jump distance (state_of state.old) in
+            Advances result (state_of state.new) ruling }
         ensures belongs { BelongsTo self.now.module.now state.new }
     {
         outside_alternation(state.mode)?;
@@ -221,7 +228,8 @@ impl Place<'_, '_> {
 
     #[tactic(auto, unfolding(crate::specs::Rules::operation_rule))]
     fn reverse(&self, state: &mut State) -> Result<Onward, Rule>
-        ensures ruling { Advances result (state_of state.new) (operation_rule (site_of self.now) Reverse (state_of state.old)) }
+        ensures ruling { let ruling = operation_rule (site_of self.now) Reverse (state_of state.old) in
+            Advances result (state_of state.new) ruling }
         ensures belongs { (m : Contents) → BelongsTo m state.old → BelongsTo m state.new }
     {
         outside_alternation(state.mode)?;
@@ -232,7 +240,8 @@ impl Place<'_, '_> {
 
     #[tactic(auto, unfolding(crate::specs::Rules::operation_rule))]
     fn minimum_integer(&self, state: &mut State) -> Result<Onward, Rule>
-        ensures ruling { Advances result (state_of state.new) (operation_rule (site_of self.now) MinimumInteger (state_of state.old)) }
+        ensures ruling { let ruling = operation_rule (site_of self.now) MinimumInteger (state_of state.old) in
+            Advances result (state_of state.new) ruling }
         ensures belongs { (m : Contents) → BelongsTo m state.old → BelongsTo m state.new }
     {
         outside_starts(state.mode)?;
@@ -246,7 +255,8 @@ impl Place<'_, '_> {
     #[tactic(auto, unfolding(crate::specs::Rules::operation_rule))]
     fn stop_process(&self, state: &mut State) -> Result<Onward, Rule>
         requires { BelongsTo self.now.module.now state.old }
-        ensures ruling { Advances result (state_of state.new) (operation_rule (site_of self.now) StopProcess (state_of state.old)) }
+        ensures ruling { let ruling = operation_rule (site_of self.now) StopProcess (state_of state.old) in
+            Advances result (state_of state.new) ruling }
         ensures belongs { BelongsTo self.now.module.now state.new }
     {
         outside_alternation(state.mode)?;
@@ -258,7 +268,8 @@ impl Place<'_, '_> {
 
     #[tactic(auto, unfolding(crate::specs::Rules::operation_rule))]
     fn binary(&self, state: &mut State, op: BinaryOperation) -> Result<Onward, Rule>
-        ensures ruling { Advances result (state_of state.new) (operation_rule (site_of self.now) (Binary op) (state_of state.old)) }
+        ensures ruling { let ruling = operation_rule (site_of self.now) (Binary op) (state_of state.old) in
+            Advances result (state_of state.new) ruling }
         ensures belongs { (m : Contents) → BelongsTo m state.old → BelongsTo m state.new }
     {
         let right = uses(state.a)?;
@@ -269,16 +280,19 @@ impl Place<'_, '_> {
 
     #[tactic(auto, unfolding(crate::specs::Rules::operation_rule))]
     fn unary(&self, state: &mut State, op: UnaryOperation) -> Result<Onward, Rule>
-        ensures ruling { Advances result (state_of state.new) (operation_rule (site_of self.now) (Unary op) (state_of state.old)) }
+        ensures ruling { let ruling = operation_rule (site_of self.now) (Unary op) (state_of state.old) in
+            Advances result (state_of state.new) ruling }
         ensures belongs { (m : Contents) → BelongsTo m state.old → BelongsTo m state.new }
     {
         let operand = uses(state.a)?;
         self.becomes(state, unary_result_fact(op, operand))
     }
 
+    #[tactic(auto, unfolding(crate::specs::Rules::instruction_rule))]
     pub(crate) fn operate(&self, state: &mut State, op: Op) -> Result<Onward, Rule>
         requires { BelongsTo self.now.module.now state.old }
-        ensures ruling { Advances result (state_of state.new) (operation_rule (site_of self.now) op (state_of state.old)) }
+        ensures ruling { let ruling = λ (e : ℤ). instruction_rule (site_of self.now) (Operate op) e (state_of state.old) in
+            (e : ℤ) → Advances result (state_of state.new) (ruling e) }
         ensures belongs { BelongsTo self.now.module.now state.new }
     {
         match op {

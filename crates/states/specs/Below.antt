@@ -114,4 +114,7 @@ agrees s t =
 
 -- what going on as the label costs, or the rule that is broken: the state cannot pay, or it knows less
 unfoldable pub below : State → Label → Result ℕ Rule
-below s t = if nat_lt s.number (cost s t) then Err rules.Budget else if agrees s t then Ok (cost s t) else Err rules.Label
+below s t =
+    if nat_lt s.number (cost s t) then Err rules.Budget
+    else if agrees s t then Ok (cost s t)
+    else Err rules.Label

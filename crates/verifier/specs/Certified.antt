@@ -36,7 +36,10 @@ state_at m at before = elim (given m at) [ None ↦ before | Some s ↦ Some s ]
 
 -- what it costs this state to fall into the offset, or the rule that it breaks: nothing falls into a procedure
 abbrev pub falling_into : Contents → ℕ → State → Result ℕ Rule
-falling_into m at s = elim (label_at m at) [ None ↦ if is_some (procedure_at m at) then Err rules.Flow else Ok 0 | Some t ↦ below s t ]
+falling_into m at s = elim (label_at m at) [
+  | None ↦ if is_some (procedure_at m at) then Err rules.Flow else Ok 0
+  | Some t ↦ below s t
+]
 
 -- what falling into the offset costs, or the rule that it breaks
 abbrev pub entering : Contents → ℕ → Option State → Result ℕ Rule
@@ -74,8 +77,8 @@ pub record IsCertified (m : Contents) : Type 0 where
 -- The rule is broken at the offset.
 pub data IsBroken (m : Contents) : Rule → ℕ → Type 0 where
   -- no spelling of an instruction stands there
-  misspelled : {rule : Rule} {at : ℕ} {before : Option State} {e : DecodeFault} → rule ≡ rules.Spelling → Reaches m at before
-      → at < length m.code → fetched m.code at ≡ Err e → IsBroken m rule at
+  misspelled : {rule : Rule} {at : ℕ} {before : Option State} {e : DecodeFault} → rule ≡ rules.Spelling
+      → Reaches m at before → at < length m.code → fetched m.code at ≡ Err e → IsBroken m rule at
   -- the instruction has no rule, whether anything leads there or not
   unruled : {rule : Rule} {at : ℕ} {before : Option State} {i : Instr} → rule ≡ rules.Spelling → Reaches m at before
       → at < length m.code → fetched m.code at ≡ Ok i → has_rule i ≡ false → IsBroken m rule at
@@ -92,8 +95,8 @@ pub data IsBroken (m : Contents) : Rule → ℕ → Type 0 where
   entered : {rule : Rule} {at : ℕ} {before : Option State} → Reaches m at before → at < length m.code
       → entering m at before ≡ Err rule → IsBroken m rule at
   -- the instruction breaks its rule
-  broken : {rule : Rule} {at : ℕ} {before : Option State} {s : State} {i : Instr} → Reaches m at before → at < length m.code
-      → state_at m at before ≡ Some s → fetched m.code at ≡ Ok i → rule_at m at i s ≡ breaks rule → IsBroken m rule at
+  broken : {rule : Rule} {at : ℕ} {before : Option State} {s : State} {i : Instr} → Reaches m at before
+      → at < length m.code → state_at m at before ≡ Some s → fetched m.code at ≡ Ok i → rule_at m at i s ≡ breaks rule → IsBroken m rule at
 
 -- All holds below the offset, and there the rule is broken.
 pub record IsRefused (m : Contents) (rule : Rule) (at : ℕ) : Type 0 where

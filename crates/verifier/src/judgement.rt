@@ -20,7 +20,8 @@ use states::{Rule, State, cost_below};
 /// What it costs to fall into an offset where this is given. Nothing may fall into a procedure.
 fn entering(state: &State, falls: bool, given: Given) -> Result<u64, Rule>
     requires { IsComparable given }
-    ensures { (m : Contents) (at : ℕ) → IsGiven m at given.entry → result ≡ entering m at (falling_state falls (state_of state.now)) }
+    ensures { let before = falling_state falls (state_of state.now) in
+        (m : Contents) (at : ℕ) → IsGiven m at given.entry → result ≡ entering m at before }
 {
     match given {
         Given::Label(row) if falls => cost_below(state, row),
@@ -41,7 +42,8 @@ fn lower(first: Rule, second: Rule) -> Rule
 
 /// Whether a state falls into the next offset, or the lower of two rules that are broken.
 fn both(entered: Result<u64, Rule>, onward: Result<Onward, Rule>) -> Result<bool, Rule>
-    ensures { (ruling : Ruling) (after : Known) → Advances onward after ruling → Judges result after (both entered ruling) }
+    ensures { (ruling : Ruling) (after : Known) → Advances onward after ruling
+        → Judges result after (both entered ruling) }
 {
     match (entered, onward) {
         (Ok(_), Ok(onward)) => Ok(onward == Onward::Falls),
@@ -75,7 +77,8 @@ pub(crate) fn judge<'a>(
 ) -> Result<bool, Rule>
     requires belongs { BelongsTo «module».now state.old }
     requires here { IsGiven «module».now at given }
-    ensures judged { Judges result (state_of state.new) (judged_at «module».now at (falling_state falls (state_of state.old)) instr) }
+    ensures judged { let before = falling_state falls (state_of state.old) in
+        Judges result (state_of state.new) (judged_at «module».now at before instr) }
     ensures belongs { BelongsTo «module».now state.new }
 {
     let entered = entering(state, falls, given);

@@ -20,13 +20,15 @@ pub fn not_both()
 /// rule at that offset.
 pub fn verdict_is_right()
     ensures accepts { (m : Contents) → Keeps m → verdict m ≡ Ok tt → IsCertified m }
-    ensures refuses { (m : Contents) (rule : Rule) (at : ℕ) → Keeps m → verdict m ≡ refused rule at → IsRefused m rule at }
+    ensures refuses { (m : Contents) (rule : Rule) (at : ℕ) → Keeps m
+        → verdict m ≡ refused rule at → IsRefused m rule at }
 {}
 
 /// Whatever event comes to whatever world in which the invariant of a certified module holds, it holds
 /// afterwards.
 pub fn events_keep_the_invariant()
-    ensures { (m : Contents) (e : Event) (w : World) → Keeps m → IsCertified m → IsEvent e → Holds m w → Holds m (happens m w e) }
+    ensures { (m : Contents) (e : Event) (w : World) → Keeps m → IsCertified m → IsEvent e → Holds m w
+        → Holds m (happens m w e) }
 {}
 
 /// For every list of events a certified module runs without a fault, all regions and channel ends stay

@@ -16,7 +16,7 @@ pub use verified::{Verified, verify};
 /// Why a module is refused.
 #[derive(Clone, Copy, Debug, PartialEq, Eq)]
 pub struct Refusal {
-    /// Which rule is broken, 1 to 17.
+    /// The number of the rule that is broken, or `states::MEMORY`.
     pub number: u8,
     /// The code offset where it is broken.
     pub offset: u32,
