@@ -23,7 +23,7 @@ use std::marker::Model;
 use step::Choice;
 
 /// A machine that runs a module, however faulty, and checks each rule at each instruction.
-#[derive(Debug, Drop)]
+#[derive(Drop)]
 pub struct Checked<'a> {
     module: &'a Module<'a>,
     machine: Machine,
