@@ -14,7 +14,7 @@ use module_format::{Place, Tables};
 use std::alloc::{AllocError, Global};
 
 /// Tables that are made once, so that each look-up is short.
-#[derive(Debug, Drop)]
+#[derive(Drop)]
 pub(crate) struct Index {
     /// Where instructions start.
     pub starts: Marks,

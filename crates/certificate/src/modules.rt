@@ -11,7 +11,7 @@ use std::marker::Model;
 
 /// What a file says, with the file. A `Module` is made by `read` alone, so that each is one that a file
 /// gave.
-#[derive(Debug, Drop)]
+#[derive(Drop)]
 pub struct Module<'a> {
     bytes: &'a [u8],
     tables: Tables<'a>,

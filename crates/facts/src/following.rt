@@ -13,7 +13,7 @@ use states::{RuleFault, State};
 use std::alloc::Global;
 
 /// The states that follow an instruction, and where.
-#[derive(Debug, Drop)]
+#[derive(Drop)]
 pub enum Successors<'a> {
     /// Behind the instruction.
     Falls(State<'a>),

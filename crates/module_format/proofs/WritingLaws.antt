@@ -1,6 +1,6 @@
 -- What writing needs of contents that keep the rules.
-use Rattle.std.proofs.Common.{◌≡◌, ℕ, ◌<◌, ◌^◌, arith, length, List, [], ◌∷◌, ◌++◌, map, All, append_assoc, Result, Ok, Err}
-use Rattle.std.specs.Prelude.{⊤, OnOk}
+use Rattle.std.proofs.Common.{◌≡◌, ℕ, ◌<◌, ◌^◌, arith, length, List, [], ◌∷◌, ◌++◌, map, All, append_assoc, Bool, false}
+use Rattle.std.specs.Prelude.{⊤}
 use Rattle.std.specs.List.{AllByRecursion}
 use Rattle.std.proofs.lemmas.List.Elements.{All-from_recursion}
 use Rattle.module_format.specs.Contents.{Procedure, Label, Branch, Par, Contents}
@@ -13,8 +13,13 @@ use Rattle.module_format.specs.Writable.{BranchIsWritable, ParIsWritable}
 use Rattle.module_format.proofs.OrderLaws.{each}
 
 -- one piece written behind another
-pub grows : (before p q : List ℕ) {between after : List ℕ} → between ≡ before ++ p → after ≡ between ++ q → after ≡ before ++ (p ++ q)
-grows before p q e f = rw (f, e) (append_assoc before p q)
+pub grows : (before p q : List ℕ) {started half done : Bool} {between after : List ℕ}
+    → (half ≡ false → (started ≡ false) × (between ≡ before ++ p)) → (done ≡ false → (half ≡ false) × (after ≡ between ++ q))
+    → done ≡ false → (started ≡ false) × (after ≡ before ++ (p ++ q))
+grows before p q e f = λ ok.
+    let second = f ok in
+    let first = e second.0 in
+    (first.0, rw (second.1, first.1) (append_assoc before p q))
 
 unmapped : {A B : Type 0} (view : A → B) (Fits : B → Type 0) (xs : List A) → AllByRecursion Fits (map view xs) → AllByRecursion (λ x. Fits (view x)) xs
 unmapped view Fits [] h = tt
@@ -23,11 +28,6 @@ unmapped view Fits (x ∷ xs) h = (h.0, unmapped view Fits xs h.1)
 -- the item at an index fits where all do
 pub item_fits : {A B : Type 0} (view : A → B) (Fits : B → Type 0) (xs : List A) → AllByRecursion Fits (map view xs) → All (λ x. Fits (view x)) xs
 item_fits view Fits xs h = All-from_recursion (λ x. Fits (view x)) xs (unmapped view Fits xs h)
-
--- what holds where something succeeded
-pub on_ok : {X E : Type 0} {P Q : Type 0} (r : Result X E) → OnOk r P → (P → Q) → OnOk r Q
-on_ok (Ok x) h f = f h
-on_ok (Err e) h f = tt
 
 -- ---- rows that keep their rules can be written
 

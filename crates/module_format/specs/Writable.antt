@@ -1,7 +1,12 @@
--- Rows whose lists are short enough to be counted in a u16.
-use Rattle.std.specs.Prelude.{◌<◌, ◌^◌, length}
+-- Writing: what a writer has done, and rows whose lists are short enough to be counted in a u16.
+use Rattle.std.specs.Prelude.{◌≡◌, ◌<◌, ◌^◌, ℕ, false, List, ◌++◌, length}
 use Rattle.std.specs.List.{AllByRecursion}
+use Rattle.module_format.specs.declared.writing.writer.Writer.{Writer}
 use Rattle.module_format.specs.Contents.{Branch, Par}
+
+-- where memory has not run out after the bytes were written, it had not run out before, and they are at the end
+abbrev pub Writes : Writer → List ℕ → Writer → Type 0
+Writes old bytes new = new.failed ≡ false → (old.failed ≡ false) × (new.bytes.items ≡ old.bytes.items ++ bytes)
 
 pub record BranchIsWritable (b : Branch) : Type 0 where
   pub writes : length b.writes < 2 ^ 16

@@ -10,7 +10,7 @@ use crate::tables::Tables;
 use std::marker::Model;
 
 /// The frame words of a context, from `lo` up to `hi` (not included), and how many parameters it has.
-#[derive(Clone, Copy, Debug, PartialEq, Eq)]
+#[derive(Clone, Copy)]
 pub struct Context {
     pub lo: i64,
     pub hi: i64,

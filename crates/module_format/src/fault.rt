@@ -58,7 +58,7 @@ impl From<AllocError> for FormatFault {
 }
 
 /// What a reader of one field answers in place of the field.
-#[derive(Clone, Copy, Debug)]
+#[derive(Clone, Copy)]
 pub enum ReadError {
     Memory,
     Fault(FormatFault),

@@ -10,7 +10,7 @@ use crate::tables::Tables;
 use std::alloc::{AllocError, Global};
 
 /// Where the row of a branch stands, and what the branch belongs to.
-#[derive(Clone, Copy, Debug)]
+#[derive(Clone, Copy)]
 pub struct Place {
     /// The PAR row.
     pub par: u16,

@@ -7,7 +7,7 @@ use bitflags::{Flag, Flags, bitflag_items};
 use smallvec::SmallVec;
 
 /// The ends that a channel parameter brings: a set of `IN` and `OUT`.
-#[derive(Clone, Copy, Debug, PartialEq, Eq)]
+#[derive(Clone, Copy)]
 pub struct Ends(u8);
 
 bitflag_items! {
@@ -42,7 +42,7 @@ impl Flags for Ends {
 }
 
 /// What a parameter word of a procedure holds.
-#[derive(Clone, Copy, Debug, PartialEq, Eq)]
+#[derive(Clone, Copy)]
 pub enum ParameterKind {
     /// A number from `lo` to `hi`, both included.
     Value { lo: i32, hi: i32 },
@@ -55,7 +55,7 @@ pub enum ParameterKind {
 }
 
 /// A parameter of a procedure, by its frame word.
-#[derive(Clone, Copy, Debug, PartialEq, Eq)]
+#[derive(Clone, Copy)]
 pub struct Parameter {
     pub word: u16,
     pub kind: ParameterKind,
@@ -63,7 +63,7 @@ pub struct Parameter {
 
 /// A procedure: where its code begins, its frame words from `lo` up to `hi` (not included), its
 /// number, and its parameters.
-#[derive(Debug, Drop)]
+#[derive(Drop)]
 pub struct ProcedureRow {
     pub entry: u32,
     pub lo: i32,
@@ -73,7 +73,7 @@ pub struct ProcedureRow {
 }
 
 /// One fact that holds for each of `span` frame words from `word` on.
-#[derive(Clone, Copy, Debug, PartialEq, Eq)]
+#[derive(Clone, Copy)]
 pub struct Entry {
     pub word: i32,
     pub span: u32,
@@ -83,7 +83,7 @@ pub struct Entry {
 /// What holds at a code offset: the context, the depth of the workspace in words of the frame, the
 /// number, the facts of the three registers, and those of the frame's words; a word without an entry
 /// is unknown.
-#[derive(Debug, Drop)]
+#[derive(Drop)]
 pub struct LabelRow {
     pub offset: u32,
     pub context: u16,
@@ -96,21 +96,21 @@ pub struct LabelRow {
 }
 
 /// A channel of a PAR: the frame word that it lies in and the bytes of its messages.
-#[derive(Clone, Copy, Debug, PartialEq, Eq)]
+#[derive(Clone, Copy)]
 pub struct ChannelRow {
     pub word: i32,
     pub length: u32,
 }
 
 /// The frame words from `lo` up to `hi`, which is not included.
-#[derive(Clone, Copy, Debug, Default, PartialEq, Eq)]
+#[derive(Clone, Copy, Default)]
 pub struct Interval {
     pub lo: i32,
     pub hi: i32,
 }
 
 /// Which channel an end belongs to.
-#[derive(Clone, Copy, Debug, PartialEq, Eq)]
+#[derive(Clone, Copy)]
 pub enum EndKind {
     /// The channel in a frame word.
     FrameWord(i32),
@@ -128,7 +128,7 @@ pub enum Direction {
 }
 
 /// A channel end that a branch is given.
-#[derive(Clone, Copy, Debug, PartialEq, Eq)]
+#[derive(Clone, Copy)]
 pub struct EndRow {
     pub kind: EndKind,
     pub direction: Direction,
@@ -136,7 +136,7 @@ pub struct EndRow {
 
 /// A branch of a PAR: where its code begins, its workspace in words of the frame, and what it is
 /// given of the frame's words, the context's parameters and channel ends.
-#[derive(Debug, Drop)]
+#[derive(Drop)]
 pub struct BranchRow {
     pub entry: u32,
     pub workspace: i32,
@@ -149,7 +149,7 @@ pub struct BranchRow {
 
 /// A PAR: the context and depth at which it stands, its join block's frame word, the code offset
 /// behind it, its channels and its branches.
-#[derive(Debug, Drop)]
+#[derive(Drop)]
 pub struct ParRow {
     pub context: u16,
     pub depth: i32,
@@ -160,7 +160,7 @@ pub struct ParRow {
 }
 
 /// The constants from byte `start` up to `end` (not included) are words from `lo` to `hi`.
-#[derive(Clone, Copy, Debug, PartialEq, Eq)]
+#[derive(Clone, Copy)]
 pub struct TableRow {
     pub start: u32,
     pub end: u32,
@@ -170,7 +170,7 @@ pub struct TableRow {
 
 /// The fields of an end, as they stand in a file. The ends of a branch rise by the first of them in
 /// which they differ.
-#[derive(Clone, Copy, Debug, PartialEq, Eq)]
+#[derive(Clone, Copy, PartialEq, Eq)]
 pub struct EndKey {
     /// 0 a frame word, 1 a parameter, 2 a link.
     pub kind: u8,

@@ -6,7 +6,7 @@ use crate::keeping;
 use crate::rows::{LabelRow, ParRow, ProcedureRow, TableRow};
 
 /// The version of a module file.
-#[derive(Clone, Copy, Debug, PartialEq, Eq)]
+#[derive(Clone, Copy)]
 pub enum Version {
     /// `TPM1`.
     One,
@@ -16,7 +16,7 @@ pub enum Version {
 
 /// What a module file says. Both versions have the same tables: in version 1 each region parameter has
 /// the full range of a word, there are no table rows and no long operations.
-#[derive(Debug, Drop)]
+#[derive(Drop)]
 pub struct Tables<'a> {
     /// The version of the file.
     pub version: Version,

@@ -1,73 +1,92 @@
 //! From tables to bytes.
 
-mod fields;
 mod labels;
 mod list;
 mod pars;
 mod procedures;
+mod writer;
 
-ghost use Rattle.std.specs.Prelude.{◌≡◌, ◌++◌, OnOk, IfOk, length};
+ghost use Rattle.std.specs.Prelude.{◌≡◌, ◌++◌, IfOk, length};
 ghost use Rattle.module_format.specs.Contents.{contents_of};
 ghost use Rattle.module_format.specs.Keeping.{Keeps};
-ghost use Rattle.module_format.specs.Spelling.{magic_of, flag_bytes, header_bytes, rows_bytes, file_of};
+ghost use Rattle.module_format.specs.Spelling.{u32_bytes, u64_bytes, magic_of, flag_bytes, header_bytes, rows_bytes, file_of};
+ghost use Rattle.module_format.specs.Writable.{Writes};
 
 use crate::tables::{Tables, Version};
-use crate::writing::fields::{put_u32, put_u64};
 use crate::writing::list::put_all;
+use crate::writing::writer::Writer;
 use std::alloc::{AllocError, Global};
 
 /// The magic of a version.
-fn put_magic(out: &mut Vec<u8>, version: Version) -> Result<(), AllocError>
-    ensures { OnOk result (out.new.items ≡ out.old.items ++ magic_of version) }
+fn put_magic(out: &mut Writer, version: Version)
+    ensures { Writes out.old (magic_of version) out.new }
 {
     match version {
-        Version::One => out.extend_from_slice(b"TPM1"),
-        Version::Two => out.extend_from_slice(b"TPM2"),
+        Version::One => out.slice(b"TPM1"),
+        Version::Two => out.slice(b"TPM2"),
     }
 }
 
-/// What stands before the code in both versions, behind the magic.
-#[tactic(auto, unfolding(crate::specs::Spelling::header_bytes))]
-fn put_header(out: &mut Vec<u8>, tables: &Tables) -> Result<(), AllocError>
+/// The numbers of the code, the constants and the data area, and the bounds of a run.
+fn put_sizes(out: &mut Writer, tables: &Tables)
     requires { Keeps (contents_of tables.now) }
-    ensures { OnOk result (out.new.items ≡ out.old.items ++ header_bytes (contents_of tables.now)) }
+    ensures { Writes out.old (u32_bytes (length tables.now.code.now) ++ u32_bytes (length tables.now.constants.now) ++ u32_bytes tables.now.data_words
+        ++ u32_bytes tables.now.base ++ u64_bytes tables.now.budget ++ u32_bytes tables.now.finish) out.new }
 {
-    put_u32(out, tables.code.len() as u32)?;
-    put_u32(out, tables.constants.len() as u32)?;
-    put_u32(out, tables.data_words)?;
-    put_u32(out, tables.base)?;
-    put_u64(out, tables.budget)?;
-    put_u32(out, tables.finish)?;
-    put_all(out, tables.version, &tables.lengths)?;
-    put_u32(out, tables.procedures.len() as u32)?;
-    put_u32(out, tables.labels.len() as u32)?;
-    put_u32(out, tables.pars.len() as u32)
+    out.u32(tables.code.len() as u32);
+    out.u32(tables.constants.len() as u32);
+    out.u32(tables.data_words);
+    out.u32(tables.base);
+    out.u64(tables.budget);
+    out.u32(tables.finish);
+}
+
+/// The numbers of rows that both versions have.
+fn put_counts(out: &mut Writer, tables: &Tables)
+    requires { Keeps (contents_of tables.now) }
+    ensures { Writes out.old (u32_bytes (length (contents_of tables.now).procedures) ++ u32_bytes (length (contents_of tables.now).labels)
+        ++ u32_bytes (length (contents_of tables.now).pars)) out.new }
+{
+    out.u32(tables.procedures.len() as u32);
+    out.u32(tables.labels.len() as u32);
+    out.u32(tables.pars.len() as u32);
+}
+
+/// What is before the code in both versions, after the magic.
+#[tactic(auto, unfolding(crate::specs::Spelling::header_bytes))]
+fn put_header(out: &mut Writer, tables: &Tables)
+    requires { Keeps (contents_of tables.now) }
+    ensures { Writes out.old (header_bytes (contents_of tables.now)) out.new }
+{
+    put_sizes(out, tables);
+    put_all(out, tables.version, &tables.lengths);
+    put_counts(out, tables);
 }
 
 /// The flag and the number of table rows, which version 1 doesn't have.
-fn put_extension(out: &mut Vec<u8>, tables: &Tables) -> Result<(), AllocError>
+fn put_extension(out: &mut Writer, tables: &Tables)
     requires { Keeps (contents_of tables.now) }
-    ensures { OnOk result (out.new.items ≡ out.old.items ++ flag_bytes tables.now.version tables.now.has_long_operations (length tables.now.table_rows.items)) }
+    ensures { Writes out.old (flag_bytes tables.now.version tables.now.has_long_operations (length tables.now.table_rows.items)) out.new }
 {
     match tables.version {
-        Version::One => Ok(()),
+        Version::One => {}
         Version::Two => {
-            put_u32(out, u32::from(tables.has_long_operations))?;
-            put_u32(out, tables.table_rows.len() as u32)
+            out.u32(u32::from(tables.has_long_operations));
+            out.u32(tables.table_rows.len() as u32);
         }
     }
 }
 
 /// The rows, which stand behind the code and the constants.
 #[tactic(auto, unfolding(crate::specs::Spelling::rows_bytes))]
-fn put_rows(out: &mut Vec<u8>, tables: &Tables) -> Result<(), AllocError>
+fn put_rows(out: &mut Writer, tables: &Tables)
     requires { Keeps (contents_of tables.now) }
-    ensures { OnOk result (out.new.items ≡ out.old.items ++ rows_bytes (contents_of tables.now)) }
+    ensures { Writes out.old (rows_bytes (contents_of tables.now)) out.new }
 {
-    put_all(out, tables.version, &tables.procedures)?;
-    put_all(out, tables.version, &tables.labels)?;
-    put_all(out, tables.version, &tables.pars)?;
-    put_all(out, tables.version, &tables.table_rows)
+    put_all(out, tables.version, &tables.procedures);
+    put_all(out, tables.version, &tables.labels);
+    put_all(out, tables.version, &tables.pars);
+    put_all(out, tables.version, &tables.table_rows);
 }
 
 /// The one file of tables that keep the format.
@@ -76,12 +95,12 @@ pub fn write(alloc: Global, tables: &Tables) -> Result<Vec<u8>, AllocError>
     requires { Keeps (contents_of tables.now) }
     ensures { IfOk result (λ bytes. bytes.items ≡ file_of (contents_of tables.now)) }
 {
-    let mut out = Vec::new(alloc);
-    put_magic(&mut out, tables.version)?;
-    put_header(&mut out, tables)?;
-    put_extension(&mut out, tables)?;
-    out.extend_from_slice(tables.code)?;
-    out.extend_from_slice(tables.constants)?;
-    put_rows(&mut out, tables)?;
-    Ok(out)
+    let mut out = Writer::new(alloc);
+    put_magic(&mut out, tables.version);
+    put_header(&mut out, tables);
+    put_extension(&mut out, tables);
+    out.slice(tables.code);
+    out.slice(tables.constants);
+    put_rows(&mut out, tables);
+    out.finish()
 }

@@ -15,7 +15,7 @@ use certificate::{Entry, Fact, ParameterKind, ProcedureRow, Step};
 use std::alloc::{AllocError, Global};
 
 /// What is known of a frame's words: what was written since the last label, over the row of that label.
-#[derive(Debug, Drop)]
+#[derive(Drop)]
 pub(crate) struct Frame<'a> {
     /// The word whose index is 0.
     pub(crate) lo: i32,

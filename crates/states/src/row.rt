@@ -79,7 +79,7 @@ pub(crate) fn row_fact(row: &[Entry], word: i64) -> WordFact
 }
 
 /// What a row says of the words from some word up to `end`, which is not included.
-#[derive(Clone, Copy, Debug)]
+#[derive(Clone, Copy)]
 pub(crate) struct Segment<'a> {
     /// The row without the entries that end before.
     pub row: &'a [Entry],

@@ -18,7 +18,7 @@ use std::alloc::{AllocError, Global};
 const MAX_GUARDS: usize = 64;
 
 /// What is known of a process at a place of its code. All that it needs is allocated when it is made.
-#[derive(Debug, Drop)]
+#[derive(Drop)]
 pub struct State<'a> {
     pub context: u32,
     /// The workspace in words of the frame.

@@ -103,7 +103,7 @@ fn headers(rt: HostRuntime) -> Result<(), Fail> {
         },
     ];
     for tables in &bad {
-        assert!(rt; !tables.keeps(), "{tables:?}");
+        assert!(rt; !tables.keeps());
     }
     Ok(())
 }
@@ -124,7 +124,7 @@ fn headers_again(rt: HostRuntime) -> Result<(), Fail> {
         },
     ];
     for tables in &good {
-        assert!(rt; tables.keeps(), "{tables:?}");
+        assert!(rt; tables.keeps());
     }
     Ok(())
 }

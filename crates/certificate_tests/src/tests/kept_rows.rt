@@ -191,12 +191,12 @@ fn kinds_of_parameters(rt: HostRuntime) -> Result<(), Fail> {
             })?;
             let mut tables = with_procedure(alloc, row)?;
             tables.version = version;
-            let want = if version == Version::One {
+            let want = if matches!(version, Version::One) {
                 *keeps
             } else {
                 *keeps_again
             };
-            assert_eq!(rt; tables.keeps(), want, "{kind:?} {version:?}");
+            assert_eq!(rt; tables.keeps(), want);
         }
     }
     Ok(())
@@ -220,7 +220,7 @@ fn sets_of_ends(rt: HostRuntime) -> Result<(), Fail> {
             kind: channels(1, 4, *ends),
         })?;
         let tables = with_procedure(alloc, row)?;
-        assert_eq!(rt; tables.keeps(), *keeps, "{ends:?}");
+        assert_eq!(rt; tables.keeps(), *keeps);
     }
     Ok(())
 }

@@ -322,7 +322,7 @@ fn channels(rt: &impl Abort, module: &Module) {
         assert_eq!(rt;
             module.has_end(context, end),
             has,
-            "{context} {kind:?} {direction:?}"
+            "{context} {direction:?}"
         );
     }
 }

@@ -39,7 +39,7 @@ use smallvec::SmallVec;
 use std::alloc::Global;
 
 /// How many intervals, parameters and ends a branch has.
-#[derive(Clone, Copy, Debug)]
+#[derive(Clone, Copy)]
 pub struct BranchCounts {
     pub writes: u16,
     pub reads: u16,

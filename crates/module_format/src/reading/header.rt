@@ -23,7 +23,7 @@ use crate::reading::fields::{at_most_at, fault, limited_at, limited_u64_at, posi
 use crate::tables::Version;
 
 /// The sizes and bounds at the header's front.
-#[derive(Clone, Copy, Debug)]
+#[derive(Clone, Copy)]
 pub struct Sizes {
     pub code_len: u32,
     pub const_len: u32,
@@ -101,7 +101,7 @@ fn lengths_at(size: usize, rest: &[u8]) -> Result<([u32; 8], &[u8]), ReadError>
 }
 
 /// The numbers of rows, and the flag of version 2.
-#[derive(Clone, Copy, Debug)]
+#[derive(Clone, Copy)]
 pub struct RowCounts {
     pub procedures: u32,
     pub labels: u32,
@@ -157,7 +157,7 @@ fn counts_at(size: usize, version: Version, rest: &[u8]) -> Result<(RowCounts, &
 }
 
 /// What stands before the code.
-#[derive(Clone, Copy, Debug)]
+#[derive(Clone, Copy)]
 pub struct Header {
     pub version: Version,
     pub sizes: Sizes,

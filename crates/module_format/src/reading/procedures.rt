@@ -68,7 +68,7 @@ fn region_size_at(size: usize, rest: &[u8]) -> Result<(u32, &[u8]), ReadError>
 }
 
 /// What a procedure may do with the bytes of a region.
-#[derive(Clone, Copy, Debug)]
+#[derive(Clone, Copy)]
 pub(crate) enum Access {
     Read,
     Write,

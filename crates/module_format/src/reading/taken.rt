@@ -7,7 +7,7 @@ ghost use Rattle.module_format.specs.Pars.{Marks};
 use std::alloc::{AllocError, Global};
 
 /// Code offsets in the order in which they were added, and a mark at each of them.
-#[derive(Debug, Drop)]
+#[derive(Drop)]
 pub(crate) struct Taken {
     entries: Vec<u32>,
     marks: Vec<bool>,

@@ -1,13 +1,13 @@
 //! Lists of rows and of their items.
 
-ghost use Rattle.std.specs.Prelude.{◌≡◌, ◌++◌, ⊤, List, ℕ, OnOk, map};
+ghost use Rattle.std.specs.Prelude.{⊤, List, ℕ, map};
 ghost use Rattle.std.specs.List.{flat_map, AllByRecursion};
 ghost use Rattle.module_format.specs.declared.tables.Version.{Version as Versions};
 ghost use Rattle.module_format.specs.Spelling.{u16_bytes, u32_bytes};
+ghost use Rattle.module_format.specs.Writable.{Writes};
 
 use crate::tables::Version;
-use crate::writing::fields::{put_u16, put_u32};
-use std::alloc::AllocError;
+use crate::writing::writer::Writer;
 
 /// What stands in a file as an item of a list.
 pub(crate) trait Row: Drop {
@@ -22,23 +22,18 @@ pub(crate) trait Row: Drop {
     /// The items that have a spelling.
     ghost Fits: { Value → Type 0 };
 
-    fn put(&self, version: Version, out: &mut Vec<u8>) -> Result<(), AllocError>
+    fn put(&self, version: Version, out: &mut Writer)
         requires { Fits (view self.now) }
-        ensures { OnOk result (out.new.items ≡ out.old.items ++ spelled version (view self.now)) };
+        ensures { Writes out.old (spelled version (view self.now)) out.new };
 }
 
-pub(crate) fn put_all<T: Row>(
-    out: &mut Vec<u8>,
-    version: Version,
-    items: &[T],
-) -> Result<(), AllocError>
+pub(crate) fn put_all<T: Row>(out: &mut Writer, version: Version, items: &[T])
     requires { AllByRecursion T.Fits (map T.view items.now) }
-    ensures { OnOk result (out.new.items ≡ out.old.items ++ flat_map (T.spelled version) (map T.view items.now)) }
+    ensures { Writes out.old (flat_map (T.spelled version) (map T.view items.now)) out.new }
 {
     for item in items {
-        item.put(version, out)?;
+        item.put(version, out);
     }
-    Ok(())
 }
 
 impl Row for u16 {
@@ -50,8 +45,8 @@ impl Row for u16 {
 
     ghost Fits = { λ _. ⊤ };
 
-    fn put(&self, _version: Version, out: &mut Vec<u8>) -> Result<(), AllocError> {
-        put_u16(out, *self)
+    fn put(&self, _version: Version, out: &mut Writer) {
+        out.u16(*self);
     }
 }
 
@@ -64,7 +59,7 @@ impl Row for u32 {
 
     ghost Fits = { λ _. ⊤ };
 
-    fn put(&self, _version: Version, out: &mut Vec<u8>) -> Result<(), AllocError> {
-        put_u32(out, *self)
+    fn put(&self, _version: Version, out: &mut Writer) {
+        out.u32(*self);
     }
 }
