@@ -1,0 +1,67 @@
+//! The statements of a text of cases.
+
+use std::alloc::{AllocError, Global};
+
+/// A word at the start of a line, what follows on the line, and the indented lines below it.
+#[derive(Clone, Copy)]
+pub(crate) struct Statement<'t> {
+    /// The number of its line, from 1 on.
+    pub(crate) line: usize,
+    pub(crate) word: &'t str,
+    pub(crate) rest: &'t str,
+    pub(crate) block: &'t [&'t str],
+}
+
+/// How each line of a block begins.
+const INDENT: &str = "  ";
+
+/// Whether a line has no statement.
+fn is_skipped(line: &str) -> bool {
+    line.is_empty() || line.starts_with('#') || line.starts_with(INDENT)
+}
+
+/// The indented lines with which these lines begin.
+fn block<'t>(lines: &'t [&'t str]) -> &'t [&'t str] {
+    let count = lines
+        .iter()
+        .position(|line| !line.starts_with(INDENT))
+        .unwrap_or(lines.len());
+    lines.get(..count).unwrap_or(lines)
+}
+
+/// The statement at a place of these lines, unless the line is blank, a comment, or within a block.
+pub(crate) fn statement_at<'t>(lines: &'t [&'t str], place: usize) -> Option<Statement<'t>> {
+    let line = *lines.get(place)?;
+    if is_skipped(line) {
+        return None;
+    }
+    let (word, rest) = line.split_once(' ').unwrap_or((line, ""));
+    Some(Statement {
+        line: place.saturating_add(1),
+        word,
+        rest,
+        block: block(lines.get(place..)?.get(1..)?),
+    })
+}
+
+/// A line of a block without its indentation.
+pub(crate) fn unindented<'t>(line: &'t str) -> &'t str {
+    line.strip_prefix(INDENT).unwrap_or(line)
+}
+
+/// Whether a text has these lines.
+pub(crate) fn has_lines(text: &str, block: &[&str]) -> bool {
+    let mut lines = block.iter();
+    for found in text.lines() {
+        match lines.next() {
+            Some(line) if unindented(line) == found => {}
+            _ => return false,
+        }
+    }
+    lines.next().is_none()
+}
+
+/// The lines of a text.
+pub(crate) fn lines_of(alloc: Global, text: &str) -> Result<Vec<&str>, AllocError> {
+    text.lines().collect(alloc)
+}
