@@ -141,8 +141,11 @@ fn events_of(alloc: Global, text: &str) -> Result<Vec<Event>, CaseError> {
 fn replay_text(alloc: Global, replay: &Replay) -> Result<String, AllocError> {
     let mut out = format!(in alloc; "{} {}", replay.executed, digit(replay.finished))?;
     for bytes in &replay.out {
-        let digits = hex::encode(alloc, bytes.as_slice())?;
-        write!(out, " out:{digits}")?;
+        if bytes.is_empty() {
+            write!(out, " -")?;
+        } else {
+            write!(out, " {}", hex::encode(alloc, bytes.as_slice())?)?;
+        }
     }
     Ok(out)
 }

@@ -123,14 +123,31 @@ fn resize(file: &mut Vec<u8>, size: &str) -> Result<(), CaseError> {
     Ok(())
 }
 
-/// Sets a number in a file: `AT:WIDTH=VALUE`, least significant byte first.
+/// Sets bytes of a file: a number, `AT:WIDTH=VALUE`, least significant byte first, or each byte of a range,
+/// `FROM..TO=BYTE`.
 fn set(file: &mut [u8], word: &str) -> Option<()> {
     let (place, value) = word.split_once('=')?;
+    match place.split_once("..") {
+        Some((from, to)) => fill(file, from, to, value.parse::<u8>().ok()?),
+        None => set_number(file, place, value.parse::<i64>().ok()?),
+    }
+}
+
+fn fill(file: &mut [u8], from: &str, to: &str, value: u8) -> Option<()> {
+    let range = from.parse::<usize>().ok()?..to.parse::<usize>().ok()?;
+    for byte in file.get_mut(range)? {
+        *byte = value;
+    }
+    Some(())
+}
+
+fn set_number(file: &mut [u8], place: &str, value: i64) -> Option<()> {
     let (at, width) = place.split_once(':')?;
-    let value = value.parse::<i64>().ok()?.to_le_bytes();
-    let bytes = value.get(..width.parse::<usize>().ok()?)?;
-    for (place, byte) in (at.parse::<usize>().ok()?..file.len()).zip(bytes) {
-        *file.get_mut(place)? = *byte;
+    let bytes = value.to_le_bytes();
+    let (_, rest) = file.split_at_mut_checked(at.parse::<usize>().ok()?)?;
+    let field = rest.get_mut(..width.parse::<usize>().ok()?)?;
+    for (byte, new) in field.iter_mut().zip(bytes) {
+        *byte = new;
     }
     Some(())
 }
