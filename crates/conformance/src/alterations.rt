@@ -1,7 +1,8 @@
 //! A file altered in many ways, and how many of the altered files are read.
 
-use certificate::{MAGIC, Module, TRUNCATED, write};
-use std::alloc::{AllocError, Global};
+use crate::answer::Answer;
+use certificate::{FormatFault, MAGIC, Module, TRUNCATED, write};
+use std::alloc::Global;
 
 /// How many files are read, valid and written back, how many have which fault, and the sum of the faults' offsets.
 #[derive(Clone, Copy)]
@@ -12,6 +13,16 @@ struct Sums {
     wrong: u64,
 }
 
+/// Whether what was read is valid and written back as its file.
+fn is_kept(alloc: Global, module: &Module, file: &[u8]) -> bool {
+    let tables = module.tables();
+    tables.keeps()
+        && match write(alloc, tables) {
+            Ok(written) => written.as_slice() == file,
+            Err(_) => false,
+        }
+}
+
 impl Sums {
     const NONE: Sums = Sums {
         numbers: [0; 7],
@@ -19,94 +30,109 @@ impl Sums {
         wrong: 0,
     };
 
-    /// Counts a file.
-    fn count(&mut self, alloc: Global, file: &[u8]) -> Result<(), AllocError> {
-        let number = match Module::read(alloc, file) {
-            Ok(module) => {
-                if !module.tables().keeps() || write(alloc, module.tables())?.as_slice() != file {
-                    self.wrong = self.wrong.wrapping_add(1);
-                }
-                0
-            }
-            Err(fault) => {
-                self.offsets = self.offsets.wrapping_add(fault.offset as u64);
-                fault.number
-            }
-        };
+    /// Counts a file by its fault, 0 where it has none.
+    fn add(&mut self, number: u8) {
         if let Some(count) = self.numbers.get_mut(usize::from(number)) {
             *count = count.wrapping_add(1);
         }
-        Ok(())
+    }
+
+    /// Counts a file.
+    fn count(&mut self, alloc: Global, file: &[u8]) {
+        match Module::read(alloc, file) {
+            Ok(module) => {
+                let is_wrong = !is_kept(alloc, &module, file);
+                self.wrong = self.wrong.wrapping_add(u64::from(is_wrong));
+                self.add(0);
+            }
+            Err(FormatFault { number, offset }) => {
+                self.offsets = self.offsets.wrapping_add(offset as u64);
+                self.add(number);
+            }
+        }
     }
 
     /// The numbers from none to C6, and the sum of the offsets.
-    fn text(self, alloc: Global) -> Result<String, AllocError> {
-        let [read, magic, cut, order, range, left, limit] = self.numbers;
-        let (offsets, wrong) = (self.offsets, self.wrong);
-        if wrong > 0 {
-            return format!(in alloc; "{wrong} not valid or written otherwise");
+    fn put(&self, out: &mut Answer) {
+        for number in self.numbers {
+            out.great(number);
+            out.put(" ");
         }
-        format!(in alloc; "{read} {magic} {cut} {order} {range} {left} {limit} at {offsets}")
+        out.put("at ");
+        out.great(self.offsets);
+        if self.wrong > 0 {
+            out.put(", not valid or written otherwise: ");
+            out.great(self.wrong);
+        }
     }
 }
 
-fn put(file: &mut [u8], at: usize, value: u8) {
+fn set(file: &mut [u8], at: usize, value: u8) {
     if let Some(byte) = file.get_mut(at) {
         *byte = value;
     }
 }
 
-/// Each byte from one place up to another set to each other value.
-pub(crate) fn altered_bytes(
-    alloc: Global,
-    file: &[u8],
-    from: u32,
-    to: u32,
-) -> Result<String, AllocError> {
-    let mut bytes = Vec::from_slice(alloc, file)?;
-    let mut sums = Sums::NONE;
-    for at in from as usize..to as usize {
-        let own = file.get(at).copied().unwrap_or(0);
-        for value in 0..=255 {
-            put(&mut bytes, at, value);
-            if value != own {
-                sums.count(alloc, &bytes)?;
-            }
+/// Counts a file with one byte set to each other value.
+fn alter_byte(alloc: Global, bytes: &mut [u8], at: usize, sums: &mut Sums) {
+    let own = bytes.get(at).copied().unwrap_or(0);
+    for value in 0..=255 {
+        if value != own {
+            set(bytes, at, value);
+            sums.count(alloc, bytes);
         }
-        put(&mut bytes, at, own);
     }
-    sums.text(alloc)
+    set(bytes, at, own);
 }
 
-/// Each bit altered.
-pub(crate) fn altered_bits(alloc: Global, file: &[u8]) -> Result<String, AllocError> {
-    let mut bytes = Vec::from_slice(alloc, file)?;
-    let mut sums = Sums::NONE;
-    for (at, own) in file.iter().enumerate() {
-        for bit in [1, 2, 4, 8, 16, 32, 64, 128] {
-            put(&mut bytes, at, own ^ bit);
-            sums.count(alloc, &bytes)?;
-        }
-        put(&mut bytes, at, *own);
+/// Counts a file with each bit of one byte altered.
+fn alter_bits(alloc: Global, bytes: &mut [u8], at: usize, sums: &mut Sums) {
+    let own = bytes.get(at).copied().unwrap_or(0);
+    for bit in [1, 2, 4, 8, 16, 32, 64, 128] {
+        set(bytes, at, own ^ bit);
+        sums.count(alloc, bytes);
     }
-    sums.text(alloc)
+    set(bytes, at, own);
 }
 
-/// How many of the shorter files that the file begins with are refused as cut: as another magic where that is cut,
-/// and else as cut at their length.
-pub(crate) fn cuts(alloc: Global, file: &[u8]) -> Result<String, AllocError> {
+/// Each byte from one place up to another set to each other value. The file is as before afterwards.
+pub(crate) fn altered_bytes(alloc: Global, file: &mut [u8], from: u32, to: u32, out: &mut Answer) {
+    let mut sums = Sums::NONE;
+    for at in from..to {
+        alter_byte(alloc, file, at as usize, &mut sums);
+    }
+    sums.put(out);
+}
+
+/// Each bit altered. The file is as before afterwards.
+pub(crate) fn altered_bits(alloc: Global, file: &mut [u8], out: &mut Answer) {
+    let mut sums = Sums::NONE;
+    for at in 0..file.len() {
+        alter_bits(alloc, file, at, &mut sums);
+    }
+    sums.put(out);
+}
+
+/// Whether a file is refused as cut: for its magic, where that is cut, and else at its length.
+fn is_cut(alloc: Global, file: &[u8]) -> bool {
+    let (number, offset) = if file.len() < 4 {
+        (MAGIC, 0)
+    } else {
+        (TRUNCATED, file.len())
+    };
+    match Module::read(alloc, file) {
+        Ok(_) => false,
+        Err(fault) => fault == FormatFault { number, offset },
+    }
+}
+
+/// How many of the shorter files that the file begins with are refused as cut.
+pub(crate) fn cuts(alloc: Global, file: &[u8], out: &mut Answer) {
     let mut count = 0u64;
     for len in 0..file.len() {
-        let (number, offset) = if len < 4 {
-            (MAGIC, 0)
-        } else {
-            (TRUNCATED, len)
-        };
-        let is_cut = match Module::read(alloc, file.get(..len).unwrap_or(file)) {
-            Ok(_) => false,
-            Err(fault) => fault.number == number && fault.offset == offset,
-        };
-        count = count.wrapping_add(u64::from(is_cut));
+        if is_cut(alloc, file.get(..len).unwrap_or(file)) {
+            count = count.wrapping_add(1);
+        }
     }
-    format!(in alloc; "{count}")
+    out.great(count);
 }

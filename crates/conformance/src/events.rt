@@ -6,66 +6,38 @@ use machine_state::{Effect, Event, Link};
 pub(crate) const LINKS: [Link; 4] = [Link::Zero, Link::One, Link::Two, Link::Three];
 
 fn link(word: &str) -> Option<Link> {
-    LINKS.get(word.parse::<usize>().ok()?).copied()
+    match word {
+        "0" => Some(Link::Zero),
+        "1" => Some(Link::One),
+        "2" => Some(Link::Two),
+        "3" => Some(Link::Three),
+        _ => None,
+    }
 }
 
 /// `sSLICE,PICK` is a Step, `aLINK,BYTE` an arrival, and `kLINK` an acknowledgement.
 pub(crate) fn event(word: &str) -> Option<Event> {
     let (kind, rest) = word.split_at_checked(1)?;
+    let (first, second) = rest.split_once(',').unwrap_or((rest, ""));
     match kind {
-        "s" => {
-            let (slice, pick) = rest.split_once(',')?;
-            Some(Event::Step {
-                slice: slice == "1",
-                pick: pick.parse::<u64>().ok()?,
-            })
-        }
-        "a" => {
-            let (number, byte) = rest.split_once(',')?;
-            Some(Event::Arrive {
-                link: link(number)?,
-                byte: u8::from_str_radix(byte, 16).ok()?,
-            })
-        }
-        "k" => Some(Event::Acknowledge { link: link(rest)? }),
+        "s" => step(first, second),
+        "a" => arrival(link(first)?, second),
+        "k" => Some(Event::Acknowledge { link: link(first)? }),
         _ => None,
     }
 }
 
-/// Whether hexadecimal digits spell these bytes.
-fn spells(digits: &str, bytes: &[u8]) -> bool {
-    let digits = digits.as_bytes();
-    digits.len() / 2 == bytes.len()
-        && digits
-            .chunks(2)
-            .zip(bytes)
-            .all(|(pair, byte)| two_digits(pair) == Some(*byte))
+fn step(slice: &str, pick: &str) -> Option<Event> {
+    let pick = pick.parse::<u64>().ok()?;
+    Some(Event::Step {
+        slice: slice == "1",
+        pick,
+    })
 }
 
-fn two_digits(pair: &[u8]) -> Option<u8> {
-    let text = str::from_utf8(pair).ok()?;
-    u8::from_str_radix(text, 16).ok()
-}
-
-/// Whether a word names this effect. A message is `ELINK,BYTES`.
-pub(crate) fn names_effect(word: &str, effect: Effect) -> bool {
-    match effect {
-        Effect::Ran => word == "R",
-        Effect::Idle => word == "I",
-        Effect::Taken => word == "T",
-        Effect::Kept => word == "K",
-        Effect::Busy => word == "B",
-        Effect::Acknowledged => word == "A",
-        Effect::Ignored => word == "G",
-        Effect::Emitted { link, bytes } => names_message(word, link, bytes),
-    }
-}
-
-fn names_message(word: &str, sent: Link, bytes: &[u8]) -> bool {
-    let Some((number, digits)) = word.strip_prefix('E').and_then(|rest| rest.split_once(',')) else {
-        return false;
-    };
-    link(number) == Some(sent) && spells(digits, bytes)
+fn arrival(link: Link, digits: &str) -> Option<Event> {
+    let byte = u8::from_str_radix(digits, 16).ok()?;
+    Some(Event::Arrive { link, byte })
 }
 
 /// The letter of an effect.
@@ -80,4 +52,32 @@ pub(crate) fn letter(effect: Effect) -> &'static str {
         Effect::Acknowledged => "A",
         Effect::Ignored => "G",
     }
+}
+
+/// Whether a word names this effect. A message is `ELINK,BYTES`.
+pub(crate) fn names_effect(word: &str, effect: Effect) -> bool {
+    match effect {
+        Effect::Emitted { link, bytes } => names_message(word, link, bytes),
+        other => word == letter(other),
+    }
+}
+
+fn names_message(word: &str, sent: Link, bytes: &[u8]) -> bool {
+    let (head, digits) = word.split_once(',').unwrap_or((word, ""));
+    match head.strip_prefix('E') {
+        Some(number) => link(number) == Some(sent) && spells(digits, bytes),
+        None => false,
+    }
+}
+
+/// Whether hexadecimal digits spell these bytes.
+fn spells(digits: &str, bytes: &[u8]) -> bool {
+    let mut rest = digits;
+    for byte in bytes {
+        match rest.split_at_checked(2) {
+            Some((pair, others)) if u8::from_str_radix(pair, 16) == Ok(*byte) => rest = others,
+            _ => return false,
+        }
+    }
+    rest.is_empty()
 }

@@ -5,6 +5,8 @@
 #![tactic(auto)]
 
 mod alterations;
+mod answer;
+mod edits;
 mod events;
 mod lookups;
 mod modules;
@@ -15,6 +17,7 @@ mod running;
 mod setting;
 mod sources;
 mod statements;
+mod tokens;
 mod trees;
 mod words;
 

@@ -1,40 +1,37 @@
 //! What reading a file and the verdict answer.
 
-use crate::outcome::{CaseError, Outcome, judged};
+use crate::answer::Answer;
+use crate::outcome::{Outcome, judged};
 use crate::words::Words;
 use certificate::{FormatFault, Module, write};
 use facts::has_rule;
 use prefix_decoder::fetch;
 use states::SPELLING;
-use std::alloc::{AllocError, Global};
+use std::alloc::Global;
 use verifier::{Refusal, verify};
 
 /// A fault of a file as a case says it.
-pub(crate) fn fault_text(alloc: Global, fault: FormatFault) -> Result<String, AllocError> {
-    format!(in alloc; "C{} {}", fault.number, fault.offset)
+pub(crate) fn put_fault(fault: FormatFault, out: &mut Answer) {
+    out.fault("C", fault.number, fault.offset as u64);
 }
 
 /// `ok` where the file is read, valid and written back byte for byte, or else the fault.
-pub(crate) fn read(alloc: Global, file: &[u8]) -> Result<String, AllocError> {
+pub(crate) fn read(alloc: Global, file: &[u8], out: &mut Answer) {
     match Module::read(alloc, file) {
-        Ok(module) => {
-            let text = what_is_read(alloc, &module, file)?;
-            text.to_string(alloc)
-        }
-        Err(fault) => fault_text(alloc, fault),
+        Ok(module) => out.put(validity(alloc, &module, file)),
+        Err(fault) => put_fault(fault, out),
     }
 }
 
-fn what_is_read(alloc: Global, module: &Module, file: &[u8]) -> Result<&'static str, AllocError> {
+fn validity(alloc: Global, module: &Module, file: &[u8]) -> &'static str {
     if !module.tables().keeps() {
-        return Ok("not valid");
+        return "not valid";
     }
-    let written = write(alloc, module.tables())?;
-    Ok(if written.as_slice() == file {
-        "ok"
-    } else {
-        "written otherwise"
-    })
+    match write(alloc, module.tables()) {
+        Ok(written) if written.as_slice() == file => "ok",
+        Ok(_) => "written otherwise",
+        Err(_) => "out of memory",
+    }
 }
 
 /// Whether an instruction at a code offset has no rule.
@@ -54,38 +51,40 @@ struct Expected<'t> {
 }
 
 impl<'t> Expected<'t> {
-    fn of(expected: &'t str) -> Self {
-        let (first, others) = expected.split_once(" also ").unwrap_or((expected, ""));
+    fn of(text: &'t str) -> Self {
+        let (first, others) = text.split_once(" also ").unwrap_or((text, ""));
         Expected { first, others }
     }
 
     /// The offset at which it is refused, unless it is accepted.
     fn offset(self) -> Option<u32> {
-        let (rule, offset) = self.first.split_once(' ')?;
-        if rule == "ok" {
-            return None;
+        let (_rule, offset) = self.first.split_once(' ')?;
+        if self.first.starts_with('V') {
+            offset.parse::<u32>().ok()
+        } else {
+            None
         }
-        offset.parse::<u32>().ok()
     }
 
     /// Whether this rule is one of the others that are broken at this offset.
     fn lists(self, refusal: Refusal) -> bool {
+        self.offset() == Some(refusal.offset) && self.names(refusal.number)
+    }
+
+    fn names(self, number: u8) -> bool {
         let mut words = Words::of(self.others);
         for _ in 0..u64::MAX {
-            let Some(word) = words.next() else {
-                break;
-            };
-            let number = word
-                .strip_prefix('V')
-                .and_then(|digits| digits.parse::<u8>().ok());
-            if number == Some(refusal.number) {
-                return self.offset() == Some(refusal.offset);
+            match words.next() {
+                Some(word) if is_rule(word, number) => return true,
+                Some(_) => {}
+                None => break,
             }
         }
         false
     }
 
-    /// Whether it is refused for an instruction without a rule, before the offset where it should be refused.
+    /// Whether the refusal is that of an instruction without a rule, at or before the offset where the module should be
+    /// refused.
     fn is_pending(self, module: &Module, refusal: Refusal) -> bool {
         let is_before = match self.offset() {
             Some(offset) => refusal.offset <= offset,
@@ -93,26 +92,42 @@ impl<'t> Expected<'t> {
         };
         is_before && refusal.number == SPELLING && is_unruled(module, refusal.offset)
     }
+
+    /// What comes of a refusal whose rule and offset are not the first ones.
+    fn judge(self, module: &Module, refusal: Refusal) -> Outcome {
+        if self.lists(refusal) {
+            return Outcome::Held;
+        }
+        if self.is_pending(module, refusal) {
+            return Outcome::Pending;
+        }
+        Outcome::Differs
+    }
+}
+
+/// Whether a word is the name of this rule.
+fn is_rule(word: &str, number: u8) -> bool {
+    match word.strip_prefix('V') {
+        Some(digits) => digits.parse::<u8>() == Ok(number),
+        None => false,
+    }
 }
 
 /// The verdict on a module.
-pub(crate) fn verdict(
-    alloc: Global,
-    module: &Module,
-    expected: &str,
-) -> Result<Outcome, CaseError> {
-    let wanted = Expected::of(expected);
-    let refusal = match verify(alloc, module) {
+pub(crate) fn verdict(alloc: Global, module: &Module, text: &str, out: &mut Answer) -> Outcome {
+    let expected = Expected::of(text);
+    match verify(alloc, module) {
         Ok(verified) => {
-            let budget = verified.module().tables().budget;
-            return Ok(judged(format!(in alloc; "ok {budget}")?, expected));
+            out.put("ok ");
+            out.great(verified.module().tables().budget);
+            judged(out, text)
         }
-        Err(refusal) => refusal,
-    };
-    let answer = format!(in alloc; "V{} {}", refusal.number, refusal.offset)?;
-    Ok(match judged(answer, wanted.first) {
-        Outcome::Differs(_) if wanted.lists(refusal) => Outcome::Held,
-        Outcome::Differs(_) if wanted.is_pending(module, refusal) => Outcome::Pending,
-        outcome => outcome,
-    })
+        Err(refusal) => {
+            out.fault("V", refusal.number, u64::from(refusal.offset));
+            match judged(out, expected.first) {
+                Outcome::Held => Outcome::Held,
+                _ => expected.judge(module, refusal),
+            }
+        }
+    }
 }

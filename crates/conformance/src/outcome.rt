@@ -1,43 +1,44 @@
-//! What comes of a case.
+//! What comes of a statement.
 
-use std::alloc::{AllocError, AllocFailed};
+use crate::answer::Answer;
 
-/// What comes of a question.
-#[derive(Drop)]
+/// What comes of a statement.
+#[derive(Clone, Copy, Debug, PartialEq, Eq)]
 pub(crate) enum Outcome {
+    /// It asks nothing.
+    Set,
     /// The answer is the expected one.
     Held,
-    /// The answer agrees with the expected one up to an instruction that has no rule and no step yet.
+    /// The answer agrees with the expected one up to an instruction that has no rule or no step yet.
     Pending,
     /// The answer is another one.
-    Differs(String),
-}
-
-/// Why a case has no outcome.
-#[derive(Clone, Copy)]
-pub(crate) enum CaseError {
+    Differs,
     /// The statement cannot be read.
     Unreadable,
-    Memory,
+    OutOfMemory,
 }
 
-impl From<AllocError> for CaseError {
-    fn from(_error: AllocError) -> CaseError {
-        CaseError::Memory
+impl Outcome {
+    /// What comes of a question whose answer is the expected one, or is not.
+    pub(crate) fn of(is_expected: bool) -> Self {
+        if is_expected {
+            Outcome::Held
+        } else {
+            Outcome::Differs
+        }
     }
-}
 
-impl<T: Drop> From<AllocFailed<T>> for CaseError {
-    fn from(_error: AllocFailed<T>) -> CaseError {
-        CaseError::Memory
+    /// What comes of a statement that asks nothing and can be read, or cannot.
+    pub(crate) fn set(is_read: bool) -> Self {
+        if is_read {
+            Outcome::Set
+        } else {
+            Outcome::Unreadable
+        }
     }
 }
 
 /// Compares an answer with the expected one.
-pub(crate) fn judged(answer: String, expected: &str) -> Outcome {
-    if answer.as_str() == expected {
-        Outcome::Held
-    } else {
-        Outcome::Differs(answer)
-    }
+pub(crate) fn judged(answer: &Answer, expected: &str) -> Outcome {
+    Outcome::of(answer.as_str() == expected)
 }

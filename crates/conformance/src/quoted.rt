@@ -1,11 +1,12 @@
 //! Texts in quotes.
 
-use crate::outcome::CaseError;
-
 /// The value of a hexadecimal digit.
 fn digit(byte: u8) -> Option<u8> {
-    let value = char::from(byte).to_digit(16)?;
-    u8::try_from(value).ok()
+    match byte {
+        b'0'..=b'9' => Some(byte - b'0'),
+        b'a'..=b'f' => Some(byte - b'a' + 10),
+        _ => None,
+    }
 }
 
 /// The first character of a text in quotes, and how many bytes it takes: `\n` is a line feed, `\\` a backslash, and
@@ -20,19 +21,16 @@ fn character(text: &[u8]) -> Option<(u8, usize)> {
     }
 }
 
-/// Appends the text between the first and the last quote of a line.
-pub(crate) fn append_quoted(out: &mut Vec<u8>, line: &str) -> Result<(), CaseError> {
-    let text = line
-        .strip_prefix('"')
-        .and_then(|text| text.strip_suffix('"'));
-    let mut rest = text.ok_or(CaseError::Unreadable)?.as_bytes();
+/// Appends the text between the first and the last quote of a line, unless it cannot be read or memory runs out.
+pub(crate) fn append_quoted(out: &mut Vec<u8>, line: &str) -> Option<()> {
+    let mut rest = line.strip_prefix('"')?.strip_suffix('"')?.as_bytes();
     for _ in 0..rest.len() {
         if rest.is_empty() {
             break;
         }
-        let (byte, taken) = character(rest).ok_or(CaseError::Unreadable)?;
-        out.push(byte)?;
-        rest = rest.get(taken..).unwrap_or(&[]);
+        let (byte, taken) = character(rest)?;
+        out.push(byte).ok()?;
+        rest = rest.get(taken..)?;
     }
-    Ok(())
+    Some(())
 }

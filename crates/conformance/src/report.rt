@@ -1,13 +1,14 @@
 //! Runs cases, prints those that differ, and counts them all.
 
 use crate::alterations::{altered_bits, altered_bytes, cuts};
-use crate::lookups::{look_up, looked_up};
-use crate::modules::{fault_text, read, verdict};
-use crate::outcome::{CaseError, Outcome, judged};
+use crate::answer::Answer;
+use crate::lookups::{answer, look_up};
+use crate::modules::{put_fault, read, verdict};
+use crate::outcome::{Outcome, judged};
 use crate::running::{replayed, run};
 use crate::setting::Setting;
 use crate::sources::{layout, program};
-use crate::statements::{Statement, lines_of, statement_at};
+use crate::statements::{Statement, first_statement, lines_of};
 use crate::words::Words;
 use certificate::Module;
 use std::alloc::Global;
@@ -34,62 +35,98 @@ impl Counts {
     pub(crate) fn is_clean(self) -> bool {
         self.differing == 0 && self.unreadable == 0
     }
+
+    fn add(&mut self, outcome: Outcome) {
+        let count = match outcome {
+            Outcome::Held => &mut self.held,
+            Outcome::Pending => &mut self.pending,
+            Outcome::Differs => &mut self.differing,
+            Outcome::Unreadable => &mut self.unreadable,
+            Outcome::Set | Outcome::OutOfMemory => return,
+        };
+        *count = count.saturating_add(1);
+    }
+}
+
+/// A look-up: `NAME ARGUMENTS = ANSWER`.
+fn ask_look_up(module: &Module, name: &str, rest: &str, out: &mut Answer) -> Outcome {
+    let (arguments, expected) = rest.split_once(" = ").unwrap_or((rest, ""));
+    match look_up(name, arguments) {
+        Some(asked) => {
+            answer(module, asked, out);
+            judged(out, expected)
+        }
+        None => Outcome::Unreadable,
+    }
 }
 
 /// What is asked of a module.
 fn ask_module(
     alloc: Global,
     setting: &Setting,
-    statement: Statement,
-) -> Result<Outcome, CaseError> {
-    let module = match Module::read(alloc, &setting.file) {
-        Ok(module) => module,
-        Err(fault) => return Ok(Outcome::Differs(fault_text(alloc, fault)?)),
-    };
-    match statement.word {
-        "verify" => verdict(alloc, &module, statement.rest),
-        "then" => run(alloc, &module, setting, statement.rest),
-        "replay" => replayed(alloc, &module, setting.events, statement.rest),
-        _ => {
-            let (arguments, expected) = statement
-                .rest
-                .split_once(" = ")
-                .ok_or(CaseError::Unreadable)?;
-            let asked = look_up(statement.word, arguments).ok_or(CaseError::Unreadable)?;
-            Ok(judged(looked_up(alloc, &module, asked)?, expected))
+    word: &str,
+    rest: &str,
+    out: &mut Answer,
+) -> Outcome {
+    match Module::read(alloc, &setting.file) {
+        Ok(module) => match word {
+            "verify" => verdict(alloc, &module, rest, out),
+            "then" => run(alloc, &module, setting, rest, out),
+            "replay" => replayed(alloc, &module, setting.events, rest, out),
+            _ => ask_look_up(&module, word, rest, out),
+        },
+        Err(fault) => {
+            put_fault(fault, out);
+            Outcome::Differs
         }
     }
 }
 
-/// The files with a byte altered: `bytes FROM TO = SUMS`.
-fn ask_bytes(alloc: Global, file: &[u8], rest: &str) -> Result<Outcome, CaseError> {
-    let (range, expected) = rest.split_once(" = ").ok_or(CaseError::Unreadable)?;
+/// The files with a byte altered: `FROM TO = SUMS`.
+fn ask_bytes(alloc: Global, file: &mut [u8], rest: &str, out: &mut Answer) -> Outcome {
+    let (range, expected) = rest.split_once(" = ").unwrap_or((rest, ""));
     let mut words = Words::of(range);
-    let from = words.number().ok_or(CaseError::Unreadable)?;
-    let to = words.number().ok_or(CaseError::Unreadable)?;
-    Ok(judged(altered_bytes(alloc, file, from, to)?, expected))
+    let (from, to) = (words.number(), words.number());
+    altered_bytes(alloc, file, from, to, out);
+    if words.is_right() {
+        judged(out, expected)
+    } else {
+        Outcome::Unreadable
+    }
 }
 
-/// What comes of a statement: nothing where it asks nothing.
-fn ask<'t>(
+/// What is asked of a file or a source, and else of a module.
+fn ask(alloc: Global, setting: &mut Setting, statement: Statement, out: &mut Answer) -> Outcome {
+    let (word, rest) = (statement.word, statement.rest);
+    match word {
+        "read" => read(alloc, &setting.file, out),
+        "cuts" => cuts(alloc, &setting.file, out),
+        "bits" => altered_bits(alloc, &mut setting.file, out),
+        "bytes" => return ask_bytes(alloc, &mut setting.file, rest, out),
+        "lines" => return layout(alloc, &setting.source, statement, out),
+        "parse" => return program(alloc, &setting.source, statement, out),
+        _ => return ask_module(alloc, setting, word, rest, out),
+    }
+    judged(out, rest)
+}
+
+/// What comes of a statement.
+fn perform<'t>(
     alloc: Global,
     setting: &mut Setting<'t>,
-    statement: Statement<'t>,
-) -> Result<Option<Outcome>, CaseError> {
-    if setting.take(statement)? {
-        return Ok(None);
-    }
-    let rest = statement.rest;
-    let outcome = match statement.word {
-        "read" => judged(read(alloc, &setting.file)?, rest),
-        "cuts" => judged(cuts(alloc, &setting.file)?, rest),
-        "bits" => judged(altered_bits(alloc, &setting.file)?, rest),
-        "bytes" => ask_bytes(alloc, &setting.file, rest)?,
-        "lines" => layout(alloc, &setting.source, statement)?,
-        "parse" => program(alloc, setting, statement)?,
-        _ => ask_module(alloc, setting, statement)?,
+    statement: Statement<'_, 't>,
+    out: &mut Answer,
+) -> Outcome {
+    out.clear();
+    let outcome = match setting.take(statement) {
+        Some(outcome) => outcome,
+        None => ask(alloc, setting, statement, out),
     };
-    Ok(Some(outcome))
+    if out.is_out_of_memory() {
+        Outcome::OutOfMemory
+    } else {
+        outcome
+    }
 }
 
 /// Prints a case that differs.
@@ -112,32 +149,43 @@ fn print_difference(
     println!(rt; "but the answer is: {answer}")
 }
 
-/// Counts what came of a case, and prints it where it is not the expected answer.
+/// Prints what came of a case, where it is not the expected answer.
 fn report(
     rt: &impl Print,
     name: &str,
     statement: Statement,
-    outcome: Result<Option<Outcome>, CaseError>,
-    counts: &mut Counts,
+    outcome: Outcome,
+    out: &Answer,
 ) -> io::Result<()> {
     match outcome {
-        Ok(None) => {}
-        Ok(Some(Outcome::Held)) => counts.held = counts.held.saturating_add(1),
-        Ok(Some(Outcome::Pending)) => counts.pending = counts.pending.saturating_add(1),
-        Ok(Some(Outcome::Differs(answer))) => {
-            counts.differing = counts.differing.saturating_add(1);
-            print_difference(rt, name, statement, answer.as_str())?;
+        Outcome::Differs => print_difference(rt, name, statement, out.as_str()),
+        Outcome::Unreadable => println!(rt; "{name}:{}: cannot be read", statement.line),
+        Outcome::OutOfMemory => Err(io::ErrorKind::OutOfMemory.into()),
+        Outcome::Set | Outcome::Held | Outcome::Pending => Ok(()),
+    }
+}
+
+/// Runs the cases of these lines of a file of cases.
+fn run_lines(
+    rt: &(impl Print + AllocGlobal),
+    name: &str,
+    lines: &[&str],
+    counts: &mut Counts,
+) -> io::Result<()> {
+    let alloc = rt.alloc();
+    let mut setting = Setting::new(alloc);
+    let mut out = Answer::new(alloc);
+    for place in 0..lines.len() {
+        if let Some(statement) = first_statement(&lines[place..], place + 1) {
+            let outcome = perform(alloc, &mut setting, statement, &mut out);
+            counts.add(outcome);
+            report(rt, name, statement, outcome, &out)?;
         }
-        Err(CaseError::Unreadable) => {
-            counts.unreadable = counts.unreadable.saturating_add(1);
-            println!(rt; "{name}:{}: cannot be read", statement.line)?;
-        }
-        Err(CaseError::Memory) => return Err(io::ErrorKind::OutOfMemory.into()),
     }
     Ok(())
 }
 
-/// Runs the cases of a text, whose name is told with each that differs.
+/// Runs the cases of a text. Its name is printed with each that differs.
 pub(crate) fn run_cases(
     rt: &(impl Print + AllocGlobal),
     name: &str,
@@ -145,14 +193,7 @@ pub(crate) fn run_cases(
     counts: &mut Counts,
 ) -> io::Result<()> {
     let lines = lines_of(rt.alloc(), text)?;
-    let mut setting = Setting::new(rt.alloc());
-    for place in 0..lines.len() {
-        if let Some(statement) = statement_at(&lines, place) {
-            let outcome = ask(rt.alloc(), &mut setting, statement);
-            report(rt, name, statement, outcome, counts)?;
-        }
-    }
-    Ok(())
+    run_lines(rt, name, &lines, counts)
 }
 
 /// Prints the counts as one line.

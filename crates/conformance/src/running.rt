@@ -1,104 +1,101 @@
 //! What machines answer.
 
+use crate::answer::Answer;
 use crate::events::{LINKS, event, letter, names_effect};
 use crate::modules::is_unruled;
-use crate::outcome::{CaseError, Outcome, judged};
+use crate::outcome::{Outcome, judged};
 use crate::setting::Setting;
 use crate::words::Words;
 use certificate::Module;
 use machine::{Checked, Replay, Stop, replay};
 use machine_state::{Event, Fault, UNKNOWN_OPERATION};
-use std::alloc::{AllocError, Global};
-use std::fmt::Write;
+use std::alloc::Global;
 use verifier::verify;
 
-/// How a run went.
+/// How a run went so far.
 #[derive(Clone, Copy)]
 struct Course {
-    /// The first event whose effect is another than the expected one, from 1 on, and the letter of its effect.
-    differs: Option<(u64, &'static str)>,
+    /// What the last event did, if that is not what the word for it says.
+    differing: Option<&'static str>,
     fault: Option<Fault>,
+    outcome: Outcome,
 }
 
-/// One event: the letter of what it did, if that is not what the word says.
-fn one_event(
-    machine: &mut Checked,
-    event: Event,
-    expected: &str,
-    course: &mut Course,
-) -> Result<Option<&'static str>, CaseError> {
+/// Lets an event happen, and compares what it did with a word.
+fn one_event(machine: &mut Checked, event: Event, expected: &str, course: &mut Course) {
     match machine.apply(event) {
-        Ok(effect) if names_effect(expected, effect) => Ok(None),
-        Ok(effect) => Ok(Some(letter(effect))),
+        Ok(effect) if names_effect(expected, effect) => {}
+        Ok(effect) => course.differing = Some(letter(effect)),
         Err(Stop::Fault(fault)) => {
-            let is_repeated = course.fault.is_none() || course.fault == Some(fault);
+            let is_another = course.fault.is_some() && course.fault != Some(fault);
             course.fault = Some(fault);
-            Ok((expected != "F" || !is_repeated).then_some("F"))
+            if expected != "F" || is_another {
+                course.differing = Some("F");
+            }
         }
-        Err(Stop::Memory) => Err(CaseError::Memory),
+        Err(Stop::Memory) => course.outcome = Outcome::OutOfMemory,
     }
 }
 
-/// Lets the events happen up to the first whose effect is another than the expected one.
-fn all_events(machine: &mut Checked, setting: &Setting) -> Result<Course, CaseError> {
+/// Lets the events happen up to the first that does not do what is expected.
+fn all_events(machine: &mut Checked, setting: &Setting) -> Course {
     let mut course = Course {
-        differs: None,
+        differing: None,
         fault: None,
+        outcome: Outcome::Held,
     };
     let mut events = Words::of(setting.events);
     let mut effects = Words::of(setting.effects);
-    for number in 1..u64::MAX {
+    for _ in 0..u64::MAX {
         let Some(word) = events.next() else {
             break;
         };
-        let event = event(word).ok_or(CaseError::Unreadable)?;
-        let expected = effects.next().unwrap_or("nothing");
-        if let Some(letter) = one_event(machine, event, expected, &mut course)? {
-            course.differs = Some((number, letter));
+        match event(word) {
+            Some(event) => one_event(machine, event, effects.word(), &mut course),
+            None => course.outcome = Outcome::Unreadable,
+        }
+        if course.differing.is_some() || course.outcome != Outcome::Held {
             break;
         }
     }
-    Ok(course)
+    course
 }
 
 /// The fault as a case says it.
-fn fault_text(alloc: Global, fault: Option<Fault>) -> Result<String, AllocError> {
-    match fault {
-        Some(
-            Fault {
-                number,
-                process,
-                offset,
-            },
-        ) => format!(in alloc; "F{number} {process} {offset}"),
-        None => Ok(String::new(alloc)),
+fn put_fault(fault: Option<Fault>, out: &mut Answer) {
+    if let Some(fault) = fault {
+        out.fault("F", fault.number, fault.process);
+        out.put(" ");
+        out.number(i64::from(fault.offset));
     }
-}
-
-fn digit(answer: bool) -> u8 {
-    u8::from(answer)
 }
 
 /// What the four questions answer.
-fn questions(alloc: Global, machine: &Checked) -> Result<String, AllocError> {
-    let mut out = format!(in alloc;
-        "{} {} {} ",
-        machine.executed(),
-        digit(machine.finished()),
-        digit(machine.running())
-    )?;
+fn put_questions(machine: &Checked, out: &mut Answer) {
+    out.great(machine.executed());
+    out.put(" ");
+    out.digit(machine.finished());
+    out.put(" ");
+    out.digit(machine.running());
+    out.put(" ");
     for link in LINKS {
-        write!(out, "{}", digit(machine.wants(link)))?;
+        out.digit(machine.wants(link));
     }
-    Ok(out)
 }
 
-/// Whether a run stopped at an instruction without a step, where it should not have.
+/// Whether a run stopped at an instruction without a step.
 fn is_pending(module: &Module, fault: Option<Fault>) -> bool {
     match fault {
         Some(fault) => fault.number == UNKNOWN_OPERATION && is_unruled(module, fault.offset),
         None => false,
     }
+}
+
+/// What comes of a run that ended: its fault, and what the four questions answer.
+fn judge_end(machine: &Checked, expected: &str, out: &mut Answer) -> Outcome {
+    out.clear();
+    put_questions(machine, out);
+    judged(out, expected)
 }
 
 /// The events of a run, with what each does, and what the four questions answer afterwards.
@@ -107,47 +104,57 @@ pub(crate) fn run(
     module: &Module,
     setting: &Setting,
     expected: &str,
-) -> Result<Outcome, CaseError> {
-    let mut machine = Checked::load(alloc, module)?;
-    let course = all_events(&mut machine, setting)?;
-    let fault = fault_text(alloc, course.fault)?;
-    if fault.as_str() != setting.fault && is_pending(module, course.fault) {
-        return Ok(Outcome::Pending);
+    out: &mut Answer,
+) -> Outcome {
+    let Ok(mut machine) = Checked::load(alloc, module) else {
+        return Outcome::OutOfMemory;
+    };
+    let course = all_events(&mut machine, setting);
+    put_fault(course.fault, out);
+    if course.outcome != Outcome::Held {
+        return course.outcome;
     }
-    if let Some((number, letter)) = course.differs {
-        let answer = format!(in alloc; "event {number} is {letter} {fault}")?;
-        return Ok(Outcome::Differs(answer));
+    if out.as_str() != setting.fault {
+        return if is_pending(module, course.fault) {
+            Outcome::Pending
+        } else {
+            Outcome::Differs
+        };
     }
-    if fault.as_str() != setting.fault {
-        return Ok(Outcome::Differs(fault));
+    match course.differing {
+        Some(letter) => {
+            out.put(letter);
+            out.put(" in place of what an event should do");
+            Outcome::Differs
+        }
+        None => judge_end(&machine, expected, out),
     }
-    Ok(judged(questions(alloc, &machine)?, expected))
 }
 
-/// The events of a run.
-fn events_of(alloc: Global, text: &str) -> Result<Vec<Event>, CaseError> {
+/// The events of a run, unless one cannot be read or memory runs out.
+fn events_of(alloc: Global, text: &str) -> Option<Vec<Event>> {
     let mut words = Words::of(text);
     let mut events = Vec::new(alloc);
     for _ in 0..u64::MAX {
         let Some(word) = words.next() else {
             break;
         };
-        events.push(event(word).ok_or(CaseError::Unreadable)?)?;
+        events.push(event(word)?).ok()?;
     }
-    Ok(events)
+    Some(events)
 }
 
 /// The bytes executed, whether the module is finished, and what went out on each link.
-fn replay_text(alloc: Global, replay: &Replay) -> Result<String, AllocError> {
-    let mut out = format!(in alloc; "{} {}", replay.executed, digit(replay.finished))?;
+fn put_replay(replay: &Replay, out: &mut Answer) {
+    out.great(replay.executed);
+    out.put(" ");
+    out.digit(replay.finished);
     for bytes in &replay.out {
-        if bytes.is_empty() {
-            write!(out, " -")?;
-        } else {
-            write!(out, " {}", hex::encode(alloc, bytes.as_slice())?)?;
+        out.put(if bytes.is_empty() { " -" } else { " " });
+        for byte in bytes {
+            out.hexadecimal(*byte);
         }
     }
-    Ok(out)
 }
 
 /// What `replay` answers to the events of a run, where the module is accepted.
@@ -156,11 +163,17 @@ pub(crate) fn replayed(
     module: &Module,
     events: &str,
     expected: &str,
-) -> Result<Outcome, CaseError> {
-    let events = events_of(alloc, events)?;
-    let answer = match verify(alloc, module) {
-        Ok(verified) => replay_text(alloc, &replay(alloc, &verified, &events)?)?,
-        Err(refusal) => format!(in alloc; "V{} {}", refusal.number, refusal.offset)?,
+    out: &mut Answer,
+) -> Outcome {
+    let Some(events) = events_of(alloc, events) else {
+        return Outcome::Unreadable;
     };
-    Ok(judged(answer, expected))
+    match verify(alloc, module) {
+        Ok(verified) => match replay(alloc, &verified, &events) {
+            Ok(replay) => put_replay(&replay, out),
+            Err(_) => return Outcome::OutOfMemory,
+        },
+        Err(refusal) => out.fault("V", refusal.number, u64::from(refusal.offset)),
+    }
+    judged(out, expected)
 }

@@ -1,10 +1,11 @@
 //! What the statements before a question say.
 
-use crate::outcome::CaseError;
+use crate::edits::set;
+use crate::outcome::Outcome;
 use crate::quoted::append_quoted;
 use crate::statements::{Statement, unindented};
 use crate::words::Words;
-use std::alloc::{AllocError, Global};
+use std::alloc::Global;
 
 /// What is asked about: a file, a source, a run.
 #[derive(Drop)]
@@ -33,121 +34,110 @@ impl<'t> Setting<'t> {
         }
     }
 
-    /// Takes a statement that asks nothing. `false`: it is none of these.
-    pub(crate) fn take(&mut self, statement: Statement<'t>) -> Result<bool, CaseError> {
+    /// Takes a statement that asks nothing; any other is left.
+    pub(crate) fn take(&mut self, statement: Statement<'_, 't>) -> Option<Outcome> {
         let rest = statement.rest;
-        match statement.word {
-            "module" => {
-                self.module = hex::decode(self.alloc, rest).map_err(|_| CaseError::Unreadable)?;
-                self.file = self.module.clone()?;
+        let taken = match statement.word {
+            "module" => self.read_module(rest),
+            "with" => self.alter(rest),
+            "source" => self.begin_source(rest, statement.block),
+            "repeat" => self.repeat(rest),
+            "levels" => self.descend(rest),
+            "run" => self.begin_run(rest),
+            "did" => {
+                self.effects = rest;
+                Some(())
             }
-            "with" => self.alter(rest)?,
-            "source" => self.start_source(statement)?,
-            "repeat" => self.repeat(rest)?,
-            "levels" => self.descend(rest)?,
-            "run" => (self.events, self.effects, self.fault) = (rest, "", ""),
-            "did" => self.effects = rest,
-            "fault" => self.fault = rest,
-            _ => return Ok(false),
-        }
-        Ok(true)
+            "fault" => {
+                self.fault = rest;
+                Some(())
+            }
+            _ => return None,
+        };
+        Some(Outcome::set(taken.is_some()))
+    }
+
+    fn read_module(&mut self, digits: &str) -> Option<()> {
+        self.module = hex::decode(self.alloc, digits).ok()?;
+        self.restore()
+    }
+
+    /// The file as the last `module` gives it.
+    fn restore(&mut self) -> Option<()> {
+        self.file.clear();
+        self.file.extend_from_slice(&self.module).ok()
     }
 
     /// The module's file with some numbers altered.
-    fn alter(&mut self, rest: &str) -> Result<(), CaseError> {
-        self.file = self.module.clone()?;
+    fn alter(&mut self, rest: &str) -> Option<()> {
+        self.restore()?;
         let mut words = Words::of(rest);
         for _ in 0..u64::MAX {
             let Some(word) = words.next() else {
                 break;
             };
             match word.strip_prefix("size=") {
-                Some(size) => resize(&mut self.file, size)?,
-                None => set(&mut self.file, word).ok_or(CaseError::Unreadable)?,
+                Some(size) => self.resize(size)?,
+                None => set(&mut self.file, word)?,
             }
         }
-        Ok(())
+        Some(())
     }
 
-    fn start_source(&mut self, statement: Statement) -> Result<(), CaseError> {
-        self.source = Vec::new(self.alloc);
-        if !statement.rest.is_empty() {
-            append_quoted(&mut self.source, statement.rest)?;
+    /// Cuts the file to a length, or fills it with zeros.
+    fn resize(&mut self, size: &str) -> Option<()> {
+        let size = size.parse::<usize>().ok()?;
+        self.file.resize(size, 0).ok()
+    }
+
+    fn begin_source(&mut self, rest: &str, block: &[&str]) -> Option<()> {
+        self.source.clear();
+        if !rest.is_empty() {
+            return append_quoted(&mut self.source, rest);
         }
-        for line in statement.block {
-            self.source.extend_from_slice(unindented(line).as_bytes())?;
-            self.source.push(b'\n')?;
+        for line in block {
+            self.source
+                .extend_from_slice(unindented(line).as_bytes())
+                .ok()?;
+            self.source.push(b'\n').ok()?;
         }
-        Ok(())
+        Some(())
     }
 
     /// Appends a text to the source so many times.
-    fn repeat(&mut self, rest: &str) -> Result<(), CaseError> {
-        let (times, text) = rest.split_once(' ').ok_or(CaseError::Unreadable)?;
-        let times = times.parse::<u32>().map_err(|_| CaseError::Unreadable)?;
+    fn repeat(&mut self, rest: &str) -> Option<()> {
+        let mut words = Words::of(rest);
+        let times = words.number();
         let mut piece = Vec::new(self.alloc);
-        append_quoted(&mut piece, text)?;
+        append_quoted(&mut piece, words.rest())?;
         append_times(&mut self.source, times, &piece)?;
-        Ok(())
+        words.is_right().then_some(())
     }
 
     /// Appends a text at each level of indentation from the first number up to the second, which is left out.
-    fn descend(&mut self, rest: &str) -> Result<(), CaseError> {
+    fn descend(&mut self, rest: &str) -> Option<()> {
         let mut words = Words::of(rest);
-        let (from, to) = levels(&mut words).ok_or(CaseError::Unreadable)?;
+        let (from, to) = (words.number(), words.number());
         let mut piece = Vec::new(self.alloc);
         append_quoted(&mut piece, words.rest())?;
         for level in from..to {
             append_times(&mut self.source, level, b"  ")?;
-            self.source.extend_from_slice(&piece)?;
+            append_times(&mut self.source, 1, &piece)?;
         }
-        Ok(())
+        words.is_right().then_some(())
+    }
+
+    fn begin_run(&mut self, events: &'t str) -> Option<()> {
+        self.events = events;
+        self.effects = "";
+        self.fault = "";
+        Some(())
     }
 }
 
-fn levels(words: &mut Words) -> Option<(u32, u32)> {
-    Some((words.number()?, words.number()?))
-}
-
-fn append_times(out: &mut Vec<u8>, times: u32, piece: &[u8]) -> Result<(), AllocError> {
+fn append_times(out: &mut Vec<u8>, times: u32, piece: &[u8]) -> Option<()> {
     for _ in 0..times {
-        out.extend_from_slice(piece)?;
-    }
-    Ok(())
-}
-
-/// Cuts a file to a length, or fills it with zeros.
-fn resize(file: &mut Vec<u8>, size: &str) -> Result<(), CaseError> {
-    let size = size.parse::<usize>().map_err(|_| CaseError::Unreadable)?;
-    file.resize(size, 0)?;
-    Ok(())
-}
-
-/// Sets bytes of a file: a number, `AT:WIDTH=VALUE`, least significant byte first, or each byte of a range,
-/// `FROM..TO=BYTE`.
-fn set(file: &mut [u8], word: &str) -> Option<()> {
-    let (place, value) = word.split_once('=')?;
-    match place.split_once("..") {
-        Some((from, to)) => fill(file, from, to, value.parse::<u8>().ok()?),
-        None => set_number(file, place, value.parse::<i64>().ok()?),
-    }
-}
-
-fn fill(file: &mut [u8], from: &str, to: &str, value: u8) -> Option<()> {
-    let range = from.parse::<usize>().ok()?..to.parse::<usize>().ok()?;
-    for byte in file.get_mut(range)? {
-        *byte = value;
-    }
-    Some(())
-}
-
-fn set_number(file: &mut [u8], place: &str, value: i64) -> Option<()> {
-    let (at, width) = place.split_once(':')?;
-    let bytes = value.to_le_bytes();
-    let (_, rest) = file.split_at_mut_checked(at.parse::<usize>().ok()?)?;
-    let field = rest.get_mut(..width.parse::<usize>().ok()?)?;
-    for (byte, new) in field.iter_mut().zip(bytes) {
-        *byte = new;
+        out.extend_from_slice(piece).ok()?;
     }
     Some(())
 }

@@ -4,12 +4,12 @@ use std::alloc::{AllocError, Global};
 
 /// A word at the start of a line, what follows on the line, and the indented lines below it.
 #[derive(Clone, Copy)]
-pub(crate) struct Statement<'t> {
+pub(crate) struct Statement<'l, 't> {
     /// The number of its line, from 1 on.
     pub(crate) line: usize,
     pub(crate) word: &'t str,
     pub(crate) rest: &'t str,
-    pub(crate) block: &'t [&'t str],
+    pub(crate) block: &'l [&'t str],
 }
 
 /// How each line of a block begins.
@@ -21,26 +21,33 @@ fn is_skipped(line: &str) -> bool {
 }
 
 /// The indented lines with which these lines begin.
-fn block<'t>(lines: &'t [&'t str]) -> &'t [&'t str] {
-    let count = lines
-        .iter()
-        .position(|line| !line.starts_with(INDENT))
-        .unwrap_or(lines.len());
+fn block<'l, 't>(lines: &'l [&'t str]) -> &'l [&'t str] {
+    let mut count = 0;
+    for line in lines {
+        if !line.starts_with(INDENT) {
+            break;
+        }
+        count += 1;
+    }
     lines.get(..count).unwrap_or(lines)
 }
 
-/// The statement at a place of these lines, unless the line is blank, a comment, or within a block.
-pub(crate) fn statement_at<'t>(lines: &'t [&'t str], place: usize) -> Option<Statement<'t>> {
-    let line = *lines.get(place)?;
-    if is_skipped(line) {
+/// The statement with which these lines begin, of which the first has this number, unless the line is blank, a comment, or
+/// within a block.
+pub(crate) fn first_statement<'l, 't>(
+    lines: &'l [&'t str],
+    line: usize,
+) -> Option<Statement<'l, 't>> {
+    let (first, others) = lines.split_first()?;
+    if is_skipped(first) {
         return None;
     }
-    let (word, rest) = line.split_once(' ').unwrap_or((line, ""));
+    let (word, rest) = first.split_once(' ').unwrap_or((*first, ""));
     Some(Statement {
-        line: place.saturating_add(1),
+        line,
         word,
         rest,
-        block: block(lines.get(place..)?.get(1..)?),
+        block: block(others),
     })
 }
 

@@ -1,11 +1,13 @@
 //! The words of a line.
 
-/// The words of a line, one after the other; `7*R` is seven times the word `R`.
+/// The words of a line, one after the other; `7*R` is seven times the word `R`. It remembers whether a word was missing
+/// or was no number.
 #[derive(Clone, Copy)]
 pub(crate) struct Words<'t> {
     rest: &'t str,
     repeated: &'t str,
     times: u64,
+    is_wrong: bool,
 }
 
 impl<'t> Words<'t> {
@@ -14,6 +16,7 @@ impl<'t> Words<'t> {
             rest,
             repeated: "",
             times: 0,
+            is_wrong: false,
         }
     }
 
@@ -42,14 +45,32 @@ impl<'t> Words<'t> {
         repeated
     }
 
+    /// The next word; an empty one where there is none.
+    pub(crate) fn word(&mut self) -> &'t str {
+        let next = self.next();
+        self.is_wrong |= next.is_none();
+        next.unwrap_or("")
+    }
+
     /// The next word as a number.
-    pub(crate) fn number(&mut self) -> Option<u32> {
-        self.next()?.parse::<u32>().ok()
+    pub(crate) fn number(&mut self) -> u32 {
+        let number = self.word().parse::<u32>().ok();
+        self.is_wrong |= number.is_none();
+        number.unwrap_or(0)
     }
 
     /// The next word as a number that may be negative.
-    pub(crate) fn signed(&mut self) -> Option<i64> {
-        self.next()?.parse::<i64>().ok()
+    pub(crate) fn signed(&mut self) -> i64 {
+        let number = self.word().parse::<i64>().ok();
+        self.is_wrong |= number.is_none();
+        number.unwrap_or(0)
+    }
+
+    /// The next word as the number of a frame word.
+    pub(crate) fn frame_word(&mut self) -> i32 {
+        let number = self.word().parse::<i32>().ok();
+        self.is_wrong |= number.is_none();
+        number.unwrap_or(0)
     }
 
     /// What follows the words that were taken.
@@ -57,8 +78,13 @@ impl<'t> Words<'t> {
         self.rest
     }
 
-    /// Whether no word is left.
-    pub(crate) fn is_at_end(&mut self) -> bool {
-        self.next().is_none()
+    /// Whether each word that was asked for was there.
+    pub(crate) fn is_right(&self) -> bool {
+        !self.is_wrong
+    }
+
+    /// The same, and no word is left.
+    pub(crate) fn is_read(&mut self) -> bool {
+        !self.is_wrong && self.next().is_none()
     }
 }
