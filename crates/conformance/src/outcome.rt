@@ -3,7 +3,7 @@
 use crate::answer::Answer;
 
 /// What comes of a statement.
-#[derive(Clone, Copy, Debug, PartialEq, Eq)]
+#[derive(Clone, Copy, PartialEq)]
 pub(crate) enum Outcome {
     /// It asks nothing.
     Set,

@@ -3,8 +3,8 @@
 use crate::answer::Answer;
 use crate::outcome::{Outcome, judged};
 use crate::statements::{Statement, has_lines};
-use crate::tokens::put_lines;
-use crate::trees::put_program;
+use crate::tokens::write_lines;
+use crate::trees::write_program;
 use occam_layout::{Line, lines};
 use occam_parser::{Program, parse};
 use std::alloc::Global;
@@ -16,7 +16,7 @@ fn judge_lines(found: &[Line], statement: Statement, out: &mut Answer) -> Outcom
         out.great(found.len() as u64);
         return judged(out, statement.rest);
     }
-    put_lines(found, out);
+    write_lines(out, found);
     Outcome::of(has_lines(out.as_str(), statement.block))
 }
 
@@ -43,14 +43,12 @@ fn judge_program(
     statement: Statement,
     out: &mut Answer,
 ) -> Outcome {
-    if statement.rest == "ok" {
-        return Outcome::Held;
+    write_program(out, program);
+    match statement.rest {
+        "ok" => Outcome::Held,
+        "same" => Outcome::of(out.as_str().as_bytes() == source),
+        _ => Outcome::of(has_lines(out.as_str(), statement.block)),
     }
-    put_program(program, out);
-    if statement.rest == "same" {
-        return Outcome::of(out.as_str().as_bytes() == source);
-    }
-    Outcome::of(has_lines(out.as_str(), statement.block))
 }
 
 fn judge_rows(

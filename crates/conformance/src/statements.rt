@@ -22,14 +22,12 @@ fn is_skipped(line: &str) -> bool {
 
 /// The indented lines with which these lines begin.
 fn block<'l, 't>(lines: &'l [&'t str]) -> &'l [&'t str] {
-    let mut count = 0;
-    for line in lines {
+    for (index, line) in lines.iter().enumerate() {
         if !line.starts_with(INDENT) {
-            break;
+            return lines.get(..index).unwrap_or(lines);
         }
-        count += 1;
     }
-    lines.get(..count).unwrap_or(lines)
+    lines
 }
 
 /// The statement with which these lines begin, of which the first has this number, unless the line is blank, a comment, or

@@ -4,7 +4,7 @@ use crate::answer::Answer;
 use occam_layout::{Line, Text, Token, TokenKind};
 
 /// A byte of a character or a string, as a source spells it.
-pub(crate) fn put_character(byte: u8, out: &mut Answer) {
+pub(crate) fn write_character(out: &mut Answer, byte: u8) {
     match byte {
         b'*' | b'\'' | b'"' => {
             out.put("*");
@@ -19,33 +19,33 @@ pub(crate) fn put_character(byte: u8, out: &mut Answer) {
 }
 
 /// The bytes of a string.
-pub(crate) fn put_text(text: Text, out: &mut Answer) {
+pub(crate) fn write_text(out: &mut Answer, text: Text) {
     let mut rest = text;
     for _ in 0..u32::MAX {
         let Some((byte, others)) = rest.split_first() else {
             break;
         };
-        put_character(byte, out);
+        write_character(out, byte);
         rest = others;
     }
 }
 
-pub(crate) fn put_name(name: &[u8], out: &mut Answer) {
+pub(crate) fn write_name(out: &mut Answer, name: &[u8]) {
     for byte in name {
         out.byte(*byte);
     }
 }
 
-fn put_kind(kind: TokenKind, out: &mut Answer) {
+fn write_kind(out: &mut Answer, kind: TokenKind) {
     match kind {
         TokenKind::Name(bytes) => {
             out.put("Name(");
-            put_name(bytes, out);
+            write_name(out, bytes);
             out.put(")");
         }
         TokenKind::Text(text) => {
             out.put("Text(");
-            put_text(text, out);
+            write_text(out, text);
             out.put(")");
         }
         other => out.debug(other),
@@ -53,9 +53,9 @@ fn put_kind(kind: TokenKind, out: &mut Answer) {
 }
 
 /// A token and its span.
-fn put_token(token: Token, out: &mut Answer) {
+fn write_token(out: &mut Answer, token: Token) {
     out.put(" ");
-    put_kind(token.kind, out);
+    write_kind(out, token.kind);
     out.put("@");
     out.number(i64::from(token.start));
     out.put("..");
@@ -63,13 +63,13 @@ fn put_token(token: Token, out: &mut Answer) {
 }
 
 /// The number and level of each line, and its tokens.
-pub(crate) fn put_lines(lines: &[Line], out: &mut Answer) {
+pub(crate) fn write_lines(out: &mut Answer, lines: &[Line]) {
     for line in lines {
         out.number(i64::from(line.number));
         out.put("/");
         out.number(i64::from(line.level));
         for token in &line.tokens {
-            put_token(*token, out);
+            write_token(out, *token);
         }
         out.put("\n");
     }

@@ -1,7 +1,7 @@
 //! Programs printed again as sources.
 
 use crate::answer::Answer;
-use crate::tokens::{put_character, put_name, put_text};
+use crate::tokens::{write_character, write_name, write_text};
 use occam_parser::{
     Action, Branch, ChainOperator, Choice, Constant, ConstantValue, Construct, Declaration, Expr,
     Formal, FormalKind, Guard, Item, Names, Operand, PairOperator, Place, PrefixOperator, Proc,
@@ -9,7 +9,7 @@ use occam_parser::{
 };
 
 /// The program as a source. The items are never freed, so that they can be lent for as long as the names in them.
-pub(crate) fn put_program(program: Program, out: &mut Answer) {
+pub(crate) fn write_program(out: &mut Answer, program: Program) {
     let Program { items } = program;
     write_items(out, items.leak());
 }
@@ -25,7 +25,7 @@ fn write_items<'p>(out: &mut Answer, items: &'p [Item<'p>]) {
 
 fn write_proc<'p>(out: &mut Answer, proc: &'p Proc<'p>) {
     out.put("PROC ");
-    put_name(proc.name, out);
+    write_name(out, proc.name);
     out.put("(");
     for (i, formal) in proc.formals.iter().enumerate() {
         write_comma(out, i);
@@ -69,7 +69,7 @@ fn write_constant(out: &mut Answer, constant: &Constant) {
     }
     write_type(out, constant.value_type);
     out.put(" ");
-    put_name(constant.name, out);
+    write_name(out, constant.name);
     out.put(" IS ");
     match &constant.value {
         ConstantValue::Scalar(value) => write_expr(out, value),
@@ -80,7 +80,7 @@ fn write_constant(out: &mut Answer, constant: &Constant) {
         }
         ConstantValue::Text { text, .. } => {
             out.put("\"");
-            put_text(*text, out);
+            write_text(out, *text);
             out.put("\"");
         }
     }
@@ -97,7 +97,7 @@ fn write_formal(out: &mut Answer, formal: &Formal) {
     }
     write_type(out, formal.value_type);
     out.put(" ");
-    put_name(formal.name, out)
+    write_name(out, formal.name)
 }
 
 fn write_indent(out: &mut Answer, level: u32) {
@@ -113,7 +113,7 @@ fn write_names(out: &mut Answer, words: &str, names: &Names) {
     out.put(" ");
     for (i, name) in names.names.iter().enumerate() {
         write_comma(out, i);
-        put_name(name, out);
+        write_name(out, name);
     }
     out.put(":\n");
 }
@@ -188,7 +188,7 @@ fn write_head(out: &mut Answer, word: &str, replicator: &Option<Replicator>) {
     out.put(word);
     if let Some(replicator) = replicator {
         out.put(" ");
-        put_name(replicator.name, out);
+        write_name(out, replicator.name);
         out.put(" = ");
         write_expr(out, &replicator.base);
         out.put(" FOR ");
@@ -198,7 +198,7 @@ fn write_head(out: &mut Answer, word: &str, replicator: &Option<Replicator>) {
 }
 
 fn write_place(out: &mut Answer, place: &Place) {
-    put_name(place.name, out);
+    write_name(out, place.name);
     write_size(out, &place.subscript)
 }
 
@@ -222,7 +222,7 @@ fn write_action(out: &mut Answer, action: &Action) {
             write_expr(out, value);
         }
         Action::Instance { name, actuals } => {
-            put_name(name, out);
+            write_name(out, name);
             out.put("(");
             write_exprs(out, actuals);
             out.put(")");
@@ -333,16 +333,16 @@ fn write_operand(out: &mut Answer, operand: &Operand) {
         Operand::Integer(value) => out.number(i64::from(*value)),
         Operand::Character(byte) => {
             out.put("'");
-            put_character(*byte, out);
+            write_character(out, *byte);
             out.put("'");
         }
         Operand::Truth(true) => out.put("TRUE"),
         Operand::Truth(false) => out.put("FALSE"),
         Operand::MostPos => out.put("MOSTPOS INT"),
         Operand::MostNeg => out.put("MOSTNEG INT"),
-        Operand::Name(name) => put_name(name, out),
+        Operand::Name(name) => write_name(out, name),
         Operand::Element { name, subscript } => {
-            put_name(name, out);
+            write_name(out, name);
             out.put("[");
             write_expr(out, subscript);
             out.put("]");
