@@ -1,4 +1,4 @@
-//! The tests of `certificate`, by its public calls: files by hand, read, kept and written.
+//! The tests of `certificate`, by its public calls: tables by hand, and each call once.
 #![tactic(auto)]
 
 #[cfg(test)]

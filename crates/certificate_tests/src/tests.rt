@@ -1,31 +1,17 @@
-//! Files by hand, read, kept and written.
+//! Tables by hand, and calls whose memory runs out. What files say, and which are refused, is asked by the cases of
+//! `conformance`.
 
-mod bad_files;
-mod bad_pars;
-mod bad_procedures;
-mod bad_tables;
 mod by_hand;
-mod every_row;
-mod fields;
-mod good_fields;
+mod files;
 mod kept_pars;
 mod kept_rows;
 mod lookups;
-mod programs;
-mod several_faults;
-mod whole_files;
 
-use certificate::{FormatFault, Module, write};
-use std::alloc::{AllocError, Global};
+use certificate::{FormatFault, MEMORY, Module, TRUNCATED, write};
+use files::{EVERY_ROW, EVERY_ROW_AGAIN, ROWS};
+use std::alloc::Global;
 use std::process::Abort;
 use std::test::*;
-
-/// Code `45 d1 71 81 d1 21 f5`, no rows.
-const FIRST: [u8; 83] = [
-    0x54, 0x50, 0x4d, 0x31, 7, 0, 0, 0, 0, 0, 0, 0, 5, 0, 0, 0, 3, 0, 0, 0, 7, 0, 0, 0, 0, 0, 0, 0,
-    7, 0, 0, 0, 0, 0, 0, 0, 0, 0, 0, 0, 0, 0, 0, 0, 0, 0, 0, 0, 0, 0, 0, 0, 0, 0, 0, 0, 0, 0, 0, 0,
-    0, 0, 0, 0, 0, 0, 0, 0, 0, 0, 0, 0, 0, 0, 0, 0, 0x45, 0xd1, 0x71, 0x81, 0xd1, 0x21, 0xf5,
-];
 
 /// Code `45 d1 00 71 21 f5`, a label row at 3.
 const JUMP: [u8; 105] = [
@@ -35,60 +21,17 @@ const JUMP: [u8; 105] = [
     0, 0, 0, 0, 0, 3, 0, 0, 0, 0, 0, 0, 0, 0, 0, 0, 0, 0,
 ];
 
-/// The bytes of a file, with `width` bytes from place `at` set to a number, and zeros behind the end up
-/// to a length, or cut to it.
-fn patched(
-    alloc: Global,
-    file: &[u8],
-    at: usize,
-    width: usize,
-    value: i64,
-    len: usize,
-) -> Result<Vec<u8>, AllocError> {
-    let mut bytes = Vec::new(alloc);
-    for index in 0..len {
-        let byte = file.get(index).copied().unwrap_or(0);
-        let is_patched = index >= at && index - at < width && index - at < 8;
-        let byte = if is_patched {
-            value.to_le_bytes()[index - at]
-        } else {
-            byte
-        };
-        bytes.push(byte)?;
-    }
-    Ok(bytes)
-}
-
-/// What reading a file answers: nothing where it is read, keeps the format and is written back byte for
-/// byte.
-fn answer(rt: &impl Abort, alloc: Global, bytes: &[u8]) -> Result<Option<FormatFault>, AllocError> {
-    match Module::read(alloc, bytes) {
-        Ok(module) => {
-            assert!(rt; module.tables().keeps());
-            let written = write(alloc, module.tables())?;
-            assert_eq!(rt; written.as_slice(), bytes);
-            Ok(None)
-        }
-        Err(fault) => Ok(Some(fault)),
-    }
-}
-
-fn refused(number: u8, offset: usize) -> Option<FormatFault> {
-    Some(FormatFault { number, offset })
-}
+/// The fault where memory ran out.
+const OUT_OF_MEMORY: FormatFault = FormatFault {
+    number: MEMORY,
+    offset: 0,
+};
 
 #[test]
-fn two_files(rt: HostRuntime) -> Result<(), Fail> {
-    let alloc = rt.alloc();
-    assert_eq!(rt; answer(&rt, alloc, &FIRST)?, None);
-    assert_eq!(rt; answer(&rt, alloc, &JUMP)?, None);
-    Ok(())
-}
-
-#[test]
-fn what_jump_says(rt: HostRuntime) -> Result<(), Fail> {
+fn a_file_is_read_and_written(rt: HostRuntime) -> Result<(), Fail> {
     let module = Module::read(rt.alloc(), &JUMP).ok().ok_or("read")?;
     let tables = module.tables();
+    assert!(rt; tables.keeps());
     assert_eq!(rt; tables.code, [0x45, 0xd1, 0, 0x71, 0x21, 0xf5].as_slice());
     assert_eq!(rt;
         (tables.data_words, tables.base, tables.budget, tables.finish),
@@ -101,15 +44,42 @@ fn what_jump_says(rt: HostRuntime) -> Result<(), Fail> {
             (3, 0, 0, 3)
         );
     }
+    let written = write(rt.alloc(), tables)?;
+    assert_eq!(rt; written.as_slice(), JUMP.as_slice());
     Ok(())
 }
 
 #[test]
-fn one_byte_more(rt: HostRuntime) -> Result<(), Fail> {
-    let alloc = rt.alloc();
-    let bytes = patched(alloc, &FIRST, 0, 0, 0, 84)?;
-    assert_eq!(rt; answer(&rt, alloc, &bytes)?, refused(5, 83));
-    let bytes = patched(alloc, &JUMP, 0, 0, 0, 106)?;
-    assert_eq!(rt; answer(&rt, alloc, &bytes)?, refused(5, 105));
-    Ok(())
+fn a_file_is_refused(rt: HostRuntime) {
+    let found = Module::read(rt.alloc(), &JUMP[..104]).err();
+    let expected = FormatFault {
+        number: TRUNCATED,
+        offset: 104,
+    };
+    assert_eq!(rt; found, Some(expected));
+}
+
+/// With memory refused at any moment, the answer is the plain one or out of memory, and nothing else.
+fn is_read_or_out_of_memory(rt: &impl Abort, alloc: Global, file: &[u8]) {
+    match Module::read(alloc, file) {
+        Ok(module) => match write(alloc, module.tables()) {
+            Ok(written) => assert_eq!(rt; written.as_slice(), file),
+            Err(_) => {}
+        },
+        Err(fault) => assert_eq!(rt; fault, OUT_OF_MEMORY),
+    }
+}
+
+#[test]
+fn memory_runs_out(rt: HostRuntime) {
+    is_read_or_out_of_memory(&rt, rt.alloc(), &ROWS);
+    is_read_or_out_of_memory(&rt, rt.alloc(), &EVERY_ROW);
+    is_read_or_out_of_memory(&rt, rt.alloc(), &EVERY_ROW_AGAIN);
+    match Module::read(rt.alloc(), &ROWS[..185]) {
+        Ok(_) => assert!(rt; false, "cut short"),
+        Err(fault) => {
+            let is_cut = fault.number == TRUNCATED && fault.offset == 185;
+            assert!(rt; is_cut || fault == OUT_OF_MEMORY);
+        }
+    }
 }

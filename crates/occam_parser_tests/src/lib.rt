@@ -1,5 +1,4 @@
-//! The tests of `occam_parser`, by its public calls: programs that are read and printed back, and those
-//! that are refused.
+//! The tests of `occam_parser`, by its public calls.
 #![tactic(auto)]
 
 #[cfg(test)]

@@ -1,0 +1,138 @@
+//! A file altered in many ways, and how many of the altered files are read.
+
+use crate::answer::Answer;
+use certificate::{FormatFault, MAGIC, Module, TRUNCATED, write};
+use std::alloc::Global;
+
+/// How many files are read, valid and written back, how many have which fault, and the sum of the faults' offsets.
+#[derive(Clone, Copy)]
+struct Sums {
+    numbers: [u64; 7],
+    offsets: u64,
+    /// How many files are read, but not valid or written otherwise.
+    wrong: u64,
+}
+
+/// Whether what was read is valid and written back as its file.
+fn is_kept(alloc: Global, module: &Module, file: &[u8]) -> bool {
+    let tables = module.tables();
+    tables.keeps()
+        && match write(alloc, tables) {
+            Ok(written) => written.as_slice() == file,
+            Err(_) => false,
+        }
+}
+
+impl Sums {
+    const NONE: Sums = Sums {
+        numbers: [0; 7],
+        offsets: 0,
+        wrong: 0,
+    };
+
+    /// Counts a file by its fault, 0 where it has none.
+    fn add(&mut self, number: u8) {
+        if let Some(count) = self.numbers.get_mut(usize::from(number)) {
+            *count = count.wrapping_add(1);
+        }
+    }
+
+    /// Counts a file.
+    fn count(&mut self, alloc: Global, file: &[u8]) {
+        match Module::read(alloc, file) {
+            Ok(module) => {
+                let is_wrong = !is_kept(alloc, &module, file);
+                self.wrong = self.wrong.wrapping_add(u64::from(is_wrong));
+                self.add(0);
+            }
+            Err(FormatFault { number, offset }) => {
+                self.offsets = self.offsets.wrapping_add(offset as u64);
+                self.add(number);
+            }
+        }
+    }
+
+    /// The numbers from none to C6, and the sum of the offsets.
+    fn put(&self, out: &mut Answer) {
+        for number in self.numbers {
+            out.great(number);
+            out.put(" ");
+        }
+        out.put("at ");
+        out.great(self.offsets);
+        if self.wrong > 0 {
+            out.put(", not valid or written otherwise: ");
+            out.great(self.wrong);
+        }
+    }
+}
+
+fn set(file: &mut [u8], at: usize, value: u8) {
+    if let Some(byte) = file.get_mut(at) {
+        *byte = value;
+    }
+}
+
+/// Counts a file with one byte set to each other value.
+fn alter_byte(alloc: Global, bytes: &mut [u8], at: usize, sums: &mut Sums) {
+    let own = bytes.get(at).copied().unwrap_or(0);
+    for value in 0..=255 {
+        if value != own {
+            set(bytes, at, value);
+            sums.count(alloc, bytes);
+        }
+    }
+    set(bytes, at, own);
+}
+
+/// Counts a file with each bit of one byte altered.
+fn alter_bits(alloc: Global, bytes: &mut [u8], at: usize, sums: &mut Sums) {
+    let own = bytes.get(at).copied().unwrap_or(0);
+    for bit in [1, 2, 4, 8, 16, 32, 64, 128] {
+        set(bytes, at, own ^ bit);
+        sums.count(alloc, bytes);
+    }
+    set(bytes, at, own);
+}
+
+/// Each byte from one place up to another set to each other value. The file is as before afterwards.
+pub(crate) fn altered_bytes(alloc: Global, file: &mut [u8], from: u32, to: u32, out: &mut Answer) {
+    let mut sums = Sums::NONE;
+    for at in from..to {
+        alter_byte(alloc, file, at as usize, &mut sums);
+    }
+    sums.put(out);
+}
+
+/// Each bit altered. The file is as before afterwards.
+pub(crate) fn altered_bits(alloc: Global, file: &mut [u8], out: &mut Answer) {
+    let mut sums = Sums::NONE;
+    for at in 0..file.len() {
+        alter_bits(alloc, file, at, &mut sums);
+    }
+    sums.put(out);
+}
+
+/// Whether a file is refused as cut: for its magic, where that is cut, and else at its length.
+fn is_cut(alloc: Global, file: &[u8]) -> bool {
+    let (number, offset) = if file.len() < 4 {
+        (MAGIC, 0)
+    } else {
+        (TRUNCATED, file.len())
+    };
+    match Module::read(alloc, file) {
+        Ok(_) => false,
+        Err(fault) => fault == FormatFault { number, offset },
+    }
+}
+
+/// How many of the shorter files that the file begins with are refused as cut.
+pub(crate) fn cuts(alloc: Global, file: &[u8], out: &mut Answer) {
+    let mut count = 0u64;
+    for len in 0..file.len() {
+        if is_cut(alloc, file.get(..len).unwrap_or(file)) {
+            count = count.wrapping_add(1);
+        }
+    }
+    out.great(count);
+}

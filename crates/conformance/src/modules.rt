@@ -1,0 +1,133 @@
+//! What reading a file and the verdict answer.
+
+use crate::answer::Answer;
+use crate::outcome::{Outcome, judged};
+use crate::words::Words;
+use certificate::{FormatFault, Module, write};
+use facts::has_rule;
+use prefix_decoder::fetch;
+use states::SPELLING;
+use std::alloc::Global;
+use verifier::{Refusal, verify};
+
+/// A fault of a file as a case says it.
+pub(crate) fn put_fault(fault: FormatFault, out: &mut Answer) {
+    out.fault("C", fault.number, fault.offset as u64);
+}
+
+/// `ok` where the file is read, valid and written back byte for byte, or else the fault.
+pub(crate) fn read(alloc: Global, file: &[u8], out: &mut Answer) {
+    match Module::read(alloc, file) {
+        Ok(module) => out.put(validity(alloc, &module, file)),
+        Err(fault) => put_fault(fault, out),
+    }
+}
+
+fn validity(alloc: Global, module: &Module, file: &[u8]) -> &'static str {
+    if !module.tables().keeps() {
+        return "not valid";
+    }
+    match write(alloc, module.tables()) {
+        Ok(written) if written.as_slice() == file => "ok",
+        Ok(_) => "written otherwise",
+        Err(_) => "out of memory",
+    }
+}
+
+/// Whether an instruction at a code offset has no rule.
+pub(crate) fn is_unruled(module: &Module, offset: u32) -> bool {
+    match fetch(module.tables().code, offset as usize) {
+        Ok(instr) => !has_rule(instr),
+        Err(_) => false,
+    }
+}
+
+/// What is expected of a verdict: `ok` and the budget, or the lowest rule that is broken at the lowest offset, `V4 12`;
+/// after `also`, the other rules that are broken there.
+#[derive(Clone, Copy)]
+struct Expected<'t> {
+    first: &'t str,
+    others: &'t str,
+}
+
+impl<'t> Expected<'t> {
+    fn of(text: &'t str) -> Self {
+        let (first, others) = text.split_once(" also ").unwrap_or((text, ""));
+        Expected { first, others }
+    }
+
+    /// The offset at which it is refused, unless it is accepted.
+    fn offset(self) -> Option<u32> {
+        let (_rule, offset) = self.first.split_once(' ')?;
+        if self.first.starts_with('V') {
+            offset.parse::<u32>().ok()
+        } else {
+            None
+        }
+    }
+
+    /// Whether this rule is one of the others that are broken at this offset.
+    fn lists(self, refusal: Refusal) -> bool {
+        self.offset() == Some(refusal.offset) && self.names(refusal.number)
+    }
+
+    fn names(self, number: u8) -> bool {
+        let mut words = Words::of(self.others);
+        for _ in 0..u64::MAX {
+            match words.next() {
+                Some(word) if is_rule(word, number) => return true,
+                Some(_) => {}
+                None => break,
+            }
+        }
+        false
+    }
+
+    /// Whether the refusal is that of an instruction without a rule, at or before the offset where the module should be
+    /// refused.
+    fn is_pending(self, module: &Module, refusal: Refusal) -> bool {
+        let is_before = match self.offset() {
+            Some(offset) => refusal.offset <= offset,
+            None => true,
+        };
+        is_before && refusal.number == SPELLING && is_unruled(module, refusal.offset)
+    }
+
+    /// What comes of a refusal whose rule and offset are not the first ones.
+    fn judge(self, module: &Module, refusal: Refusal) -> Outcome {
+        if self.lists(refusal) {
+            return Outcome::Held;
+        }
+        if self.is_pending(module, refusal) {
+            return Outcome::Pending;
+        }
+        Outcome::Differs
+    }
+}
+
+/// Whether a word is the name of this rule.
+fn is_rule(word: &str, number: u8) -> bool {
+    match word.strip_prefix('V') {
+        Some(digits) => digits.parse::<u8>() == Ok(number),
+        None => false,
+    }
+}
+
+/// The verdict on a module.
+pub(crate) fn verdict(alloc: Global, module: &Module, text: &str, out: &mut Answer) -> Outcome {
+    let expected = Expected::of(text);
+    match verify(alloc, module) {
+        Ok(verified) => {
+            out.put("ok ");
+            out.great(verified.module().tables().budget);
+            judged(out, text)
+        }
+        Err(refusal) => {
+            out.fault("V", refusal.number, u64::from(refusal.offset));
+            match judged(out, expected.first) {
+                Outcome::Held => Outcome::Held,
+                _ => expected.judge(module, refusal),
+            }
+        }
+    }
+}

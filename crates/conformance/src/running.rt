@@ -1,0 +1,179 @@
+//! What machines answer.
+
+use crate::answer::Answer;
+use crate::events::{LINKS, event, letter, names_effect};
+use crate::modules::is_unruled;
+use crate::outcome::{Outcome, judged};
+use crate::setting::Setting;
+use crate::words::Words;
+use certificate::Module;
+use machine::{Checked, Replay, Stop, replay};
+use machine_state::{Event, Fault, UNKNOWN_OPERATION};
+use std::alloc::Global;
+use verifier::verify;
+
+/// How a run went so far.
+#[derive(Clone, Copy)]
+struct Course {
+    /// What the last event did, if that is not what the word for it says.
+    differing: Option<&'static str>,
+    fault: Option<Fault>,
+    outcome: Outcome,
+}
+
+/// Lets an event happen, and compares what it did with a word.
+fn one_event(machine: &mut Checked, event: Event, expected: &str, course: &mut Course) {
+    match machine.apply(event) {
+        Ok(effect) if names_effect(expected, effect) => {}
+        Ok(effect) => course.differing = Some(letter(effect)),
+        Err(Stop::Fault(fault)) => {
+            let is_another = course.fault.is_some() && course.fault != Some(fault);
+            course.fault = Some(fault);
+            if expected != "F" || is_another {
+                course.differing = Some("F");
+            }
+        }
+        Err(Stop::Memory) => course.outcome = Outcome::OutOfMemory,
+    }
+}
+
+/// Lets the events happen up to the first that does not do what is expected.
+fn all_events(machine: &mut Checked, setting: &Setting) -> Course {
+    let mut course = Course {
+        differing: None,
+        fault: None,
+        outcome: Outcome::Held,
+    };
+    let mut events = Words::of(setting.events);
+    let mut effects = Words::of(setting.effects);
+    for _ in 0..u64::MAX {
+        let Some(word) = events.next() else {
+            break;
+        };
+        match event(word) {
+            Some(event) => one_event(machine, event, effects.word(), &mut course),
+            None => course.outcome = Outcome::Unreadable,
+        }
+        if course.differing.is_some() || course.outcome != Outcome::Held {
+            break;
+        }
+    }
+    course
+}
+
+/// The fault as a case says it.
+fn put_fault(fault: Option<Fault>, out: &mut Answer) {
+    if let Some(fault) = fault {
+        out.fault("F", fault.number, fault.process);
+        out.put(" ");
+        out.number(i64::from(fault.offset));
+    }
+}
+
+/// What the four questions answer.
+fn put_questions(machine: &Checked, out: &mut Answer) {
+    out.great(machine.executed());
+    out.put(" ");
+    out.digit(machine.finished());
+    out.put(" ");
+    out.digit(machine.running());
+    out.put(" ");
+    for link in LINKS {
+        out.digit(machine.wants(link));
+    }
+}
+
+/// Whether a run stopped at an instruction without a step.
+fn is_pending(module: &Module, fault: Option<Fault>) -> bool {
+    match fault {
+        Some(fault) => fault.number == UNKNOWN_OPERATION && is_unruled(module, fault.offset),
+        None => false,
+    }
+}
+
+/// What comes of a run that ended: its fault, and what the four questions answer.
+fn judge_end(machine: &Checked, expected: &str, out: &mut Answer) -> Outcome {
+    out.clear();
+    put_questions(machine, out);
+    judged(out, expected)
+}
+
+/// The events of a run, with what each does, and what the four questions answer afterwards.
+pub(crate) fn run(
+    alloc: Global,
+    module: &Module,
+    setting: &Setting,
+    expected: &str,
+    out: &mut Answer,
+) -> Outcome {
+    let Ok(mut machine) = Checked::load(alloc, module) else {
+        return Outcome::OutOfMemory;
+    };
+    let course = all_events(&mut machine, setting);
+    put_fault(course.fault, out);
+    if course.outcome != Outcome::Held {
+        return course.outcome;
+    }
+    if out.as_str() != setting.fault {
+        return if is_pending(module, course.fault) {
+            Outcome::Pending
+        } else {
+            Outcome::Differs
+        };
+    }
+    match course.differing {
+        Some(letter) => {
+            out.put(letter);
+            out.put(" in place of what an event should do");
+            Outcome::Differs
+        }
+        None => judge_end(&machine, expected, out),
+    }
+}
+
+/// The events of a run, unless one cannot be read or memory runs out.
+fn events_of(alloc: Global, text: &str) -> Option<Vec<Event>> {
+    let mut words = Words::of(text);
+    let mut events = Vec::new(alloc);
+    for _ in 0..u64::MAX {
+        let Some(word) = words.next() else {
+            break;
+        };
+        events.push(event(word)?).ok()?;
+    }
+    Some(events)
+}
+
+/// The bytes executed, whether the module is finished, and what went out on each link.
+fn put_replay(replay: &Replay, out: &mut Answer) {
+    out.great(replay.executed);
+    out.put(" ");
+    out.digit(replay.finished);
+    for bytes in &replay.out {
+        out.put(if bytes.is_empty() { " -" } else { " " });
+        for byte in bytes {
+            out.hexadecimal(*byte);
+        }
+    }
+}
+
+/// What `replay` answers to the events of a run, where the module is accepted.
+pub(crate) fn replayed(
+    alloc: Global,
+    module: &Module,
+    events: &str,
+    expected: &str,
+    out: &mut Answer,
+) -> Outcome {
+    let Some(events) = events_of(alloc, events) else {
+        return Outcome::Unreadable;
+    };
+    match verify(alloc, module) {
+        Ok(verified) => match replay(alloc, &verified, &events) {
+            Ok(replay) => put_replay(&replay, out),
+            Err(_) => return Outcome::OutOfMemory,
+        },
+        Err(refusal) => out.fault("V", refusal.number, u64::from(refusal.offset)),
+    }
+    judged(out, expected)
+}

@@ -1,0 +1,76 @@
+//! Lines and tokens as text.
+
+use crate::answer::Answer;
+use occam_layout::{Line, Text, Token, TokenKind};
+
+/// A byte of a character or a string, as a source spells it.
+pub(crate) fn write_character(out: &mut Answer, byte: u8) {
+    match byte {
+        b'*' | b'\'' | b'"' => {
+            out.put("*");
+            out.byte(byte);
+        }
+        b' '..=b'~' => out.byte(byte),
+        _ => {
+            out.put("*#");
+            out.hexadecimal(byte);
+        }
+    }
+}
+
+/// The bytes of a string.
+pub(crate) fn write_text(out: &mut Answer, text: Text) {
+    let mut rest = text;
+    for _ in 0..u32::MAX {
+        let Some((byte, others)) = rest.split_first() else {
+            break;
+        };
+        write_character(out, byte);
+        rest = others;
+    }
+}
+
+pub(crate) fn write_name(out: &mut Answer, name: &[u8]) {
+    for byte in name {
+        out.byte(*byte);
+    }
+}
+
+fn write_kind(out: &mut Answer, kind: TokenKind) {
+    match kind {
+        TokenKind::Name(bytes) => {
+            out.put("Name(");
+            write_name(out, bytes);
+            out.put(")");
+        }
+        TokenKind::Text(text) => {
+            out.put("Text(");
+            write_text(out, text);
+            out.put(")");
+        }
+        other => out.debug(other),
+    }
+}
+
+/// A token and its span.
+fn write_token(out: &mut Answer, token: Token) {
+    out.put(" ");
+    write_kind(out, token.kind);
+    out.put("@");
+    out.number(i64::from(token.start));
+    out.put("..");
+    out.number(i64::from(token.end));
+}
+
+/// The number and level of each line, and its tokens.
+pub(crate) fn write_lines(out: &mut Answer, lines: &[Line]) {
+    for line in lines {
+        out.number(i64::from(line.number));
+        out.put("/");
+        out.number(i64::from(line.level));
+        for token in &line.tokens {
+            write_token(out, *token);
+        }
+        out.put("\n");
+    }
+}

@@ -1,0 +1,361 @@
+//! Programs printed again as sources.
+
+use crate::answer::Answer;
+use crate::tokens::{write_character, write_name, write_text};
+use occam_parser::{
+    Action, Branch, ChainOperator, Choice, Constant, ConstantValue, Construct, Declaration, Expr,
+    Formal, FormalKind, Guard, Item, Names, Operand, PairOperator, Place, PrefixOperator, Proc,
+    Process, Program, Replicator, ValueType,
+};
+
+/// The program as a source. The items are never freed, so that they can be lent for as long as the names in them.
+pub(crate) fn write_program(out: &mut Answer, program: Program) {
+    let Program { items } = program;
+    write_items(out, items.leak());
+}
+
+fn write_items<'p>(out: &mut Answer, items: &'p [Item<'p>]) {
+    for item in items {
+        match item {
+            Item::Constant(constant) => write_constant(out, constant),
+            Item::Proc(proc) => write_proc(out, proc),
+        }
+    }
+}
+
+fn write_proc<'p>(out: &mut Answer, proc: &'p Proc<'p>) {
+    out.put("PROC ");
+    write_name(out, proc.name);
+    out.put("(");
+    for (i, formal) in proc.formals.iter().enumerate() {
+        write_comma(out, i);
+        write_formal(out, formal);
+    }
+    out.put(")\n");
+    write_process(out, 1, &proc.body);
+    out.put(":\n");
+}
+
+fn write_comma(out: &mut Answer, index: usize) {
+    if index > 0 {
+        out.put(", ");
+    }
+}
+
+fn write_type(out: &mut Answer, value_type: ValueType) {
+    match value_type {
+        ValueType::Int => out.put("INT"),
+        ValueType::Byte => out.put("BYTE"),
+    }
+}
+
+fn write_size(out: &mut Answer, size: &Option<Expr>) {
+    if let Some(size) = size {
+        out.put("[");
+        write_expr(out, size);
+        out.put("]");
+    }
+}
+
+fn write_constant(out: &mut Answer, constant: &Constant) {
+    out.put("VAL ");
+    match &constant.value {
+        ConstantValue::Scalar(_) => {}
+        ConstantValue::Table { size, .. } | ConstantValue::Text { size, .. } => {
+            out.put("[");
+            write_expr(out, size);
+            out.put("]");
+        }
+    }
+    write_type(out, constant.value_type);
+    out.put(" ");
+    write_name(out, constant.name);
+    out.put(" IS ");
+    match &constant.value {
+        ConstantValue::Scalar(value) => write_expr(out, value),
+        ConstantValue::Table { items, .. } => {
+            out.put("[");
+            write_exprs(out, items);
+            out.put("]");
+        }
+        ConstantValue::Text { text, .. } => {
+            out.put("\"");
+            write_text(out, *text);
+            out.put("\"");
+        }
+    }
+    out.put(":\n");
+}
+
+fn write_formal(out: &mut Answer, formal: &Formal) {
+    if formal.kind == FormalKind::Value {
+        out.put("VAL ");
+    }
+    write_size(out, &formal.size);
+    if formal.kind == FormalKind::Channel {
+        out.put("CHAN OF ");
+    }
+    write_type(out, formal.value_type);
+    out.put(" ");
+    write_name(out, formal.name)
+}
+
+fn write_indent(out: &mut Answer, level: u32) {
+    for _ in 0..level {
+        out.put("  ");
+    }
+}
+
+fn write_names(out: &mut Answer, words: &str, names: &Names) {
+    write_size(out, &names.size);
+    out.put(words);
+    write_type(out, names.value_type);
+    out.put(" ");
+    for (i, name) in names.names.iter().enumerate() {
+        write_comma(out, i);
+        write_name(out, name);
+    }
+    out.put(":\n");
+}
+
+fn write_declaration(out: &mut Answer, declaration: &Declaration) {
+    match declaration {
+        Declaration::Constant(constant) => write_constant(out, constant),
+        Declaration::Variables(names) => write_names(out, "", names),
+        Declaration::Channels(names) => write_names(out, "CHAN OF ", names),
+    }
+}
+
+#[cycle(write_process)]
+fn write_process<'p>(out: &mut Answer, level: u32, process: &'p Process<'p>) {
+    for declaration in &process.declarations {
+        write_indent(out, level);
+        write_declaration(out, declaration);
+    }
+    write_indent(out, level);
+    write_first_line(out, &process.construct);
+    write_components(out, level.saturating_add(1), &process.construct)
+}
+
+fn write_first_line(out: &mut Answer, construct: &Construct) {
+    match construct {
+        Construct::Action(action) => write_action(out, action),
+        Construct::Seq { replicator, .. } => write_head(out, "SEQ", replicator),
+        Construct::Par { replicator, .. } => write_head(out, "PAR", replicator),
+        Construct::If { replicator, .. } => write_head(out, "IF", replicator),
+        Construct::Alt { replicator, .. } => write_head(out, "ALT", replicator),
+    }
+}
+
+#[cycle(write_process)]
+fn write_components<'p>(out: &mut Answer, level: u32, construct: &'p Construct<'p>) {
+    match construct {
+        Construct::Action(_) => {},
+        Construct::Seq { components, .. } => write_processes(out, level, components),
+        Construct::Par { components, .. } => write_processes(out, level, components),
+        Construct::If { choices, .. } => write_choices(out, level, choices),
+        Construct::Alt { branches, .. } => write_branches(out, level, branches),
+    }
+}
+
+#[cycle(write_process)]
+fn write_processes<'p>(out: &mut Answer, level: u32, processes: &'p Vec<Process<'p>>) {
+    for process in processes {
+        write_process(out, level, process);
+    }
+}
+
+#[cycle(write_process)]
+fn write_choices<'p>(out: &mut Answer, level: u32, choices: &'p Vec<Choice<'p>>) {
+    for choice in choices {
+        write_indent(out, level);
+        write_expr(out, &choice.condition);
+        out.put("\n");
+        write_process(out, level.saturating_add(1), &choice.process);
+    }
+}
+
+#[cycle(write_process)]
+fn write_branches<'p>(out: &mut Answer, level: u32, branches: &'p Vec<Branch<'p>>) {
+    for branch in branches {
+        write_indent(out, level);
+        write_guard(out, &branch.guard);
+        write_process(out, level.saturating_add(1), &branch.process);
+    }
+}
+
+fn write_head(out: &mut Answer, word: &str, replicator: &Option<Replicator>) {
+    out.put(word);
+    if let Some(replicator) = replicator {
+        out.put(" ");
+        write_name(out, replicator.name);
+        out.put(" = ");
+        write_expr(out, &replicator.base);
+        out.put(" FOR ");
+        write_expr(out, &replicator.count);
+    }
+    out.put("\n");
+}
+
+fn write_place(out: &mut Answer, place: &Place) {
+    write_name(out, place.name);
+    write_size(out, &place.subscript)
+}
+
+fn write_action(out: &mut Answer, action: &Action) {
+    match action {
+        Action::Skip => out.put("SKIP"),
+        Action::Stop => out.put("STOP"),
+        Action::Assign { target, value } => {
+            write_place(out, target);
+            out.put(" := ");
+            write_expr(out, value);
+        }
+        Action::Input { channel, target } => {
+            write_place(out, channel);
+            out.put(" ? ");
+            write_place(out, target);
+        }
+        Action::Output { channel, value } => {
+            write_place(out, channel);
+            out.put(" ! ");
+            write_expr(out, value);
+        }
+        Action::Instance { name, actuals } => {
+            write_name(out, name);
+            out.put("(");
+            write_exprs(out, actuals);
+            out.put(")");
+        }
+    }
+    out.put("\n");
+}
+
+fn write_guard(out: &mut Answer, guard: &Guard) {
+    match guard {
+        Guard::Input {
+            condition,
+            channel,
+            target,
+        } => {
+            if let Some(condition) = condition {
+                write_expr(out, condition);
+                out.put(" & ");
+            }
+            write_place(out, channel);
+            out.put(" ? ");
+            write_place(out, target);
+        }
+        Guard::Skip { condition } => {
+            write_expr(out, condition);
+            out.put(" & SKIP");
+        }
+    }
+    out.put("\n");
+}
+
+fn write_exprs(out: &mut Answer, exprs: &[Expr]) {
+    for (i, expr) in exprs.iter().enumerate() {
+        write_comma(out, i);
+        write_expr(out, expr);
+    }
+}
+
+#[cycle(write_expr)]
+fn write_expr(out: &mut Answer, expr: &Expr) {
+    match expr {
+        Expr::Operand(operand) => write_operand(out, operand),
+        Expr::Prefix { operator, operand } => {
+            match operator {
+                PrefixOperator::Negate => out.put("-"),
+                PrefixOperator::BitNot => out.put("~"),
+                PrefixOperator::Not => out.put("NOT "),
+            }
+            write_operand(out, operand);
+        }
+        Expr::Pair {
+            operator,
+            left,
+            right,
+        } => {
+            write_operand(out, left);
+            out.put(pair_sign(*operator));
+            write_operand(out, right);
+        }
+        Expr::Chain {
+            operator,
+            first,
+            others,
+        } => {
+            write_operand(out, first);
+            for other in others {
+                out.put(chain_sign(*operator));
+                write_operand(out, other);
+            }
+        }
+    }
+}
+
+fn pair_sign(operator: PairOperator) -> &'static str {
+    match operator {
+        PairOperator::Subtract => " - ",
+        PairOperator::Divide => " / ",
+        PairOperator::Remainder => " \\ ",
+        PairOperator::Minus => " MINUS ",
+        PairOperator::ShiftLeft => " << ",
+        PairOperator::ShiftRight => " >> ",
+        PairOperator::Equal => " = ",
+        PairOperator::NotEqual => " <> ",
+        PairOperator::Less => " < ",
+        PairOperator::Greater => " > ",
+        PairOperator::LessOrEqual => " <= ",
+        PairOperator::GreaterOrEqual => " >= ",
+    }
+}
+
+fn chain_sign(operator: ChainOperator) -> &'static str {
+    match operator {
+        ChainOperator::Add => " + ",
+        ChainOperator::Multiply => " * ",
+        ChainOperator::Plus => " PLUS ",
+        ChainOperator::Times => " TIMES ",
+        ChainOperator::And => " AND ",
+        ChainOperator::Or => " OR ",
+        ChainOperator::BitAnd => " /\\ ",
+        ChainOperator::BitOr => " \\/ ",
+        ChainOperator::BitXor => " >< ",
+    }
+}
+
+#[cycle(write_expr)]
+fn write_operand(out: &mut Answer, operand: &Operand) {
+    match operand {
+        Operand::Integer(value) => out.number(i64::from(*value)),
+        Operand::Character(byte) => {
+            out.put("'");
+            write_character(out, *byte);
+            out.put("'");
+        }
+        Operand::Truth(true) => out.put("TRUE"),
+        Operand::Truth(false) => out.put("FALSE"),
+        Operand::MostPos => out.put("MOSTPOS INT"),
+        Operand::MostNeg => out.put("MOSTNEG INT"),
+        Operand::Name(name) => write_name(out, name),
+        Operand::Element { name, subscript } => {
+            write_name(out, name);
+            out.put("[");
+            write_expr(out, subscript);
+            out.put("]");
+        }
+        Operand::Bracketed(inner) => {
+            out.put("(");
+            write_expr(out, inner);
+            out.put(")");
+        }
+        Operand::Converted { to, operand } => {
+            write_type(out, *to);
+            out.put(" ");
+            write_operand(out, operand);
+        }
+    }
+}

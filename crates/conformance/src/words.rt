@@ -1,0 +1,90 @@
+//! The words of a line.
+
+/// The words of a line, one after the other; `7*R` is seven times the word `R`. It remembers whether a word was missing
+/// or was no number.
+#[derive(Clone, Copy)]
+pub(crate) struct Words<'t> {
+    rest: &'t str,
+    repeated: &'t str,
+    times: u64,
+    is_wrong: bool,
+}
+
+impl<'t> Words<'t> {
+    pub(crate) fn of(rest: &'t str) -> Self {
+        Words {
+            rest,
+            repeated: "",
+            times: 0,
+            is_wrong: false,
+        }
+    }
+
+    /// The next word, unless there is none.
+    pub(crate) fn next(&mut self) -> Option<&'t str> {
+        if self.times > 0 {
+            self.times -= 1;
+            return Some(self.repeated);
+        }
+        let rest = self.rest.trim_start();
+        if rest.is_empty() {
+            return None;
+        }
+        let (word, rest) = rest.split_once(' ').unwrap_or((rest, ""));
+        self.rest = rest;
+        Some(self.repeat(word))
+    }
+
+    /// The word that is repeated, if this word says so.
+    fn repeat(&mut self, word: &'t str) -> &'t str {
+        let Some((times, repeated)) = word.split_once('*') else {
+            return word;
+        };
+        self.times = times.parse::<u64>().unwrap_or(1).saturating_sub(1);
+        self.repeated = repeated;
+        repeated
+    }
+
+    /// The next word; an empty one where there is none.
+    pub(crate) fn word(&mut self) -> &'t str {
+        let next = self.next();
+        self.is_wrong |= next.is_none();
+        next.unwrap_or("")
+    }
+
+    /// The next word as a number.
+    pub(crate) fn number(&mut self) -> u32 {
+        let number = self.word().parse::<u32>().ok();
+        self.is_wrong |= number.is_none();
+        number.unwrap_or(0)
+    }
+
+    /// The next word as a number that may be negative.
+    pub(crate) fn signed(&mut self) -> i64 {
+        let number = self.word().parse::<i64>().ok();
+        self.is_wrong |= number.is_none();
+        number.unwrap_or(0)
+    }
+
+    /// The next word as the number of a frame word.
+    pub(crate) fn frame_word(&mut self) -> i32 {
+        let number = self.word().parse::<i32>().ok();
+        self.is_wrong |= number.is_none();
+        number.unwrap_or(0)
+    }
+
+    /// What follows the words that were taken.
+    pub(crate) fn rest(&self) -> &'t str {
+        self.rest
+    }
+
+    /// Whether each word that was asked for was there.
+    pub(crate) fn is_right(&self) -> bool {
+        !self.is_wrong
+    }
+
+    /// The same, and no word is left.
+    pub(crate) fn is_read(&mut self) -> bool {
+        !self.is_wrong && self.next().is_none()
+    }
+}
