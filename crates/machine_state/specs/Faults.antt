@@ -4,6 +4,7 @@ use Rattle.machine_state.specs.declared.fault.Fault.{Fault}
 use Rattle.machine_state.specs.declared.fault.FaultKind.{FaultKind}
 use Rattle.machine_state.specs.declared.fault.FaultKind.TheVariants as fault
 
+-- the number by which a fault is reported
 abbrev pub number_of : FaultKind → ℕ
 number_of fault.ErrorFlag = 1
 number_of fault.Undefined = 2

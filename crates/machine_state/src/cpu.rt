@@ -41,11 +41,7 @@ impl<S> Cpu<S> {
     pub fn fault(&self, kind: FaultKind) -> Fault
         ensures { result ≡ fault_of self.now kind }
     {
-        Fault {
-            number: kind.number(),
-            process: self.process,
-            offset: self.registers.began,
-        }
+        Fault::new(kind, self.process, self.registers.began)
     }
 
     /// The value of a register that an instruction uses: it is defined, else `Undefined`.

@@ -1,7 +1,7 @@
 //! Why a machine stopped.
 
 ghost use Rattle.std.specs.Prelude.{◌≡◌};
-ghost use Rattle.machine_state.specs.Faults.{number_of};
+ghost use Rattle.machine_state.specs.Faults.{number_of, fault_in};
 
 /// A rule of the machine that a process breaks.
 #[derive(Clone, Copy)]
@@ -60,6 +60,19 @@ pub struct Fault {
     pub process: u64,
     /// The code offset of the first byte of its instruction, prefixes included.
     pub offset: u32,
+}
+
+impl Fault {
+    /// What is reported of a fault of a process in its instruction that began at a code offset.
+    pub fn new(kind: FaultKind, process: u64, began: u32) -> Self
+        ensures { result ≡ fault_in process began kind }
+    {
+        Fault {
+            number: kind.number(),
+            process,
+            offset: began,
+        }
+    }
 }
 
 /// The number of `FaultKind::ErrorFlag`.

@@ -51,11 +51,7 @@ impl Machine {
     fn fail_in(&mut self, process: u64, task: &Task, kind: FaultKind) -> Fault
         ensures { failed kind process task.now self.old.world ≡ turn_of self.new.world (Err result) }
     {
-        let fault = Fault {
-            number: kind.number(),
-            process,
-            offset: task.registers.began,
-        };
+        let fault = Fault::new(kind, process, task.registers.began);
         self.fail(fault);
         fault
     }
