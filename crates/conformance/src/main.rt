@@ -26,18 +26,32 @@ use std::process::ExitCode;
 use std::rt::{Env, Files};
 use std::{env, fs, io};
 
+/// Runs the cases of a file.
+fn run_file(
+    rt: &(impl Files + Print + AllocGlobal),
+    name: &str,
+    counts: &mut Counts,
+) -> io::Result<()> {
+    let text = fs::read_to_string(rt, name)?;
+    run_cases(rt, name, text.as_str(), counts)
+}
+
+/// Runs the cases of standard input.
+fn run_input(rt: &(impl Input + Print + AllocGlobal), counts: &mut Counts) -> io::Result<()> {
+    let text = io::read_to_string(rt.alloc(), rt.reader())?;
+    run_cases(rt, "standard input", text.as_str(), counts)
+}
+
 /// Runs the files of cases that the arguments name, or else those of standard input.
 fn run(rt: &(impl Env + Files + Input + Print + AllocGlobal)) -> io::Result<Counts> {
     let mut counts = Counts::NONE;
     let mut named = false;
     for word in env::args(rt)?.skip(1) {
         named = true;
-        let text = fs::read_to_string(rt, word.as_str())?;
-        run_cases(rt, word.as_str(), text.as_str(), &mut counts)?;
+        run_file(rt, word.as_str(), &mut counts)?;
     }
     if !named {
-        let text = io::read_to_string(rt.alloc(), rt.reader())?;
-        run_cases(rt, "standard input", text.as_str(), &mut counts)?;
+        run_input(rt, &mut counts)?;
     }
     Ok(counts)
 }

@@ -106,6 +106,9 @@ pub(crate) fn run(
     expected: &str,
     out: &mut Answer,
 ) -> Outcome {
+    if Words::of(setting.effects).count() > Words::of(setting.events).count() {
+        return Outcome::Unreadable;
+    }
     let Ok(mut machine) = Checked::load(alloc, module) else {
         return Outcome::OutOfMemory;
     };

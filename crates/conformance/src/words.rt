@@ -35,6 +35,18 @@ impl<'t> Words<'t> {
         Some(self.repeat(word))
     }
 
+    /// How many words are left.
+    pub(crate) fn count(mut self) -> u64 {
+        let mut count = 0u64;
+        for _ in 0..u64::MAX {
+            if self.next().is_none() {
+                break;
+            }
+            count = count.saturating_add(1);
+        }
+        count
+    }
+
     /// The word that is repeated, if this word says so.
     fn repeat(&mut self, word: &'t str) -> &'t str {
         let Some((times, repeated)) = word.split_once('*') else {
