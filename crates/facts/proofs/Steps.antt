@@ -52,7 +52,7 @@ load_local-after s t k z fact v z_is fact_is v_is t_is =
 abbrev pub after_store : ℤ → Fact → State → State
 after_store k fact s = pop (written k fact s)
 
-pub store_local-own : (site : Site) (s : State) (e d : ℤ) (fact : Fact) → ((n : Fact → Ruling) → uses s.a n ≡ n fact) → ((n : Ruling) → outside_alternation s.mode n ≡ n) → ((n : Ruling) → outside_starts s.mode n ≡ n) → d ≡ e
+pub store_local-own : (site : Site) (s : State) (e d : ℤ) (fact : Fact) → ((n : Fact → Ruling) → uses s.stack.a n ≡ n fact) → ((n : Ruling) → outside_alternation s.mode n ≡ n) → ((n : Ruling) → outside_starts s.mode n ≡ n) → d ≡ e
     → instruction_rule site StoreLocal e s ≡ writes_word site s (s.depth +ℤ d) (goes_on site (after_store (s.depth +ℤ d) fact s))
 unfolding instruction_rule
 store_local-own site s e d fact used alternation starts d_is =

@@ -3,7 +3,7 @@
 use crate::combinators::{
     forward, loaded, outside_alternation, outside_starts, result_fact, unary_result_fact, uses,
 };
-use certificate::{Fact, Module};
+use certificate::{Fact, Module, Stack};
 use machine_state::Op;
 use states::{Known, Rule, State, cost_below};
 use word_arithmetic::{Binary as BinaryOperation, Unary as UnaryOperation};
@@ -162,7 +162,7 @@ impl Place<'_, '_> {
         ensures ruling { Advances result (state_of state.new) (instruction_rule (site_of self.now) StoreLocal distance (state_of state.old)) }
         ensures belongs { BelongsTo self.now.module.now state.new }
     {
-        let fact = uses(state.a)?;
+        let fact = uses(state.stack.a)?;
         outside_alternation(state.mode)?;
         outside_starts(state.mode)?;
         let word = self.writes_word(state, distance)?;
@@ -180,7 +180,7 @@ impl Place<'_, '_> {
         let fact = known.ok_or(Rule::Number)?;
         outside_alternation(state.mode)?;
         outside_starts(state.mode)?;
-        state.a = Known::of(fact);
+        state.stack.a = Known::of(fact);
         self.goes_on(state)
     }
 
@@ -194,7 +194,7 @@ impl Place<'_, '_> {
         ensures ruling { Advances result (state_of state.new) (instruction_rule (site_of self.now) (WithConstant op) value (state_of state.old)) }
         ensures belongs { (m : Contents) → BelongsTo m state.old → BelongsTo m state.new }
     {
-        let left = uses(state.a)?;
+        let left = uses(state.stack.a)?;
         let right = Fact::Number {
             lo: value,
             hi: value,
@@ -213,9 +213,7 @@ impl Place<'_, '_> {
         outside_starts(state.mode)?;
         self.schedules(state)?;
         self.pays(state)?;
-        state.a = Known::UNKNOWN;
-        state.b = Known::UNKNOWN;
-        state.c = Known::UNKNOWN;
+        state.stack = Stack::of_empty(Known::UNKNOWN);
         self.leads_to(state, self.target(distance))
     }
 
@@ -261,8 +259,8 @@ impl Place<'_, '_> {
         ensures ruling { Advances result (state_of state.new) (operation_rule (site_of self.now) (Binary op) (state_of state.old)) }
         ensures belongs { (m : Contents) → BelongsTo m state.old → BelongsTo m state.new }
     {
-        let right = uses(state.a)?;
-        let left = uses(state.b)?;
+        let right = uses(state.stack.a)?;
+        let left = uses(state.stack.b)?;
         state.pop();
         self.becomes(state, result_fact(op, left, right))
     }
@@ -272,7 +270,7 @@ impl Place<'_, '_> {
         ensures ruling { Advances result (state_of state.new) (operation_rule (site_of self.now) (Unary op) (state_of state.old)) }
         ensures belongs { (m : Contents) → BelongsTo m state.old → BelongsTo m state.new }
     {
-        let operand = uses(state.a)?;
+        let operand = uses(state.stack.a)?;
         self.becomes(state, unary_result_fact(op, operand))
     }
 

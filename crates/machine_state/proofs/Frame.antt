@@ -128,11 +128,11 @@ module _ (s : Site) (l : Local) where
   operation_leaves StopProcess =
       alone_leaves s l.memory s.mode _ (schedules_leaves s l.memory l stops same (λ memory changes. changes))
   operation_leaves (Binary op) =
-      alone_leaves s l.memory s.mode _ (uses_leaves s l.memory l.registers.a _ (λ a.
-      uses_leaves s l.memory l.registers.b _ (λ b.
+      alone_leaves s l.memory s.mode _ (uses_leaves s l.memory l.registers.stack.a _ (λ a.
+      uses_leaves s l.memory l.registers.stack.b _ (λ b.
       computes_leaves s l.memory _ _ (λ v. goes_on_leaves s l.memory _ same))))
   operation_leaves (Unary op) =
-      alone_leaves s l.memory s.mode _ (uses_leaves s l.memory l.registers.a _ (λ a.
+      alone_leaves s l.memory s.mode _ (uses_leaves s l.memory l.registers.stack.a _ (λ a.
       computes_leaves s l.memory _ _ (λ v. goes_on_leaves s l.memory _ same)))
 
   instruction_leaves : (i : Instruction) (e : ℤ) → LeavesOthers s.holding l.memory (step.instruction_step s i e l)
@@ -141,10 +141,10 @@ module _ (s : Site) (l : Local) where
   instruction_leaves LoadLocal e =
       beside_leaves s l.memory s.mode _ (reads_leaves s l.memory _ l _ (λ v. goes_on_leaves s l.memory (step.push v l) same))
   instruction_leaves StoreLocal e =
-      alone_leaves s l.memory s.mode _ (uses_leaves s l.memory l.registers.a _ (λ a.
+      alone_leaves s l.memory s.mode _ (uses_leaves s l.memory l.registers.stack.a _ (λ a.
       writes_leaves s l.memory _ (Some a) l _ same (λ memory changes. goes_on_leaves s l.memory _ changes)))
   instruction_leaves (WithConstant op) e =
-      alone_leaves s l.memory s.mode _ (uses_leaves s l.memory l.registers.a _ (λ a.
+      alone_leaves s l.memory s.mode _ (uses_leaves s l.memory l.registers.stack.a _ (λ a.
       computes_leaves s l.memory _ _ (λ v. goes_on_leaves s l.memory _ same)))
   instruction_leaves Jump e =
       alone_leaves s l.memory s.mode _ (schedules_leaves s l.memory l _ same (λ memory changes.

@@ -14,7 +14,7 @@ pub(crate) fn reverse<S: Store>(cpu: &mut Cpu<S>) -> Result<Flow, Fault>
 {
     cpu.alone()?;
     cpu.in_code(cpu.next())?;
-    cpu.registers.reverse();
+    cpu.registers.stack.reverse();
     Ok(Flow::Next)
 }
 
@@ -26,6 +26,6 @@ pub(crate) fn minimum_integer<S: Store>(cpu: &mut Cpu<S>) -> Result<Flow, Fault>
 {
     cpu.beside_guards()?;
     cpu.in_code(cpu.next())?;
-    cpu.registers.push(Some(i32::MIN));
+    cpu.registers.stack.push(Some(i32::MIN));
     Ok(Flow::Next)
 }

@@ -65,7 +65,7 @@ fn begins(rt: &impl Abort, alloc: Global) -> Option<()> {
     state.become_procedure(&module, procedure(&module)?, 1);
     assert_eq!(rt; (state.context, state.depth, state.number), (1, 0, 9));
     assert_eq!(rt; state.mode, Mode::Plain);
-    for known in [state.a, state.b, state.c] {
+    for known in [state.stack.a, state.stack.b, state.stack.c] {
         assert_eq!(rt; known, Known::UNKNOWN);
     }
     for (word, fact) in WORDS {
