@@ -23,7 +23,7 @@ pub(crate) fn load_local<S: Store>(cpu: &mut Cpu<S>, operand: i32) -> Result<Flo
         Performs S.cells cpu.old cpu.new result outcome }
     ensures elsewhere { IsSameElsewhere S.holding S.roles cpu.old cpu.new }
 {
-    cpu.beside_guards()?;
+    cpu.outside_starts()?;
     let word = cpu.read(local_address(cpu.registers.workspace, operand))?;
     cpu.in_code(cpu.next())?;
     cpu.registers.stack.push(word);

@@ -241,12 +241,12 @@ module _ (x : Here) where
   beside_plain_rule s same r o go = subst (λ q. FitsIf x (rule.outside_starts q r) o) (sym (rule_plain same)) go
 
   in_plain_step : (s : State) → SameMode s.mode x.mode → (r : Ruling) (o : Outcome) → FitsIf x r o → FitsIf x r (step.alone x.mode o)
-  unfolding step.alone
+  unfolding step.outside_alternation step.outside_starts
   in_plain_step s same r o go = subst (λ q. FitsIf x r (step.alone q o)) (sym (step_plain same)) go
 
-  beside_plain_step : (s : State) → SameMode s.mode x.mode → (r : Ruling) (o : Outcome) → FitsIf x r o → FitsIf x r (step.beside_guards x.mode o)
-  unfolding step.beside_guards
-  beside_plain_step s same r o go = subst (λ q. FitsIf x r (step.beside_guards q o)) (sym (step_plain same)) go
+  beside_plain_step : (s : State) → SameMode s.mode x.mode → (r : Ruling) (o : Outcome) → FitsIf x r o → FitsIf x r (step.outside_starts x.mode o)
+  unfolding step.outside_starts
+  beside_plain_step s same r o go = subst (λ q. FitsIf x r (step.outside_starts q o)) (sym (step_plain same)) go
 
   -- ---- the instructions
 

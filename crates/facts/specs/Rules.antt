@@ -65,6 +65,10 @@ outside_starts Enabling k = k
 outside_starts (Disabling done) k = k
 outside_starts (Starting row started) k = breaks rules.Par
 
+-- one that may stand in neither
+abbrev pub alone : Mode → Ruling → Ruling
+alone mode k = outside_alternation mode (outside_starts mode k)
+
 -- a register that is used is known
 unfoldable pub uses : Known → (Fact → Ruling) → Ruling
 uses known k = elim known.fact [ Unknown ↦ breaks rules.UnknownRegister | _ ↦ k known.fact ]
@@ -160,15 +164,14 @@ unary_result_fact op operand = elim (range_of operand) [
 -- A becomes the result, of which this is known
 unfoldable pub becomes : Site → Option Fact → State → Ruling
 becomes site None s = breaks rules.Number
-becomes site (Some fact) s = outside_alternation s.mode (outside_starts s.mode (goes_on site (with_a (known fact) s)))
+becomes site (Some fact) s = alone s.mode (goes_on site (with_a (known fact) s))
 
 -- ---- the instructions
 
 unfoldable pub operation_rule : Site → Op → State → Ruling
-operation_rule site Reverse s = outside_alternation s.mode (outside_starts s.mode (goes_on site (reverse s)))
+operation_rule site Reverse s = alone s.mode (goes_on site (reverse s))
 operation_rule site MinimumInteger s = outside_starts s.mode (goes_on site (push (constant least_word) s))
-operation_rule site StopProcess s =
-    outside_alternation s.mode (outside_starts s.mode (schedules site s (λ s. pays site s (λ s. ends))))
+operation_rule site StopProcess s = alone s.mode (schedules site s (λ s. pays site s (λ s. ends)))
 operation_rule site (Binary op) s = uses s.stack.a (λ a. uses s.stack.b (λ b. becomes site (result_fact op b a) (pop s)))
 operation_rule site (Unary op) s = uses s.stack.a (λ a. becomes site (unary_result_fact op a) s)
 
@@ -179,8 +182,7 @@ instruction_rule site LoadLocal e s =
     outside_starts s.mode (reads_word site s k (goes_on site (push (loaded k (s.frame k)) s)))
 instruction_rule site StoreLocal e s =
     let k = s.depth +ℤ e in
-    uses s.stack.a (λ a. outside_alternation s.mode (outside_starts s.mode (writes_word site s k
-    (goes_on site (pop (written k a s))))))
+    uses s.stack.a (λ a. alone s.mode (writes_word site s k (goes_on site (pop (written k a s)))))
 instruction_rule site (WithConstant op) e s = uses s.stack.a (λ a. becomes site (result_fact op a (Number e e)) s)
 instruction_rule site Jump e s =
     outside_alternation s.mode (forward e (outside_starts s.mode (schedules site s (λ s. pays site s (λ s.

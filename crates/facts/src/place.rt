@@ -1,7 +1,8 @@
 //! The place of an instruction, and the rules there.
 
 use crate::combinators::{
-    forward, loaded, outside_alternation, outside_starts, result_fact, unary_result_fact, uses,
+    alone, forward, loaded, outside_alternation, outside_starts, result_fact, unary_result_fact,
+    uses,
 };
 use certificate::{Fact, Module, Stack};
 use machine_state::Op;
@@ -163,8 +164,7 @@ impl Place<'_, '_> {
         ensures belongs { BelongsTo self.now.module.now state.new }
     {
         let fact = uses(state.stack.a)?;
-        outside_alternation(state.mode)?;
-        outside_starts(state.mode)?;
+        alone(state.mode)?;
         let word = self.writes_word(state, distance)?;
         state.write(word, fact);
         state.pop();
@@ -178,8 +178,7 @@ impl Place<'_, '_> {
         ensures belongs { (m : Contents) → BelongsTo m state.old → BelongsTo m state.new }
     {
         let fact = known.ok_or(Rule::Number)?;
-        outside_alternation(state.mode)?;
-        outside_starts(state.mode)?;
+        alone(state.mode)?;
         state.stack.a = Known::of(fact);
         self.goes_on(state)
     }
@@ -222,8 +221,7 @@ impl Place<'_, '_> {
         ensures ruling { Advances result (state_of state.new) (operation_rule (site_of self.now) Reverse (state_of state.old)) }
         ensures belongs { (m : Contents) → BelongsTo m state.old → BelongsTo m state.new }
     {
-        outside_alternation(state.mode)?;
-        outside_starts(state.mode)?;
+        alone(state.mode)?;
         state.reverse();
         self.goes_on(state)
     }
@@ -247,8 +245,7 @@ impl Place<'_, '_> {
         ensures ruling { Advances result (state_of state.new) (operation_rule (site_of self.now) StopProcess (state_of state.old)) }
         ensures belongs { BelongsTo self.now.module.now state.new }
     {
-        outside_alternation(state.mode)?;
-        outside_starts(state.mode)?;
+        alone(state.mode)?;
         self.schedules(state)?;
         self.pays(state)?;
         Ok(Onward::Ends)

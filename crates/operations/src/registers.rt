@@ -24,7 +24,7 @@ pub(crate) fn minimum_integer<S: Store>(cpu: &mut Cpu<S>) -> Result<Flow, Fault>
         Performs S.cells cpu.old cpu.new result outcome }
     ensures elsewhere { IsSameElsewhere S.holding S.roles cpu.old cpu.new }
 {
-    cpu.beside_guards()?;
+    cpu.outside_starts()?;
     cpu.in_code(cpu.next())?;
     cpu.registers.stack.push(Some(i32::MIN));
     Ok(Flow::Next)
