@@ -15,12 +15,12 @@ use Rattle.module_format.specs.Contents.{Contents, Label, label_at}
 use Rattle.certificate.specs.Rights.{may_write_word, may_read_word}
 use Rattle.states.specs.State.{State, known, written}
 use Rattle.states.specs.Below.{below}
-use Rattle.facts.specs.declared.place.Onward.{Onward}
+use Rattle.machine_state.specs.declared.cpu.Flow.{Flow}
 use Rattle.facts.specs.Rules.{Ruling, Site, leads, breaks, outside_alternation, outside_starts, alone, uses, forward, writes_word, reads_word, schedules, pays, leads_to, goes_on, push, pop, without_registers, loaded, instruction_rule, rule_of, rule, rule_at, has_rule}
 use Rattle.facts.specs.Telling.{Advances}
 
 -- the same ruling, told otherwise
-pub advances-by : (r : Result Onward Rule) (after : State) (p q : Ruling) → p ≡ q → Advances r after q → Advances r after p
+pub advances-by : (r : Result Flow Rule) (after : State) (p q : Ruling) → p ≡ q → Advances r after q → Advances r after p
 advances-by r after p q e h = subst (λ x. Advances r after x) (sym e) h
 
 -- ---- ldc

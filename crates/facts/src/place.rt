@@ -5,20 +5,9 @@ use crate::combinators::{
     uses,
 };
 use certificate::{Fact, Module, Stack};
-use machine_state::Op;
+use machine_state::{Flow, Op};
 use states::{Known, Rule, State, cost_below};
 use word_arithmetic::{Binary as BinaryOperation, Unary as UnaryOperation};
-
-/// Where an instruction leads.
-#[derive(Clone, Copy, Debug, PartialEq, Eq)]
-pub enum Onward {
-    /// Behind itself, in the state that it leaves.
-    Falls,
-    /// To the label at this code offset, and not behind itself.
-    Leads(u32),
-    /// Nowhere: the process stops.
-    Ends,
-}
 
 /// The place of an instruction: its module, its offset and its bytes. The functions of a place are the rules
 /// there. Where a rule is broken, the state is left part of the way.
@@ -100,12 +89,12 @@ impl Place<'_, '_> {
 
     /// Each byte is paid, and the process goes on behind the instruction.
     #[tactic(auto, unfolding(crate::specs::Rules::goes_on))]
-    fn goes_on(&self, state: &mut State) -> Result<Onward, Rule>
+    fn goes_on(&self, state: &mut State) -> Result<Flow, Rule>
         ensures ruling { Advances result (state_of state.new) (goes_on (site_of self.now) (state_of state.old)) }
         ensures belongs { (m : Contents) → BelongsTo m state.old → BelongsTo m state.new }
     {
         self.pays(state)?;
-        Ok(Onward::Falls)
+        Ok(Flow::Next)
     }
 
     /// The code offset that is so many bytes from the next instruction.
@@ -119,21 +108,21 @@ impl Place<'_, '_> {
 
     /// There is a label at the offset, and the state may go on as it.
     #[tactic(auto, unfolding(crate::specs::Rules::leads_to))]
-    fn leads_to(&self, state: &State, to: u32) -> Result<Onward, Rule>
+    fn leads_to(&self, state: &State, to: u32) -> Result<Flow, Rule>
         requires { Keeps self.now.module.now }
         ensures { Advances result (state_of state.now) (leads_to (site_of self.now) to (state_of state.now)) }
     {
         match self.module.label_at(to) {
             Some(row) => {
                 cost_below(state, row)?;
-                Ok(Onward::Leads(to))
+                Ok(Flow::Jump { to })
             }
             None => Err(Rule::Label),
         }
     }
 
     #[tactic(auto, unfolding(crate::specs::Rules::instruction_rule))]
-    pub(crate) fn load_constant(&self, state: &mut State, value: i32) -> Result<Onward, Rule>
+    pub(crate) fn load_constant(&self, state: &mut State, value: i32) -> Result<Flow, Rule>
         ensures ruling { Advances result (state_of state.new) (instruction_rule (site_of self.now) LoadConstant value (state_of state.old)) }
         ensures belongs { (m : Contents) → BelongsTo m state.old → BelongsTo m state.new }
     {
@@ -145,7 +134,7 @@ impl Place<'_, '_> {
     }
 
     #[tactic(auto, unfolding(crate::specs::Rules::instruction_rule))]
-    pub(crate) fn load_local(&self, state: &mut State, distance: i32) -> Result<Onward, Rule>
+    pub(crate) fn load_local(&self, state: &mut State, distance: i32) -> Result<Flow, Rule>
         requires { BelongsTo self.now.module.now state.old }
         ensures ruling { Advances result (state_of state.new) (instruction_rule (site_of self.now) LoadLocal distance (state_of state.old)) }
         ensures belongs { BelongsTo self.now.module.now state.new }
@@ -158,7 +147,7 @@ impl Place<'_, '_> {
     }
 
     #[tactic(auto, unfolding(crate::specs::Rules::instruction_rule))]
-    pub(crate) fn store_local(&self, state: &mut State, distance: i32) -> Result<Onward, Rule>
+    pub(crate) fn store_local(&self, state: &mut State, distance: i32) -> Result<Flow, Rule>
         requires { BelongsTo self.now.module.now state.old }
         ensures ruling { Advances result (state_of state.new) (instruction_rule (site_of self.now) StoreLocal distance (state_of state.old)) }
         ensures belongs { BelongsTo self.now.module.now state.new }
@@ -173,7 +162,7 @@ impl Place<'_, '_> {
 
     /// A becomes the result, of which this is known.
     #[tactic(auto, unfolding(crate::specs::Rules::becomes))]
-    fn becomes(&self, state: &mut State, known: Option<Fact>) -> Result<Onward, Rule>
+    fn becomes(&self, state: &mut State, known: Option<Fact>) -> Result<Flow, Rule>
         ensures ruling { Advances result (state_of state.new) (becomes (site_of self.now) known (state_of state.old)) }
         ensures belongs { (m : Contents) → BelongsTo m state.old → BelongsTo m state.new }
     {
@@ -189,7 +178,7 @@ impl Place<'_, '_> {
         state: &mut State,
         op: BinaryOperation,
         value: i32,
-    ) -> Result<Onward, Rule>
+    ) -> Result<Flow, Rule>
         ensures ruling { Advances result (state_of state.new) (instruction_rule (site_of self.now) (WithConstant op) value (state_of state.old)) }
         ensures belongs { (m : Contents) → BelongsTo m state.old → BelongsTo m state.new }
     {
@@ -202,7 +191,7 @@ impl Place<'_, '_> {
     }
 
     #[tactic(auto, unfolding(crate::specs::Rules::instruction_rule))]
-    pub(crate) fn jump(&self, state: &mut State, distance: i32) -> Result<Onward, Rule>
+    pub(crate) fn jump(&self, state: &mut State, distance: i32) -> Result<Flow, Rule>
         requires { BelongsTo self.now.module.now state.old }
         ensures ruling { Advances result (state_of state.new) (instruction_rule (site_of self.now) Jump distance (state_of state.old)) }
         ensures belongs { BelongsTo self.now.module.now state.new }
@@ -217,7 +206,7 @@ impl Place<'_, '_> {
     }
 
     #[tactic(auto, unfolding(crate::specs::Rules::operation_rule))]
-    fn reverse(&self, state: &mut State) -> Result<Onward, Rule>
+    fn reverse(&self, state: &mut State) -> Result<Flow, Rule>
         ensures ruling { Advances result (state_of state.new) (operation_rule (site_of self.now) Reverse (state_of state.old)) }
         ensures belongs { (m : Contents) → BelongsTo m state.old → BelongsTo m state.new }
     {
@@ -227,7 +216,7 @@ impl Place<'_, '_> {
     }
 
     #[tactic(auto, unfolding(crate::specs::Rules::operation_rule))]
-    fn minimum_integer(&self, state: &mut State) -> Result<Onward, Rule>
+    fn minimum_integer(&self, state: &mut State) -> Result<Flow, Rule>
         ensures ruling { Advances result (state_of state.new) (operation_rule (site_of self.now) MinimumInteger (state_of state.old)) }
         ensures belongs { (m : Contents) → BelongsTo m state.old → BelongsTo m state.new }
     {
@@ -240,7 +229,7 @@ impl Place<'_, '_> {
     }
 
     #[tactic(auto, unfolding(crate::specs::Rules::operation_rule))]
-    fn stop_process(&self, state: &mut State) -> Result<Onward, Rule>
+    fn stop_process(&self, state: &mut State) -> Result<Flow, Rule>
         requires { BelongsTo self.now.module.now state.old }
         ensures ruling { Advances result (state_of state.new) (operation_rule (site_of self.now) StopProcess (state_of state.old)) }
         ensures belongs { BelongsTo self.now.module.now state.new }
@@ -248,11 +237,11 @@ impl Place<'_, '_> {
         alone(state.mode)?;
         self.schedules(state)?;
         self.pays(state)?;
-        Ok(Onward::Ends)
+        Ok(Flow::Stop)
     }
 
     #[tactic(auto, unfolding(crate::specs::Rules::operation_rule))]
-    fn binary(&self, state: &mut State, op: BinaryOperation) -> Result<Onward, Rule>
+    fn binary(&self, state: &mut State, op: BinaryOperation) -> Result<Flow, Rule>
         ensures ruling { Advances result (state_of state.new) (operation_rule (site_of self.now) (Binary op) (state_of state.old)) }
         ensures belongs { (m : Contents) → BelongsTo m state.old → BelongsTo m state.new }
     {
@@ -263,7 +252,7 @@ impl Place<'_, '_> {
     }
 
     #[tactic(auto, unfolding(crate::specs::Rules::operation_rule))]
-    fn unary(&self, state: &mut State, op: UnaryOperation) -> Result<Onward, Rule>
+    fn unary(&self, state: &mut State, op: UnaryOperation) -> Result<Flow, Rule>
         ensures ruling { Advances result (state_of state.new) (operation_rule (site_of self.now) (Unary op) (state_of state.old)) }
         ensures belongs { (m : Contents) → BelongsTo m state.old → BelongsTo m state.new }
     {
@@ -271,7 +260,7 @@ impl Place<'_, '_> {
         self.becomes(state, unary_result_fact(op, operand))
     }
 
-    pub(crate) fn operate(&self, state: &mut State, op: Op) -> Result<Onward, Rule>
+    pub(crate) fn operate(&self, state: &mut State, op: Op) -> Result<Flow, Rule>
         requires { BelongsTo self.now.module.now state.old }
         ensures ruling { Advances result (state_of state.new) (operation_rule (site_of self.now) op (state_of state.old)) }
         ensures belongs { BelongsTo self.now.module.now state.new }
