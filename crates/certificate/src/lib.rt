@@ -14,7 +14,7 @@ pub use module_format::{
     Interval, LEFT_OVER, LIMIT, LabelRow, MAGIC, MAX_BRANCHES, MAX_BUDGET, MAX_CODE, MAX_CONSTANTS,
     MAX_DATA_WORDS, MAX_LABELS, MAX_LONG_CODE, MAX_MESSAGE, MAX_PARAMETERS, MAX_PARS,
     MAX_PROCEDURES, MAX_TABLES, MEMORY, ORDER, ParRow, Parameter, ParameterKind, ProcedureRow,
-    RANGE, Step, TRUNCATED, TableRow, Tables, Version, one_contents_one_file,
+    RANGE, Stack, Step, TRUNCATED, TableRow, Tables, Version, one_contents_one_file,
     one_file_one_contents, reading_again, reading_finds, write,
 };
 pub use modules::Module;

@@ -19,9 +19,9 @@ pub(crate) fn with_constant<S: Store>(
     ensures elsewhere { IsSameElsewhere S.holding S.roles cpu.old cpu.new }
 {
     cpu.alone()?;
-    let left = cpu.used(cpu.registers.a)?;
+    let left = cpu.used(cpu.registers.stack.a)?;
     let value = cpu.computed(op.apply(left, operand))?;
     cpu.in_code(cpu.next())?;
-    cpu.registers.a = Some(value);
+    cpu.registers.stack.a = Some(value);
     Ok(Flow::Next)
 }

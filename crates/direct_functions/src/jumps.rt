@@ -4,6 +4,7 @@
 ghost use Rattle.machine_state.specs.declared.instruction.Instruction.TheVariants as instruction;
 ghost use Rattle.machine_state.specs.Performing.{Performs, IsSameElsewhere, instruction_outcome};
 
+use certificate::Stack;
 use machine_state::{Cpu, Fault, Flow, Store};
 
 /// `j`: the process goes on at the distance of the operand from the next instruction. It may be sent to the
@@ -18,6 +19,6 @@ pub(crate) fn jump<S: Store>(cpu: &mut Cpu<S>, operand: i32) -> Result<Flow, Fau
     let to = cpu.target(operand);
     cpu.in_code(u64::from(to))?;
     cpu.clear_scheduling_words();
-    cpu.registers.forget();
+    cpu.registers.stack = Stack::of_empty(None);
     Ok(Flow::Jump { to })
 }

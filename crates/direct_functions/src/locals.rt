@@ -13,7 +13,7 @@ pub(crate) fn load_constant<S: Store>(cpu: &mut Cpu<S>, operand: i32) -> Result<
     ensures elsewhere { IsSameElsewhere S.holding S.roles cpu.old cpu.new }
 {
     cpu.in_code(cpu.next())?;
-    cpu.registers.push(Some(operand));
+    cpu.registers.stack.push(Some(operand));
     Ok(Flow::Next)
 }
 
@@ -23,10 +23,10 @@ pub(crate) fn load_local<S: Store>(cpu: &mut Cpu<S>, operand: i32) -> Result<Flo
         Performs S.cells cpu.old cpu.new result outcome }
     ensures elsewhere { IsSameElsewhere S.holding S.roles cpu.old cpu.new }
 {
-    cpu.beside_guards()?;
+    cpu.outside_starts()?;
     let word = cpu.read(local_address(cpu.registers.workspace, operand))?;
     cpu.in_code(cpu.next())?;
-    cpu.registers.push(word);
+    cpu.registers.stack.push(word);
     Ok(Flow::Next)
 }
 
@@ -37,11 +37,11 @@ pub(crate) fn store_local<S: Store>(cpu: &mut Cpu<S>, operand: i32) -> Result<Fl
     ensures elsewhere { IsSameElsewhere S.holding S.roles cpu.old cpu.new }
 {
     cpu.alone()?;
-    let value = cpu.used(cpu.registers.a)?;
+    let value = cpu.used(cpu.registers.stack.a)?;
     let address = local_address(cpu.registers.workspace, operand);
     cpu.writable(address)?;
     cpu.in_code(cpu.next())?;
     cpu.store.store_word(address, Some(value));
-    cpu.registers.pop();
+    cpu.registers.stack.pop(None);
     Ok(Flow::Next)
 }

@@ -1,7 +1,7 @@
 ghost use Rattle.std.specs.Prelude.{◌≡◌, ◌≢◌};
 
 use crate::direct;
-use certificate::{Tables, Version};
+use certificate::{Stack, Tables, Version};
 use machine_state::{Cpu, Fault, Flow, Mode, Registers, Store, TaggedStore, Word, local_address};
 use prefix_decoder::Fun;
 use std::alloc::{AllocError, Global};
@@ -17,9 +17,11 @@ const REGISTERS: Registers = Registers {
     at: 2,
     began: 1,
     operand: 0,
-    a: Some(10),
-    b: Some(20),
-    c: Some(30),
+    stack: Stack {
+        a: Some(10),
+        b: Some(20),
+        c: Some(30),
+    },
 };
 
 fn machine(alloc: Global) -> Result<Cpu<TaggedStore>, AllocError> {
@@ -148,14 +150,16 @@ fn goes_on(rt: &impl Abort, cpu: &mut Cpu<TaggedStore>, case: Going) {
         left: [left_a, left_b, left_c],
         after,
     } = case;
-    cpu.registers.a = a;
+    cpu.registers.stack.a = a;
     set_local(rt, cpu, 1, before);
     assert!(rt; !matches!(fun, Fun::Operate));
     assert_eq!(rt; direct(cpu, fun, operand), Ok(Flow::Next), "{case:?}");
     let expected = Registers {
-        a: left_a,
-        b: left_b,
-        c: left_c,
+        stack: Stack {
+            a: left_a,
+            b: left_b,
+            c: left_c,
+        },
         ..REGISTERS
     };
     assert_eq!(rt; cpu.registers, expected, "{case:?}");
@@ -180,9 +184,11 @@ fn jumps(rt: &impl Abort, cpu: &mut Cpu<TaggedStore>, operand: i32, to: u32) {
         "{operand}"
     );
     let expected = Registers {
-        a: None,
-        b: None,
-        c: None,
+        stack: Stack {
+            a: None,
+            b: None,
+            c: None,
+        },
         ..REGISTERS
     };
     assert_eq!(rt; cpu.registers, expected, "{operand}");
@@ -379,7 +385,7 @@ const FAILING: [Failing; 20] = [
 fn fails(rt: &impl Abort, cpu: &mut Cpu<TaggedStore>, case: Failing) {
     cpu.mode = case.mode;
     cpu.registers.at = case.at;
-    cpu.registers.a = case.a;
+    cpu.registers.stack.a = case.a;
     let before = cpu.registers;
     let fault = Fault {
         number: case.number,
@@ -418,9 +424,11 @@ fn executes_the_operation_of_an_operand(rt: HostRuntime) -> Result<(), Fail> {
     let mut cpu = machine(rt.alloc())?;
     assert_eq!(rt; direct(&mut cpu, Fun::Operate, 0x05), Ok(Flow::Next));
     let expected = Registers {
-        a: Some(30),
-        b: Some(30),
-        c: None,
+        stack: Stack {
+            a: Some(30),
+            b: Some(30),
+            c: None,
+        },
         ..REGISTERS
     };
     assert_eq!(rt; cpu.registers, expected);

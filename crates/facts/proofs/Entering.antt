@@ -292,9 +292,9 @@ pub record IsBelow (s : State) (t : Label) : Type 0 where
   pub context : s.context ≡ t.context
   pub depth : s.depth ≡ t.depth
   pub plain : is_plain s.mode ≡ true
-  pub a : implies s.a.fact t.a ≡ true
-  pub b : implies s.b.fact t.b ≡ true
-  pub c : implies s.c.fact t.c ≡ true
+  pub a : implies s.stack.a.fact t.a ≡ true
+  pub b : implies s.stack.b.fact t.b ≡ true
+  pub c : implies s.stack.c.fact t.c ≡ true
   pub entries : entries_hold s.frame t.entries ≡ true
   pub whole : list_all (is_whole s.frame) t.entries ≡ true
 
@@ -351,9 +351,11 @@ label_after m h mode act s t l wf at e g a = record {
   frame = subst (λ d. HasFrame h (length l.memory) (may_write_word m t.context) (may_read_word m t.context) act.origin d l.registers.workspace) g.depth
       (subst (λ c. HasFrame h (length l.memory) (may_write_word m c) (may_read_word m c) act.origin s.depth l.registers.workspace) g.context a.frame);
   knows = record {
-    a = register s.a.fact t.a l.registers.a g.a a.knows.a;
-    b = register s.b.fact t.b l.registers.b g.b a.knows.b;
-    c = register s.c.fact t.c l.registers.c g.c a.knows.c;
+    stack = record {
+      a = register s.stack.a.fact t.a l.registers.stack.a g.a a.knows.stack.a;
+      b = register s.stack.b.fact t.b l.registers.stack.b g.b a.knows.stack.b;
+      c = register s.stack.c.fact t.c l.registers.stack.c g.c a.knows.stack.c;
+    };
     words = λ k. label_words m act s.frame t k (frame_word l.memory act.origin k) (wf.rows at t e) (wf.pairs at t e) g.entries g.whole (a.knows.words k);
     within = λ k out. nothing_said (entry_fact t.entries k) (subst (λ f. says f (entry_fact t.entries k) ≡ true) (a.knows.within k (ap (λ c. may_read_word m c k) g.context ∙ out)) (entries_said s.frame t.entries k g.entries));
   };

@@ -95,7 +95,7 @@ below_not a b low t = elim (leb_tells (suc a) b) [ inl p ↦ let no' : true ≡ 
 
 -- paying changes nothing that is known
 paid : {m : Contents} {reads : ℤ → Bool} {s : State} {act : Activation} {r : Registers} {memory : Memory} {n : ℕ} → Knows m reads s act r memory → Knows m reads (record s { number = n }) act r memory
-paid k = record { a = k.a; b = k.b; c = k.c; words = k.words; within = k.within }
+paid k = record { stack = k.stack; words = k.words; within = k.within }
 
 rule_plain : {p : states.Mode} {q : machine.Mode} → SameMode p q → p ≡ states_modes.Plain
 rule_plain both_plain = refl
@@ -241,12 +241,12 @@ module _ (x : Here) where
   beside_plain_rule s same r o go = subst (λ q. FitsIf x (rule.outside_starts q r) o) (sym (rule_plain same)) go
 
   in_plain_step : (s : State) → SameMode s.mode x.mode → (r : Ruling) (o : Outcome) → FitsIf x r o → FitsIf x r (step.alone x.mode o)
-  unfolding step.alone
+  unfolding step.outside_alternation step.outside_starts
   in_plain_step s same r o go = subst (λ q. FitsIf x r (step.alone q o)) (sym (step_plain same)) go
 
-  beside_plain_step : (s : State) → SameMode s.mode x.mode → (r : Ruling) (o : Outcome) → FitsIf x r o → FitsIf x r (step.beside_guards x.mode o)
-  unfolding step.beside_guards
-  beside_plain_step s same r o go = subst (λ q. FitsIf x r (step.beside_guards q o)) (sym (step_plain same)) go
+  beside_plain_step : (s : State) → SameMode s.mode x.mode → (r : Ruling) (o : Outcome) → FitsIf x r o → FitsIf x r (step.outside_starts x.mode o)
+  unfolding step.outside_starts
+  beside_plain_step s same r o go = subst (λ q. FitsIf x r (step.outside_starts q o)) (sym (step_plain same)) go
 
   -- ---- the instructions
 
@@ -255,7 +255,7 @@ module _ (x : Here) where
     ldc_fits e fits = goes_on_fits (rule.push (rule.constant e) s) (step.push (Some e) l)
         (record {
           frame = a.frame;
-          knows = record { a = is_number (omega (arith, ints)) (omega (arith, ints)) fits; b = a.knows.a; c = a.knows.b; words = a.knows.words; within = a.knows.within };
+          knows = record { stack = record { a = is_number (omega (arith, ints)) (omega (arith, ints)) fits; b = a.knows.stack.a; c = a.knows.stack.b }; words = a.knows.words; within = a.knows.within };
           same_mode = a.same_mode;
         }) changes n
 
@@ -271,9 +271,12 @@ module _ (x : Here) where
         (record {
           frame = a.frame;
           knows = record {
-            a = plain_means x.m x.act (s.depth +ℤ e) (s.frame (s.depth +ℤ e)) (word_at l.memory w.place) (means_same (a.knows.words (s.depth +ℤ e)) refl (frame_word_is l.memory x.act.origin (s.depth +ℤ e) w.place w.is));
-            b = a.knows.a;
-            c = a.knows.b;
+            stack = record {
+              a = plain_means x.m x.act (s.depth +ℤ e) (s.frame (s.depth +ℤ e)) (word_at l.memory w.place)
+                  (means_same (a.knows.words (s.depth +ℤ e)) refl (frame_word_is l.memory x.act.origin (s.depth +ℤ e) w.place w.is));
+              b = a.knows.stack.a;
+              c = a.knows.stack.b;
+            };
             words = a.knows.words;
             within = a.knows.within;
           };
@@ -285,13 +288,13 @@ module _ (x : Here) where
         (step.instruction_step (step_site x) instructions.StoreLocal e l)
     unfolding rule.instruction_rule step.instruction_step written
     stl_fits e fits =
-        in_plain_step s a.same_mode _ _ (uses_fits s.a l.registers.a _ _ a.knows.a (λ v means.
+        in_plain_step s a.same_mode _ _ (uses_fits s.stack.a l.registers.stack.a _ _ a.knows.stack.a (λ v means.
         in_plain_rule s a.same_mode _ _ (beside_plain_rule s a.same_mode _ _ (writes_word_fits s e _ _ (λ t.
-        write_step s l e s.a.fact (Some v) _ _ a changes fits t (λ place inside. stored_means x.m x.act s.a.fact v l.memory place inside means) (λ memory b c.
-        goes_on_fits (rule.pop (written (s.depth +ℤ e) s.a.fact s)) (step.pop (record l { memory = memory }))
+        write_step s l e s.stack.a.fact (Some v) _ _ a changes fits t (λ place inside. stored_means x.m x.act s.stack.a.fact v l.memory place inside means) (λ memory b c.
+        goes_on_fits (rule.pop (written (s.depth +ℤ e) s.stack.a.fact s)) (step.pop (record l { memory = memory }))
         (record {
           frame = b.frame;
-          knows = record { a = b.knows.b; b = b.knows.c; c = says_nothing; words = b.knows.words; within = b.knows.within };
+          knows = record { stack = record { a = b.knows.stack.b; b = b.knows.stack.c; c = says_nothing }; words = b.knows.words; within = b.knows.within };
           same_mode = b.same_mode;
         }) c n))))))
 
@@ -308,7 +311,7 @@ module _ (x : Here) where
         (goes_on_fits (rule.with_a (known f) s') (step.with_a v l')
         (record {
           frame = b.frame;
-          knows = record { a = means; b = b.knows.b; c = b.knows.c; words = b.knows.words; within = b.knows.within };
+          knows = record { stack = record { a = means; b = b.knows.stack.b; c = b.knows.stack.c }; words = b.knows.words; within = b.knows.within };
           same_mode = b.same_mode;
         }) c e))
 
@@ -317,9 +320,9 @@ module _ (x : Here) where
         (step.instruction_step (step_site x) (instructions.WithConstant op) e l)
     unfolding rule.instruction_rule step.instruction_step
     constant_fits op e fits =
-        in_plain_step s a.same_mode _ _ (uses_fits s.a l.registers.a _ _ a.knows.a (λ v means.
-        let constant = is_number (omega (arith, ints)) (omega (arith, ints)) fits in
-        becomes_fits s l _ _ a changes n (result_means x.m x.act op s.a.fact (Number e e) v e means constant)))
+        in_plain_step s a.same_mode _ _ (uses_fits s.stack.a l.registers.stack.a _ _ a.knows.stack.a (λ v means.
+        becomes_fits s l _ _ a changes n
+        (result_means x.m x.act op s.stack.a.fact (Number e e) v e means (is_number (omega (arith, ints)) (omega (arith, ints)) fits))))
 
     pays_fits : (s' : State) (r : State → Ruling) (o : Outcome) → s'.number ≡ s.number → (s'.number - x.len + x.len ≡ x.number → FitsIf x (r (record s' { number = s'.number - x.len })) o) → FitsIf x (rule.pays (rule_site x) s' r) o
     unfolding rule.pays
@@ -337,7 +340,7 @@ module _ (x : Here) where
         leads_fits wf (target (x.at + x.len) (pos k)) (rule.without_registers (record s' { number = s'.number - x.len })) (step.without_registers (record l { memory = memory }))
         (record {
           frame = b.frame;
-          knows = record { a = says_nothing; b = says_nothing; c = says_nothing; words = b.knows.words; within = b.knows.within };
+          knows = record { stack = record { a = says_nothing; b = says_nothing; c = says_nothing }; words = b.knows.words; within = b.knows.within };
           same_mode = b.same_mode;
         }) c left)))))
 
@@ -348,7 +351,7 @@ module _ (x : Here) where
         (goes_on_fits (rule.reverse s) (step.reverse l)
         (record {
           frame = a.frame;
-          knows = record { a = a.knows.b; b = a.knows.a; c = a.knows.c; words = a.knows.words; within = a.knows.within };
+          knows = record { stack = record { a = a.knows.stack.b; b = a.knows.stack.a; c = a.knows.stack.c }; words = a.knows.words; within = a.knows.within };
           same_mode = a.same_mode;
         }) changes n)))
     operation_fits operations.MinimumInteger =
@@ -357,17 +360,17 @@ module _ (x : Here) where
         in_plain_step s a.same_mode _ _ (in_plain_rule s a.same_mode _ _ (beside_plain_rule s a.same_mode _ _
         (schedules_fits s l _ _ a changes (λ s' memory b c e. pays_fits s' _ _ e (λ left next. it_ends c (omega arith))))))
     operation_fits (operations.Binary op) =
-        in_plain_step s a.same_mode _ _ (uses_fits s.a l.registers.a _ _ a.knows.a (λ v means.
-        uses_fits s.b l.registers.b _ _ a.knows.b (λ u other.
+        in_plain_step s a.same_mode _ _ (uses_fits s.stack.a l.registers.stack.a _ _ a.knows.stack.a (λ v means.
+        uses_fits s.stack.b l.registers.stack.b _ _ a.knows.stack.b (λ u other.
         becomes_fits (rule.pop s) (step.pop l) _ _
         (record {
           frame = a.frame;
-          knows = record { a = a.knows.b; b = a.knows.c; c = says_nothing; words = a.knows.words; within = a.knows.within };
+          knows = record { stack = record { a = a.knows.stack.b; b = a.knows.stack.c; c = says_nothing }; words = a.knows.words; within = a.knows.within };
           same_mode = a.same_mode;
-        }) changes n (result_means x.m x.act op s.b.fact s.a.fact u v other means))))
+        }) changes n (result_means x.m x.act op s.stack.b.fact s.stack.a.fact u v other means))))
     operation_fits (operations.Unary op) =
-        in_plain_step s a.same_mode _ _ (uses_fits s.a l.registers.a _ _ a.knows.a (λ v means.
-        becomes_fits s l _ _ a changes n (unary_result_means x.m x.act op s.a.fact v means)))
+        in_plain_step s a.same_mode _ _ (uses_fits s.stack.a l.registers.stack.a _ _ a.knows.stack.a (λ v means.
+        becomes_fits s l _ _ a changes n (unary_result_means x.m x.act op s.stack.a.fact v means)))
 
     instruction_fits : (i : Instruction) (e : ℤ) → FitsSigned w32 e
         → FitsIf x (rule.instruction_rule (rule_site x) i e s) (step.instruction_step (step_site x) i e l)

@@ -15,12 +15,12 @@ use Rattle.module_format.specs.Contents.{Contents, Label, label_at}
 use Rattle.certificate.specs.Rights.{may_write_word, may_read_word}
 use Rattle.states.specs.State.{State, known, written}
 use Rattle.states.specs.Below.{below}
-use Rattle.facts.specs.declared.place.Onward.{Onward}
-use Rattle.facts.specs.Rules.{Ruling, Site, leads, breaks, outside_alternation, outside_starts, uses, forward, writes_word, reads_word, schedules, pays, leads_to, goes_on, push, pop, without_registers, loaded, instruction_rule, rule_of, rule, rule_at, has_rule}
+use Rattle.machine_state.specs.declared.cpu.Flow.{Flow}
+use Rattle.facts.specs.Rules.{Ruling, Site, leads, breaks, outside_alternation, outside_starts, alone, uses, forward, writes_word, reads_word, schedules, pays, leads_to, goes_on, push, pop, without_registers, loaded, instruction_rule, rule_of, rule, rule_at, has_rule}
 use Rattle.facts.specs.Telling.{Advances}
 
 -- the same ruling, told otherwise
-pub advances-by : (r : Result Onward Rule) (after : State) (p q : Ruling) → p ≡ q → Advances r after q → Advances r after p
+pub advances-by : (r : Result Flow Rule) (after : State) (p q : Ruling) → p ≡ q → Advances r after q → Advances r after p
 advances-by r after p q e h = subst (λ x. Advances r after x) (sym e) h
 
 -- ---- ldc
@@ -52,11 +52,12 @@ load_local-after s t k z fact v z_is fact_is v_is t_is =
 abbrev pub after_store : ℤ → Fact → State → State
 after_store k fact s = pop (written k fact s)
 
-pub store_local-own : (site : Site) (s : State) (e d : ℤ) (fact : Fact) → ((n : Fact → Ruling) → uses s.a n ≡ n fact) → ((n : Ruling) → outside_alternation s.mode n ≡ n) → ((n : Ruling) → outside_starts s.mode n ≡ n) → d ≡ e
+pub store_local-own : (site : Site) (s : State) (e d : ℤ) (fact : Fact) → ((n : Fact → Ruling) → uses s.stack.a n ≡ n fact)
+    → ((n : Ruling) → alone s.mode n ≡ n) → d ≡ e
     → instruction_rule site StoreLocal e s ≡ writes_word site s (s.depth +ℤ d) (goes_on site (after_store (s.depth +ℤ d) fact s))
 unfolding instruction_rule
-store_local-own site s e d fact used alternation starts d_is =
-    used _ ∙ (alternation _ ∙ (starts _ ∙ ap (λ (z : ℤ). writes_word site s (s.depth +ℤ z) (goes_on site (after_store (s.depth +ℤ z) fact s))) (sym d_is)))
+store_local-own site s e d fact used passes d_is =
+    used _ ∙ (passes _ ∙ ap (λ (z : ℤ). writes_word site s (s.depth +ℤ z) (goes_on site (after_store (s.depth +ℤ z) fact s))) (sym d_is))
 
 pub store_local-after : (s t u : State) (k z : ℤ) (fact : Fact) → z ≡ k → t ≡ written z fact s → u ≡ pop t → after_store k fact s ≡ u
 store_local-after s t u k z fact z_is t_is u_is = sym (u_is ∙ ap pop (t_is ∙ ap (λ (x : ℤ). written x fact s) z_is))

@@ -113,9 +113,7 @@ pub knows_written : (m : Contents) (h : Holding) (reads : ℤ → Bool) (s : Sta
     → Knows m reads s act r memory → Means m act f (word_at (with_word memory w.place v) w.place) → Knows m reads (written k f s) act r (with_word memory w.place v)
 unfolding written
 knows_written m h reads s act k r memory f v readable w known here = record {
-  a = known.a;
-  b = known.b;
-  c = known.c;
+  stack = record { a = known.stack.a; b = known.stack.b; c = known.stack.c };
   words = words;
   within = within;
 }

@@ -9,6 +9,7 @@ use Rattle.module_format.specs.declared.fact.Step.TheVariants.{Byte, Word}
 use Rattle.module_format.specs.declared.rows.Entry.{Entry}
 use Rattle.module_format.specs.Order.{is_stepped}
 use Rattle.module_format.specs.Contents.{Contents, Label, label_at}
+use Rattle.module_format.specs.Stack.{AreRelated}
 use Rattle.machine_state.specs.declared.process.Registers.{Registers}
 use Rattle.machine_state.specs.declared.process.Mode as machine
 use Rattle.machine_state.specs.declared.process.Mode.TheVariants as machine_modes
@@ -17,6 +18,7 @@ use Rattle.machine_state.specs.Holding.{Holding, may_write_word, may_read_word}
 use Rattle.machine_state.specs.World.{constants_start}
 use Rattle.states.specs.declared.known.Mode as states
 use Rattle.states.specs.declared.known.Mode.TheVariants as states_modes
+use Rattle.states.specs.declared.known.Known.{Known}
 use Rattle.states.specs.declared.known.Loop.{Loop as CountedLoop}
 use Rattle.states.specs.declared.known.WordFact.{WordFact}
 use Rattle.states.specs.declared.known.WordFact.TheVariants.{Alone, Index, Count}
@@ -114,11 +116,13 @@ pub record HasFrame (h : Holding) (size : ℕ) (writes reads : ℤ → Bool) (or
 
 -- ---- states
 
+-- what is known of a register holds of its word
+abbrev pub MeansKnown : Contents → Activation → Known → Option ℤ → Type 0
+MeansKnown m act known word = Means m act known.fact word
+
 -- all that the state says holds in an activation, and it says nothing of a word that the context may not read
 pub record Knows (m : Contents) (reads : ℤ → Bool) (s : State) (act : Activation) (r : Registers) (memory : Memory) : Type 0 where
-  pub a : Means m act s.a.fact r.a
-  pub b : Means m act s.b.fact r.b
-  pub c : Means m act s.c.fact r.c
+  pub stack : AreRelated (MeansKnown m act) s.stack r.stack
   pub words : (k : ℤ) → MeansWord m act k (s.frame k) (frame_word memory act.origin k)
   pub within : (k : ℤ) → reads k ≡ false → s.frame k ≡ Alone Unknown
 

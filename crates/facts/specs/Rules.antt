@@ -13,6 +13,7 @@ use Rattle.word_arithmetic.specs.Unary.{unary_result_range}
 use Rattle.module_format.specs.declared.fact.Fact.{Fact}
 use Rattle.module_format.specs.declared.fact.Fact.TheVariants.{Unknown, Number}
 use Rattle.module_format.specs.Contents.{Contents, label_at}
+use Rattle.module_format.specs.Stack.{of_empty, pushed, popped, reversed, with_top}
 use Rattle.certificate.specs.Rights.{may_write_word, may_read_word}
 use Rattle.machine_state.specs.declared.op.Op.{Op}
 use Rattle.machine_state.specs.declared.op.Op.TheVariants.{Reverse, StopProcess, MinimumInteger, Binary, Unary}
@@ -64,6 +65,10 @@ outside_starts Enabling k = k
 outside_starts (Disabling done) k = k
 outside_starts (Starting row started) k = breaks rules.Par
 
+-- one that may stand in neither
+abbrev pub alone : Mode → Ruling → Ruling
+alone mode k = outside_alternation mode (outside_starts mode k)
+
 -- a register that is used is known
 unfoldable pub uses : Known → (Fact → Ruling) → Ruling
 uses known k = elim known.fact [ Unknown ↦ breaks rules.UnknownRegister | _ ↦ k known.fact ]
@@ -106,19 +111,19 @@ goes_on site s = pays site s falls
 -- ---- registers
 
 abbrev pub push : Known → State → State
-push v s = record s { a = v; b = s.a; c = s.b }
+push v s = record s { stack = pushed v s.stack }
 
 abbrev pub pop : State → State
-pop s = record s { a = s.b; b = s.c; c = unknown }
+pop s = record s { stack = popped unknown s.stack }
 
 abbrev pub reverse : State → State
-reverse s = record s { a = s.b; b = s.a }
+reverse s = record s { stack = reversed s.stack }
 
 abbrev pub with_a : Known → State → State
-with_a v s = record s { a = v }
+with_a v s = record s { stack = with_top v s.stack }
 
 abbrev pub without_registers : State → State
-without_registers s = record s { a = unknown; b = unknown; c = unknown }
+without_registers s = record s { stack = of_empty unknown }
 
 -- a constant
 abbrev pub constant : ℤ → Known
@@ -160,17 +165,16 @@ unary_result_fact op operand = elim (range_of operand) [
 -- A becomes the result, of which this is known
 unfoldable pub becomes : Site → Option Fact → State → Ruling
 becomes site None s = breaks rules.Number
-becomes site (Some fact) s = outside_alternation s.mode (outside_starts s.mode (goes_on site (with_a (known fact) s)))
+becomes site (Some fact) s = alone s.mode (goes_on site (with_a (known fact) s))
 
 -- ---- the instructions
 
 unfoldable pub operation_rule : Site → Op → State → Ruling
-operation_rule site Reverse s = outside_alternation s.mode (outside_starts s.mode (goes_on site (reverse s)))
+operation_rule site Reverse s = alone s.mode (goes_on site (reverse s))
 operation_rule site MinimumInteger s = outside_starts s.mode (goes_on site (push (constant least_word) s))
-operation_rule site StopProcess s =
-    outside_alternation s.mode (outside_starts s.mode (schedules site s (λ s. pays site s (λ s. ends))))
-operation_rule site (Binary op) s = uses s.a (λ a. uses s.b (λ b. becomes site (result_fact op b a) (pop s)))
-operation_rule site (Unary op) s = uses s.a (λ a. becomes site (unary_result_fact op a) s)
+operation_rule site StopProcess s = alone s.mode (schedules site s (λ s. pays site s (λ s. ends)))
+operation_rule site (Binary op) s = uses s.stack.a (λ a. uses s.stack.b (λ b. becomes site (result_fact op b a) (pop s)))
+operation_rule site (Unary op) s = uses s.stack.a (λ a. becomes site (unary_result_fact op a) s)
 
 unfoldable pub instruction_rule : Site → Instruction → ℤ → State → Ruling
 instruction_rule site LoadConstant e s = goes_on site (push (constant e) s)
@@ -179,9 +183,8 @@ instruction_rule site LoadLocal e s =
     outside_starts s.mode (reads_word site s k (goes_on site (push (loaded k (s.frame k)) s)))
 instruction_rule site StoreLocal e s =
     let k = s.depth +ℤ e in
-    uses s.a (λ a. outside_alternation s.mode (outside_starts s.mode (writes_word site s k
-    (goes_on site (pop (written k a s))))))
-instruction_rule site (WithConstant op) e s = uses s.a (λ a. becomes site (result_fact op a (Number e e)) s)
+    uses s.stack.a (λ a. alone s.mode (writes_word site s k (goes_on site (pop (written k a s)))))
+instruction_rule site (WithConstant op) e s = uses s.stack.a (λ a. becomes site (result_fact op a (Number e e)) s)
 instruction_rule site Jump e s =
     outside_alternation s.mode (forward e (outside_starts s.mode (schedules site s (λ s. pays site s (λ s.
     leads_to site (target (site.at + site.length) e) (without_registers s))))))

@@ -2,8 +2,8 @@
 use Rattle.std.specs.Prelude.{◌≡◌, Result, Ok, Err}
 use Rattle.states.specs.declared.rule.Rule.{Rule}
 use Rattle.states.specs.State.{State}
-use Rattle.facts.specs.declared.place.Onward.{Onward}
-use Rattle.facts.specs.declared.place.Onward.TheVariants as onward
+use Rattle.machine_state.specs.declared.cpu.Flow.{Flow}
+use Rattle.machine_state.specs.declared.cpu.Flow.TheVariants.{Next, Jump, Stop}
 use Rattle.facts.specs.Rules.{Ruling, falls, leads, ends, breaks}
 
 -- a test passes, or it alone decides the ruling
@@ -22,8 +22,8 @@ Leaves (Ok x) after test = (k : State → Ruling) → test k ≡ k after
 Leaves (Err broken) after test = (k : State → Ruling) → test k ≡ breaks broken
 
 -- a state was taken on as the ruling says
-abbrev pub Advances : Result Onward Rule → State → Ruling → Type 0
-Advances (Ok onward.Falls) after ruling = ruling ≡ falls after
-Advances (Ok (onward.Leads to)) after ruling = ruling ≡ leads to
-Advances (Ok onward.Ends) after ruling = ruling ≡ ends
+abbrev pub Advances : Result Flow Rule → State → Ruling → Type 0
+Advances (Ok Next) after ruling = ruling ≡ falls after
+Advances (Ok (Jump to)) after ruling = ruling ≡ leads to
+Advances (Ok Stop) after ruling = ruling ≡ ends
 Advances (Err broken) after ruling = ruling ≡ breaks broken

@@ -5,9 +5,9 @@ ghost use Rattle.states.specs.Views.{state_of, BelongsTo};
 ghost use Rattle.facts.specs.Rules.{has_rule, rule_at};
 ghost use Rattle.facts.specs.Telling.{Advances};
 
-use crate::place::{Onward, Place};
+use crate::place::Place;
 use certificate::Module;
-use machine_state::Instruction;
+use machine_state::{Flow, Instruction};
 use prefix_decoder::Instr;
 use states::{Rule, State};
 
@@ -20,10 +20,11 @@ pub fn has_rule(instr: Instr) -> bool
     Instruction::of(instr.fun, instr.operand).is_some()
 }
 
-/// Takes a state over the instruction that stands at a code offset, by the rule of that instruction. Where
-/// the rule is broken, the state is left part of the way.
+/// Takes a state over the instruction at a code offset, by the rule of that instruction, and reports how a
+/// process goes on there: a jump leads to the label at its code offset. Where the rule is broken, the state is
+/// left part of the way.
 #[tactic(auto, unfolding(crate::specs::Rules::rule, crate::specs::Rules::rule_of))]
-pub fn advance(state: &mut State, module: &Module, at: usize, instr: Instr) -> Result<Onward, Rule>
+pub fn advance(state: &mut State, module: &Module, at: usize, instr: Instr) -> Result<Flow, Rule>
     requires { BelongsTo «module».now state.old }
     ensures ruling { Advances result (state_of state.new) (rule_at «module».now at instr (state_of state.old)) }
     ensures belongs { BelongsTo «module».now state.new }

@@ -4,7 +4,7 @@ ghost use Rattle.std.specs.Prelude.{◌≡◌};
 ghost use Rattle.std.specs.Option.{option_map};
 ghost use Rattle.word_arithmetic.specs.Range.{ends_of};
 ghost use Rattle.states.specs.Rows.{LoopFits};
-ghost use Rattle.facts.specs.Rules.{outside_alternation, outside_starts, uses, forward, source_of, loaded, range_of, number_in, result_fact, unary_result_fact};
+ghost use Rattle.facts.specs.Rules.{outside_alternation, outside_starts, alone, uses, forward, source_of, loaded, range_of, number_in, result_fact, unary_result_fact};
 ghost use Rattle.facts.specs.Telling.{Admits, Gives};
 
 use certificate::Fact;
@@ -31,6 +31,14 @@ pub(crate) fn outside_starts(mode: Mode) -> Result<(), Rule>
         Mode::Plain | Mode::Enabling | Mode::Disabling { .. } => Ok(()),
         Mode::Starting { .. } => Err(Rule::Par),
     }
+}
+
+/// An instruction that may stand in neither.
+pub(crate) fn alone(mode: Mode) -> Result<(), Rule>
+    ensures { Admits result (alone mode) }
+{
+    outside_alternation(mode)?;
+    outside_starts(mode)
 }
 
 /// A register that is used is known.

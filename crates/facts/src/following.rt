@@ -6,8 +6,8 @@ ghost use Rattle.facts.specs.Rules.{rule_at};
 ghost use Rattle.facts.specs.Successions.{Succeeds, Follow};
 
 use crate::advancing::advance;
-use crate::place::Onward;
 use certificate::Module;
+use machine_state::Flow;
 use prefix_decoder::Instr;
 use states::{RuleFault, State};
 use std::alloc::Global;
@@ -40,8 +40,8 @@ pub fn transfer<'a>(
 {
     let mut next = state.copy(alloc)?;
     match advance(&mut next, module, at, instr)? {
-        Onward::Falls => Ok(Successors::Falls(next)),
-        Onward::Leads(to) => Ok(Successors::Leads(to)),
-        Onward::Ends => Ok(Successors::Ends),
+        Flow::Next => Ok(Successors::Falls(next)),
+        Flow::Jump { to } => Ok(Successors::Leads(to)),
+        Flow::Stop => Ok(Successors::Ends),
     }
 }

@@ -12,4 +12,3 @@ mod tests;
 pub use advancing::{advance, has_rule};
 pub use following::{Successors, transfer};
 pub use laws::rules_fit_steps;
-pub use place::Onward;

@@ -1,23 +1,13 @@
 //! The place of an instruction, and the rules there.
 
 use crate::combinators::{
-    forward, loaded, outside_alternation, outside_starts, result_fact, unary_result_fact, uses,
+    alone, forward, loaded, outside_alternation, outside_starts, result_fact, unary_result_fact,
+    uses,
 };
-use certificate::{Fact, Module};
-use machine_state::Op;
+use certificate::{Fact, Module, Stack};
+use machine_state::{Flow, Op};
 use states::{Known, Rule, State, cost_below};
 use word_arithmetic::{Binary as BinaryOperation, Unary as UnaryOperation};
-
-/// Where an instruction leads.
-#[derive(Clone, Copy, Debug, PartialEq, Eq)]
-pub enum Onward {
-    /// To what is after it, in the state that it leaves.
-    Falls,
-    /// To the label at this code offset, and not to what is after it.
-    Leads(u32),
-    /// Nowhere: the process stops.
-    Ends,
-}
 
 /// The place of an instruction: its module, its offset and its bytes. The functions of a place are the rules
 /// there. Where a rule is broken, the state is left part of the way.
@@ -101,12 +91,12 @@ impl Place<'_, '_> {
 
     /// Each byte is paid, and the process goes on after the instruction.
     #[tactic(auto, unfolding(crate::specs::Rules::goes_on))]
-    fn goes_on(&self, state: &mut State) -> Result<Onward, Rule>
+    fn goes_on(&self, state: &mut State) -> Result<Flow, Rule>
         ensures ruling { Advances result (state_of state.new) (goes_on (site_of self.now) (state_of state.old)) }
         ensures belongs { (m : Contents) → BelongsTo m state.old → BelongsTo m state.new }
     {
         self.pays(state)?;
-        Ok(Onward::Falls)
+        Ok(Flow::Next)
     }
 
     /// The code offset that is so many bytes from the next instruction.
@@ -120,21 +110,21 @@ impl Place<'_, '_> {
 
     /// There is a label at the offset, and the state may go on as it.
     #[tactic(auto, unfolding(crate::specs::Rules::leads_to))]
-    fn leads_to(&self, state: &State, to: u32) -> Result<Onward, Rule>
+    fn leads_to(&self, state: &State, to: u32) -> Result<Flow, Rule>
         requires { Keeps self.now.module.now }
         ensures { Advances result (state_of state.now) (leads_to (site_of self.now) to (state_of state.now)) }
     {
         match self.module.label_at(to) {
             Some(row) => {
                 cost_below(state, row)?;
-                Ok(Onward::Leads(to))
+                Ok(Flow::Jump { to })
             }
             None => Err(Rule::Label),
         }
     }
 
     #[tactic(auto, unfolding(crate::specs::Rules::instruction_rule))]
-    pub(crate) fn load_constant(&self, state: &mut State, value: i32) -> Result<Onward, Rule>
+    pub(crate) fn load_constant(&self, state: &mut State, value: i32) -> Result<Flow, Rule>
         ensures ruling { let ruling = instruction_rule (site_of self.now) LoadConstant value (state_of state.old) in
             Advances result (state_of state.new) ruling }
         ensures belongs { (m : Contents) → BelongsTo m state.old → BelongsTo m state.new }
@@ -147,7 +137,7 @@ impl Place<'_, '_> {
     }
 
     #[tactic(auto, unfolding(crate::specs::Rules::instruction_rule))]
-    pub(crate) fn load_local(&self, state: &mut State, distance: i32) -> Result<Onward, Rule>
+    pub(crate) fn load_local(&self, state: &mut State, distance: i32) -> Result<Flow, Rule>
         requires { BelongsTo self.now.module.now state.old }
         ensures ruling { let ruling = instruction_rule (site_of self.now) LoadLocal distance (state_of state.old) in
             Advances result (state_of state.new) ruling }
@@ -161,15 +151,14 @@ impl Place<'_, '_> {
     }
 
     #[tactic(auto, unfolding(crate::specs::Rules::instruction_rule))]
-    pub(crate) fn store_local(&self, state: &mut State, distance: i32) -> Result<Onward, Rule>
+    pub(crate) fn store_local(&self, state: &mut State, distance: i32) -> Result<Flow, Rule>
         requires { BelongsTo self.now.module.now state.old }
         ensures ruling { let ruling = instruction_rule (site_of self.now) StoreLocal distance (state_of state.old) in
             Advances result (state_of state.new) ruling }
         ensures belongs { BelongsTo self.now.module.now state.new }
     {
-        let fact = uses(state.a)?;
-        outside_alternation(state.mode)?;
-        outside_starts(state.mode)?;
+        let fact = uses(state.stack.a)?;
+        alone(state.mode)?;
         let word = self.writes_word(state, distance)?;
         state.write(word, fact);
         state.pop();
@@ -178,14 +167,13 @@ impl Place<'_, '_> {
 
     /// A becomes the result, of which this is known.
     #[tactic(auto, unfolding(crate::specs::Rules::becomes))]
-    fn becomes(&self, state: &mut State, known: Option<Fact>) -> Result<Onward, Rule>
+    fn becomes(&self, state: &mut State, known: Option<Fact>) -> Result<Flow, Rule>
         ensures ruling { Advances result (state_of state.new) (becomes (site_of self.now) known (state_of state.old)) }
         ensures belongs { (m : Contents) → BelongsTo m state.old → BelongsTo m state.new }
     {
         let fact = known.ok_or(Rule::Number)?;
-        outside_alternation(state.mode)?;
-        outside_starts(state.mode)?;
-        state.a = Known::of(fact);
+        alone(state.mode)?;
+        state.stack.a = Known::of(fact);
         self.goes_on(state)
     }
 
@@ -195,12 +183,12 @@ impl Place<'_, '_> {
         state: &mut State,
         op: BinaryOperation,
         value: i32,
-    ) -> Result<Onward, Rule>
+    ) -> Result<Flow, Rule>
         ensures ruling { let ruling = instruction_rule (site_of self.now) (WithConstant op) value (state_of state.old) in
             Advances result (state_of state.new) ruling }
         ensures belongs { (m : Contents) → BelongsTo m state.old → BelongsTo m state.new }
     {
-        let left = uses(state.a)?;
+        let left = uses(state.stack.a)?;
         let right = Fact::Number {
             lo: value,
             hi: value,
@@ -209,7 +197,7 @@ impl Place<'_, '_> {
     }
 
     #[tactic(auto, unfolding(crate::specs::Rules::instruction_rule))]
-    pub(crate) fn jump(&self, state: &mut State, distance: i32) -> Result<Onward, Rule>
+    pub(crate) fn jump(&self, state: &mut State, distance: i32) -> Result<Flow, Rule>
         requires { BelongsTo self.now.module.now state.old }
         ensures ruling { let ruling = instruction_rule (site_of self.now) Jump distance (state_of state.old) in
             Advances result (state_of state.new) ruling }
@@ -220,26 +208,23 @@ impl Place<'_, '_> {
         outside_starts(state.mode)?;
         self.schedules(state)?;
         self.pays(state)?;
-        state.a = Known::UNKNOWN;
-        state.b = Known::UNKNOWN;
-        state.c = Known::UNKNOWN;
+        state.stack = Stack::of_empty(Known::UNKNOWN);
         self.leads_to(state, self.target(distance))
     }
 
     #[tactic(auto, unfolding(crate::specs::Rules::operation_rule))]
-    fn reverse(&self, state: &mut State) -> Result<Onward, Rule>
+    fn reverse(&self, state: &mut State) -> Result<Flow, Rule>
         ensures ruling { let ruling = operation_rule (site_of self.now) Reverse (state_of state.old) in
             Advances result (state_of state.new) ruling }
         ensures belongs { (m : Contents) → BelongsTo m state.old → BelongsTo m state.new }
     {
-        outside_alternation(state.mode)?;
-        outside_starts(state.mode)?;
+        alone(state.mode)?;
         state.reverse();
         self.goes_on(state)
     }
 
     #[tactic(auto, unfolding(crate::specs::Rules::operation_rule))]
-    fn minimum_integer(&self, state: &mut State) -> Result<Onward, Rule>
+    fn minimum_integer(&self, state: &mut State) -> Result<Flow, Rule>
         ensures ruling { let ruling = operation_rule (site_of self.now) MinimumInteger (state_of state.old) in
             Advances result (state_of state.new) ruling }
         ensures belongs { (m : Contents) → BelongsTo m state.old → BelongsTo m state.new }
@@ -253,43 +238,42 @@ impl Place<'_, '_> {
     }
 
     #[tactic(auto, unfolding(crate::specs::Rules::operation_rule))]
-    fn stop_process(&self, state: &mut State) -> Result<Onward, Rule>
+    fn stop_process(&self, state: &mut State) -> Result<Flow, Rule>
         requires { BelongsTo self.now.module.now state.old }
         ensures ruling { let ruling = operation_rule (site_of self.now) StopProcess (state_of state.old) in
             Advances result (state_of state.new) ruling }
         ensures belongs { BelongsTo self.now.module.now state.new }
     {
-        outside_alternation(state.mode)?;
-        outside_starts(state.mode)?;
+        alone(state.mode)?;
         self.schedules(state)?;
         self.pays(state)?;
-        Ok(Onward::Ends)
+        Ok(Flow::Stop)
     }
 
     #[tactic(auto, unfolding(crate::specs::Rules::operation_rule))]
-    fn binary(&self, state: &mut State, op: BinaryOperation) -> Result<Onward, Rule>
+    fn binary(&self, state: &mut State, op: BinaryOperation) -> Result<Flow, Rule>
         ensures ruling { let ruling = operation_rule (site_of self.now) (Binary op) (state_of state.old) in
             Advances result (state_of state.new) ruling }
         ensures belongs { (m : Contents) → BelongsTo m state.old → BelongsTo m state.new }
     {
-        let right = uses(state.a)?;
-        let left = uses(state.b)?;
+        let right = uses(state.stack.a)?;
+        let left = uses(state.stack.b)?;
         state.pop();
         self.becomes(state, result_fact(op, left, right))
     }
 
     #[tactic(auto, unfolding(crate::specs::Rules::operation_rule))]
-    fn unary(&self, state: &mut State, op: UnaryOperation) -> Result<Onward, Rule>
+    fn unary(&self, state: &mut State, op: UnaryOperation) -> Result<Flow, Rule>
         ensures ruling { let ruling = operation_rule (site_of self.now) (Unary op) (state_of state.old) in
             Advances result (state_of state.new) ruling }
         ensures belongs { (m : Contents) → BelongsTo m state.old → BelongsTo m state.new }
     {
-        let operand = uses(state.a)?;
+        let operand = uses(state.stack.a)?;
         self.becomes(state, unary_result_fact(op, operand))
     }
 
     #[tactic(auto, unfolding(crate::specs::Rules::instruction_rule))]
-    pub(crate) fn operate(&self, state: &mut State, op: Op) -> Result<Onward, Rule>
+    pub(crate) fn operate(&self, state: &mut State, op: Op) -> Result<Flow, Rule>
         requires { BelongsTo self.now.module.now state.old }
         ensures ruling { let ruling = λ (e : ℤ). instruction_rule (site_of self.now) (Operate op) e (state_of state.old) in
             (e : ℤ) → Advances result (state_of state.new) (ruling e) }

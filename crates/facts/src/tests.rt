@@ -121,7 +121,7 @@ fn outcome(
 {
     match transfer(alloc, module, state, at, instr) {
         Ok(Successors::Falls(next)) => Some(Ok(Follows::Falls(
-            [next.a, next.b, next.c],
+            [next.stack.a, next.stack.b, next.stack.c],
             next.number,
         ))),
         Ok(Successors::Leads(to)) => Some(Ok(Follows::Leads(to))),
@@ -311,7 +311,7 @@ fn behind(alloc: Global, first: Instr, second: Instr) -> Option<(Known, WordFact
     let mut state = at_label(alloc, &module)?;
     advance(&mut state, &module, 4, first).ok()?;
     advance(&mut state, &module, 5, second).ok()?;
-    Some((state.a, state.fact_at(1), state.fact_at(2)))
+    Some((state.stack.a, state.fact_at(1), state.fact_at(2)))
 }
 
 #[test]

@@ -4,6 +4,7 @@ use Rattle.prefix_decoder.specs.declared.function.Fun.{Fun}
 use Rattle.module_format.specs.Contents.{Contents}
 use Rattle.machine_state.specs.declared.cpu.Flow.{Flow}
 use Rattle.machine_state.specs.declared.cpu.Flow.TheVariants.{Next, Jump, Stop as Stops}
+use Rattle.machine_state.specs.declared.process.Registers.{Registers}
 use Rattle.machine_state.specs.declared.process.Task.{Task}
 use Rattle.machine_state.specs.declared.fault.Fault.{Fault}
 use Rattle.machine_state.specs.Memory.{Memory}
@@ -15,7 +16,6 @@ use Rattle.machine.specs.declared.checked.act.Act.{Act}
 use Rattle.machine.specs.declared.checked.act.Act.TheVariants.{Ran, Idle, Taken, Kept, Busy, Acknowledged, Ignored}
 use Rattle.machine.specs.declared.checked.act.Stop.{Stop}
 use Rattle.machine.specs.declared.checked.act.Stop.TheVariants as stops
-use Rattle.machine.specs.declared.checked.act.Performed.{Performed}
 use Rattle.machine.specs.Moment.{Moment}
 
 -- what an act is in the definitions
@@ -52,15 +52,15 @@ outcome_by Next l = goes l
 outcome_by (Jump to) l = lands to l
 outcome_by Stops l = stops l
 
--- the outcome of an instruction that was performed and left this memory
-abbrev pub outcome_of : Performed → Memory → Outcome
-outcome_of performed memory = outcome_by performed.flow (record { registers = performed.registers; memory = memory })
+-- with these registers and this memory
+abbrev pub outcome_of : Flow → Registers → Memory → Outcome
+outcome_of flow registers memory = outcome_by flow (record { registers = registers; memory = memory })
 
 -- The instruction of this process had this outcome: it changed memory alone, or it is at fault and
 -- changed nothing.
-abbrev pub PerformsFor : ℕ → Task → Moment → Moment → Result Performed Fault → Outcome → Type 0
-PerformsFor p task before after (Ok performed) outcome =
-    (outcome ≡ outcome_of performed after.world.memory)
+abbrev pub PerformsFor : ℕ → Task → Moment → Moment → Result (Flow × Registers) Fault → Outcome → Type 0
+PerformsFor p task before after (Ok gone_on) outcome =
+    (outcome ≡ outcome_of gone_on.0 gone_on.1 after.world.memory)
     × (after ≡ record before { world = record before.world { memory = after.world.memory } })
 PerformsFor p task before after (Err fault) outcome =
     (reported p task.registers.began outcome ≡ Some fault) × (after ≡ before)

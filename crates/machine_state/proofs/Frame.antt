@@ -74,18 +74,18 @@ module _ (s : Site) (old : Memory) where
   on_test false one other f g = g
 
   alone_leaves : (mode : Mode) (o : Outcome) → Leaves o → Leaves (step.alone mode o)
-  unfolding step.alone
+  unfolding step.outside_alternation step.outside_starts
   alone_leaves Plain o h = h
   alone_leaves Enabling o h = tt
   alone_leaves (Disabling selection) o h = tt
   alone_leaves (Starting row started) o h = tt
 
-  beside_leaves : (mode : Mode) (o : Outcome) → Leaves o → Leaves (step.beside_guards mode o)
-  unfolding step.beside_guards
-  beside_leaves Plain o h = h
-  beside_leaves Enabling o h = h
-  beside_leaves (Disabling selection) o h = h
-  beside_leaves (Starting row started) o h = tt
+  outside_starts_leaves : (mode : Mode) (o : Outcome) → Leaves o → Leaves (step.outside_starts mode o)
+  unfolding step.outside_starts
+  outside_starts_leaves Plain o h = h
+  outside_starts_leaves Enabling o h = h
+  outside_starts_leaves (Disabling selection) o h = h
+  outside_starts_leaves (Starting row started) o h = tt
 
   uses_leaves : (v : Option ℤ) (k : ℤ → Outcome) → ((x : ℤ) → Leaves (k x)) → Leaves (step.uses v k)
   unfolding step.uses
@@ -140,28 +140,28 @@ module _ (s : Site) (l : Local) where
   operation_leaves : (op : Op) → LeavesOthers s.holding l.memory (step.operation_step s op l)
   unfolding step.operation_step
   operation_leaves Reverse = alone_leaves s l.memory s.mode _ (goes_on_leaves s l.memory (step.reverse l) same)
-  operation_leaves MinimumInteger = beside_leaves s l.memory s.mode _ (goes_on_leaves s l.memory _ same)
+  operation_leaves MinimumInteger = outside_starts_leaves s l.memory s.mode _ (goes_on_leaves s l.memory _ same)
   operation_leaves StopProcess =
       alone_leaves s l.memory s.mode _ (schedules_leaves s l.memory l stops same (λ memory changes. changes))
   operation_leaves (Binary op) =
-      alone_leaves s l.memory s.mode _ (uses_leaves s l.memory l.registers.a _ (λ a.
-      uses_leaves s l.memory l.registers.b _ (λ b.
+      alone_leaves s l.memory s.mode _ (uses_leaves s l.memory l.registers.stack.a _ (λ a.
+      uses_leaves s l.memory l.registers.stack.b _ (λ b.
       computes_leaves s l.memory _ _ (λ v. goes_on_leaves s l.memory _ same))))
   operation_leaves (Unary op) =
-      alone_leaves s l.memory s.mode _ (uses_leaves s l.memory l.registers.a _ (λ a.
+      alone_leaves s l.memory s.mode _ (uses_leaves s l.memory l.registers.stack.a _ (λ a.
       computes_leaves s l.memory _ _ (λ v. goes_on_leaves s l.memory _ same)))
 
   instruction_leaves : (i : Instruction) (e : ℤ) → LeavesOthers s.holding l.memory (step.instruction_step s i e l)
   unfolding step.instruction_step
   instruction_leaves LoadConstant e = goes_on_leaves s l.memory (step.push (Some e) l) same
   instruction_leaves LoadLocal e =
-      beside_leaves s l.memory s.mode _
+      outside_starts_leaves s l.memory s.mode _
       (reads_leaves s l.memory _ l _ (λ v. goes_on_leaves s l.memory (step.push v l) same))
   instruction_leaves StoreLocal e =
-      alone_leaves s l.memory s.mode _ (uses_leaves s l.memory l.registers.a _ (λ a.
+      alone_leaves s l.memory s.mode _ (uses_leaves s l.memory l.registers.stack.a _ (λ a.
       writes_leaves s l.memory _ (Some a) l _ same (λ memory changes. goes_on_leaves s l.memory _ changes)))
   instruction_leaves (WithConstant op) e =
-      alone_leaves s l.memory s.mode _ (uses_leaves s l.memory l.registers.a _ (λ a.
+      alone_leaves s l.memory s.mode _ (uses_leaves s l.memory l.registers.stack.a _ (λ a.
       computes_leaves s l.memory _ _ (λ v. goes_on_leaves s l.memory _ same)))
   instruction_leaves Jump e =
       alone_leaves s l.memory s.mode _ (schedules_leaves s l.memory l _ same (λ memory changes.

@@ -3,6 +3,7 @@ use Rattle.std.specs.Prelude.{ℕ, ◌+◌, ◌-◌, ◌*◌, ◌%◌, ◌^◌, 
 use Rattle.std.specs.Prelude.{[], ◌∷◌, ◌++◌, length, map, replicate, Option, Some, None, slice_get}
 use Rattle.module_format.specs.declared.rows.Direction.TheVariants.{In, Out}
 use Rattle.module_format.specs.Contents.{Contents}
+use Rattle.module_format.specs.Stack.{of_empty}
 use Rattle.machine_state.specs.Memory.{Memory, data_start}
 use Rattle.machine_state.specs.Holding.{Holding, nothing}
 use Rattle.machine_state.specs.declared.process.Task.{Task}
@@ -113,15 +114,7 @@ root_holding m = record {
 
 abbrev pub root_task : Contents → Task
 root_task m = record {
-  registers = record {
-    workspace = data_start + 4 * m.base;
-    at = 0;
-    began = 0;
-    operand = pos 0;
-    a = None;
-    b = None;
-    c = None;
-  };
+  registers = record { workspace = data_start + 4 * m.base; at = 0; began = 0; operand = pos 0; stack = of_empty None };
   mode = Plain;
   condition = Ready;
 }

@@ -3,8 +3,8 @@
 ghost use Rattle.std.specs.Prelude.{◌≡◌, ◌+◌, nat_lt, IsTrue};
 ghost use Rattle.std.specs.Option.{ok_or};
 ghost use Rattle.machine_state.specs.Holding.{may_write_word, may_read_word};
-ghost use Rattle.machine_state.specs.LocalStep.{alone, beside_guards, target, holds_scheduling_words};
-ghost use Rattle.machine_state.specs.LocalStep.{without_scheduling_words};
+ghost use Rattle.machine_state.specs.LocalStep.{outside_alternation, outside_starts, alone, target};
+ghost use Rattle.machine_state.specs.LocalStep.{holds_scheduling_words, without_scheduling_words};
 ghost use Rattle.machine_state.specs.Memory.{place_of, word_at};
 ghost use Rattle.machine_state.specs.Performing.{fault_of, value_or_fault, Admits};
 
@@ -76,27 +76,34 @@ impl<S> Cpu<S> {
         }
     }
 
-    /// Passes outside alternations and the starts of a PAR, else `AlternationOrder` or `JoinOrder`.
-    #[tactic(auto, unfolding(crate::specs::LocalStep::alone))]
-    pub fn alone(&self) -> Result<(), Fault>
-        ensures { Admits self.now result (alone self.now.mode) }
+    /// Passes outside alternations, else `AlternationOrder`.
+    #[tactic(auto, unfolding(crate::specs::LocalStep::outside_alternation))]
+    pub fn outside_alternation(&self) -> Result<(), Fault>
+        ensures { Admits self.now result (outside_alternation self.now.mode) }
     {
         match self.mode {
-            Mode::Plain => Ok(()),
+            Mode::Plain | Mode::Starting { .. } => Ok(()),
             Mode::Enabling | Mode::Disabling { .. } => Err(self.fault(FaultKind::AlternationOrder)),
-            Mode::Starting { .. } => Err(self.fault(FaultKind::JoinOrder)),
         }
     }
 
     /// Passes outside the starts of a PAR, else `JoinOrder`.
-    #[tactic(auto, unfolding(crate::specs::LocalStep::beside_guards))]
-    pub fn beside_guards(&self) -> Result<(), Fault>
-        ensures { Admits self.now result (beside_guards self.now.mode) }
+    #[tactic(auto, unfolding(crate::specs::LocalStep::outside_starts))]
+    pub fn outside_starts(&self) -> Result<(), Fault>
+        ensures { Admits self.now result (outside_starts self.now.mode) }
     {
         match self.mode {
             Mode::Plain | Mode::Enabling | Mode::Disabling { .. } => Ok(()),
             Mode::Starting { .. } => Err(self.fault(FaultKind::JoinOrder)),
         }
+    }
+
+    /// Passes outside alternations and the starts of a PAR, else `AlternationOrder` or `JoinOrder`.
+    pub fn alone(&self) -> Result<(), Fault>
+        ensures { Admits self.now result (alone self.now.mode) }
+    {
+        self.outside_alternation()?;
+        self.outside_starts()
     }
 
     /// The code offset that lies so far from the next instruction, modulo 2^32.

@@ -6,7 +6,7 @@ ghost use Rattle.machine_state.specs.Memory.{data_start};
 ghost use Rattle.machine_state.specs.World.{root_task};
 
 use crate::address::DATA_START;
-use certificate::Tables;
+use certificate::{Stack, Tables};
 
 /// A word of 32 bits as a signed number, or undefined.
 pub type Word = Option<i32>;
@@ -22,45 +22,7 @@ pub struct Registers {
     pub began: u32,
     /// The operand so far.
     pub operand: i32,
-    pub a: Word,
-    pub b: Word,
-    pub c: Word,
-}
-
-impl Registers {
-    /// Pushes a word onto the evaluation stack.
-    pub fn push(&mut self, word: Word)
-        ensures { self.new ≡ record self.old { a = word; b = self.old.a; c = self.old.b } }
-    {
-        self.c = self.b;
-        self.b = self.a;
-        self.a = word;
-    }
-
-    /// Pops a word off the evaluation stack; the lowest register is undefined then.
-    pub fn pop(&mut self)
-        ensures { self.new ≡ record self.old { a = self.old.b; b = self.old.c; c = None } }
-    {
-        self.a = self.b;
-        self.b = self.c;
-        self.c = None;
-    }
-
-    /// A and B change places.
-    pub fn reverse(&mut self)
-        ensures { self.new ≡ record self.old { a = self.old.b; b = self.old.a } }
-    {
-        std::mem::swap(&mut self.a, &mut self.b);
-    }
-
-    /// Makes the evaluation stack undefined.
-    pub fn forget(&mut self)
-        ensures { self.new ≡ record self.old { a = None; b = None; c = None } }
-    {
-        self.a = None;
-        self.b = None;
-        self.c = None;
-    }
+    pub stack: Stack<Word>,
 }
 
 /// What a process is in the middle of, apart from waiting.
@@ -126,9 +88,7 @@ impl Task {
                 at: 0,
                 began: 0,
                 operand: 0,
-                a: None,
-                b: None,
-                c: None,
+                stack: Stack::of_empty(None),
             },
             mode: Mode::Plain,
             condition: Condition::Ready,

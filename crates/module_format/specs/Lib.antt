@@ -14,3 +14,4 @@ pub mod ReadingRows
 pub mod ReadingPars
 pub mod Late
 pub mod ReadingFile
+pub mod Stack

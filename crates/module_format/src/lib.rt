@@ -12,6 +12,7 @@ mod places;
 mod reading;
 mod rows;
 mod rules;
+mod stack;
 mod tables;
 mod writing;
 
@@ -30,5 +31,6 @@ pub use rows::{
     BranchRow, ChannelRow, Direction, EndKey, EndKind, EndRow, Ends, Entry, Interval, LabelRow,
     ParRow, Parameter, ParameterKind, ProcedureRow, TableRow,
 };
+pub use stack::Stack;
 pub use tables::{Tables, Version};
 pub use writing::write;

@@ -15,12 +15,12 @@ pub(crate) fn binary<S: Store>(cpu: &mut Cpu<S>, op: Binary) -> Result<Flow, Fau
     ensures elsewhere { IsSameElsewhere S.holding S.roles cpu.old cpu.new }
 {
     cpu.alone()?;
-    let right = cpu.used(cpu.registers.a)?;
-    let left = cpu.used(cpu.registers.b)?;
+    let right = cpu.used(cpu.registers.stack.a)?;
+    let left = cpu.used(cpu.registers.stack.b)?;
     let value = cpu.computed(op.apply(left, right))?;
     cpu.in_code(cpu.next())?;
-    cpu.registers.pop();
-    cpu.registers.a = Some(value);
+    cpu.registers.stack.pop(None);
+    cpu.registers.stack.a = Some(value);
     Ok(Flow::Next)
 }
 
@@ -31,9 +31,9 @@ pub(crate) fn unary<S: Store>(cpu: &mut Cpu<S>, op: Unary) -> Result<Flow, Fault
     ensures elsewhere { IsSameElsewhere S.holding S.roles cpu.old cpu.new }
 {
     cpu.alone()?;
-    let operand = cpu.used(cpu.registers.a)?;
+    let operand = cpu.used(cpu.registers.stack.a)?;
     let value = cpu.computed(op.apply(operand))?;
     cpu.in_code(cpu.next())?;
-    cpu.registers.a = Some(value);
+    cpu.registers.stack.a = Some(value);
     Ok(Flow::Next)
 }

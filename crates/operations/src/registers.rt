@@ -14,7 +14,7 @@ pub(crate) fn reverse<S: Store>(cpu: &mut Cpu<S>) -> Result<Flow, Fault>
 {
     cpu.alone()?;
     cpu.in_code(cpu.next())?;
-    cpu.registers.reverse();
+    cpu.registers.stack.reverse();
     Ok(Flow::Next)
 }
 
@@ -24,8 +24,8 @@ pub(crate) fn minimum_integer<S: Store>(cpu: &mut Cpu<S>) -> Result<Flow, Fault>
         Performs S.cells cpu.old cpu.new result outcome }
     ensures elsewhere { IsSameElsewhere S.holding S.roles cpu.old cpu.new }
 {
-    cpu.beside_guards()?;
+    cpu.outside_starts()?;
     cpu.in_code(cpu.next())?;
-    cpu.registers.push(Some(i32::MIN));
+    cpu.registers.stack.push(Some(i32::MIN));
     Ok(Flow::Next)
 }

@@ -1,5 +1,5 @@
 use crate::operate;
-use certificate::{Tables, Version};
+use certificate::{Stack, Tables, Version};
 use machine_state::{
     Cpu, Fault, Flow, Mode, Op, Registers, Store, TaggedStore, Word, local_address,
 };
@@ -17,9 +17,11 @@ const REGISTERS: Registers = Registers {
     at: 2,
     began: 1,
     operand: 0x15,
-    a: Some(10),
-    b: Some(20),
-    c: None,
+    stack: Stack {
+        a: Some(10),
+        b: Some(20),
+        c: None,
+    },
 };
 
 fn machine(alloc: Global) -> Result<Cpu<TaggedStore>, AllocError> {
@@ -67,9 +69,7 @@ fn reverses_a_and_b(rt: HostRuntime) -> Result<(), Fail> {
     for (a, b) in [(Some(10), Some(20)), (None, Some(-1)), (Some(3), None)] {
         let mut cpu = machine(rt.alloc())?;
         let before = Registers {
-            a,
-            b,
-            c: Some(30),
+            stack: Stack { a, b, c: Some(30) },
             ..REGISTERS
         };
         cpu.registers = before;
@@ -77,8 +77,11 @@ fn reverses_a_and_b(rt: HostRuntime) -> Result<(), Fail> {
         assert_eq!(rt;
             cpu.registers,
             Registers {
-                a: b,
-                b: a,
+                stack: Stack {
+                    a: b,
+                    b: a,
+                    ..before.stack
+                },
                 ..before
             }
         );
@@ -97,9 +100,11 @@ fn pushes_the_least_word(rt: HostRuntime) -> Result<(), Fail> {
         cpu.mode = mode;
         assert_eq!(rt; operate(&mut cpu, Op::MinimumInteger), Ok(Flow::Next));
         let after = Registers {
-            a: Some(-2_147_483_648),
-            b: Some(10),
-            c: Some(20),
+            stack: Stack {
+                a: Some(-2_147_483_648),
+                b: Some(10),
+                c: Some(20),
+            },
             ..REGISTERS
         };
         assert_eq!(rt; cpu.registers, after);
@@ -144,15 +149,17 @@ const FLAGGED: Fault = Fault {
 fn computes_b_and_a(rt: HostRuntime) -> Result<(), Fail> {
     for (operand, b, a, result) in COMPUTED {
         let mut cpu = machine(rt.alloc())?;
-        cpu.registers.a = Some(a);
-        cpu.registers.b = Some(b);
-        cpu.registers.c = Some(30);
+        cpu.registers.stack.a = Some(a);
+        cpu.registers.stack.b = Some(b);
+        cpu.registers.stack.c = Some(30);
         let before = cpu.registers;
         let answer = operate(&mut cpu, Op::of(operand).ok_or("no operation")?);
         let after = Registers {
-            a: result,
-            b: Some(30),
-            c: None,
+            stack: Stack {
+                a: result,
+                b: Some(30),
+                c: None,
+            },
             ..REGISTERS
         };
         if result.is_some() {
@@ -170,11 +177,14 @@ fn computes_b_and_a(rt: HostRuntime) -> Result<(), Fail> {
 fn complements_a_alone(rt: HostRuntime) -> Result<(), Fail> {
     for (a, result) in [(5, -6), (-2147483648, 2147483647)] {
         let mut cpu = machine(rt.alloc())?;
-        cpu.registers.a = Some(a);
+        cpu.registers.stack.a = Some(a);
         let op = Op::of(0x32).ok_or("no operation")?;
         assert_eq!(rt; operate(&mut cpu, op), Ok(Flow::Next), "{a}");
         let after = Registers {
-            a: Some(result),
+            stack: Stack {
+                a: Some(result),
+                ..REGISTERS.stack
+            },
             ..REGISTERS
         };
         assert_eq!(rt; cpu.registers, after, "{a}");
@@ -201,8 +211,8 @@ fn reports_the_first_fault_of_a_division(rt: HostRuntime) -> Result<(), Fail> {
         let mut cpu = machine(rt.alloc())?;
         cpu.mode = mode;
         cpu.code_length = code_length;
-        cpu.registers.a = a;
-        cpu.registers.b = b;
+        cpu.registers.stack.a = a;
+        cpu.registers.stack.b = b;
         let before = cpu.registers;
         let fault = Fault { number, ..FLAGGED };
         assert_eq!(rt;

@@ -20,15 +20,16 @@ use Rattle.states.specs.Views.{CanWrite}
 use Rattle.states.proofs.RowFacts.{and-parts, le-from, lt-from}
 
 -- a state whose fields are those of one with a word written is that one
-pub written-fields : (word w v : ℤ) (fact : Fact) (s : State) (a b c : Known) (frame : Facts) → a ≡ forgets w s.a → b ≡ forgets w s.b → c ≡ forgets w s.c → frame ≡ with_fact v fact s.frame → w ≡ word → v ≡ word
-    → ◌≡◌ {A = State} (record s { a = a; b = b; c = c; frame = frame }) (written word fact s)
+pub written-fields : (word w v : ℤ) (fact : Fact) (s : State) (a b c : Known) (frame : Facts)
+    → a ≡ forgets w s.stack.a → b ≡ forgets w s.stack.b → c ≡ forgets w s.stack.c → frame ≡ with_fact v fact s.frame → w ≡ word → v ≡ word
+    → ◌≡◌ {A = State} (record s { stack = record { a = a; b = b; c = c }; frame = frame }) (written word fact s)
 unfolding written
 written-fields word w v fact s a b c frame p q r f w_is v_is =
-    let a_is = p ∙ ap (λ (z : ℤ). forgets z s.a) w_is in
-    let b_is = q ∙ ap (λ (z : ℤ). forgets z s.b) w_is in
-    let c_is = r ∙ ap (λ (z : ℤ). forgets z s.c) w_is in
+    let a_is = p ∙ ap (λ (z : ℤ). forgets z s.stack.a) w_is in
+    let b_is = q ∙ ap (λ (z : ℤ). forgets z s.stack.b) w_is in
+    let c_is = r ∙ ap (λ (z : ℤ). forgets z s.stack.c) w_is in
     let frame_is = f ∙ ap (λ (z : ℤ). with_fact z fact s.frame) v_is in
-    λ i. record s { a = a_is i; b = b_is i; c = c_is i; frame = frame_is i }
+    λ i. record s { stack = record { a = a_is i; b = b_is i; c = c_is i }; frame = frame_is i }
 
 -- ---- the words of all contexts
 

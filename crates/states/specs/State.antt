@@ -7,6 +7,8 @@ use Rattle.module_format.specs.declared.rows.Entry.{Entry}
 use Rattle.module_format.specs.declared.rows.Parameter.{Parameter}
 use Rattle.module_format.specs.declared.rows.ParameterKind.{ParameterKind}
 use Rattle.module_format.specs.declared.rows.ParameterKind.TheVariants.{Value}
+use Rattle.module_format.specs.declared.stack.Stack.{Stack}
+use Rattle.module_format.specs.Stack.{of_empty, mapped}
 use Rattle.module_format.specs.Contents.{Contents, Procedure, Label}
 use Rattle.states.specs.declared.known.WordFact.{WordFact}
 use Rattle.states.specs.declared.known.WordFact.TheVariants.{Alone, Index, Count}
@@ -24,9 +26,7 @@ Facts = ℤ → WordFact
 pub record State : Type 0 where
   pub context : ℕ
   pub depth : ℤ
-  pub a : Known
-  pub b : Known
-  pub c : Known
+  pub stack : Stack Known
   pub frame : Facts
   pub number : ℕ
   pub mode : Mode
@@ -112,7 +112,7 @@ forgets k known = record known { source = without_source k known.source }
 
 -- word k has this fact, and no register speaks of what it was
 unfoldable pub written : ℤ → Fact → State → State
-written k fact s = record s { a = forgets k s.a; b = forgets k s.b; c = forgets k s.c; frame = with_fact k fact s.frame }
+written k fact s = record s { stack = mapped (forgets k) s.stack; frame = with_fact k fact s.frame }
 
 -- ---- states
 
@@ -121,9 +121,7 @@ abbrev pub begun : ℕ → ℤ → ℕ → Facts → State
 begun context depth number frame = record {
   context = context;
   depth = depth;
-  a = unknown;
-  b = unknown;
-  c = unknown;
+  stack = of_empty unknown;
   frame = frame;
   number = number;
   mode = Plain;
@@ -136,7 +134,9 @@ root_state m = begun 0 (pos 0) m.budget no_facts
 
 -- the state that a label row gives
 abbrev pub label_state : Label → State
-label_state t = record (begun t.context t.depth t.number (entry_fact t.entries)) { a = known t.a; b = known t.b; c = known t.c }
+label_state t =
+    let stack : Stack Known = record { a = known t.a; b = known t.b; c = known t.c } in
+    record (begun t.context t.depth t.number (entry_fact t.entries)) { stack = stack }
 
 -- ---- procedures
 

@@ -12,9 +12,7 @@ abbrev pub state_of : InMemory → State
 state_of s = record {
   context = s.context;
   depth = s.depth;
-  a = s.a;
-  b = s.b;
-  c = s.c;
+  stack = s.stack;
   frame = frame_facts s.frame;
   number = s.number;
   mode = s.mode;

@@ -4,6 +4,7 @@ ghost use Rattle.std.specs.Prelude.{◌≡◌, ◌≤◌, ◌-◌, ◌≤ℤ◌,
 ghost use Rattle.module_format.specs.Contents.{Contents, contents_of, procedure_of, label_of};
 ghost use Rattle.certificate.specs.Rights.{may_write_word, may_read_word};
 ghost use Rattle.module_format.specs.Keeping.{Keeps};
+ghost use Rattle.module_format.specs.Stack.{pushed, popped, reversed};
 ghost use Rattle.states.specs.State.{unknown, known, without_source, forgets, written, begun, root_state, procedure_state, label_state};
 ghost use Rattle.states.specs.Rows.{LoopFits, IsRowOf};
 ghost use Rattle.states.specs.Views.{state_of, CanWrite, BelongsTo};
@@ -11,7 +12,7 @@ ghost use Rattle.states.specs.Room.{Covers};
 
 use crate::frame::Frame;
 use crate::known::{Guard, Known, Mode, Source, WordFact};
-use certificate::{Fact, LabelRow, Module, ProcedureRow, Tables};
+use certificate::{Fact, LabelRow, Module, ProcedureRow, Stack, Tables};
 use std::alloc::{AllocError, Global};
 
 /// How many guards an alternation may have.
@@ -23,9 +24,7 @@ pub struct State<'a> {
     pub context: u32,
     /// The workspace in words of the frame.
     pub depth: i32,
-    pub a: Known,
-    pub b: Known,
-    pub c: Known,
+    pub stack: Stack<Known>,
     pub(crate) frame: Frame<'a>,
     /// The module that the state is one of, which tells what its context may do.
     pub(crate) module: &'a Module<'a>,
@@ -102,9 +101,7 @@ impl<'a> State<'a> {
         Ok(State {
             context: 0,
             depth: 0,
-            a: Known::UNKNOWN,
-            b: Known::UNKNOWN,
-            c: Known::UNKNOWN,
+            stack: Stack::of_empty(Known::UNKNOWN),
             frame: Frame::new(alloc, lo, room)?,
             module,
             number: tables.budget,
@@ -157,37 +154,33 @@ impl<'a> State<'a> {
         ensures room { (k : ℤ) → CanWrite self.old k → CanWrite self.new k }
     {
         self.frame.write(i64::from(word), fact);
-        self.a = forgets(word, self.a);
-        self.b = forgets(word, self.b);
-        self.c = forgets(word, self.c);
+        self.stack.a = forgets(word, self.stack.a);
+        self.stack.b = forgets(word, self.stack.b);
+        self.stack.c = forgets(word, self.stack.c);
     }
 
     /// A value comes on top of the registers.
     pub fn push(&mut self, value: Known)
-        ensures state { state_of self.new ≡ record (state_of self.old) { a = value; b = self.old.a; c = self.old.b } }
+        ensures state { state_of self.new ≡ record (state_of self.old) { stack = pushed value self.old.stack } }
         ensures belongs { (m : Contents) → BelongsTo m self.old → BelongsTo m self.new }
     {
-        self.c = self.b;
-        self.b = self.a;
-        self.a = value;
+        self.stack.push(value);
     }
 
     /// The top of the registers goes.
     pub fn pop(&mut self)
-        ensures state { state_of self.new ≡ record (state_of self.old) { a = self.old.b; b = self.old.c; c = unknown } }
+        ensures state { state_of self.new ≡ record (state_of self.old) { stack = popped unknown self.old.stack } }
         ensures belongs { (m : Contents) → BelongsTo m self.old → BelongsTo m self.new }
     {
-        self.a = self.b;
-        self.b = self.c;
-        self.c = Known::UNKNOWN;
+        self.stack.pop(Known::UNKNOWN);
     }
 
     /// A and B change places.
     pub fn reverse(&mut self)
-        ensures state { state_of self.new ≡ record (state_of self.old) { a = self.old.b; b = self.old.a } }
+        ensures state { state_of self.new ≡ record (state_of self.old) { stack = reversed self.old.stack } }
         ensures belongs { (m : Contents) → BelongsTo m self.old → BelongsTo m self.new }
     {
-        std::mem::swap(&mut self.a, &mut self.b);
+        self.stack.reverse();
     }
 
     /// The state goes on in a context of the module, at a depth and with a number. What is known of the
@@ -199,9 +192,7 @@ impl<'a> State<'a> {
         self.module = module;
         self.context = context;
         self.depth = depth;
-        self.a = Known::UNKNOWN;
-        self.b = Known::UNKNOWN;
-        self.c = Known::UNKNOWN;
+        self.stack = Stack::of_empty(Known::UNKNOWN);
         self.number = number;
         self.mode = Mode::Plain;
         self.guards.clear();
@@ -229,9 +220,11 @@ impl<'a> State<'a> {
     {
         self.frame.restart(&row.entries);
         self.begin_at(module, u32::from(row.context), row.depth, row.number);
-        self.a = Known::of(row.a);
-        self.b = Known::of(row.b);
-        self.c = Known::of(row.c);
+        self.stack = Stack {
+            a: Known::of(row.a),
+            b: Known::of(row.b),
+            c: Known::of(row.c),
+        };
     }
 
     /// The same state again.
@@ -244,9 +237,7 @@ impl<'a> State<'a> {
         Ok(State {
             context: self.context,
             depth: self.depth,
-            a: self.a,
-            b: self.b,
-            c: self.c,
+            stack: self.stack,
             frame: self.frame.copy(alloc)?,
             module: self.module,
             number: self.number,

@@ -147,9 +147,11 @@ module _ (m : Contents) (d : Decodes m) (wf : IsWellFormed m) (c : IsCertified m
   root_after = record {
     frame = root_frame m wf;
     knows = record {
-      a = means_unknown m root_activation None;
-      b = means_unknown m root_activation None;
-      c = means_unknown m root_activation None;
+      stack = record {
+        a = means_unknown m root_activation None;
+        b = means_unknown m root_activation None;
+        c = means_unknown m root_activation None;
+      };
       words = λ k. nothing_known m root_activation k _;
       within = λ k out. refl;
     };

@@ -59,9 +59,7 @@ four_readable h place e =
 pub knows_agree : (m : Contents) (h : Holding) (reads : ℤ → Bool) (s : State) (act : Activation) (r : Registers) (memory later : Memory) → ((k : ℤ) → reads k ≡ true → IsReadableWord h (length memory) act.origin k)
     → ((place : ℕ) → may_read h place ≡ true → byte_at later place ≡ byte_at memory place) → Knows m reads s act r memory → Knows m reads s act r later
 knows_agree m h reads s act r memory later readable agree known = record {
-  a = known.a;
-  b = known.b;
-  c = known.c;
+  stack = known.stack;
   words = λ k. elim (cases_Bool (reads k)) [
     | inl inside ↦ means_same (known.words k) refl (same k inside)
     | inr outside ↦ means_same (nothing_known m act k (frame_word later act.origin k)) (sym (known.within k outside)) refl
@@ -221,7 +219,7 @@ module _ (m : Contents) (d : Decodes m) (wf : IsWellFormed m) (c : IsCertified m
       }
     where
       known_between : {reads : ℤ → Bool} {s : State} {act : Activation} {r : Registers} {memory : Memory} → Knows m reads s act r memory → Knows m reads s act (between at r) memory
-      known_between k = record { a = k.a; b = k.b; c = k.c; words = k.words; within = k.within }
+      known_between k = record { stack = k.stack; words = k.words; within = k.within }
 
   -- how the rule at the process's point and the step fit, with the whole instruction read
   abbrev pub here_of : Holding → Activation → Memory → Task → State → Instr → Here
@@ -286,7 +284,7 @@ module _ (m : Contents) (d : Decodes m) (wf : IsWellFormed m) (c : IsCertified m
         };
         act = p.act;
         frame = p.frame;
-        knows = record { a = p.knows.a; b = p.knows.b; c = p.knows.c; words = p.knows.words; within = p.knows.within };
+        knows = record { stack = p.knows.stack; words = p.knows.words; within = p.knows.within };
         mode = p.mode;
         paid = omega (arith, p.paid);
       }

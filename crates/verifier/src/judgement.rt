@@ -13,7 +13,8 @@ ghost use Rattle.verifier.specs.Judging.{falling_state, Judges, IsComparable, Is
 
 use crate::rows::Given;
 use certificate::Module;
-use facts::{Onward, advance, has_rule};
+use facts::{advance, has_rule};
+use machine_state::Flow;
 use prefix_decoder::Instr;
 use states::{Rule, State, cost_below};
 
@@ -41,12 +42,12 @@ fn lower(first: Rule, second: Rule) -> Rule
 }
 
 /// Whether a state falls into the next offset, or the lower of two rules that are broken.
-fn both(entered: Result<u64, Rule>, onward: Result<Onward, Rule>) -> Result<bool, Rule>
-    ensures { (ruling : Ruling) (after : Known) → Advances onward after ruling
+fn both(entered: Result<u64, Rule>, flow: Result<Flow, Rule>) -> Result<bool, Rule>
+    ensures { (ruling : Ruling) (after : Known) → Advances flow after ruling
         → Judges result after (both entered ruling) }
 {
-    match (entered, onward) {
-        (Ok(_), Ok(onward)) => Ok(onward == Onward::Falls),
+    match (entered, flow) {
+        (Ok(_), Ok(flow)) => Ok(flow == Flow::Next),
         (Ok(_), Err(rule)) => Err(rule),
         (Err(rule), Ok(_)) => Err(rule),
         (Err(first), Err(second)) => Err(lower(first, second)),

@@ -1,6 +1,6 @@
 //! What an event did, and why it did not happen.
 
-use machine_state::{Fault, Flow, Registers};
+use machine_state::Fault;
 use std::alloc::AllocError;
 
 /// What an event did, before its bytes are lent.
@@ -44,11 +44,4 @@ impl From<AllocError> for Stop {
     fn from(_error: AllocError) -> Stop {
         Stop::Memory
     }
-}
-
-/// An instruction that was performed: how its process goes on, and with which registers.
-#[derive(Clone, Copy)]
-pub(crate) struct Performed {
-    pub(crate) flow: Flow,
-    pub(crate) registers: Registers,
 }

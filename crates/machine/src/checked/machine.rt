@@ -10,11 +10,10 @@ ghost use Rattle.machine_state.specs.Moves.{wake, dispatch, link_index, with_inp
 ghost use Rattle.machine.specs.Applying.{PerformsFor, outcome_at};
 ghost use Rattle.machine.specs.Moment.{IsSteady, WaitsForMore};
 
-use super::act::Performed;
 use certificate::Tables;
 use direct_functions::direct;
 use machine_state::{
-    Channel, Condition, Cpu, Fault, InputLink, Link, OutputLink, TaggedStore, Task,
+    Channel, Condition, Cpu, Fault, Flow, InputLink, Link, OutputLink, Registers, TaggedStore, Task,
 };
 use prefix_decoder::Fun;
 use std::alloc::{AllocError, Global};
@@ -188,7 +187,8 @@ impl Machine {
         self.cpu.store.put_byte(address, byte);
     }
 
-    /// Executes one instruction of this process, whose last byte it is at. All but memory stays as it is.
+    /// Executes one instruction of this process, whose last byte it is at, and reports how the process goes on and
+    /// with which registers. All but memory stays as it is.
     pub(crate) fn perform(
         &mut self,
         tables: &Tables,
@@ -196,7 +196,7 @@ impl Machine {
         task: &Task,
         fun: Fun,
         operand: i32,
-    ) -> Result<Performed, Fault>
+    ) -> Result<(Flow, Registers), Fault>
         requires { length tables.now.code.now < 2 ^ 32 }
         ensures { let m = contents_of tables.now in
             let outcome = outcome_at m process task.now fun operand self.old.world in
@@ -208,10 +208,7 @@ impl Machine {
         self.cpu.code_length = tables.code.len() as u32;
         self.cpu.store.select(process);
         let flow = direct(&mut self.cpu, fun, operand)?;
-        Ok(Performed {
-            flow,
-            registers: self.cpu.registers,
-        })
+        Ok((flow, self.cpu.registers))
     }
 
     /// No process is running.

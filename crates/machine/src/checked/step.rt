@@ -8,7 +8,7 @@ ghost use Rattle.machine.specs.Applying.{Applies, turn_of, outcome_of, outcome_a
 ghost use Rattle.prefix_decoder.specs.Operand.{IsRegister, after_prefix};
 ghost use Rattle.machine.specs.Moment.{IsSteady};
 
-use super::act::{Act, Performed, Stop};
+use super::act::{Act, Stop};
 use super::machine::Machine;
 use certificate::Tables;
 use machine_state::{Condition, Fault, FaultKind, Flow, Registers, Task};
@@ -94,7 +94,8 @@ impl Machine {
         tables: &Tables,
         process: u64,
         task: &Task,
-        performed: Performed,
+        flow: Flow,
+        registers: Registers,
         choice: Choice,
     )
         requires executed { self.old.world.counters.executed < most_executed }
@@ -104,16 +105,16 @@ impl Machine {
         ensures { let m = contents_of tables.now in
             let w = self.old.world in
             let next = task.now.registers.at + 1 in
-            let outcome = outcome_of performed w.memory in
+            let outcome = outcome_of flow registers w.memory in
             settled m process task.now next choice.slice choice.pick outcome w ≡ did ran self.new.world }
     {
         let next = task.registers.at + 1;
-        let (at, condition) = match performed.flow {
+        let (at, condition) = match flow {
             Flow::Next => (next, task.condition),
             Flow::Jump { to } => (to, task.condition),
             Flow::Stop => (next, Condition::Stopped),
         };
-        let registers = between(at, performed.registers);
+        let registers = between(at, registers);
         self.put(
             process,
             Task {
@@ -122,7 +123,7 @@ impl Machine {
                 ..*task
             },
         );
-        match performed.flow {
+        match flow {
             Flow::Next => {}
             Flow::Jump { .. } => {
                 if choice.slice {
@@ -162,8 +163,8 @@ impl Machine {
             settled m process task.now next choice.slice choice.pick outcome w ≡ turn_of self.new.world result }
     {
         match self.perform(tables, process, task, fun, operand) {
-            Ok(performed) => {
-                self.settle(tables, process, task, performed, choice);
+            Ok((flow, registers)) => {
+                self.settle(tables, process, task, flow, registers, choice);
                 Ok(Act::Ran)
             }
             Err(fault) => {

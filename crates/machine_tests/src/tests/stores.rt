@@ -293,7 +293,7 @@ fn numbers_links_and_operations(rt: HostRuntime) -> Result<(), Fail> {
     assert_eq!(rt; FaultKind::CountRange.number(), 11);
     let root = Task::root(&tables(rt.alloc(), b"\x21\xf5", &[], [0; 8]));
     assert_eq!(rt; root.registers.workspace, 0x8000_010c);
-    assert_eq!(rt; root.registers.a, None);
+    assert_eq!(rt; root.registers.stack.a, None);
     assert_eq!(rt; root.registers.at, 0);
     Ok(())
 }

@@ -2,6 +2,8 @@ use Rattle.std.proofs.Common.{◌∙◌, sym, ap, ℕ}
 use Rattle.std.proofs.lemmas.Int.{to_z-of_z}
 use Rattle.std.proofs.lemmas.Result.{err_from_is_err_and}
 use Rattle.std.specs.Int.{w32}
+use Rattle.module_format.specs.declared.stack.Stack.{Stack}
+use Rattle.states.specs.declared.known.Known.{Known}
 use Rattle.states.specs.Views.{state_of}
 use Rattle.facts.specs.Rules.{instruction_rule, leads_to, without_registers}
 use Rattle.facts.specs.Places.{site_of}
@@ -43,7 +45,9 @@ returns-clause-ruling c =
     advances-by c.leads_to.result _ _ _
     (jump-forward (site_of c.args.self.now) (state_of c.args.state.now) c.args.distance _ c.in_ok-outside_alternation.ensures (to_z-of_z w32 c.args.distance c.ranges.distance)
     ∙ (c.in_ok-forward.ensures _ ∙ (c.in_ok-outside_starts.ensures _ ∙ (c.in_ok-schedules.ensures.test _ ∙ (c.in_ok-pays.ensures.test _
-    ∙ ap (λ (z : ℕ). leads_to (site_of c.args.self.now) z (without_registers (state_of c.pays.new.state))) (sym c.target.ensures))))))
+    ∙ (ap (λ (z : ℕ). leads_to (site_of c.args.self.now) z (without_registers (state_of c.pays.new.state))) (sym c.target.ensures)
+    ∙ ap (λ (stack : Stack Known). leads_to (site_of c.args.self.now) c.target.result (record (state_of c.pays.new.state) { stack = stack }))
+    (sym c.of_empty-state.ensures)))))))
     c.leads_to.ensures
 
 pub returns-clause-belongs : goal.returns-clause-belongs
