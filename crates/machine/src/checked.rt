@@ -4,8 +4,6 @@ mod act;
 mod links;
 mod machine;
 mod step;
-#[cfg(test)]
-mod tests;
 
 ghost use Rattle.std.specs.Prelude.{◌≡◌, IfOk};
 ghost use Rattle.machine_state.specs.World.{loaded};

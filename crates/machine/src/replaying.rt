@@ -1,8 +1,5 @@
 //! Runs of accepted modules over given events.
 
-#[cfg(test)]
-mod tests;
-
 ghost use Rattle.std.specs.Prelude.{◌≡◌, OnOk, IfOk, Ok};
 ghost use Rattle.machine_state.specs.Happens.{emitted, turn, happens};
 ghost use Rattle.verifier.specs.Headline.{IsEvent};

@@ -6,8 +6,6 @@ mod laws;
 mod pass;
 mod rows;
 mod stop;
-#[cfg(test)]
-mod tests;
 mod verified;
 
 pub use laws::{certified_modules_run_well, events_keep_the_invariant, not_both, verdict_is_right};

@@ -75,7 +75,7 @@ fn known_at_the_start(rt: &impl Abort, alloc: Global) -> Option<()> {
     let state = root(alloc, &module)?;
     assert_eq!(rt; (state.context, state.depth, state.number), (0, 0, 1000));
     assert_eq!(rt; state.mode, Mode::Plain);
-    for known in [state.a, state.b, state.c] {
+    for known in [state.stack.a, state.stack.b, state.stack.c] {
         assert_eq!(rt; known, Known::UNKNOWN);
     }
     assert!(rt; state.guards.is_empty());
@@ -110,21 +110,24 @@ fn changes(rt: &impl Abort, alloc: Global) -> Option<()> {
     state.push(Known::of(LARGE));
     state.push(from);
     assert_eq!(rt;
-        (state.a, state.b, state.c),
+        (state.stack.a, state.stack.b, state.stack.c),
         (from, Known::of(LARGE), Known::UNKNOWN)
     );
     state.reverse();
     assert_eq!(rt;
-        (state.a, state.b, state.c),
+        (state.stack.a, state.stack.b, state.stack.c),
         (Known::of(LARGE), from, Known::UNKNOWN)
     );
     write(&module, &mut state, 1, LARGE)?;
-    assert_eq!(rt; (state.a, state.b), (Known::of(LARGE), Known::of(SMALL)));
+    assert_eq!(rt;
+        (state.stack.a, state.stack.b),
+        (Known::of(LARGE), Known::of(SMALL))
+    );
     assert_eq!(rt; state.fact_at(1), WordFact::Alone(LARGE));
     assert_eq!(rt; state.fact_at(0), WordFact::Alone(Fact::Unknown));
     state.pop();
     assert_eq!(rt;
-        (state.a, state.b, state.c),
+        (state.stack.a, state.stack.b, state.stack.c),
         (Known::of(SMALL), Known::UNKNOWN, Known::UNKNOWN)
     );
     Some(())
@@ -143,7 +146,10 @@ fn copies(rt: &impl Abort, alloc: Global) -> Option<()> {
     state.number = 7;
     let mut again = copy(alloc, &module, &state)?;
     assert_eq!(rt; (again.context, again.depth, again.number), (0, 0, 7));
-    assert_eq!(rt; (again.a, again.b, again.c), (state.a, state.b, state.c));
+    assert_eq!(rt;
+        (again.stack.a, again.stack.b, again.stack.c),
+        (state.stack.a, state.stack.b, state.stack.c)
+    );
     assert_eq!(rt; again.fact_at(-2), WordFact::Alone(SMALL));
     write(&module, &mut again, 1, LARGE)?;
     assert_eq!(rt;
@@ -241,7 +247,7 @@ fn begins(rt: &impl Abort, alloc: Global) -> Option<()> {
     write(&module, &mut state, 0, SMALL)?;
     state.become_procedure(&module, procedure(&module)?, 1);
     assert_eq!(rt; (state.context, state.depth, state.number), (1, 0, 9));
-    assert_eq!(rt; state.a, Known::UNKNOWN);
+    assert_eq!(rt; state.stack.a, Known::UNKNOWN);
     assert_eq!(rt; state.fact_at(0), WordFact::Alone(Fact::ReturnAddress));
     assert_eq!(rt;
         state.fact_at(1),
