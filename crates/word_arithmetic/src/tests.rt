@@ -10,16 +10,7 @@ const MIN: i32 = -2_147_483_648;
 
 const MAX: i32 = 2_147_483_647;
 
-/// The operations that may set the error flag.
-const CHECKED: [Binary; 5] = [
-    Binary::Add,
-    Binary::Subtract,
-    Binary::Multiply,
-    Binary::Divide,
-    Binary::Remainder,
-];
-
-/// Two words, and the results of `CHECKED` in its order.
+/// Two words, and their checked sum, difference, product, quotient and remainder.
 const CHECKED_RESULTS: [(i32, i32, [Option<i32>; 5]); 26] = [
     (-7, 2, [Some(-5), Some(-9), Some(-14), Some(-3), Some(-1)]),
     (MIN, MIN, [None, Some(0), None, Some(1), Some(0)]),
@@ -61,19 +52,8 @@ const CHECKED_RESULTS: [(i32, i32, [Option<i32>; 5]); 26] = [
     (MAX, MAX, [None, Some(0), None, Some(1), Some(0)]),
 ];
 
-/// The operations that always have a result.
-const UNCHECKED: [Binary; 8] = [
-    Binary::Sum,
-    Binary::Difference,
-    Binary::Product,
-    Binary::And,
-    Binary::Or,
-    Binary::ExclusiveOr,
-    Binary::Greater,
-    Binary::Equal,
-];
-
-/// Two words, and the results of `UNCHECKED` in its order.
+/// Two words, their sum, difference and product modulo 2^32, their bits (and, or, exclusive or), and whether the first
+/// is greater and both are equal.
 const UNCHECKED_RESULTS: [(i32, i32, [i32; 8]); 26] = [
     (-7, 2, [-5, -9, -14, 0, -5, -5, 0, 0]),
     (MIN, MIN, [0, 0, 0, MIN, MIN, 0, 0, 1]),
@@ -171,24 +151,41 @@ const LONG_PRODUCTS: [Long; 5] = [
 ];
 
 #[test]
-fn computes(rt: HostRuntime) {
-    for (left, right, results) in CHECKED_RESULTS {
-        for (op, want) in CHECKED.iter().zip(results.iter()) {
-            assert_eq!(rt;
-                op.apply(left, right),
-                *want,
-                "{op:?} of {left} and {right}"
-            );
-        }
+fn checks_for_the_error_flag(rt: HostRuntime) {
+    for (left, right, want) in CHECKED_RESULTS {
+        let found = [
+            Binary::Add.apply(left, right),
+            Binary::Subtract.apply(left, right),
+            Binary::Multiply.apply(left, right),
+            Binary::Divide.apply(left, right),
+            Binary::Remainder.apply(left, right),
+        ];
+        assert_eq!(rt; found, want, "{left} and {right}");
     }
-    for (left, right, results) in UNCHECKED_RESULTS {
-        for (op, want) in UNCHECKED.iter().zip(results.iter()) {
-            assert_eq!(rt;
-                op.apply(left, right),
-                Some(*want),
-                "{op:?} of {left} and {right}"
-            );
-        }
+}
+
+/// The result of an operation that has one.
+fn value(rt: &impl Abort, op: Binary, left: i32, right: i32) -> i32 {
+    match op.apply(left, right) {
+        Some(value) => value,
+        None => panic!(rt; "{op:?} of {left} and {right}"),
+    }
+}
+
+#[test]
+fn computes_without_error(rt: HostRuntime) {
+    for (left, right, want) in UNCHECKED_RESULTS {
+        let found = [
+            value(&rt, Binary::Sum, left, right),
+            value(&rt, Binary::Difference, left, right),
+            value(&rt, Binary::Product, left, right),
+            value(&rt, Binary::And, left, right),
+            value(&rt, Binary::Or, left, right),
+            value(&rt, Binary::ExclusiveOr, left, right),
+            value(&rt, Binary::Greater, left, right),
+            value(&rt, Binary::Equal, left, right),
+        ];
+        assert_eq!(rt; found, want, "{left} and {right}");
     }
 }
 
@@ -205,7 +202,7 @@ fn complements_and_shifts(rt: HostRuntime) {
             shift_right(word, 31),
         ];
         assert_eq!(rt; found, want, "{word}");
-        assert_eq!(rt; Unary::Not.apply(word), Some(want[0]), "{word}");
+        assert_eq!(rt; Unary::Not.apply(word), Some(not(word)), "{word}");
     }
 }
 
