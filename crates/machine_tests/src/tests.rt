@@ -1,2 +1,2 @@
-mod states;
+mod known;
 mod stores;

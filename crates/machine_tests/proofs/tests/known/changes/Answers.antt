@@ -1,4 +1,4 @@
-use Rattle.machine_tests.proofs.tests.states.changes.Goals as goal
+use Rattle.machine_tests.proofs.tests.known.changes.Goals as goal
 
 pub write-requires-2 : goal.write-requires-2
 write-requires-2 g c =

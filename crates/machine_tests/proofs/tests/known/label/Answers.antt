@@ -3,7 +3,7 @@ use Rattle.module_format.specs.declared.rows.LabelRow.{LabelRow}
 use Rattle.module_format.specs.Contents.{Contents, label_of}
 use Rattle.states.specs.Rows.{IsRowOf}
 use Rattle.states.proofs.LabelRows.{label_row_of}
-use Rattle.machine_tests.proofs.tests.states.label.Goals as goal
+use Rattle.machine_tests.proofs.tests.known.label.Goals as goal
 
 pub returns : goal.returns
 returns c =
