@@ -70,19 +70,19 @@ row_fits : (context : Context) (at : ℕ) (row : Label) → Has (late_row contex
 unfolding late_row
 row_fits context at row =
     let at_a = at + 18 in
-    let at_b = at_a + length (fact_bytes row.a) in
-    let at_c = at_b + length (fact_bytes row.b) in
-    let at_es = at_c + length (fact_bytes row.c) + 2 in
-    has_then _ _ (fact_fits context.parameters at_a row.a) (λ u a.
-    has_then _ _ (fact_fits context.parameters at_b row.b) (λ v b.
-    has_then _ _ (fact_fits context.parameters at_c row.c) (λ w c.
+    let at_b = at_a + length (fact_bytes row.stack.a) in
+    let at_c = at_b + length (fact_bytes row.stack.b) in
+    let at_es = at_c + length (fact_bytes row.stack.c) + 2 in
+    has_then _ _ (fact_fits context.parameters at_a row.stack.a) (λ u a.
+    has_then _ _ (fact_fits context.parameters at_b row.stack.b) (λ v b.
+    has_then _ _ (fact_fits context.parameters at_c row.stack.c) (λ w c.
     has_weaker (late_list (late_entry context) entry_bytes at_es row.entries) (list_fits (late_entry context) entry_bytes (EntryFits context) (entry_fits context) at_es row.entries) (λ x es.
     record { a = a; b = b; c = c; entries = es }))))
 
 row_passes : (context : Context) (at : ℕ) (row : Label) → RowFits row context → late_row context at row ≡ passes
 unfolding late_row
 row_passes context at row h =
-    step _ (fact_passes context.parameters _ row.a h.a) (step _ (fact_passes context.parameters _ row.b h.b) (step _ (fact_passes context.parameters _ row.c h.c)
+    step _ (fact_passes context.parameters _ row.stack.a h.a) (step _ (fact_passes context.parameters _ row.stack.b h.b) (step _ (fact_passes context.parameters _ row.stack.c h.c)
     (list_passes (late_entry context) entry_bytes (EntryFits context) (entry_passes context) _ row.entries h.entries)))
 
 in_fits : (o : Option Context) (at : ℕ) (row : Label) → Has (late_in o at row) (λ _. MatchOption o ⊥ (RowFits row))

@@ -11,6 +11,7 @@ use Rattle.module_format.specs.declared.fact.Fact.TheVariants as facts
 use Rattle.module_format.specs.declared.fact.Step.{Step}
 use Rattle.module_format.specs.declared.fact.Step.TheVariants as steps
 use Rattle.module_format.specs.declared.rows.Entry.{Entry}
+use Rattle.module_format.specs.declared.stack.Stack.{Stack}
 use Rattle.module_format.specs.Contents.{Procedure, Label}
 use Rattle.module_format.specs.Order.{IsBytes, InOrder, IsInterval, least_word, greatest_word, is_stepped}
 use Rattle.module_format.specs.Facts.{IsStepped, IsPointer, is_loop_length, IsLoop, RegisterKeeps, WordKeeps, behind_entry, EntryKeeps, IsLabelOffset, LabelKeeps, behind_label}
@@ -299,7 +300,9 @@ module _ (size code_len : ℕ) (procedures : List Procedure) where
       let some : 1 ≤ n = let r = h.rises in omega arith in
       step _ (in_code_again size code_len n rest fits some h.in_code) (rw (none_begins procedures n h.no_entry, lt-ltb _ _ h.rises) refl)
 
-  registers_take : (bytes : List ℕ) → IsBytes bytes → Has (registers_at size code_len bytes) (Spelled bytes (λ r. fact_bytes r.0 ++ fact_bytes r.1 ++ fact_bytes r.2) (λ r. RegisterKeeps code_len r.0 × RegisterKeeps code_len r.1 × RegisterKeeps code_len r.2))
+  registers_take : (bytes : List ℕ) → IsBytes bytes
+      → Has (registers_at size code_len bytes) (Spelled bytes (λ (s : Stack Fact). fact_bytes s.a ++ fact_bytes s.b ++ fact_bytes s.c)
+          (λ s. RegisterKeeps code_len s.a × RegisterKeeps code_len s.b × RegisterKeeps code_len s.c))
   unfolding registers_at
   registers_take bytes fits =
       has_then _ _ (register_takes size code_len bytes fits) (λ a h.
@@ -307,7 +310,8 @@ module _ (size code_len : ℕ) (procedures : List Procedure) where
       has_then _ _ (register_takes size code_len b.1 g.rest_fits) (λ c k.
       let front = join (fact_bytes a.0) (fact_bytes b.0) b.1 h.parts g.parts in
       let parts : bytes ≡ (fact_bytes a.0 ++ fact_bytes b.0 ++ fact_bytes c.0) ++ c.1 = join (fact_bytes a.0 ++ fact_bytes b.0) (fact_bytes c.0) c.1 front k.parts in
-      has_ok ((a.0, b.0, c.0), c.1) (record { parts = parts; rest_fits = k.rest_fits; keeps = (h.keeps, g.keeps, k.keeps) }))))
+      let stack : Stack Fact = record { a = a.0; b = b.0; c = c.0 } in
+      has_ok (stack, c.1) (record { parts = parts; rest_fits = k.rest_fits; keeps = (h.keeps, g.keeps, k.keeps) }))))
 
   label_takes : (low : ℕ) (bytes : List ℕ) → IsBytes bytes → Has (label_row_at size code_len procedures low bytes) (Spelled bytes label_bytes (LabelKeeps code_len procedures low))
   unfolding label_row_at label_bytes
@@ -318,7 +322,14 @@ module _ (size code_len : ℕ) (procedures : List Procedure) where
       has_then _ _ (number_takes size 8 u64_bytes (2 ^ 64) wide64 depth.1 h2.rest_fits) (λ number h3.
       has_then _ _ (registers_take number.1 h3.rest_fits) (λ r h4.
       has_then _ _ (entries_take size code_len r.1 h4.rest_fits) (λ es h5.
-      let made : Label = record { offset = offset.0; context = context.0; depth = depth.0; number = number.0; a = r.0.0; b = r.0.1; c = r.0.2; entries = es.0 } in
+      let made : Label = record {
+        offset = offset.0;
+        context = context.0;
+        depth = depth.0;
+        number = number.0;
+        stack = r.0;
+        entries = es.0;
+      } in
       let kept : LabelKeeps code_len procedures low made = record {
         offset = h0.keeps;
         context_fits = h1.keeps;
@@ -330,7 +341,7 @@ module _ (size code_len : ℕ) (procedures : List Procedure) where
       let j2 = join (u32_bytes offset.0 ++ u16_bytes context.0) (i32_bytes depth.0) depth.1 j1 h2.parts in
       let j3 = join (u32_bytes offset.0 ++ u16_bytes context.0 ++ i32_bytes depth.0) (u64_bytes number.0) number.1 j2 h3.parts in
       let front = u32_bytes offset.0 ++ u16_bytes context.0 ++ i32_bytes depth.0 ++ u64_bytes number.0 in
-      let facts3 = fact_bytes r.0.0 ++ fact_bytes r.0.1 ++ fact_bytes r.0.2 in
+      let facts3 = fact_bytes r.0.a ++ fact_bytes r.0.b ++ fact_bytes r.0.c in
       let last = u16_bytes (length es.0) ++ flat_map entry_bytes es.0 in
       let j4 = join front facts3 r.1 j3 h4.parts in
       let j5 = join (front ++ facts3) last es.1 j4 h5.parts in
@@ -343,16 +354,20 @@ module _ (size code_len : ℕ) (procedures : List Procedure) where
   labels_take count bytes fits = list_takes (label_row_at size code_len procedures) behind_label label_bytes (LabelKeeps code_len procedures) label_takes count 0 bytes fits
 
   module _ (small : code_len < 2 ^ 32) where
-    registers_again : (a b c : Fact) (rest : List ℕ) → RegisterKeeps code_len a → RegisterKeeps code_len b → RegisterKeeps code_len c → registers_at size code_len (fact_bytes a ++ (fact_bytes b ++ (fact_bytes c ++ rest))) ≡ Ok ((a, b, c), rest)
+    registers_again : (s : Stack Fact) (rest : List ℕ)
+        → RegisterKeeps code_len s.a → RegisterKeeps code_len s.b → RegisterKeeps code_len s.c
+        → registers_at size code_len (fact_bytes s.a ++ (fact_bytes s.b ++ (fact_bytes s.c ++ rest))) ≡ Ok (s, rest)
     unfolding registers_at
-    registers_again a b c rest h g k =
-        step _ (register_again size code_len small a (fact_bytes b ++ (fact_bytes c ++ rest)) h) (step _ (register_again size code_len small b (fact_bytes c ++ rest) g) (step _ (register_again size code_len small c rest k) refl))
+    registers_again s rest h g k =
+        step _ (register_again size code_len small s.a (fact_bytes s.b ++ (fact_bytes s.c ++ rest)) h)
+        (step _ (register_again size code_len small s.b (fact_bytes s.c ++ rest) g)
+        (step _ (register_again size code_len small s.c rest k) refl))
 
     label_again : (low : ℕ) (row : Label) (rest : List ℕ) → LabelKeeps code_len procedures low row → label_row_at size code_len procedures low (label_bytes row ++ rest) ≡ Ok (row, rest)
     unfolding label_row_at label_bytes
     label_again low row rest h =
         let tail5 = u16_bytes (length row.entries) ++ (flat_map entry_bytes row.entries ++ rest) in
-        let tail4 = fact_bytes row.a ++ (fact_bytes row.b ++ (fact_bytes row.c ++ tail5)) in
+        let tail4 = fact_bytes row.stack.a ++ (fact_bytes row.stack.b ++ (fact_bytes row.stack.c ++ tail5)) in
         let tail3 = u64_bytes row.number ++ tail4 in
         let tail2 = i32_bytes row.depth ++ tail3 in
         let tail1 = u16_bytes row.context ++ tail2 in
@@ -364,7 +379,7 @@ module _ (size code_len : ℕ) (procedures : List Procedure) where
         (step _ (number_again size 2 u16_bytes (2 ^ 16) wide16 row.context tail2 h.context_fits)
         (step _ (int_again size row.depth tail3 h.depth_fits)
         (step _ (number_again size 8 u64_bytes (2 ^ 64) wide64 row.number tail4 h.number_fits)
-        (step _ (registers_again row.a row.b row.c tail5 f.a f.b f.c)
+        (step _ (registers_again row.stack tail5 f.a f.b f.c)
         (step _ (entries_again size code_len small row.entries rest f.count_fits f.entries) refl)))))
 
     pub labels_again : (rows : List Label) (rest : List ℕ) → InOrder (LabelKeeps code_len procedures) behind_label 0 rows → label_rows_at size code_len procedures (length rows) (flat_map label_bytes rows ++ rest) ≡ Ok (rows, rest)

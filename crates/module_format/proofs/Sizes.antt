@@ -29,7 +29,7 @@ unfolding entry_bytes u32_bytes i32_bytes
 entry_size e = (omega (arith, length-append (i32_bytes e.word ++ u32_bytes e.span) (fact_bytes e.fact)), fact_size e.fact)
 
 -- where the facts and the entries of a row stand
-pub label_size : (row : Label) → length (label_bytes row) ≡ 18 + length (fact_bytes row.a) + length (fact_bytes row.b) + length (fact_bytes row.c) + 2 + length (flat_map entry_bytes row.entries)
+pub label_size : (row : Label) → length (label_bytes row) ≡ 18 + length (fact_bytes row.stack.a) + length (fact_bytes row.stack.b) + length (fact_bytes row.stack.c) + 2 + length (flat_map entry_bytes row.entries)
 unfolding label_bytes u16_bytes u32_bytes u64_bytes i32_bytes
 label_size row = simp length-append (omega arith)
 
@@ -104,7 +104,7 @@ entries_small [] = omega arith
 entries_small (e ∷ es) = omega (arith, length-append (entry_bytes e) (flat_map entry_bytes es), (entry_size e).0, fact_small e.fact, entries_small es)
 
 label_small : (row : Label) → length row.entries < 2 ^ 16 → length (label_bytes row) ≤ 1638471
-label_small row h = omega (arith, label_size row, fact_small row.a, fact_small row.b, fact_small row.c, entries_small row.entries, h)
+label_small row h = omega (arith, label_size row, fact_small row.stack.a, fact_small row.stack.b, fact_small row.stack.c, entries_small row.entries, h)
 
 pub labels_small : (rows : List Label) → AllByRecursion (λ (row : Label). length row.entries < 2 ^ 16) rows → length (flat_map label_bytes rows) ≤ 1638471 * length rows
 labels_small rows h = all_small label_bytes (λ (row : Label). length row.entries < 2 ^ 16) 1638471 label_small rows h

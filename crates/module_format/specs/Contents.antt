@@ -2,6 +2,7 @@
 -- memory; facts, entries, parameters, channels, intervals, ends and table rows are the program's own types.
 use Rattle.std.specs.Prelude.{ℕ, ℤ, Bool, List, map, find, get_or, Option, ◌==◌}
 use Rattle.module_format.specs.declared.fact.Fact.{Fact}
+use Rattle.module_format.specs.declared.stack.Stack.{Stack}
 use Rattle.module_format.specs.declared.rows.Parameter.{Parameter}
 use Rattle.module_format.specs.declared.rows.Entry.{Entry}
 use Rattle.module_format.specs.declared.rows.ChannelRow.{ChannelRow}
@@ -29,9 +30,7 @@ pub record Label : Type 0 where
   pub context : ℕ
   pub depth : ℤ
   pub number : ℕ
-  pub a : Fact
-  pub b : Fact
-  pub c : Fact
+  pub stack : Stack Fact
   pub entries : List Entry
 
 -- a branch of a PAR
@@ -74,7 +73,14 @@ abbrev pub procedure_of : ProcedureRow → Procedure
 procedure_of row = record { entry = row.entry; lo = row.lo; hi = row.hi; number = row.number; parameters = row.parameters.items }
 
 abbrev pub label_of : LabelRow → Label
-label_of row = record { offset = row.offset; context = row.context; depth = row.depth; number = row.number; a = row.a; b = row.b; c = row.c; entries = row.entries.items }
+label_of row = record {
+  offset = row.offset;
+  context = row.context;
+  depth = row.depth;
+  number = row.number;
+  stack = row.stack;
+  entries = row.entries.items;
+}
 
 abbrev pub branch_of : BranchRow → Branch
 branch_of row = record {

@@ -75,9 +75,9 @@ pub record IsLabelOffset (code_len : ℕ) (procedures : List Procedure) (low off
 
 -- the facts of a label row
 pub record FactsKeep (code_len : ℕ) (row : Label) : Type 0 where
-  pub a : RegisterKeeps code_len row.a
-  pub b : RegisterKeeps code_len row.b
-  pub c : RegisterKeeps code_len row.c
+  pub a : RegisterKeeps code_len row.stack.a
+  pub b : RegisterKeeps code_len row.stack.b
+  pub c : RegisterKeeps code_len row.stack.c
   pub count_fits : length row.entries < 2 ^ 16
   pub entries : InOrder (EntryKeeps code_len) behind_entry least_word row.entries
 

@@ -43,9 +43,9 @@ pub record EntryFits (context : Context) (e : Entry) : Type 0 where
 
 -- what a label row says is there in its context
 pub record RowFits (row : Label) (context : Context) : Type 0 where
-  pub a : FactFits context.parameters row.a
-  pub b : FactFits context.parameters row.b
-  pub c : FactFits context.parameters row.c
+  pub a : FactFits context.parameters row.stack.a
+  pub b : FactFits context.parameters row.stack.b
+  pub c : FactFits context.parameters row.stack.c
   pub entries : AllByRecursion (EntryFits context) row.entries
 
 -- the row's context is there, and what the row says is there in it

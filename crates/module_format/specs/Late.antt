@@ -48,12 +48,12 @@ late_entry context at e =
 unfoldable pub late_row : Context → ℕ → Label → Result ⊤ FormatFault
 late_row context at row =
     let at_a = at + 18 in
-    let at_b = at_a + length (fact_bytes row.a) in
-    let at_c = at_b + length (fact_bytes row.b) in do
-      _ ← late_fact context.parameters at_a row.a
-      _ ← late_fact context.parameters at_b row.b
-      _ ← late_fact context.parameters at_c row.c
-      late_list (late_entry context) entry_bytes (at_c + length (fact_bytes row.c) + 2) row.entries
+    let at_b = at_a + length (fact_bytes row.stack.a) in
+    let at_c = at_b + length (fact_bytes row.stack.b) in do
+      _ ← late_fact context.parameters at_a row.stack.a
+      _ ← late_fact context.parameters at_b row.stack.b
+      _ ← late_fact context.parameters at_c row.stack.c
+      late_list (late_entry context) entry_bytes (at_c + length (fact_bytes row.stack.c) + 2) row.entries
 
 -- a label's context is there; it stands 4 bytes behind the row's place
 abbrev pub late_in : Option Context → ℕ → Label → Result ⊤ FormatFault

@@ -6,6 +6,7 @@ use Rattle.module_format.specs.declared.fact.Fact.{Fact}
 use Rattle.module_format.specs.declared.fact.Fact.TheVariants as facts
 use Rattle.module_format.specs.declared.fact.Step.{Step}
 use Rattle.module_format.specs.declared.fact.Step.TheVariants as steps
+use Rattle.module_format.specs.declared.stack.Stack.{Stack}
 use Rattle.module_format.specs.declared.rows.Entry.{Entry}
 use Rattle.module_format.specs.declared.rows.Ends.{Ends}
 use Rattle.module_format.specs.declared.rows.Parameter.{Parameter}
@@ -117,12 +118,12 @@ label_offset_at size code_len procedures low rest = do
       else (if nat_lt low offset.0 then Ok offset else Err (fault ORDER (place size rest)))
 
 -- the facts of A, B and C
-unfoldable pub registers_at : ℕ → ℕ → List ℕ → Read (Fact × Fact × Fact)
+unfoldable pub registers_at : ℕ → ℕ → List ℕ → Read (Stack Fact)
 registers_at size code_len rest = do
   a ← register_at size code_len rest
   b ← register_at size code_len a.1
   c ← register_at size code_len b.1
-  Ok ((a.0, b.0, c.0), c.1)
+  Ok (record { a = a.0; b = b.0; c = c.0 }, c.1)
 
 unfoldable pub label_row_at : ℕ → ℕ → List Procedure → ℕ → List ℕ → Read Label
 label_row_at size code_len procedures low rest = do
@@ -130,9 +131,16 @@ label_row_at size code_len procedures low rest = do
   context ← number_at size 2 offset.1
   depth ← int_at size context.1
   number ← number_at size 8 depth.1
-  registers ← registers_at size code_len number.1
-  entries ← entries_at size code_len registers.1
-  Ok (record { offset = offset.0; context = context.0; depth = depth.0; number = number.0; a = registers.0.0; b = registers.0.1; c = registers.0.2; entries = entries.0 }, entries.1)
+  stack ← registers_at size code_len number.1
+  entries ← entries_at size code_len stack.1
+  Ok (record {
+    offset = offset.0;
+    context = context.0;
+    depth = depth.0;
+    number = number.0;
+    stack = stack.0;
+    entries = entries.0;
+  }, entries.1)
 
 unfoldable pub label_rows_at : ℕ → ℕ → List Procedure → ℕ → List ℕ → Read (List Label)
 label_rows_at size code_len procedures count rest =

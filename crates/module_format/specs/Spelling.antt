@@ -56,7 +56,7 @@ entry_bytes e = i32_bytes e.word ++ u32_bytes e.span ++ fact_bytes e.fact
 unfoldable pub label_bytes : Label → List ℕ
 label_bytes row =
     u32_bytes row.offset ++ u16_bytes row.context ++ i32_bytes row.depth ++ u64_bytes row.number
-    ++ fact_bytes row.a ++ fact_bytes row.b ++ fact_bytes row.c
+    ++ fact_bytes row.stack.a ++ fact_bytes row.stack.b ++ fact_bytes row.stack.c
     ++ u16_bytes (length row.entries) ++ flat_map entry_bytes row.entries
 
 -- ---- procedure rows

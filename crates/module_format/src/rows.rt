@@ -3,6 +3,7 @@
 ghost use Rattle.std.specs.Prelude.{⊤, [], ◌∷◌, codes};
 
 use crate::fact::Fact;
+use crate::stack::Stack;
 use bitflags::{Flag, Flags, bitflag_items};
 use smallvec::SmallVec;
 
@@ -89,9 +90,7 @@ pub struct LabelRow {
     pub context: u16,
     pub depth: i32,
     pub number: u64,
-    pub a: Fact,
-    pub b: Fact,
-    pub c: Fact,
+    pub stack: Stack<Fact>,
     pub entries: Vec<Entry>,
 }
 

@@ -109,7 +109,7 @@ is_plain (Starting row started) = false
 abbrev pub agrees : State → Label → Bool
 agrees s t =
     (s.context == t.context) && is_word s.depth t.depth && is_plain s.mode
-    && implies s.stack.a.fact t.a && implies s.stack.b.fact t.b && implies s.stack.c.fact t.c
+    && implies s.stack.a.fact t.stack.a && implies s.stack.b.fact t.stack.b && implies s.stack.c.fact t.stack.c
     && entries_hold s.frame t.entries && list_all (is_whole s.frame) t.entries
 
 -- what going on as the label costs, or the rule that is broken: the state cannot pay, or it knows less

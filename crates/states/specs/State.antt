@@ -134,9 +134,7 @@ root_state m = begun 0 (pos 0) m.budget no_facts
 
 -- the state that a label row gives
 abbrev pub label_state : Label → State
-label_state t =
-    let stack : Stack Known = record { a = known t.a; b = known t.b; c = known t.c } in
-    record (begun t.context t.depth t.number (entry_fact t.entries)) { stack = stack }
+label_state t = record (begun t.context t.depth t.number (entry_fact t.entries)) { stack = mapped known t.stack }
 
 -- ---- procedures
 

@@ -27,9 +27,9 @@ fn agrees(state: &State, row: &LabelRow) -> bool
     state.context == u32::from(row.context)
         && state.depth == row.depth
         && is_plain(state.mode)
-        && implies(state.stack.a.fact, row.a)
-        && implies(state.stack.b.fact, row.b)
-        && implies(state.stack.c.fact, row.c)
+        && implies(state.stack.a.fact, row.stack.a)
+        && implies(state.stack.b.fact, row.stack.b)
+        && implies(state.stack.c.fact, row.stack.c)
         && state.frame.holds(&row.entries)
         && state.frame.is_whole(&row.entries)
 }

@@ -221,9 +221,9 @@ impl<'a> State<'a> {
         self.frame.restart(&row.entries);
         self.begin_at(module, u32::from(row.context), row.depth, row.number);
         self.stack = Stack {
-            a: Known::of(row.a),
-            b: Known::of(row.b),
-            c: Known::of(row.c),
+            a: Known::of(row.stack.a),
+            b: Known::of(row.stack.b),
+            c: Known::of(row.stack.c),
         };
     }
 

@@ -4,6 +4,7 @@ use Rattle.word_arithmetic.specs.Binary.{result_range}
 use Rattle.module_format.specs.declared.fact.Fact.TheVariants.{Unknown}
 use Rattle.module_format.specs.declared.rows.ParameterKind.TheVariants.{Value}
 use Rattle.module_format.specs.declared.tables.Version.TheVariants.{One}
+use Rattle.module_format.specs.Stack.{of_empty}
 use Rattle.module_format.specs.Contents.{Contents}
 use Rattle.module_format.specs.Contexts.{context_at}
 use Rattle.machine_state.specs.Instructions.{op_of, instruction_of}
@@ -63,7 +64,14 @@ jump budget number = record {
   procedures = [];
   pars = [];
   table_rows = [];
-  labels = record { offset = 3; context = 0; depth = pos 0; number = number; a = Unknown; b = Unknown; c = Unknown; entries = [] } ∷ [];
+  labels = record {
+    offset = 3;
+    context = 0;
+    depth = pos 0;
+    number = number;
+    stack = of_empty Unknown;
+    entries = [];
+  } ∷ [];
 }
 
 jump_is_accepted : verdict (jump 6 3) ≡ Ok tt

@@ -1,7 +1,7 @@
 //! Tables by hand: which keep the format, and the file of those that do.
 
 use super::JUMP;
-use certificate::{Entry, Fact, LabelRow, Step, Tables, Version, write};
+use certificate::{Entry, Fact, LabelRow, Stack, Step, Tables, Version, write};
 use std::alloc::{AllocError, Global};
 use std::test::*;
 
@@ -17,9 +17,7 @@ pub fn label(alloc: Global, offset: u32) -> LabelRow {
         context: 0,
         depth: 0,
         number: 3,
-        a: Fact::Unknown,
-        b: Fact::Unknown,
-        c: Fact::Unknown,
+        stack: Stack::of_empty(Fact::Unknown),
         entries: Vec::new(alloc),
     }
 }
@@ -208,9 +206,9 @@ fn facts(rt: HostRuntime) -> Result<(), Fail> {
             let mut labels = Vec::new(alloc);
             let mut row = label(alloc, 3);
             match register {
-                0 => row.a = *fact,
-                1 => row.b = *fact,
-                _ => row.c = *fact,
+                0 => row.stack.a = *fact,
+                1 => row.stack.b = *fact,
+                _ => row.stack.c = *fact,
             }
             labels.push(row)?;
             assert_eq!(rt; tables_with(alloc, labels).keeps(), *keeps, "{fact:?}");

@@ -140,13 +140,13 @@ fn offset_keeps(code_len: usize, procedures: &[ProcedureRow], low: u32, offset: 
 fn facts_keep(code_len: usize, row: &LabelRow) -> bool
     ensures { IsTrue result ↔ FactsKeep code_len (label_of row.now) }
 {
-    if !register_keeps(code_len, &row.a) {
+    if !register_keeps(code_len, &row.stack.a) {
         return false;
     }
-    if !register_keeps(code_len, &row.b) {
+    if !register_keeps(code_len, &row.stack.b) {
         return false;
     }
-    if !register_keeps(code_len, &row.c) {
+    if !register_keeps(code_len, &row.stack.c) {
         return false;
     }
     if row.entries.len() > usize::from(u16::MAX) {

@@ -29,6 +29,7 @@ use crate::reading::fields::{
 use crate::reading::list::{Reader, list_at};
 use crate::rows::Entry;
 use crate::rules::{is_loop_length, is_stepped};
+use crate::stack::Stack;
 use std::alloc::Global;
 
 /// The bounds of a number.
@@ -238,11 +239,11 @@ pub fn registers_at(
     size: usize,
     code_len: u32,
     rest: &[u8],
-) -> Result<((Fact, Fact, Fact), &[u8]), ReadError>
+) -> Result<(Stack<Fact>, &[u8]), ReadError>
     ensures { Gives (λ x. (x.0, x.1.now)) result (registers_at size code_len rest.now) }
 {
     let (a, rest) = register_at(size, code_len, rest)?;
     let (b, rest) = register_at(size, code_len, rest)?;
     let (c, rest) = register_at(size, code_len, rest)?;
-    Ok(((a, b, c), rest))
+    Ok((Stack { a, b, c }, rest))
 }

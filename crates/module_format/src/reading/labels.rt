@@ -75,7 +75,7 @@ impl Reader for Labels<'_> {
         let (context, rest) = u16_at(self.size, rest)?;
         let (depth, rest) = i32_at(self.size, rest)?;
         let (number, rest) = u64_at(self.size, rest)?;
-        let ((a, b, c), rest) = registers_at(self.size, self.code_len, rest)?;
+        let (stack, rest) = registers_at(self.size, self.code_len, rest)?;
         let (entries, rest) = entries_at(self.alloc, self.size, self.code_len, rest)?;
         self.low = offset;
         let row = LabelRow {
@@ -83,9 +83,7 @@ impl Reader for Labels<'_> {
             context,
             depth,
             number,
-            a,
-            b,
-            c,
+            stack,
             entries,
         };
         Ok((row, rest))

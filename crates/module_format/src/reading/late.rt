@@ -122,12 +122,12 @@ fn late_row(context: &Context, at: usize, row: &LabelRow) -> Result<usize, Forma
     ensures behind { IfOk result (λ end. end ≡ at + length (label_bytes (label_of row.now))) }
 {
     let at_a = at + 18;
-    late_fact(context.parameters, at_a, &row.a)?;
-    let at_b = at_a + fact_size(&row.a);
-    late_fact(context.parameters, at_b, &row.b)?;
-    let at_c = at_b + fact_size(&row.b);
-    late_fact(context.parameters, at_c, &row.c)?;
-    let at_entries = at_c + fact_size(&row.c) + 2;
+    late_fact(context.parameters, at_a, &row.stack.a)?;
+    let at_b = at_a + fact_size(&row.stack.a);
+    late_fact(context.parameters, at_b, &row.stack.b)?;
+    let at_c = at_b + fact_size(&row.stack.b);
+    late_fact(context.parameters, at_c, &row.stack.c)?;
+    let at_entries = at_c + fact_size(&row.stack.c) + 2;
     late_list(context, at_entries, &row.entries)
 }
 

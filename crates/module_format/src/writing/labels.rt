@@ -103,9 +103,9 @@ impl Row for LabelRow {
         out.u16(self.context);
         out.i32(self.depth);
         out.u64(self.number);
-        put_fact(out, &self.a);
-        put_fact(out, &self.b);
-        put_fact(out, &self.c);
+        put_fact(out, &self.stack.a);
+        put_fact(out, &self.stack.b);
+        put_fact(out, &self.stack.c);
         out.u16(self.entries.len() as u16);
         put_all(out, version, &self.entries);
     }
