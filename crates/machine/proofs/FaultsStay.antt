@@ -17,12 +17,12 @@ use Rattle.machine_state.specs.World.{World}
 use Rattle.machine_state.specs.LocalStep.{Outcome, goes, lands, stops, fails, local_step}
 use Rattle.machine_state.specs.Moves.{dispatch, enqueue, leave, put, counted, link_index, with_input, with_output}
 use Rattle.machine_state.specs.Moves.{fill, rouse, wake}
-use Rattle.machine_state.specs.Happens.{Did, Turn, did, ran, idle, ignored, taken, kept, busy, acknowledged}
+use Rattle.machine_state.specs.Happens.{Effect, Turn, answered, ran, idle, ignored, taken, kept, busy, acknowledged}
 use Rattle.machine_state.specs.Happens.{most_executed, failed, between, settled, prefix_turn, site_of, byte_turn}
 use Rattle.machine_state.specs.Happens.{task_turn, step_turn, arrive_at, arrive_turn, acknowledge_turn, event_turn}
 use Rattle.machine_state.specs.Happens.{turn}
 
-abbrev StaysIfFault : Result Did Fault → World → Type 0
+abbrev StaysIfFault : Result Effect Fault → World → Type 0
 StaysIfFault (Ok d) w = ⊤
 StaysIfFault (Err f) w = w.fault ≡ Some f
 
@@ -59,15 +59,15 @@ stays-task m p slice pick task w None = refl
 stays-task m p slice pick task w (Some byte) = stays-byte m p task slice pick w _ _ (fun_of (function_code byte))
 
 stays-process : (m : Contents) (p : ℕ) (slice : Bool) (pick : ℕ) (w : World) (o : Option Task)
-    → Stays (elim o [ None ↦ did idle w | Some task ↦ task_turn m p slice pick task w ])
+    → Stays (elim o [ None ↦ answered idle w | Some task ↦ task_turn m p slice pick task w ])
 stays-process m p slice pick w None = tt
 stays-process m p slice pick w (Some task) = stays-task m p slice pick task w (slice_get m.code task.registers.at)
 
 stays-step : (m : Contents) (slice : Bool) (pick : ℕ) (w : World) (o : Option ℕ)
     → Stays (elim o [
-      | None ↦ did idle w
-      | Some p ↦ if nat_le most_executed w.counters.executed then did idle w else elim (slice_get w.tasks p)
-          [ None ↦ did idle w | Some task ↦ task_turn m p slice pick task w ]
+      | None ↦ answered idle w
+      | Some p ↦ if nat_le most_executed w.counters.executed then answered idle w else elim (slice_get w.tasks p)
+          [ None ↦ answered idle w | Some task ↦ task_turn m p slice pick task w ]
     ])
 stays-step m slice pick w None = tt
 stays-step m slice pick w (Some p) = stays-either (nat_le most_executed w.counters.executed) _ _ tt
@@ -75,8 +75,8 @@ stays-step m slice pick w (Some p) = stays-either (nat_le most_executed w.counte
 
 stays-kept : (k byte : ℕ) (link : InputLink) (w : World) (o : Option ℕ)
     → Stays (elim o [
-      | Some before ↦ did busy w
-      | None ↦ did kept
+      | Some before ↦ answered busy w
+      | None ↦ answered kept
           (dispatch 0 (rouse link.enabled (with_input k (record link { kept = Some byte }) w)))
     ])
 stays-kept k byte link w None = tt
@@ -84,10 +84,10 @@ stays-kept k byte link w (Some before) = tt
 
 stays-waiting : (k byte : ℕ) (link : InputLink) (w : World) (o : Option ℕ)
     → Stays (elim o [
-      | Some p ↦ did taken (dispatch 0 (fill p k byte link w))
+      | Some p ↦ answered taken (dispatch 0 (fill p k byte link w))
       | None ↦ elim link.kept [
-        | Some before ↦ did busy w
-        | None ↦ did kept
+        | Some before ↦ answered busy w
+        | None ↦ answered kept
             (dispatch 0 (rouse link.enabled (with_input k (record link { kept = Some byte }) w)))
       ]
     ])
@@ -95,14 +95,14 @@ stays-waiting k byte link w None = stays-kept k byte link w link.kept
 stays-waiting k byte link w (Some p) = tt
 
 stays-arrive : (k byte : ℕ) (w : World) (o : Option InputLink)
-    → Stays (elim o [ None ↦ did ignored w | Some link ↦ arrive_at k byte link w ])
+    → Stays (elim o [ None ↦ answered ignored w | Some link ↦ arrive_at k byte link w ])
 stays-arrive k byte w None = tt
 stays-arrive k byte w (Some link) = stays-waiting k byte link w link.waiting
 
 stays-sender : (k : ℕ) (w : World) (o : Option ℕ)
     → Stays (elim o [
-      | None ↦ did ignored w
-      | Some p ↦ did acknowledged
+      | None ↦ answered ignored w
+      | Some p ↦ answered acknowledged
           (dispatch 0 (wake p (with_output k (record { waiting = None }) w)))
     ])
 stays-sender k w None = tt
@@ -110,10 +110,10 @@ stays-sender k w (Some p) = tt
 
 stays-acknowledge : (k : ℕ) (w : World) (o : Option OutputLink)
     → Stays (elim o [
-      | None ↦ did ignored w
+      | None ↦ answered ignored w
       | Some link ↦ elim link.waiting [
-        | None ↦ did ignored w
-        | Some p ↦ did acknowledged
+        | None ↦ answered ignored w
+        | Some p ↦ answered acknowledged
             (dispatch 0 (wake p (with_output k (record { waiting = None }) w)))
       ]
     ])

@@ -11,7 +11,7 @@ use Rattle.machine_state.specs.Memory.{Memory}
 use Rattle.machine_state.specs.World.{World}
 use Rattle.machine_state.specs.LocalStep.{Local, Outcome, goes, lands, stops, local_step}
 use Rattle.machine_state.specs.Performing.{reported}
-use Rattle.machine_state.specs.Happens.{Did, ran, idle, taken, kept, busy, acknowledged, ignored, Turn, site_of}
+use Rattle.machine_state.specs.Happens.{Effect, ran, idle, taken, kept, busy, acknowledged, ignored, Turn, site_of}
 use Rattle.machine.specs.declared.checked.act.Act.{Act}
 use Rattle.machine.specs.declared.checked.act.Act.TheVariants.{Ran, Idle, Taken, Kept, Busy, Acknowledged, Ignored}
 use Rattle.machine.specs.declared.checked.act.Stop.{Stop}
@@ -19,23 +19,23 @@ use Rattle.machine.specs.declared.checked.act.Stop.TheVariants as stops
 use Rattle.machine.specs.Moment.{Moment}
 
 -- what an act is in the definitions
-abbrev pub did_of : Act → Did
-did_of Ran = ran
-did_of Idle = idle
-did_of Taken = taken
-did_of Kept = kept
-did_of Busy = busy
-did_of Acknowledged = acknowledged
-did_of Ignored = ignored
+abbrev pub effect_of : Act → Effect
+effect_of Ran = ran
+effect_of Idle = idle
+effect_of Taken = taken
+effect_of Kept = kept
+effect_of Busy = busy
+effect_of Acknowledged = acknowledged
+effect_of Ignored = ignored
 
 -- the turn of an event that left this world and gave this answer
 abbrev pub turn_of : World → Result Act Fault → Turn
-turn_of w (Ok act) = record { world = w; answer = Ok (did_of act) }
+turn_of w (Ok act) = record { world = w; answer = Ok (effect_of act) }
 turn_of w (Err f) = record { world = w; answer = Err f }
 
 -- By the answer: the event happened, and this is its turn; or memory ran out, and nothing changed.
 abbrev pub Applies : World → World → Result Act Stop → Turn → Type 0
-Applies before after (Ok act) turn = turn ≡ record { world = after; answer = Ok (did_of act) }
+Applies before after (Ok act) turn = turn ≡ record { world = after; answer = Ok (effect_of act) }
 Applies before after (Err (stops.Fault f)) turn = turn ≡ record { world = after; answer = Err f }
 Applies before after (Err stops.Memory) turn = after ≡ before
 

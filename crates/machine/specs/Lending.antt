@@ -5,18 +5,18 @@ use Rattle.std.specs.Borrow.{MutBor, Fml}
 use Rattle.std.specs.Io.BufRead.{Rests}
 use mir.Syntax.{named}
 use Rattle.machine_state.specs.declared.event.Event.{Event}
-use Rattle.machine_state.specs.declared.event.Effect.{Effect}
+use Rattle.machine_state.specs.declared.event.Effect.{Effect as LentEffect}
 use Rattle.machine_state.specs.declared.event.Effect.TheVariants.{Ran, Idle, Emitted, Taken, Kept, Busy, Acknowledged}
 use Rattle.machine_state.specs.declared.event.Effect.TheVariants.{Ignored}
 use Rattle.machine_state.specs.World.{World}
-use Rattle.machine_state.specs.Happens.{Did, ran, idle, emitted, taken, kept, busy, acknowledged, ignored, Turn, turn}
+use Rattle.machine_state.specs.Happens.{Effect, ran, idle, emitted, taken, kept, busy, acknowledged, ignored, Turn, turn}
 use Rattle.machine.specs.declared.checked.act.Stop.{Stop}
 use Rattle.machine.specs.declared.checked.act.Stop.TheVariants.{Fault, Memory}
 use Rattle.machine.specs.contracts.checked.Checked.{the_row}
 use Rattle.machine.specs.Asking.{Execution}
 
 -- what an effect reports
-abbrev pub shown : Effect → Did
+abbrev pub shown : LentEffect → Effect
 shown Ran = ran
 shown Idle = idle
 shown (Emitted link bytes) = emitted link bytes.now
@@ -27,21 +27,21 @@ shown Acknowledged = acknowledged
 shown Ignored = ignored
 
 -- The result reports the answer of this turn, unless memory ran out.
-abbrev pub Tells : Result Effect Stop → Turn → Type 0
+abbrev pub Tells : Result LentEffect Stop → Turn → Type 0
 Tells (Ok effect) t = t.answer ≡ Ok (shown effect)
 Tells (Err (Fault f)) t = t.answer ≡ Err f
 Tells (Err Memory) t = ⊤
 
 -- The world after is that of this turn, unless memory ran out: then nothing changed.
-abbrev pub Leaves : World → World → Result Effect Stop → Turn → Type 0
+abbrev pub Leaves : World → World → Result LentEffect Stop → Turn → Type 0
 Leaves before after (Ok effect) t = after ≡ t.world
 Leaves before after (Err (Fault f)) t = after ≡ t.world
 Leaves before after (Err Memory) t = after ≡ before
 
 -- the machine after an event, once the effect that it lends is not used any more; its module stays
-pub record IsAfter (event : Event) (result : Result Effect Stop) (before after : Execution) : Type 0 where
+pub record IsAfter (event : Event) (result : Result LentEffect Stop) (before after : Execution) : Type 0 where
   pub world : Leaves before.world after.world result (turn before.contents before.world event)
   pub contents : after.contents ≡ before.contents
 
-abbrev pub Rested : MutBor Execution → Event → Result Effect Stop → Fml
+abbrev pub Rested : MutBor Execution → Event → Result LentEffect Stop → Fml
 Rested m event result = Rests (the_row (record { mir = named 0; lft = [] })) m (IsAfter event result m.now)

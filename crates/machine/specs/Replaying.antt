@@ -7,7 +7,7 @@ use Rattle.machine_state.specs.declared.link.Link.{Link}
 use Rattle.machine_state.specs.Moves.{link_index}
 use Rattle.machine_state.specs.World.{World}
 use Rattle.machine_state.specs.declared.fault.Fault.{Fault}
-use Rattle.machine_state.specs.Happens.{Did, run_from, world_after, emitted_by, emitted_on}
+use Rattle.machine_state.specs.Happens.{Effect, run_from, world_after, emitted_by, emitted_on}
 use Rattle.machine.specs.declared.report.Replay.{Replay}
 use Rattle.verifier.specs.Headline.{AreEvents}
 
@@ -30,5 +30,5 @@ pub record NeverFails (m : Contents) (w : World) : Type 0 where
   pub always : (events : List Event) (f : Fault) → AreEvents events → (run_from m w events).fault ≢ Some f
 
 -- what went out on each link is followed by what this answer emits there
-abbrev pub GoesOut : Result Did Fault → List (Vec ℕ) → List (Vec ℕ) → Type 0
+abbrev pub GoesOut : Result Effect Fault → List (Vec ℕ) → List (Vec ℕ) → Type 0
 GoesOut answer old new = (link : Link) → out_on new link ≡ out_on old link ++ emitted_by link answer

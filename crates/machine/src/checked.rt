@@ -8,7 +8,7 @@ mod step;
 ghost use Rattle.std.specs.Prelude.{◌≡◌, IfOk};
 ghost use Rattle.machine_state.specs.World.{loaded};
 ghost use Rattle.machine_state.specs.Happens.{turn};
-ghost use Rattle.machine.specs.Applying.{Applies, did_of};
+ghost use Rattle.machine.specs.Applying.{Applies, effect_of};
 ghost use Rattle.machine.specs.Asking.{is_running, wants};
 
 use act::Act;
@@ -81,7 +81,7 @@ impl<'a> Checked<'a> {
 
     /// What the last event did, as it is reported.
     fn effect(&self, act: Act) -> Effect<'_>
-        ensures { shown result ≡ did_of act }
+        ensures { shown result ≡ effect_of act }
     {
         match act {
             Act::Ran => Effect::Ran,

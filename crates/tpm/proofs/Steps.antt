@@ -9,7 +9,7 @@ use Rattle.prefix_decoder.specs.Operand.{with_nibble, after_prefix}
 use Rattle.module_format.specs.Contents.{Contents}
 use Rattle.module_format.specs.Keeping.{Keeps}
 use Rattle.machine_state.specs.declared.event.Event.{Event}
-use Rattle.machine_state.specs.declared.event.Effect.{Effect}
+use Rattle.machine_state.specs.declared.event.Effect.{Effect as LentEffect}
 use Rattle.machine_state.specs.declared.event.Effect.TheVariants as effects
 use Rattle.machine_state.specs.declared.fault.Fault.{Fault}
 use Rattle.machine_state.specs.declared.process.Task.{Task}
@@ -18,7 +18,7 @@ use Rattle.machine_state.specs.World.{World, Queue, loaded}
 use Rattle.machine_state.specs.declared.fault.FaultKind.TheVariants.{OutsideCode}
 use Rattle.machine_state.specs.LocalStep.{Outcome, goes, lands, stops, fails, local_step}
 use Rattle.machine_state.specs.Moves.{counted, finished_where, put, leave, picked, dispatch}
-use Rattle.machine_state.specs.Happens.{Did, ran, idle, did, Turn, turn, happens, run_from, failed, site_of, settled, prefix_turn, byte_turn, task_turn, step_turn, most_executed}
+use Rattle.machine_state.specs.Happens.{Effect, ran, idle, answered, Turn, turn, happens, run_from, failed, site_of, settled, prefix_turn, byte_turn, task_turn, step_turn, most_executed}
 use Rattle.machine.specs.Asking.{Execution, is_running}
 use Rattle.machine.specs.Lending.{shown}
 use Rattle.verifier.specs.Headline.{AreEvents, IsWell, RunsWell}
@@ -33,8 +33,8 @@ pub record IsAlone (w : World) : Type 0 where
 
 -- A Step finds nobody who runs, executes a byte, or is at fault.
 pub data Steps (w : World) : Turn → Type 0 where
-  idles : (IsAlone w → w.counters.executed < most_executed → w.queue.running ≡ None) → Steps w (did idle w)
-  runs : (after : World) → after.counters.executed ≡ w.counters.executed + 1 → (IsAlone w → IsAlone after) → Steps w (did ran after)
+  idles : (IsAlone w → w.counters.executed < most_executed → w.queue.running ≡ None) → Steps w (answered idle w)
+  runs : (after : World) → after.counters.executed ≡ w.counters.executed + 1 → (IsAlone w → IsAlone after) → Steps w (answered ran after)
   faults : (after : World) (f : Fault) → after.fault ≡ Some f → Steps w (record { world = after; answer = Err f })
 
 -- who runs goes on
@@ -69,7 +69,7 @@ steps_settled m p task next (fails kind) w = faults _ _ refl
 steps_prefix : (m : Contents) (p : ℕ) (task : Task) (operand : ℤ) (w : World) → Steps w (prefix_turn m p task operand w)
 steps_prefix m p task operand w =
     let later : Task = record task { registers = record task.registers { at = task.registers.at + 1; operand = operand } } in
-    elim (nat_lt (task.registers.at + 1) (length m.code)) as (λ b. Steps w (cond b (did ran (counted (put p later w.memory w))) (failed OutsideCode p task w))) [
+    elim (nat_lt (task.registers.at + 1) (length m.code)) as (λ b. Steps w (cond b (answered ran (counted (put p later w.memory w))) (failed OutsideCode p task w))) [
       | true ↦ runs _ refl (alone_put p later w.memory w)
       | false ↦ faults _ _ refl
     ]
@@ -103,13 +103,13 @@ process_there w p running absent alone =
     nobody e = cc
 
 steps_process : (m : Contents) (p : ℕ) (w : World) (over : Bool) (o : Option Task) → w.queue.running ≡ Some p → nat_le most_executed w.counters.executed ≡ over → slice_get w.tasks p ≡ o
-    → Steps w (cond over (did idle w) (elim o [ None ↦ did idle w | Some task ↦ task_turn m p false 0 task w ]))
+    → Steps w (cond over (answered idle w) (elim o [ None ↦ answered idle w | Some task ↦ task_turn m p false 0 task w ]))
 steps_process m p w true o running most here = idles (λ alone small. let above = leb-true most_executed w.counters.executed most in absurd (omega arith))
 steps_process m p w false None running most here = idles (λ alone small. process_there w p running here alone)
 steps_process m p w false (Some task) running most here = steps_task m p task w
 
 steps_running : (m : Contents) (w : World) (o : Option ℕ) → w.queue.running ≡ o
-    → Steps w (elim o [ None ↦ did idle w | Some p ↦ cond (nat_le most_executed w.counters.executed) (did idle w) (elim (slice_get w.tasks p) [ None ↦ did idle w | Some task ↦ task_turn m p false 0 task w ]) ])
+    → Steps w (elim o [ None ↦ answered idle w | Some p ↦ cond (nat_le most_executed w.counters.executed) (answered idle w) (elim (slice_get w.tasks p) [ None ↦ answered idle w | Some task ↦ task_turn m p false 0 task w ]) ])
 steps_running m w None running = idles (λ alone small. running)
 steps_running m w (Some p) running = steps_process m p w (nat_le most_executed w.counters.executed) (slice_get w.tasks p) running refl refl
 
@@ -133,7 +133,7 @@ nobody_runs w t (idles nobody) e alone small = nobody alone small
 nobody_runs w t (runs after more later) e alone small = absurd (cc)
 nobody_runs w t (faults after f at) e alone small = absurd (cc)
 
-more_world : (w : World) (t : Turn) → Steps w t → (d : Did) → t.answer ≡ Ok d → d ≢ idle → t.world.counters.executed ≡ w.counters.executed + 1
+more_world : (w : World) (t : Turn) → Steps w t → (d : Effect) → t.answer ≡ Ok d → d ≢ idle → t.world.counters.executed ≡ w.counters.executed + 1
 more_world w t (idles nobody) d e not = absurd (not (cc))
 more_world w t (runs after more alone) d e not = more
 more_world w t (faults after f at) d e not = absurd (cc)
@@ -153,7 +153,7 @@ pub idle_stays : (m : Contents) (w : World) → (turn m w plain_step).answer ≡
 idle_stays m w = idle_world w (turn m w plain_step) (steps m w)
 
 -- any other executes a byte
-pub one_more : (m : Contents) (w : World) (d : Did) → (turn m w plain_step).answer ≡ Ok d → d ≢ idle
+pub one_more : (m : Contents) (w : World) (d : Effect) → (turn m w plain_step).answer ≡ Ok d → d ≢ idle
     → (happens m w plain_step).counters.executed ≡ w.counters.executed + 1
 one_more m w d e not = more_world w (turn m w plain_step) (steps m w) d e not
 
@@ -162,7 +162,7 @@ pub no_fault : (m : Contents) (w : World) (f : Fault) → (happens m w plain_ste
 no_fault m w f none e = no_fault_world w (turn m w plain_step) (steps m w) f none e
 
 -- an effect that is not idle tells of something else
-pub not_idle : (e : Effect) → (e ≡ effects.Idle → ⊥) → shown e ≢ idle
+pub not_idle : (e : LentEffect) → (e ≡ effects.Idle → ⊥) → shown e ≢ idle
 not_idle effects.Ran not = λ same. cc
 not_idle effects.Idle not = λ same. not refl
 not_idle (effects.Emitted link bytes) not = λ same. cc

@@ -22,7 +22,7 @@ use Rattle.machine_state.specs.Holding.{Holding, nothing, may_write, may_read, I
 use Rattle.machine_state.specs.World.{World, Role, Links, held, holding_at, input_word, output_word}
 use Rattle.machine_state.specs.LocalStep.{Local, Outcome, local_step}
 use Rattle.machine_state.specs.Moves.{counted, finished_where, put, leave, enqueue, wake, dispatch, link_index, with_input, with_output, fill, fill_condition, rouse, rouse_condition, with_condition}
-use Rattle.machine_state.specs.Happens.{Turn, did, idle, ran, most_executed, failed, between, settled, prefix_turn, site_of, byte_turn, task_turn, step_turn, arrive_at, arrive_turn, acknowledge_turn, event_turn, turn, happens, run_from, ignored, acknowledged, busy, kept, taken}
+use Rattle.machine_state.specs.Happens.{Turn, answered, idle, ran, most_executed, failed, between, settled, prefix_turn, site_of, byte_turn, task_turn, step_turn, arrive_at, arrive_turn, acknowledge_turn, event_turn, turn, happens, run_from, ignored, acknowledged, busy, kept, taken}
 use Rattle.verifier.specs.Certified.{IsCertified}
 use Rattle.machine_state.specs.Frame.{ChangesOwn}
 use Rattle.facts.specs.Meaning.{IsWellFormed}
@@ -235,7 +235,7 @@ module _ (m : Contents) (d : Decodes m) (wf : IsWellFormed m) (c : IsCertified m
       u = record r.task { registers = record r.task.registers { at = r.task.registers.at + 1; operand = after_prefix (function_code byte) (with_nibble r.task.registers.operand (nibble byte)) } }
 
       on_test : (b : Bool) → ltb (r.task.registers.at + 1) (length m.code) ≡ b → r.task.registers.at + 1 < length m.code → Holds m (counted (put p u w.memory w))
-          → Holds m (if b then did ran (counted (put p u w.memory w)) else failed OutsideCode p r.task w).world
+          → Holds m (if b then answered ran (counted (put p u w.memory w)) else failed OutsideCode p r.task w).world
       on_test true e low holds = holds
       on_test false e low holds = elim (leb_tells (suc (r.task.registers.at + 1)) (length m.code)) [ inl t ↦ let no' : true ≡ false = sym t.0 ∙ e in absurd (cc) | inr t ↦ let high : length m.code < suc (r.task.registers.at + 1) = t.1 in absurd (omega arith) ]
 
@@ -290,7 +290,7 @@ module _ (m : Contents) (d : Decodes m) (wf : IsWellFormed m) (c : IsCertified m
       on_byte p running r (Some byte) e = byte_holds slice pick w h p running r byte e
 
       on_task : (p : ℕ) → w.queue.running ≡ Some p → (o : Option Task) → slice_get w.tasks p ≡ o
-          → Holds m (elim o as (λ o. Turn) [ None ↦ did idle w | Some task ↦ task_turn m p slice pick task w ]).world
+          → Holds m (elim o as (λ o. Turn) [ None ↦ answered idle w | Some task ↦ task_turn m p slice pick task w ]).world
       on_task p running None e = h
       on_task p running (Some task) e =
           let r = runs m w h p running in
@@ -298,14 +298,14 @@ module _ (m : Contents) (d : Decodes m) (wf : IsWellFormed m) (c : IsCertified m
           subst (λ t. Holds m (task_turn m p slice pick t w).world) same (on_byte p running r (slice_get m.code r.task.registers.at) refl)
 
       on_count : (p : ℕ) → w.queue.running ≡ Some p → (b : Bool)
-          → Holds m (if b then did idle w else elim (slice_get w.tasks p) as (λ o. Turn) [ None ↦ did idle w | Some task ↦ task_turn m p slice pick task w ]).world
+          → Holds m (if b then answered idle w else elim (slice_get w.tasks p) as (λ o. Turn) [ None ↦ answered idle w | Some task ↦ task_turn m p slice pick task w ]).world
       on_count p running true = h
       on_count p running false = on_task p running (slice_get w.tasks p) refl
 
       on_running : (o : Option ℕ) → w.queue.running ≡ o
           → Holds m (elim o as (λ o. Turn) [
-            | None ↦ did idle w
-            | Some p ↦ if leb most_executed w.counters.executed then did idle w else elim (slice_get w.tasks p) as (λ o. Turn) [ None ↦ did idle w | Some task ↦ task_turn m p slice pick task w ]
+            | None ↦ answered idle w
+            | Some p ↦ if leb most_executed w.counters.executed then answered idle w else elim (slice_get w.tasks p) as (λ o. Turn) [ None ↦ answered idle w | Some task ↦ task_turn m p slice pick task w ]
           ]).world
       on_running None e = h
       on_running (Some p) e = on_count p e (leb most_executed w.counters.executed)
@@ -477,14 +477,14 @@ module _ (m : Contents) where
   acknowledge_holds k w h = on_link (slice_get w.links.outputs k) refl
     where
       on_waiting : (l : OutputLink) → slice_get w.links.outputs k ≡ Some l → (o : Option ℕ) → l.waiting ≡ o
-          → Holds m (elim o as (λ o. Turn) [ None ↦ did ignored w | Some p ↦ did acknowledged (dispatch 0 (wake p (with_output k (record { waiting = None }) w))) ]).world
+          → Holds m (elim o as (λ o. Turn) [ None ↦ answered ignored w | Some p ↦ answered acknowledged (dispatch 0 (wake p (with_output k (record { waiting = None }) w))) ]).world
       on_waiting l here None e = h
       on_waiting l here (Some p) e = acknowledged_holds k w h l p here e
 
       on_link : (o : Option OutputLink) → slice_get w.links.outputs k ≡ o
           → Holds m (elim o as (λ o. Turn) [
-            | None ↦ did ignored w
-            | Some link ↦ elim link.waiting as (λ o. Turn) [ None ↦ did ignored w | Some p ↦ did acknowledged (dispatch 0 (wake p (with_output k (record { waiting = None }) w))) ]
+            | None ↦ answered ignored w
+            | Some link ↦ elim link.waiting as (λ o. Turn) [ None ↦ answered ignored w | Some p ↦ answered acknowledged (dispatch 0 (wake p (with_output k (record { waiting = None }) w))) ]
           ]).world
       on_link None e = h
       on_link (Some l) e = on_waiting l e l.waiting refl
@@ -723,20 +723,20 @@ arrive_holds : (m : Contents) (k byte : ℕ) → byte < 256 → (w : World) → 
 arrive_holds m k byte small w h = on_link (slice_get w.links.inputs k) refl
   where
     on_kept : (l : InputLink) → slice_get w.links.inputs k ≡ Some l → l.waiting ≡ None → (o : Option ℕ)
-        → Holds m (elim o as (λ o. Turn) [ Some before ↦ did busy w | None ↦ did kept (dispatch 0 (rouse l.enabled (with_input k (record l { kept = Some byte }) w))) ]).world
+        → Holds m (elim o as (λ o. Turn) [ Some before ↦ answered busy w | None ↦ answered kept (dispatch 0 (rouse l.enabled (with_input k (record l { kept = Some byte }) w))) ]).world
     on_kept l here none (Some before) = h
     on_kept l here none None = kept_holds m k byte w h l here none
 
     on_waiting : (l : InputLink) → slice_get w.links.inputs k ≡ Some l → (o : Option ℕ) → l.waiting ≡ o
         → Holds m (elim o as (λ o. Turn) [
-          | Some p ↦ did taken (dispatch 0 (fill p k byte l w))
-          | None ↦ elim l.kept as (λ o. Turn) [ Some before ↦ did busy w | None ↦ did kept (dispatch 0 (rouse l.enabled (with_input k (record l { kept = Some byte }) w))) ]
+          | Some p ↦ answered taken (dispatch 0 (fill p k byte l w))
+          | None ↦ elim l.kept as (λ o. Turn) [ Some before ↦ answered busy w | None ↦ answered kept (dispatch 0 (rouse l.enabled (with_input k (record l { kept = Some byte }) w))) ]
         ]).world
     on_waiting l here (Some p) e = dispatch_holds m 0 (fill p k byte l w) (filled_holds m k byte small w h l p here e)
     on_waiting l here None e = on_kept l here e l.kept
 
     on_link : (o : Option InputLink) → slice_get w.links.inputs k ≡ o
-        → Holds m (elim o as (λ o. Turn) [ None ↦ did ignored w | Some link ↦ arrive_at k byte link w ]).world
+        → Holds m (elim o as (λ o. Turn) [ None ↦ answered ignored w | Some link ↦ arrive_at k byte link w ]).world
     on_link None e = h
     on_link (Some l) e = on_waiting l e l.waiting refl
 

@@ -2,7 +2,7 @@
 
 ghost use Rattle.std.specs.Prelude.{◌≡◌, ◌+◌, ◌<◌, ◌^◌, IsTrue, length, slice_get, Err};
 ghost use Rattle.module_format.specs.Contents.{contents_of};
-ghost use Rattle.machine_state.specs.Happens.{between, failed, settled, did, ran, prefix_turn, task_turn, step_turn};
+ghost use Rattle.machine_state.specs.Happens.{between, failed, settled, answered, ran, prefix_turn, task_turn, step_turn};
 ghost use Rattle.machine_state.specs.Happens.{most_executed};
 ghost use Rattle.machine.specs.Applying.{Applies, turn_of, outcome_of, outcome_at};
 ghost use Rattle.prefix_decoder.specs.Operand.{IsRegister, after_prefix};
@@ -106,7 +106,7 @@ impl Machine {
             let w = self.old.world in
             let next = task.now.registers.at + 1 in
             let outcome = outcome_of flow registers w.memory in
-            settled m process task.now next choice.slice choice.pick outcome w ≡ did ran self.new.world }
+            settled m process task.now next choice.slice choice.pick outcome w ≡ answered ran self.new.world }
     {
         let next = task.registers.at + 1;
         let (at, condition) = match flow {
