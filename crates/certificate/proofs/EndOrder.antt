@@ -1,5 +1,6 @@
 -- Ends that rise can be searched: their order is strict.
-use Rattle.std.proofs.Common.{◌≡◌, ℕ, ℤ, zero, suc, ◌<◌, ◌≤◌, Bool, true, false, ◌&&◌, ◌||◌, ltb, eqb, List, [], ◌∷◌, length, get_or, refl, sym, inl, inr, arith}
+use Rattle.std.proofs.Common.{◌≡◌, ℕ, ℤ, zero, suc, ◌<◌, ◌≤◌, Bool, true, false, ◌&&◌, ◌||◌, ltb, eqb, List, [], ◌∷◌}
+use Rattle.std.proofs.Common.{length, get_or, refl, sym, inl, inr, arith}
 use Rattle.std.specs.Prelude.{◌<ℤ◌, int_lt, int_le}
 use Rattle.std.specs.List.{list_any}
 use Rattle.std.specs.List.Sorted.{IsPartitionPoint}
@@ -19,7 +20,8 @@ use Rattle.certificate.specs.Rights.{is_same_end}
 -- ---- the order
 
 -- less in a first field, or the same there and less behind it
-lex_trans : (l1 e1 r1 l2 e2 r2 l e r : Bool) → (l1 ≡ true → l2 ≡ true → l ≡ true) → (l1 ≡ true → e2 ≡ true → l ≡ true) → (e1 ≡ true → l2 ≡ true → l ≡ true)
+lex_trans : (l1 e1 r1 l2 e2 r2 l e r : Bool) → (l1 ≡ true → l2 ≡ true → l ≡ true) → (l1 ≡ true → e2 ≡ true → l ≡ true)
+    → (e1 ≡ true → l2 ≡ true → l ≡ true)
     → (e1 ≡ true → e2 ≡ true → e ≡ true) → (r1 ≡ true → r2 ≡ true → r ≡ true)
     → (l1 || (e1 && r1)) ≡ true → (l2 || (e2 && r2)) ≡ true → (l || (e && r)) ≡ true
 lex_trans true e1 r1 true e2 r2 l e r a b c d f g h = rw (a refl refl) refl
@@ -39,57 +41,70 @@ all_four false b c d h = absurd cc
 module _ (x y z : EndKey) where
   -- by kind, then by number, then by element, then by what is left
   by_element : (r1 r2 r l2 : Bool) → (l2 ≡ true → y.element < z.element) → (r1 ≡ true → r2 ≡ true → r ≡ true)
-      → (ltb x.element y.element || (eqb x.element y.element && r1)) ≡ true → (l2 || (eqb y.element z.element && r2)) ≡ true
+      → (ltb x.element y.element || (eqb x.element y.element && r1)) ≡ true
+          → (l2 || (eqb y.element z.element && r2)) ≡ true
       → (ltb x.element z.element || (eqb x.element z.element && r)) ≡ true
   by_element r1 r2 r l2 less =
-      lex_trans (ltb x.element y.element) (eqb x.element y.element) r1 l2 (eqb y.element z.element) r2 (ltb x.element z.element) (eqb x.element z.element) r
-      (λ a b. let c = less b in grind (arith, nat_tests)) (λ a b. grind (arith, nat_tests)) (λ a b. let c = less b in grind (arith, nat_tests)) (λ a b. grind (arith, nat_tests))
+      lex_trans (ltb x.element y.element) (eqb x.element y.element) r1 l2 (eqb y.element z.element) r2
+          (ltb x.element z.element) (eqb x.element z.element) r
+      (λ a b. let c = less b in grind (arith, nat_tests)) (λ a b. grind (arith, nat_tests))
+          (λ a b. let c = less b in grind (arith, nat_tests)) (λ a b. grind (arith, nat_tests))
 
   by_number : (r1 r2 r l2 : Bool) → (l2 ≡ true → y.number <ℤ z.number) → (r1 ≡ true → r2 ≡ true → r ≡ true)
       → (int_lt x.number y.number || ((int_le x.number y.number && int_le y.number x.number) && r1)) ≡ true
       → (l2 || ((int_le y.number z.number && int_le z.number y.number) && r2)) ≡ true
       → (int_lt x.number z.number || ((int_le x.number z.number && int_le z.number x.number) && r)) ≡ true
   by_number r1 r2 r l2 less =
-      lex_trans (int_lt x.number y.number) (int_le x.number y.number && int_le y.number x.number) r1 l2 (int_le y.number z.number && int_le z.number y.number) r2
+      lex_trans (int_lt x.number y.number) (int_le x.number y.number && int_le y.number x.number) r1 l2
+          (int_le y.number z.number && int_le z.number y.number) r2
       (int_lt x.number z.number) (int_le x.number z.number && int_le z.number x.number) r
-      (λ a b. let c = less b in grind (arith, ints)) (λ a b. grind (arith, ints)) (λ a b. let c = less b in grind (arith, ints)) (λ a b. grind (arith, ints))
+      (λ a b. let c = less b in grind (arith, ints)) (λ a b. grind (arith, ints))
+          (λ a b. let c = less b in grind (arith, ints)) (λ a b. grind (arith, ints))
 
   by_kind : (r1 r2 r l2 : Bool) → (l2 ≡ true → y.kind < z.kind) → (r1 ≡ true → r2 ≡ true → r ≡ true)
       → (ltb x.kind y.kind || (eqb x.kind y.kind && r1)) ≡ true → (l2 || (eqb y.kind z.kind && r2)) ≡ true
       → (ltb x.kind z.kind || (eqb x.kind z.kind && r)) ≡ true
   by_kind r1 r2 r l2 less =
-      lex_trans (ltb x.kind y.kind) (eqb x.kind y.kind) r1 l2 (eqb y.kind z.kind) r2 (ltb x.kind z.kind) (eqb x.kind z.kind) r
-      (λ a b. let c = less b in grind (arith, nat_tests)) (λ a b. grind (arith, nat_tests)) (λ a b. let c = less b in grind (arith, nat_tests)) (λ a b. grind (arith, nat_tests))
+      lex_trans (ltb x.kind y.kind) (eqb x.kind y.kind) r1 l2 (eqb y.kind z.kind) r2 (ltb x.kind z.kind)
+          (eqb x.kind z.kind) r
+      (λ a b. let c = less b in grind (arith, nat_tests)) (λ a b. grind (arith, nat_tests))
+          (λ a b. let c = less b in grind (arith, nat_tests)) (λ a b. grind (arith, nat_tests))
 
   below_behind : is_below x y ≡ true → is_below y z ≡ true → is_below x z ≡ true
   below_behind =
       by_kind _ _ _ (ltb y.kind z.kind) (ltb-true y.kind z.kind)
       (by_number _ _ _ (int_lt y.number z.number) (λ e. grind (arith, ints))
-      (by_element (ltb x.direction y.direction) (ltb y.direction z.direction) (ltb x.direction z.direction) (ltb y.element z.element) (ltb-true y.element z.element)
+      (by_element (ltb x.direction y.direction) (ltb y.direction z.direction) (ltb x.direction z.direction)
+          (ltb y.element z.element) (ltb-true y.element z.element)
       (λ a b. grind (arith, nat_tests))))
 
   below_same : is_below x y ≡ true → is_same_end y z ≡ true → is_below x z ≡ true
   below_same below same =
       by_kind _ _ _ false (λ e. absurd cc)
       (by_number _ _ _ false (λ e. absurd cc)
-      (by_element (ltb x.direction y.direction) (eqb y.direction z.direction) (ltb x.direction z.direction) false (λ e. absurd cc)
+      (by_element (ltb x.direction y.direction) (eqb y.direction z.direction) (ltb x.direction z.direction) false
+          (λ e. absurd cc)
       (λ a b. grind (arith, nat_tests)))) below
-      (all_four (eqb y.kind z.kind) (int_le y.number z.number && int_le z.number y.number) (eqb y.element z.element) (eqb y.direction z.direction) same)
+      (all_four (eqb y.kind z.kind) (int_le y.number z.number && int_le z.number y.number) (eqb y.element z.element)
+          (eqb y.direction z.direction) same)
 
 below_differs : (x y : EndKey) → is_below x y ≡ true → is_same_end x y ≡ false
 below_differs x y a = grind (arith, nat_tests, ints)
 
 -- what `==` answers at two numbers, and at two keys
 same_number : (a b : ℤ) → int_eq a b ≡ (int_le a b && int_le b a)
-same_number a b = same_from_decides _ (int_le a b && int_le b a) (Decides-int_eq a b) (λ t. grind (arith, ints), λ e. grind (arith, ints))
+same_number a b = same_from_decides _ (int_le a b && int_le b a) (Decides-int_eq a b)
+    (λ t. grind (arith, ints), λ e. grind (arith, ints))
 
 grouped : (a b c d : Bool) → (a && (b && (c && d))) ≡ (a && b && c && d)
 grouped true true c d = refl
 grouped true false c d = refl
 grouped false b c d = refl
 
-pub same_key : (x y : EndKey) → (eqb x.kind y.kind && (int_eq x.number y.number && (eqb x.element y.element && eqb x.direction y.direction))) ≡ is_same_end x y
-same_key x y = rw (same_number x.number y.number) (grouped (eqb x.kind y.kind) (int_le x.number y.number && int_le y.number x.number) (eqb x.element y.element) (eqb x.direction y.direction))
+pub same_key : (x y : EndKey) → (eqb x.kind y.kind && (int_eq x.number y.number &&
+    (eqb x.element y.element && eqb x.direction y.direction))) ≡ is_same_end x y
+same_key x y = rw (same_number x.number y.number) (grouped (eqb x.kind y.kind)
+    (int_le x.number y.number && int_le y.number x.number) (eqb x.element y.element) (eqb x.direction y.direction))
 
 -- ---- ends that rise
 
@@ -97,19 +112,23 @@ module _ (d : EndRow) where
   abbrev key_at : List EndRow → ℕ → EndKey
   key_at es i = key_of (get_or es i d)
 
-  above : (low : EndKey) (es : List EndRow) (i : ℕ) → InOrder EndKeeps behind_end low es → i < length es → is_below low (key_at es i) ≡ true
+  above : (low : EndKey) (es : List EndRow) (i : ℕ) → InOrder EndKeeps behind_end low es → i < length es
+      → is_below low (key_at es i) ≡ true
   above low [] i h lt = absurd (omega arith)
   above low (e ∷ es) zero h lt = h.0.rises
-  above low (e ∷ es) (suc i) h lt = below_behind low (key_of e) (key_at es i) h.0.rises (above (key_of e) es i h.1 (omega arith))
+  above low (e ∷ es) (suc i) h lt =
+      below_behind low (key_of e) (key_at es i) h.0.rises (above (key_of e) es i h.1 (omega arith))
 
-  rise : (low : EndKey) (es : List EndRow) (i j : ℕ) → InOrder EndKeeps behind_end low es → i < j → j < length es → is_below (key_at es i) (key_at es j) ≡ true
+  rise : (low : EndKey) (es : List EndRow) (i j : ℕ) → InOrder EndKeeps behind_end low es → i < j → j < length es
+      → is_below (key_at es i) (key_at es j) ≡ true
   rise low [] i j h less lt = absurd (omega arith)
   rise low (e ∷ es) i zero h less lt = absurd (omega arith)
   rise low (e ∷ es) zero (suc j) h less lt = above (key_of e) es j h.1 (omega arith)
   rise low (e ∷ es) (suc i) (suc j) h less lt = rise (key_of e) es i j h.1 (omega arith) (omega arith)
 
   -- the ends below a key are the first ones
-  pub parted : (key low : EndKey) (es : List EndRow) → InOrder EndKeeps behind_end low es → (i j : ℕ) → i ≤ j → j < length es → is_below (key_at es j) key ≡ true → is_below (key_at es i) key ≡ true
+  pub parted : (key low : EndKey) (es : List EndRow) → InOrder EndKeeps behind_end low es → (i j : ℕ) → i ≤ j
+      → j < length es → is_below (key_at es j) key ≡ true → is_below (key_at es i) key ≡ true
   parted key low es h i j le lt below = elim (cases_lt i j) [
     | inl less ↦ below_behind (key_at es i) (key_at es j) key (rise low es i j h less lt) below
     | inr ge ↦
@@ -119,7 +138,8 @@ module _ (d : EndRow) where
 
 -- what a search for a key finds among ends that rise: the first n are below it, and the others aren't
 module _ (key low : EndKey) (es : List EndRow) (n : ℕ) (h : InOrder EndKeeps behind_end low es)
-    (point : IsPartitionPoint (λ (e : EndRow). is_below (key_of e) key ≡ true) (λ (e : EndRow). is_below (key_of e) key ≡ false) es n) where
+    (point : IsPartitionPoint (λ (e : EndRow). is_below (key_of e) key ≡ true)
+        (λ (e : EndRow). is_below (key_of e) key ≡ false) es n) where
   abbrev is_it : EndRow → Bool
   is_it e = is_same_end (key_of e) key
 
@@ -127,13 +147,15 @@ module _ (key low : EndKey) (es : List EndRow) (n : ℕ) (h : InOrder EndKeeps b
   differs_before d i less = below_differs (key_of (get_or es i d)) key (point.0 i d (omega arith) less)
 
   pub none_listed : (d : EndRow) → length es ≤ n → list_any is_it es ≡ false
-  none_listed d past = list_any_none is_it es (All-from_get_or (λ e. is_it e ≡ false) es d (λ i lt. differs_before d i (omega arith)))
+  none_listed d past =
+      list_any_none is_it es (All-from_get_or (λ e. is_it e ≡ false) es d (λ i lt. differs_before d i (omega arith)))
 
   -- the end behind them is it, or none is
   pub one_tells : (d : EndRow) → n < length es → is_it (get_or es n d) ≡ list_any is_it es
   one_tells d inside = elim (is_it (get_or es n d)) as (λ b. is_it (get_or es n d) ≡ b → b ≡ list_any is_it es) [
     | true ↦ λ e. sym (list_any_at is_it es n d inside e)
-    | false ↦ λ e. sym (list_any_none is_it es (All-from_get_or (λ e. is_it e ≡ false) es d (λ i lt. elim (cases_lt i n) [
+    | false ↦ λ e. sym (list_any_none is_it es (All-from_get_or (λ e. is_it e ≡ false) es d
+        (λ i lt. elim (cases_lt i n) [
       | inl less ↦ differs_before d i less
       | inr ge ↦ elim (cases_lt n i) [
         | inl behind ↦ elim (is_it (get_or es i d)) as (λ b. is_it (get_or es i d) ≡ b → b ≡ false) [

@@ -1,5 +1,6 @@
 -- The branches of a module, by the numbers of their contexts.
-use Rattle.std.specs.Prelude.{◌≡◌, ℕ, ◌+◌, ◌-◌, nat_lt, if◌then◌else◌, List, [], ◌∷◌, ◌==◌, slice_index, map, slice_get, Option, Some, None}
+use Rattle.std.specs.Prelude.{◌≡◌, ℕ, ◌+◌, ◌-◌, nat_lt, if◌then◌else◌, List, [], ◌∷◌, ◌==◌, slice_index, map, slice_get}
+use Rattle.std.specs.Prelude.{Option, Some, None}
 use Rattle.module_format.specs.Contents.{Branch, Par, Contents}
 use Rattle.module_format.specs.Contexts.{first_branch}
 use Rattle.module_format.specs.Places.{branches_of}

@@ -1,5 +1,7 @@
 -- What a context may do with the words of its frame and with channels.
-use Rattle.std.specs.Prelude.{ℕ, zero, suc, ℤ, pos, negsuc, ◌==◌, ◌&&◌, ◌||◌, not, nat_lt, int_le, int_lt, Bool, true, false, if◌then◌else◌, List, length, find, get_or, slice_get, Option, Some, None, option_map, is_some, bit_and}
+use Rattle.std.specs.Prelude.{ℕ, zero, suc, ℤ, pos, negsuc, ◌==◌, ◌&&◌, ◌||◌, not, nat_lt, int_le, int_lt, Bool, true}
+use Rattle.std.specs.Prelude.{false, if◌then◌else◌, List, length, find, get_or, slice_get, Option, Some, None}
+use Rattle.std.specs.Prelude.{option_map, is_some, bit_and}
 use Rattle.std.specs.List.{list_any}
 use Rattle.module_format.specs.declared.contexts.Context.{Context}
 use Rattle.module_format.specs.declared.rows.Interval.{Interval}
@@ -52,7 +54,8 @@ abbrev pub length_around : ℕ → Contents → ℕ → ℤ → Option ℕ
 length_around zero c n k = None
 length_around (suc more) c n k = elim (numbered_branch c n) [
   | None ↦ None
-  | Some found ↦ elim (listed_length found.0.channels k) [ Some len ↦ Some len | None ↦ length_around more c found.0.context k ]
+  | Some found ↦ elim (listed_length found.0.channels k) [ Some len ↦ Some len | None ↦
+      length_around more c found.0.context k ]
 ]
 
 -- no more rows are around a context than there are, since a row's context is below those of its branches
@@ -94,5 +97,6 @@ is_same_end x y =
 abbrev pub has_end : Contents → ℕ → EndRow → Bool
 has_end c n e = is_some (context_at c n) && elim (numbered_branch c n) [
   | Some found ↦ list_any (λ other. is_same_end (key_of other) (key_of e)) found.1.ends
-  | None ↦ if n == 0 then gives_link c.lengths e.kind e.direction else gives_parameter (parameters_at c n) e.kind e.direction
+  | None ↦ if n == 0 then gives_link c.lengths e.kind e.direction else gives_parameter
+      (parameters_at c n) e.kind e.direction
 ]

@@ -1,5 +1,6 @@
 -- The code offsets where the tables say that an instruction starts, and what begins there.
-use Rattle.std.specs.Prelude.{◌≡◌, ℕ, ◌+◌, ◌==◌, ◌||◌, Bool, if◌then◌else◌, List, [], ◌∷◌, get_or, false, Option, Some, None, is_some}
+use Rattle.std.specs.Prelude.{◌≡◌, ℕ, ◌+◌, ◌==◌, ◌||◌, Bool, if◌then◌else◌, List, [], ◌∷◌, get_or, false, Option, Some}
+use Rattle.std.specs.Prelude.{None, is_some}
 use Rattle.std.specs.List.{list_any}
 use Rattle.module_format.specs.Contents.{Procedure, Contents, label_at}
 use Rattle.module_format.specs.Pars.{entries_of_rows}
@@ -12,7 +13,8 @@ pub record Entered : Type 0 where
 -- the procedure that begins at an offset, where the first of these has context n
 abbrev pub procedure_from : ℕ → List Procedure → ℕ → Option Entered
 procedure_from n [] at = None
-procedure_from n (p ∷ ps) at = if p.entry == at then Some (record { context = n; procedure = p }) else procedure_from (n + 1) ps at
+procedure_from n (p ∷ ps) at =
+    if p.entry == at then Some (record { context = n; procedure = p }) else procedure_from (n + 1) ps at
 
 abbrev pub procedure_at : Contents → ℕ → Option Entered
 procedure_at c at = procedure_from 1 c.procedures at

@@ -1,12 +1,16 @@
--- What a state that is below a label knows: what the label says, in the activation in which the label's loops are under way.
-use Rattle.std.proofs.Common.{FitsSigned, ◌≡◌, ℕ, zero, suc, ◌≤◌, ◌<◌, ◌<ℤ◌, ℤ, pos, ◌+ℤ◌, ◌-ℤ◌, ◌≤ℤ◌, Bool, true, false, cond, if◌then◌else◌, inl, inr, List, [], ◌∷◌, length, Option, Some, None, Result, Ok, Err, refl, sym, ap, ◌∙◌, subst, arith, ltb, eqb}
+-- What a state that is below a label knows: what the label says, in the activation in which the label's loops are under
+-- way.
+use Rattle.std.proofs.Common.{FitsSigned, ◌≡◌, ℕ, zero, suc, ◌≤◌, ◌<◌, ◌<ℤ◌, ℤ, pos, ◌+ℤ◌, ◌-ℤ◌, ◌≤ℤ◌, Bool, true}
+use Rattle.std.proofs.Common.{false, cond, if◌then◌else◌, inl, inr, List, [], ◌∷◌, length, Option, Some, None, Result}
+use Rattle.std.proofs.Common.{Ok, Err, refl, sym, ap, ◌∙◌, subst, arith, ltb, eqb}
 use Rattle.std.proofs.lemmas.Bool.Decides.{leb_tells, eqb_tells, nat_tests}
 use Rattle.std.proofs.lemmas.Int.{ints}
 use Rattle.std.specs.Prelude.{int_le, int_lt, ◌==◌}
 use Rattle.std.specs.List.{list_all}
 use Rattle.std.specs.Int.{w32}
 use Rattle.module_format.specs.declared.fact.Fact.{Fact}
-use Rattle.module_format.specs.declared.fact.Fact.TheVariants.{Unknown, Number, Pointer, CodeAddress, Loop, ReturnAddress}
+use Rattle.module_format.specs.declared.fact.Fact.TheVariants.{Unknown, Number, Pointer, CodeAddress, Loop}
+use Rattle.module_format.specs.declared.fact.Fact.TheVariants.{ReturnAddress}
 use Rattle.module_format.specs.declared.fact.Step.{Step}
 use Rattle.module_format.specs.declared.fact.Step.TheVariants.{Byte, Word}
 use Rattle.module_format.specs.declared.rows.Entry.{Entry}
@@ -25,9 +29,13 @@ use Rattle.states.specs.declared.known.WordFact.TheVariants.{Alone, Index, Count
 use Rattle.states.specs.declared.rule.Rule.{Rule}
 use Rattle.states.specs.declared.rule.Rule.TheVariants as rules
 use Rattle.states.specs.State.{State, Facts, label_state, is_word, is_about, by_itself, is_alone, said_of, entry_fact}
-use Rattle.states.specs.Below.{below, agrees, implies, step_implies, is_constant, is_same_loop, says, words_say, entries_hold, are_alike, is_whole, is_plain, cost}
+use Rattle.states.specs.Below.{below, agrees, implies, step_implies, is_constant, is_same_loop, says, words_say}
+use Rattle.states.specs.Below.{entries_hold, are_alike, is_whole, is_plain, cost}
 use Rattle.states.specs.Rows.{IsRowOf, LoopFits, rise_from}
-use Rattle.facts.specs.Meaning.{Activation, with_turns, Means, says_nothing, is_number, is_pointer, is_code_address, is_return_address, word_of, region_start, code_address, IsOffset, MeansWord, is_fact, is_index, is_count, frame_word, HasFrame, SameMode, both_plain, turns_from, label_turns, at_label, IsSpan, ArePairs, IsWellFormed}
+use Rattle.facts.specs.Meaning.{Activation, with_turns, Means, says_nothing, is_number, is_pointer, is_code_address}
+use Rattle.facts.specs.Meaning.{is_return_address, word_of, region_start, code_address, IsOffset, MeansWord, is_fact}
+use Rattle.facts.specs.Meaning.{is_index, is_count, frame_word, HasFrame, SameMode, both_plain, turns_from, label_turns}
+use Rattle.facts.specs.Meaning.{at_label, IsSpan, ArePairs, IsWellFormed}
 use Rattle.states.proofs.RowFacts.{and-parts, le-from, lt-from, rise-parts, about-within, about-behind}
 use Rattle.facts.specs.Fitting.{After}
 use Rattle.facts.proofs.Words.{bool_cases, means_same, word_test, int_le_tells, itself_means}
@@ -42,7 +50,8 @@ same_word j k h = elim (word_test j k) [ inl p ↦ p.1 | inr p ↦ let no' : tru
 
 module _ (m : Contents) (act : Activation) where
   -- a multiple of four is any offset too
-  step_means : (step stride : Step) (offset : ℤ) → step_implies step stride ≡ true → IsOffset step offset → IsOffset stride offset
+  step_means : (step stride : Step) (offset : ℤ) → step_implies step stride ≡ true → IsOffset step offset
+      → IsOffset stride offset
   step_means step Byte offset t stepped = tt
   step_means Byte Word offset t stepped = absurd (cc)
   step_means Word Word offset t stepped = stepped
@@ -54,11 +63,13 @@ module _ (m : Contents) (act : Activation) where
       let both = and-parts (int_le low lo) (int_le hi high) t in
       is_number (omega (arith, ints, le-from low lo both.0)) (omega (arith, ints, le-from hi high both.1)) fits
   implies_means (Pointer region lo hi step) (Pointer other low high stride) None t means = elim means [ ]
-  implies_means (Pointer region lo hi step) (Pointer other low high stride) (Some a) t (is_pointer offset p q stepped is) =
+  implies_means (Pointer region lo hi step) (Pointer other low high stride) (Some a) t
+      (is_pointer offset p q stepped is) =
       let all = and-parts _ _ t in
       let first = and-parts _ _ all.0 in
       let range = and-parts (int_le low lo) (int_le hi high) first.1 in
-      is_pointer offset (omega (arith, ints, le-from low lo range.0)) (omega (arith, ints, le-from hi high range.1)) (step_means step stride offset all.1 stepped)
+      is_pointer offset (omega (arith, ints, le-from low lo range.0)) (omega (arith, ints, le-from hi high range.1))
+          (step_means step stride offset all.1 stepped)
       (is ∙ ap (λ (r : ℕ). word_of (region_start m act r +ℤ offset)) (same_number region other first.0))
   implies_means (CodeAddress offset) (CodeAddress other) None t means = elim means [ ]
   implies_means (CodeAddress offset) (CodeAddress other) (Some a) t (is_code_address is) =
@@ -70,21 +81,24 @@ module _ (m : Contents) (act : Activation) where
   pub other_turns : (turns : ℤ → ℕ) (f : Fact) (v : Option ℤ) → Means m act f v → Means m (with_turns turns act) f v
   other_turns turns Unknown v means = says_nothing
   other_turns turns (Number lo hi) v (is_number low high fits) = is_number low high fits
-  other_turns turns (Pointer region lo hi step) v (is_pointer offset low high stepped is) = is_pointer offset low high stepped is
+  other_turns turns (Pointer region lo hi step) v (is_pointer offset low high stepped is) =
+      is_pointer offset low high stepped is
   other_turns turns (CodeAddress offset) v (is_code_address is) = is_code_address is
   other_turns turns (Loop base count weight) v means = elim means [ ]
   other_turns turns ReturnAddress v (is_return_address is) = is_return_address is
 
 -- ---- facts of words
 
-same_loop : (loop other : CountedLoop) → is_same_loop loop other ≡ true → (loop.base ≡ other.base) × (loop.count ≡ other.count)
+same_loop : (loop other : CountedLoop) → is_same_loop loop other ≡ true
+    → (loop.base ≡ other.base) × (loop.count ≡ other.count)
 same_loop loop other t =
     let all = and-parts _ _ t in
     let first = and-parts _ _ all.0 in
     (same_word loop.base other.base first.0, same_number loop.count other.count first.1)
 
 -- a number that is exactly this one
-constant_means : (m : Contents) (act : Activation) (f : Fact) (v : Option ℤ) (number : ℤ) → is_constant f number ≡ true → Means m act f v → (FitsSigned w32 number) × (v ≡ Some number)
+constant_means : (m : Contents) (act : Activation) (f : Fact) (v : Option ℤ) (number : ℤ) → is_constant f number ≡ true
+    → Means m act f v → (FitsSigned w32 number) × (v ≡ Some number)
 constant_means m act (Number lo hi) None number t means = elim means [ ]
 constant_means m act (Number lo hi) (Some x) number t (is_number low high fits) =
     let both = and-parts (is_word lo number) (is_word hi number) t in
@@ -96,8 +110,10 @@ constant_means m act f v number t means = absurd (cc)
 
 module _ (m : Contents) (act : Activation) (turns : ℤ → ℕ) (k : ℤ) (v : Option ℤ) where
   -- each kind of word that a label may have: a fact alone
-  alone_means : (said : WordFact) (wanted : Fact) → implies (by_itself said) wanted ≡ true → MeansWord m act k said v → MeansWord m (with_turns turns act) k (Alone wanted) v
-  alone_means said wanted t means = is_fact (other_turns m act turns wanted v (implies_means m act (by_itself said) wanted v t (itself_means m act k said v means)))
+  alone_means : (said : WordFact) (wanted : Fact) → implies (by_itself said) wanted ≡ true → MeansWord m act k said v
+      → MeansWord m (with_turns turns act) k (Alone wanted) v
+  alone_means said wanted t means = is_fact (other_turns m act turns wanted v
+      (implies_means m act (by_itself said) wanted v t (itself_means m act k said v means)))
 
   -- the index of a loop
   index_means : (said : WordFact) (loop : CountedLoop) → says said (Index loop) ≡ true → LoopFits (Index loop)
@@ -110,7 +126,8 @@ module _ (m : Contents) (act : Activation) (turns : ℤ → ℕ) (k : ℤ) (v : 
       (is_index (omega arith) (omega arith) (omega (arith, ints)) constant.0)
   index_means (Index other) loop t fits left means = under_way v means
     where
-      under_way : (u : Option ℤ) → MeansWord m act k (Index other) u → MeansWord m (with_turns turns act) k (Index loop) u
+      under_way : (u : Option ℤ) → MeansWord m act k (Index other) u
+          → MeansWord m (with_turns turns act) k (Index loop) u
       under_way None known = elim known [ ]
       under_way (Some x) (is_index some most is fits) =
           let same = same_loop other loop t in
@@ -120,7 +137,8 @@ module _ (m : Contents) (act : Activation) (turns : ℤ → ℕ) (k : ℤ) (v : 
   index_means (Count other) loop t fits left means = absurd (cc)
 
   -- the count of a loop whose index is in the word before
-  count_means : (said first : WordFact) (loop : CountedLoop) → says said (Count loop) ≡ true → says first (Index loop) ≡ true
+  count_means : (said first : WordFact) (loop : CountedLoop) → says said (Count loop) ≡ true
+      → says first (Index loop) ≡ true
       → are_alike (is_alone first) (is_alone said) ≡ true → LoopFits (Count loop)
       → turns (k -ℤ pos 1) ≡ turns_from first (Index loop) (act.turns (k -ℤ pos 1)) → MeansWord m act k said v
       → MeansWord m (with_turns turns act) k (Count loop) v
@@ -131,7 +149,8 @@ module _ (m : Contents) (act : Activation) (turns : ℤ → ℕ) (k : ℤ) (v : 
       (is_count (omega arith) (omega arith) (ap (λ (n : ℕ). pos n) (sym left)) constant.0)
   count_means (Count other) (Index index) loop t u alike fits left means = under_way v means
     where
-      under_way : (u : Option ℤ) → MeansWord m act k (Count other) u → MeansWord m (with_turns turns act) k (Count loop) u
+      under_way : (u : Option ℤ) → MeansWord m act k (Count other) u
+          → MeansWord m (with_turns turns act) k (Count loop) u
       under_way None known = elim known [ ]
       under_way (Some x) (is_count some most is fits) =
           let same = same_loop other loop t in
@@ -146,46 +165,58 @@ first_word : (word k : ℤ) (more : ℕ) → k ≡ word +ℤ pos more → (more 
 first_word word k zero e = elim (word_test word k) [ inl p ↦ sym p.0 | inr p ↦ absurd (p.1 (omega (arith, ints))) ]
 first_word word k (suc more) e =
     let later : eqb (suc more) 0 ≡ false = grind (arith, nat_tests) in
-    elim (word_test word k) [ inl p ↦ let same : word ≡ k = p.1 in absurd (omega (arith, ints)) | inr p ↦ later ∙ sym p.0 ]
+    elim (word_test word k) [ inl p ↦ let same : word ≡ k = p.1 in absurd (omega (arith, ints)) | inr p ↦ later
+        ∙ sym p.0 ]
 
 -- each word that an entry is about
-words_said : (facts : Facts) (entry : Entry) (k : ℤ) (span : ℕ) → words_say facts entry span ≡ true → entry.word ≤ℤ k → k <ℤ (entry.word +ℤ pos span) → says (facts k) (said_of entry.fact (is_word entry.word k)) ≡ true
+words_said : (facts : Facts) (entry : Entry) (k : ℤ) (span : ℕ) → words_say facts entry span ≡ true → entry.word ≤ℤ k
+    → k <ℤ (entry.word +ℤ pos span) → says (facts k) (said_of entry.fact (is_word entry.word k)) ≡ true
 words_said facts entry k zero t low high = absurd (omega (arith, ints))
 words_said facts entry k (suc more) t low high =
     let both = and-parts _ _ t in
     elim (word_test k (entry.word +ℤ pos more)) [
       | inl e ↦
           ap (λ (j : ℤ). says (facts j) (said_of entry.fact (is_word entry.word k))) e.1
-          ∙ ap (λ (b : Bool). says (facts (entry.word +ℤ pos more)) (said_of entry.fact b)) (sym (first_word entry.word k more e.1)) ∙ both.0
+          ∙ ap (λ (b : Bool). says (facts (entry.word +ℤ pos more)) (said_of entry.fact b))
+              (sym (first_word entry.word k more e.1)) ∙ both.0
       | inr e ↦ words_said facts entry k more both.1 low (below_last k entry.word more high e.1)
     ]
   where
-    below_last : (k word : ℤ) (more : ℕ) → k <ℤ (word +ℤ pos (suc more)) → (k ≡ word +ℤ pos more → ⊥) → k <ℤ (word +ℤ pos more)
+    below_last : (k word : ℤ) (more : ℕ) → k <ℤ (word +ℤ pos (suc more)) → (k ≡ word +ℤ pos more → ⊥)
+        → k <ℤ (word +ℤ pos more)
     below_last k word more high differ = elim (int_le_tells (word +ℤ pos more) k) [
       | inl p ↦ absurd (differ (omega (arith, ints, p.1)))
       | inr p ↦ p.1
     ]
 
-entry_here : (entry : Entry) (entries : List Entry) (k : ℤ) → is_about entry k ≡ true → entry_fact (entry ∷ entries) k ≡ said_of entry.fact (is_word entry.word k)
-entry_here entry entries k e = ap (λ (b : Bool). cond b (said_of entry.fact (is_word entry.word k)) (entry_fact entries k)) e
+entry_here : (entry : Entry) (entries : List Entry) (k : ℤ) → is_about entry k ≡ true
+    → entry_fact (entry ∷ entries) k ≡ said_of entry.fact (is_word entry.word k)
+entry_here entry entries k e =
+    ap (λ (b : Bool). cond b (said_of entry.fact (is_word entry.word k)) (entry_fact entries k)) e
 
-entry_later : (entry : Entry) (entries : List Entry) (k : ℤ) → is_about entry k ≡ false → entry_fact (entry ∷ entries) k ≡ entry_fact entries k
-entry_later entry entries k e = ap (λ (b : Bool). cond b (said_of entry.fact (is_word entry.word k)) (entry_fact entries k)) e
+entry_later : (entry : Entry) (entries : List Entry) (k : ℤ) → is_about entry k ≡ false
+    → entry_fact (entry ∷ entries) k ≡ entry_fact entries k
+entry_later entry entries k e =
+    ap (λ (b : Bool). cond b (said_of entry.fact (is_word entry.word k)) (entry_fact entries k)) e
 
 -- what is known says of each word what the entries say
-entries_said : (facts : Facts) (entries : List Entry) (k : ℤ) → entries_hold facts entries ≡ true → says (facts k) (entry_fact entries k) ≡ true
+entries_said : (facts : Facts) (entries : List Entry) (k : ℤ) → entries_hold facts entries ≡ true
+    → says (facts k) (entry_fact entries k) ≡ true
 entries_said facts [] k t = refl
 entries_said facts (entry ∷ entries) k t =
     let both = and-parts (words_say facts entry entry.span) (entries_hold facts entries) t in
     elim (bool_cases (is_about entry k)) [
       | inl e ↦
           let place = and-parts _ _ e in
-          ap (says (facts k)) (entry_here entry entries k e) ∙ words_said facts entry k entry.span both.0 (le-from entry.word k place.0) (lt-from k (entry.word +ℤ pos entry.span) place.1)
+          ap (says (facts k)) (entry_here entry entries k e)
+              ∙ words_said facts entry k entry.span both.0 (le-from entry.word k place.0)
+              (lt-from k (entry.word +ℤ pos entry.span) place.1)
       | inr e ↦ ap (says (facts k)) (entry_later entry entries k e) ∙ entries_said facts entries k both.1
     ]
 
 -- what rises behind a word says nothing of words before
-index_behind : (low : ℤ) (entries : List Entry) (k : ℤ) (loop : CountedLoop) → rise_from low entries ≡ true → entry_fact entries k ≡ Index loop → low ≤ℤ k
+index_behind : (low : ℤ) (entries : List Entry) (k : ℤ) (loop : CountedLoop) → rise_from low entries ≡ true
+    → entry_fact entries k ≡ Index loop → low ≤ℤ k
 index_behind low [] k loop rise h = absurd (cc)
 index_behind low (entry ∷ entries) k loop rise h =
     let parts = rise-parts low entry entries rise in
@@ -196,7 +227,8 @@ index_behind low (entry ∷ entries) k loop rise h =
           let here : entry.word ≤ℤ k = le-from entry.word k place.0 in
           omega (arith, ints)
       | inr e ↦
-          let behind : end_of entry ≤ℤ k = index_behind (end_of entry) entries k loop parts.1 (sym (entry_later entry entries k e) ∙ h) in
+          let behind : end_of entry ≤ℤ k =
+              index_behind (end_of entry) entries k loop parts.1 (sym (entry_later entry entries k e) ∙ h) in
           omega (arith, ints)
     ]
 
@@ -216,7 +248,8 @@ record HasIndex (facts : Facts) (entries : List Entry) (k : ℤ) (loop : Counted
   index : entry_fact entries (k -ℤ pos 1) ≡ Index loop
   alike : are_alike (is_alone (facts (k -ℤ pos 1))) (is_alone (facts k)) ≡ true
 
-count_behind_index : (facts : Facts) (low : ℤ) (entries : List Entry) (k : ℤ) (loop : CountedLoop) → rise_from low entries ≡ true → ArePairs entries → list_all (is_whole facts) entries ≡ true
+count_behind_index : (facts : Facts) (low : ℤ) (entries : List Entry) (k : ℤ) (loop : CountedLoop)
+    → rise_from low entries ≡ true → ArePairs entries → list_all (is_whole facts) entries ≡ true
     → entry_fact entries k ≡ Count loop → HasIndex facts entries k loop
 count_behind_index facts low [] k loop rise pairs whole h = absurd (cc)
 count_behind_index facts low (entry ∷ entries) k loop rise pairs whole h =
@@ -225,12 +258,16 @@ count_behind_index facts low (entry ∷ entries) k loop rise pairs whole h =
     elim (bool_cases (is_about entry k)) [
       | inl e ↦ here e (count_of entry.fact (is_word entry.word k) loop (sym (entry_here entry entries k e) ∙ h)) both.0
       | inr e ↦
-          let later = count_behind_index facts (end_of entry) entries k loop parts.1 pairs.1 both.1 (sym (entry_later entry entries k e) ∙ h) in
-          let behind : end_of entry ≤ℤ (k -ℤ pos 1) = index_behind (end_of entry) entries (k -ℤ pos 1) loop parts.1 later.index in
-          record { index = entry_later entry entries (k -ℤ pos 1) (about-behind entry (k -ℤ pos 1) behind) ∙ later.index; alike = later.alike }
+          let later = count_behind_index facts (end_of entry) entries k loop parts.1 pairs.1 both.1
+              (sym (entry_later entry entries k e) ∙ h) in
+          let behind : end_of entry ≤ℤ (k -ℤ pos 1) =
+              index_behind (end_of entry) entries (k -ℤ pos 1) loop parts.1 later.index in
+          record { index = entry_later entry entries (k -ℤ pos 1) (about-behind entry (k -ℤ pos 1) behind)
+              ∙ later.index; alike = later.alike }
     ]
   where
-    here : is_about entry k ≡ true → (entry.fact ≡ Loop loop.base loop.count loop.weight) × (is_word entry.word k ≡ false)
+    here : is_about entry k ≡ true → (entry.fact ≡ Loop loop.base loop.count loop.weight)
+        × (is_word entry.word k ≡ false)
         → is_whole facts entry ≡ true → HasIndex facts (entry ∷ entries) k loop
     here e known alike =
         let place = and-parts (int_le entry.word k) (int_lt k (entry.word +ℤ pos entry.span)) e in
@@ -244,17 +281,22 @@ count_behind_index facts low (entry ∷ entries) k loop rise pairs whole h =
               let first : k -ℤ pos 1 ≡ entry.word = omega (arith, ints) in
               record {
                 index =
-                    entry_here entry entries (k -ℤ pos 1) (about-within entry (k -ℤ pos 1) (omega (arith, ints)) (omega (arith, ints)))
+                    entry_here entry entries (k -ℤ pos 1)
+                        (about-within entry (k -ℤ pos 1) (omega (arith, ints)) (omega (arith, ints)))
                     ∙ ap (λ (f : Fact). said_of f (is_word entry.word (k -ℤ pos 1))) known.0
                     ∙ ap (λ (b : Bool). said_of (Loop loop.base loop.count loop.weight) b) (is_same first);
                 alike =
                     ap (λ (j : ℤ). are_alike (is_alone (facts j)) (is_alone (facts k))) first
                     ∙ ap (λ (j : ℤ). are_alike (is_alone (facts entry.word)) (is_alone (facts j))) second
-                    ∙ subst (λ (f : Fact). (elim f as (λ f. Bool) [ Loop b n w ↦ are_alike (is_alone (facts entry.word)) (is_alone (facts (entry.word +ℤ pos 1))) | _ ↦ true ]) ≡ true) known.0 alike;
+                    ∙ subst (λ (f : Fact).
+                        (elim f as (λ f. Bool)
+                        [ Loop b n w ↦ are_alike (is_alone (facts entry.word))
+                        (is_alone (facts (entry.word +ℤ pos 1))) | _ ↦ true ]) ≡ true) known.0 alike;
               }
         ]
       where
-        next : entry.word ≤ℤ k → k <ℤ (entry.word +ℤ pos entry.span) → entry.span ≡ 2 → (entry.word ≡ k → ⊥) → k ≡ entry.word +ℤ pos 1
+        next : entry.word ≤ℤ k → k <ℤ (entry.word +ℤ pos entry.span) → entry.span ≡ 2 → (entry.word ≡ k → ⊥)
+            → k ≡ entry.word +ℤ pos 1
         next low high two differ = elim (int_le_tells k entry.word) [
           | inl p ↦ absurd (differ (omega (arith, ints, p.1)))
           | inr p ↦ let above : entry.word <ℤ k = p.1 in omega (arith, ints)
@@ -266,26 +308,34 @@ count_behind_index facts low (entry ∷ entries) k loop rise pairs whole h =
 -- ---- labels
 
 -- each word as the label has it, where its loops have the turns that the label leaves
-label_words : (m : Contents) (act : Activation) (facts : Facts) (t : Label) (k : ℤ) (v : Option ℤ) → IsRowOf m t → ArePairs t.entries → entries_hold facts t.entries ≡ true → list_all (is_whole facts) t.entries ≡ true
-    → MeansWord m act k (facts k) v → MeansWord m (with_turns (label_turns facts t.entries act.turns) act) k (entry_fact t.entries k) v
+label_words : (m : Contents) (act : Activation) (facts : Facts) (t : Label) (k : ℤ) (v : Option ℤ) → IsRowOf m t
+    → ArePairs t.entries → entries_hold facts t.entries ≡ true → list_all (is_whole facts) t.entries ≡ true
+    → MeansWord m act k (facts k) v → MeansWord m (with_turns (label_turns facts t.entries act.turns) act) k
+        (entry_fact t.entries k) v
 label_words m act facts t k v row pairs hold whole means = on_fact (entry_fact t.entries k) refl
   where
     turns : ℤ → ℕ
     turns = label_turns facts t.entries act.turns
 
-    on_fact : (f : WordFact) → entry_fact t.entries k ≡ f → MeansWord m (with_turns turns act) k (entry_fact t.entries k) v
+    on_fact : (f : WordFact) → entry_fact t.entries k ≡ f
+        → MeansWord m (with_turns turns act) k (entry_fact t.entries k) v
     on_fact (Alone wanted) e =
-        means_same (alone_means m act turns k v (facts k) wanted (ap (says (facts k)) (sym e) ∙ entries_said facts t.entries k hold) means) (sym e) refl
+        means_same (alone_means m act turns k v (facts k) wanted
+            (ap (says (facts k)) (sym e) ∙ entries_said facts t.entries k hold) means) (sym e) refl
     on_fact (Index loop) e =
         means_same
-        (index_means m act turns k v (facts k) loop (ap (says (facts k)) (sym e) ∙ entries_said facts t.entries k hold) (subst LoopFits e (row.loops k))
+        (index_means m act turns k v (facts k) loop (ap (says (facts k)) (sym e) ∙ entries_said facts t.entries k hold)
+            (subst LoopFits e (row.loops k))
         (ap (λ (f : WordFact). turns_from (facts k) f (act.turns k)) e) means) (sym e) refl
     on_fact (Count loop) e =
         let before = count_behind_index facts least_word t.entries k loop row.apart pairs whole e in
         let j = k -ℤ pos 1 in
         means_same
-        (count_means m act turns k v (facts k) (facts j) loop (ap (says (facts k)) (sym e) ∙ entries_said facts t.entries k hold) (ap (says (facts j)) (sym before.index) ∙ entries_said facts t.entries j hold)
-        before.alike (subst LoopFits e (row.loops k)) (ap (λ (f : WordFact). turns_from (facts j) f (act.turns j)) before.index) means) (sym e) refl
+        (count_means m act turns k v (facts k) (facts j) loop
+            (ap (says (facts k)) (sym e) ∙ entries_said facts t.entries k hold)
+            (ap (says (facts j)) (sym before.index) ∙ entries_said facts t.entries j hold)
+        before.alike (subst LoopFits e (row.loops k))
+            (ap (λ (f : WordFact). turns_from (facts j) f (act.turns j)) before.index) means) (sym e) refl
 
 -- what a state that is below a label has
 pub record IsBelow (s : State) (t : Label) : Type 0 where
@@ -323,15 +373,20 @@ unfolding below
 below_tells s t price h = first (ltb s.number (cost s t)) refl h
   where
     not_below : (m n : ℕ) → ltb m n ≡ false → n ≤ m
-    not_below m n e = elim (leb_tells (suc m) n) [ inl p ↦ let no' : true ≡ false = sym p.0 ∙ e in absurd (cc) | inr p ↦ let high : n < suc m = p.1 in omega arith ]
+    not_below m n e = elim (leb_tells (suc m) n) [ inl p ↦ let no' : true ≡ false = sym p.0 ∙ e in absurd (cc) | inr p ↦
+        let high : n < suc m = p.1 in omega arith ]
 
-    second : (b : Bool) → agrees s t ≡ b → ◌≡◌ {A = Result ℕ Rule} (if b then Ok (cost s t) else Err rules.Label) (Ok price) → IsBelow s t
+    second : (b : Bool) → agrees s t ≡ b
+        → ◌≡◌ {A = Result ℕ Rule} (if b then Ok (cost s t) else Err rules.Label) (Ok price) → IsBelow s t
     second true e g = agrees_tells s t e
     second false e g = absurd (cc)
 
-    first : (b : Bool) → ltb s.number (cost s t) ≡ b → ◌≡◌ {A = Result ℕ Rule} (if b then Err rules.Budget else (if agrees s t then Ok (cost s t) else Err rules.Label)) (Ok price) → (t.number ≤ s.number) × IsBelow s t
+    first : (b : Bool) → ltb s.number (cost s t) ≡ b
+        → ◌≡◌ {A = Result ℕ Rule} (if b then Err rules.Budget else
+        (if agrees s t then Ok (cost s t) else Err rules.Label)) (Ok price) → (t.number ≤ s.number) × IsBelow s t
     first true e g = absurd (cc)
-    first false e g = let paid : cost s t ≤ s.number = not_below s.number (cost s t) e in (omega arith, second (agrees s t) refl g)
+    first false e g = let paid : cost s t ≤ s.number =
+        not_below s.number (cost s t) e in (omega arith, second (agrees s t) refl g)
 
 -- who knows nothing of a word says nothing of it
 nothing_said : (wanted : WordFact) → says (Alone Unknown) wanted ≡ true → wanted ≡ Alone Unknown
@@ -345,25 +400,34 @@ nothing_said (Index loop) h = absurd (cc)
 nothing_said (Count loop) h = absurd (cc)
 
 -- what holds behind an instruction holds as the label's state, where the state is below the label
-pub label_after : (m : Contents) (h : Holding) (mode : machine.Mode) (act : Activation) (s : State) (t : Label) (l : Local) → IsWellFormed m → (at : ℕ) → label_at m at ≡ Some t → IsBelow s t
+pub label_after : (m : Contents) (h : Holding) (mode : machine.Mode) (act : Activation) (s : State) (t : Label)
+    (l : Local) → IsWellFormed m → (at : ℕ) → label_at m at ≡ Some t → IsBelow s t
     → After m h mode act s l → After m h mode (at_label s t act) (label_state t) l
 label_after m h mode act s t l wf at e g a = record {
-  frame = subst (λ d. HasFrame h (length l.memory) (may_write_word m t.context) (may_read_word m t.context) act.origin d l.registers.workspace) g.depth
-      (subst (λ c. HasFrame h (length l.memory) (may_write_word m c) (may_read_word m c) act.origin s.depth l.registers.workspace) g.context a.frame);
+  frame = subst (λ d. HasFrame h (length l.memory) (may_write_word m t.context)
+      (may_read_word m t.context) act.origin d l.registers.workspace) g.depth
+      (subst (λ c. HasFrame h (length l.memory) (may_write_word m c)
+          (may_read_word m c) act.origin s.depth l.registers.workspace) g.context a.frame);
   knows = record {
     stack = record {
       a = register s.stack.a.fact t.a l.registers.stack.a g.a a.knows.stack.a;
       b = register s.stack.b.fact t.b l.registers.stack.b g.b a.knows.stack.b;
       c = register s.stack.c.fact t.c l.registers.stack.c g.c a.knows.stack.c;
     };
-    words = λ k. label_words m act s.frame t k (frame_word l.memory act.origin k) (wf.rows at t e) (wf.pairs at t e) g.entries g.whole (a.knows.words k);
-    within = λ k out. nothing_said (entry_fact t.entries k) (subst (λ f. says f (entry_fact t.entries k) ≡ true) (a.knows.within k (ap (λ c. may_read_word m c k) g.context ∙ out)) (entries_said s.frame t.entries k g.entries));
+    words = λ k. label_words m act s.frame t k (frame_word l.memory act.origin k) (wf.rows at t e)
+        (wf.pairs at t e) g.entries g.whole (a.knows.words k);
+    within = λ k out. nothing_said (entry_fact t.entries k) (subst (λ f. says f (entry_fact t.entries k) ≡ true)
+        (a.knows.within k (ap (λ c. may_read_word m c k) g.context ∙ out))
+        (entries_said s.frame t.entries k g.entries));
   };
   same_mode = plain_mode s.mode mode g.plain a.same_mode;
 }
   where
-    register : (f wanted : Fact) (v : Option ℤ) → implies f wanted ≡ true → Means m act f v → Means m (at_label s t act) wanted v
-    register f wanted v says_so means = other_turns m act (label_turns s.frame t.entries act.turns) wanted v (implies_means m act f wanted v says_so means)
+    register : (f wanted : Fact) (v : Option ℤ) → implies f wanted ≡ true → Means m act f v
+        → Means m (at_label s t act) wanted v
+    register f wanted v says_so means =
+        other_turns m act (label_turns s.frame t.entries act.turns) wanted v
+        (implies_means m act f wanted v says_so means)
 
     plain_mode : (p : states.Mode) (q : machine.Mode) → is_plain p ≡ true → SameMode p q → SameMode states_modes.Plain q
     plain_mode p q e both_plain = both_plain

@@ -1,5 +1,8 @@
--- The rule of an instruction and its step fit each other: where the rule is not broken, the step is no fault, and what the rule says of the state behind holds.
-use Rattle.std.proofs.Common.{lit<, ◌≡◌, ℕ, ◌+◌, ◌-◌, ◌≤◌, ◌<◌, ℤ, pos, negsuc, ◌+ℤ◌, FitsSigned, Bool, true, false, cond, if◌then◌else◌, ◌&&◌, ◌||◌, suc, inl, inr, length, Option, Some, None, Result, Ok, Err, refl, sym, ap, ◌∙◌, subst, arith, ltb}
+-- The rule of an instruction and its step fit each other: where the rule is not broken, the step is no fault, and what
+-- the rule says of the state behind holds.
+use Rattle.std.proofs.Common.{lit<, ◌≡◌, ℕ, ◌+◌, ◌-◌, ◌≤◌, ◌<◌, ℤ, pos, negsuc, ◌+ℤ◌, FitsSigned, Bool, true, false}
+use Rattle.std.proofs.Common.{cond, if◌then◌else◌, ◌&&◌, ◌||◌, suc, inl, inr, length, Option, Some, None, Result, Ok}
+use Rattle.std.proofs.Common.{Err, refl, sym, ap, ◌∙◌, subst, arith, ltb}
 use Rattle.std.proofs.lemmas.Bool.Decides.{leb_tells}
 use Rattle.std.proofs.lemmas.Int.{ints}
 use Rattle.std.specs.Int.{w32}
@@ -8,7 +11,8 @@ use Rattle.prefix_decoder.specs.declared.function.Fun.{Fun}
 use Rattle.word_arithmetic.specs.declared.binary.Binary.{Binary as BinaryOperation}
 use Rattle.word_arithmetic.specs.Word.{least_word}
 use Rattle.module_format.specs.declared.fact.Fact.{Fact}
-use Rattle.module_format.specs.declared.fact.Fact.TheVariants.{Unknown, Number, Pointer, CodeAddress, Loop, ReturnAddress}
+use Rattle.module_format.specs.declared.fact.Fact.TheVariants.{Unknown, Number, Pointer, CodeAddress, Loop}
+use Rattle.module_format.specs.declared.fact.Fact.TheVariants.{ReturnAddress}
 use Rattle.module_format.specs.Contents.{Contents, Label, label_at}
 use Rattle.module_format.specs.Contents.{Par, Branch}
 use Rattle.certificate.specs.Branches.{numbered_branch}
@@ -39,8 +43,10 @@ use Rattle.states.specs.Below.{below}
 use Rattle.states.proofs.RowFacts.{and-parts}
 use Rattle.facts.specs.Rules as rule
 use Rattle.facts.specs.Rules.{Ruling, falls, leads, ends, breaks}
-use Rattle.facts.specs.Meaning.{Activation, Means, says_nothing, is_number, IsOwnWord, HasFrame, Knows, IsWellFormed, SameMode, both_plain, label_turns}
-use Rattle.facts.specs.Fitting.{After, Here, rule_site, step_site, Fits, it_falls, it_leads, it_ends, it_breaks, HasNext, RulesFitSteps}
+use Rattle.facts.specs.Meaning.{Activation, Means, says_nothing, is_number, IsOwnWord, HasFrame, Knows, IsWellFormed}
+use Rattle.facts.specs.Meaning.{SameMode, both_plain, label_turns}
+use Rattle.facts.specs.Fitting.{After, Here, rule_site, step_site, Fits, it_falls, it_leads, it_ends, it_breaks}
+use Rattle.facts.specs.Fitting.{HasNext, RulesFitSteps}
 use Rattle.facts.proofs.Words.{local_place, frame_word_is, knows_written, means_same, stored_means, plain_means}
 use Rattle.facts.proofs.Results.{ResultMeans, result_means, unary_result_means}
 use Rattle.facts.proofs.Entering.{below_tells, label_after}
@@ -71,30 +77,39 @@ pub readable : (h : Holding) (place : ℕ) → may_write_word h place ≡ true �
 unfolding may_write_word may_read_word
 readable h place mine =
     let reads : ℕ → Bool = λ place. list_any (λ span. covers span place) h.reads in
-    wider (may_write h place) (may_write h (place + 1)) (may_write h (place + 2)) (may_write h (place + 3)) (reads place) (reads (place + 1)) (reads (place + 2)) (reads (place + 3)) mine
+    wider (may_write h place) (may_write h (place + 1)) (may_write h (place + 2)) (may_write h (place + 3))
+        (reads place) (reads (place + 1)) (reads (place + 2)) (reads (place + 3)) mine
 
 -- a word of the frame that may be written may be read
-written_readable : (m : Contents) (n : ℕ) (k : ℤ) → rights.may_write_word m n k ≡ true → rights.may_read_word m n k ≡ true
+written_readable : (m : Contents) (n : ℕ) (k : ℤ) → rights.may_write_word m n k ≡ true
+    → rights.may_read_word m n k ≡ true
 written_readable m n k h =
     let both = and-parts _ _ h in
     and_both _ _ both.0 (of_branch (numbered_branch m n) both.1)
   where
-    of_branch : (o : Option (Par × Branch)) → (elim o as (λ o. Bool) [ None ↦ true | Some found ↦ rights.is_among found.1.writes k ]) ≡ true
-        → (elim o as (λ o. Bool) [ None ↦ true | Some found ↦ rights.is_among found.1.writes k || rights.is_among found.1.reads k ]) ≡ true
+    of_branch : (o : Option (Par × Branch))
+        → (elim o as (λ o. Bool) [ None ↦ true | Some found ↦ rights.is_among found.1.writes k ]) ≡ true
+        → (elim o as (λ o. Bool) [ None ↦ true | Some found ↦ rights.is_among found.1.writes k
+            || rights.is_among found.1.reads k ]) ≡ true
     of_branch None h = refl
     of_branch (Some found) h = or_true (rights.is_among found.1.writes k) (rights.is_among found.1.reads k) h
 
-same_frame : {h : Holding} {old new : ℕ} {writes reads : ℤ → Bool} {origin depth : ℤ} {workspace : ℕ} → old ≡ new → HasFrame h old writes reads origin depth workspace → HasFrame h new writes reads origin depth workspace
-same_frame {h} {old} {new} {writes} {reads} {origin} {depth} {workspace} e f = subst (λ size. HasFrame h size writes reads origin depth workspace) e f
+same_frame : {h : Holding} {old new : ℕ} {writes reads : ℤ → Bool} {origin depth : ℤ} {workspace : ℕ} → old ≡ new
+    → HasFrame h old writes reads origin depth workspace → HasFrame h new writes reads origin depth workspace
+same_frame {h} {old} {new} {writes} {reads} {origin} {depth} {workspace} e f =
+    subst (λ size. HasFrame h size writes reads origin depth workspace) e f
 
 enough : (n k total : ℕ) → ltb n k ≡ false → n ≡ total → n - k + k ≡ total
-enough n k total t e = elim (leb_tells (suc n) k) [ inl p ↦ let no' : true ≡ false = sym p.0 ∙ t in absurd (cc) | inr p ↦ let high : k ≤ n = omega (arith, p.1) in omega arith ]
+enough n k total t e = elim (leb_tells (suc n) k) [ inl p ↦ let no' : true ≡ false = sym p.0 ∙ t in absurd
+    (cc) | inr p ↦ let high : k ≤ n = omega (arith, p.1) in omega arith ]
 
 below_not : (a b : ℕ) → a < b → ltb a b ≡ false → ⊥
-below_not a b low t = elim (leb_tells (suc a) b) [ inl p ↦ let no' : true ≡ false = sym p.0 ∙ t in (cc) | inr p ↦ let high : b < suc a = p.1 in omega arith ]
+below_not a b low t = elim (leb_tells (suc a) b) [ inl p ↦ let no' : true ≡ false = sym p.0 ∙ t in (cc) | inr p ↦
+    let high : b < suc a = p.1 in omega arith ]
 
 -- paying changes nothing that is known
-paid : {m : Contents} {reads : ℤ → Bool} {s : State} {act : Activation} {r : Registers} {memory : Memory} {n : ℕ} → Knows m reads s act r memory → Knows m reads (record s { number = n }) act r memory
+paid : {m : Contents} {reads : ℤ → Bool} {s : State} {act : Activation} {r : Registers} {memory : Memory} {n : ℕ}
+    → Knows m reads s act r memory → Knows m reads (record s { number = n }) act r memory
 paid k = record { stack = k.stack; words = k.words; within = k.within }
 
 rule_plain : {p : states.Mode} {q : machine.Mode} → SameMode p q → p ≡ states_modes.Plain
@@ -104,17 +119,20 @@ step_plain : {p : states.Mode} {q : machine.Mode} → SameMode p q → q ≡ mac
 step_plain both_plain = refl
 
 module _ (x : Here) where
-  on_rule_test : (b : Bool) (one other : Ruling) (o : Outcome) → (b ≡ true → FitsIf x one o) → (b ≡ false → FitsIf x other o) → FitsIf x (cond b one other) o
+  on_rule_test : (b : Bool) (one other : Ruling) (o : Outcome) → (b ≡ true → FitsIf x one o)
+      → (b ≡ false → FitsIf x other o) → FitsIf x (cond b one other) o
   on_rule_test true one other o f g = f refl
   on_rule_test false one other o f g = g refl
 
-  on_step_test : (b : Bool) (r : Ruling) (one other : Outcome) → (b ≡ true → FitsIf x r one) → (b ≡ false → FitsIf x r other) → FitsIf x r (cond b one other)
+  on_step_test : (b : Bool) (r : Ruling) (one other : Outcome) → (b ≡ true → FitsIf x r one)
+      → (b ≡ false → FitsIf x r other) → FitsIf x r (cond b one other)
   on_step_test true r one other f g = f refl
   on_step_test false r one other f g = g refl
 
   -- ---- one lemma for each pair of combinators
 
-  uses_fact : (fact : Fact) (v : Option ℤ) (r : Ruling) (o : ℤ → Outcome) → Means x.m x.act fact v → ((a : ℤ) → Means x.m x.act fact (Some a) → FitsIf x r (o a))
+  uses_fact : (fact : Fact) (v : Option ℤ) (r : Ruling) (o : ℤ → Outcome) → Means x.m x.act fact v
+      → ((a : ℤ) → Means x.m x.act fact (Some a) → FitsIf x r (o a))
       → FitsIf x (elim fact as (λ f. Ruling) [ Unknown ↦ breaks rules.UnknownRegister | _ ↦ r ]) (step.uses v o)
   unfolding step.uses
   uses_fact Unknown v r o means go = λ next. it_breaks
@@ -128,29 +146,40 @@ module _ (x : Here) where
   uses_fact ReturnAddress None r o means go = elim means [ ]
   uses_fact ReturnAddress (Some a) r o means go = go a means
 
-  uses_fits : (k : Known) (v : Option ℤ) (r : Fact → Ruling) (o : ℤ → Outcome) → Means x.m x.act k.fact v → ((a : ℤ) → Means x.m x.act k.fact (Some a) → FitsIf x (r k.fact) (o a)) → FitsIf x (rule.uses k r) (step.uses v o)
+  uses_fits : (k : Known) (v : Option ℤ) (r : Fact → Ruling) (o : ℤ → Outcome) → Means x.m x.act k.fact v
+      → ((a : ℤ) → Means x.m x.act k.fact (Some a) → FitsIf x (r k.fact) (o a))
+      → FitsIf x (rule.uses k r) (step.uses v o)
   unfolding rule.uses
   uses_fits k v r o means go = uses_fact k.fact v (r k.fact) o means go
 
   -- the frame's word at depth + e, which is written
-  writes_word_fits : (s : State) (e : ℤ) (r : Ruling) (o : Outcome) → (rights.may_write_word x.m s.context (s.depth +ℤ e) ≡ true → FitsIf x r o) → FitsIf x (rule.writes_word (rule_site x) s (s.depth +ℤ e) r) o
+  writes_word_fits : (s : State) (e : ℤ) (r : Ruling) (o : Outcome)
+      → (rights.may_write_word x.m s.context (s.depth +ℤ e) ≡ true → FitsIf x r o)
+      → FitsIf x (rule.writes_word (rule_site x) s (s.depth +ℤ e) r) o
   unfolding rule.writes_word
-  writes_word_fits s e r o go = on_rule_test (rights.may_write_word x.m s.context (s.depth +ℤ e)) _ _ _ go (λ t next. it_breaks)
+  writes_word_fits s e r o go =
+      on_rule_test (rights.may_write_word x.m s.context (s.depth +ℤ e)) _ _ _ go (λ t next. it_breaks)
 
   -- which is read
-  reads_word_fits : (s : State) (e : ℤ) (r : Ruling) (o : Outcome) → (rights.may_read_word x.m s.context (s.depth +ℤ e) ≡ true → FitsIf x r o) → FitsIf x (rule.reads_word (rule_site x) s (s.depth +ℤ e) r) o
+  reads_word_fits : (s : State) (e : ℤ) (r : Ruling) (o : Outcome)
+      → (rights.may_read_word x.m s.context (s.depth +ℤ e) ≡ true → FitsIf x r o)
+      → FitsIf x (rule.reads_word (rule_site x) s (s.depth +ℤ e) r) o
   unfolding rule.reads_word
-  reads_word_fits s e r o go = on_rule_test (rights.may_read_word x.m s.context (s.depth +ℤ e)) _ _ _ go (λ t next. it_breaks)
+  reads_word_fits s e r o go =
+      on_rule_test (rights.may_read_word x.m s.context (s.depth +ℤ e)) _ _ _ go (λ t next. it_breaks)
 
-  writes_fits : (l : Local) (address place : ℕ) (v : Option ℤ) (r : Ruling) (o : Local → Outcome) → place_of address ≡ place → may_write_word x.h place ≡ true
-      → FitsIf x r (o (record l { memory = with_word l.memory place v })) → FitsIf x r (step.writes (step_site x) address v l o)
+  writes_fits : (l : Local) (address place : ℕ) (v : Option ℤ) (r : Ruling) (o : Local → Outcome)
+      → place_of address ≡ place → may_write_word x.h place ≡ true
+      → FitsIf x r (o (record l { memory = with_word l.memory place v }))
+          → FitsIf x r (step.writes (step_site x) address v l o)
   unfolding step.writes
   writes_fits l address place v r o is mine go =
       on_step_test (may_write_word x.h (place_of address)) _ _ _
       (λ t. subst (λ p. FitsIf x r (o (record l { memory = with_word l.memory p v }))) (sym is) go)
       (λ t. let no : true ≡ false = sym mine ∙ ap (may_write_word x.h) (sym is) ∙ t in absurd (cc))
 
-  reads_fits : (l : Local) (address place : ℕ) (r : Ruling) (o : Option ℤ → Outcome) → place_of address ≡ place → may_read_word x.h place ≡ true
+  reads_fits : (l : Local) (address place : ℕ) (r : Ruling) (o : Option ℤ → Outcome) → place_of address ≡ place
+      → may_read_word x.h place ≡ true
       → FitsIf x r (o (word_at l.memory place)) → FitsIf x r (step.reads (step_site x) address l o)
   unfolding step.reads
   reads_fits l address place r o is held go =
@@ -158,104 +187,135 @@ module _ (x : Here) where
       (λ t. subst (λ p. FitsIf x r (o (word_at l.memory p))) (sym is) go)
       (λ t. let no : true ≡ false = sym held ∙ ap (may_read_word x.h) (sym is) ∙ t in absurd (cc))
 
-  goes_on_fits : (s : State) (l : Local) → After x.m x.h x.mode x.act s l → ChangesOwn x.h x.memory l.memory → s.number ≡ x.number → FitsIf x (rule.goes_on (rule_site x) s) (step.goes_on (step_site x) l)
+  goes_on_fits : (s : State) (l : Local) → After x.m x.h x.mode x.act s l → ChangesOwn x.h x.memory l.memory
+      → s.number ≡ x.number → FitsIf x (rule.goes_on (rule_site x) s) (step.goes_on (step_site x) l)
   unfolding rule.goes_on rule.pays step.goes_on
   goes_on_fits s l a changes n =
       on_rule_test (ltb s.number x.len) _ _ _
       (λ t next. it_breaks)
-      (λ t next. let low = next _ refl in on_step_test (ltb (x.at + x.len) (length x.m.code)) (falls (record s { number = s.number - x.len })) _ _
-      (λ u next. it_falls low (record { frame = a.frame; knows = paid a.knows; same_mode = a.same_mode }) changes (enough s.number x.len x.number t n))
+      (λ t next. let low = next _ refl in
+          on_step_test (ltb (x.at + x.len) (length x.m.code)) (falls (record s { number = s.number - x.len })) _ _
+      (λ u next. it_falls low (record { frame = a.frame; knows = paid a.knows; same_mode = a.same_mode }) changes
+          (enough s.number x.len x.number t n))
       (λ u. absurd (below_not _ _ low u)) next)
 
   -- ---- a write to a word of the frame
 
-  after_write : (s : State) (l : Local) (e : ℤ) (f : Fact) (v : Option ℤ) → After x.m x.h x.mode x.act s l → rights.may_write_word x.m s.context (s.depth +ℤ e) ≡ true
-      → (w : IsOwnWord x.h (length l.memory) x.act.origin (s.depth +ℤ e)) → Means x.m x.act f (word_at (with_word l.memory w.place v) w.place)
+  after_write : (s : State) (l : Local) (e : ℤ) (f : Fact) (v : Option ℤ) → After x.m x.h x.mode x.act s l
+      → rights.may_write_word x.m s.context (s.depth +ℤ e) ≡ true
+      → (w : IsOwnWord x.h (length l.memory) x.act.origin (s.depth +ℤ e))
+          → Means x.m x.act f (word_at (with_word l.memory w.place v) w.place)
       → After x.m x.h x.mode x.act (written (s.depth +ℤ e) f s) (record l { memory = with_word l.memory w.place v })
   unfolding written
   after_write s l e f v a t w means = record {
     frame = same_frame (sym (length-with_word l.memory w.place v)) a.frame;
-    knows = knows_written x.m x.h (rights.may_read_word x.m s.context) s x.act (s.depth +ℤ e) l.registers l.memory f v (written_readable x.m s.context (s.depth +ℤ e) t) w a.knows means;
+    knows = knows_written x.m x.h (rights.may_read_word x.m s.context) s x.act (s.depth +ℤ e) l.registers l.memory f v
+        (written_readable x.m s.context (s.depth +ℤ e) t) w a.knows means;
     same_mode = a.same_mode;
   }
 
-  write_step : (s : State) (l : Local) (e : ℤ) (f : Fact) (v : Option ℤ) (r : Ruling) (o : Local → Outcome) → After x.m x.h x.mode x.act s l → ChangesOwn x.h x.memory l.memory
+  write_step : (s : State) (l : Local) (e : ℤ) (f : Fact) (v : Option ℤ) (r : Ruling) (o : Local → Outcome)
+      → After x.m x.h x.mode x.act s l → ChangesOwn x.h x.memory l.memory
       → FitsSigned w32 e → rights.may_write_word x.m s.context (s.depth +ℤ e) ≡ true
       → ((place : ℕ) → place + 4 ≤ length l.memory → Means x.m x.act f (word_at (with_word l.memory place v) place))
-      → ((memory : Memory) → After x.m x.h x.mode x.act (written (s.depth +ℤ e) f s) (record l { memory = memory }) → ChangesOwn x.h x.memory memory → FitsIf x r (o (record l { memory = memory })))
+      → ((memory : Memory) → After x.m x.h x.mode x.act (written (s.depth +ℤ e) f s) (record l { memory = memory })
+          → ChangesOwn x.h x.memory memory → FitsIf x r (o (record l { memory = memory })))
       → FitsIf x r (step.writes (step_site x) (local_address l.registers.workspace e) v l o)
   write_step s l e f v r o a changes fits t means go =
       let w = a.frame.own (s.depth +ℤ e) t in
       writes_fits l (local_address l.registers.workspace e) w.place v r o
       (local_place a.frame e fits w.place w.is w.inside) w.mine
       (go (with_word l.memory w.place v) (after_write s l e f v a t w (means w.place w.inside))
-      (changes_more x.h x.memory l.memory (with_word l.memory w.place v) changes (write_is_own x.h l.memory w.place v w.mine)))
+      (changes_more x.h x.memory l.memory (with_word l.memory w.place v) changes
+          (write_is_own x.h l.memory w.place v w.mine)))
 
   -- ---- scheduling, and what stands behind it
 
-  undefined_means : (memory : Memory) (place : ℕ) → place + 4 ≤ length memory → Means x.m x.act Unknown (word_at (with_word memory place None) place)
+  undefined_means : (memory : Memory) (place : ℕ) → place + 4 ≤ length memory
+      → Means x.m x.act Unknown (word_at (with_word memory place None) place)
   undefined_means memory place inside = says_nothing
 
-  schedules_fits : (s : State) (l : Local) (r : State → Ruling) (o : Local → Outcome) → After x.m x.h x.mode x.act s l → ChangesOwn x.h x.memory l.memory
-      → ((s' : State) (memory : Memory) → After x.m x.h x.mode x.act s' (record l { memory = memory }) → ChangesOwn x.h x.memory memory → s'.number ≡ s.number → FitsIf x (r s') (o (record l { memory = memory })))
+  schedules_fits : (s : State) (l : Local) (r : State → Ruling) (o : Local → Outcome) → After x.m x.h x.mode x.act s l
+      → ChangesOwn x.h x.memory l.memory
+      → ((s' : State) (memory : Memory) → After x.m x.h x.mode x.act s' (record l { memory = memory })
+          → ChangesOwn x.h x.memory memory → s'.number ≡ s.number → FitsIf x (r s') (o (record l { memory = memory })))
       → FitsIf x (rule.schedules (rule_site x) s r) (step.schedules (step_site x) l o)
   unfolding rule.schedules step.schedules written
   schedules_fits s l r o a changes go =
-      writes_word_fits s (negsuc 0) _ _ (λ t0. writes_word_fits s (negsuc 1) _ _ (λ t1. writes_word_fits s (negsuc 2) _ _ (λ t2.
-      write_step s l (negsuc 0) Unknown None _ _ a changes (omega (arith, ints)) t0 (undefined_means l.memory) (λ m1 a1 c1.
-      write_step (written (s.depth +ℤ negsuc 0) Unknown s) (record l { memory = m1 }) (negsuc 1) Unknown None _ _ a1 c1 (omega (arith, ints)) t1 (undefined_means m1) (λ m2 a2 c2.
-      write_step (written (s.depth +ℤ negsuc 1) Unknown (written (s.depth +ℤ negsuc 0) Unknown s)) (record l { memory = m2 }) (negsuc 2) Unknown None _ _ a2 c2 (omega (arith, ints)) t2 (undefined_means m2) (λ m3 a3 c3.
-      go (written (s.depth +ℤ negsuc 2) Unknown (written (s.depth +ℤ negsuc 1) Unknown (written (s.depth +ℤ negsuc 0) Unknown s))) m3 a3 c3 refl))))))
+      writes_word_fits s (negsuc 0) _ _
+          (λ t0. writes_word_fits s (negsuc 1) _ _ (λ t1. writes_word_fits s (negsuc 2) _ _ (λ t2.
+      write_step s l (negsuc 0) Unknown None _ _ a changes (omega (arith, ints)) t0 (undefined_means l.memory)
+          (λ m1 a1 c1.
+      write_step (written (s.depth +ℤ negsuc 0) Unknown s) (record l { memory = m1 }) (negsuc 1) Unknown None _ _ a1 c1
+          (omega (arith, ints)) t1 (undefined_means m1) (λ m2 a2 c2.
+      write_step (written (s.depth +ℤ negsuc 1) Unknown (written (s.depth +ℤ negsuc 0) Unknown s))
+          (record l { memory = m2 }) (negsuc 2) Unknown None _ _ a2 c2 (omega (arith, ints)) t2 (undefined_means m2)
+          (λ m3 a3 c3.
+      go (written (s.depth +ℤ negsuc 2) Unknown
+          (written (s.depth +ℤ negsuc 1) Unknown (written (s.depth +ℤ negsuc 0) Unknown s))) m3 a3 c3 refl))))))
 
   -- ---- leading to a label
 
-  leads_fits : (wf : IsWellFormed x.m) (to : ℕ) (s : State) (l : Local) → After x.m x.h x.mode x.act s l → ChangesOwn x.h x.memory l.memory → s.number + x.len ≡ x.number
+  leads_fits : (wf : IsWellFormed x.m) (to : ℕ) (s : State) (l : Local) → After x.m x.h x.mode x.act s l
+      → ChangesOwn x.h x.memory l.memory → s.number + x.len ≡ x.number
       → FitsIf x (rule.leads_to (rule_site x) to s) (step.leads_to (step_site x) to l)
   unfolding rule.leads_to step.leads_to
   leads_fits wf to s l a changes n =
       on_label (label_at x.m to) refl
     where
       on_below : (t : Label) → label_at x.m to ≡ Some t → (b : Result ℕ Rule) → below s t ≡ b
-          → FitsIf x (elim b as (λ b. Ruling) [ Ok cost ↦ leads to | Err broken ↦ breaks broken ]) (if ltb to (length x.m.code) then lands to l else fails OutsideCode)
+          → FitsIf x (elim b as (λ b. Ruling) [ Ok cost ↦ leads to | Err broken ↦ breaks broken ])
+              (if ltb to (length x.m.code) then lands to l else fails OutsideCode)
       on_below t e (Err broken) is = λ next. it_breaks
       on_below t e (Ok cost) is =
           let low = wf.labels to t e in
           let g = below_tells s t cost is in
           on_step_test (ltb to (length x.m.code)) (leads to) _ _
-          (λ u next. it_leads (label_turns s.frame t.entries x.act.turns) e low (label_after x.m x.h x.mode x.act s t l wf to e g.1 a) changes (omega (arith, g.0)))
+          (λ u next. it_leads (label_turns s.frame t.entries x.act.turns) e low
+              (label_after x.m x.h x.mode x.act s t l wf to e g.1 a) changes (omega (arith, g.0)))
           (λ u. absurd (below_not to (length x.m.code) low u))
 
       on_label : (o : Option Label) → label_at x.m to ≡ o
-          → FitsIf x (elim o as (λ o. Ruling) [ None ↦ breaks rules.Label | Some t ↦ elim (below s t) as (λ b. Ruling) [ Ok cost ↦ leads to | Err broken ↦ breaks broken ] ]) (if ltb to (length x.m.code) then lands to l else fails OutsideCode)
+          → FitsIf x (elim o as (λ o. Ruling) [ None ↦ breaks rules.Label | Some t ↦ elim (below s t) as (λ b. Ruling)
+              [ Ok cost ↦ leads to | Err broken ↦ breaks broken ] ])
+              (if ltb to (length x.m.code) then lands to l else fails OutsideCode)
       on_label None e = λ next. it_breaks
       on_label (Some t) e = on_below t e (below s t) refl
 
   -- ---- modes
 
-  in_plain_rule : (s : State) → SameMode s.mode x.mode → (r : Ruling) (o : Outcome) → FitsIf x r o → FitsIf x (rule.outside_alternation s.mode r) o
+  in_plain_rule : (s : State) → SameMode s.mode x.mode → (r : Ruling) (o : Outcome) → FitsIf x r o
+      → FitsIf x (rule.outside_alternation s.mode r) o
   unfolding rule.outside_alternation
   in_plain_rule s same r o go = subst (λ q. FitsIf x (rule.outside_alternation q r) o) (sym (rule_plain same)) go
 
-  beside_plain_rule : (s : State) → SameMode s.mode x.mode → (r : Ruling) (o : Outcome) → FitsIf x r o → FitsIf x (rule.outside_starts s.mode r) o
+  beside_plain_rule : (s : State) → SameMode s.mode x.mode → (r : Ruling) (o : Outcome) → FitsIf x r o
+      → FitsIf x (rule.outside_starts s.mode r) o
   unfolding rule.outside_starts
   beside_plain_rule s same r o go = subst (λ q. FitsIf x (rule.outside_starts q r) o) (sym (rule_plain same)) go
 
-  in_plain_step : (s : State) → SameMode s.mode x.mode → (r : Ruling) (o : Outcome) → FitsIf x r o → FitsIf x r (step.alone x.mode o)
+  in_plain_step : (s : State) → SameMode s.mode x.mode → (r : Ruling) (o : Outcome) → FitsIf x r o
+      → FitsIf x r (step.alone x.mode o)
   unfolding step.outside_alternation step.outside_starts
   in_plain_step s same r o go = subst (λ q. FitsIf x r (step.alone q o)) (sym (step_plain same)) go
 
-  beside_plain_step : (s : State) → SameMode s.mode x.mode → (r : Ruling) (o : Outcome) → FitsIf x r o → FitsIf x r (step.outside_starts x.mode o)
+  beside_plain_step : (s : State) → SameMode s.mode x.mode → (r : Ruling) (o : Outcome) → FitsIf x r o
+      → FitsIf x r (step.outside_starts x.mode o)
   unfolding step.outside_starts
   beside_plain_step s same r o go = subst (λ q. FitsIf x r (step.outside_starts q o)) (sym (step_plain same)) go
 
   -- ---- the instructions
 
-  module _ (wf : IsWellFormed x.m) (s : State) (l : Local) (a : After x.m x.h x.mode x.act s l) (changes : ChangesOwn x.h x.memory l.memory) (n : s.number ≡ x.number) where
-    ldc_fits : (e : ℤ) → FitsSigned w32 e → FitsIf x (rule.goes_on (rule_site x) (rule.push (rule.constant e) s)) (step.goes_on (step_site x) (step.push (Some e) l))
+  module _ (wf : IsWellFormed x.m) (s : State) (l : Local) (a : After x.m x.h x.mode x.act s l)
+      (changes : ChangesOwn x.h x.memory l.memory) (n : s.number ≡ x.number) where
+    ldc_fits : (e : ℤ) → FitsSigned w32 e
+        → FitsIf x (rule.goes_on (rule_site x) (rule.push (rule.constant e) s))
+        (step.goes_on (step_site x) (step.push (Some e) l))
     ldc_fits e fits = goes_on_fits (rule.push (rule.constant e) s) (step.push (Some e) l)
         (record {
           frame = a.frame;
-          knows = record { stack = record { a = is_number (omega (arith, ints)) (omega (arith, ints)) fits; b = a.knows.stack.a; c = a.knows.stack.b }; words = a.knows.words; within = a.knows.within };
+          knows = record { stack = record { a = is_number (omega (arith, ints)) (omega (arith, ints)) fits; b =
+              a.knows.stack.a; c = a.knows.stack.b }; words = a.knows.words; within = a.knows.within };
           same_mode = a.same_mode;
         }) changes n
 
@@ -266,14 +326,17 @@ module _ (x : Here) where
     ldl_fits e fits =
         beside_plain_rule s a.same_mode _ _ (beside_plain_step s a.same_mode _ _ (reads_word_fits s e _ _ (λ t.
         let w = a.frame.readable (s.depth +ℤ e) t in
-        reads_fits l (local_address l.registers.workspace e) w.place _ _ (local_place a.frame e fits w.place w.is w.inside) w.readable
-        (goes_on_fits (rule.push (rule.loaded (s.depth +ℤ e) (s.frame (s.depth +ℤ e))) s) (step.push (word_at l.memory w.place) l)
+        reads_fits l (local_address l.registers.workspace e) w.place _ _
+            (local_place a.frame e fits w.place w.is w.inside) w.readable
+        (goes_on_fits (rule.push (rule.loaded (s.depth +ℤ e) (s.frame (s.depth +ℤ e))) s)
+            (step.push (word_at l.memory w.place) l)
         (record {
           frame = a.frame;
           knows = record {
             stack = record {
               a = plain_means x.m x.act (s.depth +ℤ e) (s.frame (s.depth +ℤ e)) (word_at l.memory w.place)
-                  (means_same (a.knows.words (s.depth +ℤ e)) refl (frame_word_is l.memory x.act.origin (s.depth +ℤ e) w.place w.is));
+                  (means_same (a.knows.words (s.depth +ℤ e)) refl
+                      (frame_word_is l.memory x.act.origin (s.depth +ℤ e) w.place w.is));
               b = a.knows.stack.a;
               c = a.knows.stack.b;
             };
@@ -290,11 +353,13 @@ module _ (x : Here) where
     stl_fits e fits =
         in_plain_step s a.same_mode _ _ (uses_fits s.stack.a l.registers.stack.a _ _ a.knows.stack.a (λ v means.
         in_plain_rule s a.same_mode _ _ (beside_plain_rule s a.same_mode _ _ (writes_word_fits s e _ _ (λ t.
-        write_step s l e s.stack.a.fact (Some v) _ _ a changes fits t (λ place inside. stored_means x.m x.act s.stack.a.fact v l.memory place inside means) (λ memory b c.
+        write_step s l e s.stack.a.fact (Some v) _ _ a changes fits t
+            (λ place inside. stored_means x.m x.act s.stack.a.fact v l.memory place inside means) (λ memory b c.
         goes_on_fits (rule.pop (written (s.depth +ℤ e) s.stack.a.fact s)) (step.pop (record l { memory = memory }))
         (record {
           frame = b.frame;
-          knows = record { stack = record { a = b.knows.stack.b; b = b.knows.stack.c; c = says_nothing }; words = b.knows.words; within = b.knows.within };
+          knows = record { stack = record { a = b.knows.stack.b; b = b.knows.stack.c; c = says_nothing };
+              words = b.knows.words; within = b.knows.within };
           same_mode = b.same_mode;
         }) c n))))))
 
@@ -311,7 +376,8 @@ module _ (x : Here) where
         (goes_on_fits (rule.with_a (known f) s') (step.with_a v l')
         (record {
           frame = b.frame;
-          knows = record { stack = record { a = means; b = b.knows.stack.b; c = b.knows.stack.c }; words = b.knows.words; within = b.knows.within };
+          knows = record { stack = record { a = means; b = b.knows.stack.b; c = b.knows.stack.c };
+              words = b.knows.words; within = b.knows.within };
           same_mode = b.same_mode;
         }) c e))
 
@@ -322,11 +388,15 @@ module _ (x : Here) where
     constant_fits op e fits =
         in_plain_step s a.same_mode _ _ (uses_fits s.stack.a l.registers.stack.a _ _ a.knows.stack.a (λ v means.
         becomes_fits s l _ _ a changes n
-        (result_means x.m x.act op s.stack.a.fact (Number e e) v e means (is_number (omega (arith, ints)) (omega (arith, ints)) fits))))
+        (result_means x.m x.act op s.stack.a.fact (Number e e) v e means
+            (is_number (omega (arith, ints)) (omega (arith, ints)) fits))))
 
-    pays_fits : (s' : State) (r : State → Ruling) (o : Outcome) → s'.number ≡ s.number → (s'.number - x.len + x.len ≡ x.number → FitsIf x (r (record s' { number = s'.number - x.len })) o) → FitsIf x (rule.pays (rule_site x) s' r) o
+    pays_fits : (s' : State) (r : State → Ruling) (o : Outcome) → s'.number ≡ s.number
+        → (s'.number - x.len + x.len ≡ x.number → FitsIf x (r (record s' { number = s'.number - x.len })) o)
+        → FitsIf x (rule.pays (rule_site x) s' r) o
     unfolding rule.pays
-    pays_fits s' r o e go = on_rule_test (ltb s'.number x.len) _ _ _ (λ t next. it_breaks) (λ t. go (enough s'.number x.len x.number t (e ∙ n)))
+    pays_fits s' r o e go = on_rule_test (ltb s'.number x.len) _ _ _ (λ t next. it_breaks)
+        (λ t. go (enough s'.number x.len x.number t (e ∙ n)))
 
     j_fits : (e : ℤ) → FitsSigned w32 e
         → FitsIf x (rule.instruction_rule (rule_site x) instructions.Jump e s)
@@ -337,35 +407,43 @@ module _ (x : Here) where
         in_plain_step s a.same_mode _ _ (in_plain_rule s a.same_mode _ _ (beside_plain_rule s a.same_mode _ _
         (schedules_fits s l _ _ a changes (λ s' memory b c e.
         pays_fits s' _ _ e (λ left.
-        leads_fits wf (target (x.at + x.len) (pos k)) (rule.without_registers (record s' { number = s'.number - x.len })) (step.without_registers (record l { memory = memory }))
+        leads_fits wf (target (x.at + x.len) (pos k))
+            (rule.without_registers (record s' { number = s'.number - x.len }))
+            (step.without_registers (record l { memory = memory }))
         (record {
           frame = b.frame;
-          knows = record { stack = record { a = says_nothing; b = says_nothing; c = says_nothing }; words = b.knows.words; within = b.knows.within };
+          knows = record { stack = record { a = says_nothing; b = says_nothing; c = says_nothing };
+              words = b.knows.words; within = b.knows.within };
           same_mode = b.same_mode;
         }) c left)))))
 
-    operation_fits : (op : Op) → FitsIf x (rule.operation_rule (rule_site x) op s) (step.operation_step (step_site x) op l)
+    operation_fits : (op : Op) → FitsIf x (rule.operation_rule (rule_site x) op s)
+        (step.operation_step (step_site x) op l)
     unfolding rule.operation_rule step.operation_step
     operation_fits operations.Reverse =
         in_plain_step s a.same_mode _ _ (in_plain_rule s a.same_mode _ _ (beside_plain_rule s a.same_mode _ _
         (goes_on_fits (rule.reverse s) (step.reverse l)
         (record {
           frame = a.frame;
-          knows = record { stack = record { a = a.knows.stack.b; b = a.knows.stack.a; c = a.knows.stack.c }; words = a.knows.words; within = a.knows.within };
+          knows = record { stack = record { a = a.knows.stack.b; b = a.knows.stack.a; c = a.knows.stack.c };
+              words = a.knows.words; within = a.knows.within };
           same_mode = a.same_mode;
         }) changes n)))
     operation_fits operations.MinimumInteger =
-        beside_plain_rule s a.same_mode _ _ (beside_plain_step s a.same_mode _ _ (ldc_fits least_word (record { sfits = lit< tt })))
+        beside_plain_rule s a.same_mode _ _
+            (beside_plain_step s a.same_mode _ _ (ldc_fits least_word (record { sfits = lit< tt })))
     operation_fits operations.StopProcess =
         in_plain_step s a.same_mode _ _ (in_plain_rule s a.same_mode _ _ (beside_plain_rule s a.same_mode _ _
-        (schedules_fits s l _ _ a changes (λ s' memory b c e. pays_fits s' _ _ e (λ left next. it_ends c (omega arith))))))
+        (schedules_fits s l _ _ a changes
+            (λ s' memory b c e. pays_fits s' _ _ e (λ left next. it_ends c (omega arith))))))
     operation_fits (operations.Binary op) =
         in_plain_step s a.same_mode _ _ (uses_fits s.stack.a l.registers.stack.a _ _ a.knows.stack.a (λ v means.
         uses_fits s.stack.b l.registers.stack.b _ _ a.knows.stack.b (λ u other.
         becomes_fits (rule.pop s) (step.pop l) _ _
         (record {
           frame = a.frame;
-          knows = record { stack = record { a = a.knows.stack.b; b = a.knows.stack.c; c = says_nothing }; words = a.knows.words; within = a.knows.within };
+          knows = record { stack = record { a = a.knows.stack.b; b = a.knows.stack.c; c = says_nothing };
+              words = a.knows.words; within = a.knows.within };
           same_mode = a.same_mode;
         }) changes n (result_means x.m x.act op s.stack.b.fact s.stack.a.fact u v other means))))
     operation_fits (operations.Unary op) =

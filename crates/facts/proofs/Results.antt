@@ -10,7 +10,8 @@ use Rattle.word_arithmetic.proofs.EndsLaws.{words_in_order_are_ranges, members_l
 use Rattle.word_arithmetic.proofs.BinaryLaws.{binary_holds}
 use Rattle.word_arithmetic.proofs.UnaryLaws.{unary_holds}
 use Rattle.module_format.specs.declared.fact.Fact.{Fact}
-use Rattle.module_format.specs.declared.fact.Fact.TheVariants.{Unknown, Number, Pointer, CodeAddress, Loop, ReturnAddress}
+use Rattle.module_format.specs.declared.fact.Fact.TheVariants.{Unknown, Number, Pointer, CodeAddress, Loop}
+use Rattle.module_format.specs.declared.fact.Fact.TheVariants.{ReturnAddress}
 use Rattle.module_format.specs.Contents.{Contents}
 use Rattle.facts.specs.Meaning.{Activation, Means, is_number}
 use Rattle.facts.specs.Rules.{range_of, number_in, result_fact, unary_result_fact}

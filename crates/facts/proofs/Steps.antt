@@ -1,5 +1,6 @@
 -- The rules, one test behind another.
-use Rattle.std.proofs.Common.{◌≡◌, ℕ, ℤ, negsuc, ◌+ℤ◌, ◌+◌, Result, Ok, Err, Option, Some, None, sym, ap, ◌∙◌, subst, refl, Bool, false, is_some, cond}
+use Rattle.std.proofs.Common.{◌≡◌, ℕ, ℤ, negsuc, ◌+ℤ◌, ◌+◌, Result, Ok, Err, Option, Some, None, sym, ap, ◌∙◌, subst}
+use Rattle.std.proofs.Common.{refl, Bool, false, is_some, cond}
 use Rattle.prefix_decoder.specs.declared.decoding.Instr.{Instr}
 use Rattle.module_format.specs.declared.fact.Fact.{Fact}
 use Rattle.module_format.specs.declared.fact.Fact.TheVariants.{Unknown, Number}
@@ -16,16 +17,20 @@ use Rattle.certificate.specs.Rights.{may_write_word, may_read_word}
 use Rattle.states.specs.State.{State, known, written}
 use Rattle.states.specs.Below.{below}
 use Rattle.machine_state.specs.declared.cpu.Flow.{Flow}
-use Rattle.facts.specs.Rules.{Ruling, Site, leads, breaks, outside_alternation, outside_starts, alone, uses, forward, writes_word, reads_word, schedules, pays, leads_to, goes_on, push, pop, without_registers, loaded, instruction_rule, rule_of, rule, rule_at, has_rule}
+use Rattle.facts.specs.Rules.{Ruling, Site, leads, breaks, outside_alternation, outside_starts, alone, uses, forward}
+use Rattle.facts.specs.Rules.{writes_word, reads_word, schedules, pays, leads_to, goes_on, push, pop, without_registers}
+use Rattle.facts.specs.Rules.{loaded, instruction_rule, rule_of, rule, rule_at, has_rule}
 use Rattle.facts.specs.Telling.{Advances}
 
 -- the same ruling, told otherwise
-pub advances-by : (r : Result Flow Rule) (after : State) (p q : Ruling) → p ≡ q → Advances r after q → Advances r after p
+pub advances-by : (r : Result Flow Rule) (after : State) (p q : Ruling) → p ≡ q → Advances r after q
+    → Advances r after p
 advances-by r after p q e h = subst (λ x. Advances r after x) (sym e) h
 
 -- ---- ldc
 
-pub load_constant-done : (site : Site) (s t : State) (e d : ℤ) (v : Known) → v ≡ known (Number d d) → d ≡ e → t ≡ push v s → instruction_rule site LoadConstant e s ≡ goes_on site t
+pub load_constant-done : (site : Site) (s t : State) (e d : ℤ) (v : Known) → v ≡ known (Number d d) → d ≡ e
+    → t ≡ push v s → instruction_rule site LoadConstant e s ≡ goes_on site t
 unfolding instruction_rule
 load_constant-done site s t e d v v_is d_is t_is =
     ap (goes_on site) (sym (t_is ∙ ap (λ x. push x s) (v_is ∙ ap (λ (z : ℤ). known (Number z z)) d_is)))
@@ -37,12 +42,14 @@ abbrev pub after_load : ℤ → State → State
 after_load k s = push (loaded k (s.frame k)) s
 
 pub load_local-own : (site : Site) (s : State) (e d : ℤ) → ((n : Ruling) → outside_starts s.mode n ≡ n) → d ≡ e
-    → instruction_rule site LoadLocal e s ≡ reads_word site s (s.depth +ℤ d) (goes_on site (after_load (s.depth +ℤ d) s))
+    → instruction_rule site LoadLocal e s
+        ≡ reads_word site s (s.depth +ℤ d) (goes_on site (after_load (s.depth +ℤ d) s))
 unfolding instruction_rule
 load_local-own site s e d starts d_is =
     starts _ ∙ ap (λ (z : ℤ). reads_word site s (s.depth +ℤ z) (goes_on site (after_load (s.depth +ℤ z) s))) (sym d_is)
 
-pub load_local-after : (s t : State) (k z : ℤ) (fact : WordFact) (v : Known) → z ≡ k → fact ≡ s.frame z → v ≡ loaded z fact → t ≡ push v s → after_load k s ≡ t
+pub load_local-after : (s t : State) (k z : ℤ) (fact : WordFact) (v : Known) → z ≡ k → fact ≡ s.frame z
+    → v ≡ loaded z fact → t ≡ push v s → after_load k s ≡ t
 load_local-after s t k z fact v z_is fact_is v_is t_is =
     sym (t_is ∙ ap (λ x. push x s) (v_is ∙ ap (loaded z) fact_is ∙ ap (λ (x : ℤ). loaded x (s.frame x)) z_is))
 
@@ -52,43 +59,55 @@ load_local-after s t k z fact v z_is fact_is v_is t_is =
 abbrev pub after_store : ℤ → Fact → State → State
 after_store k fact s = pop (written k fact s)
 
-pub store_local-own : (site : Site) (s : State) (e d : ℤ) (fact : Fact) → ((n : Fact → Ruling) → uses s.stack.a n ≡ n fact)
+pub store_local-own : (site : Site) (s : State) (e d : ℤ) (fact : Fact)
+    → ((n : Fact → Ruling) → uses s.stack.a n ≡ n fact)
     → ((n : Ruling) → alone s.mode n ≡ n) → d ≡ e
-    → instruction_rule site StoreLocal e s ≡ writes_word site s (s.depth +ℤ d) (goes_on site (after_store (s.depth +ℤ d) fact s))
+    → instruction_rule site StoreLocal e s
+        ≡ writes_word site s (s.depth +ℤ d) (goes_on site (after_store (s.depth +ℤ d) fact s))
 unfolding instruction_rule
 store_local-own site s e d fact used passes d_is =
-    used _ ∙ (passes _ ∙ ap (λ (z : ℤ). writes_word site s (s.depth +ℤ z) (goes_on site (after_store (s.depth +ℤ z) fact s))) (sym d_is))
+    used _ ∙ (passes _ ∙ ap (λ (z : ℤ). writes_word site s (s.depth +ℤ z)
+        (goes_on site (after_store (s.depth +ℤ z) fact s))) (sym d_is))
 
-pub store_local-after : (s t u : State) (k z : ℤ) (fact : Fact) → z ≡ k → t ≡ written z fact s → u ≡ pop t → after_store k fact s ≡ u
+pub store_local-after : (s t u : State) (k z : ℤ) (fact : Fact) → z ≡ k → t ≡ written z fact s → u ≡ pop t
+    → after_store k fact s ≡ u
 store_local-after s t u k z fact z_is t_is u_is = sym (u_is ∙ ap pop (t_is ∙ ap (λ (x : ℤ). written x fact s) z_is))
 
 -- ---- j
 
 -- what j does once it leads forward
 abbrev pub on_jump : Site → State → ℤ → Ruling
-on_jump site s e = outside_starts s.mode (schedules site s (λ s. pays site s (λ s. leads_to site (target (site.at + site.length) e) (without_registers s))))
+on_jump site s e = outside_starts s.mode (schedules site s (λ s. pays site s
+    (λ s. leads_to site (target (site.at + site.length) e) (without_registers s))))
 
-pub jump-forward : (site : Site) (s : State) (e d : ℤ) → ((n : Ruling) → outside_alternation s.mode n ≡ n) → d ≡ e → instruction_rule site Jump e s ≡ forward d (on_jump site s d)
+pub jump-forward : (site : Site) (s : State) (e d : ℤ) → ((n : Ruling) → outside_alternation s.mode n ≡ n) → d ≡ e
+    → instruction_rule site Jump e s ≡ forward d (on_jump site s d)
 unfolding instruction_rule
 jump-forward site s e d alternation d_is = alternation _ ∙ ap (λ (z : ℤ). forward z (on_jump site s z)) (sym d_is)
 
 -- ---- labels
 
-pub leads-on : (site : Site) (to : ℕ) (s : State) (t : Label) (r : Result ℕ Rule) → label_at site.contents to ≡ Some t → r ≡ below s t → leads_to site to s ≡ elim r as (λ r. Ruling) [ Ok cost ↦ leads to | Err broken ↦ breaks broken ]
+pub leads-on : (site : Site) (to : ℕ) (s : State) (t : Label) (r : Result ℕ Rule) → label_at site.contents to ≡ Some t
+    → r ≡ below s t → leads_to site to s ≡ elim r as (λ r. Ruling) [ Ok cost ↦ leads to | Err broken ↦ breaks broken ]
 unfolding leads_to
 leads-on site to s t r found is =
-    ap (λ (o : Option Label). elim o as (λ o. Ruling) [ None ↦ breaks rules.Label | Some t ↦ elim (below s t) as (λ r. Ruling) [ Ok cost ↦ leads to | Err broken ↦ breaks broken ] ]) found
+    ap (λ (o : Option Label). elim o as (λ o. Ruling) [ None ↦ breaks rules.Label | Some t ↦ elim (below s t) as
+        (λ r. Ruling) [ Ok cost ↦ leads to | Err broken ↦ breaks broken ] ]) found
     ∙ ap (λ (r : Result ℕ Rule). elim r as (λ r. Ruling) [ Ok cost ↦ leads to | Err broken ↦ breaks broken ]) (sym is)
 
-pub leads-nowhere : (site : Site) (to : ℕ) (s : State) → label_at site.contents to ≡ None → leads_to site to s ≡ breaks rules.Label
+pub leads-nowhere : (site : Site) (to : ℕ) (s : State) → label_at site.contents to ≡ None
+    → leads_to site to s ≡ breaks rules.Label
 unfolding leads_to
 leads-nowhere site to s found =
-    ap (λ (o : Option Label). elim o as (λ o. Ruling) [ None ↦ breaks rules.Label | Some t ↦ elim (below s t) as (λ r. Ruling) [ Ok cost ↦ leads to | Err broken ↦ breaks broken ] ]) found
+    ap (λ (o : Option Label). elim o as (λ o. Ruling) [ None ↦ breaks rules.Label | Some t ↦ elim (below s t) as
+        (λ r. Ruling) [ Ok cost ↦ leads to | Err broken ↦ breaks broken ] ]) found
 
 -- ---- the words below the workspace
 
-pub scheduled : (s t u v : State) (j k l : ℤ) → t ≡ written j Unknown s → u ≡ written k Unknown t → v ≡ written l Unknown u → j ≡ s.depth +ℤ negsuc 0 → k ≡ s.depth +ℤ negsuc 1 → l ≡ s.depth +ℤ negsuc 2
-    → v ≡ written (s.depth +ℤ negsuc 2) Unknown (written (s.depth +ℤ negsuc 1) Unknown (written (s.depth +ℤ negsuc 0) Unknown s))
+pub scheduled : (s t u v : State) (j k l : ℤ) → t ≡ written j Unknown s → u ≡ written k Unknown t
+    → v ≡ written l Unknown u → j ≡ s.depth +ℤ negsuc 0 → k ≡ s.depth +ℤ negsuc 1 → l ≡ s.depth +ℤ negsuc 2
+    → v ≡ written (s.depth +ℤ negsuc 2) Unknown
+        (written (s.depth +ℤ negsuc 1) Unknown (written (s.depth +ℤ negsuc 0) Unknown s))
 scheduled s t u v j k l t_is u_is v_is j_is k_is l_is =
     v_is
     ∙ (ap (λ (z : ℤ). written z Unknown u) l_is
@@ -98,21 +117,27 @@ scheduled s t u v j k l t_is u_is v_is j_is k_is l_is =
 
 -- ---- an instruction that the machine does not have
 
-without-rule : (site : Site) (o : Option Instruction) (e : ℤ) (s : State) → is_some o ≡ false → rule_of site o e s ≡ breaks rules.Spelling
+without-rule : (site : Site) (o : Option Instruction) (e : ℤ) (s : State) → is_some o ≡ false
+    → rule_of site o e s ≡ breaks rules.Spelling
 unfolding rule_of
 without-rule site None e s h = refl
 without-rule site (Some instruction) e s h = absurd (cc)
 
-pub unruled : (m : Contents) (at : ℕ) (i : Instr) (s : State) → has_rule i ≡ false → rule_at m at i s ≡ breaks rules.Spelling
+pub unruled : (m : Contents) (at : ℕ) (i : Instr) (s : State) → has_rule i ≡ false
+    → rule_at m at i s ≡ breaks rules.Spelling
 unfolding rule has_rule
 unruled m at i s h = without-rule _ (instruction_of i.fun i.operand) i.operand s h
 
 -- ---- words, where it is known whether they may be written or read
 
-pub written-by : (site : Site) (s : State) (w z : ℤ) (b : Bool) (k : Ruling) → z ≡ w → b ≡ may_write_word site.contents s.context z → writes_word site s w k ≡ cond b k (breaks rules.OwnWord)
+pub written-by : (site : Site) (s : State) (w z : ℤ) (b : Bool) (k : Ruling) → z ≡ w
+    → b ≡ may_write_word site.contents s.context z → writes_word site s w k ≡ cond b k (breaks rules.OwnWord)
 unfolding writes_word
-written-by site s w z b k z_is h = ap (λ b. cond b k (breaks rules.OwnWord)) (ap (may_write_word site.contents s.context) (sym z_is) ∙ sym h)
+written-by site s w z b k z_is h =
+    ap (λ b. cond b k (breaks rules.OwnWord)) (ap (may_write_word site.contents s.context) (sym z_is) ∙ sym h)
 
-pub read-by : (site : Site) (s : State) (w z : ℤ) (b : Bool) (k : Ruling) → z ≡ w → b ≡ may_read_word site.contents s.context z → reads_word site s w k ≡ cond b k (breaks rules.OwnWord)
+pub read-by : (site : Site) (s : State) (w z : ℤ) (b : Bool) (k : Ruling) → z ≡ w
+    → b ≡ may_read_word site.contents s.context z → reads_word site s w k ≡ cond b k (breaks rules.OwnWord)
 unfolding reads_word
-read-by site s w z b k z_is h = ap (λ b. cond b k (breaks rules.OwnWord)) (ap (may_read_word site.contents s.context) (sym z_is) ∙ sym h)
+read-by site s w z b k z_is h =
+    ap (λ b. cond b k (breaks rules.OwnWord)) (ap (may_read_word site.contents s.context) (sym z_is) ∙ sym h)

@@ -1,4 +1,5 @@
--- When the rule of an instruction and its step fit each other: where the rule is not broken, the step is no fault, it changes own bytes only, and what the rule
+-- When the rule of an instruction and its step fit each other: where the rule is not broken, the step is no fault, it
+-- changes own bytes only, and what the rule
 -- says of the state behind it holds.
 use Rattle.std.specs.Prelude.{◌≡◌, ℕ, ◌+◌, ◌≤◌, ◌<◌, ℤ, FitsSigned, length, Some}
 use Rattle.std.specs.Int.{w32}
@@ -18,12 +19,15 @@ use Rattle.facts.specs.Rules.{Ruling, falls, leads, ends, breaks}
 use Rattle.facts.specs.Meaning.{Activation, with_turns, HasFrame, Knows, SameMode, IsWellFormed}
 
 -- what holds behind an instruction: the frame is still there, and the state is known
-pub record After (m : Contents) (h : Holding) (mode : machine.Mode) (act : Activation) (s : State) (l : Local) : Type 0 where
-  pub frame : HasFrame h (length l.memory) (may_write_word m s.context) (may_read_word m s.context) act.origin s.depth l.registers.workspace
+pub record After (m : Contents) (h : Holding) (mode : machine.Mode) (act : Activation) (s : State)
+    (l : Local) : Type 0 where
+  pub frame : HasFrame h (length l.memory) (may_write_word m s.context)
+      (may_read_word m s.context) act.origin s.depth l.registers.workspace
   pub knows : Knows m (may_read_word m s.context) s act l.registers l.memory
   pub same_mode : SameMode s.mode mode
 
--- where an instruction runs: the module, what the process holds, its activation, its mode, memory and number before, and the place of the instruction
+-- where an instruction runs: the module, what the process holds, its activation, its mode, memory and number before,
+-- and the place of the instruction
 pub record Here : Type 0 where
   pub m : Contents
   pub h : Holding
@@ -40,10 +44,14 @@ rule_site x = record { contents = x.m; at = x.at; length = x.len }
 abbrev pub step_site : Here → step.Site
 step_site x = record { code_length = length x.m.code; next = x.at + x.len; mode = x.mode; holding = x.h }
 
--- A ruling and an outcome fit each other. Behind the instruction the activation is the same; at a label its loops may have other turns left.
+-- A ruling and an outcome fit each other. Behind the instruction the activation is the same; at a label its loops may
+-- have other turns left.
 pub data Fits (x : Here) : Ruling → Outcome → Type 0 where
-  it_falls : {s : State} {l : Local} → x.at + x.len < length x.m.code → After x.m x.h x.mode x.act s l → ChangesOwn x.h x.memory l.memory → s.number + x.len ≡ x.number → Fits x (falls s) (goes l)
-  it_leads : {to : ℕ} {l : Local} {t : Label} (turns : ℤ → ℕ) → label_at x.m to ≡ Some t → to < length x.m.code → After x.m x.h x.mode (with_turns turns x.act) (label_state t) l → ChangesOwn x.h x.memory l.memory → t.number + x.len ≤ x.number → Fits x (leads to) (lands to l)
+  it_falls : {s : State} {l : Local} → x.at + x.len < length x.m.code → After x.m x.h x.mode x.act s l
+      → ChangesOwn x.h x.memory l.memory → s.number + x.len ≡ x.number → Fits x (falls s) (goes l)
+  it_leads : {to : ℕ} {l : Local} {t : Label} (turns : ℤ → ℕ) → label_at x.m to ≡ Some t → to < length x.m.code
+      → After x.m x.h x.mode (with_turns turns x.act) (label_state t) l → ChangesOwn x.h x.memory l.memory
+      → t.number + x.len ≤ x.number → Fits x (leads to) (lands to l)
   it_ends : {l : Local} → ChangesOwn x.h x.memory l.memory → x.len ≤ x.number → Fits x ends (stops l)
   it_breaks : {broken : Rule} {o : Outcome} → Fits x (breaks broken) o
 
@@ -54,5 +62,7 @@ HasNext x r = (s : State) → r ≡ falls s → x.at + x.len < length x.m.code
 -- In a state that holds of a process, each instruction's rule and step fit.
 abbrev pub RulesFitSteps : Type 0
 RulesFitSteps =
-    (x : Here) (s : State) (l : Local) (f : Fun) (e : ℤ) → IsWellFormed x.m → After x.m x.h x.mode x.act s l → ChangesOwn x.h x.memory l.memory → s.number ≡ x.number
-    → FitsSigned w32 e → HasNext x (rule.rule (rule_site x) f e s) → Fits x (rule.rule (rule_site x) f e s) (step.local_step (step_site x) f e l)
+    (x : Here) (s : State) (l : Local) (f : Fun) (e : ℤ) → IsWellFormed x.m → After x.m x.h x.mode x.act s l
+        → ChangesOwn x.h x.memory l.memory → s.number ≡ x.number
+    → FitsSigned w32 e → HasNext x (rule.rule (rule_site x) f e s)
+        → Fits x (rule.rule (rule_site x) f e s) (step.local_step (step_site x) f e l)

@@ -1,9 +1,11 @@
 -- What the facts of a state mean of a process.
-use Rattle.std.specs.Prelude.{◌≡◌, ⊤, ℕ, ◌+◌, ◌*◌, ◌-◌, ◌≤◌, ◌<◌, ◌==◌, ℤ, pos, negsuc, ◌+ℤ◌, ◌-ℤ◌, ◌*ℤ◌, ◌≤ℤ◌, FitsSigned, Bool, true, false, IsTrue, if◌then◌else◌, List, length, Option, Some, None}
+use Rattle.std.specs.Prelude.{◌≡◌, ⊤, ℕ, ◌+◌, ◌*◌, ◌-◌, ◌≤◌, ◌<◌, ◌==◌, ℤ, pos, negsuc, ◌+ℤ◌, ◌-ℤ◌, ◌*ℤ◌, ◌≤ℤ◌}
+use Rattle.std.specs.Prelude.{FitsSigned, Bool, true, false, IsTrue, if◌then◌else◌, List, length, Option, Some, None}
 use Rattle.std.specs.Int.{w32, int_wrap}
 use Rattle.std.specs.List.{AllByRecursion}
 use Rattle.module_format.specs.declared.fact.Fact.{Fact}
-use Rattle.module_format.specs.declared.fact.Fact.TheVariants.{Unknown, Number, Pointer, CodeAddress, Loop, ReturnAddress}
+use Rattle.module_format.specs.declared.fact.Fact.TheVariants.{Unknown, Number, Pointer, CodeAddress, Loop}
+use Rattle.module_format.specs.declared.fact.Fact.TheVariants.{ReturnAddress}
 use Rattle.module_format.specs.declared.fact.Step.{Step}
 use Rattle.module_format.specs.declared.fact.Step.TheVariants.{Byte, Word}
 use Rattle.module_format.specs.declared.rows.Entry.{Entry}
@@ -25,7 +27,8 @@ use Rattle.states.specs.declared.known.WordFact.TheVariants.{Alone, Index, Count
 use Rattle.states.specs.State.{State, Facts, entry_fact}
 use Rattle.states.specs.Rows.{IsRowOf}
 
--- One activation of the root, a procedure or a branch: where its regions lie, where it returns to, and the turns that its loops have left. The machine keeps none of it.
+-- One activation of the root, a procedure or a branch: where its regions lie, where it returns to, and the turns that
+-- its loops have left. The machine keeps none of it.
 pub record Activation : Type 0 where
   pub origin : ℤ  -- the place of frame word 0
   pub starts : ℕ → ℕ  -- the address of the first byte of what parameter j names
@@ -42,7 +45,8 @@ with_turns turns act = record act { turns = turns }
 abbrev pub code_address : Contents → ℕ → ℕ
 code_address m offset = data_start + 4 * m.data_words + offset
 
--- the address where a region starts: 0 is the frame, whose offsets count from its word 0, 1 the constants, and 2 + j what parameter j names
+-- the address where a region starts: 0 is the frame, whose offsets count from its word 0, 1 the constants, and 2 + j
+-- what parameter j names
 abbrev pub region_start : Contents → Activation → ℕ → ℤ
 region_start m act region =
     if region == 0 then pos data_start +ℤ act.origin
@@ -61,11 +65,15 @@ IsOffset Word offset = IsTrue (is_stepped offset)
 pub data Means (m : Contents) (act : Activation) : Fact → Option ℤ → Type 0 where
   says_nothing : {v : Option ℤ} → Means m act Unknown v
   is_number : {lo hi x : ℤ} → lo ≤ℤ x → x ≤ℤ hi → FitsSigned w32 x → Means m act (Number lo hi) (Some x)
-  is_pointer : {region : ℕ} {lo hi x : ℤ} {step : Step} (offset : ℤ) → lo ≤ℤ offset → offset ≤ℤ hi → IsOffset step offset → x ≡ word_of (region_start m act region +ℤ offset) → Means m act (Pointer region lo hi step) (Some x)
-  is_code_address : {offset : ℕ} {x : ℤ} → x ≡ word_of (pos (code_address m offset)) → Means m act (CodeAddress offset) (Some x)
+  is_pointer : {region : ℕ} {lo hi x : ℤ} {step : Step} (offset : ℤ) → lo ≤ℤ offset → offset ≤ℤ hi
+      → IsOffset step offset → x ≡ word_of (region_start m act region +ℤ offset)
+      → Means m act (Pointer region lo hi step) (Some x)
+  is_code_address : {offset : ℕ} {x : ℤ} → x ≡ word_of (pos (code_address m offset))
+      → Means m act (CodeAddress offset) (Some x)
   is_return_address : {x : ℤ} → x ≡ word_of (pos (code_address m act.back)) → Means m act ReturnAddress (Some x)
 
--- What is known of word k holds of its value: by itself; or it is the index of a loop that has c turns left, base + count - c; or the count of one, c.
+-- What is known of word k holds of its value: by itself; or it is the index of a loop that has c turns left, base +
+-- count - c; or the count of one, c.
 pub data MeansWord (m : Contents) (act : Activation) (k : ℤ) : WordFact → Option ℤ → Type 0 where
   is_fact : {fact : Fact} {v : Option ℤ} → Means m act fact v → MeansWord m act k (Alone fact) v
   is_index : {loop : CountedLoop} {x : ℤ} → 1 ≤ act.turns k → act.turns k ≤ loop.count
@@ -107,7 +115,8 @@ pub record IsOwnWord (h : Holding) (size : ℕ) (origin k : ℤ) : Type 0 where
   pub inside : place + 4 ≤ size
   pub mine : may_write_word h place ≡ true
 
--- Where the frame lies: the words that the context may write are the process's own, it may read those that the context may read, and the workspace is `depth` words from frame word 0.
+-- Where the frame lies: the words that the context may write are the process's own, it may read those that the context
+-- may read, and the workspace is `depth` words from frame word 0.
 pub record HasFrame (h : Holding) (size : ℕ) (writes reads : ℤ → Bool) (origin depth : ℤ) (workspace : ℕ) : Type 0 where
   pub small : size ≤ 1048576
   pub own : (k : ℤ) → writes k ≡ true → IsOwnWord h size origin k
@@ -121,7 +130,8 @@ abbrev pub MeansKnown : Contents → Activation → Known → Option ℤ → Typ
 MeansKnown m act known word = Means m act known.fact word
 
 -- all that the state says holds in an activation, and it says nothing of a word that the context may not read
-pub record Knows (m : Contents) (reads : ℤ → Bool) (s : State) (act : Activation) (r : Registers) (memory : Memory) : Type 0 where
+pub record Knows (m : Contents) (reads : ℤ → Bool) (s : State) (act : Activation) (r : Registers)
+    (memory : Memory) : Type 0 where
   pub stack : AreRelated (MeansKnown m act) s.stack r.stack
   pub words : (k : ℤ) → MeansWord m act k (s.frame k) (frame_word memory act.origin k)
   pub within : (k : ℤ) → reads k ≡ false → s.frame k ≡ Alone Unknown

@@ -1,6 +1,7 @@
 -- The rule of each instruction: what it wants of the state before it, and what it leaves. The rules mirror the steps
 -- of the machine, and their tests are in rising order of the numbers of rules.
-use Rattle.std.specs.Prelude.{ℕ, ◌+◌, ◌-◌, nat_lt, Bool, if◌then◌else◌, is_some, ℤ, pos, negsuc, ◌+ℤ◌, Option, Some, None, Ok, Err}
+use Rattle.std.specs.Prelude.{ℕ, ◌+◌, ◌-◌, nat_lt, Bool, if◌then◌else◌, is_some, ℤ, pos, negsuc, ◌+ℤ◌, Option, Some}
+use Rattle.std.specs.Prelude.{None, Ok, Err}
 use Rattle.std.specs.Option.{option_map}
 use Rattle.prefix_decoder.specs.declared.function.Fun.{Fun}
 use Rattle.prefix_decoder.specs.declared.decoding.Instr.{Instr}
@@ -18,7 +19,8 @@ use Rattle.certificate.specs.Rights.{may_write_word, may_read_word}
 use Rattle.machine_state.specs.declared.op.Op.{Op}
 use Rattle.machine_state.specs.declared.op.Op.TheVariants.{Reverse, StopProcess, MinimumInteger, Binary, Unary}
 use Rattle.machine_state.specs.declared.instruction.Instruction.{Instruction}
-use Rattle.machine_state.specs.declared.instruction.Instruction.TheVariants.{Jump, LoadConstant, LoadLocal, StoreLocal, WithConstant, Operate}
+use Rattle.machine_state.specs.declared.instruction.Instruction.TheVariants.{Jump, LoadConstant, LoadLocal, StoreLocal}
+use Rattle.machine_state.specs.declared.instruction.Instruction.TheVariants.{WithConstant, Operate}
 use Rattle.machine_state.specs.Instructions.{instruction_of}
 use Rattle.machine_state.specs.LocalStep.{target}
 use Rattle.states.specs.declared.rule.Rule.{Rule}
@@ -173,7 +175,8 @@ unfoldable pub operation_rule : Site → Op → State → Ruling
 operation_rule site Reverse s = alone s.mode (goes_on site (reverse s))
 operation_rule site MinimumInteger s = outside_starts s.mode (goes_on site (push (constant least_word) s))
 operation_rule site StopProcess s = alone s.mode (schedules site s (λ s. pays site s (λ s. ends)))
-operation_rule site (Binary op) s = uses s.stack.a (λ a. uses s.stack.b (λ b. becomes site (result_fact op b a) (pop s)))
+operation_rule site (Binary op) s =
+    uses s.stack.a (λ a. uses s.stack.b (λ b. becomes site (result_fact op b a) (pop s)))
 operation_rule site (Unary op) s = uses s.stack.a (λ a. becomes site (unary_result_fact op a) s)
 
 unfoldable pub instruction_rule : Site → Instruction → ℤ → State → Ruling

@@ -1,12 +1,15 @@
 -- One map of facts against another, by entries and by words.
-use Rattle.std.proofs.Common.{◌≡◌, ℕ, zero, suc, ◌+◌, ◌-◌, ◌^◌, ◌<◌, ℤ, pos, negsuc, ◌+ℤ◌, ◌-ℤ◌, ◌≤ℤ◌, ◌<ℤ◌, nat_abs, Bool, true, false, cond, eqb, List, [], ◌∷◌, length, get_or, Option, Some, None, refl, sym, ap, ◌∙◌, arith, ◌⊎◌, inl, inr}
+use Rattle.std.proofs.Common.{◌≡◌, ℕ, zero, suc, ◌+◌, ◌-◌, ◌^◌, ◌<◌, ℤ, pos, negsuc, ◌+ℤ◌, ◌-ℤ◌, ◌≤ℤ◌, ◌<ℤ◌, nat_abs}
+use Rattle.std.proofs.Common.{Bool, true, false, cond, eqb, List, [], ◌∷◌, length, get_or, Option, Some, None, refl}
+use Rattle.std.proofs.Common.{sym, ap, ◌∙◌, arith, ◌⊎◌, inl, inr}
 use Rattle.std.specs.Prelude.{option_map, unwrap_or}
 use Rattle.std.proofs.lemmas.List.{get_or_default}
 use Rattle.std.proofs.lemmas.Bool.{cases_eq, cases_lt, cases_Bool}
 use Rattle.std.proofs.lemmas.Bool.Decides.{nat_tests}
 use Rattle.std.proofs.lemmas.Int.{ints, by_lt_z}
 use Rattle.module_format.specs.declared.fact.Fact.{Fact}
-use Rattle.module_format.specs.declared.fact.Fact.TheVariants.{Unknown, Number, Pointer, CodeAddress, Loop, ReturnAddress}
+use Rattle.module_format.specs.declared.fact.Fact.TheVariants.{Unknown, Number, Pointer, CodeAddress, Loop}
+use Rattle.module_format.specs.declared.fact.Fact.TheVariants.{ReturnAddress}
 use Rattle.module_format.specs.declared.rows.Entry.{Entry}
 use Rattle.states.specs.declared.overlay.Written.{Written}
 use Rattle.states.specs.Lookup.{lookup, ArePlaced}
@@ -19,7 +22,8 @@ use Rattle.module_format.specs.Facts.{end_of}
 use Rattle.states.specs.Rows.{rise_from, AreApart}
 use Rattle.states.specs.Frames.{fact_of_index, facts_over}
 use Rattle.states.specs.Comparing.{SaysAll, SaysLess, OneSaysAll, WrittenSaysAll}
-use Rattle.states.proofs.RowFacts.{and-parts, and-both, before, within, behind, lies, about-before, about-behind, rise-parts, unknown-below, entry_fact-within}
+use Rattle.states.proofs.RowFacts.{and-parts, and-both, before, within, behind, lies, about-before, about-behind}
+use Rattle.states.proofs.RowFacts.{rise-parts, unknown-below, entry_fact-within}
 use Rattle.states.proofs.FrameFacts.{distance, is_word-same, is_word-below}
 use Rattle.states.proofs.Lookups.{lookup-at, indices-at}
 
@@ -43,26 +47,35 @@ first-test word (suc n) =
     let no : eqb (suc n) 0 ≡ false = grind (arith, nat_tests) in
     is_word-below word (word +ℤ pos (suc n)) (omega (arith, ints)) ∙ sym no
 
-words_say-each : (facts : Facts) (entry : Entry) (span : ℕ) → ((n : ℕ) → n < span → says (facts (entry.word +ℤ pos n)) (said_of entry.fact (eqb n 0)) ≡ true) → words_say facts entry span ≡ true
+words_say-each : (facts : Facts) (entry : Entry) (span : ℕ)
+    → ((n : ℕ) → n < span → says (facts (entry.word +ℤ pos n)) (said_of entry.fact (eqb n 0)) ≡ true)
+    → words_say facts entry span ≡ true
 words_say-each facts entry zero each = refl
-words_say-each facts entry (suc n) each = and-both _ _ (each n (omega arith)) (words_say-each facts entry n (λ m h. each m (omega arith)))
+words_say-each facts entry (suc n) each =
+    and-both _ _ (each n (omega arith)) (words_say-each facts entry n (λ m h. each m (omega arith)))
 
-words_say-at : (facts : Facts) (entry : Entry) (span n : ℕ) → words_say facts entry span ≡ true → n < span → says (facts (entry.word +ℤ pos n)) (said_of entry.fact (eqb n 0)) ≡ true
+words_say-at : (facts : Facts) (entry : Entry) (span n : ℕ) → words_say facts entry span ≡ true → n < span
+    → says (facts (entry.word +ℤ pos n)) (said_of entry.fact (eqb n 0)) ≡ true
 words_say-at facts entry zero n h l = absurd (omega arith)
 words_say-at facts entry (suc m) n h l =
-    let p : (says (facts (entry.word +ℤ pos m)) (said_of entry.fact (eqb m 0)) ≡ true) × (words_say facts entry m ≡ true) = and-parts _ _ h in
+    let p : (says (facts (entry.word +ℤ pos m)) (said_of entry.fact (eqb m 0)) ≡ true)
+        × (words_say facts entry m ≡ true) = and-parts _ _ h in
     elim (cases_lt n m) [
       | inl low ↦ words_say-at facts entry m n p.1 low
-      | inr high ↦ let same : n ≡ m = omega arith in ap (λ j. says (facts (entry.word +ℤ pos j)) (said_of entry.fact (eqb j 0))) same ∙ p.0
+      | inr high ↦ let same : n ≡ m =
+          omega arith in ap (λ j. says (facts (entry.word +ℤ pos j)) (said_of entry.fact (eqb j 0))) same ∙ p.0
     ]
 
 -- ---- the words of a row
 
 -- what is said by the rest of a row
-says-rest : (facts : Facts) (entry : Entry) (entries : List Entry) (k : ℤ) → is_about entry k ≡ false → says (facts k) (entry_fact entries k) ≡ true → says (facts k) (entry_fact (entry ∷ entries) k) ≡ true
-says-rest facts entry entries k none h = ap (λ b. says (facts k) (cond b (said_of entry.fact (is_word entry.word k)) (entry_fact entries k))) none ∙ h
+says-rest : (facts : Facts) (entry : Entry) (entries : List Entry) (k : ℤ) → is_about entry k ≡ false
+    → says (facts k) (entry_fact entries k) ≡ true → says (facts k) (entry_fact (entry ∷ entries) k) ≡ true
+says-rest facts entry entries k none h =
+    ap (λ b. says (facts k) (cond b (said_of entry.fact (is_word entry.word k)) (entry_fact entries k))) none ∙ h
 
-pub entries_hold-says : (facts : Facts) (entries : List Entry) → entries_hold facts entries ≡ true → SaysAll facts (entry_fact entries)
+pub entries_hold-says : (facts : Facts) (entries : List Entry) → entries_hold facts entries ≡ true
+    → SaysAll facts (entry_fact entries)
 entries_hold-says facts [] h = λ k. says-unknown (facts k)
 entries_hold-says facts (entry ∷ entries) h = λ k.
     let p : (words_say facts entry entry.span ≡ true) × (entries_hold facts entries ≡ true) = and-parts _ _ h in
@@ -80,7 +93,8 @@ entries_hold-says facts (entry ∷ entries) h = λ k.
       | behind l b ↦ says-rest facts entry entries k (about-behind entry k b) rest
     ]
 
-says-entries_hold : (low : ℤ) (facts : Facts) (entries : List Entry) → rise_from low entries ≡ true → SaysAll facts (entry_fact entries) → entries_hold facts entries ≡ true
+says-entries_hold : (low : ℤ) (facts : Facts) (entries : List Entry) → rise_from low entries ≡ true
+    → SaysAll facts (entry_fact entries) → entries_hold facts entries ≡ true
 says-entries_hold low facts [] r h = refl
 says-entries_hold low facts (entry ∷ entries) r h =
     let p = rise-parts low entry entries r in
@@ -88,15 +102,19 @@ says-entries_hold low facts (entry ∷ entries) r h =
     (words_say-each facts entry entry.span (λ n l.
     let k = entry.word +ℤ pos n in
     ap (λ c. says (facts k) (said_of entry.fact c)) (sym (first-test entry.word n))
-    ∙ (sym (ap (says (facts k)) (entry_fact-within k entry entries (omega (arith, ints)) (omega (arith, ints)))) ∙ h k)))
+    ∙ (sym (ap (says (facts k)) (entry_fact-within k entry entries (omega (arith, ints)) (omega (arith, ints))))
+        ∙ h k)))
     (says-entries_hold (end_of entry) facts entries p.1 (λ k. by_lt_z k (end_of entry)
     (λ l. ap (says (facts k)) (unknown-below (end_of entry) k entries p.1 l) ∙ says-unknown (facts k))
-    (λ l. sym (ap (λ b. says (facts k) (cond b (said_of entry.fact (is_word entry.word k)) (entry_fact entries k))) (about-behind entry k l)) ∙ h k)))
+    (λ l. sym (ap (λ b. says (facts k) (cond b (said_of entry.fact (is_word entry.word k)) (entry_fact entries k)))
+        (about-behind entry k l)) ∙ h k)))
 
-pub entries_hold-true : (facts : Facts) (entries : List Entry) → AreApart entries → SaysAll facts (entry_fact entries) → entries_hold facts entries ≡ true
+pub entries_hold-true : (facts : Facts) (entries : List Entry) → AreApart entries → SaysAll facts (entry_fact entries)
+    → entries_hold facts entries ≡ true
 entries_hold-true facts entries apart h = says-entries_hold least_word facts entries apart h
 
-pub entries_hold-false : (facts : Facts) (entries : List Entry) → SaysLess facts (entry_fact entries) → entries_hold facts entries ≡ false
+pub entries_hold-false : (facts : Facts) (entries : List Entry) → SaysLess facts (entry_fact entries)
+    → entries_hold facts entries ≡ false
 entries_hold-false facts entries h = elim (cases_Bool (entries_hold facts entries)) [
   | inl e ↦ let clash : true ≡ false = sym (entries_hold-says facts entries e h.0) ∙ h.1 in absurd (cc)
   | inr e ↦ e
@@ -105,36 +123,49 @@ entries_hold-false facts entries h = elim (cases_Bool (entries_hold facts entrie
 -- ---- what was written, over a row
 
 -- what is known says all where what was written does, and the row or what is known does
-combined-at : (o : Option Fact) (said wanted : WordFact) → ((f : Fact) → o ≡ Some f → says (Alone f) wanted ≡ true) → (says said wanted ≡ true) ⊎ (says (unwrap_or (option_map Alone o) said) wanted ≡ true) → says (unwrap_or (option_map Alone o) said) wanted ≡ true
+combined-at : (o : Option Fact) (said wanted : WordFact) → ((f : Fact) → o ≡ Some f → says (Alone f) wanted ≡ true)
+    → (says said wanted ≡ true) ⊎ (says (unwrap_or (option_map Alone o) said) wanted ≡ true)
+    → says (unwrap_or (option_map Alone o) said) wanted ≡ true
 combined-at None said wanted written h = elim h [ inl p ↦ p | inr p ↦ p ]
 combined-at (Some f) said wanted written h = written f refl
 
-pub says-combined : (lo : ℤ) (row : List Entry) (written : List Written) (wanted : Facts) → WrittenSaysAll written lo wanted → OneSaysAll (entry_fact row) (facts_over lo row written) wanted → SaysAll (facts_over lo row written) wanted
-says-combined lo row written wanted w o = λ k. combined-at (fact_of_index written (k -ℤ lo)) (entry_fact row k) (wanted k) (w k) (o k)
+pub says-combined : (lo : ℤ) (row : List Entry) (written : List Written) (wanted : Facts)
+    → WrittenSaysAll written lo wanted → OneSaysAll (entry_fact row) (facts_over lo row written) wanted
+    → SaysAll (facts_over lo row written) wanted
+says-combined lo row written wanted w o =
+    λ k. combined-at (fact_of_index written (k -ℤ lo)) (entry_fact row k) (wanted k) (w k) (o k)
 
 -- ---- the list of what was written
 
 -- the facts of so many items of the list say what is wanted
 abbrev pub ItemsSay : List Written → ℕ → ℤ → Facts → Type 0
-ItemsSay written n lo wanted = (i : ℕ) → i < n → (d : Written) → says (Alone ((get_or written i d).fact)) (wanted (lo +ℤ pos ((get_or written i d).index))) ≡ true
+ItemsSay written n lo wanted = (i : ℕ) → i < n → (d : Written)
+    → says (Alone ((get_or written i d).fact)) (wanted (lo +ℤ pos ((get_or written i d).index))) ≡ true
 
 -- what was asked of an item
-pub item-asked : (wanted : Facts) (lo word : ℤ) (index : ℕ) (fact : Fact) (other : WordFact) (b : Bool) → word ≡ lo +ℤ pos index → other ≡ wanted word → b ≡ says (Alone fact) other → says (Alone fact) (wanted (lo +ℤ pos index)) ≡ b
-item-asked wanted lo word index fact other b word_is is asked = ap (λ (j : ℤ). says (Alone fact) (wanted j)) (sym word_is) ∙ (ap (says (Alone fact)) (sym is) ∙ sym asked)
+pub item-asked : (wanted : Facts) (lo word : ℤ) (index : ℕ) (fact : Fact) (other : WordFact) (b : Bool)
+    → word ≡ lo +ℤ pos index → other ≡ wanted word → b ≡ says (Alone fact) other
+    → says (Alone fact) (wanted (lo +ℤ pos index)) ≡ b
+item-asked wanted lo word index fact other b word_is is asked =
+    ap (λ (j : ℤ). says (Alone fact) (wanted j)) (sym word_is) ∙ (ap (says (Alone fact)) (sym is) ∙ sym asked)
 
 -- one item more
-pub items-more : (written : List Written) (n : ℕ) (lo : ℤ) (wanted : Facts) (e : Written) → n < length written → ItemsSay written n lo wanted
-    → says (Alone ((get_or written n e).fact)) (wanted (lo +ℤ pos ((get_or written n e).index))) ≡ true → ItemsSay written (n + 1) lo wanted
+pub items-more : (written : List Written) (n : ℕ) (lo : ℤ) (wanted : Facts) (e : Written) → n < length written
+    → ItemsSay written n lo wanted
+    → says (Alone ((get_or written n e).fact)) (wanted (lo +ℤ pos ((get_or written n e).index))) ≡ true
+        → ItemsSay written (n + 1) lo wanted
 items-more written n lo wanted e low earlier here = λ i h d. elim (cases_lt i n) [
   | inl l ↦ earlier i l d
   | inr l ↦
       let same : i ≡ n = omega arith in
-      let item : get_or written i d ≡ get_or written n e = ap (λ j. get_or written j d) same ∙ get_or_default written n d e low in
+      let item : get_or written i d ≡ get_or written n e =
+          ap (λ j. get_or written j d) same ∙ get_or_default written n d e low in
       ap (λ (w : Written). says (Alone w.fact) (wanted (lo +ℤ pos w.index))) item ∙ here
 ]
 
 -- what is found stands in the list
-found-at : (written : List Written) (index : ℕ) (fact : Fact) (d : Written) → lookup written index ≡ Some fact → (i : ℕ) × (i < length written) × ((get_or written i d).index ≡ index) × ((get_or written i d).fact ≡ fact)
+found-at : (written : List Written) (index : ℕ) (fact : Fact) (d : Written) → lookup written index ≡ Some fact
+    → (i : ℕ) × (i < length written) × ((get_or written i d).index ≡ index) × ((get_or written i d).fact ≡ fact)
 found-at [] index fact d h = absurd (cc)
 found-at (w ∷ ws) index fact d h = elim (cases_eq w.index index) [
   | inl e ↦
@@ -148,44 +179,57 @@ found-at (w ∷ ws) index fact d h = elim (cases_eq w.index index) [
       (suc r.0, omega (arith, r.1), r.2, r.3)
 ]
 
-index-found : (written : List Written) (z : ℤ) (fact : Fact) → fact_of_index written z ≡ Some fact → (index : ℕ) × (z ≡ pos index) × (lookup written index ≡ Some fact)
+index-found : (written : List Written) (z : ℤ) (fact : Fact) → fact_of_index written z ≡ Some fact
+    → (index : ℕ) × (z ≡ pos index) × (lookup written index ≡ Some fact)
 index-found written (pos n) fact h = (n, refl, h)
 index-found written (negsuc n) fact h = absurd (cc)
 
-pub written-says : (written : List Written) (lo : ℤ) (wanted : Facts) (d : Written) → ItemsSay written (length written) lo wanted → WrittenSaysAll written lo wanted
+pub written-says : (written : List Written) (lo : ℤ) (wanted : Facts) (d : Written)
+    → ItemsSay written (length written) lo wanted → WrittenSaysAll written lo wanted
 written-says written lo wanted d each = λ k fact h.
     let i = index-found written (k -ℤ lo) fact h in
     let f = found-at written i.0 fact d i.2 in
-    let word : lo +ℤ pos ((get_or written f.0 d).index) ≡ k = let same = f.2 in let index = i.1 in omega (arith, ints) in
-    ap (λ (x : Fact). says (Alone x) (wanted k)) (sym f.3) ∙ (ap (λ (j : ℤ). says (Alone ((get_or written f.0 d).fact)) (wanted j)) (sym word) ∙ each f.0 f.1 d)
+    let word : lo +ℤ pos ((get_or written f.0 d).index) ≡ k = let same = f.2 in let index =
+        i.1 in omega (arith, ints) in
+    ap (λ (x : Fact). says (Alone x) (wanted k)) (sym f.3)
+        ∙ (ap (λ (j : ℤ). says (Alone ((get_or written f.0 d).fact)) (wanted j)) (sym word) ∙ each f.0 f.1 d)
 
 -- an item that says less
-pub written-less : (places : List ℕ) (written : List Written) (row : List Entry) (lo : ℤ) (wanted : Facts) (i : ℕ) (d : Written) → ArePlaced places written → i < length written
-    → says (Alone ((get_or written i d).fact)) (wanted (lo +ℤ pos ((get_or written i d).index))) ≡ false → SaysLess (facts_over lo row written) wanted
+pub written-less : (places : List ℕ) (written : List Written) (row : List Entry) (lo : ℤ) (wanted : Facts) (i : ℕ)
+    (d : Written) → ArePlaced places written → i < length written
+    → says (Alone ((get_or written i d).fact)) (wanted (lo +ℤ pos ((get_or written i d).index))) ≡ false
+        → SaysLess (facts_over lo row written) wanted
 written-less places written row lo wanted i d placed low h =
     let item = get_or written i d in
     let k = lo +ℤ pos item.index in
     let found = lookup-at places written item.index i d placed low (indices-at written i d low) in
     let z : k -ℤ lo ≡ pos item.index = omega (arith, ints) in
-    let fact : facts_over lo row written k ≡ Alone item.fact = ap (λ o. unwrap_or (option_map Alone o) (entry_fact row k)) (ap (fact_of_index written) z ∙ found) in
+    let fact : facts_over lo row written k ≡ Alone item.fact =
+        ap (λ o. unwrap_or (option_map Alone o) (entry_fact row k)) (ap (fact_of_index written) z ∙ found) in
     (k, ap (λ (x : WordFact). says x (wanted k)) fact ∙ h)
 
 -- ---- two rows side by side
 
 -- of each word below `word` the row or what is known says what is wanted
 abbrev pub SaysUpTo : Facts → Facts → Facts → ℤ → Type 0
-SaysUpTo said facts wanted word = (k : ℤ) → k <ℤ word → (says (said k) (wanted k) ≡ true) ⊎ (says (facts k) (wanted k) ≡ true)
+SaysUpTo said facts wanted word =
+    (k : ℤ) → k <ℤ word → (says (said k) (wanted k) ≡ true) ⊎ (says (facts k) (wanted k) ≡ true)
 
-pub says-none : (said facts : Facts) (row : List Entry) (word : ℤ) → AreApart row → word ≡ least_word → SaysUpTo said facts (entry_fact row) word
+pub says-none : (said facts : Facts) (row : List Entry) (word : ℤ) → AreApart row → word ≡ least_word
+    → SaysUpTo said facts (entry_fact row) word
 says-none said facts row word apart is = λ k l.
     inl (ap (says (said k)) (unknown-below least_word k row apart (omega (arith, ints))) ∙ says-unknown (said k))
 
-pub says-more : (said facts wanted rest_said rest_wanted : Facts) (word here there end : ℤ) (fact other : WordFact) → SaysUpTo said facts wanted word
+pub says-more : (said facts wanted rest_said rest_wanted : Facts) (word here there end : ℤ) (fact other : WordFact)
+    → SaysUpTo said facts wanted word
     → ((k : ℤ) → word ≤ℤ k → rest_said k ≡ said k) → ((k : ℤ) → word ≤ℤ k → rest_wanted k ≡ wanted k)
-    → ((k : ℤ) → word ≤ℤ k → k <ℤ here → rest_said k ≡ fact) → ((k : ℤ) → word ≤ℤ k → k <ℤ there → rest_wanted k ≡ other)
+    → ((k : ℤ) → word ≤ℤ k → k <ℤ here → rest_said k ≡ fact)
+        → ((k : ℤ) → word ≤ℤ k → k <ℤ there → rest_wanted k ≡ other)
     → end ≤ℤ here → end ≤ℤ there
-    → ((k : ℤ) → word ≤ℤ k → k <ℤ end → (says fact other ≡ true) ⊎ (says (facts k) other ≡ true)) → SaysUpTo said facts wanted end
-says-more said facts wanted rest_said rest_wanted word here there end fact other earlier said_same wanted_same said_is wanted_is e_here e_there stretch = λ k l.
+    → ((k : ℤ) → word ≤ℤ k → k <ℤ end → (says fact other ≡ true) ⊎ (says (facts k) other ≡ true))
+        → SaysUpTo said facts wanted end
+says-more said facts wanted rest_said rest_wanted word here there end fact other earlier said_same wanted_same said_is
+    wanted_is e_here e_there stretch = λ k l.
     by_lt_z k word (λ low. earlier k low) (λ high.
     let s : said k ≡ fact = sym (said_same k high) ∙ said_is k high (omega (arith, ints)) in
     let w : wanted k ≡ other = sym (wanted_same k high) ∙ wanted_is k high (omega (arith, ints)) in
@@ -194,11 +238,15 @@ says-more said facts wanted rest_said rest_wanted word here there end fact other
       | inr p ↦ inr (rw w p)
     ])
 
-pub says-all : (said facts : Facts) (row rest : List Entry) (word : ℤ) → SaysUpTo said facts (entry_fact row) word → rest ≡ [] → ((k : ℤ) → word ≤ℤ k → entry_fact rest k ≡ entry_fact row k) → OneSaysAll said facts (entry_fact row)
+pub says-all : (said facts : Facts) (row rest : List Entry) (word : ℤ) → SaysUpTo said facts (entry_fact row) word
+    → rest ≡ [] → ((k : ℤ) → word ≤ℤ k → entry_fact rest k ≡ entry_fact row k) → OneSaysAll said facts (entry_fact row)
 says-all said facts row rest word earlier none same = λ k. by_lt_z k word (λ low. earlier k low) (λ high.
-    inl (ap (says (said k)) (sym (same k high) ∙ ap (λ (es : List Entry). entry_fact es k) none) ∙ says-unknown (said k)))
+    inl (ap (says (said k)) (sym (same k high) ∙ ap (λ (es : List Entry). entry_fact es k) none)
+        ∙ says-unknown (said k)))
 
-pub says-less : (facts wanted rest_wanted : Facts) (word there end : ℤ) (other : WordFact) → ((k : ℤ) → word ≤ℤ k → rest_wanted k ≡ wanted k) → ((k : ℤ) → word ≤ℤ k → k <ℤ there → rest_wanted k ≡ other) → end ≤ℤ there
+pub says-less : (facts wanted rest_wanted : Facts) (word there end : ℤ) (other : WordFact)
+    → ((k : ℤ) → word ≤ℤ k → rest_wanted k ≡ wanted k) → ((k : ℤ) → word ≤ℤ k → k <ℤ there → rest_wanted k ≡ other)
+    → end ≤ℤ there
     → (k : ℤ) × (word ≤ℤ k) × (k <ℤ end) × (says (facts k) other ≡ false) → SaysLess facts wanted
 says-less facts wanted rest_wanted word there end other wanted_same wanted_is e_there h =
     let high : h.0 <ℤ there = let l = h.2 in omega (arith, ints) in

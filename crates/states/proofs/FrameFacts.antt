@@ -1,5 +1,6 @@
 -- What is known of the words of a frame, written over a label's row.
-use Rattle.std.proofs.Common.{◌≡◌, ℕ, ℤ, pos, negsuc, ◌+ℤ◌, ◌-ℤ◌, ◌≤ℤ◌, ◌<ℤ◌, nat_abs, Bool, true, false, ◌&&◌, cond, eqb, List, [], Some, None, refl, sym, ap, ◌∙◌, arith, ◌⊎◌, inl, inr}
+use Rattle.std.proofs.Common.{◌≡◌, ℕ, ℤ, pos, negsuc, ◌+ℤ◌, ◌-ℤ◌, ◌≤ℤ◌, ◌<ℤ◌, nat_abs, Bool, true, false, ◌&&◌, cond}
+use Rattle.std.proofs.Common.{eqb, List, [], Some, None, refl, sym, ap, ◌∙◌, arith, ◌⊎◌, inl, inr}
 use std.Path.{fun_ext}
 use Rattle.std.specs.Prelude.{int_le, option_map, unwrap_or}
 use Rattle.std.proofs.lemmas.Bool.{cases_eq, cases_lt}
@@ -34,12 +35,16 @@ nothing : (z : ℤ) → fact_of_index [] z ≡ None
 nothing (pos n) = refl
 nothing (negsuc n) = refl
 
-pub facts_over-empty : (lo : ℤ) (row : List Entry) (written : List Written) → written ≡ [] → facts_over lo row written ≡ entry_fact row
-facts_over-empty lo row written none = fun_ext (λ k. ap (λ o. unwrap_or (option_map Alone o) (entry_fact row k)) (ap (λ ws. fact_of_index ws (k -ℤ lo)) none ∙ nothing (k -ℤ lo)))
+pub facts_over-empty : (lo : ℤ) (row : List Entry) (written : List Written) → written ≡ []
+    → facts_over lo row written ≡ entry_fact row
+facts_over-empty lo row written none = fun_ext (λ k. ap (λ o. unwrap_or (option_map Alone o) (entry_fact row k))
+    (ap (λ ws. fact_of_index ws (k -ℤ lo)) none ∙ nothing (k -ℤ lo)))
 
 -- one more written
-write-at : (written new : List Written) (fact : Fact) (rest : WordFact) (lo word k : ℤ) (i : ℕ) (z : ℤ) → z ≡ k -ℤ lo → word ≡ lo +ℤ pos i → ((j : ℕ) → lookup new j ≡ cond (eqb j i) (Some fact) (lookup written j))
-    → unwrap_or (option_map Alone (fact_of_index new z)) rest ≡ cond (is_word k word) (Alone fact) (unwrap_or (option_map Alone (fact_of_index written z)) rest)
+write-at : (written new : List Written) (fact : Fact) (rest : WordFact) (lo word k : ℤ) (i : ℕ) (z : ℤ) → z ≡ k -ℤ lo
+    → word ≡ lo +ℤ pos i → ((j : ℕ) → lookup new j ≡ cond (eqb j i) (Some fact) (lookup written j))
+    → unwrap_or (option_map Alone (fact_of_index new z)) rest
+        ≡ cond (is_word k word) (Alone fact) (unwrap_or (option_map Alone (fact_of_index written z)) rest)
 write-at written new fact rest lo word k i (pos n) z_is word_is each = elim (cases_eq n i) [
   | inl e ↦
       let yes : eqb n i ≡ true = grind (arith, nat_tests) in
@@ -52,11 +57,14 @@ write-at written new fact rest lo word k i (pos n) z_is word_is each = elim (cas
       ] in
       rw (each n, no, other) refl
 ]
-write-at written new fact rest lo word k i (negsuc n) z_is word_is each = rw (is_word-below k word (omega (arith, ints))) refl
+write-at written new fact rest lo word k i (negsuc n) z_is word_is each =
+    rw (is_word-below k word (omega (arith, ints))) refl
 
-pub facts_over-write : (lo word : ℤ) (row : List Entry) (written new : List Written) (fact : Fact) (i : ℕ) → word ≡ lo +ℤ pos i → ((j : ℕ) → lookup new j ≡ cond (eqb j i) (Some fact) (lookup written j))
+pub facts_over-write : (lo word : ℤ) (row : List Entry) (written new : List Written) (fact : Fact) (i : ℕ)
+    → word ≡ lo +ℤ pos i → ((j : ℕ) → lookup new j ≡ cond (eqb j i) (Some fact) (lookup written j))
     → facts_over lo row new ≡ with_alone word fact (facts_over lo row written)
-facts_over-write lo word row written new fact i is each = fun_ext (λ k. write-at written new fact (entry_fact row k) lo word k i (k -ℤ lo) refl is each)
+facts_over-write lo word row written new fact i is each =
+    fun_ext (λ k. write-at written new fact (entry_fact row k) lo word k i (k -ℤ lo) refl is each)
 
 -- ---- the words of loops
 
@@ -67,7 +75,9 @@ word-cases j k = by_lt_z j k (λ l. inr (is_word-below j k l)) (λ h. by_lt_z k 
     inl (is_word-same j k same, same)))
 
 -- a word of a loop that is parted from the other one
-pub parted-place : (is_such : WordFact → Bool) (k : ℤ) (facts new : Facts) (fact : WordFact) (alone : Fact) → fact ≡ facts k → true ≡ is_such fact → alone ≡ by_itself fact → new ≡ with_alone k alone facts → new ≡ parted is_such k facts
+pub parted-place : (is_such : WordFact → Bool) (k : ℤ) (facts new : Facts) (fact : WordFact) (alone : Fact)
+    → fact ≡ facts k → true ≡ is_such fact → alone ≡ by_itself fact → new ≡ with_alone k alone facts
+    → new ≡ parted is_such k facts
 parted-place is_such k facts new fact alone is such by_is placed = placed ∙ fun_ext (λ j. elim (word-cases j k) [
   | inl h ↦
       let here : facts j ≡ fact = ap facts h.1 ∙ sym is in
@@ -75,7 +85,8 @@ parted-place is_such k facts new fact alone is such by_is placed = placed ∙ fu
   | inr h ↦ rw h refl
 ])
 
-pub parted-none : (is_such : WordFact → Bool) (k : ℤ) (facts : Facts) (fact : WordFact) → fact ≡ facts k → false ≡ is_such fact → facts ≡ parted is_such k facts
+pub parted-none : (is_such : WordFact → Bool) (k : ℤ) (facts : Facts) (fact : WordFact) → fact ≡ facts k
+    → false ≡ is_such fact → facts ≡ parted is_such k facts
 parted-none is_such k facts fact is such = fun_ext (λ j. elim (word-cases j k) [
   | inl h ↦
       let here : facts j ≡ fact = ap facts h.1 ∙ sym is in
@@ -87,21 +98,24 @@ parted-none is_such k facts fact is such = fun_ext (λ j. elim (word-cases j k) 
 abbrev parted_if : Bool → (WordFact → Bool) → WordFact → WordFact
 parted_if here is_such fact = cond (here && is_such fact) (Alone (by_itself fact)) fact
 
-part-alone : (before behind : Bool) (fact : Fact) → parted_if behind is_count (parted_if before is_index (Alone fact)) ≡ Alone fact
+part-alone : (before behind : Bool) (fact : Fact)
+    → parted_if behind is_count (parted_if before is_index (Alone fact)) ≡ Alone fact
 part-alone true true fact = refl
 part-alone true false fact = refl
 part-alone false true fact = refl
 part-alone false false fact = refl
 
 part-index : (before behind : Bool) (loop : Loop)
-    → parted_if behind is_count (parted_if before is_index (Index loop)) ≡ cond before (Alone (by_itself (Index loop))) (Index loop)
+    → parted_if behind is_count (parted_if before is_index (Index loop))
+        ≡ cond before (Alone (by_itself (Index loop))) (Index loop)
 part-index true true loop = refl
 part-index true false loop = refl
 part-index false true loop = refl
 part-index false false loop = refl
 
 part-count : (before behind : Bool) (loop : Loop)
-    → parted_if behind is_count (parted_if before is_index (Count loop)) ≡ cond behind (Alone (by_itself (Count loop))) (Count loop)
+    → parted_if behind is_count (parted_if before is_index (Count loop))
+        ≡ cond behind (Alone (by_itself (Count loop))) (Count loop)
 part-count true true loop = refl
 part-count true false loop = refl
 part-count false true loop = refl
@@ -122,7 +136,9 @@ before-behind w j = elim (word-cases j (w -ℤ pos 1)) [
 ]
 
 -- what is known of a word once those are parted that are in a loop with word w
-parted-word : (w j : ℤ) (fact : WordFact) → parted_if (is_word j (w +ℤ pos 1)) is_count (parted_if (is_word j (w -ℤ pos 1)) is_index fact) ≡ cond (is_tied j fact w) (Alone (by_itself fact)) fact
+parted-word : (w j : ℤ) (fact : WordFact)
+    → parted_if (is_word j (w +ℤ pos 1)) is_count (parted_if (is_word j (w -ℤ pos 1)) is_index fact)
+    ≡ cond (is_tied j fact w) (Alone (by_itself fact)) fact
 parted-word w j (Alone fact) = part-alone (is_word j (w -ℤ pos 1)) (is_word j (w +ℤ pos 1)) fact
 parted-word w j (Index loop) =
     part-index (is_word j (w -ℤ pos 1)) (is_word j (w +ℤ pos 1)) loop
@@ -130,15 +146,18 @@ parted-word w j (Index loop) =
 parted-word w j (Count loop) = part-count (is_word j (w -ℤ pos 1)) (is_word j (w +ℤ pos 1)) loop
 
 -- a word is written once the words are parted that can be in a loop with it
-pub parts-write : (w : ℤ) (fact : Fact) (facts : Facts) → with_alone w fact (parted is_count (w +ℤ pos 1) (parted is_index (w -ℤ pos 1) facts)) ≡ with_fact w fact facts
+pub parts-write : (w : ℤ) (fact : Fact) (facts : Facts)
+    → with_alone w fact (parted is_count (w +ℤ pos 1) (parted is_index (w -ℤ pos 1) facts)) ≡ with_fact w fact facts
 parts-write w fact facts = fun_ext (λ j. elim (word-cases j w) [
   | inl h ↦ rw h.0 refl
   | inr h ↦ rw h (parted-word w j (facts j))
 ])
 
 -- the same, step by step
-pub write-steps : (w here before behind : ℤ) (fact : Fact) (facts first second new : Facts) → here ≡ w → before ≡ w -ℤ pos 1 → behind ≡ w +ℤ pos 1
-    → first ≡ parted is_index before facts → second ≡ parted is_count behind first → new ≡ with_alone here fact second → new ≡ with_fact w fact facts
+pub write-steps : (w here before behind : ℤ) (fact : Fact) (facts first second new : Facts) → here ≡ w
+    → before ≡ w -ℤ pos 1 → behind ≡ w +ℤ pos 1
+    → first ≡ parted is_index before facts → second ≡ parted is_count behind first → new ≡ with_alone here fact second
+        → new ≡ with_fact w fact facts
 write-steps w here before behind fact facts first second new here_is before_is behind_is one two three =
     three ∙ (rw (here_is, two, behind_is, one, before_is) (parts-write w fact facts))
 
@@ -155,11 +174,13 @@ distance a b n h e = distance-of a b (a -ℤ b) n h refl e
 abbrev Say : Facts → WordFact → ℤ → ℤ → Type 0
 Say facts wanted word end = (j : ℤ) → word ≤ℤ j → j <ℤ end → says (facts j) wanted ≡ true
 
-pub say-more : (facts : Facts) (wanted : WordFact) (word k next : ℤ) (fact : WordFact) → Say facts wanted word k → fact ≡ facts k → says fact wanted ≡ true → next ≡ k +ℤ pos 1 → Say facts wanted word next
+pub say-more : (facts : Facts) (wanted : WordFact) (word k next : ℤ) (fact : WordFact) → Say facts wanted word k
+    → fact ≡ facts k → says fact wanted ≡ true → next ≡ k +ℤ pos 1 → Say facts wanted word next
 say-more facts wanted word k next fact before is holds next_is = λ j l h. by_lt_z j k (λ low. before j l low) (λ high.
     let same : j ≡ k = omega (arith, ints) in
     ap (λ f. says f wanted) (ap facts same ∙ sym is) ∙ holds)
 
-pub say-fails : (facts : Facts) (wanted : WordFact) (word k end : ℤ) (fact : WordFact) → word ≤ℤ k → k <ℤ end → fact ≡ facts k → false ≡ says fact wanted
+pub say-fails : (facts : Facts) (wanted : WordFact) (word k end : ℤ) (fact : WordFact) → word ≤ℤ k → k <ℤ end
+    → fact ≡ facts k → false ≡ says fact wanted
     → (j : ℤ) × (word ≤ℤ j) × (j <ℤ end) × (says (facts j) wanted ≡ false)
 say-fails facts wanted word k end fact l h is fails = (k, l, h, ap (λ f. says f wanted) (sym is) ∙ sym fails)

@@ -1,11 +1,13 @@
 -- The label rows of a module: what the format says of their entries.
-use Rattle.std.proofs.Common.{◌≡◌, ℕ, ◌<◌, ℤ, pos, ◌+ℤ◌, ◌≤ℤ◌, ◌<ℤ◌, Bool, true, false, cond, List, [], ◌∷◌, length, get_or, map, Option, Some, None, zero, suc, refl, sym, ap, ◌∙◌, subst, arith, inl, inr}
+use Rattle.std.proofs.Common.{◌≡◌, ℕ, ◌<◌, ℤ, pos, ◌+ℤ◌, ◌≤ℤ◌, ◌<ℤ◌, Bool, true, false, cond, List, [], ◌∷◌, length}
+use Rattle.std.proofs.Common.{get_or, map, Option, Some, None, zero, suc, refl, sym, ap, ◌∙◌, subst, arith, inl, inr}
 use Rattle.std.specs.Prelude.{MatchOption, find, ◌==◌}
 use Rattle.std.specs.List.{AllByRecursion}
 use Rattle.std.proofs.lemmas.Bool.{cases_Bool}
 use Rattle.std.proofs.lemmas.Int.{ints}
 use Rattle.module_format.specs.declared.fact.Fact.{Fact}
-use Rattle.module_format.specs.declared.fact.Fact.TheVariants.{Unknown, Number, Pointer, CodeAddress, Loop, ReturnAddress}
+use Rattle.module_format.specs.declared.fact.Fact.TheVariants.{Unknown, Number, Pointer, CodeAddress, Loop}
+use Rattle.module_format.specs.declared.fact.Fact.TheVariants.{ReturnAddress}
 use Rattle.module_format.specs.declared.rows.Entry.{Entry}
 use Rattle.module_format.specs.declared.rows.LabelRow.{LabelRow}
 use Rattle.module_format.specs.declared.contexts.Context.{Context}
@@ -22,11 +24,14 @@ use Rattle.states.specs.Rows.{rise_from, LoopFits, IsRowOf}
 use Rattle.states.proofs.RowFacts.{and-parts, and-both, le-yes, lt-yes, le-from, lt-from}
 
 -- entries that keep the format are apart
-pub entries-apart : (code_len : ℕ) (low : ℤ) (entries : List Entry) → InOrder (EntryKeeps code_len) behind_entry low entries → rise_from low entries ≡ true
+pub entries-apart : (code_len : ℕ) (low : ℤ) (entries : List Entry)
+    → InOrder (EntryKeeps code_len) behind_entry low entries → rise_from low entries ≡ true
 entries-apart code_len low [] keeps = refl
-entries-apart code_len low (entry ∷ entries) keeps = and-both _ _ (le-yes low entry.word keeps.0.apart) (entries-apart code_len (end_of entry) entries keeps.1)
+entries-apart code_len low (entry ∷ entries) keeps =
+    and-both _ _ (le-yes low entry.word keeps.0.apart) (entries-apart code_len (end_of entry) entries keeps.1)
 
-said-fits : (code_len span : ℕ) (fact : Fact) (is_first : Bool) → WordKeeps code_len span fact → LoopFits (said_of fact is_first)
+said-fits : (code_len span : ℕ) (fact : Fact) (is_first : Bool) → WordKeeps code_len span fact
+    → LoopFits (said_of fact is_first)
 said-fits code_len span Unknown is_first h = tt
 said-fits code_len span (Number lo hi) is_first h = tt
 said-fits code_len span (Pointer region lo hi step) is_first h = tt
@@ -35,16 +40,20 @@ said-fits code_len span (Loop base count weight) true h = h.1
 said-fits code_len span (Loop base count weight) false h = h.1
 said-fits code_len span ReturnAddress is_first h = tt
 
-entries-fit : (code_len : ℕ) (low k : ℤ) (entries : List Entry) → InOrder (EntryKeeps code_len) behind_entry low entries → LoopFits (entry_fact entries k)
+entries-fit : (code_len : ℕ) (low k : ℤ) (entries : List Entry) → InOrder (EntryKeeps code_len) behind_entry low entries
+    → LoopFits (entry_fact entries k)
 entries-fit code_len low k [] keeps = tt
-entries-fit code_len low k (entry ∷ entries) keeps = choose _ _ (is_about entry k) (said-fits code_len entry.span entry.fact (is_word entry.word k) keeps.0.fact) (entries-fit code_len (end_of entry) k entries keeps.1)
+entries-fit code_len low k (entry ∷ entries) keeps =
+    choose _ _ (is_about entry k) (said-fits code_len entry.span entry.fact (is_word entry.word k) keeps.0.fact)
+    (entries-fit code_len (end_of entry) k entries keeps.1)
   where
     choose : (f g : WordFact) (b : Bool) → LoopFits f → LoopFits g → LoopFits (cond b f g)
     choose f g true x y = x
     choose f g false x y = y
 
 -- no entry is about a word outside the frame
-outside-unknown : (context : Context) (entries : List Entry) (k : ℤ) → AllByRecursion (EntryFits context) entries → has_word (Some context) k ≡ false → entry_fact entries k ≡ Alone Unknown
+outside-unknown : (context : Context) (entries : List Entry) (k : ℤ) → AllByRecursion (EntryFits context) entries
+    → has_word (Some context) k ≡ false → entry_fact entries k ≡ Alone Unknown
 outside-unknown context [] k all out = refl
 outside-unknown context (entry ∷ entries) k all out = elim (cases_Bool (is_about entry k)) [
   | inl e ↦
@@ -56,14 +65,18 @@ outside-unknown context (entry ∷ entries) k all out = elim (cases_Bool (is_abo
       let inside : has_word (Some context) k ≡ true = and-both _ _ (le-yes context.lo k a) (lt-yes k context.hi b) in
       let clash : true ≡ false = sym inside ∙ out in
       absurd (cc)
-  | inr e ↦ ap (λ (b : Bool). cond b (said_of entry.fact (is_word entry.word k)) (entry_fact entries k)) e ∙ outside-unknown context entries k all.1 out
+  | inr e ↦ ap (λ (b : Bool). cond b (said_of entry.fact (is_word entry.word k)) (entry_fact entries k)) e
+      ∙ outside-unknown context entries k all.1 out
 ]
 
-fits-outside : (t : Label) (k : ℤ) (o : Option Context) → MatchOption o ⊥ (RowFits t) → has_word o k ≡ false → entry_fact t.entries k ≡ Alone Unknown
+fits-outside : (t : Label) (k : ℤ) (o : Option Context) → MatchOption o ⊥ (RowFits t) → has_word o k ≡ false
+    → entry_fact t.entries k ≡ Alone Unknown
 fits-outside t k None fits out = absurd fits
 fits-outside t k (Some context) fits out = outside-unknown context t.entries k fits.entries out
 
-rows-of : (m : Contents) (code_len : ℕ) (procedures : List Procedure) (low : ℕ) (rows : List Label) → InOrder (LabelKeeps code_len procedures) behind_label low rows → AllByRecursion (LabelFits m) rows → AllByRecursion (IsRowOf m) rows
+rows-of : (m : Contents) (code_len : ℕ) (procedures : List Procedure) (low : ℕ) (rows : List Label)
+    → InOrder (LabelKeeps code_len procedures) behind_label low rows → AllByRecursion (LabelFits m) rows
+    → AllByRecursion (IsRowOf m) rows
 rows-of m code_len procedures low [] keeps fits = tt
 rows-of m code_len procedures low (t ∷ rows) keeps fits = (
   record {
@@ -78,25 +91,31 @@ rows-of m code_len procedures low (t ∷ rows) keeps fits = (
 pub label_rows : (m : Contents) → Keeps m → AllByRecursion (IsRowOf m) m.labels
 label_rows m k = rows-of m (length m.code) m.procedures 0 m.labels k.rows.labels k.names.labels
 
-row-found : (m : Contents) (at : ℕ) (rows : List Label) (t : Label) → AllByRecursion (IsRowOf m) rows → find (λ row. row.offset == at) rows ≡ Some t → IsRowOf m t
+row-found : (m : Contents) (at : ℕ) (rows : List Label) (t : Label) → AllByRecursion (IsRowOf m) rows
+    → find (λ row. row.offset == at) rows ≡ Some t → IsRowOf m t
 row-found m at [] t all h = absurd (cc)
 row-found m at (row ∷ rows) t all h = elim (cases_Bool (row.offset == at)) [
   | inl e ↦
-      let here : Some row ≡ Some t = sym (ap (λ (b : Bool). cond b (Some row) (find (λ row. row.offset == at) rows)) e) ∙ h in
+      let here : Some row ≡ Some t =
+          sym (ap (λ (b : Bool). cond b (Some row) (find (λ row. row.offset == at) rows)) e) ∙ h in
       let same : row ≡ t = cc in
       subst (λ (r : Label). IsRowOf m r) same all.0
-  | inr e ↦ row-found m at rows t all.1 (sym (ap (λ (b : Bool). cond b (Some row) (find (λ row. row.offset == at) rows)) e) ∙ h)
+  | inr e ↦ row-found m at rows t all.1 (sym (ap (λ (b : Bool). cond b (Some row)
+      (find (λ row. row.offset == at) rows)) e) ∙ h)
 ]
 
 -- so does the label at an offset
 pub label_row_at : (m : Contents) (at : ℕ) (t : Label) → Keeps m → label_at m at ≡ Some t → IsRowOf m t
 label_row_at m at t k h = row-found m at m.labels t (label_rows m k) h
 
-row-at : (m : Contents) (rows : List LabelRow) (i : ℕ) (d : LabelRow) → AllByRecursion (IsRowOf m) (map label_of rows) → i < length rows → IsRowOf m (label_of (get_or rows i d))
+row-at : (m : Contents) (rows : List LabelRow) (i : ℕ) (d : LabelRow) → AllByRecursion (IsRowOf m) (map label_of rows)
+    → i < length rows → IsRowOf m (label_of (get_or rows i d))
 row-at m [] i d all h = absurd (omega arith)
 row-at m (row ∷ rows) zero d all h = all.0
 row-at m (row ∷ rows) (suc i) d all h = row-at m rows i d all.1 (omega arith)
 
 -- and each row in memory
-pub label_row_of : (m : Contents) (rows : List LabelRow) (i : ℕ) (d : LabelRow) → Keeps m → m.labels ≡ map label_of rows → i < length rows → IsRowOf m (label_of (get_or rows i d))
-label_row_of m rows i d k is h = row-at m rows i d (subst (λ (ls : List Label). AllByRecursion (IsRowOf m) ls) is (label_rows m k)) h
+pub label_row_of : (m : Contents) (rows : List LabelRow) (i : ℕ) (d : LabelRow) → Keeps m → m.labels ≡ map label_of rows
+    → i < length rows → IsRowOf m (label_of (get_or rows i d))
+label_row_of m rows i d k is h =
+    row-at m rows i d (subst (λ (ls : List Label). AllByRecursion (IsRowOf m) ls) is (label_rows m k)) h

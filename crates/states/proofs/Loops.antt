@@ -22,7 +22,8 @@ pub loop-at : (facts : Facts) (k : ℤ) → ∥ ((k : ℤ) → LoopFits (facts k
 loop-at facts k h = ∥∥₁_elim h (loop_fits_prop (facts k)) (λ each. each k)
 
 -- what was written is alone
-pub loop-below : (o : Option Fact) (said : WordFact) → is_alone (unwrap_or (option_map Alone o) said) ≡ false → is_alone said ≡ false
+pub loop-below : (o : Option Fact) (said : WordFact) → is_alone (unwrap_or (option_map Alone o) said) ≡ false
+    → is_alone said ≡ false
 loop-below None said h = h
 loop-below (Some fact) said h = absurd (cc)
 
@@ -31,7 +32,8 @@ fits-over None said h = h
 fits-over (Some fact) said h = tt
 
 -- the words of a loop can be written
-pub room-of : (frame : Frame) (k : ℤ) (fact : WordFact) → fact ≡ frame_facts frame k → is_alone fact ≡ false → HasRoom frame k
+pub room-of : (frame : Frame) (k : ℤ) (fact : WordFact) → fact ≡ frame_facts frame k → is_alone fact ≡ false
+    → HasRoom frame k
 room-of frame k fact is loop =
     let inside = frame.inside k (loop-below _ _ (ap is_alone (sym is) ∙ loop)) in
     record { low = inside.0; high = inside.1 }

@@ -1,5 +1,7 @@
 -- Where procedures begin: their contexts, and the words of their parameters.
-use Rattle.std.proofs.Common.{◌≡◌, ℕ, zero, suc, ◌+◌, ◌-◌, ◌<◌, ◌≤◌, ℤ, pos, ◌≤ℤ◌, ◌<ℤ◌, true, false, List, [], ◌∷◌, ◌++◌, length, get_or, drop, Some, refl, sym, ap, ◌∙◌, subst, arith, append_assoc, length-append}
+use Rattle.std.proofs.Common.{◌≡◌, ℕ, zero, suc, ◌+◌, ◌-◌, ◌<◌, ◌≤◌, ℤ, pos, ◌≤ℤ◌, ◌<ℤ◌, true, false, List, [], ◌∷◌}
+use Rattle.std.proofs.Common.{◌++◌, length, get_or, drop, Some, refl, sym, ap, ◌∙◌, subst, arith, append_assoc}
+use Rattle.std.proofs.Common.{length-append}
 use std.Path.{fun_ext}
 use Rattle.std.specs.Prelude.{slice_get, nat_lt, ◌==◌}
 use Rattle.std.proofs.Math.Seq.{drop-append_seam, get_or-append_seam, drop-length}
@@ -30,12 +32,14 @@ use Rattle.states.proofs.RowFacts.{and-both, le-yes, lt-yes}
 owner-below : (first : ℕ) (rows : List Par) (n : ℕ) → n < first → owner first rows n ≡ n
 owner-below first [] n h = refl
 owner-below first (row ∷ rows) n h =
-    let within : owner (first + length row.branches) rows n ≡ n = owner-below (first + length row.branches) rows n (omega arith) in
+    let within : owner (first + length row.branches) rows n ≡ n =
+        owner-below (first + length row.branches) rows n (omega arith) in
     let low : nat_lt n first ≡ true = grind (arith, nat_tests) in
     rw (within, low) refl
 
 -- the context of a procedure
-pub procedure-at : (m : Contents) (n : ℕ) (p : Procedure) → 1 ≤ n → slice_get m.procedures (n - 1) ≡ Some p → context_at m n ≡ Some (procedure_context p)
+pub procedure-at : (m : Contents) (n : ℕ) (p : Procedure) → 1 ≤ n → slice_get m.procedures (n - 1) ≡ Some p
+    → context_at m n ≡ Some (procedure_context p)
 unfolding context_at
 procedure-at m n p some is =
     let inside = slice_get_within m.procedures (n - 1) p is in
@@ -47,22 +51,28 @@ procedure-at m n p some is =
 -- ---- the words of parameters
 
 -- what a row keeps, wherever it stands
-at-row : (version : Version) (code_len low : ℕ) (rows : List Procedure) (i : ℕ) (p : Procedure) → InOrder (ProcedureKeeps version code_len) behind_procedure low rows → slice_get rows i ≡ Some p → (l : ℕ) × ProcedureKeeps version code_len l p
+at-row : (version : Version) (code_len low : ℕ) (rows : List Procedure) (i : ℕ) (p : Procedure)
+    → InOrder (ProcedureKeeps version code_len) behind_procedure low rows → slice_get rows i ≡ Some p
+    → (l : ℕ) × ProcedureKeeps version code_len l p
 at-row version code_len low [] i p all h = absurd (cc)
 at-row version code_len low (row ∷ rows) zero p all h =
     let same : row ≡ p = cc in
     (low, subst (λ (r : Procedure). ProcedureKeeps version code_len low r) same all.0)
 at-row version code_len low (row ∷ rows) (suc i) p all h = at-row version code_len row.entry rows i p all.1 h
 
-parameter-inside : (version : Version) (hi : ℤ) (low : ℕ) (ps : List Parameter) (i : ℕ) (d : Parameter) → InOrder (ParameterKeeps version hi) behind_parameter low ps → i < length ps → pos (get_or ps i d).word <ℤ hi
+parameter-inside : (version : Version) (hi : ℤ) (low : ℕ) (ps : List Parameter) (i : ℕ) (d : Parameter)
+    → InOrder (ParameterKeeps version hi) behind_parameter low ps → i < length ps → pos (get_or ps i d).word <ℤ hi
 parameter-inside version hi low [] i d all h = absurd (omega arith)
 parameter-inside version hi low (q ∷ ps) zero d all h = all.0.inside
 parameter-inside version hi low (q ∷ ps) (suc i) d all h = parameter-inside version hi q.word ps i d all.1 (omega arith)
 
 -- a word from 0 on that lies in the procedure's frame can be written
-word-room : (m : Contents) (s : InMemory) (n : ℕ) (p : Procedure) (word : ℕ) → BelongsTo m s → context_at m n ≡ Some (procedure_context p) → p.lo ≤ℤ pos 0 → pos word <ℤ p.hi → HasRoom s.frame (pos word)
+word-room : (m : Contents) (s : InMemory) (n : ℕ) (p : Procedure) (word : ℕ) → BelongsTo m s
+    → context_at m n ≡ Some (procedure_context p) → p.lo ≤ℤ pos 0 → pos word <ℤ p.hi → HasRoom s.frame (pos word)
 word-room m s n p word b is low high =
-    let own : has_word (context_at m n) (pos word) ≡ true = ap (λ o. has_word o (pos word)) is ∙ and-both _ _ (le-yes p.lo (pos word) (omega (arith, ints))) (lt-yes (pos word) p.hi high) in
+    let own : has_word (context_at m n) (pos word) ≡ true =
+        ap (λ o. has_word o (pos word)) is
+        ∙ and-both _ _ (le-yes p.lo (pos word) (omega (arith, ints))) (lt-yes (pos word) p.hi high) in
     (b.room n (pos word) own).room
 
 -- what becomes of a state where a procedure begins
@@ -71,36 +81,48 @@ pub record Begins (s : InMemory) (p : Procedure) : Type 0 where
   pub each : HasRoomForAll s.frame p.parameters
   pub few : length p.parameters ≤ 64
 
-pub begins : (m : Contents) (s : InMemory) (n : ℕ) (p : Procedure) → Keeps m → BelongsTo m s → 1 ≤ n → slice_get m.procedures (n - 1) ≡ Some p → Begins s p
+pub begins : (m : Contents) (s : InMemory) (n : ℕ) (p : Procedure) → Keeps m → BelongsTo m s → 1 ≤ n
+    → slice_get m.procedures (n - 1) ≡ Some p → Begins s p
 begins m s n p k b some is =
     let context = procedure-at m n p some is in
     let row = (at-row m.version (length m.code) 0 m.procedures (n - 1) p k.rows.procedures is).1 in
     record {
       first = word-room m s n p 0 b context row.lo_high (let h = row.hi_low in omega (arith, ints));
-      each = record { each = λ i h d. word-room m s n p (get_or p.parameters i d).word b context row.lo_high (parameter-inside m.version p.hi 0 p.parameters i d row.parameters h) };
+      each = record { each = λ i h d. word-room m s n p (get_or p.parameters i d).word b context row.lo_high
+          (parameter-inside m.version p.hi 0 p.parameters i d row.parameters h) };
       few = row.few;
     }
 
 -- ---- parameters one by one, from the last to the first
 
 -- before the last
-pub parameters-none : (ps rest : List Parameter) (facts : Facts) → rest ≡ ps → facts ≡ entry_fact [] → (ps ≡ rest ++ drop (length rest) ps) × (facts ≡ parameter_facts (2 + length rest) (drop (length rest) ps))
+pub parameters-none : (ps rest : List Parameter) (facts : Facts) → rest ≡ ps → facts ≡ entry_fact []
+    → (ps ≡ rest ++ drop (length rest) ps) × (facts ≡ parameter_facts (2 + length rest) (drop (length rest) ps))
 parameters-none ps rest facts all none =
-    let behind : drop (length rest) ps ≡ [] = ap (λ (qs : List Parameter). drop (length qs) ps) all ∙ drop-length ps in (
+    let behind : drop (length rest) ps ≡ [] =
+        ap (λ (qs : List Parameter). drop (length qs) ps) all ∙ drop-length ps in (
       rw (behind, append-nil) (sym all),
       rw behind (none ∙ fun_ext (λ k. refl)),
     )
 
 -- the parameters with the next one in its place
-split : (ps rest earlier : List Parameter) (last : Parameter) → rest ≡ earlier ++ last ∷ [] → ps ≡ rest ++ drop (length rest) ps → ps ≡ earlier ++ last ∷ drop (length rest) ps
-split ps rest earlier last is front = front ∙ (ap (λ (qs : List Parameter). qs ++ drop (length rest) ps) is ∙ append_assoc earlier (last ∷ []) (drop (length rest) ps))
+split : (ps rest earlier : List Parameter) (last : Parameter) → rest ≡ earlier ++ last ∷ []
+    → ps ≡ rest ++ drop (length rest) ps → ps ≡ earlier ++ last ∷ drop (length rest) ps
+split ps rest earlier last is front = front ∙ (ap (λ (qs : List Parameter). qs ++ drop (length rest) ps) is
+    ∙ append_assoc earlier (last ∷ []) (drop (length rest) ps))
 
-behind-last : (ps rest earlier : List Parameter) (last : Parameter) → rest ≡ earlier ++ last ∷ [] → ps ≡ rest ++ drop (length rest) ps → drop (length earlier) ps ≡ last ∷ drop (length rest) ps
-behind-last ps rest earlier last is front = ap (drop (length earlier)) (split ps rest earlier last is front) ∙ drop-append_seam earlier (last ∷ drop (length rest) ps)
+behind-last : (ps rest earlier : List Parameter) (last : Parameter) → rest ≡ earlier ++ last ∷ []
+    → ps ≡ rest ++ drop (length rest) ps → drop (length earlier) ps ≡ last ∷ drop (length rest) ps
+behind-last ps rest earlier last is front =
+    ap (drop (length earlier)) (split ps rest earlier last is front)
+    ∙ drop-append_seam earlier (last ∷ drop (length rest) ps)
 
-pub parameters-more : (ps rest earlier : List Parameter) (last : Parameter) (facts new : Facts) (word : ℤ) (region : ℕ) (fact : Fact) → rest ≡ earlier ++ last ∷ [] → length earlier + 1 ≡ length rest → ps ≡ rest ++ drop (length rest) ps
-    → facts ≡ parameter_facts (2 + length rest) (drop (length rest) ps) → word ≡ pos last.word → region ≡ 2 + length earlier → fact ≡ parameter_fact region last.kind → new ≡ with_alone word fact facts
-    → (ps ≡ earlier ++ drop (length earlier) ps) × (new ≡ parameter_facts (2 + length earlier) (drop (length earlier) ps))
+pub parameters-more : (ps rest earlier : List Parameter) (last : Parameter) (facts new : Facts) (word : ℤ) (region : ℕ)
+    (fact : Fact) → rest ≡ earlier ++ last ∷ [] → length earlier + 1 ≡ length rest → ps ≡ rest ++ drop (length rest) ps
+    → facts ≡ parameter_facts (2 + length rest) (drop (length rest) ps) → word ≡ pos last.word
+        → region ≡ 2 + length earlier → fact ≡ parameter_fact region last.kind → new ≡ with_alone word fact facts
+    → (ps ≡ earlier ++ drop (length earlier) ps)
+        × (new ≡ parameter_facts (2 + length earlier) (drop (length earlier) ps))
 parameters-more ps rest earlier last facts new word region fact is len front so_far word_is region_is fact_is placed =
     let behind = behind-last ps rest earlier last is front in
     let next : 2 + length rest ≡ 2 + length earlier + 1 = omega arith in (
@@ -109,11 +131,16 @@ parameters-more ps rest earlier last facts new word region fact is len front so_
     )
 
 -- the word of the next one can be written
-pub parameter-room : (old new : Frame) (ps rest earlier : List Parameter) (last : Parameter) (word : ℤ) → HasRoomForAll old ps → SameRoom old new → rest ≡ earlier ++ last ∷ [] → ps ≡ rest ++ drop (length rest) ps → word ≡ pos last.word → HasRoom new word
+pub parameter-room : (old new : Frame) (ps rest earlier : List Parameter) (last : Parameter) (word : ℤ)
+    → HasRoomForAll old ps → SameRoom old new → rest ≡ earlier ++ last ∷ [] → ps ≡ rest ++ drop (length rest) ps
+    → word ≡ pos last.word → HasRoom new word
 parameter-room old new ps rest earlier last word all same is front word_is =
     let whole = split ps rest earlier last is front in
-    let inside : length earlier < length ps = rw whole (omega (arith, length-append earlier (last ∷ drop (length rest) ps))) in
-    let at : get_or ps (length earlier) last ≡ last = ap (λ (qs : List Parameter). get_or qs (length earlier) last) whole ∙ get_or-append_seam earlier last (drop (length rest) ps) last in
+    let inside : length earlier < length ps =
+        rw whole (omega (arith, length-append earlier (last ∷ drop (length rest) ps))) in
+    let at : get_or ps (length earlier) last ≡ last =
+        ap (λ (qs : List Parameter). get_or qs (length earlier) last) whole
+        ∙ get_or-append_seam earlier last (drop (length rest) ps) last in
     let here = subst (λ (q : Parameter). HasRoom old (pos q.word)) at (all.each (length earlier) inside last) in
     let low = here.low in
     let high = here.high in
@@ -122,6 +149,9 @@ parameter-room old new ps rest earlier last word all same is front word_is =
     record { low = omega (arith, ints); high = omega (arith, ints) }
 
 -- all of them, and the return address
-pub parameters-all : (p : Procedure) (rest : List Parameter) (facts new : Facts) (word : ℤ) → length rest ≡ 0 → facts ≡ parameter_facts (2 + length rest) (drop (length rest) p.parameters) → word ≡ pos 0 → new ≡ with_alone word ReturnAddress facts
+pub parameters-all : (p : Procedure) (rest : List Parameter) (facts new : Facts) (word : ℤ) → length rest ≡ 0
+    → facts ≡ parameter_facts (2 + length rest) (drop (length rest) p.parameters) → word ≡ pos 0
+    → new ≡ with_alone word ReturnAddress facts
     → new ≡ procedure_facts p
-parameters-all p rest facts new word none so_far word_is placed = placed ∙ rw (word_is, so_far, none) (fun_ext (λ k. refl))
+parameters-all p rest facts new word none so_far word_is placed =
+    placed ∙ rw (word_is, so_far, none) (fun_ext (λ k. refl))

@@ -1,5 +1,7 @@
 -- States that are equal field by field, and the words of all contexts.
-use Rattle.std.proofs.Common.{◌≡◌, ℕ, zero, suc, ◌+◌, ◌-◌, ◌<◌, ℤ, ◌≤ℤ◌, ◌<ℤ◌, true, cond, List, [], ◌∷◌, length, get_or, map, Option, Some, None, Result, Ok, Err, refl, sym, ap, ◌∙◌, subst, arith, rules, inl, inr}
+use Rattle.std.proofs.Common.{◌≡◌, ℕ, zero, suc, ◌+◌, ◌-◌, ◌<◌, ℤ, ◌≤ℤ◌, ◌<ℤ◌, true, cond, List, [], ◌∷◌, length}
+use Rattle.std.proofs.Common.{get_or, map, Option, Some, None, Result, Ok, Err, refl, sym, ap, ◌∙◌, subst, arith, rules}
+use Rattle.std.proofs.Common.{inl, inr}
 use Rattle.std.specs.Prelude.{slice_get, option_map, nat_lt, ◌==◌, FitsSigned}
 use Rattle.std.specs.Int.{w32}
 use Rattle.std.specs.Result.{result_ok, OkIff}
@@ -21,7 +23,8 @@ use Rattle.states.proofs.RowFacts.{and-parts, le-from, lt-from}
 
 -- a state whose fields are those of one with a word written is that one
 pub written-fields : (word w v : ℤ) (fact : Fact) (s : State) (a b c : Known) (frame : Facts)
-    → a ≡ forgets w s.stack.a → b ≡ forgets w s.stack.b → c ≡ forgets w s.stack.c → frame ≡ with_fact v fact s.frame → w ≡ word → v ≡ word
+    → a ≡ forgets w s.stack.a → b ≡ forgets w s.stack.b → c ≡ forgets w s.stack.c → frame ≡ with_fact v fact s.frame
+        → w ≡ word → v ≡ word
     → ◌≡◌ {A = State} (record s { stack = record { a = a; b = b; c = c }; frame = frame }) (written word fact s)
 unfolding written
 written-fields word w v fact s a b c frame p q r f w_is v_is =
@@ -47,38 +50,50 @@ pub record RowWithin (lo hi : ℤ) (row : ProcedureRow) : Type 0 where
 abbrev pub RowsWithin : ℤ → ℤ → List ProcedureRow → ℕ → Type 0
 RowsWithin lo hi rows n = (i : ℕ) → i < n → (d : ProcedureRow) → RowWithin lo hi (get_or rows i d)
 
-procedure-within : (lo hi : ℤ) (rows : List ProcedureRow) (i : ℕ) (context : Context) → RowsWithin lo hi rows (length rows) → option_map procedure_context (slice_get (map procedure_of rows) i) ≡ Some context → Within lo hi context
+procedure-within : (lo hi : ℤ) (rows : List ProcedureRow) (i : ℕ) (context : Context)
+    → RowsWithin lo hi rows (length rows)
+    → option_map procedure_context (slice_get (map procedure_of rows) i) ≡ Some context → Within lo hi context
 procedure-within lo hi [] i context each h = absurd (cc)
 procedure-within lo hi (row ∷ rows) zero context each h =
     let w = each 0 (omega arith) row in
     let is : procedure_context (procedure_of row) ≡ context = cc in
     subst (λ (x : Context). Within lo hi x) is (record { low = w.low; high = w.high })
-procedure-within lo hi (row ∷ rows) (suc i) context each h = procedure-within lo hi rows i context (λ j l d. each (suc j) (omega arith) d) h
+procedure-within lo hi (row ∷ rows) (suc i) context each h =
+    procedure-within lo hi rows i context (λ j l d. each (suc j) (omega arith) d) h
 
-own-within : (m : Contents) (lo hi : ℤ) (rows : List ProcedureRow) (n : ℕ) (context : Context) → m.procedures ≡ map procedure_of rows → Within lo hi (root_context m) → RowsWithin lo hi rows (length rows)
+own-within : (m : Contents) (lo hi : ℤ) (rows : List ProcedureRow) (n : ℕ) (context : Context)
+    → m.procedures ≡ map procedure_of rows → Within lo hi (root_context m) → RowsWithin lo hi rows (length rows)
     → own_context m n ≡ Some context → Within lo hi context
 own-within m lo hi rows n context is root each h = elim (cases_Bool (n == 0)) [
   | inl e ↦
-      let chosen : Some (root_context m) ≡ Some context = sym (ap (λ b. cond b (Some (root_context m)) (option_map procedure_context (slice_get m.procedures (n - 1)))) e) ∙ h in
+      let chosen : Some (root_context m) ≡ Some context =
+          sym (ap (λ b. cond b (Some (root_context m)) (option_map procedure_context
+          (slice_get m.procedures (n - 1)))) e) ∙ h in
       let same : root_context m ≡ context = cc in
       subst (λ (x : Context). Within lo hi x) same root
   | inr e ↦
       procedure-within lo hi rows (n - 1) context each
-      (ap (λ ps. option_map procedure_context (slice_get ps (n - 1))) (sym is) ∙ (sym (ap (λ b. cond b (Some (root_context m)) (option_map procedure_context (slice_get m.procedures (n - 1)))) e) ∙ h))
+      (ap (λ ps. option_map procedure_context (slice_get ps (n - 1))) (sym is)
+          ∙ (sym (ap (λ b. cond b (Some (root_context m)) (option_map procedure_context
+          (slice_get m.procedures (n - 1)))) e) ∙ h))
 ]
 
-context-within : (m : Contents) (lo hi : ℤ) (rows : List ProcedureRow) (n : ℕ) (context : Context) → m.procedures ≡ map procedure_of rows → Within lo hi (root_context m) → RowsWithin lo hi rows (length rows)
+context-within : (m : Contents) (lo hi : ℤ) (rows : List ProcedureRow) (n : ℕ) (context : Context)
+    → m.procedures ≡ map procedure_of rows → Within lo hi (root_context m) → RowsWithin lo hi rows (length rows)
     → context_at m n ≡ Some context → Within lo hi context
 unfolding context_at
-context-within m lo hi rows n context is root each h = elim (cases_Bool (nat_lt n (1 + length m.procedures + branch_count m.pars))) [
+context-within m lo hi rows n context is root each h =
+    elim (cases_Bool (nat_lt n (1 + length m.procedures + branch_count m.pars))) [
   | inl e ↦ own-within m lo hi rows (owner (1 + length m.procedures) m.pars n) context is root each
       (sym (ap (λ b. cond b (own_context m (owner (1 + length m.procedures) m.pars n)) None) e) ∙ h)
   | inr e ↦
-      let none : None ≡ Some context = sym (ap (λ b. cond b (own_context m (owner (1 + length m.procedures) m.pars n)) None) e) ∙ h in
+      let none : None ≡ Some context =
+          sym (ap (λ b. cond b (own_context m (owner (1 + length m.procedures) m.pars n)) None) e) ∙ h in
       absurd (cc)
 ]
 
-word-within : (lo hi : ℤ) (o : Option Context) (k : ℤ) → ((context : Context) → o ≡ Some context → Within lo hi context) → has_word o k ≡ true → (lo ≤ℤ k) × (k <ℤ hi)
+word-within : (lo hi : ℤ) (o : Option Context) (k : ℤ) → ((context : Context) → o ≡ Some context → Within lo hi context)
+    → has_word o k ≡ true → (lo ≤ℤ k) × (k <ℤ hi)
 word-within lo hi None k each h = absurd (cc)
 word-within lo hi (Some context) k each h =
     let w = each context refl in
@@ -89,14 +104,19 @@ word-within lo hi (Some context) k each h =
     let above = w.high in
     (omega (arith, ints), omega (arith, ints))
 
-pub covers : (m : Contents) (lo hi : ℤ) (rows : List ProcedureRow) → m.procedures ≡ map procedure_of rows → Within lo hi (root_context m) → RowsWithin lo hi rows (length rows) → Covers m lo hi
+pub covers : (m : Contents) (lo hi : ℤ) (rows : List ProcedureRow) → m.procedures ≡ map procedure_of rows
+    → Within lo hi (root_context m) → RowsWithin lo hi rows (length rows) → Covers m lo hi
 covers m lo hi rows is root each = record {
-  low = λ n k h. (word-within lo hi (context_at m n) k (λ context e. context-within m lo hi rows n context is root each e) h).0;
-  high = λ n k h. (word-within lo hi (context_at m n) k (λ context e. context-within m lo hi rows n context is root each e) h).1;
+  low = λ n k h. (word-within lo hi (context_at m n) k (λ context e.
+      context-within m lo hi rows n context is root each e) h).0;
+  high = λ n k h. (word-within lo hi (context_at m n) k (λ context e.
+      context-within m lo hi rows n context is root each e) h).1;
 }
 
 -- one row more
-pub rows-within-more : (lo hi low high : ℤ) (rows : List ProcedureRow) (n : ℕ) (e : ProcedureRow) → n < length rows → RowsWithin lo hi rows n → low ≤ℤ lo → hi ≤ℤ high → e ≡ get_or rows n e → low ≤ℤ e.lo → e.hi ≤ℤ high → RowsWithin low high rows (n + 1)
+pub rows-within-more : (lo hi low high : ℤ) (rows : List ProcedureRow) (n : ℕ) (e : ProcedureRow) → n < length rows
+    → RowsWithin lo hi rows n → low ≤ℤ lo → hi ≤ℤ high → e ≡ get_or rows n e → low ≤ℤ e.lo → e.hi ≤ℤ high
+    → RowsWithin low high rows (n + 1)
 rows-within-more lo hi low high rows n e inside earlier l h item row_low row_high = λ i less d. elim (cases_lt i n) [
   | inl before ↦
       let w = earlier i before d in
@@ -109,7 +129,8 @@ rows-within-more lo hi low high rows n e inside earlier l h item row_low row_hig
       subst (λ (x : ProcedureRow). RowWithin low high x) (sym row) (record { low = row_low; high = row_high })
 ]
 
-pub covered : (m tables : Contents) (lo hi : ℤ) (n : ℕ) (k : ℤ) → tables ≡ m → Covers tables lo hi → has_word (context_at m n) k ≡ true → (lo ≤ℤ k) × (k <ℤ hi)
+pub covered : (m tables : Contents) (lo hi : ℤ) (n : ℕ) (k : ℤ) → tables ≡ m → Covers tables lo hi
+    → has_word (context_at m n) k ≡ true → (lo ≤ℤ k) × (k <ℤ hi)
 covered m tables lo hi n k is c h =
     let there = ap (λ t. has_word (context_at t n) k) is ∙ h in
     (c.low n k there, c.high n k there)
@@ -124,6 +145,7 @@ room-fits s k c =
     search (rules, arith, ints)
 
 -- a conversion that succeeds gives the number
-pub converted : {E : Type 0} (r : Result ℤ E) (P : Type 0) (v w : ℤ) (o : Option ℤ) → OkIff r P v → P → v ≡ w → o ≡ result_ok r → o ≡ Some w
+pub converted : {E : Type 0} (r : Result ℤ E) (P : Type 0) (v w : ℤ) (o : Option ℤ) → OkIff r P v → P → v ≡ w
+    → o ≡ result_ok r → o ≡ Some w
 converted (Ok x) P v w o h p e is = is ∙ ap (λ (z : ℤ). Some z) (h.1 ∙ e)
 converted (Err x) P v w o h p e is = absurd (h p)

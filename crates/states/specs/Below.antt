@@ -1,8 +1,10 @@
 -- When a state may go on as a label's: it knows at least as much, and can pay.
-use Rattle.std.specs.Prelude.{ℕ, zero, suc, ◌+◌, ◌-◌, ◌*◌, ℤ, pos, ◌+ℤ◌, int_le, nat_lt, ◌==◌, ◌&&◌, Bool, true, false, not, if◌then◌else◌, List, sum_by, Result, Ok, Err}
+use Rattle.std.specs.Prelude.{ℕ, zero, suc, ◌+◌, ◌-◌, ◌*◌, ℤ, pos, ◌+ℤ◌, int_le, nat_lt, ◌==◌, ◌&&◌, Bool, true, false}
+use Rattle.std.specs.Prelude.{not, if◌then◌else◌, List, sum_by, Result, Ok, Err}
 use Rattle.std.specs.List.{list_all}
 use Rattle.module_format.specs.declared.fact.Fact.{Fact}
-use Rattle.module_format.specs.declared.fact.Fact.TheVariants.{Unknown, Number, Pointer, CodeAddress, Loop, ReturnAddress}
+use Rattle.module_format.specs.declared.fact.Fact.TheVariants.{Unknown, Number, Pointer, CodeAddress, Loop}
+use Rattle.module_format.specs.declared.fact.Fact.TheVariants.{ReturnAddress}
 use Rattle.module_format.specs.declared.fact.Step.{Step}
 use Rattle.module_format.specs.declared.fact.Step.TheVariants.{Byte, Word}
 use Rattle.module_format.specs.declared.rows.Entry.{Entry}
@@ -32,7 +34,8 @@ step_implies Byte Word = false
 abbrev pub implies : Fact → Fact → Bool
 implies fact Unknown = true
 implies (Number lo hi) (Number low high) = lies_within lo hi low high
-implies (Pointer region lo hi step) (Pointer other low high stride) = (region == other) && lies_within lo hi low high && step_implies step stride
+implies (Pointer region lo hi step) (Pointer other low high stride) =
+    (region == other) && lies_within lo hi low high && step_implies step stride
 implies (CodeAddress offset) (CodeAddress other) = offset == other
 implies ReturnAddress ReturnAddress = true
 implies _ _ = false
@@ -46,7 +49,8 @@ is_constant _ number = false
 abbrev pub is_same_loop : CountedLoop → CountedLoop → Bool
 is_same_loop loop other = is_word loop.base other.base && (loop.count == other.count) && (loop.weight == other.weight)
 
--- What is known of a word says at least what is wanted. A number that is the base implies the index, and one that is the
+-- What is known of a word says at least what is wanted. A number that is the base implies the index, and one that is
+-- the
 -- number of turns the count: so a loop is entered.
 abbrev pub says : WordFact → WordFact → Bool
 says fact (Alone wanted) = implies (by_itself fact) wanted
@@ -61,7 +65,8 @@ says _ _ = false
 -- of each of so many words of an entry that is said which the entry says
 abbrev pub words_say : Facts → Entry → ℕ → Bool
 words_say facts entry zero = true
-words_say facts entry (suc more) = says (facts (entry.word +ℤ pos more)) (said_of entry.fact (more == 0)) && words_say facts entry more
+words_say facts entry (suc more) =
+    says (facts (entry.word +ℤ pos more)) (said_of entry.fact (more == 0)) && words_say facts entry more
 
 abbrev pub entries_hold : Facts → List Entry → Bool
 entries_hold facts entries = list_all (λ entry. words_say facts entry entry.span) entries
@@ -89,7 +94,8 @@ holds_constant _ number = false
 abbrev pub price : Facts → Entry → ℕ
 price facts entry = elim entry.fact [
   | Loop base count weight ↦
-      if holds_constant (facts entry.word) base && holds_constant (facts (entry.word +ℤ pos 1)) (pos count) then weight * (count - 1) else 0
+      if holds_constant (facts entry.word) base
+          && holds_constant (facts (entry.word +ℤ pos 1)) (pos count) then weight * (count - 1) else 0
   | _ ↦ 0
 ]
 

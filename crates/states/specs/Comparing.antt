@@ -21,4 +21,5 @@ OneSaysAll facts others wanted = (k : ℤ) → (says (facts k) (wanted k) ≡ tr
 
 -- what was written says at least what is wanted
 abbrev pub WrittenSaysAll : List Written → ℤ → Facts → Type 0
-WrittenSaysAll written lo wanted = (k : ℤ) (fact : Fact) → fact_of_index written (k -ℤ lo) ≡ Some fact → says (Alone fact) (wanted k) ≡ true
+WrittenSaysAll written lo wanted =
+    (k : ℤ) (fact : Fact) → fact_of_index written (k -ℤ lo) ≡ Some fact → says (Alone fact) (wanted k) ≡ true

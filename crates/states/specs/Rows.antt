@@ -1,5 +1,6 @@
 -- The entries of label rows: their words rise, no two entries overlap, and their loops are those of the format.
-use Rattle.std.specs.Prelude.{◌≡◌, ⊤, ℕ, ℤ, pos, ◌+ℤ◌, ◌≤ℤ◌, ◌<ℤ◌, int_le, ◌&&◌, Bool, true, false, List, [], ◌∷◌, IsTrue}
+use Rattle.std.specs.Prelude.{◌≡◌, ⊤, ℕ, ℤ, pos, ◌+ℤ◌, ◌≤ℤ◌, ◌<ℤ◌, int_le, ◌&&◌, Bool, true, false, List, [], ◌∷◌}
+use Rattle.std.specs.Prelude.{IsTrue}
 use Rattle.module_format.specs.declared.fact.Fact.TheVariants.{Unknown}
 use Rattle.module_format.specs.declared.rows.Entry.{Entry}
 use Rattle.module_format.specs.Order.{least_word}

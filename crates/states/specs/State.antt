@@ -1,5 +1,6 @@
 -- What is known of a process at a place of its code.
-use Rattle.std.specs.Prelude.{ℕ, ◌+◌, ℤ, pos, ◌+ℤ◌, ◌-ℤ◌, int_le, int_lt, ◌&&◌, Bool, true, false, if◌then◌else◌, List, [], ◌∷◌}
+use Rattle.std.specs.Prelude.{ℕ, ◌+◌, ℤ, pos, ◌+ℤ◌, ◌-ℤ◌, int_le, int_lt, ◌&&◌, Bool, true, false, if◌then◌else◌, List}
+use Rattle.std.specs.Prelude.{[], ◌∷◌}
 use Rattle.module_format.specs.declared.fact.Fact.{Fact}
 use Rattle.module_format.specs.declared.fact.Fact.TheVariants.{Unknown, Number, Pointer, Loop, ReturnAddress}
 use Rattle.module_format.specs.declared.fact.Step.TheVariants.{Word}
@@ -88,7 +89,8 @@ with_fact k fact facts = λ j.
 abbrev pub is_about : Entry → ℤ → Bool
 is_about entry k = int_le entry.word k && int_lt k (entry.word +ℤ pos entry.span)
 
--- what an entry's fact says of one of its words, which is the first or another one: the first word of a loop is the index
+-- what an entry's fact says of one of its words, which is the first or another one: the first word of a loop is the
+-- index
 abbrev pub said_of : Fact → Bool → WordFact
 said_of (Loop base count weight) true = Index (record { base = base; count = count; weight = weight })
 said_of (Loop base count weight) false = Count (record { base = base; count = count; weight = weight })
@@ -97,7 +99,8 @@ said_of fact is_first = Alone fact
 -- what the entries of a label say of word k: entries do not overlap
 abbrev pub entry_fact : List Entry → Facts
 entry_fact [] k = Alone Unknown
-entry_fact (entry ∷ entries) k = if is_about entry k then said_of entry.fact (is_word entry.word k) else entry_fact entries k
+entry_fact (entry ∷ entries) k =
+    if is_about entry k then said_of entry.fact (is_word entry.word k) else entry_fact entries k
 
 -- ---- sources
 
@@ -148,7 +151,8 @@ parameter_fact region kind = Pointer region (pos 0) (pos 0) Word
 abbrev pub parameter_facts : ℕ → List Parameter → Facts
 parameter_facts region [] k = Alone Unknown
 parameter_facts region (parameter ∷ parameters) k =
-    if is_word k (pos parameter.word) then Alone (parameter_fact region parameter.kind) else parameter_facts (region + 1) parameters k
+    if is_word k (pos parameter.word) then Alone (parameter_fact region parameter.kind) else parameter_facts
+        (region + 1) parameters k
 
 -- word 0 is the return address, and parameter j has region 2 + j
 abbrev pub procedure_facts : Procedure → Facts

@@ -8,14 +8,17 @@ use Rattle.verifier.specs.Certified.{first_state, given, state_at}
 pub nothing_given : (m : Contents) (at : ℕ) (before : Option State) → given m at ≡ None → state_at m at before ≡ before
 nothing_given m at before g = ap (λ (o : Option State). elim o [ None ↦ before | Some s ↦ Some s ]) g
 
-pub is_given : (m : Contents) (at : ℕ) (before : Option State) (s : State) → given m at ≡ Some s → state_at m at before ≡ Some s
+pub is_given : (m : Contents) (at : ℕ) (before : Option State) (s : State) → given m at ≡ Some s
+    → state_at m at before ≡ Some s
 is_given m at before s g = ap (λ (o : Option State). elim o [ None ↦ before | Some s ↦ Some s ]) g
 
 pub given_label : (m : Contents) (at : ℕ) (t : Label) → label_at m at ≡ Some t → given m at ≡ Some (label_state t)
-given_label m at t l = ap (λ (o : Option Label). elim o [ None ↦ first_state (procedure_at m at) | Some t ↦ Some (label_state t) ]) l
+given_label m at t l =
+    ap (λ (o : Option Label). elim o [ None ↦ first_state (procedure_at m at) | Some t ↦ Some (label_state t) ]) l
 
 pub given_none : (m : Contents) (at : ℕ) → label_at m at ≡ None → procedure_at m at ≡ None → given m at ≡ None
-given_none m at l p = ap (λ (o : Option Label). elim o [ None ↦ first_state (procedure_at m at) | Some t ↦ Some (label_state t) ]) l ∙ ap first_state p
+given_none m at l p = ap (λ (o : Option Label). elim o [ None ↦ first_state (procedure_at m at) | Some t ↦ Some
+    (label_state t) ]) l ∙ ap first_state p
 
 -- ---- starts
 
@@ -34,7 +37,9 @@ or_right : (a b : Bool) → (a || b) ≡ false → b ≡ false
 or_right true b h = absurd (cc)
 or_right false b h = h
 
-pub start_of_none : (m : Contents) (at : ℕ) → is_start m at ≡ false → (label_at m at ≡ None) × (procedure_at m at ≡ None)
+pub start_of_none : (m : Contents) (at : ℕ) → is_start m at ≡ false
+    → (label_at m at ≡ None) × (procedure_at m at ≡ None)
 start_of_none m at h =
     let both = or_left _ _ (or_left _ _ h) in
-    (none_by (label_at m at) (or_left _ _ both), none_by (procedure_at m at) (or_right (is_some (label_at m at)) _ both))
+    (none_by (label_at m at) (or_left _ _ both),
+        none_by (procedure_at m at) (or_right (is_some (label_at m at)) _ both))

@@ -1,5 +1,8 @@
--- The verdict on a module is right: Ok where the module is certified, and else the first rule that is broken. No module is both.
-use Rattle.std.proofs.Common.{◌≡◌, ℕ, zero, suc, ◌+◌, ◌-◌, ◌≤◌, ◌<◌, Bool, true, false, cond, if◌then◌else◌, leb, eqb, length, Option, Some, None, Result, Ok, Err, ◌⊎◌, inl, inr, refl, sym, ap, ◌∙◌, subst, arith}
+-- The verdict on a module is right: Ok where the module is certified, and else the first rule that is broken. No module
+-- is both.
+use Rattle.std.proofs.Common.{◌≡◌, ℕ, zero, suc, ◌+◌, ◌-◌, ◌≤◌, ◌<◌, Bool, true, false, cond, if◌then◌else◌, leb, eqb}
+use Rattle.std.proofs.Common.{length, Option, Some, None, Result, Ok, Err, ◌⊎◌, inl, inr, refl, sym, ap, ◌∙◌, subst}
+use Rattle.std.proofs.Common.{arith}
 use Rattle.std.specs.Prelude.{nat_lt}
 use Rattle.std.proofs.lemmas.Bool.{cases_lt, cases_eq, cases_Bool, le-leb}
 use Rattle.std.proofs.lemmas.Bool.Decides.{leb_tells, eqb_tells, nat_tests}
@@ -16,9 +19,12 @@ use Rattle.states.specs.State.{State, root_state}
 use Rattle.facts.specs.Rules.{Ruling, falls, leads, ends, breaks, rule_at, has_rule}
 use Rattle.facts.proofs.Steps.{unruled as breaks_one}
 use Rattle.verifier.specs.declared.stop.Breach.{Breach}
-use Rattle.verifier.specs.Certified.{falling, given, state_at, entering, Reaches, begins, follows, HoldsAt, HoldsBelow, IsCertified, IsRefused, IsBroken, misspelled, unruled, hidden, unreached, fallen_off, entered, broken}
+use Rattle.verifier.specs.Certified.{falling, given, state_at, entering, Reaches, begins, follows, HoldsAt, HoldsBelow}
+use Rattle.verifier.specs.Certified.{IsCertified, IsRefused, IsBroken, misspelled, unruled, hidden, unreached}
+use Rattle.verifier.specs.Certified.{fallen_off, entered, broken}
 use Rattle.verifier.proofs.Given.{nothing_given, is_given}
-use Rattle.verifier.specs.Judge.{Verdict, lower, past_starts, past_rule, past_spelling, both, judged_in, judged_at, first_start, refused, at_the_end, judge, verdict}
+use Rattle.verifier.specs.Judge.{Verdict, lower, past_starts, past_rule, past_spelling, both, judged_in, judged_at}
+use Rattle.verifier.specs.Judge.{first_start, refused, at_the_end, judge, verdict}
 
 -- ---- no module is both
 
@@ -39,7 +45,8 @@ option_cases None = inl refl
 option_cases (Some x) = inr (x, refl)
 
 excluded : (m : Contents) (v : Rule) (at : ℕ) → IsCertified m → IsBroken m v at → ⊥
-excluded m v at c (misspelled _ r low e) = let h = c.holds.each _ _ low r in ok_or_err (fetched m.code at) h.instr _ h.spelled e
+excluded m v at c (misspelled _ r low e) = let h =
+    c.holds.each _ _ low r in ok_or_err (fetched m.code at) h.instr _ h.spelled e
 excluded m v at c (unruled _ r low sp lacking) =
     let h = c.holds.each _ _ low r in
     let i_is = same_ok (fetched m.code at) h.instr _ h.spelled sp in
@@ -51,7 +58,8 @@ excluded m v at c (unreached _ r low sp ruled g) =
 excluded m v at c (fallen_off {s = s} _ e r) =
     let r' : Reaches m (length m.code) (Some s) = subst (λ n. Reaches m n (Some s)) e r in
     let none : Some s ≡ None = c.ends _ r' in cc
-excluded m v at c (entered {before = before} r low e) = let h = c.holds.each _ _ low r in ok_or_err (entering m at before) h.cost v h.enters e
+excluded m v at c (entered {before = before} r low e) = let h =
+    c.holds.each _ _ low r in ok_or_err (entering m at before) h.cost v h.enters e
 excluded m v at c (broken {before = before} {s = s} {i = i} r low st sp b) =
     let h = c.holds.each _ _ low r in
     let i_is : i ≡ h.instr = same_ok (fetched m.code at) i h.instr sp h.spelled in
@@ -72,7 +80,8 @@ pub record Stepped (m : Contents) (at : ℕ) (before : Option State) (i : Instr)
   pub unbroken : (v : Rule) → rule_at m at i state ≡ breaks v → ⊥
   pub after_is : after ≡ falling (rule_at m at i state)
 
-both_ok : (e : Result ℕ Rule) (r : Ruling) (after : Option State) → both e r ≡ Ok after → (cost : ℕ) × (e ≡ Ok cost) × ((v : Rule) → r ≡ breaks v → ⊥) × (after ≡ falling r)
+both_ok : (e : Result ℕ Rule) (r : Ruling) (after : Option State) → both e r ≡ Ok after
+    → (cost : ℕ) × (e ≡ Ok cost) × ((v : Rule) → r ≡ breaks v → ⊥) × (after ≡ falling r)
 both_ok (Ok cost) (falls s) after h = (cost, refl, (λ v e. cc), cc)
 both_ok (Ok cost) (leads to) after h = (cost, refl, (λ v e. cc), cc)
 both_ok (Ok cost) ends after h = (cost, refl, (λ v e. cc), cc)
@@ -101,13 +110,15 @@ both_err (Err u) (breaks w) v h =
       | inr p ↦ inr (ap breaks (sym p ∙ e))
     ]
 
-stepped_in : (m : Contents) (at : ℕ) (before : Option State) (i : Instr) (after : Option State) (o : Option State) → state_at m at before ≡ o → judged_in m at before i o ≡ Ok after → Stepped m at before i after
+stepped_in : (m : Contents) (at : ℕ) (before : Option State) (i : Instr) (after : Option State) (o : Option State)
+    → state_at m at before ≡ o → judged_in m at before i o ≡ Ok after → Stepped m at before i after
 stepped_in m at before i after None e h = absurd (cc)
 stepped_in m at before i after (Some s) e h =
     let b = both_ok (entering m at before) (rule_at m at i s) after h in
     record { state = s; stands = e; cost = b.0; enters = b.1; unbroken = b.2; after_is = b.3 }
 
-stepped : (m : Contents) (at : ℕ) (before : Option State) (i : Instr) (after : Option State) → judged_at m at before i ≡ Ok after → Stepped m at before i after
+stepped : (m : Contents) (at : ℕ) (before : Option State) (i : Instr) (after : Option State)
+    → judged_at m at before i ≡ Ok after → Stepped m at before i after
 unfolding judged_at
 stepped m at before i after h = stepped_in m at before i after (state_at m at before) refl h
 
@@ -115,10 +126,12 @@ told_is : (v w : Rule) → ◌≡◌ {A = Result (Option State) Rule} (Err v) (E
 told_is v w h = cc
 
 -- the rule that the instruction at a reached offset breaks
-broken_in : (m : Contents) (at : ℕ) (before : Option State) (i : Instr) (v : Rule) (o : Option State) → state_at m at before ≡ o → Reaches m at before → at < length m.code → fetched m.code at ≡ Ok i
+broken_in : (m : Contents) (at : ℕ) (before : Option State) (i : Instr) (v : Rule) (o : Option State)
+    → state_at m at before ≡ o → Reaches m at before → at < length m.code → fetched m.code at ≡ Ok i
     → judged_in m at before i o ≡ Err v → IsBroken m v at
 broken_in m at before i v None e r low sp h = elim (cases_Bool (has_rule i)) [
-  | inr lacking ↦ unruled (told_is _ _ (sym h ∙ ap (λ (b : Bool). Err (if b then rules.Flow else rules.Spelling)) lacking)) r low sp lacking
+  | inr lacking ↦ unruled (told_is _ _ (sym h ∙ ap (λ (b : Bool). Err
+      (if b then rules.Flow else rules.Spelling)) lacking)) r low sp lacking
   | inl ruled ↦ elim (option_cases (given m at)) [
     | inl g ↦
         let three = told_is _ _ (sym h ∙ ap (λ (b : Bool). Err (if b then rules.Flow else rules.Spelling)) ruled) in
@@ -127,9 +140,11 @@ broken_in m at before i v None e r low sp h = elim (cases_Bool (has_rule i)) [
   ]
 ]
 broken_in m at before i v (Some s) e r low sp h =
-    elim (both_err (entering m at before) (rule_at m at i s) v h) [ inl p ↦ entered r low p | inr p ↦ broken r low e sp p ]
+    elim (both_err (entering m at before) (rule_at m at i s) v h)
+        [ inl p ↦ entered r low p | inr p ↦ broken r low e sp p ]
 
-broken_at : (m : Contents) (at : ℕ) (before : Option State) (i : Instr) (v : Rule) → Reaches m at before → at < length m.code → fetched m.code at ≡ Ok i → judged_at m at before i ≡ Err v → IsBroken m v at
+broken_at : (m : Contents) (at : ℕ) (before : Option State) (i : Instr) (v : Rule) → Reaches m at before
+    → at < length m.code → fetched m.code at ≡ Ok i → judged_at m at before i ≡ Err v → IsBroken m v at
 unfolding judged_at
 broken_at m at before i v r low sp h = broken_in m at before i v (state_at m at before) refl r low sp h
 
@@ -137,12 +152,14 @@ pair_is : {A B : Type 0} {a b : A} {x y : B} → a ≡ b → x ≡ y → ◌≡�
 pair_is p q = cc
 
 -- none of the offsets is a start
-pub no_first_start : (m : Contents) (at more : ℕ) → first_start m at more ≡ None → (o : ℕ) → at ≤ o → o < at + more → is_start m o ≡ false
+pub no_first_start : (m : Contents) (at more : ℕ) → first_start m at more ≡ None → (o : ℕ) → at ≤ o → o < at + more
+    → is_start m o ≡ false
 no_first_start m at zero h o low high = absurd (omega arith)
 no_first_start m at (suc more) h o low high =
     elim (cases_Bool (is_start m at)) [
       | inr l ↦
-          let rest : first_start m (at + 1) more ≡ None = sym (ap (λ (b : Bool). cond b (Some at) (first_start m (at + 1) more)) l) ∙ h in
+          let rest : first_start m (at + 1) more ≡ None =
+              sym (ap (λ (b : Bool). cond b (Some at) (first_start m (at + 1) more)) l) ∙ h in
           elim (cases_eq o at) [
             | inl e ↦ rw e l
             | inr d ↦ no_first_start m (at + 1) more rest o (omega arith) (omega arith)
@@ -164,7 +181,8 @@ first_start_is m at zero o h = absurd (cc)
 first_start_is m at (suc more) o h =
     elim (cases_Bool (is_start m at)) [
       | inr l ↦
-          let rest : first_start m (at + 1) more ≡ Some o = sym (ap (λ (b : Bool). cond b (Some at) (first_start m (at + 1) more)) l) ∙ h in
+          let rest : first_start m (at + 1) more ≡ Some o =
+              sym (ap (λ (b : Bool). cond b (Some at) (first_start m (at + 1) more)) l) ∙ h in
           let f = first_start_is m (at + 1) more o rest in
           record {
             low = omega (arith, f.low);
@@ -205,7 +223,8 @@ trail zero m p = Some p
 trail (suc k) m p = along (λ q. trail k m q) (next m p)
 
 -- one step more at the end
-trail_more : (k : ℕ) (m : Contents) (p q r : Place) → trail k m p ≡ Some q → next m q ≡ Some r → trail (suc k) m p ≡ Some r
+trail_more : (k : ℕ) (m : Contents) (p q r : Place) → trail k m p ≡ Some q → next m q ≡ Some r
+    → trail (suc k) m p ≡ Some r
 unfolding trail
 trail_more zero m p q r t n =
     let e : p ≡ q = cc in rw e (ap (along (λ q. trail zero m q)) n)
@@ -216,11 +235,13 @@ trail_more (suc k) m p q r t n = elim (option_cases (next m p)) [
       ap (along (λ q. trail (suc k) m q)) e.1 ∙ trail_more k m e.0 q r rest n
 ]
 
-next_is : (m : Contents) (at : ℕ) (before : Option State) (s : State) (i : Instr) → state_at m at before ≡ Some s → fetched m.code at ≡ Ok i → next m (at, before) ≡ Some (at + i.len, falling (rule_at m at i s))
+next_is : (m : Contents) (at : ℕ) (before : Option State) (s : State) (i : Instr) → state_at m at before ≡ Some s
+    → fetched m.code at ≡ Ok i → next m (at, before) ≡ Some (at + i.len, falling (rule_at m at i s))
 unfolding next
 next_is m at before s i st sp = ap (λ o. next_in m at o (fetched m.code at)) st ∙ ap (next_in m at (Some s)) sp
 
-trailed : {m : Contents} {at : ℕ} {before : Option State} → Reaches m at before → (k : ℕ) × (trail k m (0, Some (root_state m)) ≡ Some (at, before))
+trailed : {m : Contents} {at : ℕ} {before : Option State} → Reaches m at before
+    → (k : ℕ) × (trail k m (0, Some (root_state m)) ≡ Some (at, before))
 unfolding trail
 trailed begins = (0, refl)
 trailed {m} (follows {at} {to} {before} {after} {s} {i} r st sp to_is after_is) =
@@ -244,7 +265,8 @@ pub record Led (m : Contents) (p q : Place) : Type 0 where
   pub spelled : fetched m.code p.0 ≡ Ok instr
   pub to : q.0 ≡ p.0 + instr.len
 
-led_in : (m : Contents) (at : ℕ) (before : Option State) (q : Place) (o : Option State) (r : Result Instr DecodeFault) → fetched m.code at ≡ r → next_in m at o r ≡ Some q → Led m (at, before) q
+led_in : (m : Contents) (at : ℕ) (before : Option State) (q : Place) (o : Option State) (r : Result Instr DecodeFault)
+    → fetched m.code at ≡ r → next_in m at o r ≡ Some q → Led m (at, before) q
 led_in m at before q None r e h = absurd (cc)
 led_in m at before q (Some s) (Err f) e h = absurd (cc)
 led_in m at before (to, after) (Some s) (Ok i) e h =
@@ -282,11 +304,13 @@ module _ (m : Contents) (spans : Spans m) where
         let l = led m p e.0 e.1 in
         let later : e.0.0 ≤ q.0 = behind k e.0 q rest in
         let some = spans.some p.0 l.instr l.spelled in
-        record { later = omega (arith, l.to); far = λ i sp. let same : i ≡ l.instr = same_ok (fetched m.code p.0) i l.instr sp l.spelled in rw same (omega (arith, l.to)) }
+        record { later = omega (arith, l.to); far = λ i sp. let same : i
+            ≡ l.instr = same_ok (fetched m.code p.0) i l.instr sp l.spelled in rw same (omega (arith, l.to)) }
   ]
 
   -- of two places on one trail, they are the same or one lies behind the other
-  compared : (j k : ℕ) (p q r : Place) → trail j m p ≡ Some q → trail k m p ≡ Some r → (q ≡ r) ⊎ Behind m q r ⊎ Behind m r q
+  compared : (j k : ℕ) (p q r : Place) → trail j m p ≡ Some q → trail k m p ≡ Some r
+      → (q ≡ r) ⊎ Behind m q r ⊎ Behind m r q
   unfolding trail
   compared zero zero p q r t u = inl (let a : Some q ≡ Some r = sym t ∙ u in cc)
   compared zero (suc k) p q r t u = let e : p ≡ q = cc in inr (inl (subst (λ x. Behind m x r) e (first_behind k p r u)))
@@ -313,7 +337,8 @@ module _ (m : Contents) (spans : Spans m) where
       ]
 
   -- no instruction starts within another
-  none_within : (at o : ℕ) (before other : Option State) (i : Instr) → fetched m.code at ≡ Ok i → at < o → o < at + i.len → Reaches m at before → Reaches m o other → ⊥
+  none_within : (at o : ℕ) (before other : Option State) (i : Instr) → fetched m.code at ≡ Ok i → at < o
+      → o < at + i.len → Reaches m at before → Reaches m o other → ⊥
   none_within at o before other i sp low high r q =
       let t = trailed r in
       let u = trailed q in
@@ -342,24 +367,29 @@ abbrev walk_on : (ℕ → Option State → Option State) → ℕ → Result (Opt
 walk_on go to (Err v) = None
 walk_on go to (Ok after) = go to after
 
-abbrev walk_past : Contents → (ℕ → Option State → Option State) → ℕ → Option State → Result Instr DecodeFault → Option State
+abbrev walk_past : Contents → (ℕ → Option State → Option State) → ℕ → Option State → Result Instr DecodeFault
+    → Option State
 walk_past m go at before (Err e) = None
 walk_past m go at before (Ok i) = walk_on go (at + i.len) (judged_at m at before i)
 
 -- the state at an offset, on the way from `at` on
 unfoldable walk : ℕ → Contents → ℕ → Option State → ℕ → Option State
 walk zero m at before target = None
-walk (suc more) m at before target = if eqb target at then state_at m at before else walk_past m (λ to after. walk more m to after target) at before (fetched m.code at)
+walk (suc more) m at before target = if eqb target at then state_at m at before else walk_past m
+    (λ to after. walk more m to after target) at before (fetched m.code at)
 
 walk_here : (n : ℕ) (m : Contents) (at : ℕ) (before : Option State) → walk (suc n) m at before at ≡ state_at m at before
 unfolding walk
-walk_here n m at before = ap (λ (b : Bool). cond b (state_at m at before) (walk_past m (λ to after. walk n m to after at) at before (fetched m.code at))) (eqb-same at)
+walk_here n m at before = ap (λ (b : Bool). cond b (state_at m at before)
+    (walk_past m (λ to after. walk n m to after at) at before (fetched m.code at))) (eqb-same at)
 
-walk_beyond : (n : ℕ) (m : Contents) (at : ℕ) (before after : Option State) (i : Instr) (target : ℕ) → at < target → fetched m.code at ≡ Ok i → judged_at m at before i ≡ Ok after
+walk_beyond : (n : ℕ) (m : Contents) (at : ℕ) (before after : Option State) (i : Instr) (target : ℕ) → at < target
+    → fetched m.code at ≡ Ok i → judged_at m at before i ≡ Ok after
     → walk (suc n) m at before target ≡ walk n m (at + i.len) after target
 unfolding walk
 walk_beyond n m at before after i target low sp j =
-    ap (λ (b : Bool). cond b (state_at m at before) (walk_past m (λ to after. walk n m to after target) at before (fetched m.code at))) (eqb-apart target at (λ e. omega arith))
+    ap (λ (b : Bool). cond b (state_at m at before) (walk_past m (λ to after. walk n m to after target) at before
+        (fetched m.code at))) (eqb-apart target at (λ e. omega arith))
     ∙ ap (walk_past m (λ to after. walk n m to after target) at before) sp
     ∙ ap (walk_on (λ to after. walk n m to after target) (at + i.len)) j
 
@@ -376,37 +406,52 @@ pub record Passed (n : ℕ) (m : Contents) (at : ℕ) (before : Option State) (v
 
 -- one at which it refuses
 pub data Halted (m : Contents) (at : ℕ) (before : Option State) : Rule → ℕ → Type 0 where
-  at_spelling : {v : Rule} {o : ℕ} {e : DecodeFault} → v ≡ rules.Spelling → o ≡ at → fetched m.code at ≡ Err e → Halted m at before v o
-  at_rule : {v : Rule} {o : ℕ} {i : Instr} → o ≡ at → fetched m.code at ≡ Ok i → judged_at m at before i ≡ Err v → Halted m at before v o
-  at_start_within : {v : Rule} {o : ℕ} {i : Instr} {after : Option State} → v ≡ rules.InstructionStart → fetched m.code at ≡ Ok i → judged_at m at before i ≡ Ok after → first_start m (at + 1) (i.len - 1) ≡ Some o → Halted m at before v o
+  at_spelling : {v : Rule} {o : ℕ} {e : DecodeFault} → v ≡ rules.Spelling → o ≡ at → fetched m.code at ≡ Err e
+      → Halted m at before v o
+  at_rule : {v : Rule} {o : ℕ} {i : Instr} → o ≡ at → fetched m.code at ≡ Ok i → judged_at m at before i ≡ Err v
+      → Halted m at before v o
+  at_start_within : {v : Rule} {o : ℕ} {i : Instr} {after : Option State} → v ≡ rules.InstructionStart
+      → fetched m.code at ≡ Ok i → judged_at m at before i ≡ Ok after → first_start m (at + 1) (i.len - 1) ≡ Some o
+      → Halted m at before v o
 
 module _ (n : ℕ) (m : Contents) (at : ℕ) (before : Option State) where
-  past_starts_is : (i : Instr) (after : Option State) (found : Option ℕ) (v : Verdict) → fetched m.code at ≡ Ok i → judged_at m at before i ≡ Ok after → first_start m (at + 1) (i.len - 1) ≡ found
-      → past_starts (λ to after. judge n m to after) (at + i.len) after found ≡ v → Passed n m at before v ⊎ ((r : Breach) × (v ≡ Err r) × Halted m at before r.rule r.offset)
-  past_starts_is i after (Some o) v sp j l h = inr (record { rule = rules.InstructionStart; offset = o }, sym h, at_start_within refl sp j l)
-  past_starts_is i after None v sp j l h = inl (record { instr = i; spelled = sp; after = after; judged = j; no_start = l; rest = h })
+  past_starts_is : (i : Instr) (after : Option State) (found : Option ℕ) (v : Verdict) → fetched m.code at ≡ Ok i
+      → judged_at m at before i ≡ Ok after → first_start m (at + 1) (i.len - 1) ≡ found
+      → past_starts (λ to after. judge n m to after) (at + i.len) after found ≡ v
+          → Passed n m at before v ⊎ ((r : Breach) × (v ≡ Err r) × Halted m at before r.rule r.offset)
+  past_starts_is i after (Some o) v sp j l h =
+      inr (record { rule = rules.InstructionStart; offset = o }, sym h, at_start_within refl sp j l)
+  past_starts_is i after None v sp j l h =
+      inl (record { instr = i; spelled = sp; after = after; judged = j; no_start = l; rest = h })
 
-  past_rule_is : (i : Instr) (judged : Result (Option State) Rule) (v : Verdict) → fetched m.code at ≡ Ok i → judged_at m at before i ≡ judged
-      → past_rule m (λ to after. judge n m to after) at i.len judged ≡ v → Passed n m at before v ⊎ ((r : Breach) × (v ≡ Err r) × Halted m at before r.rule r.offset)
+  past_rule_is : (i : Instr) (judged : Result (Option State) Rule) (v : Verdict) → fetched m.code at ≡ Ok i
+      → judged_at m at before i ≡ judged
+      → past_rule m (λ to after. judge n m to after) at i.len judged ≡ v
+          → Passed n m at before v ⊎ ((r : Breach) × (v ≡ Err r) × Halted m at before r.rule r.offset)
   past_rule_is i (Err u) v sp j h = inr (record { rule = u; offset = at }, sym h, at_rule refl sp j)
   past_rule_is i (Ok after) v sp j h = past_starts_is i after (first_start m (at + 1) (i.len - 1)) v sp j refl h
 
   past_spelling_is : (fetch : Result Instr DecodeFault) (v : Verdict) → fetched m.code at ≡ fetch
-      → past_spelling m (λ to after. judge n m to after) at before fetch ≡ v → Passed n m at before v ⊎ ((r : Breach) × (v ≡ Err r) × Halted m at before r.rule r.offset)
+      → past_spelling m (λ to after. judge n m to after) at before fetch ≡ v
+          → Passed n m at before v ⊎ ((r : Breach) × (v ≡ Err r) × Halted m at before r.rule r.offset)
   past_spelling_is (Err e) v sp h = inr (record { rule = rules.Spelling; offset = at }, sym h, at_spelling refl refl sp)
   past_spelling_is (Ok i) v sp h = past_rule_is i (judged_at m at before i) v sp refl h
 
-  judge_step : (v : Verdict) → at < length m.code → judge (suc n) m at before ≡ v → Passed n m at before v ⊎ ((r : Breach) × (v ≡ Err r) × Halted m at before r.rule r.offset)
+  judge_step : (v : Verdict) → at < length m.code → judge (suc n) m at before ≡ v
+      → Passed n m at before v ⊎ ((r : Breach) × (v ≡ Err r) × Halted m at before r.rule r.offset)
   unfolding judge
   judge_step v low h =
       let e : past_spelling m (λ to after. judge n m to after) at before (fetched m.code at) ≡ v =
-      sym (ap (λ (b : Bool). cond b (at_the_end at before) (past_spelling m (λ to after. judge n m to after) at before (fetched m.code at))) (leb-false (length m.code) at low)) ∙ h in
+      sym (ap (λ (b : Bool). cond b (at_the_end at before) (past_spelling m (λ to after. judge n m to after) at before
+          (fetched m.code at))) (leb-false (length m.code) at low)) ∙ h in
       past_spelling_is (fetched m.code at) v refl e
 
-pub judge_end : (n : ℕ) (m : Contents) (at : ℕ) (before : Option State) → length m.code ≤ at → judge n m at before ≡ at_the_end at before
+pub judge_end : (n : ℕ) (m : Contents) (at : ℕ) (before : Option State) → length m.code ≤ at
+    → judge n m at before ≡ at_the_end at before
 unfolding judge
 judge_end zero m at before h = refl
-judge_end (suc n) m at before h = ap (λ (b : Bool). cond b (at_the_end at before) (past_spelling m (λ to after. judge n m to after) at before (fetched m.code at))) (le-leb (length m.code) at h)
+judge_end (suc n) m at before h = ap (λ (b : Bool). cond b (at_the_end at before)
+    (past_spelling m (λ to after. judge n m to after) at before (fetched m.code at))) (le-leb (length m.code) at h)
 
 -- ---- a module that the pass accepts is certified
 
@@ -416,13 +461,16 @@ record OnWay (m : Contents) (v : Verdict) (at : ℕ) (before : Option State) : T
   pub enough : length m.code ≤ at + fuel
   pub inside : at ≤ length m.code
   pub verdict : judge fuel m at before ≡ v
-  pub states : (target : ℕ) → at ≤ target → walk (length m.code) m 0 (Some (root_state m)) target ≡ walk fuel m at before target
+  pub states : (target : ℕ) → at ≤ target
+      → walk (length m.code) m 0 (Some (root_state m)) target ≡ walk fuel m at before target
 
 abbrev states_of : Contents → ℕ → Option State
 states_of m = λ target. walk (length m.code) m 0 (Some (root_state m)) target
 
 at_start : (m : Contents) → OnWay m (verdict m) 0 (Some (root_state m))
-at_start m = record { fuel = length m.code; enough = omega arith; inside = omega arith; verdict = refl; states = λ target low. refl }
+at_start m =
+    record { fuel = length m.code; enough = omega arith; inside = omega arith; verdict = refl;
+    states = λ target low. refl }
 
 module _ (m : Contents) (spans : Spans m) where
   -- one instruction further
@@ -437,11 +485,13 @@ module _ (m : Contents) (spans : Spans m) where
         enough = omega arith;
         inside = inside;
         verdict = p.rest;
-        states = λ target low. states target (omega arith) ∙ walk_beyond n m at before p.after p.instr target (omega arith) p.spelled p.judged;
+        states = λ target low. states target (omega arith)
+            ∙ walk_beyond n m at before p.after p.instr target (omega arith) p.spelled p.judged;
       }
 
   -- what holds at a start that the pass went beyond
-  holds_at : (at : ℕ) (before after : Option State) (i : Instr) (n : ℕ) → fetched m.code at ≡ Ok i → judged_at m at before i ≡ Ok after
+  holds_at : (at : ℕ) (before after : Option State) (i : Instr) (n : ℕ) → fetched m.code at ≡ Ok i
+      → judged_at m at before i ≡ Ok after
       → states_of m at ≡ walk (suc n) m at before at → HoldsAt m (states_of m) at before
   holds_at at before after i n sp j states =
       let st = stepped m at before i after j in
@@ -457,7 +507,8 @@ module _ (m : Contents) (spans : Spans m) where
       }
 
   module _ (accepted : verdict m ≡ Ok tt) where
-    accepted_step : (at : ℕ) (before : Option State) (n : ℕ) → at < length m.code → judge (suc n) m at before ≡ Ok tt → Passed n m at before (Ok tt)
+    accepted_step : (at : ℕ) (before : Option State) (n : ℕ) → at < length m.code → judge (suc n) m at before ≡ Ok tt
+        → Passed n m at before (Ok tt)
     accepted_step at before n low h = elim (judge_step n m at before (Ok tt) low h) [
       | inl p ↦ p
       | inr r ↦ let no : ◌≡◌ {A = Verdict} (Ok tt) (Err r.0) = r.1 in absurd (cc)
@@ -470,7 +521,9 @@ module _ (m : Contents) (spans : Spans m) where
         let inside = spans.inside at i sp in
         let some = spans.some at i sp in
         let low : at < length m.code = omega arith in
-        elim w.fuel as (λ n. length m.code ≤ at + n → judge n m at before ≡ Ok tt → ((target : ℕ) → at ≤ target → states_of m target ≡ walk n m at before target) → OnWay m (Ok tt) to after) [
+        elim w.fuel as (λ n. length m.code ≤ at + n → judge n m at before ≡ Ok tt
+            → ((target : ℕ) → at ≤ target → states_of m target ≡ walk n m at before target) → OnWay m (Ok tt) to after)
+            [
           | zero ↦ λ enough h states. absurd (omega arith)
           | suc n ↦ λ enough h states.
               let p = accepted_step at before n low h in
@@ -478,12 +531,16 @@ module _ (m : Contents) (spans : Spans m) where
               let step = stepped m at before p.instr p.after p.judged in
               let same_s : step.state ≡ s = same_some (state_at m at before) step.state s step.stands st in
               let to' : at + p.instr.len ≡ to = ap (λ (j : Instr). at + j.len) same_i ∙ sym to_is in
-              let after' : p.after ≡ after = step.after_is ∙ ap (λ (j : Instr). falling (rule_at m at j step.state)) same_i ∙ ap (λ (t : State). falling (rule_at m at i t)) same_s ∙ sym after_is in
-              subst (λ (q : Place). OnWay m (Ok tt) q.0 q.1) (pair_is to' after') (goes_further (Ok tt) at before n enough states p)
+              let after' : p.after ≡ after =
+                  step.after_is ∙ ap (λ (j : Instr). falling (rule_at m at j step.state)) same_i
+                  ∙ ap (λ (t : State). falling (rule_at m at i t)) same_s ∙ sym after_is in
+              subst (λ (q : Place). OnWay m (Ok tt) q.0 q.1) (pair_is to' after')
+                  (goes_further (Ok tt) at before n enough states p)
         ] w.enough w.verdict w.states
 
     -- a start that the tables tell is one
-    start_reached : (n at : ℕ) (before : Option State) (o : ℕ) → Reaches m at before → length m.code ≤ at + n → judge n m at before ≡ Ok tt
+    start_reached : (n at : ℕ) (before : Option State) (o : ℕ) → Reaches m at before → length m.code ≤ at + n
+        → judge n m at before ≡ Ok tt
         → at ≤ o → o < length m.code → is_start m o ≡ true → (b : Option State) × Reaches m o b
     start_reached zero at before o r enough h low high l = absurd (omega arith)
     start_reached (suc n) at before o r enough h low high l = elim (cases_eq o at) [
@@ -496,14 +553,18 @@ module _ (m : Contents) (spans : Spans m) where
             | inl within ↦
                 let none = no_first_start m (at + 1) (p.instr.len - 1) p.no_start o (omega arith) (omega arith) in
                 let no' : true ≡ false = sym l ∙ none in absurd (cc)
-            | inr beyond ↦ start_reached n (at + p.instr.len) p.after o (follows r step.stands p.spelled refl step.after_is) (omega arith) p.rest beyond high l
+            | inr beyond ↦ start_reached n (at + p.instr.len) p.after o
+                (follows r step.stands p.spelled refl step.after_is) (omega arith) p.rest beyond high l
           ]
     ]
 
-    each_holds : (at : ℕ) (before : Option State) → at < length m.code → Reaches m at before → HoldsAt m (states_of m) at before
+    each_holds : (at : ℕ) (before : Option State) → at < length m.code → Reaches m at before
+        → HoldsAt m (states_of m) at before
     each_holds at before low r =
         let w = on_way r in
-        elim w.fuel as (λ n. length m.code ≤ at + n → judge n m at before ≡ Ok tt → ((target : ℕ) → at ≤ target → states_of m target ≡ walk n m at before target) → HoldsAt m (states_of m) at before) [
+        elim w.fuel as (λ n. length m.code ≤ at + n → judge n m at before ≡ Ok tt
+            → ((target : ℕ) → at ≤ target → states_of m target ≡ walk n m at before target)
+            → HoldsAt m (states_of m) at before) [
           | zero ↦ λ enough h states. absurd (omega arith)
           | suc n ↦ λ enough h states.
               let p = accepted_step at before n low h in
@@ -513,14 +574,17 @@ module _ (m : Contents) (spans : Spans m) where
     nothing_falls_off : (before : Option State) → Reaches m (length m.code) before → before ≡ None
     nothing_falls_off before r =
         let w = on_way r in
-        let e : at_the_end (length m.code) before ≡ Ok tt = sym (judge_end w.fuel m (length m.code) before (omega arith)) ∙ w.verdict in
-        elim before as (λ b. at_the_end (length m.code) b ≡ Ok tt → b ≡ None) [ None ↦ λ h. refl | Some s ↦ λ h. absurd (cc) ] e
+        let e : at_the_end (length m.code) before ≡ Ok tt =
+            sym (judge_end w.fuel m (length m.code) before (omega arith)) ∙ w.verdict in
+        elim before as (λ b. at_the_end (length m.code) b ≡ Ok tt → b ≡ None)
+            [ None ↦ λ h. refl | Some s ↦ λ h. absurd (cc) ] e
 
     pub accepted_is_certified : IsCertified m
     accepted_is_certified = record {
       states = states_of m;
       holds = record {
-        starts = λ at low l. start_reached (length m.code) 0 (Some (root_state m)) at begins (omega arith) accepted (omega arith) low l;
+        starts = λ at low l. start_reached (length m.code) 0 (Some (root_state m)) at begins (omega arith) accepted
+            (omega arith) low l;
         each = λ at before low r. each_holds at before low r;
       };
       ends = nothing_falls_off;
@@ -537,7 +601,8 @@ module _ (m : Contents) (spans : Spans m) where
     pub below : HoldsBelow m (states_of m) at
 
   -- it holds below an offset within or just behind an instruction at which the pass went on
-  further_below : (at : ℕ) (before after : Option State) (i : Instr) (n o : ℕ) → Arrived at before (suc n) → fetched m.code at ≡ Ok i → judged_at m at before i ≡ Ok after
+  further_below : (at : ℕ) (before after : Option State) (i : Instr) (n o : ℕ) → Arrived at before (suc n)
+      → fetched m.code at ≡ Ok i → judged_at m at before i ≡ Ok after
       → o ≤ at + i.len → ((q : ℕ) → at < q → q < o → is_start m q ≡ false) → HoldsBelow m (states_of m) o
   further_below at before after i n o a sp j high none = record {
     starts = λ q low l. elim (cases_lt q at) [
@@ -553,13 +618,15 @@ module _ (m : Contents) (spans : Spans m) where
         | inl e ↦
             let r' : Reaches m at b = subst (λ x. Reaches m x b) e r in
             let same : b ≡ before = one_way m spans at b before r' a.reached in
-            subst (λ (p : Place). HoldsAt m (states_of m) p.0 p.1) (pair_is (sym e) (sym same)) (holds_at at before after i n sp j (a.states at (omega arith)))
+            subst (λ (p : Place). HoldsAt m (states_of m) p.0 p.1) (pair_is (sym e) (sym same))
+                (holds_at at before after i n sp j (a.states at (omega arith)))
         | inr d ↦ absurd (none_within m spans at q before b i sp (omega arith) (omega arith) a.reached r)
       ]
     ];
   }
 
-  halted_is_refused : (at : ℕ) (before : Option State) (n : ℕ) (v : Rule) (o : ℕ) → at < length m.code → Arrived at before (suc n) → Halted m at before v o → IsRefused m v o
+  halted_is_refused : (at : ℕ) (before : Option State) (n : ℕ) (v : Rule) (o : ℕ) → at < length m.code
+      → Arrived at before (suc n) → Halted m at before v o → IsRefused m v o
   halted_is_refused at before n v o low a (at_spelling v_is o_is sp) =
       rw o_is (record { states = states_of m; holds = a.below; broken = misspelled v_is a.reached low sp })
   halted_is_refused at before n v o low a (at_rule {i = i} o_is sp j) =
@@ -573,26 +640,33 @@ module _ (m : Contents) (spans : Spans m) where
       record {
         states = states_of m;
         holds = further_below at before after i n o a sp j (omega arith) (λ q lo hi. f.others q (omega arith) hi);
-        broken = hidden v_is (omega arith) f.here (λ b r. none_within m spans at o before b i sp above high a.reached r);
+        broken = hidden v_is (omega arith) f.here
+            (λ b r. none_within m spans at o before b i sp above high a.reached r);
       }
 
-  ended_is_refused : (at : ℕ) (before : Option State) (n : ℕ) (r : Breach) → at ≡ length m.code → Arrived at before n → at_the_end at before ≡ Err r → IsRefused m r.rule r.offset
+  ended_is_refused : (at : ℕ) (before : Option State) (n : ℕ) (r : Breach) → at ≡ length m.code → Arrived at before n
+      → at_the_end at before ≡ Err r → IsRefused m r.rule r.offset
   ended_is_refused at None n r e a h = absurd (cc)
   ended_is_refused at (Some s) n r e a h =
       let same : ◌≡◌ {A = Verdict} (refused rules.Flow at) (Err r) = h in
       let r_is : record { rule = rules.Flow; offset = at } ≡ r = cc in
-      subst (λ (r : Breach). IsRefused m r.rule r.offset) r_is (record { states = states_of m; holds = a.below; broken = fallen_off refl e a.reached })
+      subst (λ (r : Breach). IsRefused m r.rule r.offset) r_is
+          (record { states = states_of m; holds = a.below; broken = fallen_off refl e a.reached })
 
-  judged_is_refused : (n at : ℕ) (before : Option State) (r : Breach) → Arrived at before n → judge n m at before ≡ Err r → IsRefused m r.rule r.offset
+  judged_is_refused : (n at : ℕ) (before : Option State) (r : Breach) → Arrived at before n
+      → judge n m at before ≡ Err r → IsRefused m r.rule r.offset
   judged_is_refused zero at before r a h =
-      ended_is_refused at before zero r (omega (arith, a.enough, a.inside)) a (sym (judge_end zero m at before (omega (arith, a.enough))) ∙ h)
+      ended_is_refused at before zero r (omega (arith, a.enough, a.inside)) a
+          (sym (judge_end zero m at before (omega (arith, a.enough))) ∙ h)
   judged_is_refused (suc n) at before r a h = elim (cases_lt at (length m.code)) [
-    | inr high ↦ ended_is_refused at before (suc n) r (omega (arith, a.inside)) a (sym (judge_end (suc n) m at before high) ∙ h)
+    | inr high ↦ ended_is_refused at before (suc n) r (omega (arith, a.inside)) a
+        (sym (judge_end (suc n) m at before high) ∙ h)
     | inl low ↦ elim (judge_step n m at before (Err r) low h) [
       | inr x ↦
           let same : ◌≡◌ {A = Verdict} (Err r) (Err x.0) = x.1 in
           let r_is : x.0 ≡ r = cc in
-          subst (λ (r : Breach). IsRefused m r.rule r.offset) r_is (halted_is_refused at before n x.0.rule x.0.offset low a x.2)
+          subst (λ (r : Breach). IsRefused m r.rule r.offset) r_is
+              (halted_is_refused at before n x.0.rule x.0.offset low a x.2)
       | inl p ↦
           let step = stepped m at before p.instr p.after p.judged in
           let some = spans.some at p.instr p.spelled in
@@ -601,7 +675,8 @@ module _ (m : Contents) (spans : Spans m) where
             reached = follows a.reached step.stands p.spelled refl step.after_is;
             enough = omega (arith, a.enough);
             inside = spans.inside at p.instr p.spelled;
-            states = λ target low. a.states target (omega arith) ∙ walk_beyond n m at before p.after p.instr target (omega arith) p.spelled p.judged;
+            states = λ target low. a.states target (omega arith)
+                ∙ walk_beyond n m at before p.after p.instr target (omega arith) p.spelled p.judged;
             below = further_below at before p.after p.instr n (at + p.instr.len) a p.spelled p.judged (omega arith)
                 (λ q lo hi. no_first_start m (at + 1) (p.instr.len - 1) p.no_start q (omega arith) (omega arith));
           }) p.rest

@@ -1,5 +1,6 @@
 -- What the format and the decoder say of a module's contents, as the theorems need it.
-use Rattle.std.proofs.Common.{◌≡◌, ℕ, ◌<◌, ◌≤◌, Bool, true, false, cond, if◌then◌else◌, inl, inr, pos, List, [], ◌∷◌, length, drop, take, Some, Result, Ok, Err, sym, ap, ◌∙◌, subst, arith}
+use Rattle.std.proofs.Common.{◌≡◌, ℕ, ◌<◌, ◌≤◌, Bool, true, false, cond, if◌then◌else◌, inl, inr, pos, List, [], ◌∷◌}
+use Rattle.std.proofs.Common.{length, drop, take, Some, Result, Ok, Err, sym, ap, ◌∙◌, subst, arith}
 use Rattle.std.specs.Prelude.{find, ◌==◌}
 use Rattle.std.proofs.lemmas.Bool.Decides.{eqb_tells}
 use Rattle.prefix_decoder.specs.declared.decoding.Instr.{Instr}
@@ -27,7 +28,8 @@ checked_reads : (bytes : List ℕ) (r : Result Instr DecodeFault) (i : Instr) �
 checked_reads bytes (Err e) i h = absurd (cc)
 checked_reads bytes (Ok j) i h = on_test (bytes_eq (take j.len bytes) (spelling j.fun j.operand)) h
   where
-    on_test : (b : Bool) → (if b then Ok j else Err SecondSpelling) ≡ Ok i → ◌≡◌ {A = Result Instr DecodeFault} (Ok j) (Ok i)
+    on_test : (b : Bool) → (if b then Ok j else Err SecondSpelling) ≡ Ok i
+        → ◌≡◌ {A = Result Instr DecodeFault} (Ok j) (Ok i)
     on_test true e = e
     on_test false e = absurd (cc)
 
@@ -50,15 +52,19 @@ module _ (m : Contents) (k : Keeps m) where
 -- ---- the labels
 
 -- a label that is found keeps what each row keeps
-found_keeps : (code_len : ℕ) (procedures : List Procedure) (low at : ℕ) (rows : List Label) (t : Label) → InOrder (LabelKeeps code_len procedures) behind_label low rows → find (λ row. row.offset == at) rows ≡ Some t
+found_keeps : (code_len : ℕ) (procedures : List Procedure) (low at : ℕ) (rows : List Label) (t : Label)
+    → InOrder (LabelKeeps code_len procedures) behind_label low rows → find (λ row. row.offset == at) rows ≡ Some t
     → (t.offset ≡ at) × (t.offset < code_len)
 found_keeps code_len procedures low at [] t all h = absurd (cc)
 found_keeps code_len procedures low at (row ∷ rows) t all h = elim (eqb_tells row.offset at) [
   | inl e ↦
-      let here : Some row ≡ Some t = sym (ap (λ (b : Bool). cond b (Some row) (find (λ row. row.offset == at) rows)) e.0) ∙ h in
+      let here : Some row ≡ Some t =
+          sym (ap (λ (b : Bool). cond b (Some row) (find (λ row. row.offset == at) rows)) e.0) ∙ h in
       let same : row ≡ t = cc in
-      (subst (λ (r : Label). r.offset ≡ at) same e.1, subst (λ (r : Label). r.offset < code_len) same all.0.offset.in_code)
-  | inr e ↦ found_keeps code_len procedures row.offset at rows t all.1 (sym (ap (λ (b : Bool). cond b (Some row) (find (λ row. row.offset == at) rows)) e.0) ∙ h)
+      (subst (λ (r : Label). r.offset ≡ at) same e.1,
+          subst (λ (r : Label). r.offset < code_len) same all.0.offset.in_code)
+  | inr e ↦ found_keeps code_len procedures row.offset at rows t all.1
+      (sym (ap (λ (b : Bool). cond b (Some row) (find (λ row. row.offset == at) rows)) e.0) ∙ h)
 ]
 
 code_is_short : (v : Version) → max_code v ≤ 262143
@@ -72,7 +78,8 @@ well_formed m k = record {
   few_words = omega (arith, k.sizes.data_limit);
   few_constants = omega (arith, k.sizes.constants_limit);
   base = k.sizes.base;
-  labels = λ at t h. let f = found_keeps (length m.code) m.procedures 0 at m.labels t k.rows.labels h in omega (arith, f.0, f.1);
+  labels = λ at t h. let f =
+      found_keeps (length m.code) m.procedures 0 at m.labels t k.rows.labels h in omega (arith, f.0, f.1);
   rows = λ at t h. label_row_at m at t k h;
   pairs = λ at t h. label_pairs m at t k h;
 }

@@ -1,5 +1,6 @@
 -- Lists of tasks, numbers and processes after one was set, removed or put at the end.
-use Rattle.std.proofs.Common.{◌≡◌, ◌≢◌, ℕ, zero, suc, ◌+◌, ◌%◌, ◌<◌, inl, inr, List, [], ◌∷◌, ◌++◌, length, Option, Some, None, refl, sym, ap, ◌∙◌, subst, arith}
+use Rattle.std.proofs.Common.{◌≡◌, ◌≢◌, ℕ, zero, suc, ◌+◌, ◌%◌, ◌<◌, inl, inr, List, [], ◌∷◌, ◌++◌, length, Option}
+use Rattle.std.proofs.Common.{Some, None, refl, sym, ap, ◌∙◌, subst, arith}
 use Rattle.std.proofs.lemmas.Bool.{cases_eq}
 use Rattle.std.specs.Prelude.{slice_get, slice_set}
 use Rattle.std.specs.List.{remove}
@@ -8,7 +9,8 @@ use Rattle.machine_state.specs.declared.process.Condition.TheVariants.{Ready}
 use Rattle.machine_state.specs.Moves.{picked}
 use Rattle.verifier.specs.Invariant.{IsReadyAt, AllReady, IsAbsent, AllDiffer, line_of, Line, total}
 
-pub got_set : {A : Type 0} (xs : List A) (p : ℕ) (x y : A) → slice_get xs p ≡ Some x → slice_get (slice_set xs p y) p ≡ Some y
+pub got_set : {A : Type 0} (xs : List A) (p : ℕ) (x y : A) → slice_get xs p ≡ Some x
+    → slice_get (slice_set xs p y) p ≡ Some y
 got_set [] p x y h = absurd (cc)
 got_set (z ∷ zs) zero x y h = refl
 got_set (z ∷ zs) (suc p) x y h = got_set zs p x y h
@@ -20,40 +22,50 @@ got_other (z ∷ zs) zero (suc q) y differ = refl
 got_other (z ∷ zs) (suc p) zero y differ = refl
 got_other (z ∷ zs) (suc p) (suc q) y differ = got_other zs p q y (λ e. differ (ap suc e))
 
-pub total_set : (dues : List ℕ) (p d e : ℕ) → slice_get dues p ≡ Some d → total (slice_set dues p e) + d ≡ total dues + e
+pub total_set : (dues : List ℕ) (p d e : ℕ) → slice_get dues p ≡ Some d
+    → total (slice_set dues p e) + d ≡ total dues + e
 total_set [] p d e h = absurd (cc)
 total_set (x ∷ xs) zero d e h = let same : x ≡ d = cc in omega arith
 total_set (x ∷ xs) (suc p) d e h = let rest = total_set xs p d e h in omega arith
 
 -- ---- the line
 
-pub ready_same : (tasks : List Task) (p : ℕ) (t : Task) (q : ℕ) → t.condition ≡ Ready → IsReadyAt tasks q → IsReadyAt (slice_set tasks p t) q
+pub ready_same : (tasks : List Task) (p : ℕ) (t : Task) (q : ℕ) → t.condition ≡ Ready → IsReadyAt tasks q
+    → IsReadyAt (slice_set tasks p t) q
 ready_same tasks p t q ready r = elim (cases_eq p q) [
-  | inl e ↦ record { task = t; here = subst (λ n. slice_get (slice_set tasks p t) n ≡ Some t) e (got_set tasks p r.task t (subst (λ n. slice_get tasks n ≡ Some r.task) (sym e) r.here)); ready = ready }
+  | inl e ↦ record { task = t; here = subst (λ n. slice_get (slice_set tasks p t) n ≡ Some t) e
+      (got_set tasks p r.task t (subst (λ n. slice_get tasks n ≡ Some r.task) (sym e) r.here)); ready = ready }
   | inr differ ↦ record { task = r.task; here = got_other tasks p q t differ ∙ r.here; ready = r.ready }
 ]
 
-pub all_ready_same : (tasks : List Task) (p : ℕ) (t : Task) (qs : List ℕ) → t.condition ≡ Ready → AllReady tasks qs → AllReady (slice_set tasks p t) qs
+pub all_ready_same : (tasks : List Task) (p : ℕ) (t : Task) (qs : List ℕ) → t.condition ≡ Ready → AllReady tasks qs
+    → AllReady (slice_set tasks p t) qs
 all_ready_same tasks p t [] ready all = tt
-all_ready_same tasks p t (q ∷ qs) ready all = (ready_same tasks p t q ready all.0, all_ready_same tasks p t qs ready all.1)
+all_ready_same tasks p t (q ∷ qs) ready all =
+    (ready_same tasks p t q ready all.0, all_ready_same tasks p t qs ready all.1)
 
-pub all_ready_without : (tasks : List Task) (p : ℕ) (t : Task) (qs : List ℕ) → IsAbsent p qs → AllReady tasks qs → AllReady (slice_set tasks p t) qs
+pub all_ready_without : (tasks : List Task) (p : ℕ) (t : Task) (qs : List ℕ) → IsAbsent p qs → AllReady tasks qs
+    → AllReady (slice_set tasks p t) qs
 all_ready_without tasks p t [] absent all = tt
 all_ready_without tasks p t (q ∷ qs) absent all =
-    (record { task = all.0.task; here = got_other tasks p q t absent.0 ∙ all.0.here; ready = all.0.ready }, all_ready_without tasks p t qs absent.1 all.1)
+    (record { task = all.0.task; here = got_other tasks p q t absent.0 ∙ all.0.here; ready = all.0.ready },
+        all_ready_without tasks p t qs absent.1 all.1)
 
 -- who is not ready stands in no line
-pub absent_by_condition : (tasks : List Task) (p : ℕ) (t : Task) (qs : List ℕ) → slice_get tasks p ≡ Some t → (t.condition ≡ Ready → ⊥) → AllReady tasks qs → IsAbsent p qs
+pub absent_by_condition : (tasks : List Task) (p : ℕ) (t : Task) (qs : List ℕ) → slice_get tasks p ≡ Some t
+    → (t.condition ≡ Ready → ⊥) → AllReady tasks qs → IsAbsent p qs
 absent_by_condition tasks p t [] here waits all = tt
 absent_by_condition tasks p t (q ∷ qs) here waits all = (
-  λ e. let there : slice_get tasks p ≡ Some all.0.task = subst (λ n. slice_get tasks n ≡ Some all.0.task) (sym e) all.0.here in
+  λ e. let there : slice_get tasks p ≡ Some all.0.task =
+      subst (λ n. slice_get tasks n ≡ Some all.0.task) (sym e) all.0.here in
       let both : Some t ≡ Some all.0.task = sym here ∙ there in
       let same : t ≡ all.0.task = cc in
       waits (ap (λ (u : Task). u.condition) same ∙ all.0.ready),
   absent_by_condition tasks p t qs here waits all.1,
 )
 
-all_push : (tasks : List Task) (qs : List ℕ) (p : ℕ) → AllReady tasks qs → IsReadyAt tasks p → AllReady tasks (qs ++ p ∷ [])
+all_push : (tasks : List Task) (qs : List ℕ) (p : ℕ) → AllReady tasks qs → IsReadyAt tasks p
+    → AllReady tasks (qs ++ p ∷ [])
 all_push tasks [] p all ready = (ready, tt)
 all_push tasks (q ∷ qs) p all ready = (all.0, all_push tasks qs p all.1 ready)
 
@@ -105,24 +117,31 @@ some_at (q ∷ qs) (suc i) h = some_at qs i (omega arith)
 
 -- ---- moves of the queue
 
-pub leave_line : (tasks : List Task) (p : ℕ) (ready : List ℕ) → Line tasks (record { running = Some p; ready = ready }) → Line tasks (record { running = None; ready = ready }) × IsAbsent p ready × IsReadyAt tasks p
+pub leave_line : (tasks : List Task) (p : ℕ) (ready : List ℕ) → Line tasks (record { running = Some p; ready = ready })
+    → Line tasks (record { running = None; ready = ready }) × IsAbsent p ready × IsReadyAt tasks p
 leave_line tasks p ready l = (record { ready = l.ready.1; once = l.once.1 }, l.once.0, l.ready.0)
 
-pub push_line : (tasks : List Task) (running : Option ℕ) (ready : List ℕ) (p : ℕ) → Line tasks (record { running = running; ready = ready }) → IsReadyAt tasks p → IsAbsent p (line_of running ready)
+pub push_line : (tasks : List Task) (running : Option ℕ) (ready : List ℕ) (p : ℕ)
+    → Line tasks (record { running = running; ready = ready }) → IsReadyAt tasks p → IsAbsent p (line_of running ready)
     → Line tasks (record { running = running; ready = ready ++ p ∷ [] })
-push_line tasks None ready p l here absent = record { ready = all_push tasks ready p l.ready here; once = differ_push ready p l.once absent }
+push_line tasks None ready p l here absent =
+    record { ready = all_push tasks ready p l.ready here; once = differ_push ready p l.once absent }
 push_line tasks (Some r) ready p l here absent = record {
   ready = (l.ready.0, all_push tasks ready p l.ready.1 here);
   once = (absent_push ready p r l.once.0 (λ e. absent.0 (sym e)), differ_push ready p l.once.1 absent.1);
 }
 
-pub pick_line : (tasks : List Task) (running : Option ℕ) (ready : List ℕ) (pick : ℕ) → Line tasks (record { running = running; ready = ready }) → Line tasks (picked pick (record { running = running; ready = ready }))
+pub pick_line : (tasks : List Task) (running : Option ℕ) (ready : List ℕ) (pick : ℕ)
+    → Line tasks (record { running = running; ready = ready })
+    → Line tasks (picked pick (record { running = running; ready = ready }))
 pick_line tasks (Some p) ready pick l = l
 pick_line tasks None [] pick l = l
 pick_line tasks None (p ∷ ps) pick l =
     let place = pick % length (p ∷ ps) in
     let some = some_at (p ∷ ps) place (omega arith) in
     record {
-      ready = subst (λ (o : Option ℕ). AllReady tasks (line_of o (remove (p ∷ ps) place))) (sym some.1) (ready_at tasks (p ∷ ps) place some.0 l.ready some.1, all_remove tasks (p ∷ ps) place l.ready);
-      once = subst (λ (o : Option ℕ). AllDiffer (line_of o (remove (p ∷ ps) place))) (sym some.1) (taken_absent (p ∷ ps) place some.0 l.once some.1, differ_remove (p ∷ ps) place l.once);
+      ready = subst (λ (o : Option ℕ). AllReady tasks (line_of o (remove (p ∷ ps) place))) (sym some.1)
+          (ready_at tasks (p ∷ ps) place some.0 l.ready some.1, all_remove tasks (p ∷ ps) place l.ready);
+      once = subst (λ (o : Option ℕ). AllDiffer (line_of o (remove (p ∷ ps) place))) (sym some.1)
+          (taken_absent (p ∷ ps) place some.0 l.once some.1, differ_remove (p ∷ ps) place l.once);
     }

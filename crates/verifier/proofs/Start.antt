@@ -1,5 +1,7 @@
 -- The loaded world, and the headline.
-use Rattle.std.proofs.Common.{◌≡◌, ℕ, zero, suc, ◌+◌, ◌*◌, ◌≤◌, ◌<◌, ◌≤ℤ◌, ◌<ℤ◌, ◌+ℤ◌, ◌-ℤ◌, neg_ℤ, Bool, true, false, if◌then◌else◌, ltb, ◌&&◌, ◌||◌, ℤ, pos, negsuc, List, [], ◌∷◌, length, replicate, Some, None, refl, sym, ap, ◌∙◌, subst, arith}
+use Rattle.std.proofs.Common.{◌≡◌, ℕ, zero, suc, ◌+◌, ◌*◌, ◌≤◌, ◌<◌, ◌≤ℤ◌, ◌<ℤ◌, ◌+ℤ◌, ◌-ℤ◌, neg_ℤ, Bool, true, false}
+use Rattle.std.proofs.Common.{if◌then◌else◌, ltb, ◌&&◌, ◌||◌, ℤ, pos, negsuc, List, [], ◌∷◌, length, replicate, Some}
+use Rattle.std.proofs.Common.{None, refl, sym, ap, ◌∙◌, subst, arith}
 use Rattle.std.proofs.lemmas.List.{length-append, length-map, length-replicate}
 use Rattle.std.proofs.lemmas.Bool.{le-leb}
 use Rattle.std.proofs.lemmas.Int.{ints}
@@ -13,7 +15,8 @@ use Rattle.machine_state.specs.declared.link.InputLink.{InputLink}
 use Rattle.machine_state.specs.declared.link.OutputLink.{OutputLink}
 use Rattle.machine_state.specs.Memory.{data_start}
 use Rattle.machine_state.specs.Holding.{may_write, may_write_word}
-use Rattle.machine_state.specs.World.{Role, padding, loaded_memory, root_holding, root_task, root_role, quiet_links, loaded}
+use Rattle.machine_state.specs.World.{Role, padding, loaded_memory, root_holding, root_task, root_role, quiet_links}
+use Rattle.machine_state.specs.World.{loaded}
 use Rattle.machine_state.specs.LocalStep.{Local}
 use Rattle.states.specs.State.{root_state}
 use Rattle.verifier.specs.Certified.{begins, IsCertified}
@@ -33,16 +36,19 @@ owner_of_root : (first : ℕ) (rows : List Par) → 0 < first → owner first ro
 owner_of_root first [] some = refl
 owner_of_root first (row ∷ rows) some =
     let rest = owner_of_root (first + length row.branches) rows (omega arith) in
-    ap (λ n. if ltb n first then n else row.context) rest ∙ ap (λ (b : Bool). if b then 0 else row.context) (le-leb 1 first some)
+    ap (λ n. if ltb n first then n else row.context) rest
+        ∙ ap (λ (b : Bool). if b then 0 else row.context) (le-leb 1 first some)
 
 root_is : (m : Contents) → context_at m 0 ≡ Some (root_context m)
 unfolding context_at
 root_is m =
     let first : ℕ = 1 + length m.procedures in
-    ap (λ (b : Bool). if b then own_context m (owner first m.pars 0) else None) (le-leb 1 (first + branch_count m.pars) (omega arith))
+    ap (λ (b : Bool). if b then own_context m (owner first m.pars 0) else None)
+        (le-leb 1 (first + branch_count m.pars) (omega arith))
     ∙ ap (own_context m) (owner_of_root first m.pars (omega arith))
 
-memory_length : (m : Contents) → length (loaded_memory m) ≡ 4 * m.data_words + length m.code + padding (length m.code) + length m.constants
+memory_length : (m : Contents) → length (loaded_memory m) ≡ 4 * m.data_words + length m.code + padding
+    (length m.code) + length m.constants
 memory_length m = simp (length-append, length-map, length-replicate)
 
 data_inside : (m : Contents) → 4 * m.data_words ≤ length (loaded_memory m)
@@ -58,16 +64,20 @@ root_writes m place low =
     ap (λ (b : Bool). (b && ltb place (4 * m.data_words)) || false) (le-leb 0 place (omega arith))
     ∙ ap (λ (b : Bool). b || false) (le-leb (suc place) (4 * m.data_words) low)
 
-root_writes_word : (m : Contents) (place : ℕ) → place + 4 ≤ 4 * m.data_words → may_write_word (root_holding m) place ≡ true
+root_writes_word : (m : Contents) (place : ℕ) → place + 4 ≤ 4 * m.data_words
+    → may_write_word (root_holding m) place ≡ true
 unfolding may_write_word
 root_writes_word m place low =
-    ap (λ (b : Bool). b && may_write (root_holding m) (place + 1) && may_write (root_holding m) (place + 2) && may_write (root_holding m) (place + 3)) (root_writes m place (omega arith))
-    ∙ ap (λ (b : Bool). b && may_write (root_holding m) (place + 2) && may_write (root_holding m) (place + 3)) (root_writes m (place + 1) (omega arith))
+    ap (λ (b : Bool). b && may_write (root_holding m) (place + 1) && may_write (root_holding m) (place + 2)
+        && may_write (root_holding m) (place + 3)) (root_writes m place (omega arith))
+    ∙ ap (λ (b : Bool). b && may_write (root_holding m) (place + 2) && may_write (root_holding m) (place + 3))
+        (root_writes m (place + 1) (omega arith))
     ∙ ap (λ (b : Bool). b && may_write (root_holding m) (place + 3)) (root_writes m (place + 2) (omega arith))
     ∙ root_writes m (place + 3) (omega arith)
 
 -- the root's words are its own
-root_word : (m : Contents) (k : ℤ) → has_word (context_at m 0) k ≡ true → IsOwnWord (root_holding m) (length (loaded_memory m)) (pos (4 * m.base)) k
+root_word : (m : Contents) (k : ℤ) → has_word (context_at m 0) k ≡ true
+    → IsOwnWord (root_holding m) (length (loaded_memory m)) (pos (4 * m.base)) k
 root_word m k h =
     let inside : has_word (Some (root_context m)) k ≡ true = subst (λ c. has_word c k ≡ true) (root_is m) h in
     let both = and-parts (int_le (root_context m).lo k) (int_lt k (root_context m).hi) inside in
@@ -83,7 +93,9 @@ root_word m k h =
       mine = root_writes_word m (4 * n.0) fits;
     }
 
-root_frame : (m : Contents) → IsWellFormed m → HasFrame (root_holding m) (length (loaded_memory m)) (rights.may_write_word m 0) (rights.may_read_word m 0) (pos (4 * m.base)) (pos 0) (data_start + 4 * m.base)
+root_frame : (m : Contents) → IsWellFormed m
+    → HasFrame (root_holding m) (length (loaded_memory m)) (rights.may_write_word m 0) (rights.may_read_word m 0)
+    (pos (4 * m.base)) (pos 0) (data_start + 4 * m.base)
 root_frame m wf = record {
   small = rw (memory_length m) (omega (arith, wf.few_words, wf.short_code, wf.few_constants));
   own = λ k h. root_word m k (and-parts _ _ h).0;
@@ -109,13 +121,15 @@ nothing_at p y h = cc
 
 root_apart : (m : Contents) → AllApart (root_role m ∷ []) []
 root_apart m = record {
-  processes = λ p q r s differ a b. let x = only (root_role m) r p a in let y = only (root_role m) s q b in absurd (differ (x.0 ∙ sym y.0));
+  processes = λ p q r s differ a b. let x = only (root_role m) r p a in let y =
+      only (root_role m) s q b in absurd (differ (x.0 ∙ sym y.0));
   blocks = λ p q r s join a opened b.
       let x = only (root_role m) r p a in
       let no' : None ≡ Some join = ap (λ (role : Role). role.opened) x.1 ∙ opened in
       absurd (cc);
   channel_words = λ k q channel s a b. absurd (nothing_at k channel a);
-  blocks_once = λ p q r s a b differ x y open_a open_b. let u = only (root_role m) r p x in let v = only (root_role m) s q y in absurd (differ (u.0 ∙ sym v.0));
+  blocks_once = λ p q r s a b differ x y open_a open_b. let u = only (root_role m) r p x in let v =
+      only (root_role m) s q y in absurd (differ (u.0 ∙ sym v.0));
   channels_once = λ j k a b differ x y. absurd (nothing_at j a x);
   both_once = λ p k r join channel x opened y. absurd (nothing_at k channel y);
 }
@@ -160,8 +174,10 @@ module _ (m : Contents) (d : Decodes m) (wf : IsWellFormed m) (c : IsCertified m
 
   loaded_holds : Holds m (loaded m)
   loaded_holds =
-      let en = enter m d wf c (root_holding m) machine_modes.Plain root_activation 0 (root_state m) root_local begins wf.some_code root_after in
-      let lives = lives_at m d wf c (root_holding m) machine_modes.Plain en.act 0 (Some (root_state m)) en.state root_local begins wf.some_code en.stands en.after in
+      let en = enter m d wf c (root_holding m) machine_modes.Plain root_activation 0
+          (root_state m) root_local begins wf.some_code root_after in
+      let lives = lives_at m d wf c (root_holding m) machine_modes.Plain en.act 0
+          (Some (root_state m)) en.state root_local begins wf.some_code en.stands en.after in
       record {
         dues = en.state.number ∷ [];
         table = record {

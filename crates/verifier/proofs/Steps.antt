@@ -1,5 +1,7 @@
 -- One byte of one process.
-use Rattle.std.proofs.Common.{◌≡◌, ℕ, zero, suc, ◌+◌, ◌≤◌, ◌<◌, Bool, true, cond, is_some, inl, inr, ℤ, List, [], ◌∷◌, length, drop, Option, Some, None, Result, Ok, Err, refl, sym, ap, ◌∙◌, subst, arith, add-one}
+use Rattle.std.proofs.Common.{◌≡◌, ℕ, zero, suc, ◌+◌, ◌≤◌, ◌<◌, Bool, true, cond, is_some, inl, inr, ℤ, List, [], ◌∷◌}
+use Rattle.std.proofs.Common.{length, drop, Option, Some, None, Result, Ok, Err, refl, sym, ap, ◌∙◌, subst, arith}
+use Rattle.std.proofs.Common.{add-one}
 use Rattle.std.proofs.lemmas.Bool.{cases_lt, cases_Bool}
 use Rattle.std.specs.Prelude.{slice_get}
 use Rattle.prefix_decoder.specs.declared.function.Fun.{Fun}
@@ -25,7 +27,8 @@ use Rattle.states.specs.State.{State, label_state}
 use Rattle.states.specs.Below.{below}
 use Rattle.facts.specs.Rules.{Ruling, falls, breaks, rule_at}
 use Rattle.verifier.specs.Certified.{falling, state_at, Reaches, follows, IsCertified}
-use Rattle.facts.specs.Meaning.{Activation, with_turns, at_label, nothing_known, word_at_place, frame_word, IsReadableWord, HasFrame, Knows, IsWellFormed}
+use Rattle.facts.specs.Meaning.{Activation, with_turns, at_label, nothing_known, word_at_place, frame_word}
+use Rattle.facts.specs.Meaning.{IsReadableWord, HasFrame, Knows, IsWellFormed}
 use Rattle.machine_state.specs.Frame.{ChangesOwn}
 use Rattle.verifier.specs.Point.{IsReading, Stands, Decodes}
 use Rattle.verifier.specs.Invariant.{Lives}
@@ -44,11 +47,15 @@ same_some {A} o x y p q = let e : Some x ≡ Some y = sym p ∙ q in cc
 
 -- ---- what is known depends on readable bytes alone
 
-word_same : (m n : Memory) (place : ℕ) → byte_at m place ≡ byte_at n place → byte_at m (place + 1) ≡ byte_at n (place + 1) → byte_at m (place + 2) ≡ byte_at n (place + 2) → byte_at m (place + 3) ≡ byte_at n (place + 3) → word_at m place ≡ word_at n place
+word_same : (m n : Memory) (place : ℕ) → byte_at m place ≡ byte_at n place
+    → byte_at m (place + 1) ≡ byte_at n (place + 1) → byte_at m (place + 2) ≡ byte_at n (place + 2)
+    → byte_at m (place + 3) ≡ byte_at n (place + 3) → word_at m place ≡ word_at n place
 unfolding word_at
 word_same m n place a b c d = rw (a, b, c, d)
 
-four_readable : (h : Holding) (place : ℕ) → may_read_word h place ≡ true → (may_read h place ≡ true) × (may_read h (place + 1) ≡ true) × (may_read h (place + 2) ≡ true) × (may_read h (place + 3) ≡ true)
+four_readable : (h : Holding) (place : ℕ) → may_read_word h place ≡ true
+    → (may_read h place ≡ true) × (may_read h (place + 1) ≡ true) × (may_read h (place + 2) ≡ true)
+    × (may_read h (place + 3) ≡ true)
 unfolding may_read_word
 four_readable h place e =
     let p = and-parts _ _ e in
@@ -56,13 +63,16 @@ four_readable h place e =
     let r = and-parts _ _ q.0 in
     (r.0, r.1, q.1, p.1)
 
-pub knows_agree : (m : Contents) (h : Holding) (reads : ℤ → Bool) (s : State) (act : Activation) (r : Registers) (memory later : Memory) → ((k : ℤ) → reads k ≡ true → IsReadableWord h (length memory) act.origin k)
-    → ((place : ℕ) → may_read h place ≡ true → byte_at later place ≡ byte_at memory place) → Knows m reads s act r memory → Knows m reads s act r later
+pub knows_agree : (m : Contents) (h : Holding) (reads : ℤ → Bool) (s : State) (act : Activation) (r : Registers)
+    (memory later : Memory) → ((k : ℤ) → reads k ≡ true → IsReadableWord h (length memory) act.origin k)
+    → ((place : ℕ) → may_read h place ≡ true → byte_at later place ≡ byte_at memory place)
+        → Knows m reads s act r memory → Knows m reads s act r later
 knows_agree m h reads s act r memory later readable agree known = record {
   stack = known.stack;
   words = λ k. elim (cases_Bool (reads k)) [
     | inl inside ↦ means_same (known.words k) refl (same k inside)
-    | inr outside ↦ means_same (nothing_known m act k (frame_word later act.origin k)) (sym (known.within k outside)) refl
+    | inr outside ↦ means_same (nothing_known m act k (frame_word later act.origin k))
+        (sym (known.within k outside)) refl
   ];
   within = known.within;
 }
@@ -71,7 +81,8 @@ knows_agree m h reads s act r memory later readable agree known = record {
     same k inside =
         let w = readable k inside in
         let four = four_readable h w.place w.readable in
-        let at : (place : ℕ) → may_read h place ≡ true → byte_at memory place ≡ byte_at later place = λ place e. sym (agree place e) in
+        let at : (place : ℕ) → may_read h place ≡ true → byte_at memory place ≡ byte_at later place =
+            λ place e. sym (agree place e) in
         frame_word_is memory act.origin k w.place w.is
         ∙ word_same memory later w.place (at _ four.0) (at _ four.1) (at _ four.2) (at _ four.3)
         ∙ sym (ap (word_at_place later) (sym w.is))
@@ -79,7 +90,8 @@ knows_agree m h reads s act r memory later readable agree known = record {
 -- ---- reading the code
 
 -- what stands at a place of a list, and what is behind it
-front : {A : Type 0} (xs : List A) (i : ℕ) (y : A) (ys : List A) → drop i xs ≡ y ∷ ys → (slice_get xs i ≡ Some y) × (drop (suc i) xs ≡ ys) × (i < length xs)
+front : {A : Type 0} (xs : List A) (i : ℕ) (y : A) (ys : List A) → drop i xs ≡ y ∷ ys
+    → (slice_get xs i ≡ Some y) × (drop (suc i) xs ≡ ys) × (i < length xs)
 front [] zero y ys h = absurd (cc)
 front [] (suc i) y ys h = absurd (cc)
 front (x ∷ xs) zero y ys h = let e : x ≡ y = cc in let f : xs ≡ ys = cc in (ap Some e, f, omega arith)
@@ -91,9 +103,12 @@ pub record ByteHere (m : Contents) (r : Registers) (i : Instr) (taken : ℕ) : T
   pub whole : fuel + (taken + 1) ≡ 8
   pub byte : ℕ
   pub here : slice_get m.code r.at ≡ Some byte
-  pub rest : ended_or (fun_of (function_code byte)) (with_nibble r.operand (nibble byte)) (taken + 1) (read fuel (drop (r.at + 1) m.code) (after_prefix (function_code byte) (with_nibble r.operand (nibble byte))) (taken + 1)) ≡ Ok i
+  pub rest : ended_or (fun_of (function_code byte)) (with_nibble r.operand (nibble byte)) (taken + 1)
+      (read fuel (drop (r.at + 1) m.code) (after_prefix (function_code byte) (with_nibble r.operand (nibble byte)))
+      (taken + 1)) ≡ Ok i
 
-byte_of : (m : Contents) (r : Registers) (i : Instr) (taken fuel : ℕ) (bytes : List ℕ) → fuel + taken ≡ 8 → drop r.at m.code ≡ bytes → read fuel bytes r.operand taken ≡ Ok i → ByteHere m r i taken
+byte_of : (m : Contents) (r : Registers) (i : Instr) (taken fuel : ℕ) (bytes : List ℕ) → fuel + taken ≡ 8
+    → drop r.at m.code ≡ bytes → read fuel bytes r.operand taken ≡ Ok i → ByteHere m r i taken
 byte_of m r i taken zero bytes whole is h = absurd (cc)
 byte_of m r i taken (suc fuel) [] whole is h = absurd (cc)
 byte_of m r i taken (suc fuel) (byte ∷ bytes) whole is h =
@@ -103,7 +118,8 @@ byte_of m r i taken (suc fuel) (byte ∷ bytes) whole is h =
       whole = omega arith;
       byte = byte;
       here = f.0;
-      rest = subst (λ bs. ended_or (fun_of (function_code byte)) (with_nibble r.operand (nibble byte)) (taken + 1) (read fuel bs (after_prefix (function_code byte) (with_nibble r.operand (nibble byte))) (taken + 1)) ≡ Ok i)
+      rest = subst (λ bs. ended_or (fun_of (function_code byte)) (with_nibble r.operand (nibble byte)) (taken + 1)
+          (read fuel bs (after_prefix (function_code byte) (with_nibble r.operand (nibble byte))) (taken + 1)) ≡ Ok i)
           (sym (ap (λ n. drop n m.code) (add-one r.at) ∙ f.1)) h;
     }
 
@@ -111,25 +127,33 @@ pub byte_here : (m : Contents) (r : Registers) (i : Instr) (taken : ℕ) → IsR
 byte_here m r i taken reading = byte_of m r i taken reading.fuel (drop r.at m.code) reading.whole refl reading.rest
 
 -- what is still read makes the instruction longer
-longer : (fuel : ℕ) (bytes : List ℕ) (operand : ℤ) (taken : ℕ) (i : Instr) → read fuel bytes operand taken ≡ Ok i → taken < i.len
+longer : (fuel : ℕ) (bytes : List ℕ) (operand : ℤ) (taken : ℕ) (i : Instr) → read fuel bytes operand taken ≡ Ok i
+    → taken < i.len
 longer zero bytes operand taken i h = absurd (cc)
 longer (suc fuel) [] operand taken i h = absurd (cc)
 longer (suc fuel) (byte ∷ bytes) operand taken i h =
-    on_function (fun_of (function_code byte)) (λ e. longer fuel bytes (after_prefix (function_code byte) (with_nibble operand (nibble byte))) (taken + 1) i e) h
+    on_function (fun_of (function_code byte))
+        (λ e. longer fuel bytes (after_prefix (function_code byte) (with_nibble operand (nibble byte)))
+        (taken + 1) i e) h
   where
-    on_function : (f : Option Fun) → (read fuel bytes (after_prefix (function_code byte) (with_nibble operand (nibble byte))) (taken + 1) ≡ Ok i → taken + 1 < i.len)
-        → ended_or f (with_nibble operand (nibble byte)) (taken + 1) (read fuel bytes (after_prefix (function_code byte) (with_nibble operand (nibble byte))) (taken + 1)) ≡ Ok i → taken < i.len
+    on_function : (f : Option Fun) → (read fuel bytes (after_prefix (function_code byte)
+        (with_nibble operand (nibble byte))) (taken + 1) ≡ Ok i → taken + 1 < i.len)
+        → ended_or f (with_nibble operand (nibble byte)) (taken + 1)
+            (read fuel bytes (after_prefix (function_code byte) (with_nibble operand (nibble byte))) (taken + 1)) ≡ Ok i
+            → taken < i.len
     on_function (Some f) later e =
         let same : record { fun = f; operand = with_nibble operand (nibble byte); len = taken + 1 } ≡ i = cc in
         let len : taken + 1 ≡ i.len = ap (λ (j : Instr). j.len) same in
         omega arith
     on_function None later e = omega (arith, later e)
 
-after_none : (f : Option Fun) (e : ℤ) (n : ℕ) (rest : Result Instr DecodeFault) (i : Instr) → f ≡ None → ended_or f e n rest ≡ Ok i → rest ≡ Ok i
+after_none : (f : Option Fun) (e : ℤ) (n : ℕ) (rest : Result Instr DecodeFault) (i : Instr) → f ≡ None
+    → ended_or f e n rest ≡ Ok i → rest ≡ Ok i
 after_none None e n rest i none h = h
 after_none (Some f) e n rest i none h = absurd (cc)
 
-after_some : (f : Option Fun) (g : Fun) (e : ℤ) (n : ℕ) (rest : Result Instr DecodeFault) (i : Instr) → f ≡ Some g → ended_or f e n rest ≡ Ok i → (g ≡ i.fun) × (e ≡ i.operand) × (n ≡ i.len)
+after_some : (f : Option Fun) (g : Fun) (e : ℤ) (n : ℕ) (rest : Result Instr DecodeFault) (i : Instr) → f ≡ Some g
+    → ended_or f e n rest ≡ Ok i → (g ≡ i.fun) × (e ≡ i.operand) × (n ≡ i.len)
 after_some None g e n rest i some h = absurd (cc)
 after_some (Some f) g e n rest i some h =
     let same : ◌≡◌ {A = Result Instr DecodeFault} (Ok (record { fun = f; operand = e; len = n })) (Ok i) = h in
@@ -148,7 +172,8 @@ fits_pays x (it_breaks {broken = v}) whole = absurd (whole v refl)
 -- no rule that the certificate holds at is broken
 module _ (m : Contents) (d : Decodes m) (wf : IsWellFormed m) (c : IsCertified m) where
   -- what falls through has code behind it
-  has_next : (at : ℕ) (before : Option State) (s : State) (i : Instr) → Reaches m at before → state_at m at before ≡ Some s → fetched m.code at ≡ Ok i
+  has_next : (at : ℕ) (before : Option State) (s : State) (i : Instr) → Reaches m at before
+      → state_at m at before ≡ Some s → fetched m.code at ≡ Ok i
       → (s' : State) → rule_at m at i s ≡ falls s' → at + i.len < length m.code
   has_next at before s i r st sp s' e =
       let inside = d.inside at i sp in
@@ -162,7 +187,8 @@ module _ (m : Contents) (d : Decodes m) (wf : IsWellFormed m) (c : IsCertified m
       ]
 
   -- the state behind, where one falls in, and its activation
-  pub record Entered (h : Holding) (mode : machine.Mode) (at number : ℕ) (before : Option State) (l : Local) : Type 0 where
+  pub record Entered (h : Holding) (mode : machine.Mode) (at number : ℕ) (before : Option State)
+      (l : Local) : Type 0 where
     pub state : State
     pub stands : state_at m at before ≡ Some state
     pub act : Activation
@@ -170,8 +196,11 @@ module _ (m : Contents) (d : Decodes m) (wf : IsWellFormed m) (c : IsCertified m
     pub paid : state.number ≤ number
 
   -- at a label, or where the tables give no state
-  enter_on : (h : Holding) (mode : machine.Mode) (act : Activation) (at : ℕ) (s : State) (l : Local) (cost : ℕ) (label : Option Label) (begun : Option Begun) → label_at m at ≡ label → procedure_at m at ≡ begun
-      → After m h mode act s l → elim label as (λ o. Result ℕ Rule) [ None ↦ cond (is_some begun) (Err rules.Flow) (Ok 0) | Some t ↦ below s t ] ≡ Ok cost → Entered h mode at s.number (Some s) l
+  enter_on : (h : Holding) (mode : machine.Mode) (act : Activation) (at : ℕ) (s : State) (l : Local) (cost : ℕ)
+      (label : Option Label) (begun : Option Begun) → label_at m at ≡ label → procedure_at m at ≡ begun
+      → After m h mode act s l → elim label as (λ o. Result ℕ Rule)
+          [ None ↦ cond (is_some begun) (Err rules.Flow) (Ok 0) | Some t ↦ below s t ] ≡ Ok cost
+          → Entered h mode at s.number (Some s) l
   enter_on h mode act at s l cost None None no_label no_procedure a ok = record {
     state = s;
     stands = nothing_given m at (Some s) (given_none m at no_label no_procedure);
@@ -190,14 +219,17 @@ module _ (m : Contents) (d : Decodes m) (wf : IsWellFormed m) (c : IsCertified m
         paid = b.0;
       }
 
-  pub enter : (h : Holding) (mode : machine.Mode) (act : Activation) (at : ℕ) (s : State) (l : Local) → Reaches m at (Some s) → at < length m.code → After m h mode act s l → Entered h mode at s.number (Some s) l
+  pub enter : (h : Holding) (mode : machine.Mode) (act : Activation) (at : ℕ) (s : State) (l : Local)
+      → Reaches m at (Some s) → at < length m.code → After m h mode act s l → Entered h mode at s.number (Some s) l
   enter h mode act at s l r low a =
       let holds = c.holds.each at (Some s) low r in
       enter_on h mode act at s l holds.cost (label_at m at) (procedure_at m at) refl refl a holds.enters
 
   -- between two instructions
-  pub lives_at : (h : Holding) (mode : machine.Mode) (act : Activation) (at : ℕ) (before : Option State) (s : State) (l : Local) → Reaches m at before → at < length m.code → state_at m at before ≡ Some s
-      → After m h mode act s l → Lives m h l.memory (record { registers = between at l.registers; mode = mode; condition = Ready }) s.number
+  pub lives_at : (h : Holding) (mode : machine.Mode) (act : Activation) (at : ℕ) (before : Option State) (s : State)
+      (l : Local) → Reaches m at before → at < length m.code → state_at m at before ≡ Some s
+      → After m h mode act s l → Lives m h l.memory (record { registers = between at l.registers; mode = mode;
+          condition = Ready }) s.number
   lives_at h mode act at before s l r low st a =
       let holds = c.holds.each at before low r in
       record {
@@ -208,26 +240,35 @@ module _ (m : Contents) (d : Decodes m) (wf : IsWellFormed m) (c : IsCertified m
           stands = st;
           instr = holds.instr;
           taken = 0;
-          reading = record { fuel = 8; whole = refl; at_is = omega arith; spelled = holds.spelled; rest = d.reads at holds.instr holds.spelled };
+          reading =
+              record { fuel = 8; whole = refl; at_is = omega arith; spelled = holds.spelled;
+              rest = d.reads at holds.instr holds.spelled };
           act = act;
-          frame = subst (λ n. HasFrame h n (rights.may_write_word m s.context) (rights.may_read_word m s.context) act.origin s.depth l.registers.workspace) (sym size) a.frame;
-          knows = known_between (knows_agree m h (rights.may_read_word m s.context) s act l.registers l.memory later a.frame.readable (λ place e. agree place e refl) a.knows);
+          frame = subst (λ n. HasFrame h n (rights.may_write_word m s.context)
+              (rights.may_read_word m s.context) act.origin s.depth l.registers.workspace) (sym size) a.frame;
+          knows = known_between
+              (knows_agree m h (rights.may_read_word m s.context) s act l.registers l.memory later a.frame.readable
+              (λ place e. agree place e refl) a.knows);
           mode = a.same_mode;
           paid = omega arith;
         };
         room = λ place e. absurd (cc);
       }
     where
-      known_between : {reads : ℤ → Bool} {s : State} {act : Activation} {r : Registers} {memory : Memory} → Knows m reads s act r memory → Knows m reads s act (between at r) memory
+      known_between : {reads : ℤ → Bool} {s : State} {act : Activation} {r : Registers} {memory : Memory}
+          → Knows m reads s act r memory → Knows m reads s act (between at r) memory
       known_between k = record { stack = k.stack; words = k.words; within = k.within }
 
   -- how the rule at the process's point and the step fit, with the whole instruction read
   abbrev pub here_of : Holding → Activation → Memory → Task → State → Instr → Here
-  here_of h act memory t s i = record { m = m; h = h; act = act; mode = t.mode; memory = memory; number = s.number; at = t.registers.began; len = i.len }
+  here_of h act memory t s i =
+      record { m = m; h = h; act = act; mode = t.mode; memory = memory; number = s.number; at = t.registers.began;
+      len = i.len }
 
   pub point_fits : (h : Holding) (memory : Memory) (t : Task) (due : ℕ) (p : Stands m h memory t due)
       → Fits (here_of h p.act memory t p.state p.instr) (rule_at m t.registers.began p.instr p.state)
-      (local_step (step_site (here_of h p.act memory t p.state p.instr)) p.instr.fun p.instr.operand (record { registers = t.registers; memory = memory }))
+      (local_step (step_site (here_of h p.act memory t p.state p.instr)) p.instr.fun p.instr.operand
+          (record { registers = t.registers; memory = memory }))
   point_fits h memory t due p =
       let x = here_of h p.act memory t p.state p.instr in
       function_fits x wf p.state (record { registers = t.registers; memory = memory })
@@ -237,33 +278,43 @@ module _ (m : Contents) (d : Decodes m) (wf : IsWellFormed m) (c : IsCertified m
       (has_next t.registers.began p.before p.state p.instr p.reached p.stands p.reading.spelled)
 
   -- the rule at the process's point is not broken
-  pub unbroken : (h : Holding) (memory : Memory) (t : Task) (due : ℕ) (p : Stands m h memory t due) → t.registers.began < length m.code → (v : Rule) → rule_at m t.registers.began p.instr p.state ≡ breaks v → ⊥
+  pub unbroken : (h : Holding) (memory : Memory) (t : Task) (due : ℕ) (p : Stands m h memory t due)
+      → t.registers.began < length m.code → (v : Rule) → rule_at m t.registers.began p.instr p.state ≡ breaks v → ⊥
   unbroken h memory t due p low v e =
       let holds = c.holds.each t.registers.began p.before low p.reached in
-      let i_is : p.instr ≡ holds.instr = same_ok (fetched m.code t.registers.began) p.instr holds.instr p.reading.spelled holds.spelled in
-      let s_is : p.state ≡ holds.state = same_some (state_at m t.registers.began p.before) p.state holds.state p.stands holds.stands in
-      holds.unbroken v (ap (λ j. rule_at m t.registers.began j holds.state) (sym i_is) ∙ ap (λ u. rule_at m t.registers.began p.instr u) (sym s_is) ∙ e)
+      let i_is : p.instr ≡ holds.instr =
+          same_ok (fetched m.code t.registers.began) p.instr holds.instr p.reading.spelled holds.spelled in
+      let s_is : p.state ≡ holds.state =
+          same_some (state_at m t.registers.began p.before) p.state holds.state p.stands holds.stands in
+      holds.unbroken v (ap (λ j. rule_at m t.registers.began j holds.state) (sym i_is) ∙ ap
+          (λ u. rule_at m t.registers.began p.instr u) (sym s_is) ∙ e)
 
-  began_inside : (h : Holding) (memory : Memory) (t : Task) (due : ℕ) (p : Stands m h memory t due) → t.registers.began < length m.code
+  began_inside : (h : Holding) (memory : Memory) (t : Task) (due : ℕ) (p : Stands m h memory t due)
+      → t.registers.began < length m.code
   began_inside h memory t due p =
       let some = d.some t.registers.began p.instr p.reading.spelled in
       let inside = d.inside t.registers.began p.instr p.reading.spelled in
       omega arith
 
   -- the instruction can be paid
-  can_pay : (h : Holding) (memory : Memory) (t : Task) (due : ℕ) (p : Stands m h memory t due) → p.instr.len ≤ p.state.number
-  can_pay h memory t due p = fits_pays (here_of h p.act memory t p.state p.instr) (point_fits h memory t due p) (unbroken h memory t due p (began_inside h memory t due p))
+  can_pay : (h : Holding) (memory : Memory) (t : Task) (due : ℕ) (p : Stands m h memory t due)
+      → p.instr.len ≤ p.state.number
+  can_pay h memory t due p = fits_pays (here_of h p.act memory t p.state p.instr) (point_fits h memory t due p)
+      (unbroken h memory t due p (began_inside h memory t due p))
 
   -- something is owed before each byte
   pub owes : (h : Holding) (memory : Memory) (t : Task) (due : ℕ) (p : Stands m h memory t due) → 1 ≤ due
   owes h memory t due p =
       let pay = can_pay h memory t due p in
-      let more = longer p.reading.fuel (drop t.registers.at m.code) t.registers.operand p.taken p.instr p.reading.rest in
+      let more =
+          longer p.reading.fuel (drop t.registers.at m.code) t.registers.operand p.taken p.instr p.reading.rest in
       omega (arith, p.paid)
 
   -- a prefix: the process is one byte further in its instruction
-  pub prefixed_stands : (h : Holding) (memory : Memory) (t : Task) (due byte : ℕ) → Stands m h memory t (suc due) → slice_get m.code t.registers.at ≡ Some byte → fun_of (function_code byte) ≡ None
-      → Stands m h memory (record t { registers = record t.registers { at = t.registers.at + 1; operand = after_prefix (function_code byte) (with_nibble t.registers.operand (nibble byte)) } }) due
+  pub prefixed_stands : (h : Holding) (memory : Memory) (t : Task) (due byte : ℕ) → Stands m h memory t (suc due)
+      → slice_get m.code t.registers.at ≡ Some byte → fun_of (function_code byte) ≡ None
+      → Stands m h memory (record t { registers = record t.registers { at = t.registers.at + 1; operand = after_prefix
+          (function_code byte) (with_nibble t.registers.operand (nibble byte)) } }) due
   prefixed_stands h memory t due byte p here none =
       let b = byte_here m t.registers p.instr p.taken p.reading in
       let same : b.byte ≡ byte = same_some (slice_get m.code t.registers.at) b.byte byte b.here here in
@@ -280,7 +331,10 @@ module _ (m : Contents) (d : Decodes m) (wf : IsWellFormed m) (c : IsCertified m
           at_is = omega (arith, p.reading.at_is);
           spelled = p.reading.spelled;
           rest = after_none (fun_of (function_code byte)) _ _ _ p.instr none
-              (subst (λ y. ended_or (fun_of (function_code y)) (with_nibble t.registers.operand (nibble y)) (p.taken + 1) (read b.fuel (drop (t.registers.at + 1) m.code) (after_prefix (function_code y) (with_nibble t.registers.operand (nibble y))) (p.taken + 1)) ≡ Ok p.instr) same b.rest);
+              (subst (λ y. ended_or (fun_of (function_code y)) (with_nibble t.registers.operand (nibble y))
+                  (p.taken + 1) (read b.fuel (drop (t.registers.at + 1) m.code)
+                  (after_prefix (function_code y) (with_nibble t.registers.operand (nibble y))) (p.taken + 1))
+                  ≡ Ok p.instr) same b.rest);
         };
         act = p.act;
         frame = p.frame;
@@ -292,39 +346,61 @@ module _ (m : Contents) (d : Decodes m) (wf : IsWellFormed m) (c : IsCertified m
   -- what the last byte of an instruction comes to
   pub data Comes (h : Holding) (memory : Memory) (t : Task) (due : ℕ) : Outcome → Type 0 where
     -- it goes on behind it
-    comes_on : {l : Local} (later : ℕ) → ChangesOwn h memory l.memory → Lives m h l.memory (record { registers = between (t.registers.at + 1) l.registers; mode = t.mode; condition = Ready }) later → later + 1 ≤ due → Comes h memory t due (goes l)
+    comes_on : {l : Local} (later : ℕ) → ChangesOwn h memory l.memory
+        → Lives m h l.memory (record { registers = between (t.registers.at + 1) l.registers; mode = t.mode; condition =
+        Ready }) later → later + 1 ≤ due → Comes h memory t due (goes l)
     -- or at a label
-    comes_to : {to : ℕ} {l : Local} (later : ℕ) → ChangesOwn h memory l.memory → Lives m h l.memory (record { registers = between to l.registers; mode = t.mode; condition = Ready }) later → later + 1 ≤ due → Comes h memory t due (lands to l)
+    comes_to : {to : ℕ} {l : Local} (later : ℕ) → ChangesOwn h memory l.memory
+        → Lives m h l.memory (record { registers = between to l.registers; mode = t.mode; condition = Ready }) later
+        → later + 1 ≤ due → Comes h memory t due (lands to l)
     -- or it stops
     comes_down : {l : Local} → ChangesOwn h memory l.memory → 1 ≤ due → Comes h memory t due (stops l)
 
-  comes : (h : Holding) (memory : Memory) (t : Task) (due : ℕ) (p : Stands m h memory t due) (r : Ruling) (o : Outcome) → r ≡ rule_at m t.registers.began p.instr p.state → p.taken + 1 ≡ p.instr.len
+  comes : (h : Holding) (memory : Memory) (t : Task) (due : ℕ) (p : Stands m h memory t due) (r : Ruling) (o : Outcome)
+      → r ≡ rule_at m t.registers.began p.instr p.state → p.taken + 1 ≡ p.instr.len
       → Fits (here_of h p.act memory t p.state p.instr) r o → Comes h memory t due o
   comes h memory t due p r o e last (it_falls {s = s'} {l = l} low after changes pay) =
-      let next : Reaches m (t.registers.began + p.instr.len) (Some s') = follows p.reached p.stands p.reading.spelled refl (ap falling e) in
+      let next : Reaches m (t.registers.began + p.instr.len) (Some s') =
+          follows p.reached p.stands p.reading.spelled refl (ap falling e) in
       let at : t.registers.began + p.instr.len ≡ t.registers.at + 1 = omega (arith, p.reading.at_is) in
       let en = enter h t.mode p.act (t.registers.began + p.instr.len) s' l next low after in
-      let lives = lives_at h t.mode en.act (t.registers.began + p.instr.len) (Some s') en.state l next low en.stands en.after in
+      let lives =
+          lives_at h t.mode en.act (t.registers.began + p.instr.len) (Some s') en.state l next low en.stands en.after in
       comes_on en.state.number changes
-      (subst (λ n. Lives m h l.memory (record { registers = between n l.registers; mode = t.mode; condition = Ready }) en.state.number) at lives)
+      (subst (λ n. Lives m h l.memory (record { registers = between n l.registers; mode = t.mode; condition =
+          Ready }) en.state.number) at lives)
       (omega (arith, p.paid, en.paid))
   comes h memory t due p r o e last (it_leads {to = to} {l = l} {t = label} turns is low after changes pay) =
       let r = c.holds.starts to low (label_is_start m to label is) in
-      let st : state_at m to r.0 ≡ Some (label_state label) = is_given m to r.0 (label_state label) (given_label m to label is) in
-      comes_to label.number changes (lives_at h t.mode (with_turns turns p.act) to r.0 (label_state label) l r.1 low st after) (omega (arith, p.paid))
+      let st : state_at m to r.0 ≡ Some (label_state label) =
+          is_given m to r.0 (label_state label) (given_label m to label is) in
+      comes_to label.number changes (lives_at h t.mode (with_turns turns p.act) to r.0
+          (label_state label) l r.1 low st after) (omega (arith, p.paid))
   comes h memory t due p r o e last (it_ends changes pay) = comes_down changes (omega (arith, p.paid))
-  comes h memory t due p r o e last (it_breaks {broken = v}) = absurd (unbroken h memory t due p (began_inside h memory t due p) v (sym e))
+  comes h memory t due p r o e last (it_breaks {broken = v}) =
+      absurd (unbroken h memory t due p (began_inside h memory t due p) v (sym e))
 
   -- the last byte of an instruction
-  pub comes_last : (h : Holding) (memory : Memory) (t : Task) (due byte : ℕ) (f : Fun) → Stands m h memory t due → slice_get m.code t.registers.at ≡ Some byte → fun_of (function_code byte) ≡ Some f
-      → Comes h memory t due (local_step (record { code_length = length m.code; next = t.registers.at + 1; mode = t.mode; holding = h }) f (with_nibble t.registers.operand (nibble byte)) (record { registers = t.registers; memory = memory }))
+  pub comes_last : (h : Holding) (memory : Memory) (t : Task) (due byte : ℕ) (f : Fun) → Stands m h memory t due
+      → slice_get m.code t.registers.at ≡ Some byte → fun_of (function_code byte) ≡ Some f
+      → Comes h memory t due (local_step (record { code_length = length m.code; next = t.registers.at + 1; mode =
+          t.mode; holding = h }) f (with_nibble t.registers.operand (nibble byte))
+          (record { registers = t.registers; memory = memory }))
   comes_last h memory t due byte f p here some =
       let b = byte_here m t.registers p.instr p.taken p.reading in
       let same : b.byte ≡ byte = same_some (slice_get m.code t.registers.at) b.byte byte b.here here in
-      let rest = subst (λ y. ended_or (fun_of (function_code y)) (with_nibble t.registers.operand (nibble y)) (p.taken + 1) (read b.fuel (drop (t.registers.at + 1) m.code) (after_prefix (function_code y) (with_nibble t.registers.operand (nibble y))) (p.taken + 1)) ≡ Ok p.instr) same b.rest in
+      let rest = subst (λ y. ended_or (fun_of (function_code y)) (with_nibble t.registers.operand (nibble y))
+          (p.taken + 1) (read b.fuel (drop (t.registers.at + 1) m.code)
+          (after_prefix (function_code y) (with_nibble t.registers.operand (nibble y))) (p.taken + 1))
+          ≡ Ok p.instr) same b.rest in
       let is = after_some (fun_of (function_code byte)) f _ _ _ p.instr some rest in
       let at : t.registers.began + p.instr.len ≡ t.registers.at + 1 = omega (arith, p.reading.at_is, is.2) in
-      subst (λ n. Comes h memory t due (local_step (record { code_length = length m.code; next = n; mode = t.mode; holding = h }) f (with_nibble t.registers.operand (nibble byte)) (record { registers = t.registers; memory = memory }))) at
-      (subst (λ g. Comes h memory t due (local_step (step_site (here_of h p.act memory t p.state p.instr)) g (with_nibble t.registers.operand (nibble byte)) (record { registers = t.registers; memory = memory }))) (sym is.0)
-      (subst (λ e. Comes h memory t due (local_step (step_site (here_of h p.act memory t p.state p.instr)) p.instr.fun e (record { registers = t.registers; memory = memory }))) (sym is.1)
+      subst (λ n. Comes h memory t due (local_step (record { code_length = length m.code; next = n; mode = t.mode;
+          holding = h }) f (with_nibble t.registers.operand (nibble byte))
+          (record { registers = t.registers; memory = memory }))) at
+      (subst (λ g. Comes h memory t due (local_step (step_site (here_of h p.act memory t p.state p.instr)) g
+          (with_nibble t.registers.operand (nibble byte)) (record { registers = t.registers; memory = memory })))
+          (sym is.0)
+      (subst (λ e. Comes h memory t due (local_step (step_site (here_of h p.act memory t p.state p.instr)) p.instr.fun e
+          (record { registers = t.registers; memory = memory }))) (sym is.1)
       (comes h memory t due p (rule_at m t.registers.began p.instr p.state) _ refl is.2 (point_fits h memory t due p))))

@@ -1,5 +1,6 @@
 -- When a module is certified, and when it is refused.
-use Rattle.std.specs.Prelude.{◌≡◌, ◌≢◌, ◌⊎◌, ℕ, ◌+◌, ◌<◌, true, false, if◌then◌else◌, is_some, length, Option, Some, None, Result, Ok, Err}
+use Rattle.std.specs.Prelude.{◌≡◌, ◌≢◌, ◌⊎◌, ℕ, ◌+◌, ◌<◌, true, false, if◌then◌else◌, is_some, length, Option, Some}
+use Rattle.std.specs.Prelude.{None, Result, Ok, Err}
 use Rattle.prefix_decoder.specs.declared.decoding.Instr.{Instr}
 use Rattle.prefix_decoder.specs.declared.decoding.DecodeFault.{DecodeFault}
 use Rattle.prefix_decoder.specs.Fetching.{fetched}
@@ -48,7 +49,8 @@ entering m at before = elim before [ None ↦ Ok 0 | Some s ↦ falling_into m a
 -- An instruction starts at the offset, and this state falls into it, or none.
 pub data Reaches (m : Contents) : ℕ → Option State → Type 0 where
   begins : Reaches m 0 (Some (root_state m))
-  follows : {at to : ℕ} {before after : Option State} {s : State} {i : Instr} → Reaches m at before → state_at m at before ≡ Some s
+  follows : {at to : ℕ} {before after : Option State} {s : State} {i : Instr} → Reaches m at before
+      → state_at m at before ≡ Some s
       → fetched m.code at ≡ Ok i → to ≡ at + i.len → after ≡ falling (rule_at m at i s) → Reaches m to after
 
 -- An instruction stands at the offset, the state there is the one that the assignment gives, what falls into it
@@ -96,7 +98,8 @@ pub data IsBroken (m : Contents) : Rule → ℕ → Type 0 where
       → entering m at before ≡ Err rule → IsBroken m rule at
   -- the instruction breaks its rule
   broken : {rule : Rule} {at : ℕ} {before : Option State} {s : State} {i : Instr} → Reaches m at before
-      → at < length m.code → state_at m at before ≡ Some s → fetched m.code at ≡ Ok i → rule_at m at i s ≡ breaks rule → IsBroken m rule at
+      → at < length m.code → state_at m at before ≡ Some s → fetched m.code at ≡ Ok i → rule_at m at i s ≡ breaks rule
+          → IsBroken m rule at
 
 -- All holds below the offset, and there the rule is broken.
 pub record IsRefused (m : Contents) (rule : Rule) (at : ℕ) : Type 0 where

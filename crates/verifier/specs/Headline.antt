@@ -17,7 +17,8 @@ abbrev pub AreEvents : List Event → Type 0
 AreEvents [] = Unit {0}
 AreEvents (e ∷ es) = IsEvent e × AreEvents es
 
--- Whatever happens, in whatever order: no process is ever at fault, all that processes hold stays apart, and no more instruction bytes are executed than the budget says.
+-- Whatever happens, in whatever order: no process is ever at fault, all that processes hold stays apart, and no more
+-- instruction bytes are executed than the budget says.
 pub record IsWell (w : World) (budget : ℕ) : Type 0 where
   pub no_fault : w.fault ≡ None
   pub apart : AllApart w.roles w.channels

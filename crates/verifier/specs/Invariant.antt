@@ -1,10 +1,12 @@
 -- What holds of every world that a certified module comes to, in parts: each reads only some parts of the world.
-use Rattle.std.specs.Prelude.{◌≡◌, ◌≢◌, ℕ, zero, suc, ◌+◌, ◌-◌, ◌==◌, nat_le, ◌&&◌, ◌||◌, ◌%◌, ◌^◌, ◌≤◌, ◌<◌, Bool, true, false, List, [], ◌∷◌, length, Option, Some, None, slice_get}
+use Rattle.std.specs.Prelude.{◌≡◌, ◌≢◌, ℕ, zero, suc, ◌+◌, ◌-◌, ◌==◌, nat_le, ◌&&◌, ◌||◌, ◌%◌, ◌^◌, ◌≤◌, ◌<◌, Bool}
+use Rattle.std.specs.Prelude.{true, false, List, [], ◌∷◌, length, Option, Some, None, slice_get}
 use Rattle.module_format.specs.Contents.{Contents}
 use Rattle.machine_state.specs.declared.process.Task.{Task}
 use Rattle.machine_state.specs.declared.process.Exchange.{Exchange}
 use Rattle.machine_state.specs.declared.process.Condition.{Condition}
-use Rattle.machine_state.specs.declared.process.Condition.TheVariants.{Ready, Sending, Receiving, OnLink, Alternating, Stopped, Ended}
+use Rattle.machine_state.specs.declared.process.Condition.TheVariants.{Ready, Sending, Receiving, OnLink, Alternating}
+use Rattle.machine_state.specs.declared.process.Condition.TheVariants.{Stopped, Ended}
 use Rattle.machine_state.specs.declared.link.InputLink.{InputLink}
 use Rattle.machine_state.specs.declared.link.OutputLink.{OutputLink}
 use Rattle.machine_state.specs.Memory.{Memory, byte_at, place_of}
@@ -37,9 +39,12 @@ awaits Ended place = false
 abbrev pub IsByte : Option ℕ → Type 0
 IsByte o = (b : ℕ) × (o ≡ Some b) × (b < 256)
 
--- Whatever the awaited bytes are, and whatever happens to bytes that the process may not read, it stands at its point when it goes on.
+-- Whatever the awaited bytes are, and whatever happens to bytes that the process may not read, it stands at its point
+-- when it goes on.
 pub record Lives (m : Contents) (h : Holding) (memory : Memory) (t : Task) (due : ℕ) : Type 0 where
-  pub claim : (later : Memory) → length later ≡ length memory → ((place : ℕ) → may_read h place ≡ true → awaits t.condition place ≡ false → byte_at later place ≡ byte_at memory place)
+  pub claim : (later : Memory) → length later ≡ length memory
+      → ((place : ℕ) → may_read h place ≡ true → awaits t.condition place ≡ false
+      → byte_at later place ≡ byte_at memory place)
       → ((place : ℕ) → awaits t.condition place ≡ true → IsByte (byte_at later place)) → Stands m h later t due
   pub room : (place : ℕ) → awaits t.condition place ≡ true → (may_write h place ≡ true) × (place < length memory)
 
@@ -50,7 +55,8 @@ pub data Meets (m : Contents) (h : Holding) (memory : Memory) (t : Task) (due : 
   it_ended : t.condition ≡ Ended → Meets m h memory t due
 
 -- a process with its role and what it owes
-pub record Process (m : Contents) (memory : Memory) (roles : List Role) (dues : List ℕ) (p : ℕ) (t : Task) : Type 0 where
+pub record Process (m : Contents) (memory : Memory) (roles : List Role) (dues : List ℕ) (p : ℕ)
+    (t : Task) : Type 0 where
   pub role : Role
   pub has_role : slice_get roles p ≡ Some role
   pub due : ℕ
@@ -106,8 +112,10 @@ pub record WaitsOn (tasks : List Task) (p word : ℕ) : Type 0 where
 
 pub record Waiters (tasks : List Task) (links : Links) : Type 0 where
   pub few : length links.outputs ≤ 4
-  pub inputs : (k : ℕ) (l : InputLink) (p : ℕ) → slice_get links.inputs k ≡ Some l → l.waiting ≡ Some p → WaitsOn tasks p (input_word k)
-  pub outputs : (k : ℕ) (l : OutputLink) (p : ℕ) → slice_get links.outputs k ≡ Some l → l.waiting ≡ Some p → WaitsOn tasks p (output_word k)
+  pub inputs : (k : ℕ) (l : InputLink) (p : ℕ) → slice_get links.inputs k ≡ Some l → l.waiting ≡ Some p
+      → WaitsOn tasks p (input_word k)
+  pub outputs : (k : ℕ) (l : OutputLink) (p : ℕ) → slice_get links.outputs k ≡ Some l → l.waiting ≡ Some p
+      → WaitsOn tasks p (output_word k)
 
 -- ---- all of it
 

@@ -1,5 +1,6 @@
 -- The verdict on a module, found in one pass.
-use Rattle.std.specs.Prelude.{ℕ, zero, suc, ◌+◌, ◌-◌, nat_le, nat_lt, if◌then◌else◌, length, Option, Some, None, Result, Ok, Err}
+use Rattle.std.specs.Prelude.{ℕ, zero, suc, ◌+◌, ◌-◌, nat_le, nat_lt, if◌then◌else◌, length, Option, Some, None, Result}
+use Rattle.std.specs.Prelude.{Ok, Err}
 use Rattle.prefix_decoder.specs.declared.decoding.Instr.{Instr}
 use Rattle.prefix_decoder.specs.declared.decoding.DecodeFault.{DecodeFault}
 use Rattle.prefix_decoder.specs.Fetching.{fetched}
@@ -57,7 +58,8 @@ abbrev pub past_rule : Contents → (ℕ → Option State → Verdict) → ℕ �
 past_rule m go at len (Err broken) = refused broken at
 past_rule m go at len (Ok after) = past_starts go (at + len) after (first_start m (at + 1) (len - 1))
 
-abbrev pub past_spelling : Contents → (ℕ → Option State → Verdict) → ℕ → Option State → Result Instr DecodeFault → Verdict
+abbrev pub past_spelling : Contents → (ℕ → Option State → Verdict) → ℕ → Option State → Result Instr DecodeFault
+    → Verdict
 past_spelling m go at before (Err e) = refused rules.Spelling at
 past_spelling m go at before (Ok i) = past_rule m go at i.len (judged_at m at before i)
 
@@ -65,7 +67,8 @@ past_spelling m go at before (Ok i) = past_rule m go at i.len (judged_at m at be
 unfoldable pub judge : ℕ → Contents → ℕ → Option State → Verdict
 judge zero m at before = at_the_end at before
 judge (suc more) m at before =
-    if nat_le (length m.code) at then at_the_end at before else past_spelling m (λ to after. judge more m to after) at before (fetched m.code at)
+    if nat_le (length m.code) at then at_the_end at before else past_spelling m
+        (λ to after. judge more m to after) at before (fetched m.code at)
 
 abbrev pub verdict : Contents → Verdict
 verdict m = judge (length m.code) m 0 (Some (root_state m))

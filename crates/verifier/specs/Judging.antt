@@ -1,5 +1,6 @@
 -- What the functions of the code tell, in terms of the verdict.
-use Rattle.std.specs.Prelude.{◌≡◌, ℕ, ◌+◌, ◌-◌, ◌≤◌, Bool, List, [], ◌∷◌, map, drop, find, ◌==◌, slice_get, Option, Some, None, Result, Ok, Err, ⊤, if◌then◌else◌}
+use Rattle.std.specs.Prelude.{◌≡◌, ℕ, ◌+◌, ◌-◌, ◌≤◌, Bool, List, [], ◌∷◌, map, drop, find, ◌==◌, slice_get, Option}
+use Rattle.std.specs.Prelude.{Some, None, Result, Ok, Err, ⊤, if◌then◌else◌}
 use Rattle.std.specs.List.{AllByRecursion}
 use Rattle.module_format.specs.declared.rows.LabelRow.{LabelRow}
 use Rattle.module_format.specs.declared.rows.ProcedureRow.{ProcedureRow}

@@ -21,7 +21,8 @@ pub record IsReading (m : Contents) (r : Registers) (i : Instr) (taken : ℕ) : 
   pub spelled : fetched m.code r.began ≡ Ok i
   pub rest : read fuel (drop r.at m.code) r.operand taken ≡ Ok i
 
--- The process is at a point of the code, in the state that the certificate has there and in some activation, and owes what is left of its number.
+-- The process is at a point of the code, in the state that the certificate has there and in some activation, and owes
+-- what is left of its number.
 pub record Stands (m : Contents) (h : Holding) (memory : Memory) (t : Task) (due : ℕ) : Type 0 where
   pub before : Option State
   pub state : State
@@ -31,12 +32,14 @@ pub record Stands (m : Contents) (h : Holding) (memory : Memory) (t : Task) (due
   pub taken : ℕ
   pub reading : IsReading m t.registers instr taken
   pub act : Activation
-  pub frame : HasFrame h (length memory) (may_write_word m state.context) (may_read_word m state.context) act.origin state.depth t.registers.workspace
+  pub frame : HasFrame h (length memory) (may_write_word m state.context)
+      (may_read_word m state.context) act.origin state.depth t.registers.workspace
   pub knows : Knows m (may_read_word m state.context) state act t.registers memory
   pub mode : SameMode state.mode t.mode
   pub paid : due + taken ≡ state.number
 
--- What the decoder says of the code: an instruction has at least one byte, lies in the code, has an operand of a word, and is what the device reads.
+-- What the decoder says of the code: an instruction has at least one byte, lies in the code, has an operand of a word,
+-- and is what the device reads.
 pub record Decodes (m : Contents) : Type 0 where
   pub some : (at : ℕ) (i : Instr) → fetched m.code at ≡ Ok i → 1 ≤ i.len
   pub inside : (at : ℕ) (i : Instr) → fetched m.code at ≡ Ok i → at + i.len ≤ length m.code

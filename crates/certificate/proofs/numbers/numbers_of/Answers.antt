@@ -4,7 +4,8 @@ use Rattle.module_format.specs.declared.places.Place.{Place}
 use Rattle.module_format.specs.Contents.{contents_of, par_of, branch_of}
 use Rattle.module_format.specs.Contexts.{first_branch}
 use Rattle.module_format.specs.Places.{branches_of}
-use Rattle.certificate.proofs.NumberLaws.{contexts_fit, par_inside, branch_inside, place_stands, numbers_more, numbers_all}
+use Rattle.certificate.proofs.NumberLaws.{contexts_fit, par_inside, branch_inside, place_stands, numbers_more}
+use Rattle.certificate.proofs.NumberLaws.{numbers_all}
 use Rattle.certificate.proofs.numbers.numbers_of.Goals as goal
 
 nowhere : Place
@@ -36,7 +37,9 @@ index-branch-requires c =
     let i = c.loop-index.index in
     let place = get_or places i nowhere in
     let is : place ≡ get_or places i place = get_or_default places i nowhere place c.loop-index-test.true in
-    let inside = branch_inside c.args.tables.now places i place c.requires.places c.loop-index-test.true is c.index-row.result.now (rw c.from.ensures at c.index-row.ensures) in
+    let inside =
+        branch_inside c.args.tables.now places i place c.requires.places c.loop-index-test.true is
+        c.index-row.result.now (rw c.from.ensures at c.index-row.ensures) in
     search (rules, inside)
 
 pub loop-index-preserved : goal.loop-index-preserved
@@ -47,9 +50,16 @@ loop-index-preserved c = λ at.
     let i = c.loop-index.index in
     let place = get_or places i nowhere in
     let is : place ≡ get_or places i place = get_or_default places i nowhere place c.loop-index-test.true in
-    let stands = place_stands t places i place c.requires.places c.loop-index-test.true is c.index-row.result.now (rw c.from.ensures at c.index-row.ensures) c.index-branch.result.now (rw c.from-in-loop-index.ensures at c.index-branch.ensures) in
+    let stands = place_stands t places i place c.requires.places c.loop-index-test.true is c.index-row.result.now
+        (rw c.from.ensures at c.index-row.ensures) c.index-branch.result.now
+        (rw c.from-in-loop-index.ensures at c.index-branch.ensures) in
     let first = c.first_branch-first.ensures in
-    numbers_more (first_branch (contents_of t)) (branches_of (contents_of t).pars) i (par_of c.index-row.result.now, branch_of c.index-branch.result.now) at _ _ (omega arith) stands (c.loop-index.invariant at) (rw first at (c.in_ok-note.ensures at))
+    numbers_more (first_branch (contents_of t)) (branches_of (contents_of t).pars) i
+        (par_of c.index-row.result.now, branch_of c.index-branch.result.now) at _ _ (omega arith) stands
+        (c.loop-index.invariant at) (rw first at (c.in_ok-note.ensures at))
 
 pub returns : goal.returns
-returns c = λ at. c.loop-index.invariant at ∙ numbers_all (contents_of c.args.tables.now) c.args.places.now c.loop-index.index at c.requires.places (search rules)
+returns c =
+    λ at. c.loop-index.invariant at
+    ∙ numbers_all (contents_of c.args.tables.now) c.args.places.now c.loop-index.index at c.requires.places
+    (search rules)

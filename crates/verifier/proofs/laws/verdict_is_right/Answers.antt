@@ -6,4 +6,5 @@ pub returns-clause-accepts : goal.returns-clause-accepts
 returns-clause-accepts c = λ m k accepted. accepted_is_certified m (spans m k) accepted
 
 pub returns-clause-refuses : goal.returns-clause-refuses
-returns-clause-refuses c = λ m rule at k refused. refused_is_refused m (spans m k) (record { rule = rule; offset = at }) refused
+returns-clause-refuses c =
+    λ m rule at k refused. refused_is_refused m (spans m k) (record { rule = rule; offset = at }) refused

@@ -6,4 +6,5 @@ pub is_among-requires : goal.is_among-requires
 is_among-requires c = rw c.deref.ensures c.in_Some-_row.ensures.kept.0.writes
 
 pub is_among-requires-else-is_among : goal.is_among-requires-else-is_among
-is_among-requires-else-is_among c = rw c.deref-else-is_among.ensures (reads_order _ least_word _ c.in_Some-_row.ensures.kept.0.reads)
+is_among-requires-else-is_among c =
+    rw c.deref-else-is_among.ensures (reads_order _ least_word _ c.in_Some-_row.ensures.kept.0.reads)

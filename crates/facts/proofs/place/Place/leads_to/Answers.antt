@@ -7,15 +7,18 @@ use Rattle.facts.proofs.Steps.{leads-on, leads-nowhere}
 use Rattle.facts.proofs.place.Place.leads_to.Goals as goal
 
 pub cost_below-requires : goal.cost_below-requires
-cost_below-requires c = (label_row_at c.args.self.now.module.now c.args.to (label_of c.in-Some.row.now) c.requires c.in-Some.ensures).apart
+cost_below-requires c =
+    (label_row_at c.args.self.now.module.now c.args.to (label_of c.in-Some.row.now) c.requires c.in-Some.ensures).apart
 
 pub returns-in_err-cost_below-in-Some : goal.returns-in_err-cost_below-in-Some
 returns-in_err-cost_below-in-Some c =
     let p = err_from_is_err_and c.from_residual.result c.from_residual.ensures.1 in
-    rw (p.1, p.2) (leads-on (site_of c.args.self.now) c.args.to (state_of c.args.state.now) _ _ c.in-Some.ensures c.in_err-cost_below-in-Some.ensures)
+    rw (p.1, p.2) (leads-on (site_of c.args.self.now) c.args.to
+        (state_of c.args.state.now) _ _ c.in-Some.ensures c.in_err-cost_below-in-Some.ensures)
 
 pub returns-in_ok-cost_below-in-Some : goal.returns-in_ok-cost_below-in-Some
-returns-in_ok-cost_below-in-Some c = leads-on (site_of c.args.self.now) c.args.to (state_of c.args.state.now) _ _ c.in-Some.ensures c.in_ok-cost_below-in-Some.ensures
+returns-in_ok-cost_below-in-Some c = leads-on (site_of c.args.self.now) c.args.to
+    (state_of c.args.state.now) _ _ c.in-Some.ensures c.in_ok-cost_below-in-Some.ensures
 
 pub returns-in-None : goal.returns-in-None
 returns-in-None c = leads-nowhere (site_of c.args.self.now) c.args.to (state_of c.args.state.now) c.in-None.ensures

@@ -5,4 +5,5 @@ use Rattle.states.proofs.Loops.{loop-at}
 use Rattle.states.proofs.frame.Frame.fact_at.Goals as goal
 
 pub returns-in-None-clause-fits : goal.returns-in-None-clause-fits
-returns-in-None-clause-fits c = subst LoopFits (sym c.row_fact.ensures) (loop-at (entry_fact c.args.self.now.row.now) _ c.args.self.now.loops)
+returns-in-None-clause-fits c =
+    subst LoopFits (sym c.row_fact.ensures) (loop-at (entry_fact c.args.self.now.row.now) _ c.args.self.now.loops)

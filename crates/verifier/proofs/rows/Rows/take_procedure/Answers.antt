@@ -11,7 +11,11 @@ returns-then-row-at-clause-found c = λ m a.
     c.if-row-at.true (sym (ap (λ (x : ProcedureRow). x.entry) same) ∙ here))
 
 pub returns-clause-left : goal.returns-clause-left
-returns-clause-left c = λ m a. procedures-later m c.args.at c.args.self.now.context c.args.self.now.procedures.now c.in_ok-row.later.now c.in_ok-row.row.now a c.in_ok-row.ensures.cases.0 c.if-row-at.false
+returns-clause-left c =
+    λ m a. procedures-later m c.args.at c.args.self.now.context c.args.self.now.procedures.now c.in_ok-row.later.now
+    c.in_ok-row.row.now a c.in_ok-row.ensures.cases.0 c.if-row-at.false
 
 pub returns-clause-found : goal.returns-clause-found
-returns-clause-found c = λ m a. procedures-here m c.args.at c.args.self.now.context c.args.self.now.procedures.now c.in_ok-row.later.now c.in_ok-row.row.now a c.in_ok-row.ensures.cases.0 c.if-row-at.false
+returns-clause-found c =
+    λ m a. procedures-here m c.args.at c.args.self.now.context c.args.self.now.procedures.now c.in_ok-row.later.now
+    c.in_ok-row.row.now a c.in_ok-row.ensures.cases.0 c.if-row-at.false

@@ -6,4 +6,5 @@ pub returns-clause-certified : goal.returns-clause-certified
 returns-clause-certified c = rw (sym c.self.view_is) (∥∥₁_map c.self.invariant (λ both. both.1))
 
 pub returns-clause-runs_well : goal.returns-clause-runs_well
-returns-clause-runs_well c = rw (sym c.self.view_is) (∥∥₁_map c.self.invariant (λ both. c.certified_modules_run_well.ensures _ both.0 both.1))
+returns-clause-runs_well c =
+    rw (sym c.self.view_is) (∥∥₁_map c.self.invariant (λ both. c.certified_modules_run_well.ensures _ both.0 both.1))
