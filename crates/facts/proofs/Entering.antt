@@ -342,9 +342,9 @@ pub record IsBelow (s : State) (t : Label) : Type 0 where
   pub context : s.context ≡ t.context
   pub depth : s.depth ≡ t.depth
   pub plain : is_plain s.mode ≡ true
-  pub a : implies s.stack.a.fact t.a ≡ true
-  pub b : implies s.stack.b.fact t.b ≡ true
-  pub c : implies s.stack.c.fact t.c ≡ true
+  pub a : implies s.stack.a.fact t.stack.a ≡ true
+  pub b : implies s.stack.b.fact t.stack.b ≡ true
+  pub c : implies s.stack.c.fact t.stack.c ≡ true
   pub entries : entries_hold s.frame t.entries ≡ true
   pub whole : list_all (is_whole s.frame) t.entries ≡ true
 
@@ -410,9 +410,9 @@ label_after m h mode act s t l wf at e g a = record {
           (may_read_word m c) act.origin s.depth l.registers.workspace) g.context a.frame);
   knows = record {
     stack = record {
-      a = register s.stack.a.fact t.a l.registers.stack.a g.a a.knows.stack.a;
-      b = register s.stack.b.fact t.b l.registers.stack.b g.b a.knows.stack.b;
-      c = register s.stack.c.fact t.c l.registers.stack.c g.c a.knows.stack.c;
+      a = register s.stack.a.fact t.stack.a l.registers.stack.a g.a a.knows.stack.a;
+      b = register s.stack.b.fact t.stack.b l.registers.stack.b g.b a.knows.stack.b;
+      c = register s.stack.c.fact t.stack.c l.registers.stack.c g.c a.knows.stack.c;
     };
     words = λ k. label_words m act s.frame t k (frame_word l.memory act.origin k) (wf.rows at t e)
         (wf.pairs at t e) g.entries g.whole (a.knows.words k);
