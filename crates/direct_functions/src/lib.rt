@@ -14,8 +14,8 @@ use prefix_decoder::Fun;
 
 /// Executes one function of the running process with its whole operand; `opr` is the operation that its operand
 /// chooses. The registers `at`, `began` and `operand` stay as they are: the caller says where the next instruction
-/// begins. After a fault nothing has changed.
-#[tactic(auto, unfolding(machine_state::specs::LocalStep::local_step, machine_state::specs::LocalStep::step_of, machine_state::specs::LocalStep::instruction_step))]
+/// begins. An instruction that has no body yet is unknown. After a fault nothing has changed.
+#[tactic(auto, unfolding(machine_state::specs::LocalStep::step_by, machine_state::specs::LocalStep::step_of, machine_state::specs::LocalStep::instruction_step))]
 pub fn direct<S: Store>(cpu: &mut Cpu<S>, fun: Fun, operand: i32) -> Result<Flow, Fault>
     ensures performs { let outcome = direct_outcome S.cells S.holding cpu.old fun operand in
         Performs S.cells cpu.old cpu.new result outcome }
@@ -28,7 +28,7 @@ pub fn direct<S: Store>(cpu: &mut Cpu<S>, fun: Fun, operand: i32) -> Result<Flow
         Some(Instruction::WithConstant(op)) => arithmetic::with_constant(cpu, op, operand),
         Some(Instruction::Jump) => jumps::jump(cpu, operand),
         Some(Instruction::Operate(op)) => operate(cpu, op),
-        None => Err(cpu.fault(FaultKind::UnknownOperation)),
+        _ => Err(cpu.fault(FaultKind::UnknownOperation)),
     }
 }
 

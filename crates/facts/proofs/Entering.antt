@@ -20,7 +20,7 @@ use Rattle.module_format.specs.Contents.{Contents, Label, label_at}
 use Rattle.certificate.specs.Rights.{may_write_word, may_read_word}
 use Rattle.machine_state.specs.declared.process.Mode as machine
 use Rattle.machine_state.specs.Holding.{Holding}
-use Rattle.machine_state.specs.LocalStep.{Local}
+use Rattle.machine_state.specs.Site.{Local}
 use Rattle.states.specs.declared.known.Mode as states
 use Rattle.states.specs.declared.known.Mode.TheVariants as states_modes
 use Rattle.states.specs.declared.known.Loop.{Loop as CountedLoop}
@@ -69,7 +69,7 @@ module _ (m : Contents) (act : Activation) where
       let first = and-parts _ _ all.0 in
       let range = and-parts (int_le low lo) (int_le hi high) first.1 in
       is_pointer offset (omega (arith, ints, le-from low lo range.0)) (omega (arith, ints, le-from hi high range.1))
-          (step_means step stride offset all.1 stepped)
+      (step_means step stride offset all.1 stepped)
       (is ∙ ap (λ (r : ℕ). word_of (region_start m act r +ℤ offset)) (same_number region other first.0))
   implies_means (CodeAddress offset) (CodeAddress other) None t means = elim means [ ]
   implies_means (CodeAddress offset) (CodeAddress other) (Some a) t (is_code_address is) =
@@ -165,8 +165,11 @@ first_word : (word k : ℤ) (more : ℕ) → k ≡ word +ℤ pos more → (more 
 first_word word k zero e = elim (word_test word k) [ inl p ↦ sym p.0 | inr p ↦ absurd (p.1 (omega (arith, ints))) ]
 first_word word k (suc more) e =
     let later : eqb (suc more) 0 ≡ false = grind (arith, nat_tests) in
-    elim (word_test word k) [ inl p ↦ let same : word ≡ k = p.1 in absurd (omega (arith, ints)) | inr p ↦ later
-        ∙ sym p.0 ]
+    elim (word_test word k) [
+      | inl p ↦ let same : word ≡ k = p.1 in absurd (omega (arith, ints))
+      | inr p ↦ later
+          ∙ sym p.0
+    ]
 
 -- each word that an entry is about
 words_said : (facts : Facts) (entry : Entry) (k : ℤ) (span : ℕ) → words_say facts entry span ≡ true → entry.word ≤ℤ k
@@ -178,7 +181,7 @@ words_said facts entry k (suc more) t low high =
       | inl e ↦
           ap (λ (j : ℤ). says (facts j) (said_of entry.fact (is_word entry.word k))) e.1
           ∙ ap (λ (b : Bool). says (facts (entry.word +ℤ pos more)) (said_of entry.fact b))
-              (sym (first_word entry.word k more e.1)) ∙ both.0
+          (sym (first_word entry.word k more e.1)) ∙ both.0
       | inr e ↦ words_said facts entry k more both.1 low (below_last k entry.word more high e.1)
     ]
   where
@@ -209,8 +212,8 @@ entries_said facts (entry ∷ entries) k t =
       | inl e ↦
           let place = and-parts _ _ e in
           ap (says (facts k)) (entry_here entry entries k e)
-              ∙ words_said facts entry k entry.span both.0 (le-from entry.word k place.0)
-              (lt-from k (entry.word +ℤ pos entry.span) place.1)
+          ∙ words_said facts entry k entry.span both.0 (le-from entry.word k place.0)
+          (lt-from k (entry.word +ℤ pos entry.span) place.1)
       | inr e ↦ ap (says (facts k)) (entry_later entry entries k e) ∙ entries_said facts entries k both.1
     ]
 
@@ -228,7 +231,7 @@ index_behind low (entry ∷ entries) k loop rise h =
           omega (arith, ints)
       | inr e ↦
           let behind : end_of entry ≤ℤ k =
-              index_behind (end_of entry) entries k loop parts.1 (sym (entry_later entry entries k e) ∙ h) in
+          index_behind (end_of entry) entries k loop parts.1 (sym (entry_later entry entries k e) ∙ h) in
           omega (arith, ints)
     ]
 
@@ -259,11 +262,14 @@ count_behind_index facts low (entry ∷ entries) k loop rise pairs whole h =
       | inl e ↦ here e (count_of entry.fact (is_word entry.word k) loop (sym (entry_here entry entries k e) ∙ h)) both.0
       | inr e ↦
           let later = count_behind_index facts (end_of entry) entries k loop parts.1 pairs.1 both.1
-              (sym (entry_later entry entries k e) ∙ h) in
+          (sym (entry_later entry entries k e) ∙ h) in
           let behind : end_of entry ≤ℤ (k -ℤ pos 1) =
-              index_behind (end_of entry) entries (k -ℤ pos 1) loop parts.1 later.index in
-          record { index = entry_later entry entries (k -ℤ pos 1) (about-behind entry (k -ℤ pos 1) behind)
-              ∙ later.index; alike = later.alike }
+          index_behind (end_of entry) entries (k -ℤ pos 1) loop parts.1 later.index in
+          record {
+            index = entry_later entry entries (k -ℤ pos 1) (about-behind entry (k -ℤ pos 1) behind)
+                ∙ later.index;
+            alike = later.alike;
+          }
     ]
   where
     here : is_about entry k ≡ true → (entry.fact ≡ Loop loop.base loop.count loop.weight)
@@ -282,16 +288,18 @@ count_behind_index facts low (entry ∷ entries) k loop rise pairs whole h =
               record {
                 index =
                     entry_here entry entries (k -ℤ pos 1)
-                        (about-within entry (k -ℤ pos 1) (omega (arith, ints)) (omega (arith, ints)))
+                    (about-within entry (k -ℤ pos 1) (omega (arith, ints)) (omega (arith, ints)))
                     ∙ ap (λ (f : Fact). said_of f (is_word entry.word (k -ℤ pos 1))) known.0
                     ∙ ap (λ (b : Bool). said_of (Loop loop.base loop.count loop.weight) b) (is_same first);
                 alike =
                     ap (λ (j : ℤ). are_alike (is_alone (facts j)) (is_alone (facts k))) first
                     ∙ ap (λ (j : ℤ). are_alike (is_alone (facts entry.word)) (is_alone (facts j))) second
                     ∙ subst (λ (f : Fact).
-                        (elim f as (λ f. Bool)
-                        [ Loop b n w ↦ are_alike (is_alone (facts entry.word))
-                        (is_alone (facts (entry.word +ℤ pos 1))) | _ ↦ true ]) ≡ true) known.0 alike;
+                    (elim f as (λ f. Bool) [
+                      | Loop b n w ↦ are_alike (is_alone (facts entry.word))
+                          (is_alone (facts (entry.word +ℤ pos 1)))
+                      | _ ↦ true
+                    ]) ≡ true) known.0 alike;
               }
         ]
       where
@@ -311,7 +319,7 @@ count_behind_index facts low (entry ∷ entries) k loop rise pairs whole h =
 label_words : (m : Contents) (act : Activation) (facts : Facts) (t : Label) (k : ℤ) (v : Option ℤ) → IsRowOf m t
     → ArePairs t.entries → entries_hold facts t.entries ≡ true → list_all (is_whole facts) t.entries ≡ true
     → MeansWord m act k (facts k) v → MeansWord m (with_turns (label_turns facts t.entries act.turns) act) k
-        (entry_fact t.entries k) v
+    (entry_fact t.entries k) v
 label_words m act facts t k v row pairs hold whole means = on_fact (entry_fact t.entries k) refl
   where
     turns : ℤ → ℕ
@@ -321,21 +329,21 @@ label_words m act facts t k v row pairs hold whole means = on_fact (entry_fact t
         → MeansWord m (with_turns turns act) k (entry_fact t.entries k) v
     on_fact (Alone wanted) e =
         means_same (alone_means m act turns k v (facts k) wanted
-            (ap (says (facts k)) (sym e) ∙ entries_said facts t.entries k hold) means) (sym e) refl
+        (ap (says (facts k)) (sym e) ∙ entries_said facts t.entries k hold) means) (sym e) refl
     on_fact (Index loop) e =
         means_same
         (index_means m act turns k v (facts k) loop (ap (says (facts k)) (sym e) ∙ entries_said facts t.entries k hold)
-            (subst LoopFits e (row.loops k))
+        (subst LoopFits e (row.loops k))
         (ap (λ (f : WordFact). turns_from (facts k) f (act.turns k)) e) means) (sym e) refl
     on_fact (Count loop) e =
         let before = count_behind_index facts least_word t.entries k loop row.apart pairs whole e in
         let j = k -ℤ pos 1 in
         means_same
         (count_means m act turns k v (facts k) (facts j) loop
-            (ap (says (facts k)) (sym e) ∙ entries_said facts t.entries k hold)
-            (ap (says (facts j)) (sym before.index) ∙ entries_said facts t.entries j hold)
+        (ap (says (facts k)) (sym e) ∙ entries_said facts t.entries k hold)
+        (ap (says (facts j)) (sym before.index) ∙ entries_said facts t.entries j hold)
         before.alike (subst LoopFits e (row.loops k))
-            (ap (λ (f : WordFact). turns_from (facts j) f (act.turns j)) before.index) means) (sym e) refl
+        (ap (λ (f : WordFact). turns_from (facts j) f (act.turns j)) before.index) means) (sym e) refl
 
 -- what a state that is below a label has
 pub record IsBelow (s : State) (t : Label) : Type 0 where
@@ -373,8 +381,11 @@ unfolding below
 below_tells s t price h = first (ltb s.number (cost s t)) refl h
   where
     not_below : (m n : ℕ) → ltb m n ≡ false → n ≤ m
-    not_below m n e = elim (leb_tells (suc m) n) [ inl p ↦ let no' : true ≡ false = sym p.0 ∙ e in absurd (cc) | inr p ↦
-        let high : n < suc m = p.1 in omega arith ]
+    not_below m n e = elim (leb_tells (suc m) n) [
+      | inl p ↦ let no' : true ≡ false = sym p.0 ∙ e in absurd (cc)
+      | inr p ↦
+          let high : n < suc m = p.1 in omega arith
+    ]
 
     second : (b : Bool) → agrees s t ≡ b
         → ◌≡◌ {A = Result ℕ Rule} (if b then Ok (cost s t) else Err rules.Label) (Ok price) → IsBelow s t
@@ -407,7 +418,7 @@ label_after m h mode act s t l wf at e g a = record {
   frame = subst (λ d. HasFrame h (length l.memory) (may_write_word m t.context)
       (may_read_word m t.context) act.origin d l.registers.workspace) g.depth
       (subst (λ c. HasFrame h (length l.memory) (may_write_word m c)
-          (may_read_word m c) act.origin s.depth l.registers.workspace) g.context a.frame);
+      (may_read_word m c) act.origin s.depth l.registers.workspace) g.context a.frame);
   knows = record {
     stack = record {
       a = register s.stack.a.fact t.stack.a l.registers.stack.a g.a a.knows.stack.a;

@@ -33,7 +33,7 @@ found-pairs code_len procedures low at [] t keeps h = absurd (cc)
 found-pairs code_len procedures low at (row ∷ rows) t keeps h = elim (cases_Bool (row.offset == at)) [
   | inl e ↦
       let here : Some row ≡ Some t =
-          sym (ap (λ (b : Bool). cond b (Some row) (find (λ row. row.offset == at) rows)) e) ∙ h in
+      sym (ap (λ (b : Bool). cond b (Some row) (find (λ row. row.offset == at) rows)) e) ∙ h in
       let same : row ≡ t = cc in
       subst (λ (r : Label). ArePairs r.entries) same (entry-pairs code_len least_word row.entries keeps.0.facts.entries)
   | inr e ↦ found-pairs code_len procedures row.offset at rows t keeps.1

@@ -25,12 +25,14 @@ use Rattle.machine_state.specs.declared.op.Op.TheVariants as operations
 use Rattle.machine_state.specs.declared.instruction.Instruction.{Instruction}
 use Rattle.machine_state.specs.declared.instruction.Instruction.TheVariants as instructions
 use Rattle.machine_state.specs.Instructions.{instruction_of}
-use Rattle.machine_state.specs.declared.fault.FaultKind.TheVariants.{OutsideCode}
+use Rattle.machine_state.specs.declared.fault.FaultKind.TheVariants.{UnknownOperation, OutsideCode}
 use Rattle.machine_state.specs.Memory.{Memory, place_of, local_address, word_at, with_word}
 use Rattle.machine_state.specs.Holding.{Holding, covers, may_write, may_read, may_write_word, may_read_word}
 use Rattle.machine_state.specs.Frame.{ChangesOwn}
 use Rattle.machine_state.specs.LocalStep as step
-use Rattle.machine_state.specs.LocalStep.{Outcome, goes, lands, stops, fails, Local, target}
+use Rattle.machine_state.specs.Site.{Outcome, goes, jumps, stops, fails, Local}
+use Rattle.machine_state.specs.Instructions.{has_body, op_has_body}
+use Rattle.machine_state.specs.LocalStep.{target}
 use Rattle.machine_state.proofs.Reading.{length-with_word}
 use Rattle.machine_state.proofs.Frame.{write_is_own, changes_more}
 use Rattle.states.specs.declared.known.Mode as states
@@ -78,7 +80,7 @@ unfolding may_write_word may_read_word
 readable h place mine =
     let reads : ℕ → Bool = λ place. list_any (λ span. covers span place) h.reads in
     wider (may_write h place) (may_write h (place + 1)) (may_write h (place + 2)) (may_write h (place + 3))
-        (reads place) (reads (place + 1)) (reads (place + 2)) (reads (place + 3)) mine
+    (reads place) (reads (place + 1)) (reads (place + 2)) (reads (place + 3)) mine
 
 -- a word of the frame that may be written may be read
 written_readable : (m : Contents) (n : ℕ) (k : ℤ) → rights.may_write_word m n k ≡ true
@@ -89,8 +91,11 @@ written_readable m n k h =
   where
     of_branch : (o : Option (Par × Branch))
         → (elim o as (λ o. Bool) [ None ↦ true | Some found ↦ rights.is_among found.1.writes k ]) ≡ true
-        → (elim o as (λ o. Bool) [ None ↦ true | Some found ↦ rights.is_among found.1.writes k
-            || rights.is_among found.1.reads k ]) ≡ true
+        → (elim o as (λ o. Bool) [
+          | None ↦ true
+          | Some found ↦ rights.is_among found.1.writes k
+              || rights.is_among found.1.reads k
+        ]) ≡ true
     of_branch None h = refl
     of_branch (Some found) h = or_true (rights.is_among found.1.writes k) (rights.is_among found.1.reads k) h
 
@@ -100,12 +105,18 @@ same_frame {h} {old} {new} {writes} {reads} {origin} {depth} {workspace} e f =
     subst (λ size. HasFrame h size writes reads origin depth workspace) e f
 
 enough : (n k total : ℕ) → ltb n k ≡ false → n ≡ total → n - k + k ≡ total
-enough n k total t e = elim (leb_tells (suc n) k) [ inl p ↦ let no' : true ≡ false = sym p.0 ∙ t in absurd
-    (cc) | inr p ↦ let high : k ≤ n = omega (arith, p.1) in omega arith ]
+enough n k total t e = elim (leb_tells (suc n) k) [
+  | inl p ↦ let no' : true ≡ false = sym p.0 ∙ t in absurd
+      (cc)
+  | inr p ↦ let high : k ≤ n = omega (arith, p.1) in omega arith
+]
 
 below_not : (a b : ℕ) → a < b → ltb a b ≡ false → ⊥
-below_not a b low t = elim (leb_tells (suc a) b) [ inl p ↦ let no' : true ≡ false = sym p.0 ∙ t in (cc) | inr p ↦
-    let high : b < suc a = p.1 in omega arith ]
+below_not a b low t = elim (leb_tells (suc a) b) [
+  | inl p ↦ let no' : true ≡ false = sym p.0 ∙ t in (cc)
+  | inr p ↦
+      let high : b < suc a = p.1 in omega arith
+]
 
 -- paying changes nothing that is known
 paid : {m : Contents} {reads : ℤ → Bool} {s : State} {act : Activation} {r : Registers} {memory : Memory} {n : ℕ}
@@ -171,7 +182,7 @@ module _ (x : Here) where
   writes_fits : (l : Local) (address place : ℕ) (v : Option ℤ) (r : Ruling) (o : Local → Outcome)
       → place_of address ≡ place → may_write_word x.h place ≡ true
       → FitsIf x r (o (record l { memory = with_word l.memory place v }))
-          → FitsIf x r (step.writes (step_site x) address v l o)
+      → FitsIf x r (step.writes (step_site x) address v l o)
   unfolding step.writes
   writes_fits l address place v r o is mine go =
       on_step_test (may_write_word x.h (place_of address)) _ _ _
@@ -194,9 +205,9 @@ module _ (x : Here) where
       on_rule_test (ltb s.number x.len) _ _ _
       (λ t next. it_breaks)
       (λ t next. let low = next _ refl in
-          on_step_test (ltb (x.at + x.len) (length x.m.code)) (falls (record s { number = s.number - x.len })) _ _
+      on_step_test (ltb (x.at + x.len) (length x.m.code)) (falls (record s { number = s.number - x.len })) _ _
       (λ u next. it_falls low (record { frame = a.frame; knows = paid a.knows; same_mode = a.same_mode }) changes
-          (enough s.number x.len x.number t n))
+      (enough s.number x.len x.number t n))
       (λ u. absurd (below_not _ _ low u)) next)
 
   -- ---- a write to a word of the frame
@@ -204,7 +215,7 @@ module _ (x : Here) where
   after_write : (s : State) (l : Local) (e : ℤ) (f : Fact) (v : Option ℤ) → After x.m x.h x.mode x.act s l
       → rights.may_write_word x.m s.context (s.depth +ℤ e) ≡ true
       → (w : IsOwnWord x.h (length l.memory) x.act.origin (s.depth +ℤ e))
-          → Means x.m x.act f (word_at (with_word l.memory w.place v) w.place)
+      → Means x.m x.act f (word_at (with_word l.memory w.place v) w.place)
       → After x.m x.h x.mode x.act (written (s.depth +ℤ e) f s) (record l { memory = with_word l.memory w.place v })
   unfolding written
   after_write s l e f v a t w means = record {
@@ -219,7 +230,7 @@ module _ (x : Here) where
       → FitsSigned w32 e → rights.may_write_word x.m s.context (s.depth +ℤ e) ≡ true
       → ((place : ℕ) → place + 4 ≤ length l.memory → Means x.m x.act f (word_at (with_word l.memory place v) place))
       → ((memory : Memory) → After x.m x.h x.mode x.act (written (s.depth +ℤ e) f s) (record l { memory = memory })
-          → ChangesOwn x.h x.memory memory → FitsIf x r (o (record l { memory = memory })))
+      → ChangesOwn x.h x.memory memory → FitsIf x r (o (record l { memory = memory })))
       → FitsIf x r (step.writes (step_site x) (local_address l.registers.workspace e) v l o)
   write_step s l e f v r o a changes fits t means go =
       let w = a.frame.own (s.depth +ℤ e) t in
@@ -227,7 +238,7 @@ module _ (x : Here) where
       (local_place a.frame e fits w.place w.is w.inside) w.mine
       (go (with_word l.memory w.place v) (after_write s l e f v a t w (means w.place w.inside))
       (changes_more x.h x.memory l.memory (with_word l.memory w.place v) changes
-          (write_is_own x.h l.memory w.place v w.mine)))
+      (write_is_own x.h l.memory w.place v w.mine)))
 
   -- ---- scheduling, and what stands behind it
 
@@ -238,21 +249,21 @@ module _ (x : Here) where
   schedules_fits : (s : State) (l : Local) (r : State → Ruling) (o : Local → Outcome) → After x.m x.h x.mode x.act s l
       → ChangesOwn x.h x.memory l.memory
       → ((s' : State) (memory : Memory) → After x.m x.h x.mode x.act s' (record l { memory = memory })
-          → ChangesOwn x.h x.memory memory → s'.number ≡ s.number → FitsIf x (r s') (o (record l { memory = memory })))
+      → ChangesOwn x.h x.memory memory → s'.number ≡ s.number → FitsIf x (r s') (o (record l { memory = memory })))
       → FitsIf x (rule.schedules (rule_site x) s r) (step.schedules (step_site x) l o)
   unfolding rule.schedules step.schedules written
   schedules_fits s l r o a changes go =
       writes_word_fits s (negsuc 0) _ _
-          (λ t0. writes_word_fits s (negsuc 1) _ _ (λ t1. writes_word_fits s (negsuc 2) _ _ (λ t2.
+      (λ t0. writes_word_fits s (negsuc 1) _ _ (λ t1. writes_word_fits s (negsuc 2) _ _ (λ t2.
       write_step s l (negsuc 0) Unknown None _ _ a changes (omega (arith, ints)) t0 (undefined_means l.memory)
-          (λ m1 a1 c1.
+      (λ m1 a1 c1.
       write_step (written (s.depth +ℤ negsuc 0) Unknown s) (record l { memory = m1 }) (negsuc 1) Unknown None _ _ a1 c1
-          (omega (arith, ints)) t1 (undefined_means m1) (λ m2 a2 c2.
+      (omega (arith, ints)) t1 (undefined_means m1) (λ m2 a2 c2.
       write_step (written (s.depth +ℤ negsuc 1) Unknown (written (s.depth +ℤ negsuc 0) Unknown s))
-          (record l { memory = m2 }) (negsuc 2) Unknown None _ _ a2 c2 (omega (arith, ints)) t2 (undefined_means m2)
-          (λ m3 a3 c3.
+      (record l { memory = m2 }) (negsuc 2) Unknown None _ _ a2 c2 (omega (arith, ints)) t2 (undefined_means m2)
+      (λ m3 a3 c3.
       go (written (s.depth +ℤ negsuc 2) Unknown
-          (written (s.depth +ℤ negsuc 1) Unknown (written (s.depth +ℤ negsuc 0) Unknown s))) m3 a3 c3 refl))))))
+      (written (s.depth +ℤ negsuc 1) Unknown (written (s.depth +ℤ negsuc 0) Unknown s))) m3 a3 c3 refl))))))
 
   -- ---- leading to a label
 
@@ -265,20 +276,23 @@ module _ (x : Here) where
     where
       on_below : (t : Label) → label_at x.m to ≡ Some t → (b : Result ℕ Rule) → below s t ≡ b
           → FitsIf x (elim b as (λ b. Ruling) [ Ok cost ↦ leads to | Err broken ↦ breaks broken ])
-              (if ltb to (length x.m.code) then lands to l else fails OutsideCode)
+          (if ltb to (length x.m.code) then jumps to l else fails OutsideCode)
       on_below t e (Err broken) is = λ next. it_breaks
       on_below t e (Ok cost) is =
           let low = wf.labels to t e in
           let g = below_tells s t cost is in
           on_step_test (ltb to (length x.m.code)) (leads to) _ _
           (λ u next. it_leads (label_turns s.frame t.entries x.act.turns) e low
-              (label_after x.m x.h x.mode x.act s t l wf to e g.1 a) changes (omega (arith, g.0)))
+          (label_after x.m x.h x.mode x.act s t l wf to e g.1 a) changes (omega (arith, g.0)))
           (λ u. absurd (below_not to (length x.m.code) low u))
 
       on_label : (o : Option Label) → label_at x.m to ≡ o
-          → FitsIf x (elim o as (λ o. Ruling) [ None ↦ breaks rules.Label | Some t ↦ elim (below s t) as (λ b. Ruling)
-              [ Ok cost ↦ leads to | Err broken ↦ breaks broken ] ])
-              (if ltb to (length x.m.code) then lands to l else fails OutsideCode)
+          → FitsIf x (elim o as (λ o. Ruling) [
+            | None ↦ breaks rules.Label
+            | Some t ↦ elim (below s t) as (λ b. Ruling)
+                [ Ok cost ↦ leads to | Err broken ↦ breaks broken ]
+          ])
+          (if ltb to (length x.m.code) then jumps to l else fails OutsideCode)
       on_label None e = λ next. it_breaks
       on_label (Some t) e = on_below t e (below s t) refl
 
@@ -314,8 +328,16 @@ module _ (x : Here) where
     ldc_fits e fits = goes_on_fits (rule.push (rule.constant e) s) (step.push (Some e) l)
         (record {
           frame = a.frame;
-          knows = record { stack = record { a = is_number (omega (arith, ints)) (omega (arith, ints)) fits; b =
-              a.knows.stack.a; c = a.knows.stack.b }; words = a.knows.words; within = a.knows.within };
+          knows = record {
+            stack = record {
+              a = is_number (omega (arith, ints)) (omega (arith, ints)) fits;
+              b =
+                  a.knows.stack.a;
+              c = a.knows.stack.b;
+            };
+            words = a.knows.words;
+            within = a.knows.within;
+          };
           same_mode = a.same_mode;
         }) changes n
 
@@ -327,16 +349,16 @@ module _ (x : Here) where
         beside_plain_rule s a.same_mode _ _ (beside_plain_step s a.same_mode _ _ (reads_word_fits s e _ _ (λ t.
         let w = a.frame.readable (s.depth +ℤ e) t in
         reads_fits l (local_address l.registers.workspace e) w.place _ _
-            (local_place a.frame e fits w.place w.is w.inside) w.readable
+        (local_place a.frame e fits w.place w.is w.inside) w.readable
         (goes_on_fits (rule.push (rule.loaded (s.depth +ℤ e) (s.frame (s.depth +ℤ e))) s)
-            (step.push (word_at l.memory w.place) l)
+        (step.push (word_at l.memory w.place) l)
         (record {
           frame = a.frame;
           knows = record {
             stack = record {
               a = plain_means x.m x.act (s.depth +ℤ e) (s.frame (s.depth +ℤ e)) (word_at l.memory w.place)
                   (means_same (a.knows.words (s.depth +ℤ e)) refl
-                      (frame_word_is l.memory x.act.origin (s.depth +ℤ e) w.place w.is));
+                  (frame_word_is l.memory x.act.origin (s.depth +ℤ e) w.place w.is));
               b = a.knows.stack.a;
               c = a.knows.stack.b;
             };
@@ -354,12 +376,15 @@ module _ (x : Here) where
         in_plain_step s a.same_mode _ _ (uses_fits s.stack.a l.registers.stack.a _ _ a.knows.stack.a (λ v means.
         in_plain_rule s a.same_mode _ _ (beside_plain_rule s a.same_mode _ _ (writes_word_fits s e _ _ (λ t.
         write_step s l e s.stack.a.fact (Some v) _ _ a changes fits t
-            (λ place inside. stored_means x.m x.act s.stack.a.fact v l.memory place inside means) (λ memory b c.
+        (λ place inside. stored_means x.m x.act s.stack.a.fact v l.memory place inside means) (λ memory b c.
         goes_on_fits (rule.pop (written (s.depth +ℤ e) s.stack.a.fact s)) (step.pop (record l { memory = memory }))
         (record {
           frame = b.frame;
-          knows = record { stack = record { a = b.knows.stack.b; b = b.knows.stack.c; c = says_nothing };
-              words = b.knows.words; within = b.knows.within };
+          knows = record {
+            stack = record { a = b.knows.stack.b; b = b.knows.stack.c; c = says_nothing };
+            words = b.knows.words;
+            within = b.knows.within;
+          };
           same_mode = b.same_mode;
         }) c n))))))
 
@@ -376,8 +401,11 @@ module _ (x : Here) where
         (goes_on_fits (rule.with_a (known f) s') (step.with_a v l')
         (record {
           frame = b.frame;
-          knows = record { stack = record { a = means; b = b.knows.stack.b; c = b.knows.stack.c };
-              words = b.knows.words; within = b.knows.within };
+          knows = record {
+            stack = record { a = means; b = b.knows.stack.b; c = b.knows.stack.c };
+            words = b.knows.words;
+            within = b.knows.within;
+          };
           same_mode = b.same_mode;
         }) c e))
 
@@ -389,7 +417,7 @@ module _ (x : Here) where
         in_plain_step s a.same_mode _ _ (uses_fits s.stack.a l.registers.stack.a _ _ a.knows.stack.a (λ v means.
         becomes_fits s l _ _ a changes n
         (result_means x.m x.act op s.stack.a.fact (Number e e) v e means
-            (is_number (omega (arith, ints)) (omega (arith, ints)) fits))))
+        (is_number (omega (arith, ints)) (omega (arith, ints)) fits))))
 
     pays_fits : (s' : State) (r : State → Ruling) (o : Outcome) → s'.number ≡ s.number
         → (s'.number - x.len + x.len ≡ x.number → FitsIf x (r (record s' { number = s'.number - x.len })) o)
@@ -408,50 +436,61 @@ module _ (x : Here) where
         (schedules_fits s l _ _ a changes (λ s' memory b c e.
         pays_fits s' _ _ e (λ left.
         leads_fits wf (target (x.at + x.len) (pos k))
-            (rule.without_registers (record s' { number = s'.number - x.len }))
-            (step.without_registers (record l { memory = memory }))
+        (rule.without_registers (record s' { number = s'.number - x.len }))
+        (step.without_registers (record l { memory = memory }))
         (record {
           frame = b.frame;
-          knows = record { stack = record { a = says_nothing; b = says_nothing; c = says_nothing };
-              words = b.knows.words; within = b.knows.within };
+          knows = record {
+            stack = record { a = says_nothing; b = says_nothing; c = says_nothing };
+            words = b.knows.words;
+            within = b.knows.within;
+          };
           same_mode = b.same_mode;
         }) c left)))))
 
     operation_fits : (op : Op) → FitsIf x (rule.operation_rule (rule_site x) op s)
-        (step.operation_step (step_site x) op l)
+        (if op_has_body op then step.operation_step (step_site x) op l else fails UnknownOperation)
     unfolding rule.operation_rule step.operation_step
     operation_fits operations.Reverse =
         in_plain_step s a.same_mode _ _ (in_plain_rule s a.same_mode _ _ (beside_plain_rule s a.same_mode _ _
         (goes_on_fits (rule.reverse s) (step.reverse l)
         (record {
           frame = a.frame;
-          knows = record { stack = record { a = a.knows.stack.b; b = a.knows.stack.a; c = a.knows.stack.c };
-              words = a.knows.words; within = a.knows.within };
+          knows = record {
+            stack = record { a = a.knows.stack.b; b = a.knows.stack.a; c = a.knows.stack.c };
+            words = a.knows.words;
+            within = a.knows.within;
+          };
           same_mode = a.same_mode;
         }) changes n)))
     operation_fits operations.MinimumInteger =
         beside_plain_rule s a.same_mode _ _
-            (beside_plain_step s a.same_mode _ _ (ldc_fits least_word (record { sfits = lit< tt })))
+        (beside_plain_step s a.same_mode _ _ (ldc_fits least_word (record { sfits = lit< tt })))
     operation_fits operations.StopProcess =
         in_plain_step s a.same_mode _ _ (in_plain_rule s a.same_mode _ _ (beside_plain_rule s a.same_mode _ _
         (schedules_fits s l _ _ a changes
-            (λ s' memory b c e. pays_fits s' _ _ e (λ left next. it_ends c (omega arith))))))
+        (λ s' memory b c e. pays_fits s' _ _ e (λ left next. it_ends c (omega arith))))))
     operation_fits (operations.Binary op) =
         in_plain_step s a.same_mode _ _ (uses_fits s.stack.a l.registers.stack.a _ _ a.knows.stack.a (λ v means.
         uses_fits s.stack.b l.registers.stack.b _ _ a.knows.stack.b (λ u other.
         becomes_fits (rule.pop s) (step.pop l) _ _
         (record {
           frame = a.frame;
-          knows = record { stack = record { a = a.knows.stack.b; b = a.knows.stack.c; c = says_nothing };
-              words = a.knows.words; within = a.knows.within };
+          knows = record {
+            stack = record { a = a.knows.stack.b; b = a.knows.stack.c; c = says_nothing };
+            words = a.knows.words;
+            within = a.knows.within;
+          };
           same_mode = a.same_mode;
         }) changes n (result_means x.m x.act op s.stack.b.fact s.stack.a.fact u v other means))))
     operation_fits (operations.Unary op) =
         in_plain_step s a.same_mode _ _ (uses_fits s.stack.a l.registers.stack.a _ _ a.knows.stack.a (λ v means.
         becomes_fits s l _ _ a changes n (unary_result_means x.m x.act op s.stack.a.fact v means)))
+    operation_fits _ = λ next. it_breaks
 
     instruction_fits : (i : Instruction) (e : ℤ) → FitsSigned w32 e
-        → FitsIf x (rule.instruction_rule (rule_site x) i e s) (step.instruction_step (step_site x) i e l)
+        → FitsIf x (rule.instruction_rule (rule_site x) i e s)
+        (if has_body i then step.instruction_step (step_site x) i e l else fails UnknownOperation)
     unfolding rule.instruction_rule step.instruction_step
     instruction_fits instructions.LoadConstant e fits = ldc_fits e fits
     instruction_fits instructions.LoadLocal e fits = ldl_fits e fits
@@ -459,16 +498,17 @@ module _ (x : Here) where
     instruction_fits (instructions.WithConstant op) e fits = constant_fits op e fits
     instruction_fits instructions.Jump e fits = j_fits e fits
     instruction_fits (instructions.Operate op) e fits = operation_fits op
+    instruction_fits _ e fits = λ next. it_breaks
 
     option_fits : (i : Option Instruction) (e : ℤ) → FitsSigned w32 e
-        → FitsIf x (rule.rule_of (rule_site x) i e s) (step.step_of (step_site x) i e l)
+        → FitsIf x (rule.rule_of (rule_site x) i e s) (step.step_of has_body (step_site x) i e l)
     unfolding rule.rule_of step.step_of
     option_fits None e fits = λ next. it_breaks
     option_fits (Some i) e fits = instruction_fits i e fits
 
     pub function_fits : (f : Fun) (e : ℤ) → FitsSigned w32 e
         → FitsIf x (rule.rule (rule_site x) f e s) (step.local_step (step_site x) f e l)
-    unfolding rule.rule step.local_step
+    unfolding rule.rule step.step_by
     function_fits f e fits = option_fits (instruction_of f e) e fits
 
 pub rules_fit_steps : RulesFitSteps

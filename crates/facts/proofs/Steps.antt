@@ -6,6 +6,10 @@ use Rattle.module_format.specs.declared.fact.Fact.{Fact}
 use Rattle.module_format.specs.declared.fact.Fact.TheVariants.{Unknown, Number}
 use Rattle.machine_state.specs.declared.instruction.Instruction.{Instruction}
 use Rattle.machine_state.specs.declared.instruction.Instruction.TheVariants.{Jump, LoadConstant, LoadLocal, StoreLocal}
+use Rattle.machine_state.specs.declared.instruction.Instruction.TheVariants.{WithConstant}
+use Rattle.machine_state.specs.declared.instruction.Instruction.TheVariants.{Operate}
+use Rattle.machine_state.specs.declared.op.Op.{Op}
+use Rattle.machine_state.specs.declared.op.Op.TheVariants as ops
 use Rattle.machine_state.specs.Instructions.{instruction_of}
 use Rattle.machine_state.specs.LocalStep.{target}
 use Rattle.states.specs.declared.known.Known.{Known}
@@ -19,7 +23,8 @@ use Rattle.states.specs.Below.{below}
 use Rattle.machine_state.specs.declared.cpu.Flow.{Flow}
 use Rattle.facts.specs.Rules.{Ruling, Site, leads, breaks, outside_alternation, outside_starts, alone, uses, forward}
 use Rattle.facts.specs.Rules.{writes_word, reads_word, schedules, pays, leads_to, goes_on, push, pop, without_registers}
-use Rattle.facts.specs.Rules.{loaded, instruction_rule, rule_of, rule, rule_at, has_rule}
+use Rattle.facts.specs.Rules.{loaded, instruction_rule, rule_of, rule, rule_at, has_rule, operation_rule, op_has_rule}
+use Rattle.facts.specs.Rules.{instruction_has_rule}
 use Rattle.facts.specs.Telling.{Advances}
 
 -- the same ruling, told otherwise
@@ -43,7 +48,7 @@ after_load k s = push (loaded k (s.frame k)) s
 
 pub load_local-own : (site : Site) (s : State) (e d : ℤ) → ((n : Ruling) → outside_starts s.mode n ≡ n) → d ≡ e
     → instruction_rule site LoadLocal e s
-        ≡ reads_word site s (s.depth +ℤ d) (goes_on site (after_load (s.depth +ℤ d) s))
+    ≡ reads_word site s (s.depth +ℤ d) (goes_on site (after_load (s.depth +ℤ d) s))
 unfolding instruction_rule
 load_local-own site s e d starts d_is =
     starts _ ∙ ap (λ (z : ℤ). reads_word site s (s.depth +ℤ z) (goes_on site (after_load (s.depth +ℤ z) s))) (sym d_is)
@@ -63,11 +68,11 @@ pub store_local-own : (site : Site) (s : State) (e d : ℤ) (fact : Fact)
     → ((n : Fact → Ruling) → uses s.stack.a n ≡ n fact)
     → ((n : Ruling) → alone s.mode n ≡ n) → d ≡ e
     → instruction_rule site StoreLocal e s
-        ≡ writes_word site s (s.depth +ℤ d) (goes_on site (after_store (s.depth +ℤ d) fact s))
+    ≡ writes_word site s (s.depth +ℤ d) (goes_on site (after_store (s.depth +ℤ d) fact s))
 unfolding instruction_rule
 store_local-own site s e d fact used passes d_is =
     used _ ∙ (passes _ ∙ ap (λ (z : ℤ). writes_word site s (s.depth +ℤ z)
-        (goes_on site (after_store (s.depth +ℤ z) fact s))) (sym d_is))
+    (goes_on site (after_store (s.depth +ℤ z) fact s))) (sym d_is))
 
 pub store_local-after : (s t u : State) (k z : ℤ) (fact : Fact) → z ≡ k → t ≡ written z fact s → u ≡ pop t
     → after_store k fact s ≡ u
@@ -91,23 +96,29 @@ pub leads-on : (site : Site) (to : ℕ) (s : State) (t : Label) (r : Result ℕ 
     → r ≡ below s t → leads_to site to s ≡ elim r as (λ r. Ruling) [ Ok cost ↦ leads to | Err broken ↦ breaks broken ]
 unfolding leads_to
 leads-on site to s t r found is =
-    ap (λ (o : Option Label). elim o as (λ o. Ruling) [ None ↦ breaks rules.Label | Some t ↦ elim (below s t) as
-        (λ r. Ruling) [ Ok cost ↦ leads to | Err broken ↦ breaks broken ] ]) found
+    ap (λ (o : Option Label). elim o as (λ o. Ruling) [
+      | None ↦ breaks rules.Label
+      | Some t ↦ elim (below s t) as
+          (λ r. Ruling) [ Ok cost ↦ leads to | Err broken ↦ breaks broken ]
+    ]) found
     ∙ ap (λ (r : Result ℕ Rule). elim r as (λ r. Ruling) [ Ok cost ↦ leads to | Err broken ↦ breaks broken ]) (sym is)
 
 pub leads-nowhere : (site : Site) (to : ℕ) (s : State) → label_at site.contents to ≡ None
     → leads_to site to s ≡ breaks rules.Label
 unfolding leads_to
 leads-nowhere site to s found =
-    ap (λ (o : Option Label). elim o as (λ o. Ruling) [ None ↦ breaks rules.Label | Some t ↦ elim (below s t) as
-        (λ r. Ruling) [ Ok cost ↦ leads to | Err broken ↦ breaks broken ] ]) found
+    ap (λ (o : Option Label). elim o as (λ o. Ruling) [
+      | None ↦ breaks rules.Label
+      | Some t ↦ elim (below s t) as
+          (λ r. Ruling) [ Ok cost ↦ leads to | Err broken ↦ breaks broken ]
+    ]) found
 
 -- ---- the words below the workspace
 
 pub scheduled : (s t u v : State) (j k l : ℤ) → t ≡ written j Unknown s → u ≡ written k Unknown t
     → v ≡ written l Unknown u → j ≡ s.depth +ℤ negsuc 0 → k ≡ s.depth +ℤ negsuc 1 → l ≡ s.depth +ℤ negsuc 2
     → v ≡ written (s.depth +ℤ negsuc 2) Unknown
-        (written (s.depth +ℤ negsuc 1) Unknown (written (s.depth +ℤ negsuc 0) Unknown s))
+    (written (s.depth +ℤ negsuc 1) Unknown (written (s.depth +ℤ negsuc 0) Unknown s))
 scheduled s t u v j k l t_is u_is v_is j_is k_is l_is =
     v_is
     ∙ (ap (λ (z : ℤ). written z Unknown u) l_is
@@ -115,13 +126,35 @@ scheduled s t u v j k l t_is u_is v_is j_is k_is l_is =
     ∙ (ap (λ (z : ℤ). written z Unknown t) k_is
     ∙ ap (written (s.depth +ℤ negsuc 1) Unknown) (t_is ∙ ap (λ (z : ℤ). written z Unknown s) j_is))))
 
--- ---- an instruction that the machine does not have
+-- ---- an instruction that has no rule
 
-without-rule : (site : Site) (o : Option Instruction) (e : ℤ) (s : State) → is_some o ≡ false
+operation-without : (site : Site) (op : Op) (s : State) → op_has_rule op ≡ false
+    → operation_rule site op s ≡ breaks rules.Spelling
+unfolding operation_rule
+operation-without site ops.Reverse s h = absurd (cc)
+operation-without site ops.MinimumInteger s h = absurd (cc)
+operation-without site ops.StopProcess s h = absurd (cc)
+operation-without site (ops.Binary op) s h = absurd (cc)
+operation-without site (ops.Unary op) s h = absurd (cc)
+operation-without site _ s h = refl
+
+instruction-without : (site : Site) (i : Instruction) (e : ℤ) (s : State) → instruction_has_rule i ≡ false
+    → instruction_rule site i e s ≡ breaks rules.Spelling
+unfolding instruction_rule
+instruction-without site LoadConstant e s h = absurd (cc)
+instruction-without site LoadLocal e s h = absurd (cc)
+instruction-without site StoreLocal e s h = absurd (cc)
+instruction-without site (WithConstant op) e s h = absurd (cc)
+instruction-without site Jump e s h = absurd (cc)
+instruction-without site (Operate op) e s h = operation-without site op s h
+instruction-without site _ e s h = refl
+
+without-rule : (site : Site) (o : Option Instruction) (e : ℤ) (s : State)
+    → (elim o as (λ o. Bool) [ None ↦ false | Some i ↦ instruction_has_rule i ]) ≡ false
     → rule_of site o e s ≡ breaks rules.Spelling
 unfolding rule_of
 without-rule site None e s h = refl
-without-rule site (Some instruction) e s h = absurd (cc)
+without-rule site (Some i) e s h = instruction-without site i e s h
 
 pub unruled : (m : Contents) (at : ℕ) (i : Instr) (s : State) → has_rule i ≡ false
     → rule_at m at i s ≡ breaks rules.Spelling

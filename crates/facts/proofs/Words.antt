@@ -29,7 +29,7 @@ address_of_word workspace place e fits small is = omega (arith, ints)
 pub local_place : {h : Holding} {size : ℕ} {writes reads : ℤ → Bool} {origin depth : ℤ} {workspace : ℕ}
     → HasFrame h size writes reads origin depth workspace → (e : ℤ) → FitsSigned w32 e
     → (place : ℕ) → pos place ≡ place_in origin (depth +ℤ e) → place + 4 ≤ size
-        → place_of (local_address workspace e) ≡ place
+    → place_of (local_address workspace e) ≡ place
 local_place {h} {size} {writes} {reads} {origin} {depth} {workspace} f e fits place is inside =
     address_of_word workspace place e fits (omega (arith, f.small, inside)) (omega (arith, ints, f.start, is))
 
@@ -42,8 +42,11 @@ word_test j k = elim (int_le_tells j k) [
   | inr p ↦ inr (ap (λ (b : Bool). b && int_le k j) p.0, λ e. let low : k <ℤ j = p.1 in absurd (omega (arith, ints)))
   | inl p ↦ elim (int_le_tells k j) [
     | inl q ↦ inl (ap (λ (b : Bool). b && int_le k j) p.0 ∙ q.0, omega (arith, ints, p.1, q.1))
-    | inr q ↦ inr (ap (λ (b : Bool). b && int_le k j) p.0 ∙ q.0, λ e. let low : j <ℤ k = q.1 in absurd
-        (omega (arith, ints)))
+    | inr q ↦ inr (
+      ap (λ (b : Bool). b && int_le k j) p.0 ∙ q.0,
+      λ e. let low : j <ℤ k = q.1 in absurd
+          (omega (arith, ints)),
+    )
   ]
 ]
 
@@ -138,7 +141,7 @@ pub knows_written : (m : Contents) (h : Holding) (reads : ℤ → Bool) (s : Sta
     (r : Registers) (memory : Memory) (f : Fact) (v : Option ℤ)
     → reads k ≡ true → (w : IsOwnWord h (length memory) act.origin k)
     → Knows m reads s act r memory → Means m act f (word_at (with_word memory w.place v) w.place)
-        → Knows m reads (written k f s) act r (with_word memory w.place v)
+    → Knows m reads (written k f s) act r (with_word memory w.place v)
 unfolding written
 knows_written m h reads s act k r memory f v readable w known here = record {
   stack = record { a = known.stack.a; b = known.stack.b; c = known.stack.c };

@@ -1,7 +1,7 @@
 -- When the rule of an instruction and its step fit each other: where the rule is not broken, the step is no fault, it
 -- changes own bytes only, and what the rule
 -- says of the state behind it holds.
-use Rattle.std.specs.Prelude.{◌≡◌, ℕ, ◌+◌, ◌≤◌, ◌<◌, ℤ, FitsSigned, length, Some}
+use Rattle.std.specs.Prelude.{◌≡◌, ℕ, ◌+◌, ◌*◌, ◌≤◌, ◌<◌, ℤ, FitsSigned, length, Some}
 use Rattle.std.specs.Int.{w32}
 use Rattle.prefix_decoder.specs.declared.function.Fun.{Fun}
 use Rattle.module_format.specs.Contents.{Contents, Label, label_at}
@@ -11,7 +11,9 @@ use Rattle.machine_state.specs.Memory.{Memory}
 use Rattle.machine_state.specs.Holding.{Holding}
 use Rattle.machine_state.specs.Frame.{ChangesOwn}
 use Rattle.machine_state.specs.LocalStep as step
-use Rattle.machine_state.specs.LocalStep.{Outcome, goes, lands, stops, fails, Local}
+use Rattle.machine_state.specs.Memory.{data_start}
+use Rattle.machine_state.specs.Site as steps
+use Rattle.machine_state.specs.Site.{Outcome, goes, jumps, stops, fails, Local}
 use Rattle.states.specs.declared.rule.Rule.{Rule}
 use Rattle.states.specs.State.{State, label_state}
 use Rattle.facts.specs.Rules as rule
@@ -41,8 +43,15 @@ pub record Here : Type 0 where
 abbrev pub rule_site : Here → rule.Site
 rule_site x = record { contents = x.m; at = x.at; length = x.len }
 
-abbrev pub step_site : Here → step.Site
-step_site x = record { code_length = length x.m.code; next = x.at + x.len; mode = x.mode; holding = x.h }
+abbrev pub step_site : Here → steps.Site
+step_site x = record {
+  code_start = data_start + 4 * x.m.data_words;
+  code_length = length x.m.code;
+  next = x.at + x.len;
+  mode = x.mode;
+  holding = x.h;
+  has_long_operations = x.m.has_long_operations;
+}
 
 -- A ruling and an outcome fit each other. Behind the instruction the activation is the same; at a label its loops may
 -- have other turns left.
@@ -51,7 +60,7 @@ pub data Fits (x : Here) : Ruling → Outcome → Type 0 where
       → ChangesOwn x.h x.memory l.memory → s.number + x.len ≡ x.number → Fits x (falls s) (goes l)
   it_leads : {to : ℕ} {l : Local} {t : Label} (turns : ℤ → ℕ) → label_at x.m to ≡ Some t → to < length x.m.code
       → After x.m x.h x.mode (with_turns turns x.act) (label_state t) l → ChangesOwn x.h x.memory l.memory
-      → t.number + x.len ≤ x.number → Fits x (leads to) (lands to l)
+      → t.number + x.len ≤ x.number → Fits x (leads to) (jumps to l)
   it_ends : {l : Local} → ChangesOwn x.h x.memory l.memory → x.len ≤ x.number → Fits x ends (stops l)
   it_breaks : {broken : Rule} {o : Outcome} → Fits x (breaks broken) o
 
@@ -63,6 +72,6 @@ HasNext x r = (s : State) → r ≡ falls s → x.at + x.len < length x.m.code
 abbrev pub RulesFitSteps : Type 0
 RulesFitSteps =
     (x : Here) (s : State) (l : Local) (f : Fun) (e : ℤ) → IsWellFormed x.m → After x.m x.h x.mode x.act s l
-        → ChangesOwn x.h x.memory l.memory → s.number ≡ x.number
+    → ChangesOwn x.h x.memory l.memory → s.number ≡ x.number
     → FitsSigned w32 e → HasNext x (rule.rule (rule_site x) f e s)
-        → Fits x (rule.rule (rule_site x) f e s) (step.local_step (step_site x) f e l)
+    → Fits x (rule.rule (rule_site x) f e s) (step.local_step (step_site x) f e l)

@@ -1,6 +1,6 @@
 -- The rule of each instruction: what it wants of the state before it, and what it leaves. The rules mirror the steps
 -- of the machine, and their tests are in rising order of the numbers of rules.
-use Rattle.std.specs.Prelude.{ℕ, ◌+◌, ◌-◌, nat_lt, Bool, if◌then◌else◌, is_some, ℤ, pos, negsuc, ◌+ℤ◌, Option, Some}
+use Rattle.std.specs.Prelude.{ℕ, ◌+◌, ◌-◌, nat_lt, Bool, true, false, if◌then◌else◌, ℤ, pos, negsuc, ◌+ℤ◌, Option, Some}
 use Rattle.std.specs.Prelude.{None, Ok, Err}
 use Rattle.std.specs.Option.{option_map}
 use Rattle.prefix_decoder.specs.declared.function.Fun.{Fun}
@@ -178,6 +178,7 @@ operation_rule site StopProcess s = alone s.mode (schedules site s (λ s. pays s
 operation_rule site (Binary op) s =
     uses s.stack.a (λ a. uses s.stack.b (λ b. becomes site (result_fact op b a) (pop s)))
 operation_rule site (Unary op) s = uses s.stack.a (λ a. becomes site (unary_result_fact op a) s)
+operation_rule site _ s = breaks rules.Spelling
 
 unfoldable pub instruction_rule : Site → Instruction → ℤ → State → Ruling
 instruction_rule site LoadConstant e s = goes_on site (push (constant e) s)
@@ -192,6 +193,7 @@ instruction_rule site Jump e s =
     outside_alternation s.mode (forward e (outside_starts s.mode (schedules site s (λ s. pays site s (λ s.
     leads_to site (target (site.at + site.length) e) (without_registers s))))))
 instruction_rule site (Operate op) e s = operation_rule site op s
+instruction_rule site _ e s = breaks rules.Spelling
 
 -- the rule of an instruction that the machine has
 unfoldable pub rule_of : Site → Option Instruction → ℤ → State → Ruling
@@ -205,6 +207,24 @@ rule site f e s = rule_of site (instruction_of f e) e s
 abbrev pub rule_at : Contents → ℕ → Instr → State → Ruling
 rule_at m at i s = rule (record { contents = m; at = at; length = i.len }) i.fun i.operand s
 
--- Whether an instruction has a rule: each has that the machine has. One that has none breaks `Spelling` in every state.
+-- Whether an instruction has a rule. One that has none breaks `Spelling` in every state.
+abbrev pub op_has_rule : Op → Bool
+op_has_rule Reverse = true
+op_has_rule MinimumInteger = true
+op_has_rule StopProcess = true
+op_has_rule (Binary op) = true
+op_has_rule (Unary op) = true
+op_has_rule _ = false
+
+abbrev pub instruction_has_rule : Instruction → Bool
+instruction_has_rule LoadConstant = true
+instruction_has_rule LoadLocal = true
+instruction_has_rule StoreLocal = true
+instruction_has_rule (WithConstant op) = true
+instruction_has_rule Jump = true
+instruction_has_rule (Operate op) = op_has_rule op
+instruction_has_rule _ = false
+
 unfoldable pub has_rule : Instr → Bool
-has_rule i = is_some (instruction_of i.fun i.operand)
+has_rule i =
+    elim (instruction_of i.fun i.operand) [ None ↦ false | Some instruction ↦ instruction_has_rule instruction ]

@@ -2,28 +2,53 @@
 
 ghost use Rattle.std.specs.Prelude.{◌≡◌};
 ghost use Rattle.states.specs.Views.{state_of, BelongsTo};
-ghost use Rattle.facts.specs.Rules.{has_rule, rule_at};
+ghost use Rattle.facts.specs.Rules.{op_has_rule, instruction_has_rule, has_rule, rule_at};
 ghost use Rattle.facts.specs.Telling.{Advances};
 
 use crate::place::Place;
 use certificate::Module;
-use machine_state::{Flow, Instruction};
+use machine_state::{Flow, Instruction, Op};
 use prefix_decoder::Instr;
 use states::{Rule, State};
 
-/// Whether an instruction has a rule: each has that the machine has. One that has none breaks
-/// `Rule::Spelling` wherever it stands.
+fn op_has_rule(op: Op) -> bool
+    ensures { result ≡ op_has_rule op }
+{
+    matches!(
+        op,
+        Op::Reverse | Op::MinimumInteger | Op::StopProcess | Op::Binary(_) | Op::Unary(_)
+    )
+}
+
+fn instruction_has_rule(instruction: Instruction) -> bool
+    ensures { result ≡ instruction_has_rule instruction }
+{
+    match instruction {
+        Instruction::LoadConstant
+        | Instruction::LoadLocal
+        | Instruction::StoreLocal
+        | Instruction::WithConstant(_)
+        | Instruction::Jump => true,
+        Instruction::Operate(op) => op_has_rule(op),
+        _ => false,
+    }
+}
+
+/// Whether an instruction has a rule. One that has none breaks `Rule::Spelling` wherever it stands.
 #[tactic(auto, unfolding(crate::specs::Rules::has_rule))]
 pub fn has_rule(instr: Instr) -> bool
     ensures { result ≡ has_rule instr }
 {
-    Instruction::of(instr.fun, instr.operand).is_some()
+    match Instruction::of(instr.fun, instr.operand) {
+        Some(instruction) => instruction_has_rule(instruction),
+        None => false,
+    }
 }
 
 /// Takes a state over the instruction at a code offset, by the rule of that instruction, and reports how a
 /// process goes on there: a jump leads to the label at its code offset. Where the rule is broken, the state is
 /// left part of the way.
-#[tactic(auto, unfolding(crate::specs::Rules::rule, crate::specs::Rules::rule_of))]
+#[tactic(auto, unfolding(crate::specs::Rules::rule, crate::specs::Rules::rule_of, crate::specs::Rules::instruction_rule))]
 pub fn advance(state: &mut State, module: &Module, at: usize, instr: Instr) -> Result<Flow, Rule>
     requires { BelongsTo «module».now state.old }
     ensures ruling { Advances result (state_of state.new) (rule_at «module».now at instr (state_of state.old)) }
@@ -42,5 +67,6 @@ pub fn advance(state: &mut State, module: &Module, at: usize, instr: Instr) -> R
         Instruction::WithConstant(op) => place.with_constant(state, op, instr.operand),
         Instruction::Jump => place.jump(state, instr.operand),
         Instruction::Operate(op) => place.operate(state, op),
+        _ => Err(Rule::Spelling),
     }
 }

@@ -272,11 +272,11 @@ impl Place<'_, '_> {
         self.becomes(state, unary_result_fact(op, operand))
     }
 
-    #[tactic(auto, unfolding(crate::specs::Rules::instruction_rule))]
+    #[tactic(auto, unfolding(crate::specs::Rules::operation_rule))]
     pub(crate) fn operate(&self, state: &mut State, op: Op) -> Result<Flow, Rule>
         requires { BelongsTo self.now.module.now state.old }
-        ensures ruling { let ruling = λ (e : ℤ). instruction_rule (site_of self.now) (Operate op) e (state_of state.old) in
-            (e : ℤ) → Advances result (state_of state.new) (ruling e) }
+        ensures ruling { let ruling = operation_rule (site_of self.now) op (state_of state.old) in
+            Advances result (state_of state.new) ruling }
         ensures belongs { BelongsTo self.now.module.now state.new }
     {
         match op {
@@ -285,6 +285,7 @@ impl Place<'_, '_> {
             Op::StopProcess => self.stop_process(state),
             Op::Binary(op) => self.binary(state, op),
             Op::Unary(op) => self.unary(state, op),
+            _ => Err(Rule::Spelling),
         }
     }
 }

@@ -1,5 +1,5 @@
 -- What a call for one event did, against the turn of the definitions.
-use Rattle.std.specs.Prelude.{◌≡◌, ℕ, ℤ, Some, Result, Ok, Err}
+use Rattle.std.specs.Prelude.{◌≡◌, ℕ, ◌+◌, ℤ, Some, Result, Ok, Err}
 use Rattle.prefix_decoder.specs.declared.function.Fun.{Fun}
 use Rattle.module_format.specs.Contents.{Contents}
 use Rattle.machine_state.specs.declared.cpu.Flow.{Flow}
@@ -9,9 +9,10 @@ use Rattle.machine_state.specs.declared.process.Task.{Task}
 use Rattle.machine_state.specs.declared.fault.Fault.{Fault}
 use Rattle.machine_state.specs.Memory.{Memory}
 use Rattle.machine_state.specs.World.{World}
-use Rattle.machine_state.specs.LocalStep.{Local, Outcome, goes, lands, stops, local_step}
+use Rattle.machine_state.specs.Site.{Local, Outcome, goes, jumps, stops}
+use Rattle.machine_state.specs.LocalStep.{local_step}
 use Rattle.machine_state.specs.Performing.{reported}
-use Rattle.machine_state.specs.Happens.{Effect, ran, idle, taken, kept, busy, acknowledged, ignored, Turn, site_of}
+use Rattle.machine_state.specs.Happens.{Effect, ran, idle, taken, kept, busy, acknowledged, ignored, Turn, Here, site_of}
 use Rattle.machine.specs.declared.checked.act.Act.{Act}
 use Rattle.machine.specs.declared.checked.act.Act.TheVariants.{Ran, Idle, Taken, Kept, Busy, Acknowledged, Ignored}
 use Rattle.machine.specs.declared.checked.act.Stop.{Stop}
@@ -41,15 +42,20 @@ Applies before after (Err stops.Memory) turn = after ≡ before
 
 -- ---- one instruction
 
+-- an instruction of this process, whose last byte it is at
+abbrev pub here_at : Contents → ℕ → Task → ℕ → Here
+here_at m p task pick =
+    record { contents = m; process = p; from = task; next = task.registers.at + 1; pick = pick }
+
 -- the outcome of an instruction of this process
 abbrev pub outcome_at : Contents → ℕ → Task → Fun → ℤ → World → Outcome
 outcome_at m p task f operand w =
-    local_step (site_of m p task w) f operand (record { registers = task.registers; memory = w.memory })
+    local_step (site_of (here_at m p task 0) w) f operand (record { registers = task.registers; memory = w.memory })
 
 -- the outcome of an instruction after which its process goes on so
 abbrev pub outcome_by : Flow → Local → Outcome
 outcome_by Next l = goes l
-outcome_by (Jump to) l = lands to l
+outcome_by (Jump to) l = jumps to l
 outcome_by Stops l = stops l
 
 -- with these registers and this memory

@@ -49,7 +49,7 @@ impl<'a> Checked<'a> {
     }
 
     /// One event, with what it did still in the machine.
-    #[tactic(auto, unfolding(machine_state::specs::Happens::turn))]
+    #[tactic(auto, unfolding(machine_state::specs::Happens::turn_by))]
     fn advance(&mut self, event: Event) -> Result<Act, Stop>
         ensures applies { let expected = turn self.old.contents self.old.world event in
             Applies self.old.world self.new.world result expected }

@@ -3,7 +3,8 @@ use Rattle.std.proofs.Common.{◌≡◌, ℕ, Bool, true, false, ◌&&◌, cond,
 use Rattle.machine_state.specs.declared.fault.FaultKind.TheVariants.{NotOwn}
 use Rattle.machine_state.specs.Memory.{place_of, local_address}
 use Rattle.machine_state.specs.Holding.{may_write_word}
-use Rattle.machine_state.specs.LocalStep.{Site, Local, Outcome, fails, writes, schedules, holds_scheduling_words}
+use Rattle.machine_state.specs.Site.{Site, Local, Outcome, fails}
+use Rattle.machine_state.specs.LocalStep.{writes, schedules, holds_scheduling_words}
 use Rattle.machine_state.specs.LocalStep.{without_scheduling_words}
 
 three_tests : (a b c : Bool) (passed : Outcome) → cond a (cond b (cond c passed (fails NotOwn)) (fails NotOwn))

@@ -3,8 +3,14 @@ pub mod Holding
 pub mod World
 pub mod Faults
 pub mod Instructions
+pub mod Site
+pub mod Spans
 pub mod LocalStep
 pub mod Moves
+pub mod Turn
+pub mod Exchanges
+pub mod Alternations
+pub mod Joins
 pub mod Happens
 pub mod Views
 pub mod Tagged

@@ -13,15 +13,16 @@ abbrev pub join_view : kept_join.Join → Join
 join_view j = record {
   row = j.row;
   block = j.block;
+  base = j.base;
+  parameters = j.parameters.items;
+  started = j.started;
   rest = holding_view j.rest;
   members = j.members.items;
-  is_starting = j.is_starting;
 }
 
 abbrev pub role_view : kept_role.Role → Role
 role_view r = record {
   own = holding_view r.own;
-  above = r.above.items;
+  opener = r.opener;
   opened = option_map join_view r.opened;
-  is_over = r.is_over;
 }

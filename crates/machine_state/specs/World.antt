@@ -15,25 +15,28 @@ use Rattle.machine_state.specs.declared.link.OutputLink.{OutputLink}
 use Rattle.machine_state.specs.declared.holding.End.{End}
 use Rattle.machine_state.specs.declared.fault.Fault.{Fault}
 
--- A PAR whose branches are not all joined. It keeps what its branches have not been given.
+-- A PAR whose members are not all joined: the number of its row, the addresses of its block, of frame word 0 and of
+-- what
+-- each parameter that the row names points at, how many branches are started, what its branches have not been given,
+-- and who is not joined yet.
 pub record Join : Type 0 where
   pub row : ℕ
   pub block : ℕ
+  pub base : ℕ
+  pub parameters : List (Option ℕ)
+  pub started : ℕ
   pub rest : Holding
   pub members : List ℕ
-  pub is_starting : Bool
 
--- What a process has for good, the openers of the joins that it is in (innermost first), and the join that it has
--- open.
+-- What a process has for good, the opener of the join that it is in, and the join that it has open.
 pub record Role : Type 0 where
   pub own : Holding
-  pub above : List ℕ
+  pub opener : Option ℕ
   pub opened : Option Join
-  pub is_over : Bool
 
 -- what a process holds now: while it has a join open, only what its branches have not been given
 abbrev pub held : Role → Holding
-held role = if role.is_over then nothing else elim role.opened [ None ↦ role.own | Some join ↦ join.rest ]
+held role = elim role.opened [ None ↦ role.own | Some join ↦ join.rest ]
 
 -- what the process of this number holds: nothing where there is no such process
 abbrev pub holding_at : List Role → ℕ → Holding
@@ -58,14 +61,14 @@ pub record Counters : Type 0 where
   pub executed : ℕ
   pub is_finished : Bool
 
--- tasks and roles have one index, the process number
+-- Tasks and roles have one index, the process number. Channels have the index of their data word.
 pub record World : Type 0 where
   pub memory : Memory
   pub tasks : List Task
   pub roles : List Role
   pub queue : Queue
   pub links : Links
-  pub channels : List Channel
+  pub channels : List (Option Channel)
   pub counters : Counters
   pub fault : Option Fault
 
@@ -120,7 +123,7 @@ root_task m = record {
 }
 
 abbrev pub root_role : Contents → Role
-root_role m = record { own = root_holding m; above = []; opened = None; is_over = false }
+root_role m = record { own = root_holding m; opener = None; opened = None }
 
 abbrev pub quiet_links : Links
 quiet_links = record {
@@ -135,7 +138,7 @@ loaded m = record {
   roles = root_role m ∷ [];
   queue = record { running = Some 0; ready = [] };
   links = quiet_links;
-  channels = [];
+  channels = replicate m.data_words None;
   counters = record { executed = 0; is_finished = false };
   fault = None;
 }

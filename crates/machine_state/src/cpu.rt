@@ -20,8 +20,12 @@ pub struct Cpu<S> {
     pub process: u64,
     pub registers: Registers,
     pub mode: Mode,
+    /// The address of the first byte of the code.
+    pub code_start: u32,
     /// The bytes of the code.
     pub code_length: u32,
+    /// Whether the module has the operations of two words.
+    pub has_long_operations: bool,
     pub store: S,
 }
 
@@ -82,8 +86,8 @@ impl<S> Cpu<S> {
         ensures { Admits self.now result (outside_alternation self.now.mode) }
     {
         match self.mode {
-            Mode::Plain | Mode::Starting { .. } => Ok(()),
-            Mode::Enabling | Mode::Disabling { .. } => Err(self.fault(FaultKind::AlternationOrder)),
+            Mode::Plain | Mode::Starting => Ok(()),
+            Mode::Enabling { .. } | Mode::Disabling { .. } => Err(self.fault(FaultKind::AlternationOrder)),
         }
     }
 
@@ -93,8 +97,8 @@ impl<S> Cpu<S> {
         ensures { Admits self.now result (outside_starts self.now.mode) }
     {
         match self.mode {
-            Mode::Plain | Mode::Enabling | Mode::Disabling { .. } => Ok(()),
-            Mode::Starting { .. } => Err(self.fault(FaultKind::JoinOrder)),
+            Mode::Plain | Mode::Enabling { .. } | Mode::Disabling { .. } => Ok(()),
+            Mode::Starting => Err(self.fault(FaultKind::JoinOrder)),
         }
     }
 

@@ -1,7 +1,7 @@
 //! The instructions that the machine has.
 
 ghost use Rattle.std.specs.Prelude.{◌≡◌};
-ghost use Rattle.machine_state.specs.Instructions.{instruction_of};
+ghost use Rattle.machine_state.specs.Instructions.{instruction_of, has_body};
 
 use crate::op::Op;
 use prefix_decoder::Fun;
@@ -12,14 +12,28 @@ use word_arithmetic::Binary;
 pub enum Instruction {
     /// `j`: the process continues at this distance from the next instruction.
     Jump,
+    /// `ldlp`: the address of the word with this number from the workspace is pushed.
+    LoadLocalPointer,
+    /// `ldnl`: A becomes the word with this number from A.
+    LoadNonLocal,
     /// `ldc`: the operand is pushed.
     LoadConstant,
+    /// `ldnlp`: A becomes the address of the word with this number from A.
+    LoadNonLocalPointer,
     /// `ldl`: the word with this number from the workspace is pushed.
     LoadLocal,
-    /// `stl`: A goes to the word with this number from the workspace, and is popped.
-    StoreLocal,
     /// `adc`, `eqc`: A becomes the result of an operation on A and the operand.
     WithConstant(Binary),
+    /// `call`: the procedure at this distance is called.
+    Call,
+    /// `cj`: if A is 0, the process continues at this distance, else A is popped.
+    ConditionalJump,
+    /// `ajw`: the workspace moves by this number of words.
+    AdjustWorkspace,
+    /// `stl`: A goes to the word with this number from the workspace, and is popped.
+    StoreLocal,
+    /// `stnl`: B goes to the word with this number from A, and both are popped.
+    StoreNonLocal,
     /// An operation, which `opr` chooses by its operand.
     Operate(Op),
 }
@@ -32,13 +46,34 @@ impl Instruction {
     {
         match fun {
             Fun::Jump => Some(Instruction::Jump),
+            Fun::LoadLocalPointer => Some(Instruction::LoadLocalPointer),
+            Fun::LoadNonLocal => Some(Instruction::LoadNonLocal),
             Fun::LoadConstant => Some(Instruction::LoadConstant),
+            Fun::LoadNonLocalPointer => Some(Instruction::LoadNonLocalPointer),
             Fun::LoadLocal => Some(Instruction::LoadLocal),
-            Fun::StoreLocal => Some(Instruction::StoreLocal),
             Fun::AddConstant => Some(Instruction::WithConstant(Binary::Add)),
+            Fun::Call => Some(Instruction::Call),
+            Fun::ConditionalJump => Some(Instruction::ConditionalJump),
+            Fun::AdjustWorkspace => Some(Instruction::AdjustWorkspace),
             Fun::EqualsConstant => Some(Instruction::WithConstant(Binary::Equal)),
+            Fun::StoreLocal => Some(Instruction::StoreLocal),
+            Fun::StoreNonLocal => Some(Instruction::StoreNonLocal),
             Fun::Operate => Some(Instruction::Operate(Op::of(operand)?)),
-            _ => None,
+        }
+    }
+
+    /// Whether the machine executes it. Until then it is at fault as an unknown one.
+    pub fn has_body(self) -> bool
+        ensures { result ≡ has_body self }
+    {
+        match self {
+            Instruction::Jump
+            | Instruction::LoadConstant
+            | Instruction::LoadLocal
+            | Instruction::WithConstant(_)
+            | Instruction::StoreLocal => true,
+            Instruction::Operate(op) => op.has_body(),
+            _ => false,
         }
     }
 }

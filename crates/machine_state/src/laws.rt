@@ -4,7 +4,8 @@ ghost use Rattle.machine_state.specs.MemoryLaws.{ByteReadsBack, WordReadsBack, U
 ghost use Rattle.machine_state.specs.MemoryLaws.{ByteElsewhereStays, WordBesideByteStays, ByteBesideWordStays};
 ghost use Rattle.machine_state.specs.MemoryLaws.{WordElsewhereStays, ByteKeepsLength, WordKeepsLength};
 ghost use Rattle.machine_state.specs.Frame.{StepsChangeOwn};
-ghost use Rattle.machine_state.specs.SmallModules.{FirstEnds, JumpEnds, SlicedJumpEnds};
+ghost use Rattle.machine_state.specs.SmallModules.{FirstEnds, JumpEnds, SlicedJumpEnds, CallEnds, LoopEnds};
+ghost use Rattle.machine_state.specs.SmallModules.{PairEnds, PairFaults, EchoWaits, ChannelEnds, ChoiceWaits};
 
 /// Small modules run to their end.
 #[tactic(auto, using(crate::proofs::Examples::small_modules))]
@@ -12,6 +13,13 @@ pub fn small_modules_end()
     ensures first { FirstEnds }
     ensures jump { JumpEnds }
     ensures sliced_jump { SlicedJumpEnds }
+    ensures call { CallEnds }
+    ensures turns { LoopEnds }
+    ensures pair { PairEnds }
+    ensures pair_faults { PairFaults }
+    ensures echo { EchoWaits }
+    ensures channel { ChannelEnds }
+    ensures choice { ChoiceWaits }
 {}
 
 /// One instruction of one process changes no byte but those that the process may write.

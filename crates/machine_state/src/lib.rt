@@ -31,7 +31,7 @@ pub use laws::{
     steps_change_their_own,
 };
 pub use link::{InputLink, Link, OutputLink};
-pub use op::Op;
+pub use op::{LongOp, Op, Shift};
 pub use process::{Channel, Condition, Exchange, Mode, Registers, Task, Word};
 pub use role::{Join, Role};
 pub use store::Store;

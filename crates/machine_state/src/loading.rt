@@ -103,8 +103,7 @@ pub(crate) fn root_role(alloc: Global, tables: &Tables) -> Result<Role, AllocErr
 {
     Ok(Role {
         own: root_holding(alloc, tables)?,
-        above: Vec::new(alloc),
+        opener: None,
         opened: None,
-        is_over: false,
     })
 }

@@ -29,12 +29,12 @@ pub struct Registers {
 #[derive(Clone, Copy, Debug)]
 pub enum Mode {
     Plain,
-    /// Between `alt` and `altwt`.
-    Enabling,
-    /// Between `altwt` and `altend`, with the selected offset.
+    /// Between `alt` and `altwt`: whether something that is enabled is ready.
+    Enabling { is_ready: bool },
+    /// Between `altwt` and `altend`, with the selected distance.
     Disabling { selection: Option<i32> },
-    /// Starting the branches of a PAR row, of which some are started.
-    Starting { row: u32, started: u32 },
+    /// Between the first `startp` of a PAR and the `endp` of the process that starts the branches.
+    Starting,
 }
 
 /// A message that is being sent or received.
@@ -96,11 +96,11 @@ impl Task {
     }
 }
 
-/// An internal channel that some open join owns.
+/// An internal channel of an open join.
 #[derive(Clone, Copy)]
 pub struct Channel {
-    /// The address of the channel word.
-    pub address: u32,
+    /// The opener of the join.
+    pub opener: u64,
     /// The length of its messages in bytes.
     pub length: u32,
     /// The process that waits there, to send or to receive.

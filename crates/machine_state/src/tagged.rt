@@ -81,12 +81,12 @@ impl TaggedStore {
         );
     }
 
-    /// What the selected process holds, if it is there and has not ended.
+    /// What the selected process holds, if it is there.
     pub fn current(&self) -> Option<&Holding>
         ensures { let holding = holding_at self.now.roles self.now.holder in
             MatchOption result (holding ≡ nothing) (λ h. holding ≡ holding_view h.now) }
     {
-        self.roles.get(self.holder)?.held()
+        Some(self.roles.get(self.holder)?.held())
     }
 }
 

@@ -7,10 +7,11 @@ mod stopping;
 
 ghost use Rattle.machine_state.specs.Performing.{Performs, IsSameElsewhere, operation_outcome};
 
-use machine_state::{Cpu, Fault, Flow, Op, Store};
+use machine_state::{Cpu, Fault, FaultKind, Flow, Op, Store};
 
 /// Executes one operation of the running process. The registers `at`, `began` and `operand` stay as they are:
-/// the caller says where the next instruction begins. After a fault nothing has changed.
+/// the caller says where the next instruction begins. An operation that has no body yet is unknown. After a fault
+/// nothing has changed.
 pub fn operate<S: Store>(cpu: &mut Cpu<S>, op: Op) -> Result<Flow, Fault>
     ensures performs { let outcome = operation_outcome S.cells S.holding cpu.old op in
         Performs S.cells cpu.old cpu.new result outcome }
@@ -22,6 +23,7 @@ pub fn operate<S: Store>(cpu: &mut Cpu<S>, op: Op) -> Result<Flow, Fault>
         Op::StopProcess => stopping::stop_process(cpu),
         Op::Binary(op) => arithmetic::binary(cpu, op),
         Op::Unary(op) => arithmetic::unary(cpu, op),
+        _ => Err(cpu.fault(FaultKind::UnknownOperation)),
     }
 }
 

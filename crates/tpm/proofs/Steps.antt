@@ -16,9 +16,12 @@ use Rattle.machine_state.specs.declared.process.Task.{Task}
 use Rattle.machine_state.specs.Memory.{Memory}
 use Rattle.machine_state.specs.World.{World, Queue, loaded}
 use Rattle.machine_state.specs.declared.fault.FaultKind.TheVariants.{OutsideCode}
-use Rattle.machine_state.specs.LocalStep.{Outcome, goes, lands, stops, fails, local_step}
+use Rattle.machine_state.specs.Site.{Local, Outcome, goes, jumps, stops, fails}
+use Rattle.machine_state.specs.Instructions.{has_body}
+use Rattle.machine_state.specs.LocalStep.{local_step}
+use Rattle.machine_state.proofs.Bodied.{IsLocal, it_goes, it_jumps, it_stops, it_fails, local_steps_are_local}
 use Rattle.machine_state.specs.Moves.{counted, finished_where, put, leave, picked, dispatch}
-use Rattle.machine_state.specs.Happens.{Effect, ran, idle, answered, Turn, turn, happens, run_from, failed, site_of, settled, prefix_turn, byte_turn, task_turn, step_turn, most_executed}
+use Rattle.machine_state.specs.Happens.{Effect, ran, idle, answered, Here, Turn, turn, turn_by, happens, run_from, failed, site_of, settled, prefix_turn, byte_turn, task_turn, step_turn, most_executed}
 use Rattle.machine.specs.Asking.{Execution, is_running}
 use Rattle.machine.specs.Lending.{shown}
 use Rattle.verifier.specs.Headline.{AreEvents, IsWell, RunsWell}
@@ -34,7 +37,8 @@ pub record IsAlone (w : World) : Type 0 where
 -- A Step finds nobody who runs, executes a byte, or is at fault.
 pub data Steps (w : World) : Turn → Type 0 where
   idles : (IsAlone w → w.counters.executed < most_executed → w.queue.running ≡ None) → Steps w (answered idle w)
-  runs : (after : World) → after.counters.executed ≡ w.counters.executed + 1 → (IsAlone w → IsAlone after) → Steps w (answered ran after)
+  runs : (after : World) → after.counters.executed ≡ w.counters.executed + 1 → (IsAlone w → IsAlone after)
+      → Steps w (answered ran after)
   faults : (after : World) (f : Fault) → after.fault ≡ Some f → Steps w (record { world = after; answer = Err f })
 
 -- who runs goes on
@@ -45,12 +49,12 @@ alone_put p task memory w alone = record {
 }
 
 -- who runs is the last to run
-alone_stopped : (p : ℕ) (task : Task) (memory : Memory) (finishes : Bool) (w : World) → IsAlone w
-    → IsAlone (counted (dispatch 0 (leave (finished_where finishes (put p task memory w)))))
+alone_stopped : (p pick : ℕ) (task : Task) (memory : Memory) (finishes : Bool) (w : World) → IsAlone w
+    → IsAlone (counted (dispatch pick (leave (finished_where finishes (put p task memory w)))))
 unfolding dispatch
-alone_stopped p task memory finishes w alone =
-    let over : picked 0 (record { running = None; ready = w.queue.ready }) ≡ record { running = None; ready = [] } =
-    ap (λ (ready : List ℕ). picked 0 (record { running = None; ready = ready })) alone.none_ready in
+alone_stopped p pick task memory finishes w alone =
+    let over : picked pick (record { running = None; ready = w.queue.ready }) ≡ record { running = None; ready = [] } =
+        ap (λ (ready : List ℕ). picked pick (record { running = None; ready = ready })) alone.none_ready in
     record {
       none_ready = ap (λ (q : Queue). q.ready) over;
       there = λ q is. absurd (nobody (sym (ap (λ (x : Queue). x.running) over) ∙ is));
@@ -59,66 +63,86 @@ alone_stopped p task memory finishes w alone =
     nobody : {q : ℕ} → None ≡ Some q → ⊥
     nobody e = cc
 
-steps_settled : (m : Contents) (p : ℕ) (task : Task) (next : ℕ) (o : Outcome) (w : World) → Steps w (settled m p task next false 0 o w)
-unfolding dispatch
-steps_settled m p task next (goes l) w = runs _ refl (alone_put p _ l.memory w)
-steps_settled m p task next (lands to l) w = runs _ refl (alone_put p _ l.memory w)
-steps_settled m p task next (stops l) w = runs _ refl (alone_stopped p _ l.memory (next == m.finish) w)
-steps_settled m p task next (fails kind) w = faults _ _ refl
+-- an instruction of a process
+abbrev at_here : Contents → ℕ → Task → Here
+at_here m p task = record { contents = m; process = p; from = task; next = task.registers.at + 1; pick = 0 }
 
-steps_prefix : (m : Contents) (p : ℕ) (task : Task) (operand : ℤ) (w : World) → Steps w (prefix_turn m p task operand w)
-steps_prefix m p task operand w =
-    let later : Task = record task { registers = record task.registers { at = task.registers.at + 1; operand = operand } } in
-    elim (nat_lt (task.registers.at + 1) (length m.code)) as (λ b. Steps w (cond b (answered ran (counted (put p later w.memory w))) (failed OutsideCode p task w))) [
-      | true ↦ runs _ refl (alone_put p later w.memory w)
+steps_settled : (h : Here) (o : Outcome) → IsLocal o → (w : World) → Steps w (settled h false o w)
+unfolding dispatch
+steps_settled h o (it_goes {l = l}) w = runs _ refl (alone_put h.process _ l.memory w)
+steps_settled h o (it_jumps {l = l}) w = runs _ refl (alone_put h.process _ l.memory w)
+steps_settled h o (it_stops {l = l}) w =
+    runs _ refl (alone_stopped h.process h.pick _ l.memory (h.next == h.contents.finish) w)
+steps_settled h o it_fails w = faults _ _ refl
+
+steps_prefix : (h : Here) (operand : ℤ) (w : World) → Steps w (prefix_turn h operand w)
+steps_prefix h operand w =
+    let later : Task = record h.from { registers = record h.from.registers { at = h.next; operand = operand } } in
+    elim (nat_lt h.next (length h.contents.code)) as (λ b. Steps w
+        (cond b (answered ran (counted (put h.process later w.memory w))) (failed h OutsideCode w))) [
+      | true ↦ runs _ refl (alone_put h.process later w.memory w)
       | false ↦ faults _ _ refl
     ]
 
-steps_byte : (m : Contents) (p : ℕ) (task : Task) (byte : ℕ) (w : World) → Steps w (byte_turn m p task byte false 0 w)
+steps_byte : (m : Contents) (p : ℕ) (task : Task) (byte : ℕ) (w : World)
+    → Steps w (byte_turn has_body (at_here m p task) byte false w)
 steps_byte m p task byte w =
     let operand = with_nibble task.registers.operand (nibble byte) in
-    let outcome = λ (f : Fun). local_step (site_of m p task w) f operand (record { registers = task.registers; memory = w.memory }) in
+    let site = site_of (at_here m p task) w in
+    let before : Local = record { registers = task.registers; memory = w.memory } in
     elim (fun_of (function_code byte)) as (λ o. Steps w (elim o [
-      | Some f ↦ settled m p task (task.registers.at + 1) false 0 (outcome f) w
-      | None ↦ prefix_turn m p task (after_prefix (function_code byte) operand) w
+      | Some f ↦ settled (at_here m p task) false (local_step site f operand before) w
+      | None ↦ prefix_turn (at_here m p task) (after_prefix (function_code byte) operand) w
     ])) [
-      | None ↦ steps_prefix m p task (after_prefix (function_code byte) operand) w
-      | Some f ↦ steps_settled m p task (task.registers.at + 1) (outcome f) w
+      | None ↦ steps_prefix (at_here m p task) (after_prefix (function_code byte) operand) w
+      | Some f ↦ steps_settled (at_here m p task) (local_step site f operand before)
+          (local_steps_are_local site f operand before) w
     ]
 
-steps_task : (m : Contents) (p : ℕ) (task : Task) (w : World) → Steps w (task_turn m p false 0 task w)
+steps_task : (m : Contents) (p : ℕ) (task : Task) (w : World) → Steps w (task_turn has_body (at_here m p task) false w)
 steps_task m p task w =
-    elim (slice_get m.code task.registers.at) as (λ o. Steps w (elim o [ None ↦ failed OutsideCode p task w | Some byte ↦ byte_turn m p task byte false 0 w ])) [
+    elim (slice_get m.code task.registers.at) as (λ o. Steps w (elim o
+        [ None ↦ failed (at_here m p task) OutsideCode w
+        | Some byte ↦ byte_turn has_body (at_here m p task) byte false w ])) [
       | None ↦ faults _ _ refl
       | Some byte ↦ steps_byte m p task byte w
     ]
 
 -- the process that runs is there
-process_there : (w : World) (p : ℕ) → w.queue.running ≡ Some p → slice_get w.tasks p ≡ None → IsAlone w → w.queue.running ≡ None
+process_there : (w : World) (p : ℕ) → w.queue.running ≡ Some p → slice_get w.tasks p ≡ None → IsAlone w
+    → w.queue.running ≡ None
 process_there w p running absent alone =
     let inside = alone.there p running in
-    elim (slice_get_cases w.tasks p).1 [ inl found ↦ absurd (nobody (sym absent ∙ found.2)) | inr past ↦ absurd (omega (arith, past.0)) ]
+    elim (slice_get_cases w.tasks p).1 [ inl found ↦ absurd (nobody (sym absent ∙ found.2)) | inr past ↦ absurd
+        (omega (arith, past.0)) ]
   where
     nobody : {x : Task} → None ≡ Some x → ⊥
     nobody e = cc
 
-steps_process : (m : Contents) (p : ℕ) (w : World) (over : Bool) (o : Option Task) → w.queue.running ≡ Some p → nat_le most_executed w.counters.executed ≡ over → slice_get w.tasks p ≡ o
-    → Steps w (cond over (answered idle w) (elim o [ None ↦ answered idle w | Some task ↦ task_turn m p false 0 task w ]))
-steps_process m p w true o running most here = idles (λ alone small. let above = leb-true most_executed w.counters.executed most in absurd (omega arith))
+steps_process : (m : Contents) (p : ℕ) (w : World) (over : Bool) (o : Option Task) → w.queue.running ≡ Some p
+    → nat_le most_executed w.counters.executed ≡ over → slice_get w.tasks p ≡ o
+    → Steps w (cond over (answered idle w) (elim o
+        [ None ↦ answered idle w | Some task ↦ task_turn has_body (at_here m p task) false w ]))
+steps_process m p w true o running most here =
+    idles (λ alone small. let above = leb-true most_executed w.counters.executed most in absurd (omega arith))
 steps_process m p w false None running most here = idles (λ alone small. process_there w p running here alone)
 steps_process m p w false (Some task) running most here = steps_task m p task w
 
 steps_running : (m : Contents) (w : World) (o : Option ℕ) → w.queue.running ≡ o
-    → Steps w (elim o [ None ↦ answered idle w | Some p ↦ cond (nat_le most_executed w.counters.executed) (answered idle w) (elim (slice_get w.tasks p) [ None ↦ answered idle w | Some task ↦ task_turn m p false 0 task w ]) ])
+    → Steps w (elim o [ None ↦ answered idle w | Some p ↦ cond (nat_le most_executed w.counters.executed)
+        (answered idle w) (elim (slice_get w.tasks p)
+        [ None ↦ answered idle w | Some task ↦ task_turn has_body (at_here m p task) false w ]) ])
 steps_running m w None running = idles (λ alone small. running)
-steps_running m w (Some p) running = steps_process m p w (nat_le most_executed w.counters.executed) (slice_get w.tasks p) running refl refl
+steps_running m w (Some p) running = steps_process m p w (nat_le most_executed w.counters.executed)
+    (slice_get w.tasks p) running refl refl
 
-steps_unless : (m : Contents) (w : World) (o : Option Fault) → w.fault ≡ o → Steps w (elim o [ None ↦ step_turn m false 0 w | Some f ↦ record { world = w; answer = Err f } ])
+steps_unless : (m : Contents) (w : World) (o : Option Fault) → w.fault ≡ o
+    → Steps w (elim o [ None ↦ step_turn has_body m false 0 w | Some f ↦ record { world = w; answer = Err f } ])
 steps_unless m w None is = steps_running m w w.queue.running refl
 steps_unless m w (Some f) is = faults w f is
 
 steps : (m : Contents) (w : World) → Steps w (turn m w plain_step)
-unfolding turn
+unfolding turn_by
 steps m w = steps_unless m w w.fault refl
 
 -- ---- what an answer tells
@@ -128,12 +152,14 @@ idle_world w t (idles nobody) e = refl
 idle_world w t (runs after more alone) e = absurd (cc)
 idle_world w t (faults after f at) e = absurd (cc)
 
-nobody_runs : (w : World) (t : Turn) → Steps w t → t.answer ≡ Ok idle → IsAlone w → w.counters.executed < most_executed → w.queue.running ≡ None
+nobody_runs : (w : World) (t : Turn) → Steps w t → t.answer ≡ Ok idle → IsAlone w
+    → w.counters.executed < most_executed → w.queue.running ≡ None
 nobody_runs w t (idles nobody) e alone small = nobody alone small
 nobody_runs w t (runs after more later) e alone small = absurd (cc)
 nobody_runs w t (faults after f at) e alone small = absurd (cc)
 
-more_world : (w : World) (t : Turn) → Steps w t → (d : Effect) → t.answer ≡ Ok d → d ≢ idle → t.world.counters.executed ≡ w.counters.executed + 1
+more_world : (w : World) (t : Turn) → Steps w t → (d : Effect) → t.answer ≡ Ok d → d ≢ idle
+    → t.world.counters.executed ≡ w.counters.executed + 1
 more_world w t (idles nobody) d e not = absurd (not (cc))
 more_world w t (runs after more alone) d e not = more
 more_world w t (faults after f at) d e not = absurd (cc)
@@ -158,7 +184,8 @@ pub one_more : (m : Contents) (w : World) (d : Effect) → (turn m w plain_step)
 one_more m w d e not = more_world w (turn m w plain_step) (steps m w) d e not
 
 -- where no fault comes, none is told
-pub no_fault : (m : Contents) (w : World) (f : Fault) → (happens m w plain_step).fault ≡ None → (turn m w plain_step).answer ≡ Err f → ⊥
+pub no_fault : (m : Contents) (w : World) (f : Fault) → (happens m w plain_step).fault ≡ None
+    → (turn m w plain_step).answer ≡ Err f → ⊥
 no_fault m w f none e = no_fault_world w (turn m w plain_step) (steps m w) f none e
 
 -- an effect that is not idle tells of something else
@@ -174,13 +201,15 @@ not_idle effects.Ignored not = λ same. cc
 
 -- ---- runs of Steps
 
-run_more : (m : Contents) (w : World) (es : List Event) (e : Event) → run_from m w (es ++ e ∷ []) ≡ happens m (run_from m w es) e
+run_more : (m : Contents) (w : World) (es : List Event) (e : Event)
+    → run_from m w (es ++ e ∷ []) ≡ happens m (run_from m w es) e
 run_more m w [] e = refl
 run_more m w (x ∷ es) e = run_more m (happens m w x) es e
 
 -- one more Step
 pub world_more : (m : Contents) (n : ℕ) → world_at m (n + 1) ≡ happens m (world_at m n) plain_step
-world_more m n = ap (λ (es : List Event). run_from m (loaded m) es) (sym (replicate_more n plain_step)) ∙ run_more m (loaded m) (replicate n plain_step) plain_step
+world_more m n = ap (λ (es : List Event). run_from m (loaded m) es) (sym (replicate_more n plain_step)) ∙ run_more m
+    (loaded m) (replicate n plain_step) plain_step
 
 are_steps : (n : ℕ) → AreEvents (replicate n plain_step)
 are_steps zero = tt
@@ -196,7 +225,8 @@ pub record IsAt (m : Contents) (machine : Execution) : Type 0 where
   pub count : ℕ
   pub world : machine.world ≡ world_at m count
 
-pub at_start : (m : Contents) (machine : Execution) → machine ≡ record { contents = m; world = loaded m } → IsAt m machine
+pub at_start : (m : Contents) (machine : Execution) → machine ≡ record { contents = m; world = loaded m }
+    → IsAt m machine
 at_start m machine is = record {
   contents = ap (λ (x : Execution). x.contents) is;
   count = 0;
@@ -208,20 +238,24 @@ pub at_next : (m : Contents) (machine later : Execution) → IsAt m machine → 
 at_next m machine later at same stepped = record {
   contents = same ∙ at.contents;
   count = at.count + 1;
-  world = stepped ∙ ap (λ (x : Contents). happens x machine.world plain_step) at.contents ∙ ap (λ (w : World). happens m w plain_step) at.world
+  world = stepped ∙ ap (λ (x : Contents). happens x machine.world plain_step) at.contents ∙ ap
+      (λ (w : World). happens m w plain_step) at.world
       ∙ sym (world_more m at.count);
 }
 
 -- where Steps lead in a module that runs well, there is no fault, and no more is executed than the budget
-pub within : (m : Contents) (machine : Execution) → RunsWell m → IsAt m machine → machine.world.counters.executed ≤ m.budget
+pub within : (m : Contents) (machine : Execution) → RunsWell m → IsAt m machine
+    → machine.world.counters.executed ≤ m.budget
 within m machine well at = let here = well_at m at.count well in rw at.world here.within_budget
 
 pub none_at : (m : Contents) (machine : Execution) → RunsWell m → IsAt m machine → machine.world.fault ≡ None
 none_at m machine well at = let here = well_at m at.count well in ap (λ (w : World). w.fault) at.world ∙ here.no_fault
 
-pub none_next : (m : Contents) (machine : Execution) → RunsWell m → IsAt m machine → (happens machine.contents machine.world plain_step).fault ≡ None
+pub none_next : (m : Contents) (machine : Execution) → RunsWell m → IsAt m machine
+    → (happens machine.contents machine.world plain_step).fault ≡ None
 none_next m machine well at =
-    let later : Execution = record { contents = machine.contents; world = happens machine.contents machine.world plain_step } in
+    let later : Execution = record { contents = machine.contents; world =
+        happens machine.contents machine.world plain_step } in
     none_at m later well (at_next m machine later at refl refl)
 
 -- what is not, is
@@ -230,27 +264,32 @@ not_both true is isnt = cc
 not_both false is isnt = cc
 
 -- what is left to execute, and one more Step, after a Step that executed a byte or was the last
-pub falls : (budget before after : ℕ) (was is : Bool) → was ≡ true → (is ≡ true → after ≡ before + 1) → (is ≡ false → after ≡ before) → after ≤ budget
+pub falls : (budget before after : ℕ) (was is : Bool) → was ≡ true → (is ≡ true → after ≡ before + 1)
+    → (is ≡ false → after ≡ before) → after ≤ budget
     → budget - after + cond is 1 0 < budget - before + cond was 1 0
 falls budget before after was true going grew stayed low = rw going (let more = grew refl in omega arith)
 falls budget before after was false going grew stayed low = rw going (let same = stayed refl in omega arith)
 
 -- a Step that finds nobody who runs leaves the count
-pub idle_count : (m : Contents) (machine later : Execution) → machine.contents ≡ m → later.world ≡ happens machine.contents machine.world plain_step
+pub idle_count : (m : Contents) (machine later : Execution) → machine.contents ≡ m
+    → later.world ≡ happens machine.contents machine.world plain_step
     → (turn machine.contents machine.world plain_step).answer ≡ Ok idle → later.world ≡ machine.world
 idle_count m machine later at stepped told = stepped ∙ idle_stays machine.contents machine.world told
 
 -- nobody runs then
-pub idle_ends : (m : Contents) (machine later : Execution) → machine.contents ≡ m → later.world ≡ happens machine.contents machine.world plain_step
+pub idle_ends : (m : Contents) (machine later : Execution) → machine.contents ≡ m
+    → later.world ≡ happens machine.contents machine.world plain_step
     → IsAlone machine.world → machine.world.counters.executed < most_executed
     → (turn machine.contents machine.world plain_step).answer ≡ Ok idle → is_running later.world ≡ false
 idle_ends m machine later at stepped alone small told =
     ap is_running (idle_count m machine later at stepped told)
-    ∙ ap is_some (nobody_runs machine.world (turn machine.contents machine.world plain_step) (steps machine.contents machine.world) told alone small)
+    ∙ ap is_some (nobody_runs machine.world (turn machine.contents machine.world plain_step)
+        (steps machine.contents machine.world) told alone small)
 
 -- ---- the root alone
 
-pub alone_start : (m : Contents) (machine : Execution) → machine ≡ record { contents = m; world = loaded m } → IsAlone machine.world
+pub alone_start : (m : Contents) (machine : Execution) → machine ≡ record { contents = m; world = loaded m }
+    → IsAlone machine.world
 alone_start m machine is = subst (λ (x : Execution). IsAlone x.world) (sym is) (record {
   none_ready = refl;
   there = λ p running. let first : 0 ≡ p = cc in omega arith;
@@ -259,8 +298,10 @@ alone_start m machine is = subst (λ (x : Execution). IsAlone x.world) (sym is) 
 pub alone_next : (machine later : Execution) → later.world ≡ happens machine.contents machine.world plain_step
     → (happens machine.contents machine.world plain_step).fault ≡ None → IsAlone machine.world → IsAlone later.world
 alone_next machine later stepped none alone =
-    subst IsAlone (sym stepped) (alone_world machine.world (turn machine.contents machine.world plain_step) (steps machine.contents machine.world) none alone)
+    subst IsAlone (sym stepped) (alone_world machine.world (turn machine.contents machine.world plain_step)
+        (steps machine.contents machine.world) none alone)
 
 -- no run of a module that keeps the format comes near the greatest count
-pub small : (m : Contents) (machine : Execution) → Keeps m → RunsWell m → IsAt m machine → machine.world.counters.executed < most_executed
+pub small : (m : Contents) (machine : Execution) → Keeps m → RunsWell m → IsAt m machine
+    → machine.world.counters.executed < most_executed
 small m machine keeps well at = let low = within m machine well at in let most = keeps.bounds.budget in omega arith

@@ -17,7 +17,7 @@ use Rattle.machine_state.specs.Memory.{data_start}
 use Rattle.machine_state.specs.Holding.{may_write, may_write_word}
 use Rattle.machine_state.specs.World.{Role, padding, loaded_memory, root_holding, root_task, root_role, quiet_links}
 use Rattle.machine_state.specs.World.{loaded}
-use Rattle.machine_state.specs.LocalStep.{Local}
+use Rattle.machine_state.specs.Site.{Local}
 use Rattle.states.specs.State.{root_state}
 use Rattle.verifier.specs.Certified.{begins, IsCertified}
 use Rattle.facts.specs.Meaning.{Activation, means_unknown, nothing_known, IsOwnWord, HasFrame, both_plain, IsWellFormed}
@@ -116,10 +116,7 @@ equal_at zero x y p h = absurd (cc)
 equal_at (suc n) x y zero h = cc
 equal_at (suc n) x y (suc p) h = equal_at n x y p h
 
-nothing_at : {A : Type 0} (p : ℕ) (y : A) → slice_get [] p ≡ Some y → ⊥
-nothing_at p y h = cc
-
-root_apart : (m : Contents) → AllApart (root_role m ∷ []) []
+root_apart : (m : Contents) → AllApart (root_role m ∷ []) (replicate m.data_words None)
 root_apart m = record {
   processes = λ p q r s differ a b. let x = only (root_role m) r p a in let y =
       only (root_role m) s q b in absurd (differ (x.0 ∙ sym y.0));
@@ -127,11 +124,12 @@ root_apart m = record {
       let x = only (root_role m) r p a in
       let no' : None ≡ Some join = ap (λ (role : Role). role.opened) x.1 ∙ opened in
       absurd (cc);
-  channel_words = λ k q channel s a b. absurd (nothing_at k channel a);
+  channel_words = λ k q channel s a b. let no' : None ≡ Some channel =
+      equal_at m.data_words None (Some channel) k a in absurd (cc);
   blocks_once = λ p q r s a b differ x y open_a open_b. let u = only (root_role m) r p x in let v =
       only (root_role m) s q y in absurd (differ (u.0 ∙ sym v.0));
-  channels_once = λ j k a b differ x y. absurd (nothing_at j a x);
-  both_once = λ p k r join channel x opened y. absurd (nothing_at k channel y);
+  both_once = λ p k r join channel x opened y. let no' : None ≡ Some channel =
+      equal_at m.data_words None (Some channel) k y in absurd (cc);
 }
 
 no_waiters : (m : Contents) → Waiters (root_task m ∷ []) quiet_links

@@ -1,5 +1,5 @@
 -- One byte of one process.
-use Rattle.std.proofs.Common.{◌≡◌, ℕ, zero, suc, ◌+◌, ◌≤◌, ◌<◌, Bool, true, cond, is_some, inl, inr, ℤ, List, [], ◌∷◌}
+use Rattle.std.proofs.Common.{◌≡◌, ℕ, zero, suc, ◌+◌, ◌*◌, ◌≤◌, ◌<◌, Bool, true, cond, is_some, inl, inr, ℤ, List, [], ◌∷◌}
 use Rattle.std.proofs.Common.{length, drop, Option, Some, None, Result, Ok, Err, refl, sym, ap, ◌∙◌, subst, arith}
 use Rattle.std.proofs.Common.{add-one}
 use Rattle.std.proofs.lemmas.Bool.{cases_lt, cases_Bool}
@@ -19,7 +19,9 @@ use Rattle.machine_state.specs.declared.process.Condition.TheVariants.{Ready}
 use Rattle.machine_state.specs.declared.process.Mode as machine
 use Rattle.machine_state.specs.Memory.{Memory, byte_at, word_at}
 use Rattle.machine_state.specs.Holding.{Holding, may_read, may_read_word}
-use Rattle.machine_state.specs.LocalStep.{Local, Outcome, goes, lands, stops, local_step}
+use Rattle.machine_state.specs.Memory.{data_start}
+use Rattle.machine_state.specs.Site.{Site, Local, Outcome, goes, jumps, stops}
+use Rattle.machine_state.specs.LocalStep.{local_step}
 use Rattle.machine_state.specs.Happens.{between}
 use Rattle.states.specs.declared.rule.Rule.{Rule}
 use Rattle.states.specs.declared.rule.Rule.TheVariants as rules
@@ -343,6 +345,17 @@ module _ (m : Contents) (d : Decodes m) (wf : IsWellFormed m) (c : IsCertified m
         paid = omega (arith, p.paid);
       }
 
+  -- where the last byte of an instruction is executed
+  abbrev pub site_in : ℕ → machine.Mode → Holding → Site
+  site_in next mode h = record {
+    code_start = data_start + 4 * m.data_words;
+    code_length = length m.code;
+    next = next;
+    mode = mode;
+    holding = h;
+    has_long_operations = m.has_long_operations;
+  }
+
   -- what the last byte of an instruction comes to
   pub data Comes (h : Holding) (memory : Memory) (t : Task) (due : ℕ) : Outcome → Type 0 where
     -- it goes on behind it
@@ -352,7 +365,7 @@ module _ (m : Contents) (d : Decodes m) (wf : IsWellFormed m) (c : IsCertified m
     -- or at a label
     comes_to : {to : ℕ} {l : Local} (later : ℕ) → ChangesOwn h memory l.memory
         → Lives m h l.memory (record { registers = between to l.registers; mode = t.mode; condition = Ready }) later
-        → later + 1 ≤ due → Comes h memory t due (lands to l)
+        → later + 1 ≤ due → Comes h memory t due (jumps to l)
     -- or it stops
     comes_down : {l : Local} → ChangesOwn h memory l.memory → 1 ≤ due → Comes h memory t due (stops l)
 
@@ -383,8 +396,7 @@ module _ (m : Contents) (d : Decodes m) (wf : IsWellFormed m) (c : IsCertified m
   -- the last byte of an instruction
   pub comes_last : (h : Holding) (memory : Memory) (t : Task) (due byte : ℕ) (f : Fun) → Stands m h memory t due
       → slice_get m.code t.registers.at ≡ Some byte → fun_of (function_code byte) ≡ Some f
-      → Comes h memory t due (local_step (record { code_length = length m.code; next = t.registers.at + 1; mode =
-          t.mode; holding = h }) f (with_nibble t.registers.operand (nibble byte))
+      → Comes h memory t due (local_step (site_in (t.registers.at + 1) t.mode h) f (with_nibble t.registers.operand (nibble byte))
           (record { registers = t.registers; memory = memory }))
   comes_last h memory t due byte f p here some =
       let b = byte_here m t.registers p.instr p.taken p.reading in
@@ -395,8 +407,7 @@ module _ (m : Contents) (d : Decodes m) (wf : IsWellFormed m) (c : IsCertified m
           ≡ Ok p.instr) same b.rest in
       let is = after_some (fun_of (function_code byte)) f _ _ _ p.instr some rest in
       let at : t.registers.began + p.instr.len ≡ t.registers.at + 1 = omega (arith, p.reading.at_is, is.2) in
-      subst (λ n. Comes h memory t due (local_step (record { code_length = length m.code; next = n; mode = t.mode;
-          holding = h }) f (with_nibble t.registers.operand (nibble byte))
+      subst (λ n. Comes h memory t due (local_step (site_in n t.mode h) f (with_nibble t.registers.operand (nibble byte))
           (record { registers = t.registers; memory = memory }))) at
       (subst (λ g. Comes h memory t due (local_step (step_site (here_of h p.act memory t p.state p.instr)) g
           (with_nibble t.registers.operand (nibble byte)) (record { registers = t.registers; memory = memory })))

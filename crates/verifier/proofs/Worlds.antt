@@ -23,17 +23,22 @@ use Rattle.machine_state.specs.declared.fault.FaultKind.TheVariants.{OutsideCode
 use Rattle.machine_state.specs.Memory.{Memory, byte_at, with_byte}
 use Rattle.machine_state.specs.Holding.{Holding, nothing, may_write, may_read, IsApart}
 use Rattle.machine_state.specs.World.{World, Role, Links, held, holding_at, input_word, output_word}
-use Rattle.machine_state.specs.LocalStep.{Local, Outcome, local_step}
+use Rattle.machine_state.specs.declared.process.Mode.{Mode}
+use Rattle.machine_state.specs.declared.process.Mode.TheVariants as modes
+use Rattle.machine_state.specs.Site.{Local, Outcome}
+use Rattle.machine_state.specs.Instructions.{has_body}
+use Rattle.machine_state.specs.LocalStep.{local_step}
 use Rattle.machine_state.specs.Moves.{counted, finished_where, put, leave, enqueue, wake, dispatch, link_index}
-use Rattle.machine_state.specs.Moves.{with_input, with_output, fill, fill_condition, rouse, rouse_condition}
+use Rattle.machine_state.specs.Moves.{with_input, with_output, fill, fill_condition, rouse, rouse_task, rouse_enabling, on_task}
 use Rattle.machine_state.specs.Moves.{with_condition}
-use Rattle.machine_state.specs.Happens.{Turn, answered, idle, ran, most_executed, failed, between, settled, prefix_turn}
+use Rattle.machine_state.specs.Happens.{Here, Turn, answered, turn_by, idle, ran, most_executed, failed, between, settled, prefix_turn}
 use Rattle.machine_state.specs.Happens.{site_of, byte_turn, task_turn, step_turn, arrive_at, arrive_turn}
 use Rattle.machine_state.specs.Happens.{acknowledge_turn, event_turn, turn, happens, run_from, ignored, acknowledged}
 use Rattle.machine_state.specs.Happens.{busy, kept, taken}
 use Rattle.verifier.specs.Certified.{IsCertified}
 use Rattle.machine_state.specs.Frame.{ChangesOwn}
-use Rattle.facts.specs.Meaning.{IsWellFormed}
+use Rattle.facts.specs.Meaning.{IsWellFormed, SameMode}
+use Rattle.states.specs.declared.known.Mode as states
 use Rattle.verifier.specs.Point.{Stands, Decodes}
 use Rattle.std.proofs.lemmas.List.{length-set}
 use Rattle.machine_state.proofs.Reading.{length-with_byte, byte_at-with_byte, byte_at-with_byte_other}
@@ -45,7 +50,12 @@ use Rattle.verifier.specs.Headline.{IsEvent, AreEvents}
 use Rattle.facts.proofs.Words.{bool_cases}
 use Rattle.verifier.proofs.Lists.{got_set, got_other, total_set, all_ready_same, all_ready_without, absent_by_condition}
 use Rattle.verifier.proofs.Lists.{leave_line, push_line, pick_line}
-use Rattle.verifier.proofs.Steps.{byte_here, owes, prefixed_stands, Comes, comes_on, comes_to, comes_down, comes_last}
+use Rattle.verifier.proofs.Steps.{site_in, byte_here, owes, prefixed_stands, Comes, comes_on, comes_to, comes_down, comes_last}
+
+-- an instruction of a process
+abbrev at_here : Contents → ℕ → Task → ℕ → Here
+at_here m p t pick =
+    record { contents = m; process = p; from = t; next = t.registers.at + 1; pick = pick }
 
 option_cases : {A : Type 0} (o : Option A) → (o ≡ None) ⊎ ((x : A) × (o ≡ Some x))
 option_cases None = inl refl
@@ -246,7 +256,7 @@ module _ (m : Contents) (w : World) (h : Holds m w) (p : ℕ) (r : Runs m w h.du
   -- what an outcome comes to
   settled_holds : (d : Decodes m) (wf : IsWellFormed m) (c : IsCertified m) (slice : Bool) (pick : ℕ) (o : Outcome)
       → w.queue.running ≡ Some p → Comes m d wf c (held r.role) w.memory r.task r.due o
-      → Holds m (settled m p r.task (r.task.registers.at + 1) slice pick o w).world
+      → Holds m (settled (at_here m p r.task pick) slice o w).world
   settled_holds d wf c slice pick o running (comes_on {l = l} later changes lives less) =
       went_on (record r.task { registers = between
           (r.task.registers.at + 1) l.registers }) l.memory later r.ready changes
@@ -273,11 +283,11 @@ module _ (m : Contents) (d : Decodes m) (wf : IsWellFormed m) (c : IsCertified m
       (λ place e. let no' : true ≡ false = sym e ∙ awaits_nothing r.task.condition place r.ready in absurd (cc))
 
   -- a prefix
-  prefix_holds : (w : World) (h : Holds m w) (p : ℕ) (r : Runs m w h.dues p) (byte : ℕ)
+  prefix_holds : (pick : ℕ) (w : World) (h : Holds m w) (p : ℕ) (r : Runs m w h.dues p) (byte : ℕ)
       → slice_get m.code r.task.registers.at ≡ Some byte → fun_of (function_code byte) ≡ None
-      → Holds m (prefix_turn m p r.task (after_prefix (function_code byte)
+      → Holds m (prefix_turn (at_here m p r.task pick) (after_prefix (function_code byte)
           (with_nibble r.task.registers.operand (nibble byte))) w).world
-  prefix_holds w h p r byte here none =
+  prefix_holds pick w h p r byte here none =
       let now = stands_now w h p r in
       let some = owes m d wf c (held r.role) w.memory r.task r.due now in
       on_due r.due refl now some
@@ -288,14 +298,14 @@ module _ (m : Contents) (d : Decodes m) (wf : IsWellFormed m) (c : IsCertified m
 
       on_test : (b : Bool) → ltb (r.task.registers.at + 1) (length m.code) ≡ b → r.task.registers.at + 1 < length m.code
           → Holds m (counted (put p u w.memory w))
-          → Holds m (if b then answered ran (counted (put p u w.memory w)) else failed OutsideCode p r.task w).world
+          → Holds m (if b then answered ran (counted (put p u w.memory w)) else failed (at_here m p r.task pick) OutsideCode w).world
       on_test true e low holds = holds
       on_test false e low holds = elim (leb_tells (suc (r.task.registers.at + 1)) (length m.code))
           [ inl t ↦ let no' : true ≡ false = sym t.0 ∙ e in
           absurd (cc) | inr t ↦ let high : length m.code < suc (r.task.registers.at + 1) = t.1 in absurd (omega arith) ]
 
       on_due : (due : ℕ) → r.due ≡ due → Stands m (held r.role) w.memory r.task r.due → 1 ≤ r.due
-          → Holds m (prefix_turn m p r.task (after_prefix (function_code byte)
+          → Holds m (prefix_turn (at_here m p r.task pick) (after_prefix (function_code byte)
           (with_nibble r.task.registers.operand (nibble byte))) w).world
       on_due zero e now some = absurd (omega arith)
       on_due (suc due) e now some =
@@ -315,7 +325,7 @@ module _ (m : Contents) (d : Decodes m) (wf : IsWellFormed m) (c : IsCertified m
   -- whatever the byte is
   byte_holds : (slice : Bool) (pick : ℕ) (w : World) (h : Holds m w) (p : ℕ) → w.queue.running ≡ Some p
       → (r : Runs m w h.dues p) (byte : ℕ) → slice_get m.code r.task.registers.at ≡ Some byte
-      → Holds m (byte_turn m p r.task byte slice pick w).world
+      → Holds m (byte_turn has_body (at_here m p r.task pick) byte slice w).world
   byte_holds slice pick w h p running r byte here = on_function (fun_of (function_code byte)) refl
     where
       operand : ℤ
@@ -329,26 +339,25 @@ module _ (m : Contents) (d : Decodes m) (wf : IsWellFormed m) (c : IsCertified m
 
       on_function : (f : Option Fun) → fun_of (function_code byte) ≡ f
           → Holds m (elim f as (λ f. Turn) [
-            | Some f ↦ settled m p r.task (r.task.registers.at + 1) slice pick
-                (local_step (site_of m p r.task w) f operand local) w
-            | None ↦ prefix_turn m p r.task (after_prefix (function_code byte) operand) w
+            | Some f ↦ settled (at_here m p r.task pick) slice
+                (local_step (site_of (at_here m p r.task pick) w) f operand local) w
+            | None ↦ prefix_turn (at_here m p r.task pick) (after_prefix (function_code byte) operand) w
           ]).world
-      on_function None e = prefix_holds w h p r byte here e
+      on_function None e = prefix_holds pick w h p r byte here e
       on_function (Some f) e =
-          settled_holds m w h p r d wf c slice pick (local_step (site_of m p r.task w) f operand local) running
+          settled_holds m w h p r d wf c slice pick (local_step (site_of (at_here m p r.task pick) w) f operand local) running
           (subst (λ g. Comes m d wf c (held r.role) w.memory r.task r.due
-              (local_step (record { code_length = length m.code; next = r.task.registers.at + 1; mode = r.task.mode;
-              holding = g }) f operand local)) (sym held_here)
+              (local_step (site_in m d wf c (r.task.registers.at + 1) r.task.mode g) f operand local)) (sym held_here)
           (comes_last m d wf c (held r.role) w.memory r.task r.due byte f (stands_now w h p r) here e))
 
   -- a step
-  step_holds : (slice : Bool) (pick : ℕ) (w : World) → Holds m w → Holds m (step_turn m slice pick w).world
+  step_holds : (slice : Bool) (pick : ℕ) (w : World) → Holds m w → Holds m (step_turn has_body m slice pick w).world
   step_holds slice pick w h = on_running w.queue.running refl
     where
       on_byte : (p : ℕ) → w.queue.running ≡ Some p → (r : Runs m w h.dues p) (o : Option ℕ)
           → slice_get m.code r.task.registers.at ≡ o
-          → Holds m (elim o as (λ o. Turn) [ None ↦ failed OutsideCode p r.task w | Some byte ↦
-              byte_turn m p r.task byte slice pick w ]).world
+          → Holds m (elim o as (λ o. Turn) [ None ↦ failed (at_here m p r.task pick) OutsideCode w | Some byte ↦
+              byte_turn has_body (at_here m p r.task pick) byte slice w ]).world
       on_byte p running r None e =
           let now = stands_now w h p r in
           let b = byte_here m r.task.registers now.instr now.taken now.reading in
@@ -358,17 +367,17 @@ module _ (m : Contents) (d : Decodes m) (wf : IsWellFormed m) (c : IsCertified m
 
       on_task : (p : ℕ) → w.queue.running ≡ Some p → (o : Option Task) → slice_get w.tasks p ≡ o
           → Holds m (elim o as (λ o. Turn) [ None ↦ answered idle w | Some task ↦
-              task_turn m p slice pick task w ]).world
+              task_turn has_body (at_here m p task pick) slice w ]).world
       on_task p running None e = h
       on_task p running (Some task) e =
           let r = runs m w h p running in
           let same : r.task ≡ task = same_some (slice_get w.tasks p) r.task task r.here e in
-          subst (λ t. Holds m (task_turn m p slice pick t w).world) same
+          subst (λ t. Holds m (task_turn has_body (at_here m p t pick) slice w).world) same
               (on_byte p running r (slice_get m.code r.task.registers.at) refl)
 
       on_count : (p : ℕ) → w.queue.running ≡ Some p → (b : Bool)
           → Holds m (if b then answered idle w else elim (slice_get w.tasks p) as (λ o. Turn)
-              [ None ↦ answered idle w | Some task ↦ task_turn m p slice pick task w ]).world
+              [ None ↦ answered idle w | Some task ↦ task_turn has_body (at_here m p task pick) slice w ]).world
       on_count p running true = h
       on_count p running false = on_task p running (slice_get w.tasks p) refl
 
@@ -376,7 +385,7 @@ module _ (m : Contents) (d : Decodes m) (wf : IsWellFormed m) (c : IsCertified m
           → Holds m (elim o as (λ o. Turn) [
             | None ↦ answered idle w
             | Some p ↦ if leb most_executed w.counters.executed then answered idle w else elim (slice_get w.tasks p) as
-                (λ o. Turn) [ None ↦ answered idle w | Some task ↦ task_turn m p slice pick task w ]
+                (λ o. Turn) [ None ↦ answered idle w | Some task ↦ task_turn has_body (at_here m p task pick) slice w ]
           ]).world
       on_running None e = h
       on_running (Some p) e = on_count p e (leb most_executed w.counters.executed)
@@ -620,12 +629,118 @@ module _ (m : Contents) where
           sym alternating ∙ ap (λ (x : Task). x.condition) same ∙ w.waits in
       cc
 
+  -- a process that is enabling an alternation is not alive: no state of a certificate is
+  no_enabling : (s : states.Mode) (is_ready : Bool) → SameMode s (modes.Enabling is_ready) → ⊥
+  no_enabling s is_ready same = elim same [ ]
+
+  roused_meets : (g : Holding) (memory : Memory) (t : Task) (is_ready : Bool) (due : ℕ)
+      → t.mode ≡ modes.Enabling is_ready → Meets m g memory t due
+      → Meets m g memory (record t { mode = modes.Enabling true }) due
+  roused_meets g memory t is_ready due enabling (it_stopped e) = it_stopped e
+  roused_meets g memory t is_ready due enabling (it_ended e) = it_ended e
+  roused_meets g memory t is_ready due enabling (it_lives l) = it_lives (record {
+    claim = λ later size agree bytes.
+        let old = l.claim later size agree bytes in
+        absurd (no_enabling old.state.mode is_ready (subst (λ mode. SameMode old.state.mode mode) enabling old.mode));
+    room = l.room;
+  })
+
+  -- what a process waits for stays what it is, where another part of its task changed
+  waits_again : (tasks : List Task) (p q word : ℕ) (t u : Task) → slice_get tasks p ≡ Some t
+      → u.condition ≡ t.condition → WaitsOn tasks q word → WaitsOn (slice_set tasks p u) q word
+  waits_again tasks p q word t u here same w = elim (cases_eq p q) [
+    | inl e ↦
+        let old : slice_get tasks p ≡ Some w.task = subst (λ n. slice_get tasks n ≡ Some w.task) (sym e) w.here in
+        let is : t ≡ w.task = same_some (slice_get tasks p) t w.task here old in
+        record {
+          task = u;
+          here = subst (λ n. slice_get (slice_set tasks p u) n ≡ Some u) e (got_set tasks p t u here);
+          exchange = w.exchange;
+          done = w.done;
+          waits = same ∙ ap (λ (x : Task). x.condition) is ∙ w.waits;
+          on = w.on;
+          more = w.more;
+        }
+    | inr differ ↦ waits_same tasks p q word u differ w
+  ]
+
+  ready_again : (tasks : List Task) (p : ℕ) (t u : Task) (q : ℕ) → slice_get tasks p ≡ Some t
+      → u.condition ≡ t.condition → IsReadyAt tasks q → IsReadyAt (slice_set tasks p u) q
+  ready_again tasks p t u q here same r = elim (cases_eq p q) [
+    | inl e ↦
+        let old : slice_get tasks p ≡ Some r.task = subst (λ n. slice_get tasks n ≡ Some r.task) (sym e) r.here in
+        let is : t ≡ r.task = same_some (slice_get tasks p) t r.task here old in
+        record {
+          task = u;
+          here = subst (λ n. slice_get (slice_set tasks p u) n ≡ Some u) e (got_set tasks p t u here);
+          ready = same ∙ ap (λ (x : Task). x.condition) is ∙ r.ready;
+        }
+    | inr differ ↦ record { task = r.task; here = got_other tasks p q u differ ∙ r.here; ready = r.ready }
+  ]
+
+  all_ready_again : (tasks : List Task) (p : ℕ) (t u : Task) (qs : List ℕ) → slice_get tasks p ≡ Some t
+      → u.condition ≡ t.condition → AllReady tasks qs → AllReady (slice_set tasks p u) qs
+  all_ready_again tasks p t u [] here same all = tt
+  all_ready_again tasks p t u (q ∷ qs) here same all =
+      (ready_again tasks p t u q here same all.0, all_ready_again tasks p t u qs here same all.1)
+
+  -- one that is still enabling will not wait
+  roused_holds : (p : ℕ) (w : World) (h : Holds m w) (t : Task) (is_ready : Bool) → slice_get w.tasks p ≡ Some t
+      → t.mode ≡ modes.Enabling is_ready
+      → Holds m (record w { tasks = slice_set w.tasks p (record t { mode = modes.Enabling true }) })
+  roused_holds p w h t is_ready here enabling =
+      record {
+        dues = h.dues;
+        table = record { each = λ i v e. each i v e };
+        line = record { ready = all_ready_again w.tasks p t u (line w.queue) here refl h.line.ready; once = h.line.once };
+        waiters = record {
+          few = h.waiters.few;
+          inputs = λ k l i a b. waits_again w.tasks p i (input_word k) t u here refl (h.waiters.inputs k l i a b);
+          outputs = λ k l i a b. waits_again w.tasks p i (output_word k) t u here refl (h.waiters.outputs k l i a b);
+        };
+        apart = h.apart;
+        owed = h.owed;
+        well = h.well;
+      }
+    where
+      u : Task
+      u = record t { mode = modes.Enabling true }
+
+      each : (i : ℕ) (v : Task) → slice_get (slice_set w.tasks p u) i ≡ Some v → Process m w.memory w.roles h.dues i v
+      each i v e = elim (cases_eq p i) [
+        | inl same ↦
+            let q = h.table.each p t here in
+            let there : slice_get (slice_set w.tasks p u) i ≡ Some u =
+                subst (λ n. slice_get (slice_set w.tasks p u) n ≡ Some u) same (got_set w.tasks p t u here) in
+            let is : u ≡ v = same_some (slice_get (slice_set w.tasks p u) i) u v there e in
+            record {
+              role = q.role;
+              has_role = subst (λ n. slice_get w.roles n ≡ Some q.role) same q.has_role;
+              due = q.due;
+              has_due = subst (λ n. slice_get h.dues n ≡ Some q.due) same q.has_due;
+              meets = subst (λ x. Meets m (held q.role) w.memory x q.due) is
+                  (roused_meets (held q.role) w.memory t is_ready q.due enabling q.meets);
+            }
+        | inr differ ↦ h.table.each i v (sym (got_other w.tasks p i u differ) ∙ e)
+      ]
+
   rouse_holds : (p : Option ℕ) (w : World) → Holds m w → Holds m (rouse p w)
   rouse_holds None w h = h
-  rouse_holds (Some p) w h = on_task (slice_get w.tasks p) refl
+  rouse_holds (Some p) w h = on_entry (slice_get w.tasks p) refl
     where
+      on_mode : (t : Task) → slice_get w.tasks p ≡ Some t → (mode : Mode) → t.mode ≡ mode
+          → Holds m (rouse_enabling p mode w)
+      on_mode t here (modes.Enabling is_ready) e =
+          subst (λ x. Holds m x) (sym (ap (λ (o : Option Task). elim o as (λ o. World)
+              [ None ↦ w | Some task ↦
+              record w { tasks = slice_set w.tasks p (record task { mode = modes.Enabling true }) } ]) here))
+          (roused_holds p w h t is_ready here e)
+      on_mode t here modes.Plain e = h
+      on_mode t here (modes.Disabling selection) e = h
+      on_mode t here modes.Starting e = h
+
       on_condition : (t : Task) → slice_get w.tasks p ≡ Some t → (c : Condition) → t.condition ≡ c
-          → Holds m (rouse_condition p c w)
+          → Holds m (rouse_task p t.mode c w)
       on_condition t here Alternating e =
           let r = waits_at m w h p t Alternating here e (λ x. cc) (λ x. cc) (λ x. cc) in
           let u : Task = record t { condition = Ready } in
@@ -640,17 +755,17 @@ module _ (m : Contents) where
                 waits_same w.tasks p q (output_word k) u
                 (alternating_apart w.tasks p q (output_word k) t here e old) old;
           }))
-      on_condition t here Ready e = h
-      on_condition t here (Sending x) e = h
-      on_condition t here (Receiving x) e = h
-      on_condition t here (OnLink x done) e = h
-      on_condition t here Stopped e = h
-      on_condition t here Ended e = h
+      on_condition t here Ready e = on_mode t here t.mode refl
+      on_condition t here (Sending x) e = on_mode t here t.mode refl
+      on_condition t here (Receiving x) e = on_mode t here t.mode refl
+      on_condition t here (OnLink x done) e = on_mode t here t.mode refl
+      on_condition t here Stopped e = on_mode t here t.mode refl
+      on_condition t here Ended e = on_mode t here t.mode refl
 
-      on_task : (o : Option Task) → slice_get w.tasks p ≡ o
-          → Holds m (elim o as (λ o. World) [ None ↦ w | Some task ↦ rouse_condition p task.condition w ])
-      on_task None e = h
-      on_task (Some t) e = on_condition t e t.condition refl
+      on_entry : (o : Option Task) → slice_get w.tasks p ≡ o
+          → Holds m (elim o as (λ o. World) [ None ↦ w | Some task ↦ rouse_task p task.mode task.condition w ])
+      on_entry None e = h
+      on_entry (Some t) e = on_condition t e t.condition refl
 
   kept_holds : (k byte : ℕ) (w : World) (h : Holds m w) (l : InputLink) → slice_get w.links.inputs k ≡ Some l
       → l.waiting ≡ None
@@ -895,15 +1010,15 @@ arrive_holds m k byte small w h = on_link (slice_get w.links.inputs k) refl
 -- ---- events, and runs
 
 module _ (m : Contents) (d : Decodes m) (wf : IsWellFormed m) (c : IsCertified m) where
-  event_holds : (e : Event) → IsEvent e → (w : World) → Holds m w → Holds m (event_turn m e w).world
+  event_holds : (e : Event) → IsEvent e → (w : World) → Holds m w → Holds m (event_turn has_body m e w).world
   event_holds (Step slice pick) is w h = step_holds m d wf c slice pick w h
   event_holds (Arrive link byte) is w h = arrive_holds m (link_index link) byte is w h
   event_holds (Acknowledge link) is w h = acknowledge_holds m (link_index link) w h
 
   pub happens_holds : (e : Event) → IsEvent e → (w : World) → Holds m w → Holds m (happens m w e)
-  unfolding turn
+  unfolding turn_by
   happens_holds e is w h = subst (λ o. Holds m (elim o as (λ o. Turn)
-      [ None ↦ event_turn m e w | Some f ↦ record { world = w; answer = Err f } ]).world) (sym h.well)
+      [ None ↦ event_turn has_body m e w | Some f ↦ record { world = w; answer = Err f } ]).world) (sym h.well)
       (event_holds e is w h)
 
 module _ (m : Contents) (d : Decodes m) (wf : IsWellFormed m) (c : IsCertified m) where

@@ -7,7 +7,7 @@ ghost use Rattle.machine.specs.Applying.{Applies};
 
 use super::act::{Act, Stop};
 use super::machine::Machine;
-use machine_state::{Condition, InputLink, Link, OutputLink};
+use machine_state::{Condition, InputLink, Link, Mode, OutputLink, Task};
 
 impl Machine {
     /// The byte goes into the buffer of the process that waits on this input link; with the last one it
@@ -43,7 +43,8 @@ impl Machine {
         }
     }
 
-    /// A process that has enabled the link and waits becomes ready.
+    /// What a process has enabled is ready. If it waits for that, it becomes ready; if it is still enabling, it will
+    /// not wait.
     fn rouse(&mut self, enabled: Option<u64>)
         requires { IfSome enabled (λ _. 0 < self.old.room) }
         ensures { self.new.world ≡ rouse enabled self.old.world }
@@ -51,10 +52,14 @@ impl Machine {
         let Some(process) = enabled else {
             return;
         };
-        if let Some(task) = self.task(process)
-            && let Condition::Alternating = task.condition
-        {
+        let Some(task) = self.task(process) else {
+            return;
+        };
+        if let Condition::Alternating = task.condition {
             self.wake(process);
+        } else if let Mode::Enabling { .. } = task.mode {
+            let mode = Mode::Enabling { is_ready: true };
+            self.put(process, Task { mode, ..task });
         }
     }
 

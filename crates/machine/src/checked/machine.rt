@@ -13,7 +13,8 @@ ghost use Rattle.machine.specs.Moment.{IsSteady, WaitsForMore};
 use certificate::Tables;
 use direct_functions::direct;
 use machine_state::{
-    Channel, Condition, Cpu, Fault, Flow, InputLink, Link, OutputLink, Registers, TaggedStore, Task,
+    Channel, Condition, Cpu, DATA_START, Fault, Flow, InputLink, Link, OutputLink, Registers,
+    TaggedStore, Task,
 };
 use prefix_decoder::Fun;
 use std::alloc::{AllocError, Global};
@@ -39,7 +40,7 @@ pub(crate) struct Machine {
     ready: Vec<u64>,
     inputs: [InputLink; 4],
     outputs: [OutputLink; 4],
-    channels: Vec<Channel>,
+    channels: Vec<Option<Channel>>,
     executed: u64,
     is_finished: bool,
     fault: Option<Fault>,
@@ -75,6 +76,7 @@ impl Machine {
     pub(crate) fn load(alloc: Global, tables: &Tables) -> Result<Self, AllocError>
         requires memory { IsLoadable (contents_of tables.now) }
         requires workspace { data_start + 4 * tables.now.base < 2 ^ 32 }
+        requires start { data_start + 4 * tables.now.data_words < 2 ^ 32 }
         ensures { IfOk result (λ m. m.world ≡ loaded (contents_of tables.now)) }
     {
         let root = Task::root(tables);
@@ -82,7 +84,9 @@ impl Machine {
             process: 0,
             registers: root.registers,
             mode: root.mode,
+            code_start: DATA_START + 4 * tables.data_words,
             code_length: tables.code.len() as u32,
+            has_long_operations: tables.has_long_operations,
             store: TaggedStore::load(alloc, tables)?,
         };
         Ok(Machine {
@@ -92,7 +96,7 @@ impl Machine {
             ready: Vec::new(alloc),
             inputs: [QUIET_INPUT; 4],
             outputs: [QUIET_OUTPUT; 4],
-            channels: Vec::new(alloc),
+            channels: vec![in alloc; None; tables.data_words as usize]?,
             executed: 0,
             is_finished: false,
             fault: None,
@@ -197,7 +201,8 @@ impl Machine {
         fun: Fun,
         operand: i32,
     ) -> Result<(Flow, Registers), Fault>
-        requires { length tables.now.code.now < 2 ^ 32 }
+        requires code { length tables.now.code.now < 2 ^ 32 }
+        requires start { data_start + 4 * tables.now.data_words < 2 ^ 32 }
         ensures { let m = contents_of tables.now in
             let outcome = outcome_at m process task.now fun operand self.old.world in
             PerformsFor process task.now self.old self.new result outcome }
@@ -205,7 +210,9 @@ impl Machine {
         self.cpu.process = process;
         self.cpu.registers = task.registers;
         self.cpu.mode = task.mode;
+        self.cpu.code_start = DATA_START + 4 * tables.data_words;
         self.cpu.code_length = tables.code.len() as u32;
+        self.cpu.has_long_operations = tables.has_long_operations;
         self.cpu.store.select(process);
         let flow = direct(&mut self.cpu, fun, operand)?;
         Ok((flow, self.cpu.registers))

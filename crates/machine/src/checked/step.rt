@@ -1,10 +1,14 @@
 //! One byte of the running process.
 
-ghost use Rattle.std.specs.Prelude.{◌≡◌, ◌+◌, ◌<◌, ◌^◌, IsTrue, length, slice_get, Err};
-ghost use Rattle.module_format.specs.Contents.{contents_of};
+ghost use Rattle.std.specs.Prelude.{◌≡◌, ◌+◌, ◌*◌, ◌<◌, ◌^◌, ℕ, IsTrue, length, slice_get, Err};
+ghost use Rattle.module_format.specs.Contents.{Contents, contents_of};
 ghost use Rattle.machine_state.specs.Happens.{between, failed, settled, answered, ran, prefix_turn, task_turn, step_turn};
 ghost use Rattle.machine_state.specs.Happens.{most_executed};
-ghost use Rattle.machine.specs.Applying.{Applies, turn_of, outcome_of, outcome_at};
+ghost use Rattle.machine.specs.Applying.{Applies, turn_of, here_at, outcome_of, outcome_at};
+ghost use Rattle.machine_state.specs.Instructions.{has_body};
+ghost use Rattle.machine_state.specs.Memory.{data_start};
+ghost use Rattle.machine_state.specs.Faults.{fault_in};
+ghost use Rattle.machine_state.specs.Moves.{faulty};
 ghost use Rattle.prefix_decoder.specs.Operand.{IsRegister, after_prefix};
 ghost use Rattle.machine.specs.Moment.{IsSteady};
 
@@ -49,27 +53,29 @@ fn byte_at(code: &[u8], at: u32) -> Option<u8>
 impl Machine {
     /// The running process is at fault, in the instruction that it is in.
     fn fail_in(&mut self, process: u64, task: &Task, kind: FaultKind) -> Fault
-        ensures { failed kind process task.now self.old.world ≡ turn_of self.new.world (Err result) }
+        ensures world { self.new.world ≡ faulty result self.old.world }
+        ensures fault { result ≡ fault_in process task.now.registers.began kind }
     {
         let fault = Fault::new(kind, process, task.registers.began);
         self.fail(fault);
         fault
     }
 
-    /// A prefix: its process goes on with this operand.
+    /// A prefix: its process goes on with this operand, whoever would run next if it did not.
     fn prefix(
         &mut self,
         tables: &Tables,
         process: u64,
         task: &Task,
         operand: i32,
+        pick: u64,
     ) -> Result<Act, Fault>
         requires code { length tables.now.code.now < 2 ^ 32 }
         requires executed { self.old.world.counters.executed < most_executed }
         requires task { IsSteady task.now }
         requires operand { IsRegister operand }
         ensures { let m = contents_of tables.now in
-            prefix_turn m process task.now operand self.old.world ≡ turn_of self.new.world result }
+            prefix_turn (here_at m process task.now pick) operand self.old.world ≡ turn_of self.new.world result }
     {
         let next = u64::from(task.registers.at) + 1;
         if next >= tables.code.len() as u64 {
@@ -104,9 +110,8 @@ impl Machine {
         requires room { IsTrue choice.slice → 0 < self.old.room }
         ensures { let m = contents_of tables.now in
             let w = self.old.world in
-            let next = task.now.registers.at + 1 in
             let outcome = outcome_of flow registers w.memory in
-            settled m process task.now next choice.slice choice.pick outcome w ≡ answered ran self.new.world }
+            settled (here_at m process task.now choice.pick) choice.slice outcome w ≡ answered ran self.new.world }
     {
         let next = task.registers.at + 1;
         let (at, condition) = match flow {
@@ -152,15 +157,15 @@ impl Machine {
         choice: Choice,
     ) -> Result<Act, Fault>
         requires code { length tables.now.code.now < 2 ^ 32 }
+        requires start { data_start + 4 * tables.now.data_words < 2 ^ 32 }
         requires executed { self.old.world.counters.executed < most_executed }
         requires next { task.now.registers.at + 1 < 2 ^ 32 }
         requires task { IsSteady task.now }
         requires room { IsTrue choice.slice → 0 < self.old.room }
         ensures { let m = contents_of tables.now in
             let w = self.old.world in
-            let next = task.now.registers.at + 1 in
             let outcome = outcome_at m process task.now fun operand w in
-            settled m process task.now next choice.slice choice.pick outcome w ≡ turn_of self.new.world result }
+            settled (here_at m process task.now choice.pick) choice.slice outcome w ≡ turn_of self.new.world result }
     {
         match self.perform(tables, process, task, fun, operand) {
             Ok((flow, registers)) => {
@@ -183,11 +188,12 @@ impl Machine {
         choice: Choice,
     ) -> Result<Act, Fault>
         requires code { length tables.now.code.now < 2 ^ 32 }
+        requires start { data_start + 4 * tables.now.data_words < 2 ^ 32 }
         requires executed { self.old.world.counters.executed < most_executed }
         requires task { IsSteady task.now }
         requires room { IsTrue choice.slice → 0 < self.old.room }
         ensures { let m = contents_of tables.now in
-            let turn = task_turn m process choice.slice choice.pick task.now self.old.world in
+            let turn = task_turn has_body (here_at m process task.now choice.pick) choice.slice self.old.world in
             turn ≡ turn_of self.new.world result }
     {
         let Some(byte) = byte_at(tables.code, task.registers.at) else {
@@ -197,14 +203,21 @@ impl Machine {
         let operand = with_nibble(task.registers.operand, byte);
         match Fun::from_code(code) {
             Some(fun) => self.instruct(tables, process, task, fun, operand, choice),
-            None => self.prefix(tables, process, task, after_prefix(code, operand)),
+            None => self.prefix(
+                tables,
+                process,
+                task,
+                after_prefix(code, operand),
+                choice.pick,
+            ),
         }
     }
 
     /// A step: one byte of the running process, unless no process is running or enough bytes were executed.
     pub(crate) fn step(&mut self, tables: &Tables, choice: Choice) -> Result<Act, Stop>
-        requires { length tables.now.code.now < 2 ^ 32 }
-        ensures { let turn = step_turn (contents_of tables.now) choice.slice choice.pick self.old.world in
+        requires code { length tables.now.code.now < 2 ^ 32 }
+        requires start { data_start + 4 * tables.now.data_words < 2 ^ 32 }
+        ensures { let turn = step_turn has_body (contents_of tables.now) choice.slice choice.pick self.old.world in
             Applies self.old.world self.new.world result turn }
     {
         let Some(process) = self.running() else {

@@ -20,52 +20,52 @@ pub returns-in_err-forward-clause-ruling : goal.returns-in_err-forward-clause-ru
 returns-in_err-forward-clause-ruling c =
     let p = err_from_is_err_and c.from_residual-in_err-forward.result c.from_residual-in_err-forward.ensures.1 in
     rw (p.1, p.2)
-        (jump-forward (site_of c.args.self.now)
-        (state_of c.args.state.now) c.args.distance _ c.in_ok-outside_alternation.ensures
-        (to_z-of_z w32 c.args.distance c.ranges.distance)
+    (jump-forward (site_of c.args.self.now)
+    (state_of c.args.state.now) c.args.distance _ c.in_ok-outside_alternation.ensures
+    (to_z-of_z w32 c.args.distance c.ranges.distance)
     ∙ c.in_err-forward.ensures _)
 
 pub returns-in_err-outside_starts-clause-ruling : goal.returns-in_err-outside_starts-clause-ruling
 returns-in_err-outside_starts-clause-ruling c =
     let p = err_from_is_err_and c.from_residual-in_err-outside_starts.result
-        c.from_residual-in_err-outside_starts.ensures.1 in
+    c.from_residual-in_err-outside_starts.ensures.1 in
     rw (p.1, p.2)
-        (jump-forward (site_of c.args.self.now)
-        (state_of c.args.state.now) c.args.distance _ c.in_ok-outside_alternation.ensures
-        (to_z-of_z w32 c.args.distance c.ranges.distance)
+    (jump-forward (site_of c.args.self.now)
+    (state_of c.args.state.now) c.args.distance _ c.in_ok-outside_alternation.ensures
+    (to_z-of_z w32 c.args.distance c.ranges.distance)
     ∙ (c.in_ok-forward.ensures _ ∙ c.in_err-outside_starts.ensures _))
 
 pub returns-in_err-schedules-clause-ruling : goal.returns-in_err-schedules-clause-ruling
 returns-in_err-schedules-clause-ruling c =
     let p = err_from_is_err_and c.from_residual-in_err-schedules.result c.from_residual-in_err-schedules.ensures.1 in
     rw (p.1, p.2)
-        (jump-forward (site_of c.args.self.now)
-        (state_of c.args.state.now) c.args.distance _ c.in_ok-outside_alternation.ensures
-        (to_z-of_z w32 c.args.distance c.ranges.distance)
+    (jump-forward (site_of c.args.self.now)
+    (state_of c.args.state.now) c.args.distance _ c.in_ok-outside_alternation.ensures
+    (to_z-of_z w32 c.args.distance c.ranges.distance)
     ∙ (c.in_ok-forward.ensures _ ∙ (c.in_ok-outside_starts.ensures _ ∙ c.in_err-schedules.ensures.test _)))
 
 pub returns-in_err-pays-clause-ruling : goal.returns-in_err-pays-clause-ruling
 returns-in_err-pays-clause-ruling c =
     let p = err_from_is_err_and c.from_residual-in_err-pays.result c.from_residual-in_err-pays.ensures.1 in
     rw (p.1, p.2)
-        (jump-forward (site_of c.args.self.now)
-        (state_of c.args.state.now) c.args.distance _ c.in_ok-outside_alternation.ensures
-        (to_z-of_z w32 c.args.distance c.ranges.distance)
+    (jump-forward (site_of c.args.self.now)
+    (state_of c.args.state.now) c.args.distance _ c.in_ok-outside_alternation.ensures
+    (to_z-of_z w32 c.args.distance c.ranges.distance)
     ∙ (c.in_ok-forward.ensures _ ∙ (c.in_ok-outside_starts.ensures _ ∙
-        (c.in_ok-schedules.ensures.test _ ∙ c.in_err-pays.ensures.test _))))
+    (c.in_ok-schedules.ensures.test _ ∙ c.in_err-pays.ensures.test _))))
 
 pub returns-clause-ruling : goal.returns-clause-ruling
 returns-clause-ruling c =
     advances-by c.leads_to.result _ _ _
     (jump-forward (site_of c.args.self.now)
-        (state_of c.args.state.now) c.args.distance _ c.in_ok-outside_alternation.ensures
-        (to_z-of_z w32 c.args.distance c.ranges.distance)
+    (state_of c.args.state.now) c.args.distance _ c.in_ok-outside_alternation.ensures
+    (to_z-of_z w32 c.args.distance c.ranges.distance)
     ∙ (c.in_ok-forward.ensures _ ∙ (c.in_ok-outside_starts.ensures _ ∙
-        (c.in_ok-schedules.ensures.test _ ∙ (c.in_ok-pays.ensures.test _
+    (c.in_ok-schedules.ensures.test _ ∙ (c.in_ok-pays.ensures.test _
     ∙ (ap (λ (z : ℕ). leads_to (site_of c.args.self.now) z (without_registers (state_of c.pays.new.state)))
-        (sym c.target.ensures)
+    (sym c.target.ensures)
     ∙ ap (λ (stack : Stack Known). leads_to (site_of c.args.self.now) c.target.result
-        (record (state_of c.pays.new.state) { stack = stack }))
+    (record (state_of c.pays.new.state) { stack = stack }))
     (sym c.of_empty-state.ensures)))))))
     c.leads_to.ensures
 

@@ -14,7 +14,7 @@ pub returns-in_err-cost_below-in-Some : goal.returns-in_err-cost_below-in-Some
 returns-in_err-cost_below-in-Some c =
     let p = err_from_is_err_and c.from_residual.result c.from_residual.ensures.1 in
     rw (p.1, p.2) (leads-on (site_of c.args.self.now) c.args.to
-        (state_of c.args.state.now) _ _ c.in-Some.ensures c.in_err-cost_below-in-Some.ensures)
+    (state_of c.args.state.now) _ _ c.in-Some.ensures c.in_err-cost_below-in-Some.ensures)
 
 pub returns-in_ok-cost_below-in-Some : goal.returns-in_ok-cost_below-in-Some
 returns-in_ok-cost_below-in-Some c = leads-on (site_of c.args.self.now) c.args.to

@@ -9,6 +9,6 @@ pub returns-clause-ruling : goal.returns-clause-ruling
 returns-clause-ruling c =
     advances-by c.goes_on.result (state_of c.goes_on.new.state) _ _
     (load_constant-done (site_of c.args.self.now) (state_of c.args.state.now)
-        (state_of c.push.new.self) c.args.value _ c.of.result c.of.ensures
-        (to_z-of_z w32 c.args.value c.ranges.value) c.push.ensures.state)
+    (state_of c.push.new.self) c.args.value _ c.of.result c.of.ensures
+    (to_z-of_z w32 c.args.value c.ranges.value) c.push.ensures.state)
     c.goes_on.ensures.ruling

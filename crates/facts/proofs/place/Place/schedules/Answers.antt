@@ -16,7 +16,7 @@ returns-in_err-third-clause-test c =
 pub write-requires-2 : goal.write-requires-2
 write-requires-2 c =
     subst (λ (z : ℤ). CanWrite c.write.new.self z) (sym (to_z-of_z w32 c.in_ok-second.second (search rules)))
-        (c.write.ensures.room c.in_ok-second.second c.in_ok-second.ensures.room)
+    (c.write.ensures.room c.in_ok-second.second c.in_ok-second.ensures.room)
 
 pub write-requires-3 : goal.write-requires-3
 write-requires-3 c =
@@ -31,12 +31,12 @@ returns-clause-test c = λ k.
     let third = to_z-of_z w32 c.in_ok-third.third (search rules) in
     c.in_ok-first.ensures.test _ ∙ (c.in_ok-second.ensures.test _ ∙ (c.in_ok-third.ensures.test _
     ∙ ap k (sym (scheduled (state_of c.args.state.now) (state_of c.write.new.self) (state_of c.write-2.new.self)
-        (state_of c.write-3.new.self) _ _ _
+    (state_of c.write-3.new.self) _ _ _
     c.write.ensures.state c.write-2.ensures.state c.write-3.ensures.state (first ∙ c.in_ok-first.ensures.word)
-        (second ∙ c.in_ok-second.ensures.word) (third ∙ c.in_ok-third.ensures.word)))))
+    (second ∙ c.in_ok-second.ensures.word) (third ∙ c.in_ok-third.ensures.word)))))
 
 pub returns-clause-belongs : goal.returns-clause-belongs
 returns-clause-belongs c =
     c.write-3.ensures.belongs c.args.self.now.module.now
-        (c.write-2.ensures.belongs c.args.self.now.module.now
-        (c.write.ensures.belongs c.args.self.now.module.now c.requires))
+    (c.write-2.ensures.belongs c.args.self.now.module.now
+    (c.write.ensures.belongs c.args.self.now.module.now c.requires))

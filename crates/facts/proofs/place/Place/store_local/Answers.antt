@@ -13,16 +13,16 @@ returns-clause-ruling c =
     let fits = to_z-of_z w32 c.in_ok-word.word (search rules) in
     advances-by c.goes_on.result (state_of c.goes_on.new.state) _ _
     (store_local-own (site_of c.args.self.now)
-        (state_of c.args.state.now) c.args.distance _ c.in_ok-fact.fact c.in_ok-fact.ensures c.in_ok-alone.ensures same
+    (state_of c.args.state.now) c.args.distance _ c.in_ok-fact.fact c.in_ok-fact.ensures c.in_ok-alone.ensures same
     ∙ (c.in_ok-word.ensures.test _
     ∙ ap (goes_on (site_of c.args.self.now))
-        (store_local-after (state_of c.args.state.now) (state_of c.write.new.self)
-        (state_of c.pop.new.self) _ _ c.in_ok-fact.fact
-        (fits ∙ c.in_ok-word.ensures.word) c.write.ensures.state c.pop.ensures.state)))
+    (store_local-after (state_of c.args.state.now) (state_of c.write.new.self)
+    (state_of c.pop.new.self) _ _ c.in_ok-fact.fact
+    (fits ∙ c.in_ok-word.ensures.word) c.write.ensures.state c.pop.ensures.state)))
     c.goes_on.ensures.ruling
 
 pub returns-clause-belongs : goal.returns-clause-belongs
 returns-clause-belongs c =
     c.goes_on.ensures.belongs c.args.self.now.module.now
-        (c.pop.ensures.belongs c.args.self.now.module.now
-        (c.write.ensures.belongs c.args.self.now.module.now c.requires))
+    (c.pop.ensures.belongs c.args.self.now.module.now
+    (c.write.ensures.belongs c.args.self.now.module.now c.requires))
