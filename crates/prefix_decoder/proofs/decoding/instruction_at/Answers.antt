@@ -17,17 +17,23 @@ pub returns-then-ne : goal.returns-then-ne
 returns-then-ne c =
     let i = c.in_ok-instr.instr in
     let fits : FitsSigned w32 i.operand = search rules in
-    let written : c.as_slice.result.now ≡ spelling i.fun i.operand = c.as_slice.ensures.value ∙ (rw to_z-of_z at c.encode.ensures.value) in
-    tested c.args.code.now c.args.at c.min.result i c.as_slice.result.now true (omega arith) (sym c.decode.ensures ∙ c.in_ok-instr.was) written c.if-ne.ensures
+    let written : c.as_slice.result.now ≡ spelling i.fun i.operand =
+    c.as_slice.ensures.value ∙ (rw to_z-of_z at c.encode.ensures.value) in
+    tested c.args.code.now c.args.at c.min.result i c.as_slice.result.now true (omega arith)
+    (sym c.decode.ensures ∙ c.in_ok-instr.was) written c.if-ne.ensures
 
 pub returns : goal.returns
 returns c =
     let i = c.in_ok-instr.instr in
     let fits : FitsSigned w32 i.operand = search rules in
-    let written : c.as_slice.result.now ≡ spelling i.fun i.operand = c.as_slice.ensures.value ∙ (rw to_z-of_z at c.encode.ensures.value) in
-    tested c.args.code.now c.args.at c.min.result i c.as_slice.result.now false (omega arith) (sym c.decode.ensures ∙ c.in_ok-instr.was) written c.if-ne.ensures
+    let written : c.as_slice.result.now ≡ spelling i.fun i.operand =
+    c.as_slice.ensures.value ∙ (rw to_z-of_z at c.encode.ensures.value) in
+    tested c.args.code.now c.args.at c.min.result i c.as_slice.result.now false (omega arith)
+    (sym c.decode.ensures ∙ c.in_ok-instr.was) written c.if-ne.ensures
 
 pub returns-in_err-instr : goal.returns-in_err-instr
 returns-in_err-instr c =
     let p = err_from_is_err_and c.from_residual.result c.from_residual.ensures.1 in
-    rw (p.1, p.2) (refused c.args.code.now c.args.at c.min.result c.in_err-instr.field-0.0 (omega arith) (sym c.in_err-instr.ensures))
+    rw (p.1, p.2)
+    (refused c.args.code.now c.args.at c.min.result c.in_err-instr.field-0.0 (omega arith)
+    (sym c.in_err-instr.ensures))
