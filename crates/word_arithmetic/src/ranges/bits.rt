@@ -132,7 +132,24 @@ fn scaled(word: i32, exponent: i32) -> i64
     ensures value { result ≡ word *ℤ pos (2 ^ unsigned_abs exponent) }
     ensures sign { pos 0 ≤ℤ result }
 {
-    i64::from(word) * i64::from(1u32 << exponent as u32)
+    multiplied(word, power_of_two(exponent))
+}
+
+/// A word times a factor.
+fn multiplied(word: i32, factor: u32) -> i64
+    ensures value { result ≡ word *ℤ pos factor }
+    ensures sign { pos 0 ≤ℤ word → pos 0 ≤ℤ result }
+{
+    i64::from(word) * i64::from(factor)
+}
+
+/// 2 to a power from 0 to 31.
+fn power_of_two(exponent: i32) -> u32
+    requires from_zero { pos 0 ≤ℤ exponent }
+    requires below_32 { exponent ≤ℤ pos 31 }
+    ensures { result ≡ 2 ^ unsigned_abs exponent }
+{
+    1 << exponent as u32
 }
 
 /// The word with ones from the place of this word's highest one down.
