@@ -28,15 +28,6 @@ const OPERATIONS: [Binary; 13] = [
     Binary::Equal,
 ];
 
-const COMPARISONS: [Comparison; 6] = [
-    Comparison::Equal,
-    Comparison::NotEqual,
-    Comparison::Less,
-    Comparison::LessOrEqual,
-    Comparison::Greater,
-    Comparison::GreaterOrEqual,
-];
-
 /// What a test finds, each value after a space.
 #[derive(Drop)]
 struct Found {
@@ -178,17 +169,27 @@ fn long_operations(rt: HostRuntime) {
     found.check(&rt, LONG_RESULTS);
 }
 
-const COMPARED: &str = "
- Equal NotEqual Equal false true false
- NotEqual Equal NotEqual true false true
- Less GreaterOrEqual Greater true false false
- LessOrEqual Greater GreaterOrEqual true true false
- Greater LessOrEqual Less false false true
- GreaterOrEqual Less LessOrEqual false true true";
+const COMPARISONS: [Comparison; 6] = [
+    Comparison::Equal,
+    Comparison::NotEqual,
+    Comparison::Less,
+    Comparison::LessOrEqual,
+    Comparison::Greater,
+    Comparison::GreaterOrEqual,
+];
 
-/// Each comparison, its negation and its mirror image, and whether it holds of 4, 5 and 6 with 5.
+const COMPARED: &str = "
+ Equal NotEqual Equal false true false (0, 0) (5, 5) (10, 10) (0, 10)
+ NotEqual Equal NotEqual true false true (1, 10) (0, 10) (0, 9) (0, 10)
+ Less GreaterOrEqual Greater true false false (0, 10) (0, 4) (0, 9) (0, 10)
+ LessOrEqual Greater GreaterOrEqual true true false (0, 0) (0, 5) (0, 10) (0, 10)
+ Greater LessOrEqual Less false false true (1, 10) (6, 10) (0, 10) (0, 10)
+ GreaterOrEqual Less LessOrEqual false true true (0, 10) (5, 10) (10, 10) (0, 10)";
+
+/// Each comparison, its negation and its mirror image, whether it holds of 4, 5 and 6 with 5, and what it leaves of
+/// 0 to 10 with 0, 5, 10 and 11.
 #[test]
-fn comparisons_of_words(rt: HostRuntime) {
+fn comparisons(rt: HostRuntime) {
     let mut found = Found::new(rt.alloc());
     for comparison in COMPARISONS {
         found.begin_line();
@@ -197,6 +198,9 @@ fn comparisons_of_words(rt: HostRuntime) {
         found.put(comparison.mirrored());
         for word in [4, 5, 6] {
             found.put(comparison.holds(word, 5));
+        }
+        for constant in [0, 5, 10, 11] {
+            found.put_range(Some(Range::new(0, 10).narrow(comparison, constant)));
         }
     }
     found.check(&rt, COMPARED);
@@ -238,28 +242,6 @@ fn operations_of_ranges(rt: HostRuntime) {
         }
     }
     found.check(&rt, RANGES_OF_RESULTS);
-}
-
-const NARROWED: &str = "
- Equal (0, 0) (5, 5) (10, 10) (0, 10)
- NotEqual (1, 10) (0, 10) (0, 9) (0, 10)
- Less (0, 10) (0, 4) (0, 9) (0, 10)
- LessOrEqual (0, 0) (0, 5) (0, 10) (0, 10)
- Greater (1, 10) (6, 10) (0, 10) (0, 10)
- GreaterOrEqual (0, 10) (5, 10) (10, 10) (0, 10)";
-
-/// What each comparison with 0, 5, 10 and 11 leaves of 0 to 10.
-#[test]
-fn comparisons_of_ranges(rt: HostRuntime) {
-    let mut found = Found::new(rt.alloc());
-    for comparison in COMPARISONS {
-        found.begin_line();
-        found.put(comparison);
-        for constant in [0, 5, 10, 11] {
-            found.put_range(Some(Range::new(0, 10).narrow(comparison, constant)));
-        }
-    }
-    found.check(&rt, NARROWED);
 }
 
 const PARTS: &str = "
