@@ -137,8 +137,7 @@ fn scaled(word: i32, exponent: i32) -> i64
 
 /// A word times a factor.
 fn multiplied(word: i32, factor: u32) -> i64
-    ensures value { result ≡ word *ℤ pos factor }
-    ensures sign { pos 0 ≤ℤ word → pos 0 ≤ℤ result }
+    ensures { result ≡ word *ℤ pos factor }
 {
     i64::from(word) * i64::from(factor)
 }
