@@ -18,18 +18,34 @@ starts bytes = record { rest = λ more is. let all : more ≡ 8 = omega arith in
 pub ends : (bytes : List ℕ) (register : ℤ) → GoesOn bytes register 8 → Err TooLong ≡ read 8 bytes (pos 0) 0
 ends bytes register g = g.rest 0 (omega arith)
 
-pub ends_early : (bytes : List ℕ) (register : ℤ) (index : ℕ) → index < 8 → length bytes ≤ index → GoesOn bytes register index → Err EndOfCode ≡ read 8 bytes (pos 0) 0
+pub ends_early : (bytes : List ℕ) (register : ℤ) (index : ℕ)
+    → index < 8
+    → length bytes ≤ index
+    → GoesOn bytes register index
+    → Err EndOfCode ≡ read 8 bytes (pos 0) 0
 ends_early bytes register index below past g =
     let more : 8 - index ≡ suc (7 - index) = omega arith in
     let h = g.rest (8 - index) (omega arith) in
     rw (more, drop_all index bytes past) at h
 
-module _ (bytes : List ℕ) (register : ℤ) (index byte : ℕ) (below : index < 8) (within : index < length bytes) (is : byte ≡ get_or bytes index 0) (g : GoesOn bytes register index) where
-  next : (more : ℕ) → index + suc more ≡ 8 → read (suc more) (byte ∷ drop (index + 1) bytes) register index ≡ read 8 bytes (pos 0) 0
+module _
+    (bytes : List ℕ) (register : ℤ) (index byte : ℕ) (below : index < 8) (within : index < length bytes)
+    (is : byte ≡ get_or bytes index 0) (g : GoesOn bytes register index) where
+  next : (more : ℕ)
+      → index + suc more ≡ 8
+      → read (suc more) (byte ∷ drop (index + 1) bytes) register index ≡ read 8 bytes (pos 0) 0
   next more all = rw is (rw (drop_more bytes index 0 within) at (g.rest (suc more) all))
 
-  pub ends_with : (f : Fun) → fun_of (function_code byte) ≡ Some f → Ok (record { fun = f; operand = with_nibble register (nibble byte); len = index + 1 }) ≡ read 8 bytes (pos 0) 0
-  ends_with f some = sym (read-function (7 - index) byte (drop (index + 1) bytes) register index f some) ∙ next (7 - index) (omega arith)
+  pub ends_with : (f : Fun)
+      → fun_of (function_code byte) ≡ Some f
+      → Ok (record { fun = f; operand = with_nibble register (nibble byte); len = index + 1 }) ≡ read 8 bytes (pos 0) 0
+  ends_with f some =
+      sym (read-function (7 - index) byte (drop (index + 1) bytes) register index f some)
+      ∙ next (7 - index) (omega arith)
 
-  pub goes_on : fun_of (function_code byte) ≡ None → GoesOn bytes (after_prefix (function_code byte) (with_nibble register (nibble byte))) (index + 1)
-  goes_on none = record { rest = λ more all. sym (read-prefix more byte (drop (index + 1) bytes) register index none) ∙ next more (omega arith) }
+  pub goes_on : fun_of (function_code byte) ≡ None
+      → GoesOn bytes (after_prefix (function_code byte) (with_nibble register (nibble byte))) (index + 1)
+  goes_on none = record {
+    rest = λ more all.
+        sym (read-prefix more byte (drop (index + 1) bytes) register index none) ∙ next more (omega arith);
+  }

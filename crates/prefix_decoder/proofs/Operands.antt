@@ -26,7 +26,11 @@ IsRegister-negated e h = record { fits = search rules; clear = grind (arith, int
 
 -- so the register stays one after each prefix byte
 pub IsRegister-after : (code : ℕ) (e : ℤ) → FitsSigned w32 e → IsRegister (after_prefix code e)
-IsRegister-after code e h = elim (eqb code nfix) as (λ b. IsRegister (cond b (negated e) (prefixed e))) [ true ↦ IsRegister-negated e h | false ↦ IsRegister-prefixed e h ]
+IsRegister-after code e h =
+    elim (eqb code nfix) as (λ b. IsRegister (cond b (negated e) (prefixed e))) [
+      | true ↦ IsRegister-negated e h
+      | false ↦ IsRegister-prefixed e h
+    ]
 
 -- a nibble is below 16
 pub low_nibble_below : (e : ℤ) → low_nibble e < 16
@@ -34,7 +38,10 @@ low_nibble_below (pos n) = omega arith
 low_nibble_below (negsuc n) = omega arith
 
 -- a register with a nibble in its low bits is an operand of 32 bits
-pub FitsSigned-with_nibble : (register : ℤ) (n : ℕ) → IsRegister register → n < 16 → FitsSigned w32 (with_nibble register n)
+pub FitsSigned-with_nibble : (register : ℤ) (n : ℕ)
+    → IsRegister register
+    → n < 16
+    → FitsSigned w32 (with_nibble register n)
 FitsSigned-with_nibble (pos m) n r h = search (rules, ints, r.fits, r.clear)
 FitsSigned-with_nibble (negsuc m) n r h = search (rules, ints, r.fits, r.clear)
 
@@ -52,10 +59,16 @@ pub alone_is : (e : ℤ) → pos 0 ≤ℤ e → e <ℤ pos 16 → with_nibble (p
 alone_is (pos n) p q = omega (arith, ints)
 alone_is (negsuc n) p q = absurd (omega (arith, ints))
 
-pub above_is : (e : ℤ) → pos 16 ≤ℤ e → FitsSigned w32 e → with_nibble (prefixed (without_low_nibble e)) (low_nibble e) ≡ e
+pub above_is : (e : ℤ)
+    → pos 16 ≤ℤ e
+    → FitsSigned w32 e
+    → with_nibble (prefixed (without_low_nibble e)) (low_nibble e) ≡ e
 above_is (pos n) p h = rw (prefixed_pos (n / 16) (omega (arith, h.sfits))) (omega (arith, ints))
 above_is (negsuc n) p h = absurd (omega (arith, ints))
 
-pub below_is : (e : ℤ) → e <ℤ pos 0 → FitsSigned w32 e → with_nibble (negated (without_low_nibble (complement e))) (low_nibble e) ≡ e
+pub below_is : (e : ℤ)
+    → e <ℤ pos 0
+    → FitsSigned w32 e
+    → with_nibble (negated (without_low_nibble (complement e))) (low_nibble e) ≡ e
 below_is (pos n) p h = absurd (omega (arith, ints))
 below_is (negsuc n) p h = rw (negated_pos (n / 16) (omega (arith, h.sfits))) (omega (arith, ints))

@@ -51,12 +51,18 @@ kind (suc (suc (suc (suc (suc (suc (suc zero))))))) h = function LoadLocal (othe
 kind (suc (suc (suc (suc (suc (suc (suc (suc zero)))))))) h = function AddConstant (other 8 refl refl)
 kind (suc (suc (suc (suc (suc (suc (suc (suc (suc zero))))))))) h = function Call (other 9 refl refl)
 kind (suc (suc (suc (suc (suc (suc (suc (suc (suc (suc zero)))))))))) h = function ConditionalJump (other 10 refl refl)
-kind (suc (suc (suc (suc (suc (suc (suc (suc (suc (suc (suc zero))))))))))) h = function AdjustWorkspace (other 11 refl refl)
-kind (suc (suc (suc (suc (suc (suc (suc (suc (suc (suc (suc (suc zero)))))))))))) h = function EqualsConstant (other 12 refl refl)
-kind (suc (suc (suc (suc (suc (suc (suc (suc (suc (suc (suc (suc (suc zero))))))))))))) h = function StoreLocal (other 13 refl refl)
-kind (suc (suc (suc (suc (suc (suc (suc (suc (suc (suc (suc (suc (suc (suc zero)))))))))))))) h = function StoreNonLocal (other 14 refl refl)
-kind (suc (suc (suc (suc (suc (suc (suc (suc (suc (suc (suc (suc (suc (suc (suc zero))))))))))))))) h = function Operate (other 15 refl refl)
-kind (suc (suc (suc (suc (suc (suc (suc (suc (suc (suc (suc (suc (suc (suc (suc (suc code)))))))))))))))) h = absurd (omega arith)
+kind (suc (suc (suc (suc (suc (suc (suc (suc (suc (suc (suc zero))))))))))) h =
+    function AdjustWorkspace (other 11 refl refl)
+kind (suc (suc (suc (suc (suc (suc (suc (suc (suc (suc (suc (suc zero)))))))))))) h =
+    function EqualsConstant (other 12 refl refl)
+kind (suc (suc (suc (suc (suc (suc (suc (suc (suc (suc (suc (suc (suc zero))))))))))))) h =
+    function StoreLocal (other 13 refl refl)
+kind (suc (suc (suc (suc (suc (suc (suc (suc (suc (suc (suc (suc (suc (suc zero)))))))))))))) h =
+    function StoreNonLocal (other 14 refl refl)
+kind (suc (suc (suc (suc (suc (suc (suc (suc (suc (suc (suc (suc (suc (suc (suc zero))))))))))))))) h =
+    function Operate (other 15 refl refl)
+kind (suc (suc (suc (suc (suc (suc (suc (suc (suc (suc (suc (suc (suc (suc (suc (suc code)))))))))))))))) h =
+    absurd (omega arith)
 
 -- ---- the outcome of reading
 
@@ -64,28 +70,49 @@ kind (suc (suc (suc (suc (suc (suc (suc (suc (suc (suc (suc (suc (suc (suc (suc 
 data Outcome (fuel : ℕ) (bytes : List ℕ) (taken : ℕ) : Result Instr DecodeFault → Type 0 where
   too_long : fuel ≤ length bytes → All IsPrefix (take fuel bytes) → Outcome fuel bytes taken (Err TooLong)
   too_soon : length bytes < fuel → All IsPrefix bytes → Outcome fuel bytes taken (Err EndOfCode)
-  found : (prefixes : List ℕ) (last : ℕ) (rest : List ℕ) (f : Fun) (e : ℤ) (len : ℕ) → bytes ≡ prefixes ++ last ∷ rest → length prefixes < fuel → All IsPrefix prefixes → ¬ IsPrefix last → FitsSigned w32 e → len ≡ taken + length prefixes + 1 → Outcome fuel bytes taken (Ok (record { fun = f; operand = e; len = len }))
+  found : (prefixes : List ℕ) (last : ℕ) (rest : List ℕ) (f : Fun) (e : ℤ) (len : ℕ)
+      → bytes ≡ prefixes ++ last ∷ rest
+      → length prefixes < fuel
+      → All IsPrefix prefixes
+      → ¬ IsPrefix last
+      → FitsSigned w32 e
+      → len ≡ taken + length prefixes + 1
+      → Outcome fuel bytes taken (Ok (record { fun = f; operand = e; len = len }))
 
 -- a prefix in front changes the count alone
-one_more : (fuel byte taken : ℕ) (bytes : List ℕ) (r : Result Instr DecodeFault) → IsPrefix byte → Outcome fuel bytes (taken + 1) r → Outcome (suc fuel) (byte ∷ bytes) taken r
-one_more fuel byte taken bytes r p (too_long h all) = too_long (omega arith) (All-cons IsPrefix byte (take fuel bytes) p all)
+one_more : (fuel byte taken : ℕ) (bytes : List ℕ) (r : Result Instr DecodeFault)
+    → IsPrefix byte
+    → Outcome fuel bytes (taken + 1) r
+    → Outcome (suc fuel) (byte ∷ bytes) taken r
+one_more fuel byte taken bytes r p (too_long h all) =
+    too_long (omega arith) (All-cons IsPrefix byte (take fuel bytes) p all)
 one_more fuel byte taken bytes r p (too_soon h all) = too_soon (omega arith) (All-cons IsPrefix byte bytes p all)
 one_more fuel byte taken bytes r p (found prefixes last rest f e len parts short all not fits len-is) =
-    found (byte ∷ prefixes) last rest f e len (ap (λ (xs : List ℕ). byte ∷ xs) parts) (omega arith) (All-cons IsPrefix byte prefixes p all) not fits (omega arith)
+    found (byte ∷ prefixes) last rest f e len (ap (λ (xs : List ℕ). byte ∷ xs) parts) (omega arith)
+    (All-cons IsPrefix byte prefixes p all) not fits (omega arith)
 
-stepped : (fuel byte taken : ℕ) (bytes : List ℕ) (e : ℤ) (o : Option Fun) (r : Result Instr DecodeFault) → FitsSigned w32 e → Kind (function_code byte) o → Outcome fuel bytes (taken + 1) r → Outcome (suc fuel) (byte ∷ bytes) taken (ended_or o e (taken + 1) r)
+stepped : (fuel byte taken : ℕ) (bytes : List ℕ) (e : ℤ) (o : Option Fun) (r : Result Instr DecodeFault)
+    → FitsSigned w32 e
+    → Kind (function_code byte) o
+    → Outcome fuel bytes (taken + 1) r
+    → Outcome (suc fuel) (byte ∷ bytes) taken (ended_or o e (taken + 1) r)
 stepped fuel byte taken bytes e o r fits (prefix p) out = one_more fuel byte taken bytes r p out
 stepped fuel byte taken bytes e o r fits (function f not) out =
     found [] byte bytes f e (taken + 1) refl (omega arith) (All-nil IsPrefix) not fits (omega arith)
 
-outcome : (fuel : ℕ) (bytes : List ℕ) (register : ℤ) (taken : ℕ) → IsRegister register → IsBytes bytes → Outcome fuel bytes taken (read fuel bytes register taken)
+outcome : (fuel : ℕ) (bytes : List ℕ) (register : ℤ) (taken : ℕ)
+    → IsRegister register
+    → IsBytes bytes
+    → Outcome fuel bytes taken (read fuel bytes register taken)
 outcome zero bytes register taken ok h = too_long (omega arith) (All-nil IsPrefix)
 outcome (suc fuel) [] register taken ok h = too_soon (omega arith) (All-nil IsPrefix)
 outcome (suc fuel) (byte ∷ bytes) register taken ok h =
     let e = with_nibble register (nibble byte) in
     let fits : FitsSigned w32 e = FitsSigned-with_nibble register (nibble byte) ok (omega arith) in
     let below : byte < 256 = h 0 in
-    stepped fuel byte taken bytes e _ _ fits (kind (function_code byte) (omega arith)) (outcome fuel bytes (after_prefix (function_code byte) e) (taken + 1) (IsRegister-after (function_code byte) e fits) (IsBytes-tail byte bytes h))
+    stepped fuel byte taken bytes e _ _ fits (kind (function_code byte) (omega arith))
+    (outcome fuel bytes (after_prefix (function_code byte) e) (taken + 1) (IsRegister-after (function_code byte) e fits)
+    (IsBytes-tail byte bytes h))
 
 -- ---- where the first byte that is no prefix stands
 
@@ -93,16 +120,28 @@ All-middle : (xs : List ℕ) (y : ℕ) (ys : List ℕ) → All IsPrefix (xs ++ y
 All-middle [] y ys all = All-head IsPrefix y ys all
 All-middle (x ∷ xs) y ys all = All-middle xs y ys (All-tail IsPrefix x (xs ++ y ∷ ys) all)
 
-All-middle_taken : (n : ℕ) (xs : List ℕ) (y : ℕ) (ys : List ℕ) → length xs < n → All IsPrefix (take n (xs ++ y ∷ ys)) → IsPrefix y
+All-middle_taken : (n : ℕ) (xs : List ℕ) (y : ℕ) (ys : List ℕ)
+    → length xs < n
+    → All IsPrefix (take n (xs ++ y ∷ ys))
+    → IsPrefix y
 All-middle_taken zero xs y ys h all = absurd (omega arith)
 All-middle_taken (suc n) [] y ys h all = All-head IsPrefix y (take n ys) all
-All-middle_taken (suc n) (x ∷ xs) y ys h all = All-middle_taken n xs y ys (omega arith) (All-tail IsPrefix x (take n (xs ++ y ∷ ys)) all)
+All-middle_taken (suc n) (x ∷ xs) y ys h all =
+    All-middle_taken n xs y ys (omega arith) (All-tail IsPrefix x (take n (xs ++ y ∷ ys)) all)
 
 -- the bytes up to the first that is no prefix are determined
-same_split : (a b : List ℕ) (x y : ℕ) (after rest : List ℕ) → All IsPrefix a → All IsPrefix b → ¬ IsPrefix x → ¬ IsPrefix y → a ++ x ∷ after ≡ b ++ y ∷ rest → (a ≡ b) × (x ≡ y)
+same_split : (a b : List ℕ) (x y : ℕ) (after rest : List ℕ)
+    → All IsPrefix a
+    → All IsPrefix b
+    → ¬ IsPrefix x
+    → ¬ IsPrefix y
+    → a ++ x ∷ after ≡ b ++ y ∷ rest
+    → (a ≡ b) × (x ≡ y)
 same_split [] [] x y after rest p q nx ny is = (refl, cc)
-same_split [] (d ∷ b) x y after rest p q nx ny is = let same : x ≡ d = cc in absurd (nx (rw same (All-head IsPrefix d b q)))
-same_split (c ∷ a) [] x y after rest p q nx ny is = let same : y ≡ c = cc in absurd (ny (rw same (All-head IsPrefix c a p)))
+same_split [] (d ∷ b) x y after rest p q nx ny is =
+    let same : x ≡ d = cc in absurd (nx (rw same (All-head IsPrefix d b q)))
+same_split (c ∷ a) [] x y after rest p q nx ny is =
+    let same : y ≡ c = cc in absurd (ny (rw same (All-head IsPrefix c a p)))
 same_split (c ∷ a) (d ∷ b) x y after rest p q nx ny is =
     let heads : c ≡ d = cc in
     let tails : a ++ x ∷ after ≡ b ++ y ∷ rest = cc in
@@ -115,7 +154,9 @@ abbrev done : Instr → Result Instr DecodeFault
 done i = Ok i
 
 -- which way a check went
-checked_fault : (b : Bool) (i : Instr) (fault : DecodeFault) → cond b (done i) (Err SecondSpelling) ≡ Err fault → (b ≡ false) × (SecondSpelling ≡ fault)
+checked_fault : (b : Bool) (i : Instr) (fault : DecodeFault)
+    → cond b (done i) (Err SecondSpelling) ≡ Err fault
+    → (b ≡ false) × (SecondSpelling ≡ fault)
 checked_fault true i fault is = absurd cc
 checked_fault false i fault is = (refl, cc)
 
@@ -124,35 +165,65 @@ checked_done true i j is = (refl, cc)
 checked_done false i j is = absurd cc
 
 -- the bytes up to the one that is no prefix
-taken_is : (bytes prefixes : List ℕ) (last : ℕ) (rest : List ℕ) (len : ℕ) → bytes ≡ prefixes ++ last ∷ rest → len ≡ 0 + length prefixes + 1 → take len bytes ≡ prefixes ++ last ∷ []
+taken_is : (bytes prefixes : List ℕ) (last : ℕ) (rest : List ℕ) (len : ℕ)
+    → bytes ≡ prefixes ++ last ∷ rest
+    → len ≡ 0 + length prefixes + 1
+    → take len bytes ≡ prefixes ++ last ∷ []
 taken_is bytes prefixes last rest len parts len-is =
-    rw (parts, ← append_assoc prefixes (last ∷ []) rest) (take_at (prefixes ++ last ∷ []) rest len (omega (arith, length-append prefixes (last ∷ []))))
+    rw (parts, ← append_assoc prefixes (last ∷ []) rest)
+    (take_at (prefixes ++ last ∷ []) rest len (omega (arith, length-append prefixes (last ∷ []))))
 
 -- a spelling is found, whatever follows it
-checked-spelling : (f : Fun) (e : ℤ) (front rest bytes : List ℕ) → IsSpelling f e front → bytes ≡ front ++ rest → checked bytes (read 8 bytes (pos 0) 0) ≡ Ok (record { fun = f; operand = e; len = length front })
+checked-spelling : (f : Fun) (e : ℤ) (front rest bytes : List ℕ)
+    → IsSpelling f e front
+    → bytes ≡ front ++ rest
+    → checked bytes (read 8 bytes (pos 0) 0) ≡ Ok (record { fun = f; operand = e; len = length front })
 checked-spelling f e front rest bytes s parts =
-    let first : take (length front) (front ++ rest) ≡ spelling f e = take_at front rest (length front) refl ∙ IsSpelling-same f e front (spelling f e) s (IsSpelling-spelling f e s.fits) in
-    let passes : bytes_eq (take (length front) (front ++ rest)) (spelling f e) ≡ true = (bytes_eq-Decides (take (length front) (front ++ rest)) (spelling f e)).1 first in
+    let first : take (length front) (front ++ rest) ≡ spelling f e = take_at front rest (length front) refl
+    ∙ IsSpelling-same f e front (spelling f e) s (IsSpelling-spelling f e s.fits) in
+    let passes : bytes_eq (take (length front) (front ++ rest)) (spelling f e) ≡ true =
+    (bytes_eq-Decides (take (length front) (front ++ rest)) (spelling f e)).1 first in
     rw (parts, read-spelling f e front rest s, passes) refl
 
 -- when each fault is told
-ends_is : (bytes : List ℕ) (r : Result Instr DecodeFault) → Outcome 8 bytes 0 r → (checked bytes r ≡ Err EndOfCode) ↔ EndsTooSoon bytes
+ends_is : (bytes : List ℕ) (r : Result Instr DecodeFault)
+    → Outcome 8 bytes 0 r
+    → (checked bytes r ≡ Err EndOfCode) ↔ EndsTooSoon bytes
 ends_is bytes r (too_long h all) = (λ is. absurd cc, λ s. absurd (omega (arith, s.0)))
 ends_is bytes r (too_soon h all) = (λ is. (h, all), λ s. refl)
-ends_is bytes r (found prefixes last rest f e len parts short all not ok len-is) =
-    (λ is. absurd (let d = (checked_fault _ _ EndOfCode is).1 in cc), λ s. absurd (not (All-middle prefixes last rest (All-same IsPrefix (prefixes ++ last ∷ rest) bytes (sym parts) s.1))))
+ends_is bytes r (found prefixes last rest f e len parts short all not ok len-is) = (
+  λ is. absurd (let d = (checked_fault _ _ EndOfCode is).1 in cc),
+  λ s. absurd (not (All-middle prefixes last rest
+      (All-same IsPrefix (prefixes ++ last ∷ rest) bytes (sym parts) s.1))),
+)
 
-long_is : (bytes : List ℕ) (r : Result Instr DecodeFault) → Outcome 8 bytes 0 r → (checked bytes r ≡ Err TooLong) ↔ IsTooLong bytes
+long_is : (bytes : List ℕ) (r : Result Instr DecodeFault)
+    → Outcome 8 bytes 0 r
+    → (checked bytes r ≡ Err TooLong) ↔ IsTooLong bytes
 long_is bytes r (too_long h all) = (λ is. (h, all), λ s. refl)
 long_is bytes r (too_soon h all) = (λ is. absurd cc, λ s. absurd (omega (arith, s.0)))
-long_is bytes r (found prefixes last rest f e len parts short all not ok len-is) =
-    (λ is. absurd (let d = (checked_fault _ _ TooLong is).1 in cc), λ s. absurd (not (All-middle_taken 8 prefixes last rest short (All-same IsPrefix (take 8 (prefixes ++ last ∷ rest)) (take 8 bytes) (ap (λ (xs : List ℕ). take 8 xs) (sym parts)) s.1))))
+long_is bytes r (found prefixes last rest f e len parts short all not ok len-is) = (
+  λ is. absurd (let d = (checked_fault _ _ TooLong is).1 in cc),
+  λ s. absurd (not (All-middle_taken 8 prefixes last rest short
+      (All-same IsPrefix (take 8 (prefixes ++ last ∷ rest)) (take 8 bytes)
+      (ap (λ (xs : List ℕ). take 8 xs) (sym parts)) s.1))),
+)
 
-second_is : (bytes : List ℕ) (r : Result Instr DecodeFault) → read 8 bytes (pos 0) 0 ≡ r → Outcome 8 bytes 0 r → (checked bytes r ≡ Err SecondSpelling) ↔ IsSecondSpelling bytes
-second_is bytes r was (too_long h all) =
-    (λ is. absurd cc, λ s. absurd (s.no_prefix (All-middle_taken 8 s.prefixes s.last s.rest s.short (All-same IsPrefix (take 8 (s.prefixes ++ s.last ∷ s.rest)) (take 8 bytes) (ap (λ (xs : List ℕ). take 8 xs) (sym s.parts)) all))))
-second_is bytes r was (too_soon h all) =
-    (λ is. absurd cc, λ s. absurd (s.no_prefix (All-middle s.prefixes s.last s.rest (All-same IsPrefix (s.prefixes ++ s.last ∷ s.rest) bytes (sym s.parts) all))))
+second_is : (bytes : List ℕ) (r : Result Instr DecodeFault)
+    → read 8 bytes (pos 0) 0 ≡ r
+    → Outcome 8 bytes 0 r
+    → (checked bytes r ≡ Err SecondSpelling) ↔ IsSecondSpelling bytes
+second_is bytes r was (too_long h all) = (
+  λ is. absurd cc,
+  λ s. absurd (s.no_prefix (All-middle_taken 8 s.prefixes s.last s.rest s.short
+      (All-same IsPrefix (take 8 (s.prefixes ++ s.last ∷ s.rest)) (take 8 bytes)
+      (ap (λ (xs : List ℕ). take 8 xs) (sym s.parts)) all))),
+)
+second_is bytes r was (too_soon h all) = (
+  λ is. absurd cc,
+  λ s. absurd (s.no_prefix (All-middle s.prefixes s.last s.rest
+      (All-same IsPrefix (s.prefixes ++ s.last ∷ s.rest) bytes (sym s.parts) all))),
+)
 second_is bytes r was (found prefixes last rest f e len parts short all not ok len-is) =
     let i : Instr = record { fun = f; operand = e; len = len } in
     let decides = bytes_eq-Decides (take len bytes) (spelling f e) in
@@ -165,26 +236,36 @@ second_is bytes r was (found prefixes last rest f e len parts short all not ok l
         short = short;
         all_prefixes = all;
         no_prefix = not;
-        no_spelling = λ g d s. let fine = checked-spelling g d (prefixes ++ last ∷ []) rest bytes s (parts ∙ sym (append_assoc prefixes (last ∷ []) rest)) in cc;
+        no_spelling = λ g d s.
+            let fine = checked-spelling g d (prefixes ++ last ∷ []) rest bytes s
+            (parts ∙ sym (append_assoc prefixes (last ∷ []) rest)) in
+            cc;
       },
       λ s.
-          let same = same_split prefixes s.prefixes last s.last rest s.rest all s.all_prefixes not s.no_prefix (sym parts ∙ s.parts) in
+          let same = same_split prefixes s.prefixes last s.last rest s.rest all s.all_prefixes not s.no_prefix
+          (sym parts ∙ s.parts) in
           let same_prefixes : prefixes ≡ s.prefixes = same.0 in
           let same_last : last ≡ s.last = same.1 in
           let front : take len bytes ≡ s.prefixes ++ s.last ∷ [] = rw (← same_prefixes, ← same_last) taken in
-          let fails : bytes_eq (take len bytes) (spelling f e) ≡ false = false_from_ne_true _ (λ t. s.no_spelling f e (rw (← front, decides.0 t) (IsSpelling-spelling f e ok))) in
+          let fails : bytes_eq (take len bytes) (spelling f e) ≡ false =
+          false_from_ne_true _ (λ t. s.no_spelling f e (rw (← front, decides.0 t) (IsSpelling-spelling f e ok))) in
           rw fails refl,
     )
 
 -- what is found is spelled at the bytes taken
-found_is : (bytes : List ℕ) (r : Result Instr DecodeFault) → Outcome 8 bytes 0 r → (i : Instr) → checked bytes r ≡ Ok i → IsSpelling i.fun i.operand (take i.len bytes) × (i.len ≤ length bytes)
+found_is : (bytes : List ℕ) (r : Result Instr DecodeFault)
+    → Outcome 8 bytes 0 r
+    → (i : Instr)
+    → checked bytes r ≡ Ok i
+    → IsSpelling i.fun i.operand (take i.len bytes) × (i.len ≤ length bytes)
 found_is bytes r (too_long h all) i is = absurd cc
 found_is bytes r (too_soon h all) i is = absurd cc
 found_is bytes r (found prefixes last rest f e len parts short all not ok len-is) i is =
     let c = checked_done _ _ i is in
     let same : take len bytes ≡ spelling f e = (bytes_eq-Decides (take len bytes) (spelling f e)).0 c.0 in
     let within : len ≤ length bytes = omega (arith, length-append prefixes (last ∷ rest), ap length parts) in
-    let at_first : IsSpelling f e (take len bytes) × (len ≤ length bytes) = (rw same (IsSpelling-spelling f e ok), within) in
+    let at_first : IsSpelling f e (take len bytes) × (len ≤ length bytes) =
+    (rw same (IsSpelling-spelling f e ok), within) in
     subst (λ (j : Instr). IsSpelling j.fun j.operand (take j.len bytes) × (j.len ≤ length bytes)) c.1 at_first
 
 -- what holds of each value that it may be holds of the value
@@ -211,9 +292,15 @@ module _ (code : List ℕ) (at : ℕ) (fits : IsBytes code) where
   fetched-found i is =
       let found = found_is (drop at code) _ outcome_at i is in
       let some = not_empty found.0.spells in
-      record { within = omega (arith, length-drop at code, length-take i.len (drop at code), found.1, some); spelled = found.0 }
+      record {
+        within = omega (arith, length-drop at code, length-take i.len (drop at code), found.1, some);
+        spelled = found.0;
+      }
 
-pub fetched-only : (code : List ℕ) (at : ℕ) (f : Fun) (e : ℤ) (bytes rest : List ℕ) → IsSpelling f e bytes → drop at code ≡ bytes ++ rest → fetched code at ≡ Ok (record { fun = f; operand = e; len = length bytes })
+pub fetched-only : (code : List ℕ) (at : ℕ) (f : Fun) (e : ℤ) (bytes rest : List ℕ)
+    → IsSpelling f e bytes
+    → drop at code ≡ bytes ++ rest
+    → fetched code at ≡ Ok (record { fun = f; operand = e; len = length bytes })
 fetched-only code at f e bytes rest s parts = checked-spelling f e bytes rest (drop at code) s parts
 
 -- an instruction takes 1 to 8 bytes
@@ -221,5 +308,7 @@ pub StandsAt-length : (code : List ℕ) (at : ℕ) (i : Instr) → StandsAt code
 StandsAt-length code at i s =
     let long = not_empty s.spelled.spells in
     let short = at_most_eight i.operand s.spelled.spells s.spelled.fits in
-    let within = s.within in
-    (omega (arith, length-take i.len (drop at code)), omega (arith, length-take i.len (drop at code), length-drop at code))
+    let within = s.within in (
+      omega (arith, length-take i.len (drop at code)),
+      omega (arith, length-take i.len (drop at code), length-drop at code),
+    )

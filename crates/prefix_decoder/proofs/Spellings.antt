@@ -18,7 +18,9 @@ natural_spells zero code n h = alone (omega (arith, ints)) (omega (arith, ints))
 natural_spells (suc more) code n h =
     elim (cases_lt n 16) [
       | inl lt ↦ rw (lt-ltb n 16 lt) (alone {e = pos n} (omega (arith, ints)) (omega (arith, ints)))
-      | inr le ↦ rw (le-ltb n 16 le) (above {e = pos n} (omega (arith, ints)) (natural_spells more pfix (n / 16) (omega arith)))
+      | inr le ↦
+          rw (le-ltb n 16 le)
+          (above {e = pos n} (omega (arith, ints)) (natural_spells more pfix (n / 16) (omega arith)))
     ]
 
 -- what is written for an operand of 32 bits spells it
@@ -36,11 +38,13 @@ same_spelling (alone p q) (alone r s) = refl
 same_spelling (alone p q) (above r s) = absurd (omega (arith, ints))
 same_spelling (alone p q) (below r s) = absurd (omega (arith, ints))
 same_spelling (above p x) (alone r s) = absurd (omega (arith, ints))
-same_spelling {code} {e} (above p x) (above r y) = ap (λ (front : List ℕ). front ++ byte_of code e ∷ []) (same_spelling x y)
+same_spelling {code} {e} (above p x) (above r y) =
+    ap (λ (front : List ℕ). front ++ byte_of code e ∷ []) (same_spelling x y)
 same_spelling (above p x) (below r y) = absurd (omega (arith, ints))
 same_spelling (below p x) (alone r s) = absurd (omega (arith, ints))
 same_spelling (below p x) (above r y) = absurd (omega (arith, ints))
-same_spelling {code} {e} (below p x) (below r y) = ap (λ (front : List ℕ). front ++ byte_of code e ∷ []) (same_spelling x y)
+same_spelling {code} {e} (below p x) (below r y) =
+    ap (λ (front : List ℕ). front ++ byte_of code e ∷ []) (same_spelling x y)
 
 -- the same of a function
 pub IsSpelling-same : (f : Fun) (e : ℤ) (a b : List ℕ) → IsSpelling f e a → IsSpelling f e b → a ≡ b
@@ -54,7 +58,11 @@ not_empty {code} {e} (above {front = front} p x) = omega (arith, length-append f
 not_empty {code} {e} (below {front = front} p x) = omega (arith, length-append front (byte_of code e ∷ []))
 
 -- a natural operand takes a byte for each nibble
-pub natural_length : {code : ℕ} {e : ℤ} {bytes : List ℕ} (more n : ℕ) → Spells code e bytes → e ≡ pos n → n < limit more → length bytes ≤ suc more
+pub natural_length : {code : ℕ} {e : ℤ} {bytes : List ℕ} (more n : ℕ)
+    → Spells code e bytes
+    → e ≡ pos n
+    → n < limit more
+    → length bytes ≤ suc more
 natural_length more n (alone p q) is h = omega arith
 natural_length zero n (above p x) is h = absurd (omega (arith, ints))
 natural_length {code} {e} (suc more) n (above {front = front} p x) is h =
@@ -63,11 +71,16 @@ natural_length {code} {e} (suc more) n (above {front = front} p x) is h =
 natural_length more n (below p x) is h = absurd (omega (arith, ints))
 
 -- a negative operand takes at most eight
-negative_length : {code : ℕ} {e : ℤ} {bytes : List ℕ} (n : ℕ) → Spells code e bytes → e ≡ negsuc n → n < 2 ^ 31 → length bytes ≤ 8
+negative_length : {code : ℕ} {e : ℤ} {bytes : List ℕ} (n : ℕ)
+    → Spells code e bytes
+    → e ≡ negsuc n
+    → n < 2 ^ 31
+    → length bytes ≤ 8
 negative_length n (alone p q) is h = absurd (omega (arith, ints))
 negative_length n (above p x) is h = absurd (omega (arith, ints))
 negative_length {code} {e} n (below {front = front} p x) is h =
-    let shorter : length front ≤ 7 = natural_length 6 (n / 16) x (ap (λ (z : ℤ). without_low_nibble (complement z)) is) (omega arith) in
+    let shorter : length front ≤ 7 =
+    natural_length 6 (n / 16) x (ap (λ (z : ℤ). without_low_nibble (complement z)) is) (omega arith) in
     omega (arith, length-append front (byte_of code e ∷ []))
 
 -- an operand of 32 bits takes at most eight
@@ -81,8 +94,17 @@ spelling_length f e h = (not_empty (code_spells (code_of f) e h), at_most_eight 
 -- ---- a negative operand as a word
 
 -- what is written for a negative operand, computed on its word, is its spelling
-pub negative_is : (code word byte : ℕ) (e : ℤ) (start front all : List ℕ) → FitsSigned w32 e → int_le (pos 0) e ≡ false → word ≡ of_z w32 e → start ≡ [] → front ≡ start ++ natural_spelling 7 nfix ((2 ^ 32 - 1 - word) / 16) → byte ≡ 16 * code + word % 16 → all ≡ front ++ byte ∷ [] → all ≡ code_spelling code e
-negative_is code word byte (pos n) start front all h negative word-is start-is front-is byte-is all-is = absurd (omega (arith, leb-false 0 n negative))
+pub negative_is : (code word byte : ℕ) (e : ℤ) (start front all : List ℕ)
+    → FitsSigned w32 e
+    → int_le (pos 0) e ≡ false
+    → word ≡ of_z w32 e
+    → start ≡ []
+    → front ≡ start ++ natural_spelling 7 nfix ((2 ^ 32 - 1 - word) / 16)
+    → byte ≡ 16 * code + word % 16
+    → all ≡ front ++ byte ∷ []
+    → all ≡ code_spelling code e
+negative_is code word byte (pos n) start front all h negative word-is start-is front-is byte-is all-is =
+    absurd (omega (arith, leb-false 0 n negative))
 negative_is code word byte (negsuc n) start front all h negative word-is start-is front-is byte-is all-is =
     let above_nibble : (2 ^ 32 - 1 - word) / 16 ≡ n / 16 = omega (arith, h.sfits) in
     let low : word % 16 ≡ 15 - n % 16 = omega (arith, h.sfits) in

@@ -15,9 +15,15 @@ pub data Spells : ℕ → ℤ → List ℕ → Type 0 where
   -- an operand of one nibble
   alone : {code : ℕ} {e : ℤ} → pos 0 ≤ℤ e → e <ℤ pos 16 → Spells code e (byte_of code e ∷ [])
   -- a larger one: prefix spelled with the higher nibbles, then the low nibble
-  above : {code : ℕ} {e : ℤ} {front : List ℕ} → pos 16 ≤ℤ e → Spells pfix (without_low_nibble e) front → Spells code e (front ++ byte_of code e ∷ [])
+  above : {code : ℕ} {e : ℤ} {front : List ℕ}
+      → pos 16 ≤ℤ e
+      → Spells pfix (without_low_nibble e) front
+      → Spells code e (front ++ byte_of code e ∷ [])
   -- a negative one: negative prefix spelled with the higher nibbles of its complement, then the low nibble
-  below : {code : ℕ} {e : ℤ} {front : List ℕ} → e <ℤ pos 0 → Spells nfix (without_low_nibble (complement e)) front → Spells code e (front ++ byte_of code e ∷ [])
+  below : {code : ℕ} {e : ℤ} {front : List ℕ}
+      → e <ℤ pos 0
+      → Spells nfix (without_low_nibble (complement e)) front
+      → Spells code e (front ++ byte_of code e ∷ [])
 
 -- these bytes are the spelling of a function and an operand of 32 bits
 pub record IsSpelling (f : Fun) (e : ℤ) (bytes : List ℕ) : Type 0 where
@@ -27,7 +33,10 @@ pub record IsSpelling (f : Fun) (e : ℤ) (bytes : List ℕ) : Type 0 where
 -- the spelling of the function with this code and a natural operand, after at most so many prefixes
 abbrev pub natural_spelling : ℕ → ℕ → ℕ → List ℕ
 natural_spelling zero code n = byte_of code (pos n) ∷ []
-natural_spelling (suc more) code n = if nat_lt n 16 then byte_of code (pos n) ∷ [] else natural_spelling more pfix (n / 16) ++ byte_of code (pos n) ∷ []
+natural_spelling (suc more) code n =
+    if nat_lt n 16
+    then byte_of code (pos n) ∷ []
+    else natural_spelling more pfix (n / 16) ++ byte_of code (pos n) ∷ []
 
 -- the spelling of the function with this code and an operand of 32 bits, which takes at most seven prefixes
 abbrev pub code_spelling : ℕ → ℤ → List ℕ

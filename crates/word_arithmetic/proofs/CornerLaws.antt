@@ -94,20 +94,22 @@ greatest_of : (P : ℤ → Type 0) (a b : ℤ) → P a → P b → P (int_max a 
 greatest_of P a b p q =
     elim (cases_cond (int_lt b a) a b (int_max a b) refl) [ inl e ↦ subst P (sym e) p | inr e ↦ subst P (sym e) q ]
 
--- the ends of the corners are results of members
-pub corners_lo : (f : ℤ → ℤ → ℤ) (r s : Ends) → r.lo ≤ℤ r.hi → s.lo ≤ℤ s.hi → AtMembers f r s (corners f r s).lo
-corners_lo f r s o p =
-    let at = λ (x y : ℤ) (h : InRange r x) (k : InRange s y). at_members f r s x y h k in
-    least_of (AtMembers f r s) _ _
-    (least_of (AtMembers f r s) _ _ (at r.lo s.lo (lo_in r o) (lo_in s p)) (at r.lo s.hi (lo_in r o) (hi_in s p)))
-    (least_of (AtMembers f r s) _ _ (at r.hi s.lo (hi_in r o) (lo_in s p)) (at r.hi s.hi (hi_in r o) (hi_in s p)))
+-- what takes one of each two numbers takes the result of members from those of the ends
+module _ (f : ℤ → ℤ → ℤ) (r s : Ends) (o : r.lo ≤ℤ r.hi) (p : s.lo ≤ℤ s.hi) where
+  one_of_four : (pick : ℤ → ℤ → ℤ) → ((P : ℤ → Type 0) (a b : ℤ) → P a → P b → P (pick a b))
+      → AtMembers f r s (pick (pick (f r.lo s.lo) (f r.lo s.hi)) (pick (f r.hi s.lo) (f r.hi s.hi)))
+  one_of_four pick one_of =
+      let at = λ (x y : ℤ) (h : InRange r x) (k : InRange s y). at_members f r s x y h k in
+      one_of (AtMembers f r s) _ _
+      (one_of (AtMembers f r s) _ _ (at r.lo s.lo (lo_in r o) (lo_in s p)) (at r.lo s.hi (lo_in r o) (hi_in s p)))
+      (one_of (AtMembers f r s) _ _ (at r.hi s.lo (hi_in r o) (lo_in s p)) (at r.hi s.hi (hi_in r o) (hi_in s p)))
 
-pub corners_hi : (f : ℤ → ℤ → ℤ) (r s : Ends) → r.lo ≤ℤ r.hi → s.lo ≤ℤ s.hi → AtMembers f r s (corners f r s).hi
-corners_hi f r s o p =
-    let at = λ (x y : ℤ) (h : InRange r x) (k : InRange s y). at_members f r s x y h k in
-    greatest_of (AtMembers f r s) _ _
-    (greatest_of (AtMembers f r s) _ _ (at r.lo s.lo (lo_in r o) (lo_in s p)) (at r.lo s.hi (lo_in r o) (hi_in s p)))
-    (greatest_of (AtMembers f r s) _ _ (at r.hi s.lo (hi_in r o) (lo_in s p)) (at r.hi s.hi (hi_in r o) (hi_in s p)))
+  -- so the ends of the corners are results of members
+  pub corners_lo : AtMembers f r s (corners f r s).lo
+  corners_lo = one_of_four int_min least_of
+
+  pub corners_hi : AtMembers f r s (corners f r s).hi
+  corners_hi = one_of_four int_max greatest_of
 
 -- the range of the products is exact
 pub product_exact : (r s : Ends) → r.lo ≤ℤ r.hi → s.lo ≤ℤ s.hi → BoundsExactly checked_product r s (product_range r s)

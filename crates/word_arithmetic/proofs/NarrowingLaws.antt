@@ -1,5 +1,5 @@
 -- What is left of a range inside and outside another, and by a comparison.
-use Rattle.std.proofs.Common.{◌≡◌, ◌↔◌, Bool, true, false, not, cond, refl, sym, subst, ap, ◌∙◌, arith, IsTrue, ℤ, pos, ◌+ℤ◌, ◌-ℤ◌, ◌≤ℤ◌, ◌<ℤ◌, int_le, int_lt, FitsSigned, to_z, of_z}
+use Rattle.std.proofs.Common.{◌≡◌, ◌↔◌, ◌⊎◌, inl, inr, Bool, true, false, not, cond, refl, sym, subst, ap, ◌∙◌, arith, IsTrue, ℤ, pos, ◌+ℤ◌, ◌-ℤ◌, ◌≤ℤ◌, ◌<ℤ◌, int_le, int_lt, FitsSigned, to_z, of_z}
 use Rattle.std.specs.Int.{w32, int_min, int_max}
 use Rattle.std.specs.Ordering.{int_eq}
 use Rattle.std.proofs.lemmas.Int.{ints, clamps, by_lt_z, to_z-of_z}
@@ -84,44 +84,62 @@ beyond_hi k v h n = by_lt_z k.hi v (λ p. p) (λ p. absurd (n (record { from_lo 
 beyond_lo : (k : Ends) (v : ℤ) → v ≤ℤ k.hi → (InRange k v → ⊥) → v <ℤ k.lo
 beyond_lo k v h n = by_lt_z v k.lo (λ p. p) (λ p. absurd (n (record { from_lo = p; to_hi = h })))
 
+-- a part of the range is what is left if it lies outside the other, and each number of the range lies in one of them
+part_left : (r k part : Ends) → part.lo ≤ℤ part.hi
+    → ((v : ℤ) → InRange part v → InRange r v × (InRange k v → ⊥))
+    → ((v : ℤ) → InRange r v → InRange k v ⊎ InRange part v)
+    → IsLeft (λ v. InRange k v → ⊥) r part
+part_left r k part o outside either = record {
+  ordered = o;
+  members = λ v. (outside v, λ p. elim (either v p.0) [ inl q ↦ absurd (p.1 q) | inr q ↦ q ]);
+}
+
+-- the other range holds one end of this one: a part is left after it, or before it
+data HoldsOneEnd (r k : Ends) : Ends → Type 0 where
+  after : k.lo ≤ℤ r.lo → r.lo ≤ℤ k.hi → k.hi <ℤ r.hi → HoldsOneEnd r k (record { lo = k.hi +ℤ pos 1; hi = r.hi })
+  before : r.lo <ℤ k.lo → k.lo ≤ℤ r.hi → r.hi ≤ℤ k.hi → HoldsOneEnd r k (record { lo = r.lo; hi = k.lo -ℤ pos 1 })
+
+-- that part is what is left
+one_end_left : (r k part : Ends) → HoldsOneEnd r k part → IsLeft (λ v. InRange k v → ⊥) r part
+one_end_left r k part (after low high end) =
+    part_left r k part (omega (arith, ints))
+    (λ v p. let a = p.from_lo in let b = p.to_hi in
+    (record { from_lo = omega (arith, ints); to_hi = b }, λ q. let d = q.to_hi in omega (arith, ints)))
+    (λ v p. let a = p.from_lo in let b = p.to_hi in by_lt_z k.hi v
+    (λ h. inr (record { from_lo = omega (arith, ints); to_hi = b }))
+    (λ h. inl (record { from_lo = omega (arith, ints); to_hi = h })))
+one_end_left r k part (before end low high) =
+    part_left r k part (omega (arith, ints))
+    (λ v p. let a = p.from_lo in let b = p.to_hi in
+    (record { from_lo = a; to_hi = omega (arith, ints) }, λ q. let d = q.from_lo in omega (arith, ints)))
+    (λ v p. let a = p.from_lo in let b = p.to_hi in by_lt_z v k.lo
+    (λ h. inr (record { from_lo = a; to_hi = omega (arith, ints) }))
+    (λ h. inl (record { from_lo = h; to_hi = omega (arith, ints) })))
+
 module _ (r k : Ends) (o : r.lo ≤ℤ r.hi) where
+  -- the other range ends before this one, if it holds the lower end and not the upper one
+  pub ends_before : in_range k r.lo ≡ true → in_range k r.hi ≡ false → k.hi <ℤ r.hi
+  ends_before t u =
+      let low = (in_range_out k r.lo t).from_lo in
+      beyond_hi k r.hi (omega (arith, ints)) (not_in_range k r.hi u)
+
+  -- it begins after this one, if it holds the upper end and not the lower one
+  pub begins_after : in_range k r.lo ≡ false → in_range k r.hi ≡ true → r.lo <ℤ k.lo
+  begins_after t u =
+      let high = (in_range_out k r.hi u).to_hi in
+      beyond_lo k r.lo (omega (arith, ints)) (not_in_range k r.lo t)
+
   -- the lower end is removed
-  pub upper_left : in_range k r.lo ≡ true → in_range k r.hi ≡ false
+  upper_left : in_range k r.lo ≡ true → in_range k r.hi ≡ false
       → IsLeft (λ v. InRange k v → ⊥) r (record { lo = k.hi +ℤ pos 1; hi = r.hi })
   upper_left t u =
-      let m = in_range_out k r.lo t in
-      let n = not_in_range k r.hi u in
-      let low = m.from_lo in
-      let high = m.to_hi in
-      let end = beyond_hi k r.hi (omega (arith, ints)) n in
-      record {
-        ordered = omega (arith, ints);
-        members = λ v. (
-          (λ p. let a = p.from_lo in let b = p.to_hi in
-              (record { from_lo = omega (arith, ints); to_hi = b }, λ q. let d = q.to_hi in omega (arith, ints))),
-          (λ p. let a = p.0.from_lo in let b = beyond_hi k v (omega (arith, ints)) p.1 in
-              record { from_lo = omega (arith, ints); to_hi = p.0.to_hi }),
-        );
-      }
+      let m = in_range_out k r.lo t in one_end_left r k _ (after m.from_lo m.to_hi (ends_before t u))
 
   -- the upper end is removed
-  pub lower_left : in_range k r.lo ≡ false → in_range k r.hi ≡ true
+  lower_left : in_range k r.lo ≡ false → in_range k r.hi ≡ true
       → IsLeft (λ v. InRange k v → ⊥) r (record { lo = r.lo; hi = k.lo -ℤ pos 1 })
   lower_left t u =
-      let n = not_in_range k r.lo t in
-      let m = in_range_out k r.hi u in
-      let low = m.from_lo in
-      let high = m.to_hi in
-      let end = beyond_lo k r.lo (omega (arith, ints)) n in
-      record {
-        ordered = omega (arith, ints);
-        members = λ v. (
-          (λ p. let a = p.from_lo in let b = p.to_hi in
-              (record { from_lo = a; to_hi = omega (arith, ints) }, λ q. let d = q.from_lo in omega (arith, ints))),
-          (λ p. let a = p.0.to_hi in let b = beyond_lo k v (omega (arith, ints)) p.1 in
-              record { from_lo = p.0.from_lo; to_hi = omega (arith, ints) }),
-        );
-      }
+      let m = in_range_out k r.hi u in one_end_left r k _ (before (begins_after t u) m.from_lo m.to_hi)
 
   -- both ends are removed, and all between them
   none_left : InRange k r.lo → InRange k r.hi → (l : Ends) → IsLeft (λ v. InRange k v → ⊥) r l → r ≡ l
@@ -231,27 +249,26 @@ module _ (r : Ends) (w : IsRange r) (c : ℤ) where
       not-true-from true n = absurd (n refl)
       not-true-from false n = refl
 
+  -- the members of another range are kept, if a fact says the same of the members of this one
+  kept : (P : ℤ → Type 0) (other : Ends) → ((v : ℤ) → InRange r v → InRange other v ↔ P v)
+      → Narrows P r (inside r other)
+  kept P other same = same_narrows (λ v. InRange other v) P r (inside r other) same (inside_narrows r other)
+
+  -- or removed, if it says the contrary
+  removed : (P : ℤ → Type 0) (other : Ends) → ((v : ℤ) → InRange r v → (InRange other v → ⊥) ↔ P v)
+      → Narrows P r (outside r other)
+  removed P other same =
+      same_narrows (λ v. InRange other v → ⊥) P r (outside r other) same (outside_narrows r other w.ordered)
+
   -- the rule of each comparison keeps what is left
   pub narrowed_narrows : (comparison : Comparison)
       → Narrows (λ v. IsTrue (compares comparison v c)) r (narrowed comparison c r)
-  narrowed_narrows Equal =
-      same_narrows (λ v. InRange (constant c) v) (λ v. IsTrue (int_eq v c)) r (inside r (constant c))
-      (λ v m. equal_is c v) (inside_narrows r (constant c))
-  narrowed_narrows NotEqual =
-      same_narrows (λ v. InRange (constant c) v → ⊥) (λ v. IsTrue (not (int_eq v c))) r (outside r (constant c))
-      (λ v m. differs_is v) (outside_narrows r (constant c) w.ordered)
-  narrowed_narrows Less =
-      same_narrows (λ v. InRange (at_least c) v → ⊥) (λ v. IsTrue (int_lt v c)) r (outside r (at_least c)) below_is
-      (outside_narrows r (at_least c) w.ordered)
-  narrowed_narrows LessOrEqual =
-      same_narrows (λ v. InRange (at_most c) v) (λ v. IsTrue (int_le v c)) r (inside r (at_most c)) upto_is
-      (inside_narrows r (at_most c))
-  narrowed_narrows Greater =
-      same_narrows (λ v. InRange (at_most c) v → ⊥) (λ v. IsTrue (int_lt c v)) r (outside r (at_most c)) beyond_is
-      (outside_narrows r (at_most c) w.ordered)
-  narrowed_narrows GreaterOrEqual =
-      same_narrows (λ v. InRange (at_least c) v) (λ v. IsTrue (int_le c v)) r (inside r (at_least c)) from_is
-      (inside_narrows r (at_least c))
+  narrowed_narrows Equal = kept (λ v. IsTrue (int_eq v c)) (constant c) (λ v m. equal_is c v)
+  narrowed_narrows NotEqual = removed (λ v. IsTrue (not (int_eq v c))) (constant c) (λ v m. differs_is v)
+  narrowed_narrows Less = removed (λ v. IsTrue (int_lt v c)) (at_least c) below_is
+  narrowed_narrows LessOrEqual = kept (λ v. IsTrue (int_le v c)) (at_most c) upto_is
+  narrowed_narrows Greater = removed (λ v. IsTrue (int_lt c v)) (at_most c) beyond_is
+  narrowed_narrows GreaterOrEqual = kept (λ v. IsTrue (int_le c v)) (at_least c) from_is
 
 -- ---- what the code computes, read back
 

@@ -11,8 +11,6 @@ mod laws;
 mod long;
 mod modular;
 mod ranges;
-#[cfg(test)]
-mod tests;
 mod unary;
 
 pub use binary::Binary;

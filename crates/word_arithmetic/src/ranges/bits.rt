@@ -1,10 +1,11 @@
 //! The ranges of results of operations on bits.
 ghost use Rattle.std.specs.Prelude.{◌≡◌, ℤ, pos, ◌≤ℤ◌, ◌^◌, ◌*ℤ◌, ◌&&◌, unsigned_abs};
+ghost use Rattle.std.specs.Int.{int_max};
 ghost use Rattle.word_arithmetic.specs.Word.{word_and, word_or, word_xor, word_not, shifted_left, shifted_right};
 ghost use Rattle.word_arithmetic.specs.Range.{ends_of, InRange, Holds, is_constant, is_not_negative, zero_to, bits_range, all_ones, not_range, and_range, or_range, xor_range, shift_left_range, shift_right_range};
 
 use crate::ranges::Range;
-use crate::ranges::wide::fitting;
+use crate::ranges::wide::{fitting, or_full};
 
 impl Range {
     /// The range of the complements.
@@ -31,7 +32,7 @@ impl Range {
         ensures rule { ends_of result ≡ or_range (ends_of self) (ends_of other) }
         ensures members { Holds word_or (ends_of self) (ends_of other) (ends_of result) }
     {
-        self.bits(other, self.lo | other.lo, all_ones(self.hi.max(other.hi)))
+        self.either(other, self.lo | other.lo)
     }
 
     /// The range of the bits that exactly one of the words has.
@@ -39,7 +40,15 @@ impl Range {
         ensures rule { ends_of result ≡ xor_range (ends_of self) (ends_of other) }
         ensures members { Holds word_xor (ends_of self) (ends_of other) (ends_of result) }
     {
-        self.bits(other, self.lo ^ other.lo, all_ones(self.hi.max(other.hi)))
+        self.either(other, self.lo ^ other.lo)
+    }
+
+    /// The range of an operation that gives no bit which neither operand has.
+    fn either(self, other: Range, of_constants: i32) -> Range
+        ensures { (value : ℤ) → value ≡ of_constants
+            → ends_of result ≡ bits_range value (all_ones (int_max self.hi other.hi)) (ends_of self) (ends_of other) }
+    {
+        self.bits(other, of_constants, all_ones(self.hi.max(other.hi)))
     }
 
     /// The range of an operation on bits: the result of two constants, or 0 to `top` where no word is negative.
@@ -68,7 +77,7 @@ impl Range {
         if !self.is_not_negative() {
             return Range::full();
         }
-        fitting(0, scaled(self.hi, counts.hi)).unwrap_or(Range::full())
+        or_full(fitting(0, scaled(self.hi, counts.hi)))
     }
 
     /// The range of the words shifted right by the counts. It is the same for all counts.
@@ -123,7 +132,23 @@ fn scaled(word: i32, exponent: i32) -> i64
     ensures value { result ≡ word *ℤ pos (2 ^ unsigned_abs exponent) }
     ensures sign { pos 0 ≤ℤ result }
 {
-    i64::from(word) * i64::from(1u32 << exponent as u32)
+    multiplied(word, power_of_two(exponent))
+}
+
+/// A word times a factor.
+fn multiplied(word: i32, factor: u32) -> i64
+    ensures { result ≡ word *ℤ pos factor }
+{
+    i64::from(word) * i64::from(factor)
+}
+
+/// 2 to a power from 0 to 31.
+fn power_of_two(exponent: i32) -> u32
+    requires from_zero { pos 0 ≤ℤ exponent }
+    requires below_32 { exponent ≤ℤ pos 31 }
+    ensures { result ≡ 2 ^ unsigned_abs exponent }
+{
+    1 << exponent as u32
 }
 
 /// The word with ones from the place of this word's highest one down.

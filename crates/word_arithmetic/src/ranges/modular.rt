@@ -4,6 +4,7 @@ ghost use Rattle.word_arithmetic.specs.Word.{word_sum, word_difference, word_pro
 ghost use Rattle.word_arithmetic.specs.Range.{ends_of, Holds, word_sum_range, word_difference_range, word_product_range};
 
 use crate::ranges::Range;
+use crate::ranges::wide::or_full;
 
 impl Range {
     /// The range of the sums modulo 2^32.
@@ -11,7 +12,7 @@ impl Range {
         ensures rule { ends_of result ≡ word_sum_range (ends_of self) (ends_of other) }
         ensures members { Holds word_sum (ends_of self) (ends_of other) (ends_of result) }
     {
-        self.add(other).unwrap_or(Range::full())
+        or_full(self.add(other))
     }
 
     /// The range of the differences modulo 2^32, this range's words less the other's.
@@ -19,7 +20,7 @@ impl Range {
         ensures rule { ends_of result ≡ word_difference_range (ends_of self) (ends_of other) }
         ensures members { Holds word_difference (ends_of self) (ends_of other) (ends_of result) }
     {
-        self.sub(other).unwrap_or(Range::full())
+        or_full(self.sub(other))
     }
 
     /// The range of the products modulo 2^32.
@@ -27,6 +28,6 @@ impl Range {
         ensures rule { ends_of result ≡ word_product_range (ends_of self) (ends_of other) }
         ensures members { Holds word_product (ends_of self) (ends_of other) (ends_of result) }
     {
-        self.mul(other).unwrap_or(Range::full())
+        or_full(self.mul(other))
     }
 }

@@ -25,14 +25,25 @@ impl Range {
         ensures rule { ends_of result ≡ outside (ends_of self) (ends_of removed) }
         ensures narrows { Narrows (λ v. ¬ InRange (ends_of removed) v) (ends_of self) (ends_of result) }
     {
-        match (removed.contains(self.lo), removed.contains(self.hi)) {
-            (true, false) => Range::new(removed.hi + 1, self.hi),
-            (false, true) => Range::new(self.lo, removed.lo - 1),
-            // Nothing is left.
-            (true, true) => self,
-            // Two ranges are left, or all of this one.
-            (false, false) => self,
+        self.part_outside(removed)
+    }
+
+    /// The same by its rule alone: the part after the other range, or the part before it.
+    fn part_outside(self, removed: Range) -> Range
+        ensures { ends_of result ≡ outside (ends_of self) (ends_of removed) }
+    {
+        if removed.contains(self.lo) {
+            if removed.contains(self.hi) {
+                // Nothing is left.
+                return self;
+            }
+            return Range::new(removed.hi + 1, self.hi);
         }
+        if removed.contains(self.hi) {
+            return Range::new(self.lo, removed.lo - 1);
+        }
+        // Two ranges are left, or all of this one.
+        self
     }
 
     /// What is left of the range by a comparison with a constant, where that is one range; else the range itself.
@@ -40,6 +51,13 @@ impl Range {
         ensures rule { ends_of result ≡ narrowed comparison constant (ends_of self) }
         ensures narrows { Narrows (λ v. IsTrue (compares comparison v constant))
             (ends_of self) (ends_of result) }
+    {
+        self.narrowed(comparison, constant)
+    }
+
+    /// The same by its rule alone, a line for each comparison.
+    fn narrowed(self, comparison: Comparison, constant: i32) -> Range
+        ensures { ends_of result ≡ narrowed comparison constant (ends_of self) }
     {
         match comparison {
             Comparison::Equal => self.inside(Range::constant(constant)),

@@ -1,7 +1,8 @@
 //! Ends that may be no words, before it is seen whether they fit.
-ghost use Rattle.std.specs.Prelude.{◌≡◌, ◌≤ℤ◌, ℤ};
+ghost use Rattle.std.specs.Prelude.{◌≡◌, ◌≤ℤ◌, ℤ, unwrap_or};
+ghost use Rattle.std.specs.Int.{int_min, int_max};
 ghost use Rattle.std.specs.Option.{option_map};
-ghost use Rattle.word_arithmetic.specs.Range.{Ends, ends_of, constant, fitting, hull};
+ghost use Rattle.word_arithmetic.specs.Range.{Ends, ends_of, constant, fitting, full, hull};
 
 use crate::ranges::Range;
 
@@ -23,7 +24,28 @@ pub(super) fn corners(lo_lo: i64, lo_hi: i64, hi_lo: i64, hi_hi: i64) -> Option<
         ≡ fitting (hull (hull (constant a) (constant b)) (hull (constant c) (constant d))) }
 {
     fitting(
-        lo_lo.min(lo_hi).min(hi_lo.min(hi_hi)),
-        lo_lo.max(lo_hi).max(hi_lo.max(hi_hi)),
+        least(lo_lo, lo_hi, hi_lo, hi_hi),
+        greatest(lo_lo, lo_hi, hi_lo, hi_hi),
     )
+}
+
+/// The least of four results.
+fn least(lo_lo: i64, lo_hi: i64, hi_lo: i64, hi_hi: i64) -> i64
+    ensures { result ≡ int_min (int_min lo_lo lo_hi) (int_min hi_lo hi_hi) }
+{
+    lo_lo.min(lo_hi).min(hi_lo.min(hi_hi))
+}
+
+/// The greatest of four results.
+fn greatest(lo_lo: i64, lo_hi: i64, hi_lo: i64, hi_hi: i64) -> i64
+    ensures { result ≡ int_max (int_max lo_lo lo_hi) (int_max hi_lo hi_hi) }
+{
+    lo_lo.max(lo_hi).max(hi_lo.max(hi_hi))
+}
+
+/// The range, or all words where there is none.
+pub(super) fn or_full(range: Option<Range>) -> Range
+    ensures { ends_of result ≡ unwrap_or (option_map ends_of range) full }
+{
+    range.unwrap_or(Range::full())
 }

@@ -13,18 +13,23 @@ returns-then-index-bytes c =
 pub returns-in-Some : goal.returns-in-Some
 returns-in-Some c =
     let byte = get_or c.args.bytes.now c.loop-index.index 0 in
-    let h = ends_with c.args.bytes.now _ c.loop-index.index byte (omega arith) (omega arith) refl c.loop-index.invariant.reads c.in-Some.fun in
+    let h = ends_with c.args.bytes.now _ c.loop-index.index byte (omega arith) (omega arith) refl
+    c.loop-index.invariant.reads c.in-Some.fun in
     let fits : FitsSigned w32 c.with_nibble-operand.result = search rules in
     rw (to_z-of_z w32 c.with_nibble-operand.result fits, c.with_nibble-operand.ensures) (h (sym c.in-Some.ensures))
 
 pub loop-index-preserved : goal.loop-index-preserved
 loop-index-preserved c =
     let byte = get_or c.args.bytes.now c.loop-index.index 0 in
-    let h = goes_on c.args.bytes.now _ c.loop-index.index byte (omega arith) (omega arith) refl c.loop-index.invariant.reads in
+    let h = goes_on c.args.bytes.now _ c.loop-index.index byte (omega arith) (omega arith) refl
+    c.loop-index.invariant.reads in
     let operand_fits : FitsSigned w32 c.with_nibble-operand.result = search rules in
     let register_fits : FitsSigned w32 c.after_prefix-register.result = search rules in
-    let value = rw (to_z-of_z w32 c.with_nibble-operand.result operand_fits, c.with_nibble-operand.ensures) at c.after_prefix-register.ensures.value in
-    rw (to_z-of_z w32 c.after_prefix-register.result register_fits) (record { clear = c.after_prefix-register.ensures.register; reads = rw value (h (sym c.in_default.ensures)) })
+    let value = rw (to_z-of_z w32 c.with_nibble-operand.result operand_fits, c.with_nibble-operand.ensures)
+    at c.after_prefix-register.ensures.value in
+    rw (to_z-of_z w32 c.after_prefix-register.result register_fits)
+    (record { clear = c.after_prefix-register.ensures.register; reads = rw value (h (sym c.in_default.ensures)) })
 
 pub returns : goal.returns
-returns c = ends c.args.bytes.now _ (let last : c.loop-index.index ≡ 8 = omega arith in rw last at c.loop-index.invariant.reads)
+returns c =
+    ends c.args.bytes.now _ (let last : c.loop-index.index ≡ 8 = omega arith in rw last at c.loop-index.invariant.reads)

@@ -1,6 +1,6 @@
-use Rattle.std.proofs.Common.{pos, ◌*ℤ◌, ◌^◌, rules, w32, w64, refl, sym, ◌∙◌, ℤ, unsigned_abs, unwrap_or}
+use Rattle.std.proofs.Common.{pos, ◌*ℤ◌, ◌^◌, rules, w32, w64, refl, ap, sym, ◌∙◌, ℤ, unsigned_abs, unwrap_or}
 use Rattle.word_arithmetic.specs.Range.{ends_of, full, zero_to, fitting, is_not_negative}
-use Rattle.word_arithmetic.proofs.EndsLaws.{by_rule, is_range, cond_true, unwrap_or_ends, passed_on}
+use Rattle.word_arithmetic.proofs.EndsLaws.{by_rule, is_range, cond_true, passed_on}
 use Rattle.word_arithmetic.proofs.BitLaws.{shift_left_holds}
 use Rattle.word_arithmetic.proofs.ranges.Range.shift_left.Goals as goal
 
@@ -12,10 +12,9 @@ returns-clause-rule c =
     let power = λ (x y : ℤ). x *ℤ pos (2 ^ unsigned_abs y) in
     let top = passed_on w32 w64 power r.hi s.hi c.scaled.result
     (search rules) (search rules) (search rules) c.scaled.ensures.value in
-    cond_true (is_not_negative r) (unwrap_or (fitting (zero_to hi)) full) full (ends_of c.unwrap_or.result)
+    cond_true (is_not_negative r) (unwrap_or (fitting (zero_to hi)) full) full (ends_of c.or_full.result)
     (sym c.is_not_negative.ensures ∙ c.if-not-is_not_negative.false)
-    (unwrap_or_ends c.fitting.result c.full-2.result c.unwrap_or.ensures
-    (c.fitting.ensures (zero_to hi) refl top) c.full-2.ensures)
+    (c.or_full.ensures ∙ ap (λ o. unwrap_or o full) (c.fitting.ensures (zero_to hi) refl top))
 
 pub returns-clause-members : goal.returns-clause-members
 returns-clause-members c =
