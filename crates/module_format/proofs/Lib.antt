@@ -1,6 +1,7 @@
 pub mod Sizes
 pub mod Loop
 pub mod OffsetLaws
+pub mod OffsetSetLaws
 pub mod PlaceLaws
 pub mod Tools
 pub mod OrderLaws

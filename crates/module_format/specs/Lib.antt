@@ -5,6 +5,7 @@ pub mod Writable
 pub mod Contexts
 pub mod Places
 pub mod Offsets
+pub mod OffsetSet
 pub mod Facts
 pub mod Procedures
 pub mod Pars

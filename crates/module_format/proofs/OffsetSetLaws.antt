@@ -1,0 +1,60 @@
+-- Sets of code offsets as bits.
+use Rattle.std.proofs.Common.{◌≡◌, ◌≢◌, ℕ, zero, suc, ◌*◌, ◌/◌, ◌%◌, ◌^◌, ◌<◌, Bool, false, eqb, List, [], ◌∷◌, ◌++◌, length, replicate, refl, sym, ap, ◌∙◌, inl, inr, arith, bit_or, w64}
+use Rattle.std.specs.Prelude.{◌==◌, ◌||◌, slice_index, slice_set}
+use Rattle.std.specs.List.{list_any}
+use Rattle.std.proofs.Math.Bool.{or-false, or-true}
+use Rattle.std.proofs.Math.Nat.{div-add-mod}
+use Rattle.std.proofs.lemmas.Bool.{cases_eq, eq-eqb}
+use Rattle.std.proofs.lemmas.Bool.Decides.{nat_tests}
+use Rattle.std.proofs.lemmas.List.{get_or-set_same, get_or-set_other}
+use Rattle.std.proofs.lemmas.List.Folds.{list_any-append}
+use Rattle.std.proofs.lemmas.Nat.Bits.{bit_at-zero, bit_at_set_same, bit_at_set_other}
+use Rattle.module_format.specs.declared.offset_set.OffsetSet.{OffsetSet}
+use Rattle.module_format.specs.OffsetSet.{has_offset, IsSetOf}
+
+zeros : (n i : ℕ) → slice_index (replicate n 0) i ≡ 0
+zeros zero i = refl
+zeros (suc n) zero = refl
+zeros (suc n) (suc i) = zeros n i
+
+-- no offset is in a set whose words are 0
+pub none_added : (n : ℕ) (set : OffsetSet) → set.words ≡ replicate n 0 → IsSetOf set []
+none_added n set all =
+    let word : (i : ℕ) → slice_index set.words i ≡ 0 = λ i. ap (λ ws. slice_index ws i) all ∙ zeros n i in
+    record { each = λ at. rw (word (at / 64), bit_at-zero (at % 64)) refl }
+
+-- the words with the bit of one more offset
+abbrev pub with_bit : List ℕ → ℕ → List ℕ
+with_bit words at = slice_set words (at / 64) (bit_or (slice_index words (at / 64)) (1 * 2 ^ (at % 64) % 2 ^ 64))
+
+differs : (at n : ℕ) → at ≢ n → eqb at n ≡ false
+differs at n other = grind (arith, nat_tests)
+
+-- what is in a set once an offset was added
+has_added : (words : List ℕ) (at : ℕ) → at / 64 < length words → (n : ℕ)
+    → has_offset (record { words = with_bit words at }) n ≡ (has_offset (record { words = words }) n || (at == n))
+has_added words at inside n =
+    let word = slice_index words (at / 64) in
+    let below : at % 64 < 64 = omega arith in
+    elim (cases_eq (n / 64) (at / 64)) [
+      | inl here ↦ elim (cases_eq (n % 64) (at % 64)) [
+        | inl same ↦
+            let is : at ≡ n = omega (arith, div-add-mod n 64, div-add-mod at 64) in
+            let set_bit = bit_at_set_same w64 word (at % 64) below in
+            rw (here, same, get_or-set_same words (at / 64) _ 0 inside, set_bit, eq-eqb at n is) (sym (or-true _))
+        | inr other ↦
+            let apart : at ≢ n = λ e. other (ap (λ (k : ℕ). k % 64) (sym e)) in
+            let kept = bit_at_set_other w64 word (at % 64) below (n % 64) other in
+            rw (here, get_or-set_same words (at / 64) _ 0 inside, kept, differs at n apart) (sym (or-false _))
+      ]
+      | inr other ↦
+          let apart : at ≢ n = λ e. other (ap (λ (k : ℕ). k / 64) (sym e)) in
+          rw (get_or-set_other words (at / 64) (n / 64) _ 0 other, differs at n apart) (sym (or-false _))
+    ]
+
+pub one_added : (old new : OffsetSet) (at : ℕ) (offsets : List ℕ) → at / 64 < length old.words → new.words ≡ with_bit old.words at
+    → IsSetOf old offsets → IsSetOf new (offsets ++ at ∷ [])
+one_added old new at offsets inside all has =
+    let added : (n : ℕ) → has_offset new n ≡ (has_offset old n || (at == n)) = λ n. ap (λ ws. has_offset (record { words = ws }) n) all ∙ has_added old.words at inside n in
+    let before = λ (n : ℕ). list_any (λ other. other == n) offsets in
+    record { each = λ n. rw (added n, has.each n, list_any-append) (ap (λ (b : Bool). before n || b) (sym (or-false (eqb at n)))) }
