@@ -3,6 +3,7 @@ pub mod Loop
 pub mod OffsetLaws
 pub mod OffsetSetLaws
 pub mod PlaceLaws
+pub mod RowOwnerLaws
 pub mod Tools
 pub mod OrderLaws
 pub mod FieldLaws

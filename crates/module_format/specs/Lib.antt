@@ -4,6 +4,7 @@ pub mod Spelling
 pub mod Writable
 pub mod Contexts
 pub mod Places
+pub mod Owners
 pub mod Offsets
 pub mod OffsetSet
 pub mod Facts

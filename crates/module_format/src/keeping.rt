@@ -20,6 +20,7 @@ use crate::limits::{
     MAX_TABLES,
 };
 use crate::reading::{late_rows, max_code};
+use crate::row_owners::row_owners;
 use crate::tables::{Tables, Version};
 
 /// Whether there are no more bytes than a limit.
@@ -101,7 +102,8 @@ fn names_are_there(tables: &Tables) -> bool
     requires rows { RowsKeep (contents_of tables.now) }
     ensures { IsTrue result ↔ NamesAreThere (contents_of tables.now) }
 {
-    late_rows(&Contexts::of_rows(tables), 0).is_ok()
+    let owners = row_owners(tables);
+    late_rows(&Contexts::of_rows(tables, &owners), 0).is_ok()
 }
 
 /// Whether tables keep the rules of the format.

@@ -11,6 +11,7 @@ mod offset_set;
 mod offsets;
 mod places;
 mod reading;
+mod row_owners;
 mod rows;
 mod rules;
 mod stack;
