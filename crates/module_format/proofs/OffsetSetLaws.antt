@@ -18,10 +18,10 @@ zeros (suc n) zero = refl
 zeros (suc n) (suc i) = zeros n i
 
 -- no offset is in a set whose words are 0
-pub none_added : (n : ℕ) (set : OffsetSet) → set.words ≡ replicate n 0 → IsSetOf set []
-none_added n set all =
-    let word : (i : ℕ) → slice_index set.words i ≡ 0 = λ i. ap (λ ws. slice_index ws i) all ∙ zeros n i in
-    record { each = λ at. rw (word (at / 64), bit_at-zero (at % 64)) refl }
+pub none_added : (n : ℕ) (set : OffsetSet) → set.words ≡ replicate n 0 → (at : ℕ) → has_offset set at ≡ false
+none_added n set all at =
+    let word : slice_index set.words (at / 64) ≡ 0 = ap (λ ws. slice_index ws (at / 64)) all ∙ zeros n (at / 64) in
+    rw (word, bit_at-zero (at % 64)) refl
 
 -- the words with the bit of one more offset
 abbrev pub with_bit : List ℕ → ℕ → List ℕ
@@ -30,8 +30,12 @@ with_bit words at = slice_set words (at / 64) (bit_or (slice_index words (at / 6
 differs : (at n : ℕ) → at ≢ n → eqb at n ≡ false
 differs at n other = grind (arith, nat_tests)
 
+-- one number more
+any_more : (at n : ℕ) (numbers : List ℕ) → list_any (λ other. other == n) (numbers ++ at ∷ []) ≡ (list_any (λ other. other == n) numbers || (at == n))
+any_more at n numbers = rw list_any-append (ap (λ (b : Bool). list_any (λ other. other == n) numbers || b) (or-false (eqb at n)))
+
 -- what is in a set once an offset was added
-has_added : (words : List ℕ) (at : ℕ) → at / 64 < length words → (n : ℕ)
+pub has_added : (words : List ℕ) (at : ℕ) → at / 64 < length words → (n : ℕ)
     → has_offset (record { words = with_bit words at }) n ≡ (has_offset (record { words = words }) n || (at == n))
 has_added words at inside n =
     let word = slice_index words (at / 64) in
@@ -52,9 +56,7 @@ has_added words at inside n =
           rw (get_or-set_other words (at / 64) (n / 64) _ 0 other, differs at n apart) (sym (or-false _))
     ]
 
-pub one_added : (old new : OffsetSet) (at : ℕ) (offsets : List ℕ) → at / 64 < length old.words → new.words ≡ with_bit old.words at
+-- the set of one offset more
+pub one_more : (old new : OffsetSet) (at : ℕ) (offsets : List ℕ) → ((n : ℕ) → has_offset new n ≡ (has_offset old n || (at == n)))
     → IsSetOf old offsets → IsSetOf new (offsets ++ at ∷ [])
-one_added old new at offsets inside all has =
-    let added : (n : ℕ) → has_offset new n ≡ (has_offset old n || (at == n)) = λ n. ap (λ ws. has_offset (record { words = ws }) n) all ∙ has_added old.words at inside n in
-    let before = λ (n : ℕ). list_any (λ other. other == n) offsets in
-    record { each = λ n. rw (added n, has.each n, list_any-append) (ap (λ (b : Bool). before n || b) (sym (or-false (eqb at n)))) }
+one_more old new at offsets added has = record { each = λ n. rw (added n, has.each n) (sym (any_more at n offsets)) }

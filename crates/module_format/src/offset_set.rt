@@ -1,7 +1,7 @@
 //! Sets of code offsets.
 
-ghost use Rattle.std.specs.Prelude.{◌≡◌, ◌≤◌, ◌++◌, ◌∷◌, [], ℕ, List};
-ghost use Rattle.module_format.specs.OffsetSet.{has_offset, IsSetOf};
+ghost use Rattle.std.specs.Prelude.{◌≡◌, ◌≤◌, ◌==◌, ◌||◌, ℕ, false};
+ghost use Rattle.module_format.specs.OffsetSet.{has_offset};
 
 use crate::limits::MAX_LONG_CODE;
 
@@ -16,7 +16,7 @@ pub(crate) struct OffsetSet {
 
 impl OffsetSet {
     pub(crate) fn new() -> OffsetSet
-        ensures { IsSetOf result [] }
+        ensures { (at : ℕ) → has_offset result at ≡ false }
     {
         OffsetSet { words: [0; WORDS] }
     }
@@ -32,7 +32,7 @@ impl OffsetSet {
 
     pub(crate) fn add(&mut self, offset: u32)
         requires { offset ≤ MAX_LONG_CODE }
-        ensures { (offsets : List ℕ) → IsSetOf self.old offsets → IsSetOf self.new (offsets ++ offset ∷ []) }
+        ensures { (at : ℕ) → has_offset self.new at ≡ (has_offset self.old at || (offset == at)) }
     {
         self.words[(offset / u64::BITS) as usize] |= 1 << (offset % u64::BITS);
     }

@@ -1,17 +1,19 @@
 //! The entries of branches that were read.
 
-ghost use Rattle.std.specs.Prelude.{◌≡◌, ◌++◌, ◌==◌, false, [], ◌∷◌, IfOk, length};
+ghost use Rattle.std.specs.Prelude.{◌≡◌, ◌++◌, ◌==◌, [], ◌∷◌, IfOk, length};
 ghost use Rattle.std.specs.List.{list_any};
-ghost use Rattle.module_format.specs.Pars.{Marks};
+ghost use Rattle.module_format.specs.OffsetSet.{HasInCode};
 
+use crate::limits::MAX_LONG_CODE;
+use crate::offset_set::OffsetSet;
 use std::alloc::{AllocError, Global};
 
-/// Code offsets in the order in which they were added, and a mark at each of them.
+/// Code offsets in the order in which they were added, and the set of those that code can have.
 #[derive(Drop)]
 pub(crate) struct Taken {
     entries: Vec<u32>,
-    marks: Vec<bool>,
-    ghost marked: { Marks marks.items entries.items },
+    in_code: OffsetSet,
+    ghost has_entries: { HasInCode in_code entries.items },
 }
 
 impl Taken {
@@ -20,7 +22,7 @@ impl Taken {
     {
         Taken {
             entries: Vec::new(alloc),
-            marks: Vec::new(alloc),
+            in_code: OffsetSet::new(),
         }
     }
 
@@ -31,24 +33,24 @@ impl Taken {
         self.entries.len()
     }
 
+    /// Whether an offset was added. An offset that no code has is looked for one by one.
     pub(crate) fn contains(&self, offset: u32) -> bool
         ensures { result ≡ list_any (λ other. other == offset) self.now.entries.items }
     {
-        match self.marks.get(offset as usize) {
-            Some(mark) => *mark,
-            None => false,
+        if offset <= MAX_LONG_CODE {
+            self.in_code.contains(offset)
+        } else {
+            self.entries.iter().any(|entry| *entry == offset)
         }
     }
 
     pub(crate) fn add(&mut self, offset: u32) -> Result<(), AllocError>
         ensures { IfOk result (λ _. self.new.entries.items ≡ self.old.entries.items ++ offset ∷ []) }
     {
-        let place = offset as usize;
-        if place >= self.marks.len() {
-            self.marks.resize(place + 1, false)?;
-        }
         self.entries.push(offset)?;
-        self.marks[place] = true;
+        if offset <= MAX_LONG_CODE {
+            self.in_code.add(offset);
+        }
         Ok(())
     }
 }

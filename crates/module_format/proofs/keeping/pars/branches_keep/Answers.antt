@@ -5,6 +5,7 @@ use Rattle.module_format.specs.Contents.{Branch, branch_of}
 use Rattle.module_format.specs.Order.{InOrder}
 use Rattle.module_format.specs.Pars.{Before, BranchKeeps, behind_branch, entries_of}
 use Rattle.module_format.proofs.Loop.{mapped_item_at}
+use Rattle.module_format.proofs.OffsetSetLaws.{one_more}
 use Rattle.module_format.proofs.OrderLaws.{order_goes_on, order_fails, order_is_done, is_broken, is_kept, never, always}
 use Rattle.module_format.proofs.keeping.pars.branches_keep.Goals as goal
 
@@ -52,7 +53,7 @@ loop-row-preserved c entries has =
     rw (more, ← grouped) (
       order_goes_on K behind_branch Whole (map branch_of rows) i state (branch_of row) here
           (is_kept c.branch_keeps.result c.if-not-branch_keeps.false (c.branch_keeps.ensures.kept state.entries so_far.1)) so_far.0,
-      c.add.ensures state.entries so_far.1,
+      one_more c.loop-row.taken _ row.entry state.entries c.add.ensures so_far.1,
     )
 
 pub returns : goal.returns

@@ -27,7 +27,7 @@ abbrev before : ℕ → List ParRow → ℕ → Before
 before low rows i = record { low = low; entries = entries_of_rows (map par_of (take i rows)) }
 
 pub loop-row-init : goal.loop-row-init
-loop-row-init c = record { rest = (λ h. h, λ h. h); taken = c.new-taken.ensures; contexts = omega arith; few = omega arith }
+loop-row-init c = record { rest = (λ h. h, λ h. h); taken = record { each = c.new-taken.ensures }; contexts = omega arith; few = omega arith }
 
 pub returns-then-not-par_keeps : goal.returns-then-not-par_keeps
 returns-then-not-par_keeps c =
