@@ -218,7 +218,7 @@ fn gifts_keep(row: &BranchRow) -> bool
 
 /// A branch with its entry after `low`, where the entries of the branches before it are taken.
 fn branch_keeps(code_len: usize, low: u32, taken: &OffsetSet, row: &BranchRow) -> bool
-    ensures kept { (entries : List ℕ) → IsSetOf taken.now entries
+    ensures kept { (entries : List ℕ) → IsSetOf taken.now.words entries
         → IsTrue result ↔ BranchKeeps code_len (record { low = low; entries = entries }) (branch_of row.now) }
     ensures inside { IsTrue result → row.now.entry < code_len }
 {
@@ -229,10 +229,10 @@ fn branch_keeps(code_len: usize, low: u32, taken: &OffsetSet, row: &BranchRow) -
 /// The branches of a row, the first with its entry after `low`. Their entries are then taken too.
 fn branches_keep(code_len: usize, low: u32, taken: &mut OffsetSet, rows: &[BranchRow]) -> bool
     requires { code_len ≤ MAX_LONG_CODE }
-    ensures kept { (entries : List ℕ) → IsSetOf taken.old entries
+    ensures kept { (entries : List ℕ) → IsSetOf taken.old.words entries
         → IsTrue result ↔ InOrder (BranchKeeps code_len) behind_branch (record { low = low; entries = entries }) (map branch_of rows.now) }
-    ensures taken { (entries : List ℕ) → IsSetOf taken.old entries
-        → IsTrue result → IsSetOf taken.new (entries ++ entries_of (map branch_of rows.now)) }
+    ensures taken { (entries : List ℕ) → IsSetOf taken.old.words entries
+        → IsTrue result → IsSetOf taken.new.words (entries ++ entries_of (map branch_of rows.now)) }
 {
     let mut above = low;
     for row in rows {
@@ -255,10 +255,10 @@ fn par_keeps(
     row: &ParRow,
 ) -> bool
     requires { code_len ≤ MAX_LONG_CODE }
-    ensures kept { (own : ℕ) (entries : List ℕ) → contexts ≡ own + length entries → IsSetOf taken.old entries
+    ensures kept { (own : ℕ) (entries : List ℕ) → contexts ≡ own + length entries → IsSetOf taken.old.words entries
         → IsTrue result ↔ ParKeeps own code_len (record { low = low; entries = entries }) (par_of row.now) }
-    ensures taken { (entries : List ℕ) → IsSetOf taken.old entries
-        → IsTrue result → IsSetOf taken.new (entries ++ entries_of (map branch_of row.now.branches.items)) }
+    ensures taken { (entries : List ℕ) → IsSetOf taken.old.words entries
+        → IsTrue result → IsSetOf taken.new.words (entries ++ entries_of (map branch_of row.now.branches.items)) }
 {
     let (_depth, _block) = (row.depth, row.block);
     usize::from(row.context) < contexts

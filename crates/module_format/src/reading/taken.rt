@@ -1,19 +1,18 @@
 //! The entries of branches that were read.
 
-ghost use Rattle.std.specs.Prelude.{◌≡◌, ◌++◌, ◌==◌, [], ◌∷◌, IfOk, length};
+ghost use Rattle.std.specs.Prelude.{◌≡◌, ◌<◌, ◌/◌, ◌++◌, ◌==◌, [], ◌∷◌, IfOk, length};
 ghost use Rattle.std.specs.List.{list_any};
-ghost use Rattle.module_format.specs.OffsetSet.{HasInCode};
+ghost use Rattle.module_format.specs.OffsetSet.{IsSetOf};
 
-use crate::limits::MAX_LONG_CODE;
-use crate::offset_set::OffsetSet;
+use crate::offset_set::{has_offset, mask_of, word_of};
 use std::alloc::{AllocError, Global};
 
-/// Code offsets in the order in which they were added, and the set of those that code can have.
+/// Code offsets in the order in which they were added, and a bit for each of them.
 #[derive(Drop)]
 pub(crate) struct Taken {
     entries: Vec<u32>,
-    in_code: OffsetSet,
-    ghost has_entries: { HasInCode in_code entries.items },
+    words: Vec<u64>,
+    ghost has_entries: { IsSetOf words.items entries.items },
 }
 
 impl Taken {
@@ -22,7 +21,7 @@ impl Taken {
     {
         Taken {
             entries: Vec::new(alloc),
-            in_code: OffsetSet::new(),
+            words: Vec::new(alloc),
         }
     }
 
@@ -33,24 +32,29 @@ impl Taken {
         self.entries.len()
     }
 
-    /// Whether an offset was added. An offset that no code has is looked for one by one.
     pub(crate) fn contains(&self, offset: u32) -> bool
         ensures { result ≡ list_any (λ other. other == offset) self.now.entries.items }
     {
-        if offset <= MAX_LONG_CODE {
-            self.in_code.contains(offset)
-        } else {
-            self.entries.iter().any(|entry| *entry == offset)
+        has_offset(&self.words, offset)
+    }
+
+    /// Makes a word for an offset's bit.
+    fn reserve(&mut self, offset: u32) -> Result<(), AllocError>
+        ensures { IfOk result (λ _. (offset / 64 < length self.new.words.items) × (self.new.entries.items ≡ self.old.entries.items)) }
+    {
+        let word = word_of(offset);
+        if word >= self.words.len() {
+            self.words.resize(word + 1, 0)?;
         }
+        Ok(())
     }
 
     pub(crate) fn add(&mut self, offset: u32) -> Result<(), AllocError>
         ensures { IfOk result (λ _. self.new.entries.items ≡ self.old.entries.items ++ offset ∷ []) }
     {
+        self.reserve(offset)?;
         self.entries.push(offset)?;
-        if offset <= MAX_LONG_CODE {
-            self.in_code.add(offset);
-        }
+        self.words[word_of(offset)] |= mask_of(offset);
         Ok(())
     }
 }

@@ -53,7 +53,7 @@ loop-row-preserved c entries has =
     rw (more, ← grouped) (
       order_goes_on K behind_branch Whole (map branch_of rows) i state (branch_of row) here
           (is_kept c.branch_keeps.result c.if-not-branch_keeps.false (c.branch_keeps.ensures.kept state.entries so_far.1)) so_far.0,
-      one_more c.loop-row.taken _ row.entry state.entries c.add.ensures so_far.1,
+      one_more c.loop-row.taken.words _ row.entry state.entries c.add.ensures so_far.1,
     )
 
 pub returns : goal.returns

@@ -6,9 +6,9 @@ use Rattle.module_format.specs.Pars.{BranchKeeps, behind_branch, entries_of}
 use Rattle.module_format.proofs.keeping.pars.branches_keep.Given as goal
 
 abbrev pub invariant-loop-row : goal.invariant-loop-row
-invariant-loop-row l = (entries : List ℕ) → IsSetOf l.fn.taken entries →
+invariant-loop-row l = (entries : List ℕ) → IsSetOf l.fn.taken.words entries →
     let rows = map branch_of l.rows in
     let taken = entries ++ entries_of (map branch_of (take l.row-index l.rows)) in
     (InOrder (BranchKeeps l.code_len) behind_branch (record { low = l.low; entries = entries }) rows
     ↔ InOrder (BranchKeeps l.code_len) behind_branch (record { low = l.above; entries = taken }) (drop l.row-index rows))
-    × IsSetOf l.taken taken
+    × IsSetOf l.taken.words taken
