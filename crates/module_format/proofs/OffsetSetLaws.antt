@@ -30,8 +30,10 @@ differs : (at n : ℕ) → at ≢ n → eqb at n ≡ false
 differs at n other = grind (arith, nat_tests)
 
 -- one number more
-any_more : (at n : ℕ) (numbers : List ℕ) → list_any (λ other. other == n) (numbers ++ at ∷ []) ≡ (list_any (λ other. other == n) numbers || (at == n))
-any_more at n numbers = rw list_any-append (ap (λ (b : Bool). list_any (λ other. other == n) numbers || b) (or-false (eqb at n)))
+any_more : (at n : ℕ) (numbers : List ℕ)
+    → list_any (λ other. other == n) (numbers ++ at ∷ []) ≡ (list_any (λ other. other == n) numbers || (at == n))
+any_more at n numbers =
+    rw list_any-append (ap (λ (b : Bool). list_any (λ other. other == n) numbers || b) (or-false (eqb at n)))
 
 -- what is in a set once an offset was added
 pub has_added : (words : List ℕ) (at : ℕ) → at / 64 < length words → (n : ℕ)
@@ -44,11 +46,14 @@ has_added words at inside n =
       | inl here ↦ elim (cases_eq (n % 64) (at % 64)) [
         | inl same ↦
             let is : at ≡ n = omega (arith, div-add-mod n 64, div-add-mod at 64) in
-            let set_bit : bit_at (bit_or word (2 ^ (at % 64))) (at % 64) ≡ 1 = ap (λ m. bit_at (bit_or word m) (at % 64)) mask ∙ bit_at_set_same w64 word (at % 64) below in
+            let set_bit : bit_at (bit_or word (2 ^ (at % 64))) (at % 64) ≡ 1 =
+            ap (λ m. bit_at (bit_or word m) (at % 64)) mask ∙ bit_at_set_same w64 word (at % 64) below in
             rw (here, same, get_or-set_same words (at / 64) _ 0 inside, set_bit, eq-eqb at n is) (sym (or-true _))
         | inr other ↦
             let apart : at ≢ n = λ e. other (ap (λ (k : ℕ). k % 64) (sym e)) in
-            let kept : bit_at (bit_or word (2 ^ (at % 64))) (n % 64) ≡ bit_at word (n % 64) = ap (λ m. bit_at (bit_or word m) (n % 64)) mask ∙ bit_at_set_other w64 word (at % 64) below (n % 64) other in
+            let kept : bit_at (bit_or word (2 ^ (at % 64))) (n % 64) ≡ bit_at word (n % 64) =
+            ap (λ m. bit_at (bit_or word m) (n % 64)) mask
+            ∙ bit_at_set_other w64 word (at % 64) below (n % 64) other in
             rw (here, get_or-set_same words (at / 64) _ 0 inside, kept, differs at n apart) (sym (or-false _))
       ]
       | inr other ↦
@@ -57,7 +62,8 @@ has_added words at inside n =
     ]
 
 -- the set of one offset more
-pub one_more : (old new : List ℕ) (at : ℕ) (offsets : List ℕ) → ((n : ℕ) → has_offset new n ≡ (has_offset old n || (at == n)))
+pub one_more : (old new : List ℕ) (at : ℕ) (offsets : List ℕ)
+    → ((n : ℕ) → has_offset new n ≡ (has_offset old n || (at == n)))
     → IsSetOf old offsets → IsSetOf new (offsets ++ at ∷ [])
 one_more old new at offsets added has = record { each = λ n. rw (added n, has.each n) (sym (any_more at n offsets)) }
 
@@ -67,5 +73,6 @@ padded [] n i = zeros n i
 padded (w ∷ words) n zero = refl
 padded (w ∷ words) n (suc i) = padded words n i
 
-pub still_set : (words : List ℕ) (n : ℕ) (offsets : List ℕ) → IsSetOf words offsets → IsSetOf (words ++ replicate n 0) offsets
+pub still_set : (words : List ℕ) (n : ℕ) (offsets : List ℕ) → IsSetOf words offsets
+    → IsSetOf (words ++ replicate n 0) offsets
 still_set words n offsets has = record { each = λ at. rw (padded words n (at / 64)) (has.each at) }

@@ -33,7 +33,8 @@ rows_end_all c k is = ap (λ (rows : List Par). first_branch c + branch_count ro
 
 -- ---- the row of a context
 
-pub ends_rise : (c : Contents) (count : ℕ) (rows : List RowOwner) → AreRowOwners c count rows → IsNonDecreasingBy (λ (o : RowOwner). o.end) rows
+pub ends_rise : (c : Contents) (count : ℕ) (rows : List RowOwner) → AreRowOwners c count rows
+    → IsNonDecreasingBy (λ (o : RowOwner). o.end) rows
 ends_rise c count rows h i j d le lt =
     omega (arith, (h.each i d (omega arith)).end, (h.each j d lt).end, count_rises (i + 1) (j + 1) c.pars (omega arith))
 
@@ -64,11 +65,13 @@ module _ (c : Contents) (count : ℕ) (rows : List RowOwner) (h : AreRowOwners c
 -- ---- one row more
 
 -- the context of a row is there before its branches are
-pub context_there : (c : Contents) (k : ℕ) (row : Par) → RowsKeep c → slice_get c.pars k ≡ Some row → row.context < rows_end c k
+pub context_there : (c : Contents) (k : ℕ) (row : Par) → RowsKeep c → slice_get c.pars k ≡ Some row
+    → row.context < rows_end c k
 context_there c k row keeps is =
     omega (arith, context_before (first_branch c) (length c.code) no_branches c.pars k row keeps.pars is)
 
-is_row_owner : (c : Contents) (k : ℕ) (row : Par) (o : RowOwner) → RowsKeep c → slice_get c.pars k ≡ Some row → o.end ≡ rows_end c k + length row.branches
+is_row_owner : (c : Contents) (k : ℕ) (row : Par) (o : RowOwner) → RowsKeep c → slice_get c.pars k ≡ Some row
+    → o.end ≡ rows_end c k + length row.branches
     → o.owner ≡ owner (first_branch c) c.pars row.context → IsRowOwner c k o
 is_row_owner c k row o keeps is end owns =
     let count = count_more c.pars k row is in
@@ -77,10 +80,12 @@ is_row_owner c k row o keeps is end owns =
       owner = λ n low high.
           let b = n - rows_end c k in
           let there : n ≡ first_branch c + (branch_count (take k c.pars) + b) = omega arith in
-          rw there (owner_of_branch (first_branch c) c.pars k b row is (omega arith) (context_there c k row keeps is) ∙ sym owns);
+          rw there (owner_of_branch (first_branch c) c.pars k b row is (omega arith)
+          (context_there c k row keeps is) ∙ sym owns);
     }
 
-pub more_row_owners : (c : Contents) (k : ℕ) (row : Par) (rows : List RowOwner) (o : RowOwner) → RowsKeep c → slice_get c.pars k ≡ Some row
+pub more_row_owners : (c : Contents) (k : ℕ) (row : Par) (rows : List RowOwner) (o : RowOwner) → RowsKeep c
+    → slice_get c.pars k ≡ Some row
     → o.end ≡ rows_end c k + length row.branches → o.owner ≡ owner (first_branch c) c.pars row.context
     → AreRowOwners c k rows → AreRowOwners c (k + 1) (rows ++ o ∷ [])
 more_row_owners c k row rows o keeps is end owns h =
@@ -90,9 +95,11 @@ more_row_owners c k row rows o keeps is end owns h =
     record {
       many = omega arith;
       each = λ i d lt. elim (cases_lt i (length rows)) [
-        | inl less ↦ subst (λ (p : RowOwner). IsRowOwner c i p) (sym (get_or_append_left rows (o ∷ []) d i less)) (h.each i d less)
+        | inl less ↦ subst (λ (p : RowOwner). IsRowOwner c i p) (sym (get_or_append_left rows (o ∷ []) d i less))
+            (h.each i d less)
         | inr ge ↦
             let at_end : i ≡ length rows = omega arith in
-            rw at_end (subst (λ (p : RowOwner). IsRowOwner c (length rows) p) (sym (get_or_push rows o d (length rows) refl)) (rw count here))
+            rw at_end (subst (λ (p : RowOwner). IsRowOwner c (length rows) p)
+            (sym (get_or_push rows o d (length rows) refl)) (rw count here))
       ];
     }

@@ -2,7 +2,13 @@
 
 ghost use Rattle.std.specs.Prelude.{◌≡◌, option_map};
 ghost use Rattle.module_format.specs.Contents.{procedure_of, contents_of};
-ghost use Rattle.module_format.specs.Contexts.{root_context, procedure_context, procedure_at, own_context, own_parameters};
+ghost use Rattle.module_format.specs.Contexts.{
+  root_context,
+  procedure_context,
+  procedure_at,
+  own_context,
+  own_parameters,
+};
 
 use crate::places::{Place, owner_of};
 use crate::row_owners::{RowOwner, row_owner_of, rows_end};

@@ -155,7 +155,8 @@ impl Rule for LabelRule<'_> {
 
 pub(crate) fn labels_keep(code_len: usize, procedures: &[ProcedureRow], rows: &[LabelRow]) -> bool
     requires { EntriesRise procedures.now }
-    ensures { IsTrue result ↔ InOrder (LabelKeeps code_len (map procedure_of procedures.now)) behind_label 0 (map label_of rows.now) }
+    ensures { IsTrue result
+        ↔ InOrder (LabelKeeps code_len (map procedure_of procedures.now)) behind_label 0 (map label_of rows.now) }
 {
     let rule = LabelRule {
         code_len,

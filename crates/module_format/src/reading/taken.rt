@@ -40,7 +40,8 @@ impl Taken {
 
     /// Makes a word for an offset's bit.
     fn reserve(&mut self, offset: u32) -> Result<(), AllocError>
-        ensures { IfOk result (λ _. (offset / 64 < length self.new.words.items) × (self.new.entries.items ≡ self.old.entries.items)) }
+        ensures { IfOk result
+            (λ _. (offset / 64 < length self.new.words.items) × (self.new.entries.items ≡ self.old.entries.items)) }
     {
         let word = word_of(offset);
         if word >= self.words.len() {

@@ -7,7 +7,8 @@ pub of_rows-requires-clause-few : goal.of_rows-requires-clause-few
 of_rows-requires-clause-few c = few_contexts (contents_of c.args.tables.now) c.requires.limits c.requires.rows
 
 pub late_rows-requires : goal.late_rows-requires
-late_rows-requires c = rw c.of_rows.ensures (rows_in_memory (contents_of c.args.tables.now) c.requires.limits c.requires.rows)
+late_rows-requires c =
+    rw c.of_rows.ensures (rows_in_memory (contents_of c.args.tables.now) c.requires.limits c.requires.rows)
 
 pub returns : goal.returns
 returns c =

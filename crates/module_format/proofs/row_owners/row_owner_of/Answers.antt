@@ -13,7 +13,8 @@ none = record { end = 0; owner = 0 }
 pub returns-then-number-first_branch : goal.returns-then-number-first_branch
 returns-then-number-first_branch c =
     let m = contents_of c.args.tables.now in
-    sym (owner_below (first_branch m) m.pars c.args.context (rw c.first_branch.ensures at c.if-number-first_branch.true))
+    sym (owner_below (first_branch m) m.pars c.args.context
+    (rw c.first_branch.ensures at c.if-number-first_branch.true))
 
 pub bounds-rows-index : goal.bounds-rows-index
 bounds-rows-index c =
@@ -22,8 +23,11 @@ bounds-rows-index c =
     let n = c.args.context in
     let rise = ends_rise m _ rows c.requires.owners in
     let index = c.partition_point-index.result in
-    let point = IsPartitionPoint-from_clause (λ (o : RowOwner). leb o.end n) rows index c.partition_point-index.ensures.partitioned (IsPartitionedBy-leb (λ o. o.end) rows n rise) (λ a r f' k. search rules) in
-    row_there m _ rows c.requires.owners n index none point (rw c.first_branch.ensures at c.if-number-first_branch.false) c.requires.there
+    let point = IsPartitionPoint-from_clause (λ (o : RowOwner). leb o.end n) rows index
+    c.partition_point-index.ensures.partitioned (IsPartitionedBy-leb (λ o. o.end) rows n rise)
+    (λ a r f' k. search rules) in
+    row_there m _ rows c.requires.owners n index none point
+    (rw c.first_branch.ensures at c.if-number-first_branch.false) c.requires.there
 
 pub returns : goal.returns
 unfolding none
@@ -33,5 +37,8 @@ returns c =
     let n = c.args.context in
     let rise = ends_rise m _ rows c.requires.owners in
     let index = c.partition_point-index.result in
-    let point = IsPartitionPoint-from_clause (λ (o : RowOwner). leb o.end n) rows index c.partition_point-index.ensures.partitioned (IsPartitionedBy-leb (λ o. o.end) rows n rise) (λ a r f' k. search rules) in
-    sym (owner_there m _ rows c.requires.owners n index none point (rw c.first_branch.ensures at c.if-number-first_branch.false) c.requires.there)
+    let point = IsPartitionPoint-from_clause (λ (o : RowOwner). leb o.end n) rows index
+    c.partition_point-index.ensures.partitioned (IsPartitionedBy-leb (λ o. o.end) rows n rise)
+    (λ a r f' k. search rules) in
+    sym (owner_there m _ rows c.requires.owners n index none point
+    (rw c.first_branch.ensures at c.if-number-first_branch.false) c.requires.there)

@@ -14,7 +14,8 @@ row_owner_of-owner-requires c =
     let i = c.loop-row.row-index in
     let row = par_of c.row-item.result in
     let inside = rw c.deref-rows.ensures.value at c.loop-row-test.true in
-    let is : slice_get m.pars i ≡ Some row = item_there par_of c.args.tables.now.pars.items i c.row-item.result inside (rw c.deref-rows.ensures.value at c.row-item.is) in
+    let is : slice_get m.pars i ≡ Some row = item_there par_of c.args.tables.now.pars.items i c.row-item.result
+    inside (rw c.deref-rows.ensures.value at c.row-item.is) in
     let many = c.loop-row.invariant.owners.many in
     rw (c.from.ensures, c.deref.ensures.0, many)
     record { there = context_there m i row c.requires.rows is; owners = c.loop-row.invariant.owners }
@@ -25,10 +26,21 @@ overflow_add-end c =
     let i = c.loop-row.row-index in
     let row = par_of c.row-item.result in
     let inside = rw c.deref-rows.ensures.value at c.loop-row-test.true in
-    let is : slice_get m.pars i ≡ Some row = item_there par_of c.args.tables.now.pars.items i c.row-item.result inside (rw c.deref-rows.ensures.value at c.row-item.is) in
+    let is : slice_get m.pars i ≡ Some row = item_there par_of c.args.tables.now.pars.items i c.row-item.result
+    inside (rw c.deref-rows.ensures.value at c.row-item.is) in
     let count : vec_len c.row-item.result.branches ≡ length c.row-item.result.branches.items = search rules in
-    let long : length row.branches ≡ length c.row-item.result.branches.items = length-map c.row-item.result.branches.items branch_of in
-    omega (arith, c.len-end.ensures, count, long, c.loop-row.invariant.end, count_more m.pars i row is, rows_end_few m (i + 1) (few_contexts m c.requires.limits c.requires.rows))
+    let long : length row.branches ≡ length c.row-item.result.branches.items =
+    length-map c.row-item.result.branches.items branch_of in
+    omega (
+      arith,
+      c.len-end.ensures,
+      count,
+      long,
+      c.loop-row.invariant.end,
+      count_more m.pars i row is,
+      rows_end_few
+          m (i + 1) (few_contexts m c.requires.limits c.requires.rows),
+    )
 
 pub push-requires : goal.push-requires
 push-requires c =
@@ -43,13 +55,16 @@ loop-row-preserved c =
     let i = c.loop-row.row-index in
     let row = par_of c.row-item.result in
     let inside = rw c.deref-rows.ensures.value at c.loop-row-test.true in
-    let is : slice_get m.pars i ≡ Some row = item_there par_of c.args.tables.now.pars.items i c.row-item.result inside (rw c.deref-rows.ensures.value at c.row-item.is) in
+    let is : slice_get m.pars i ≡ Some row = item_there par_of c.args.tables.now.pars.items i c.row-item.result
+    inside (rw c.deref-rows.ensures.value at c.row-item.is) in
     let count : vec_len c.row-item.result.branches ≡ length c.row-item.result.branches.items = search rules in
-    let long : length row.branches ≡ length c.row-item.result.branches.items = length-map c.row-item.result.branches.items branch_of in
+    let long : length row.branches ≡ length c.row-item.result.branches.items =
+    length-map c.row-item.result.branches.items branch_of in
     let owns = rw c.from.ensures at c.row_owner_of-owner.ensures in
     let so_far = c.loop-row.invariant in
     record {
-      owners = rw c.push.ensures.items (more_row_owners m i row c.loop-row.owners.items _ c.requires.rows is (omega (arith, c.len-end.ensures, count, long, so_far.end)) owns so_far.owners);
+      owners = rw c.push.ensures.items (more_row_owners m i row c.loop-row.owners.items _ c.requires.rows is
+          (omega (arith, c.len-end.ensures, count, long, so_far.end)) owns so_far.owners);
       end = omega (arith, c.len-end.ensures, count, long, so_far.end, count_more m.pars i row is);
     }
 

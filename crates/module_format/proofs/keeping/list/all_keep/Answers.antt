@@ -9,7 +9,8 @@ returns-then-not-keeps g c =
     let K = R.Kept c.args.rule.now in
     let xs = c.args.items.now in
     let here = loop_item_at xs c.loop-item.item-index c.item-item.result c.loop-item-test.true c.item-item.is in
-    never (order_fails K R.behind (InOrder K R.behind c.args.low xs) xs c.loop-item.item-index c.loop-item.low c.item-item.result here
+    never (order_fails K R.behind (InOrder K R.behind c.args.low xs) xs c.loop-item.item-index c.loop-item.low
+    c.item-item.result here
     (is_broken c.keeps.result c.if-not-keeps.true c.keeps.ensures) c.loop-item.invariant)
 
 pub loop-item-preserved : goal.loop-item-preserved
@@ -19,7 +20,8 @@ loop-item-preserved g c =
     let xs = c.args.items.now in
     let here = loop_item_at xs c.loop-item.item-index c.item-item.result c.loop-item-test.true c.item-item.is in
     rw (c.after-low.ensures c.loop-item.low)
-    (order_goes_on K R.behind (InOrder K R.behind c.args.low xs) xs c.loop-item.item-index c.loop-item.low c.item-item.result here
+    (order_goes_on K R.behind (InOrder K R.behind c.args.low xs) xs c.loop-item.item-index c.loop-item.low
+    c.item-item.result here
     (is_kept c.keeps.result c.if-not-keeps.false c.keeps.ensures) c.loop-item.invariant)
 
 pub returns : goal.returns
@@ -27,4 +29,5 @@ returns g c =
     let R = g.R.Rule in
     let K = R.Kept c.args.rule.now in
     let xs = c.args.items.now in
-    always (order_is_done K R.behind (InOrder K R.behind c.args.low xs) xs c.loop-item.item-index c.loop-item.low c.loop-item-test.false c.loop-item.invariant)
+    always (order_is_done K R.behind (InOrder K R.behind c.args.low xs) xs c.loop-item.item-index c.loop-item.low
+    c.loop-item-test.false c.loop-item.invariant)

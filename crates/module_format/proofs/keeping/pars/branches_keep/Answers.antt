@@ -13,7 +13,8 @@ use Rattle.module_format.proofs.keeping.pars.branches_keep.Goals as goal
 entries_more : (rows : List BranchRow) (i : ℕ) (row : BranchRow) → i < length rows → row ≡ get_or rows i row
     → entries_of (map branch_of (take (i + 1) rows)) ≡ entries_of (map branch_of (take i rows)) ++ row.entry ∷ []
 entries_more rows i row there is =
-    rw (map_more branch_of rows i row there, ← is) (map-append (λ (b : Branch). b.entry) (map branch_of (take i rows)) (branch_of row ∷ []))
+    rw (map_more branch_of rows i row there, ← is)
+    (map-append (λ (b : Branch). b.entry) (map branch_of (take i rows)) (branch_of row ∷ []))
 
 -- what is known before the first branch, and before one after others
 abbrev first : ℕ → List ℕ → Before
@@ -36,7 +37,8 @@ returns-then-not-branch_keeps-clause-kept c entries has =
     let state = before c.loop-row.above entries rows i in
     let here = mapped_item_at branch_of rows rows i row refl c.loop-row-test.true c.row-item.is in
     never (order_fails K behind_branch Whole (map branch_of rows) i state (branch_of row) here
-    (is_broken c.branch_keeps.result c.if-not-branch_keeps.true (c.branch_keeps.ensures.kept state.entries so_far.1)) so_far.0)
+    (is_broken c.branch_keeps.result c.if-not-branch_keeps.true (c.branch_keeps.ensures.kept state.entries so_far.1))
+    so_far.0)
 
 pub loop-row-preserved : goal.loop-row-preserved
 loop-row-preserved c entries has =
@@ -52,7 +54,8 @@ loop-row-preserved c entries has =
     let grouped = append_assoc entries (entries_of (map branch_of (take i rows))) (row.entry ∷ []) in
     rw (more, ← grouped) (
       order_goes_on K behind_branch Whole (map branch_of rows) i state (branch_of row) here
-          (is_kept c.branch_keeps.result c.if-not-branch_keeps.false (c.branch_keeps.ensures.kept state.entries so_far.1)) so_far.0,
+          (is_kept c.branch_keeps.result c.if-not-branch_keeps.false
+          (c.branch_keeps.ensures.kept state.entries so_far.1)) so_far.0,
       one_more c.loop-row.taken.words _ row.entry state.entries c.add.ensures so_far.1,
     )
 
@@ -66,6 +69,7 @@ returns c =
     record {
       kept = λ entries has.
           let Whole = InOrder K behind_branch (first c.args.low entries) (map branch_of rows) in
-          always (order_is_done K behind_branch Whole (map branch_of rows) i (before c.loop-row.above entries rows i) past (c.loop-row.invariant entries has).0);
+          always (order_is_done K behind_branch Whole (map branch_of rows) i (before c.loop-row.above entries rows i)
+          past (c.loop-row.invariant entries has).0);
       taken = λ entries has t. rw all at ((c.loop-row.invariant entries has).1);
     }

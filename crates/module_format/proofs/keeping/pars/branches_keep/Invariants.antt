@@ -10,5 +10,6 @@ invariant-loop-row l = (entries : List ℕ) → IsSetOf l.fn.taken.words entries
     let rows = map branch_of l.rows in
     let taken = entries ++ entries_of (map branch_of (take l.row-index l.rows)) in
     (InOrder (BranchKeeps l.code_len) behind_branch (record { low = l.low; entries = entries }) rows
-    ↔ InOrder (BranchKeeps l.code_len) behind_branch (record { low = l.above; entries = taken }) (drop l.row-index rows))
+    ↔ InOrder (BranchKeeps l.code_len) behind_branch (record { low = l.above; entries = taken })
+    (drop l.row-index rows))
     × IsSetOf l.taken.words taken

@@ -9,6 +9,10 @@ invariant_of-self-2 c =
     let reserved = c.reserve.new.self in
     let words = reserved.words.items in
     let inside : at / 64 < length words = c.in_ok-reserve.ensures.0 in
-    let was : c.index_mut.result.now ≡ get_or words (at / 64) 0 = get_or_read words (at / 64) _ inside (rw c.word_of.ensures at c.index_mut.ensures.value) 0 in
+    let was : c.index_mut.result.now ≡ get_or words (at / 64) 0 =
+    get_or_read words (at / 64) _ inside (rw c.word_of.ensures at c.index_mut.ensures.value) 0 in
     rw (c.word_of.ensures, c.mask_of.ensures, was, c.in_ok-push.ensures.items)
-    record { has_entries = one_more words (with_bit words at) at reserved.entries.items (has_added words at inside) reserved.has_entries }
+    record {
+      has_entries = one_more words (with_bit words at) at reserved.entries.items (has_added words at inside)
+          reserved.has_entries;
+    }
