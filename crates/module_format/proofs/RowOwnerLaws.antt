@@ -1,16 +1,18 @@
 -- What the branches of each PAR row belong to.
-use Rattle.std.proofs.Common.{◌≡◌, ℕ, zero, suc, ◌+◌, ◌-◌, ◌^◌, ◌<◌, ◌≤◌, leb, true, false, List, [], ◌∷◌, ◌++◌, length, take, get_or, Some, refl, sym, ap, subst, ◌∙◌, inl, inr, add-one, arith}
+use Rattle.std.proofs.Common.{◌≡◌, ℕ, zero, suc, ◌+◌, ◌-◌, ◌^◌, ◌<◌, ◌≤◌, leb, true, false, List, [], ◌∷◌, ◌++◌, length, vec_len, take, get_or, Some, refl, sym, ap, subst, ◌∙◌, inl, inr, add-one, arith}
 use Rattle.std.specs.Prelude.{slice_get}
 use Rattle.std.specs.List.Sorted.{IsNonDecreasingBy, IsPartitionPoint}
 use Rattle.std.proofs.lemmas.Bool.{cases_lt, leb-true, leb-false}
-use Rattle.std.proofs.lemmas.List.{length-append, get_or_push, get_or_append_left, take_all}
+use Rattle.std.proofs.lemmas.List.{length-append, length-map, get_or_push, get_or_append_left, take_all}
 use Rattle.module_format.specs.declared.row_owners.RowOwner.{RowOwner}
-use Rattle.module_format.specs.Contents.{Par, Contents}
+use Rattle.module_format.specs.declared.rows.ParRow.{ParRow}
+use Rattle.module_format.specs.declared.tables.Tables.{Tables}
+use Rattle.module_format.specs.Contents.{Par, Contents, par_of, branch_of, contents_of}
 use Rattle.module_format.specs.Contexts.{owner, branch_count, first_branch, HasFewContexts}
 use Rattle.module_format.specs.Pars.{no_branches}
 use Rattle.module_format.specs.Keeping.{RowsKeep}
 use Rattle.module_format.specs.Places.{rows_end, IsRowOwner, AreRowOwners}
-use Rattle.module_format.proofs.PlaceLaws.{count_cons, count_more, context_before, owner_of_branch}
+use Rattle.module_format.proofs.PlaceLaws.{count_cons, count_more, context_before, owner_of_branch, item_there}
 
 -- ---- where rows end
 
@@ -63,6 +65,15 @@ module _ (c : Contents) (count : ℕ) (rows : List RowOwner) (h : AreRowOwners c
       row.owner n (before index (omega arith) (omega arith)) (omega (arith, after, row.end))
 
 -- ---- one row more
+
+-- the row that a loop has at an index
+pub row_here : (t : Tables) (rows : List ParRow) (i : ℕ) (row : ParRow) → rows ≡ t.pars.items → i < length rows
+    → row ≡ get_or rows i row → slice_get (contents_of t).pars i ≡ Some (par_of row)
+row_here t rows i row same lt is = item_there par_of t.pars.items i row (rw same at lt) (rw same at is)
+
+-- how many branches it has
+pub branches_here : (row : ParRow) (n : ℕ) → n ≡ vec_len row.branches → n ≡ length (par_of row).branches
+branches_here row n is = is ∙ row.branches.ok.0 ∙ sym (length-map row.branches.items branch_of)
 
 -- the context of a row is there before its branches are
 pub context_there : (c : Contents) (k : ℕ) (row : Par) → RowsKeep c → slice_get c.pars k ≡ Some row

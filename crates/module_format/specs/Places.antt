@@ -42,3 +42,8 @@ pub record IsRowOwner (c : Contents) (k : ℕ) (row : RowOwner) : Type 0 where
 pub record AreRowOwners (c : Contents) (count : ℕ) (rows : List RowOwner) : Type 0 where
   pub many : length rows ≡ count
   pub each : (k : ℕ) (d : RowOwner) → k < length rows → IsRowOwner c k (slice_index_or rows k d)
+
+-- row k is there, and has the owner of context n
+pub record IsRowOf (c : Contents) (rows : List RowOwner) (n k : ℕ) : Type 0 where
+  pub inside : k < length rows
+  pub owner : (d : RowOwner) → (slice_index_or rows k d).owner ≡ owner (first_branch c) c.pars n

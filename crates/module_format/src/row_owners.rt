@@ -1,10 +1,10 @@
 //! What the branches of each PAR row belong to, in an array that takes no allocation.
 
-ghost use Rattle.std.specs.Prelude.{◌≡◌, ◌<◌, length};
-ghost use Rattle.module_format.specs.Contents.{contents_of};
+ghost use Rattle.std.specs.Prelude.{◌≡◌, ◌<◌, ◌≤◌, length};
+ghost use Rattle.module_format.specs.Contents.{Contents, contents_of};
 ghost use Rattle.module_format.specs.Contexts.{owner, first_branch};
 ghost use Rattle.module_format.specs.Keeping.{LimitsKeep, RowsKeep};
-ghost use Rattle.module_format.specs.Places.{rows_end, AreRowOwners};
+ghost use Rattle.module_format.specs.Places.{rows_end, AreRowOwners, IsRowOf};
 
 use crate::limits::MAX_PARS;
 use crate::rows::ParRow;
@@ -34,8 +34,15 @@ pub(crate) fn rows_end(tables: &Tables, rows: &[RowOwner]) -> usize
     }
 }
 
-/// The root or procedure that a context is or belongs to, where the first PAR rows have these owners. It
-/// takes logarithmic time.
+/// The PAR row of a branch, where the first PAR rows have these owners. It takes logarithmic time.
+fn row_of(rows: &[RowOwner], context: usize) -> usize
+    ensures { (c : Contents) → first_branch c ≤ context → context < rows_end c (length rows.now)
+        → AreRowOwners c (length rows.now) rows.now → IsRowOf c rows.now context result }
+{
+    rows.partition_point(|row| row.end <= context)
+}
+
+/// The root or procedure that a context is or belongs to, where the first PAR rows have these owners.
 pub(crate) fn row_owner_of(tables: &Tables, rows: &[RowOwner], context: u32) -> u32
     requires there { context < rows_end (contents_of tables.now) (length rows.now) }
     requires owners { AreRowOwners (contents_of tables.now) (length rows.now) rows.now }
@@ -45,8 +52,7 @@ pub(crate) fn row_owner_of(tables: &Tables, rows: &[RowOwner], context: u32) -> 
     if number < tables.first_branch() {
         return context;
     }
-    let index = rows.partition_point(|row| row.end <= number);
-    rows[index].owner
+    rows[row_of(rows, number)].owner
 }
 
 /// The owners of the branches of all PAR rows.
