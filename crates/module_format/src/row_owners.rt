@@ -16,7 +16,7 @@ const MOST_ROWS: usize = MAX_PARS as usize;
 
 /// What the branches of a PAR row belong to.
 #[derive(Clone, Copy, Default)]
-pub struct RowOwner {
+pub(crate) struct RowOwner {
     /// The context after the last branch of the row.
     pub end: usize,
     /// The context of the root or procedure.
