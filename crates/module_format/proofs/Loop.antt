@@ -61,7 +61,8 @@ pub item_at : {A : Type 0} (xs : List A) (i : ℕ) (d : A) → i < length xs →
 item_at xs i d lt = rw (add-one, drop-cons xs i d lt) refl
 
 -- the same with the item that a loop has
-pub loop_item_at : {A : Type 0} (xs : List A) (i : ℕ) (x : A) → i < length xs → x ≡ get_or xs i x → drop i xs ≡ x ∷ drop (i + 1) xs
+pub loop_item_at : {A : Type 0} (xs : List A) (i : ℕ) (x : A) → i < length xs → x ≡ get_or xs i x
+    → drop i xs ≡ x ∷ drop (i + 1) xs
 loop_item_at xs i x lt is = item_at xs i x lt ∙ ap (λ y. y ∷ drop (i + 1) xs) (sym is)
 
 -- the same where the items are seen by f

@@ -54,12 +54,14 @@ behind_last next low (y ∷ xs) x = behind_last next (next low y) xs x
 
 -- the order of items as they are seen by f
 module _ {A B S : Type 0} (K : S → B → Type 0) (next : S → B → S) (f : A → B) where
-  seen : (low : S) (xs : List A) → InOrder (λ s x. K s (f x)) (λ s x. next s (f x)) low xs ≡ InOrder K next low (map f xs)
+  seen : (low : S) (xs : List A)
+      → InOrder (λ s x. K s (f x)) (λ s x. next s (f x)) low xs ≡ InOrder K next low (map f xs)
   seen low [] = refl
   seen low (x ∷ xs) = ap (λ (P : Type 0). K low (f x) × P) (seen (next low (f x)) xs)
 
   -- a test of the one is a test of the other
-  pub kept_seen : (b : Bool) (low : S) (xs : List A) → IsTrue b ↔ InOrder (λ s x. K s (f x)) (λ s x. next s (f x)) low xs → IsTrue b ↔ InOrder K next low (map f xs)
+  pub kept_seen : (b : Bool) (low : S) (xs : List A)
+      → IsTrue b ↔ InOrder (λ s x. K s (f x)) (λ s x. next s (f x)) low xs → IsTrue b ↔ InOrder K next low (map f xs)
   kept_seen b low xs h = subst (λ (P : Type 0). IsTrue b ↔ P) (seen low xs) h
 
 -- the entries that branches leave

@@ -103,13 +103,20 @@ impl<'t, 'a> Model for Contexts<'t, 'a> {
 
     ghost view = { λ c. contents_of c.tables.now };
 
-    ghost invariant = { λ c. HasFewContexts (contents_of c.tables.now) × AreOwners (contents_of c.tables.now) c.owners };
+    ghost invariant = { λ c. HasFewContexts (contents_of c.tables.now)
+        × AreOwners (contents_of c.tables.now) c.owners };
 }
 
 impl<'t, 'a> Contexts<'t, 'a> {
     ghost use Rattle.std.specs.Prelude.{◌≡◌, ◌+◌, length};
     ghost use Rattle.module_format.specs.Contents.{contents_of};
-    ghost use Rattle.module_format.specs.Contexts.{HasFewContexts, first_branch, branch_count, context_at, parameters_at};
+    ghost use Rattle.module_format.specs.Contexts.{
+      HasFewContexts,
+      first_branch,
+      branch_count,
+      context_at,
+      parameters_at,
+    };
     ghost use Rattle.module_format.specs.Places.{ArePlaces, AreRowOwners, owner_at};
 
     /// Looked up in the owners of the PAR rows.

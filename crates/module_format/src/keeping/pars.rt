@@ -231,7 +231,8 @@ fn branches_keep(code_len: usize, low: u32, taken: &mut OffsetSet, rows: &[Branc
     requires { code_len ≤ MAX_LONG_CODE }
     ensures kept { (entries : List ℕ) → IsSetOf taken.old.words entries
         → IsTrue result
-        ↔ InOrder (BranchKeeps code_len) behind_branch (record { low = low; entries = entries }) (map branch_of rows.now) }
+        ↔ InOrder (BranchKeeps code_len) behind_branch (record { low = low; entries = entries })
+        (map branch_of rows.now) }
     ensures taken { (entries : List ℕ) → IsSetOf taken.old.words entries
         → IsTrue result → IsSetOf taken.new.words (entries ++ entries_of (map branch_of rows.now)) }
 {

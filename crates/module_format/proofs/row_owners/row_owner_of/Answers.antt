@@ -7,7 +7,8 @@ use Rattle.module_format.proofs.row_owners.row_owner_of.Goals as goal
 pub returns-then-number-first_branch : goal.returns-then-number-first_branch
 returns-then-number-first_branch c =
     let m = contents_of c.args.tables.now in
-    sym (owner_below (first_branch m) m.pars c.args.context (rw c.first_branch.ensures at c.if-number-first_branch.true))
+    let below = rw c.first_branch.ensures at c.if-number-first_branch.true in
+    sym (owner_below (first_branch m) m.pars c.args.context below)
 
 pub bounds-rows-row_of : goal.bounds-rows-row_of
 bounds-rows-row_of c =

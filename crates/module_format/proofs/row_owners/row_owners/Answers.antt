@@ -45,7 +45,8 @@ loop-row-preserved c =
     let more = branches_here row _ c.len-end.ensures in
     record {
       owners = rw c.push.ensures.items
-          (more_row_owners m i (par_of row) c.loop-row.owners.items _ c.requires.rows is (omega (arith, more, so_far.end)) owns so_far.owners);
+          (more_row_owners m i (par_of row) c.loop-row.owners.items _ c.requires.rows is
+          (omega (arith, more, so_far.end)) owns so_far.owners);
       end = omega (arith, more, so_far.end, count_more m.pars i (par_of row) is);
     }
 

@@ -11,7 +11,8 @@ invariant-loop-row l =
     let rows = map par_of l.rows in
     let entries = entries_of_rows (map par_of (take l.row-index l.rows)) in record {
       rest : InOrder (ParKeeps l.own l.code_len) behind_par no_branches rows
-          ↔ InOrder (ParKeeps l.own l.code_len) behind_par (record { low = l.low; entries = entries }) (drop l.row-index rows);
+          ↔ InOrder (ParKeeps l.own l.code_len) behind_par (record { low = l.low; entries = entries })
+          (drop l.row-index rows);
       taken : IsSetOf l.taken.words entries;
       contexts : l.contexts ≡ l.own + length entries;
       few : l.contexts ≤ l.own + l.row-index * MAX_BRANCHES;
