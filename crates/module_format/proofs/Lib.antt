@@ -1,7 +1,9 @@
 pub mod Sizes
 pub mod Loop
 pub mod OffsetLaws
+pub mod OffsetSetLaws
 pub mod PlaceLaws
+pub mod RowOwnerLaws
 pub mod Tools
 pub mod OrderLaws
 pub mod FieldLaws

@@ -60,6 +60,11 @@ module _ {A S : Type 0} (item : S → List ℕ → Read A) (next : S → A → S
 pub item_at : {A : Type 0} (xs : List A) (i : ℕ) (d : A) → i < length xs → drop i xs ≡ get_or xs i d ∷ drop (i + 1) xs
 item_at xs i d lt = rw (add-one, drop-cons xs i d lt) refl
 
+-- the same with the item that a loop has
+pub loop_item_at : {A : Type 0} (xs : List A) (i : ℕ) (x : A) → i < length xs → x ≡ get_or xs i x
+    → drop i xs ≡ x ∷ drop (i + 1) xs
+loop_item_at xs i x lt is = item_at xs i x lt ∙ ap (λ y. y ∷ drop (i + 1) xs) (sym is)
+
 -- the same where the items are seen by f
 pub mapped_item_at : {A B : Type 0} (f : A → B) (xs ys : List A) (i : ℕ) (x : A) → ys ≡ xs → i < length ys → x ≡ get_or ys i x → drop i (map f xs) ≡ f x ∷ drop (i + 1) (map f xs)
 mapped_item_at {A = A} f xs ys i x same lt is =

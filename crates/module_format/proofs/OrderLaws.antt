@@ -1,5 +1,5 @@
 -- Testing whether items keep their rules, one after the other.
-use Rattle.std.proofs.Common.{◌≡◌, ℕ, ◌+◌, ◌≤◌, Bool, true, false, ◌↔◌, List, [], ◌∷◌, ◌++◌, length, drop, refl, sym, ap, subst, ◌∙◌, append_assoc}
+use Rattle.std.proofs.Common.{◌≡◌, ℕ, ◌+◌, ◌≤◌, Bool, true, false, ◌↔◌, List, [], ◌∷◌, ◌++◌, length, drop, map, refl, sym, ap, subst, ◌∙◌, append_assoc}
 use Rattle.std.specs.Prelude.{IsTrue}
 use Rattle.std.specs.List.{AllByRecursion}
 use Rattle.std.proofs.lemmas.List.{drop_all}
@@ -52,22 +52,17 @@ pub behind_last : {A S : Type 0} (next : S → A → S) (low : S) (xs : List A) 
 behind_last next low [] x = refl
 behind_last next low (y ∷ xs) x = behind_last next (next low y) xs x
 
--- the same rule and the same order for a state that holds more
-pub same_order : {A S T : Type 0} (K : S → A → Type 0) (next : S → A → S) (M : T → A → Type 0) (step : T → A → T) (make : S → T)
-    → ((low : S) (x : A) → M (make low) x ≡ K low x) → ((low : S) (x : A) → step (make low) x ≡ make (next low x))
-    → (low : S) (xs : List A) → InOrder M step (make low) xs ≡ InOrder K next low xs
-same_order K next M step make same steps low [] = refl
-same_order {A} {S} {T} K next M step make same steps low (x ∷ xs) =
-    ap (λ (P : Type 0). P × InOrder M step (step (make low) x) xs) (same low x)
-    ∙ ap (λ (t : T). K low x × InOrder M step t xs) (steps low x)
-    ∙ ap (λ (P : Type 0). K low x × P) (same_order K next M step make same steps (next low x) xs)
+-- the order of items as they are seen by f
+module _ {A B S : Type 0} (K : S → B → Type 0) (next : S → B → S) (f : A → B) where
+  seen : (low : S) (xs : List A)
+      → InOrder (λ s x. K s (f x)) (λ s x. next s (f x)) low xs ≡ InOrder K next low (map f xs)
+  seen low [] = refl
+  seen low (x ∷ xs) = ap (λ (P : Type 0). K low (f x) × P) (seen (next low (f x)) xs)
 
--- a test of the one order is a test of the other
-pub kept_same : {A S T : Type 0} (b : Bool) (K : S → A → Type 0) (next : S → A → S) (M : T → A → Type 0) (step : T → A → T) (make : S → T)
-    → ((low : S) (x : A) → M (make low) x ≡ K low x) → ((low : S) (x : A) → step (make low) x ≡ make (next low x))
-    → (low : S) (xs : List A) {ys : List A} → ys ≡ xs → IsTrue b ↔ InOrder M step (make low) ys → IsTrue b ↔ InOrder K next low xs
-kept_same {A} b K next M step make same steps low xs e h =
-    subst (λ (P : Type 0). IsTrue b ↔ P) (ap (λ (zs : List A). InOrder M step (make low) zs) e ∙ same_order K next M step make same steps low xs) h
+  -- a test of the one is a test of the other
+  pub kept_seen : (b : Bool) (low : S) (xs : List A)
+      → IsTrue b ↔ InOrder (λ s x. K s (f x)) (λ s x. next s (f x)) low xs → IsTrue b ↔ InOrder K next low (map f xs)
+  kept_seen b low xs h = subst (λ (P : Type 0). IsTrue b ↔ P) (seen low xs) h
 
 -- the entries that branches leave
 pub behind_branches : (before : Before) (bs : List Branch) → (behind_all behind_branch before bs).entries ≡ before.entries ++ entries_of bs

@@ -4,7 +4,9 @@ pub mod Spelling
 pub mod Writable
 pub mod Contexts
 pub mod Places
+pub mod Owners
 pub mod Offsets
+pub mod OffsetSet
 pub mod Facts
 pub mod Procedures
 pub mod Pars

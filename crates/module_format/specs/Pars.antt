@@ -1,5 +1,5 @@
 -- The rules of PAR rows, each by itself.
-use Rattle.std.specs.Prelude.{◌≡◌, ◌+◌, ◌^◌, ◌<◌, ◌≤◌, ℕ, nat_lt, ◌==◌, ◌&&◌, ◌||◌, false, ℤ, pos, ◌+ℤ◌, int_lt, int_le, ◌≤ℤ◌, ◌<ℤ◌, FitsSigned, Bool, IsTrue, List, [], ◌∷◌, ◌++◌, map, length, get_or}
+use Rattle.std.specs.Prelude.{◌≡◌, ◌+◌, ◌^◌, ◌<◌, ◌≤◌, ℕ, nat_lt, ◌==◌, ◌&&◌, ◌||◌, false, ℤ, pos, ◌+ℤ◌, int_lt, int_le, ◌≤ℤ◌, ◌<ℤ◌, FitsSigned, Bool, IsTrue, List, [], ◌∷◌, ◌++◌, map, length}
 use Rattle.std.specs.List.{AllByRecursion, list_any, flat_map}
 use Rattle.std.specs.Int.{w32}
 use Rattle.module_format.specs.declared.rows.ChannelRow.{ChannelRow}
@@ -177,7 +177,3 @@ behind_par before row = record { low = first_entry row.branches; entries = befor
 -- before the first row
 abbrev pub no_branches : Before
 no_branches = record { low = 0; entries = [] }
-
--- a mark stands at each number of the list and nowhere else
-abbrev pub Marks : List Bool → List ℕ → Type 0
-Marks marks numbers = (n : ℕ) → get_or marks n false ≡ list_any (λ other. other == n) numbers

@@ -1,7 +1,8 @@
 -- Where the rows of branches stand, in the order of their contexts.
-use Rattle.std.specs.Prelude.{◌≡◌, ℕ, ◌+◌, ◌<◌, nat_lt, if◌then◌else◌, List, map, length, slice_get, slice_index_or, Option, Some, None, MatchOption}
+use Rattle.std.specs.Prelude.{◌≡◌, ℕ, ◌+◌, ◌<◌, ◌≤◌, nat_lt, if◌then◌else◌, List, map, length, take, slice_get, slice_index_or, Option, Some, None, MatchOption}
 use Rattle.std.specs.List.{flat_map}
 use Rattle.module_format.specs.declared.places.Place.{Place}
+use Rattle.module_format.specs.declared.row_owners.RowOwner.{RowOwner}
 use Rattle.module_format.specs.Contents.{Branch, Par, Contents}
 use Rattle.module_format.specs.Contexts.{owner, branch_count, first_branch}
 
@@ -25,3 +26,24 @@ pub record IsPlace (c : Contents) (before : ℕ) (place : Place) : Type 0 where
 pub record ArePlaces (c : Contents) (count : ℕ) (places : List Place) : Type 0 where
   pub many : length places ≡ count
   pub each : (i : ℕ) (d : Place) → i < length places → IsPlace c i (slice_index_or places i d)
+
+-- ---- by PAR rows
+
+-- the context after the branches of the first k rows
+abbrev pub rows_end : Contents → ℕ → ℕ
+rows_end c k = first_branch c + branch_count (take k c.pars)
+
+-- where the branches of row k end, and what each of them belongs to
+pub record IsRowOwner (c : Contents) (k : ℕ) (row : RowOwner) : Type 0 where
+  pub end : row.end ≡ rows_end c (k + 1)
+  pub owner : (n : ℕ) → rows_end c k ≤ n → n < rows_end c (k + 1) → owner (first_branch c) c.pars n ≡ row.owner
+
+-- what the branches of so many rows belong to, the first ones
+pub record AreRowOwners (c : Contents) (count : ℕ) (rows : List RowOwner) : Type 0 where
+  pub many : length rows ≡ count
+  pub each : (k : ℕ) (d : RowOwner) → k < length rows → IsRowOwner c k (slice_index_or rows k d)
+
+-- row k is there, and has the owner of context n
+pub record IsRowOf (c : Contents) (rows : List RowOwner) (n k : ℕ) : Type 0 where
+  pub inside : k < length rows
+  pub owner : (d : RowOwner) → (slice_index_or rows k d).owner ≡ owner (first_branch c) c.pars n

@@ -1,11 +1,18 @@
 //! The contexts of a module: the root, the procedures and the branches.
 
-ghost use Rattle.std.specs.Prelude.{◌≡◌, ◌+◌, ◌^◌, ◌<◌, map};
-ghost use Rattle.module_format.specs.Contents.{procedure_of, par_of, contents_of};
-ghost use Rattle.module_format.specs.Contexts.{root_context, procedure_context, own_context, branch_count, owner, own_parameters};
+ghost use Rattle.std.specs.Prelude.{◌≡◌, option_map};
+ghost use Rattle.module_format.specs.Contents.{procedure_of, contents_of};
+ghost use Rattle.module_format.specs.Contexts.{
+  root_context,
+  procedure_context,
+  procedure_at,
+  own_context,
+  own_parameters,
+};
 
 use crate::places::{Place, owner_of};
-use crate::rows::{ParRow, Parameter, ProcedureRow};
+use crate::row_owners::{RowOwner, row_owner_of, rows_end};
+use crate::rows::{Parameter, ProcedureRow};
 use crate::tables::Tables;
 use std::marker::Model;
 
@@ -38,33 +45,14 @@ fn procedure_context(row: &ProcedureRow) -> Context
     }
 }
 
-/// How many branches PAR rows have.
-fn branch_count(rows: &[ParRow]) -> usize
-    requires { branch_count (map par_of rows.now) < 2 ^ 64 }
-    ensures { result ≡ branch_count (map par_of rows.now) }
+/// The procedure that is the context of a number.
+fn procedure_at<'t>(tables: &'t Tables, number: u32) -> Option<&'t ProcedureRow>
+    ensures { option_map (λ row. procedure_of row.now) result ≡ procedure_at (contents_of tables.now) number }
 {
-    match rows {
-        [] => 0,
-        [row, others @ ..] => row.branches.len() + branch_count(others),
+    if number == 0 {
+        return None;
     }
-}
-
-/// The root or procedure that a context is or belongs to, where `first` is the first branch of the rows.
-fn owner(rows: &[ParRow], first: usize, context: u32) -> u32
-    requires { first + branch_count (map par_of rows.now) < 2 ^ 64 }
-    ensures { result ≡ owner first (map par_of rows.now) context }
-{
-    match rows {
-        [] => context,
-        [row, later @ ..] => {
-            let within = owner(later, first + row.branches.len(), context);
-            if (within as usize) < first {
-                within
-            } else {
-                u32::from(row.context)
-            }
-        }
-    }
+    tables.procedures.get(number as usize - 1)
 }
 
 /// The root, or the procedure that is the context of a number.
@@ -74,7 +62,7 @@ fn own_context(tables: &Tables, number: u32) -> Option<Context>
     if number == 0 {
         return Some(root_context(tables));
     }
-    match tables.procedures.get(number as usize - 1) {
+    match procedure_at(tables, number) {
         Some(row) => Some(procedure_context(row)),
         None => None,
     }
@@ -84,51 +72,62 @@ fn own_context(tables: &Tables, number: u32) -> Option<Context>
 fn own_parameters<'t>(tables: &'t Tables, number: u32) -> &'t [Parameter]
     ensures { result.now ≡ own_parameters (contents_of tables.now) number }
 {
-    if number == 0 {
-        return &[];
-    }
-    match tables.procedures.get(number as usize - 1) {
+    match procedure_at(tables, number) {
         Some(row) => &row.parameters,
         None => &[],
     }
 }
 
-/// Where contexts are looked up: in the rows alone, or in the places of the branches too, which takes
-/// constant time.
+/// Where the owners of branches are looked up.
+#[derive(Clone, Copy)]
+enum OwnersBy<'t> {
+    /// In the places of the branches: it takes constant time.
+    Branch(&'t [Place]),
+    /// In the owners of the PAR rows: it takes logarithmic time.
+    Row(&'t [RowOwner]),
+}
+
+/// The contexts of tables, by their numbers.
 #[derive(Drop)]
 pub struct Contexts<'t, 'a> {
     tables: &'t Tables<'a>,
-    places: Option<&'t [Place]>,
+    owners: OwnersBy<'t>,
 }
 
 impl<'t, 'a> Model for Contexts<'t, 'a> {
-    ghost use Rattle.std.specs.Prelude.{IfSome};
     ghost use Rattle.module_format.specs.Contents.{Contents, contents_of};
-    ghost use Rattle.module_format.specs.Contexts.{HasFewContexts, branch_count};
-    ghost use Rattle.module_format.specs.Places.{ArePlaces};
+    ghost use Rattle.module_format.specs.Contexts.{HasFewContexts};
+    ghost use Rattle.module_format.specs.Owners.{AreOwners};
 
     ghost Value = { Contents };
 
     ghost view = { λ c. contents_of c.tables.now };
 
     ghost invariant = { λ c. HasFewContexts (contents_of c.tables.now)
-        × IfSome c.places (λ places. ArePlaces (contents_of c.tables.now) (branch_count (contents_of c.tables.now).pars) places.now) };
+        × AreOwners (contents_of c.tables.now) c.owners };
 }
 
 impl<'t, 'a> Contexts<'t, 'a> {
-    ghost use Rattle.std.specs.Prelude.{◌≡◌};
+    ghost use Rattle.std.specs.Prelude.{◌≡◌, ◌+◌, length};
     ghost use Rattle.module_format.specs.Contents.{contents_of};
-    ghost use Rattle.module_format.specs.Contexts.{HasFewContexts, branch_count, context_at, parameters_at};
-    ghost use Rattle.module_format.specs.Places.{ArePlaces, owner_at};
+    ghost use Rattle.module_format.specs.Contexts.{
+      HasFewContexts,
+      first_branch,
+      branch_count,
+      context_at,
+      parameters_at,
+    };
+    ghost use Rattle.module_format.specs.Places.{ArePlaces, AreRowOwners, owner_at};
 
-    /// Looked up in the rows: each look-up goes over the PAR rows.
-    pub(crate) fn of_rows(tables: &'t Tables<'a>) -> Contexts<'t, 'a>
-        requires { HasFewContexts (contents_of tables.now) }
+    /// Looked up in the owners of the PAR rows.
+    pub(crate) fn of_rows(tables: &'t Tables<'a>, rows: &'t [RowOwner]) -> Contexts<'t, 'a>
+        requires few { HasFewContexts (contents_of tables.now) }
+        requires rows { AreRowOwners (contents_of tables.now) (length (contents_of tables.now).pars) rows.now }
         ensures { result ≡ contents_of tables.now }
     {
         Contexts {
             tables,
-            places: None,
+            owners: OwnersBy::Row(rows),
         }
     }
 
@@ -140,7 +139,7 @@ impl<'t, 'a> Contexts<'t, 'a> {
     {
         Contexts {
             tables,
-            places: Some(places),
+            owners: OwnersBy::Branch(places),
         }
     }
 
@@ -151,13 +150,13 @@ impl<'t, 'a> Contexts<'t, 'a> {
         self.tables
     }
 
-    /// How many branches there are.
-    fn branches(&self) -> usize
-        ensures { result ≡ branch_count self.now.pars }
+    /// The context after the last one.
+    fn end(&self) -> usize
+        ensures { result ≡ first_branch self.now + branch_count self.now.pars }
     {
-        match self.places {
-            Some(places) => places.len(),
-            None => branch_count(&self.tables.pars),
+        match self.owners {
+            OwnersBy::Branch(places) => self.tables.first_branch() + places.len(),
+            OwnersBy::Row(rows) => rows_end(self.tables, rows),
         }
     }
 
@@ -165,14 +164,13 @@ impl<'t, 'a> Contexts<'t, 'a> {
     fn owner(&self, number: u32) -> Option<u32>
         ensures { result ≡ owner_at self.now number }
     {
-        let first = self.tables.first_branch();
-        if number as usize >= first + self.branches() {
+        if number as usize >= self.end() {
             return None;
         }
-        match self.places {
-            Some(places) => Some(owner_of(self.tables, places, number)),
-            None => Some(owner(&self.tables.pars, first, number)),
-        }
+        Some(match self.owners {
+            OwnersBy::Branch(places) => owner_of(self.tables, places, number),
+            OwnersBy::Row(rows) => row_owner_of(self.tables, rows, number),
+        })
     }
 
     /// The context of a number, where there is one.

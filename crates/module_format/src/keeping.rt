@@ -20,6 +20,7 @@ use crate::limits::{
     MAX_TABLES,
 };
 use crate::reading::{late_rows, max_code};
+use crate::row_owners::row_owners;
 use crate::tables::{Tables, Version};
 
 /// Whether there are no more bytes than a limit.
@@ -48,29 +49,21 @@ fn sizes_keep(tables: &Tables) -> bool
 {
     let code_fits = is_within(tables.code, max_code(tables.version));
     let constants_fit = is_within(tables.constants, MAX_CONSTANTS);
-    if !code_fits || !constants_fit {
-        return false;
-    }
-    if tables.code.is_empty() {
-        return false;
-    }
-    if tables.data_words == 0 || tables.data_words > MAX_DATA_WORDS {
-        return false;
-    }
-    tables.base <= tables.data_words
+    code_fits
+        && constants_fit
+        && !tables.code.is_empty()
+        && tables.data_words > 0
+        && tables.data_words <= MAX_DATA_WORDS
+        && tables.base <= tables.data_words
 }
 
 /// The other numbers of the header.
 fn bounds_keep(tables: &Tables) -> bool
     ensures { IsTrue result ↔ BoundsKeep (contents_of tables.now) }
 {
-    if tables.budget > MAX_BUDGET {
-        return false;
-    }
-    if tables.finish as usize > tables.code.len() {
-        return false;
-    }
-    lengths_keep(&tables.lengths)
+    tables.budget <= MAX_BUDGET
+        && tables.finish as usize <= tables.code.len()
+        && lengths_keep(&tables.lengths)
 }
 
 /// Each length is that of a message.
@@ -92,20 +85,15 @@ fn limits_keep(tables: &Tables) -> bool
 
 /// The rows, each by itself.
 fn rows_keep(tables: &Tables) -> bool
-    requires { LimitsKeep (contents_of tables.now) }
+    requires sizes { SizesKeep (contents_of tables.now) }
+    requires limits { LimitsKeep (contents_of tables.now) }
     ensures { IsTrue result ↔ RowsKeep (contents_of tables.now) }
 {
     let code_len = tables.code.len();
-    if !procedures_keep(tables.version, code_len, &tables.procedures) {
-        return false;
-    }
-    if !labels_keep(code_len, &tables.procedures, &tables.labels) {
-        return false;
-    }
-    if !pars_keep(tables.first_branch(), code_len, &tables.pars) {
-        return false;
-    }
-    tables_keep(tables.constants, &tables.table_rows)
+    procedures_keep(tables.version, code_len, &tables.procedures)
+        && labels_keep(code_len, &tables.procedures, &tables.labels)
+        && pars_keep(tables.first_branch(), code_len, &tables.pars)
+        && tables_keep(tables.constants, &tables.table_rows)
 }
 
 /// What the rows name is there.
@@ -114,27 +102,18 @@ fn names_are_there(tables: &Tables) -> bool
     requires rows { RowsKeep (contents_of tables.now) }
     ensures { IsTrue result ↔ NamesAreThere (contents_of tables.now) }
 {
-    late_rows(&Contexts::of_rows(tables), 0).is_ok()
+    let owners = row_owners(tables);
+    late_rows(&Contexts::of_rows(tables, &owners), 0).is_ok()
 }
 
 /// Whether tables keep the rules of the format.
 pub fn keeps(tables: &Tables) -> bool
     ensures { IsTrue result ↔ Keeps (contents_of tables.now) }
 {
-    if !version_keeps(tables) {
-        return false;
-    }
-    if !sizes_keep(tables) {
-        return false;
-    }
-    if !bounds_keep(tables) {
-        return false;
-    }
-    if !limits_keep(tables) {
-        return false;
-    }
-    if !rows_keep(tables) {
-        return false;
-    }
-    names_are_there(tables)
+    version_keeps(tables)
+        && sizes_keep(tables)
+        && bounds_keep(tables)
+        && limits_keep(tables)
+        && rows_keep(tables)
+        && names_are_there(tables)
 }

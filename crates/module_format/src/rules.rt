@@ -1,11 +1,11 @@
 //! Rules of single values, which are asked where a file is read and where tables are tested.
 
-ghost use Rattle.std.specs.Prelude.{◌≡◌};
+ghost use Rattle.std.specs.Prelude.{◌≡◌, ◌↔◌, ◌<◌, ◌≤◌, IsTrue};
 ghost use Rattle.module_format.specs.Order.{is_multiple_of_four, is_stepped};
 ghost use Rattle.module_format.specs.Facts.{is_loop_length};
 ghost use Rattle.module_format.specs.Procedures.{is_region_size, are_ends, is_frame_start, is_frame_end};
 
-use crate::limits::{MAX_FRAME_END, MIN_FRAME_END, MIN_FRAME_START};
+use crate::limits::{MAX_FRAME_END, MAX_MESSAGE, MIN_FRAME_END, MIN_FRAME_START};
 
 /// Whether so many bytes are whole words.
 pub(crate) fn is_multiple_of_four(bytes: u32) -> bool
@@ -56,4 +56,18 @@ pub(crate) fn is_frame_end(hi: i32) -> bool
     ensures { result ≡ is_frame_end hi }
 {
     MIN_FRAME_END <= hi && hi <= MAX_FRAME_END
+}
+
+/// Whether a message may have so many bytes: one at least.
+pub(crate) fn is_message_length(bytes: u32) -> bool
+    ensures { IsTrue result ↔ ((1 ≤ bytes) × (bytes ≤ MAX_MESSAGE)) }
+{
+    1 <= bytes && bytes <= MAX_MESSAGE
+}
+
+/// Whether an offset lies in code of a length, after another offset.
+pub(crate) fn lies_after(low: u32, offset: u32, code_len: usize) -> bool
+    ensures { IsTrue result ↔ ((low < offset) × (offset < code_len)) }
+{
+    low < offset && (offset as usize) < code_len
 }

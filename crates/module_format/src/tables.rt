@@ -60,9 +60,8 @@ impl Tables<'_> {
     ghost use Rattle.module_format.specs.Contexts.{first_branch};
     ghost use Rattle.module_format.specs.Keeping.{Keeps};
 
-    /// Whether the tables keep the rules of the format: exactly those have a file. It takes no memory, and
-    /// time square in the number of branches; besides it goes over the PAR rows for each label row and each
-    /// PAR row, to look up its context.
+    /// Whether the tables keep the rules of the format: exactly those have a file. It allocates nothing, and
+    /// takes linear time, but for searches by halving: that of a context in the PAR rows is one.
     pub fn keeps(&self) -> bool
         ensures { IsTrue result ↔ Keeps (contents_of self.now) }
     {

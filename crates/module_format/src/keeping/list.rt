@@ -1,41 +1,38 @@
 //! Rules that the items of a list keep one after the other.
 
-ghost use Rattle.std.specs.Prelude.{◌≡◌, ◌↔◌, IsTrue, map};
+ghost use Rattle.std.specs.Prelude.{◌≡◌, ◌↔◌, IsTrue};
 ghost use Rattle.module_format.specs.Order.{InOrder};
 
-/// A rule for the items of a list. What the items before leave is its state.
+/// A rule for the items of a list.
 pub(crate) trait Rule: Drop {
     type Item: Drop;
 
-    /// What is known of the items before.
-    ghost State: { Type 0 };
-
-    ghost state: { Self → State };
-
-    /// What an item says, apart from where it lies in memory.
-    ghost Value: { Type 0 };
-
-    ghost view: { Self.Item → Value };
+    /// What an item leaves to the one after it, as the first word that is free.
+    type Low: Copy;
 
     /// What an item has to keep.
-    ghost Kept: { State → Value → Type 0 };
+    ghost Kept: { Self → Self.Low → Self.Item → Type 0 };
 
-    /// What is known behind an item.
-    ghost behind: { State → Value → State };
+    /// What is left after an item.
+    ghost behind: { Self.Low → Self.Item → Self.Low };
 
-    fn keeps(&mut self, item: &Self::Item) -> bool
-        ensures kept { IsTrue result ↔ Kept (state self.old) (view item.now) }
-        ensures next { IsTrue result → state self.new ≡ behind (state self.old) (view item.now) };
+    fn keeps(&self, low: Self::Low, item: &Self::Item) -> bool
+        ensures { IsTrue result ↔ Kept self.now low item.now };
+
+    fn after(&self, item: &Self::Item) -> Self::Low
+        ensures { (low : Self.Low) → result ≡ behind low item.now };
 }
 
-/// Whether each item keeps the rule.
-pub(crate) fn all_keep<R: Rule>(mut rule: R, items: &[R::Item]) -> bool
-    ensures { IsTrue result ↔ InOrder R.Kept R.behind (R.state rule) (map R.view items.now) }
+/// Whether each item keeps the rule, where the first one finds `low`.
+pub(crate) fn all_keep<R: Rule>(rule: &R, low: R::Low, items: &[R::Item]) -> bool
+    ensures { IsTrue result ↔ InOrder (R.Kept rule.now) R.behind low items.now }
 {
+    let mut low = low;
     for item in items {
-        if !rule.keeps(item) {
+        if !rule.keeps(low, item) {
             return false;
         }
+        low = rule.after(item);
     }
     true
 }

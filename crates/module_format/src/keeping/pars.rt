@@ -1,14 +1,10 @@
 //! PAR rows.
 
-ghost use Rattle.std.specs.Prelude.{◌≡◌, ◌↔◌, ◌+◌, ◌^◌, ◌<◌, ◌≤◌, ◌==◌, ◌||◌, ◌++◌, IsTrue, ℕ, ℤ, List, map, length};
-ghost use Rattle.std.specs.List.{list_any};
-ghost use Rattle.module_format.specs.declared.rows.ChannelRow.{ChannelRow};
-ghost use Rattle.module_format.specs.declared.rows.EndKey.{EndKey};
-ghost use Rattle.module_format.specs.declared.rows.EndRow.{EndRow};
-ghost use Rattle.module_format.specs.declared.rows.Interval.{Interval};
-ghost use Rattle.module_format.specs.Contents.{Branch, Par, branch_of, par_of};
+ghost use Rattle.std.specs.Prelude.{◌≡◌, ◌↔◌, ◌+◌, ◌^◌, ◌<◌, ◌≤◌, ◌++◌, IsTrue, ℕ, List, map, length};
+ghost use Rattle.module_format.specs.Contents.{branch_of, par_of};
 ghost use Rattle.module_format.specs.Order.{InOrder, least_word};
-ghost use Rattle.module_format.specs.declared.limits.TheConstants.{MAX_PARS};
+ghost use Rattle.module_format.specs.OffsetSet.{IsSetOf};
+ghost use Rattle.module_format.specs.declared.limits.TheConstants.{MAX_LONG_CODE, MAX_PARS};
 ghost use Rattle.module_format.specs.Pars.{
   ChannelKeeps,
   behind_channel,
@@ -22,133 +18,99 @@ ghost use Rattle.module_format.specs.Pars.{
   behind_end,
   first_key,
   GiftsKeep,
-  Before,
   BranchKeeps,
   behind_branch,
   ParKeeps,
   behind_par,
   no_branches,
   entries_of,
-  entries_of_rows,
 };
 
 use crate::keeping::list::{Rule, all_keep};
-use crate::limits::{MAX_BRANCHES, MAX_MESSAGE};
+use crate::limits::MAX_BRANCHES;
+use crate::offset_set::OffsetSet;
 use crate::reading::{first_entry, meets_any};
 use crate::rows::{BranchRow, ChannelRow, EndKey, EndKind, EndRow, Interval, ParRow};
+use crate::rules::{is_message_length, lies_after};
 
-/// Channels in frame words from `low` on.
+/// Channels of a PAR.
 #[derive(Drop)]
-struct ChannelRule {
-    low: i64,
-}
+struct ChannelRule;
 
 impl Rule for ChannelRule {
     type Item = ChannelRow;
 
-    ghost State = { ℤ };
+    type Low = i64;
 
-    ghost state = { λ r. r.low };
-
-    ghost Value = { ChannelRow };
-
-    ghost view = { λ channel. channel };
-
-    ghost Kept = { ChannelKeeps };
+    ghost Kept = { λ _. ChannelKeeps };
 
     ghost behind = { behind_channel };
 
-    fn keeps(&mut self, channel: &ChannelRow) -> bool {
-        if i64::from(channel.word) < self.low {
-            return false;
-        }
-        self.low = i64::from(channel.word) + 1;
-        1 <= channel.length && channel.length <= MAX_MESSAGE
+    fn keeps(&self, low: i64, channel: &ChannelRow) -> bool {
+        low <= i64::from(channel.word) && is_message_length(channel.length)
+    }
+
+    fn after(&self, channel: &ChannelRow) -> i64 {
+        i64::from(channel.word) + 1
     }
 }
 
 fn channels_keep(channels: &[ChannelRow]) -> bool
     ensures { IsTrue result ↔ InOrder ChannelKeeps behind_channel least_word channels.now }
 {
-    let rule = ChannelRule {
-        low: i64::from(i32::MIN),
-    };
-    all_keep(rule, channels)
+    all_keep(&ChannelRule, i64::from(i32::MIN), channels)
 }
 
-/// An interval from word `low` on.
-fn interval_keeps(low: i64, interval: &Interval) -> bool
-    ensures { IsTrue result ↔ IntervalKeeps low interval.now }
-{
-    low <= i64::from(interval.lo) && interval.lo < interval.hi
-}
-
-/// Intervals from word `low` on.
+/// Intervals of frame words.
 #[derive(Drop)]
-struct IntervalRule {
-    low: i64,
-}
+struct IntervalRule;
 
 impl Rule for IntervalRule {
     type Item = Interval;
 
-    ghost State = { ℤ };
+    type Low = i64;
 
-    ghost state = { λ r. r.low };
-
-    ghost Value = { Interval };
-
-    ghost view = { λ i. i };
-
-    ghost Kept = { IntervalKeeps };
+    ghost Kept = { λ _. IntervalKeeps };
 
     ghost behind = { behind_interval };
 
-    fn keeps(&mut self, interval: &Interval) -> bool {
-        let low = self.low;
-        self.low = i64::from(interval.hi);
-        interval_keeps(low, interval)
+    fn keeps(&self, low: i64, interval: &Interval) -> bool {
+        low <= i64::from(interval.lo) && interval.lo < interval.hi
+    }
+
+    fn after(&self, interval: &Interval) -> i64 {
+        i64::from(interval.hi)
     }
 }
 
 fn writes_keep(writes: &[Interval]) -> bool
     ensures { IsTrue result ↔ InOrder IntervalKeeps behind_interval least_word writes.now }
 {
-    let rule = IntervalRule {
-        low: i64::from(i32::MIN),
-    };
-    all_keep(rule, writes)
+    all_keep(&IntervalRule, i64::from(i32::MIN), writes)
 }
 
-/// Intervals that are read, from word `low` on, none of them with a word that is written.
+/// Intervals that are read, none of them with a word that is written.
 #[derive(Drop)]
 struct ReadRule<'w> {
     writes: &'w [Interval],
-    low: i64,
     ghost sorted: { ∥ InOrder IntervalKeeps behind_interval least_word writes.now ∥₁ },
 }
 
 impl Rule for ReadRule<'_> {
     type Item = Interval;
 
-    ghost State = { List Interval × ℤ };
+    type Low = i64;
 
-    ghost state = { λ r. (r.writes.now, r.low) };
+    ghost Kept = { λ rule. ReadKeeps rule.writes.now };
 
-    ghost Value = { Interval };
+    ghost behind = { behind_interval };
 
-    ghost view = { λ i. i };
+    fn keeps(&self, low: i64, interval: &Interval) -> bool {
+        IntervalRule.keeps(low, interval) && !meets_any(interval, self.writes)
+    }
 
-    ghost Kept = { λ s. ReadKeeps s.0 s.1 };
-
-    ghost behind = { λ s i. (s.0, behind_interval s.1 i) };
-
-    fn keeps(&mut self, interval: &Interval) -> bool {
-        if !interval_keeps(self.low, interval) {
-            return false;
-        }
-        self.low = i64::from(interval.hi);
-        !meets_any(interval, self.writes)
+    fn after(&self, interval: &Interval) -> i64 {
+        IntervalRule.after(interval)
     }
 }
 
@@ -156,72 +118,56 @@ fn reads_keep(writes: &[Interval], reads: &[Interval]) -> bool
     requires { InOrder IntervalKeeps behind_interval least_word writes.now }
     ensures { IsTrue result ↔ InOrder (ReadKeeps writes.now) behind_interval least_word reads.now }
 {
-    let rule = ReadRule {
-        writes,
-        low: i64::from(i32::MIN),
-    };
-    all_keep(rule, reads)
+    all_keep(&ReadRule { writes }, i64::from(i32::MIN), reads)
 }
 
-/// Numbers of parameters from `low` on.
+/// Numbers of parameters.
 #[derive(Drop)]
-struct NumberRule {
-    low: u32,
-}
+struct NumberRule;
 
 impl Rule for NumberRule {
     type Item = u16;
 
-    ghost State = { ℕ };
+    type Low = u32;
 
-    ghost state = { λ r. r.low };
-
-    ghost Value = { ℕ };
-
-    ghost view = { λ n. n };
-
-    ghost Kept = { NumberKeeps };
+    ghost Kept = { λ _. NumberKeeps };
 
     ghost behind = { behind_number };
 
-    fn keeps(&mut self, number: &u16) -> bool {
-        let low = self.low;
-        self.low = u32::from(*number) + 1;
+    fn keeps(&self, low: u32, number: &u16) -> bool {
         low <= u32::from(*number)
+    }
+
+    fn after(&self, number: &u16) -> u32 {
+        u32::from(*number) + 1
     }
 }
 
 fn numbers_keep(numbers: &[u16]) -> bool
     ensures { IsTrue result ↔ InOrder NumberKeeps behind_number 0 numbers.now }
 {
-    all_keep(NumberRule { low: 0 }, numbers)
+    all_keep(&NumberRule, 0, numbers)
 }
 
-/// Ends behind one with this key.
+/// Channel ends.
 #[derive(Drop)]
-struct EndRule {
-    before: EndKey,
-}
+struct EndRule;
 
 impl Rule for EndRule {
     type Item = EndRow;
 
-    ghost State = { EndKey };
+    type Low = EndKey;
 
-    ghost state = { λ r. r.before };
-
-    ghost Value = { EndRow };
-
-    ghost view = { λ e. e };
-
-    ghost Kept = { EndKeeps };
+    ghost Kept = { λ _. EndKeeps };
 
     ghost behind = { behind_end };
 
-    fn keeps(&mut self, end: &EndRow) -> bool {
-        let before = self.before;
-        self.before = end.key();
-        end_kind_keeps(&end.kind) && before.is_below(&self.before)
+    fn keeps(&self, before: EndKey, end: &EndRow) -> bool {
+        end_kind_keeps(&end.kind) && before.is_below(&end.key())
+    }
+
+    fn after(&self, end: &EndRow) -> EndKey {
+        end.key()
     }
 }
 
@@ -241,10 +187,7 @@ fn end_kind_keeps(kind: &EndKind) -> bool
 fn ends_keep(ends: &[EndRow]) -> bool
     ensures { IsTrue result ↔ InOrder EndKeeps behind_end first_key ends.now }
 {
-    let rule = EndRule {
-        before: EndKey::first(),
-    };
-    all_keep(rule, ends)
+    all_keep(&EndRule, EndKey::first(), ends)
 }
 
 /// How long the lists of a branch are.
@@ -261,121 +204,86 @@ fn counts_fit(row: &BranchRow) -> bool
         && row.ends.len() <= MOST
 }
 
-/// Whether one of the branches begins at an offset.
-fn begins_one(branches: &[BranchRow], offset: u32) -> bool
-    ensures { result ≡ list_any (λ other. other == offset) (entries_of (map branch_of branches.now)) }
-{
-    match branches {
-        [] => false,
-        [first, others @ ..] => first.entry == offset || begins_one(others, offset),
-    }
-}
-
-/// Whether a branch of one of the rows begins at an offset.
-fn begins_in(rows: &[ParRow], offset: u32) -> bool
-    ensures { result ≡ list_any (λ other. other == offset) (entries_of_rows (map par_of rows.now)) }
-{
-    match rows {
-        [] => false,
-        [first, others @ ..] => begins_one(&first.branches, offset) || begins_in(others, offset),
-    }
-}
-
 /// What a branch is given.
 fn gifts_keep(row: &BranchRow) -> bool
     ensures { IsTrue result ↔ GiftsKeep (branch_of row.now) }
 {
-    if !counts_fit(row) {
-        return false;
-    }
-    if !writes_keep(&row.writes) {
-        return false;
-    }
-    if !reads_keep(&row.writes, &row.reads) {
-        return false;
-    }
-    if !numbers_keep(&row.written_parameters) || !numbers_keep(&row.read_parameters) {
-        return false;
-    }
-    ends_keep(&row.ends)
+    counts_fit(row)
+        && writes_keep(&row.writes)
+        && reads_keep(&row.writes, &row.reads)
+        && numbers_keep(&row.written_parameters)
+        && numbers_keep(&row.read_parameters)
+        && ends_keep(&row.ends)
 }
 
-/// A branch behind those of earlier rows and those of its own row, with its entry behind `low`.
-fn branch_keeps(
-    code_len: usize,
-    low: u32,
-    earlier: &[ParRow],
-    before: &[BranchRow],
-    row: &BranchRow,
-) -> bool
-    ensures { IsTrue result ↔ BranchKeeps code_len (record {
-      low = low;
-      entries = entries_of_rows (map par_of earlier.now) ++ entries_of (map branch_of before.now);
-    }) (branch_of row.now) }
+/// A branch with its entry after `low`, where the entries of the branches before it are taken.
+fn branch_keeps(code_len: usize, low: u32, taken: &OffsetSet, row: &BranchRow) -> bool
+    ensures kept { (entries : List ℕ) → IsSetOf taken.now.words entries
+        → IsTrue result ↔ BranchKeeps code_len (record { low = low; entries = entries }) (branch_of row.now) }
+    ensures inside { IsTrue result → row.now.entry < code_len }
 {
     let _workspace = row.workspace;
-    if row.entry <= low || row.entry as usize >= code_len {
-        return false;
-    }
-    if begins_in(earlier, row.entry) || begins_one(before, row.entry) {
-        return false;
-    }
-    gifts_keep(row)
+    lies_after(low, row.entry, code_len) && !taken.contains(row.entry) && gifts_keep(row)
 }
 
-/// The branches of a row behind earlier ones, the first with its entry behind `low`.
-fn branches_keep(code_len: usize, low: u32, earlier: &[ParRow], rows: &[BranchRow]) -> bool
-    ensures { IsTrue result ↔ InOrder (BranchKeeps code_len) behind_branch (record {
-      low = low;
-      entries = entries_of_rows (map par_of earlier.now);
-    }) (map branch_of rows.now) }
+/// The branches of a row, the first with its entry after `low`. Their entries are then taken too.
+fn branches_keep(code_len: usize, low: u32, taken: &mut OffsetSet, rows: &[BranchRow]) -> bool
+    requires { code_len ≤ MAX_LONG_CODE }
+    ensures kept { (entries : List ℕ) → IsSetOf taken.old.words entries
+        → IsTrue result
+        ↔ InOrder (BranchKeeps code_len) behind_branch (record { low = low; entries = entries })
+        (map branch_of rows.now) }
+    ensures taken { (entries : List ℕ) → IsSetOf taken.old.words entries
+        → IsTrue result → IsSetOf taken.new.words (entries ++ entries_of (map branch_of rows.now)) }
 {
     let mut above = low;
-    for index in 0..rows.len() {
-        if !branch_keeps(code_len, above, earlier, &rows[..index], &rows[index]) {
+    for row in rows {
+        if !branch_keeps(code_len, above, taken, row) {
             return false;
         }
+        taken.add(row.entry);
         above = 0;
     }
     true
 }
 
-/// A PAR row behind earlier ones, the first of its branches with its entry behind `low`, where there are
-/// so many contexts before its own branches.
-fn par_keeps(contexts: usize, code_len: usize, low: u32, earlier: &[ParRow], row: &ParRow) -> bool
-    ensures { (own : ℕ) → contexts ≡ own + length (entries_of_rows (map par_of earlier.now))
-        → IsTrue result ↔ ParKeeps own code_len (record {
-          low = low;
-          entries = entries_of_rows (map par_of earlier.now);
-        }) (par_of row.now) }
+/// A PAR row, the first of its branches with its entry after `low`, where `contexts` are before its own
+/// branches. The entries of its branches are then taken too.
+fn par_keeps(
+    contexts: usize,
+    code_len: usize,
+    low: u32,
+    taken: &mut OffsetSet,
+    row: &ParRow,
+) -> bool
+    requires { code_len ≤ MAX_LONG_CODE }
+    ensures kept { (own : ℕ) (entries : List ℕ) → contexts ≡ own + length entries → IsSetOf taken.old.words entries
+        → IsTrue result ↔ ParKeeps own code_len (record { low = low; entries = entries }) (par_of row.now) }
+    ensures taken { (entries : List ℕ) → IsSetOf taken.old.words entries
+        → IsTrue result → IsSetOf taken.new.words (entries ++ entries_of (map branch_of row.now.branches.items)) }
 {
     let (_depth, _block) = (row.depth, row.block);
-    if usize::from(row.context) >= contexts {
-        return false;
-    }
-    if row.successor == 0 || row.successor as usize >= code_len {
-        return false;
-    }
-    if row.channels.len() > usize::from(u16::MAX) || !channels_keep(&row.channels) {
-        return false;
-    }
-    if row.branches.is_empty() || row.branches.len() > usize::from(MAX_BRANCHES) {
-        return false;
-    }
-    branches_keep(code_len, low, earlier, &row.branches)
+    usize::from(row.context) < contexts
+        && lies_after(0, row.successor, code_len)
+        && row.channels.len() <= usize::from(u16::MAX)
+        && channels_keep(&row.channels)
+        && !row.branches.is_empty()
+        && row.branches.len() <= usize::from(MAX_BRANCHES)
+        && branches_keep(code_len, low, taken, &row.branches)
 }
 
 /// PAR rows of a module in which the root and the procedures have the contexts below `own`.
 pub(crate) fn pars_keep(own: usize, code_len: usize, rows: &[ParRow]) -> bool
     requires few { length rows.now ≤ MAX_PARS }
     requires own { own ≤ 65536 }
+    requires code { code_len ≤ MAX_LONG_CODE }
     ensures { IsTrue result ↔ InOrder (ParKeeps own code_len) behind_par no_branches (map par_of rows.now) }
 {
     let mut low = 0;
     let mut contexts = own;
-    for index in 0..rows.len() {
-        let row = &rows[index];
-        if !par_keeps(contexts, code_len, low, &rows[..index], row) {
+    let mut taken = OffsetSet::new();
+    for row in rows {
+        if !par_keeps(contexts, code_len, low, &mut taken, row) {
             return false;
         }
         low = first_entry(&row.branches);

@@ -1,10 +1,7 @@
 //! Procedure rows and table rows.
 
-ghost use Rattle.std.specs.Prelude.{◌≡◌, ◌↔◌, IsTrue, ℕ, ℤ, List, map, length};
-ghost use Rattle.module_format.specs.declared.rows.Parameter.{Parameter};
-ghost use Rattle.module_format.specs.declared.rows.TableRow.{TableRow};
-ghost use Rattle.module_format.specs.declared.tables.Version.{Version};
-ghost use Rattle.module_format.specs.Contents.{Procedure, procedure_of};
+ghost use Rattle.std.specs.Prelude.{◌≡◌, ◌↔◌, IsTrue, map};
+ghost use Rattle.module_format.specs.Contents.{procedure_of};
 ghost use Rattle.module_format.specs.Order.{InOrder};
 ghost use Rattle.module_format.specs.Procedures.{
   RangeKeeps,
@@ -20,10 +17,13 @@ ghost use Rattle.module_format.specs.Procedures.{
 };
 
 use crate::keeping::list::{Rule, all_keep};
-use crate::limits::{MAX_MESSAGE, MAX_PARAMETERS};
+use crate::limits::MAX_PARAMETERS;
 use crate::reading::words_lie_within;
 use crate::rows::{Ends, Parameter, ParameterKind, ProcedureRow, TableRow};
-use crate::rules::{are_ends, is_frame_end, is_frame_start, is_multiple_of_four, is_region_size};
+use crate::rules::{
+    are_ends, is_frame_end, is_frame_start, is_message_length, is_multiple_of_four, is_region_size,
+    lies_after,
+};
 use crate::tables::Version;
 use bitflags::Flags;
 
@@ -48,13 +48,7 @@ fn is_region(version: Version, size: u32, lo: i32, hi: i32) -> bool
 fn are_channels(count: u32, length: u32, ends: Ends) -> bool
     ensures { IsTrue result ↔ AreChannels count length ends.0 }
 {
-    if count == 0 {
-        return false;
-    }
-    if length == 0 || length > MAX_MESSAGE {
-        return false;
-    }
-    are_ends(ends.bits())
+    count > 0 && is_message_length(length) && are_ends(ends.bits())
 }
 
 /// What a parameter word holds.
@@ -73,144 +67,108 @@ fn kind_keeps(version: Version, kind: &ParameterKind) -> bool
     }
 }
 
-/// Parameters of a procedure whose frame ends at word `hi`, behind one in word `low`.
+/// Parameters of a procedure whose frame ends at word `hi`.
 #[derive(Drop)]
 struct ParameterRule {
     version: Version,
     hi: i32,
-    low: u16,
 }
 
 impl Rule for ParameterRule {
     type Item = Parameter;
 
-    ghost State = { Version × ℤ × ℕ };
+    type Low = u16;
 
-    ghost state = { λ r. (r.version, r.hi, r.low) };
+    ghost Kept = { λ rule. ParameterKeeps rule.version rule.hi };
 
-    ghost Value = { Parameter };
+    ghost behind = { behind_parameter };
 
-    ghost view = { λ p. p };
+    fn keeps(&self, low: u16, parameter: &Parameter) -> bool {
+        low < parameter.word
+            && i32::from(parameter.word) < self.hi
+            && kind_keeps(self.version, &parameter.kind)
+    }
 
-    ghost Kept = { λ s. ParameterKeeps s.0 s.1 s.2 };
-
-    ghost behind = { λ s p. (s.0, s.1, behind_parameter s.2 p) };
-
-    fn keeps(&mut self, parameter: &Parameter) -> bool {
-        if parameter.word <= self.low {
-            return false;
-        }
-        if i32::from(parameter.word) >= self.hi {
-            return false;
-        }
-        self.low = parameter.word;
-        kind_keeps(self.version, &parameter.kind)
+    fn after(&self, parameter: &Parameter) -> u16 {
+        parameter.word
     }
 }
 
 fn parameters_keep(version: Version, hi: i32, parameters: &[Parameter]) -> bool
     ensures { IsTrue result ↔ InOrder (ParameterKeeps version hi) behind_parameter 0 parameters.now }
 {
-    all_keep(
-        ParameterRule {
-            version,
-            hi,
-            low: 0,
-        },
-        parameters,
-    )
+    all_keep(&ParameterRule { version, hi }, 0, parameters)
 }
 
-/// Procedure rows in so much code, behind a row with its entry at `low`.
+/// Procedure rows in code of a length.
 #[derive(Drop)]
 struct ProcedureRule {
     version: Version,
     code_len: usize,
-    low: u32,
 }
 
 impl Rule for ProcedureRule {
     type Item = ProcedureRow;
 
-    ghost State = { Version × ℕ × ℕ };
+    type Low = u32;
 
-    ghost state = { λ r. (r.version, r.code_len, r.low) };
+    ghost Kept = { λ rule low row. ProcedureKeeps rule.version rule.code_len low (procedure_of row) };
 
-    ghost Value = { Procedure };
+    ghost behind = { λ low row. behind_procedure low (procedure_of row) };
 
-    ghost view = { procedure_of };
-
-    ghost Kept = { λ s. ProcedureKeeps s.0 s.1 s.2 };
-
-    ghost behind = { λ s row. (s.0, s.1, behind_procedure s.2 row) };
-
-    fn keeps(&mut self, row: &ProcedureRow) -> bool {
+    fn keeps(&self, low: u32, row: &ProcedureRow) -> bool {
         let _number = row.number;
-        if row.entry <= self.low || row.entry as usize >= self.code_len {
-            return false;
-        }
-        if !is_frame_start(row.lo) || !is_frame_end(row.hi) {
-            return false;
-        }
-        if row.parameters.len() > usize::from(MAX_PARAMETERS) {
-            return false;
-        }
-        self.low = row.entry;
-        parameters_keep(self.version, row.hi, &row.parameters)
+        lies_after(low, row.entry, self.code_len)
+            && is_frame_start(row.lo)
+            && is_frame_end(row.hi)
+            && row.parameters.len() <= usize::from(MAX_PARAMETERS)
+            && parameters_keep(self.version, row.hi, &row.parameters)
+    }
+
+    fn after(&self, row: &ProcedureRow) -> u32 {
+        row.entry
     }
 }
 
 pub(crate) fn procedures_keep(version: Version, code_len: usize, rows: &[ProcedureRow]) -> bool
     ensures { IsTrue result ↔ InOrder (ProcedureKeeps version code_len) behind_procedure 0 (map procedure_of rows.now) }
 {
-    let rule = ProcedureRule {
-        version,
-        code_len,
-        low: 0,
-    };
-    all_keep(rule, rows)
+    all_keep(&ProcedureRule { version, code_len }, 0, rows)
 }
 
-/// Table rows over constants, behind a table that ends at `low`.
+/// Table rows over constants.
 #[derive(Drop)]
 struct TableRule<'c> {
     constants: &'c [u8],
-    low: u32,
 }
 
 impl Rule for TableRule<'_> {
     type Item = TableRow;
 
-    ghost State = { List ℕ × ℕ };
+    type Low = u32;
 
-    ghost state = { λ r. (r.constants.now, r.low) };
+    ghost Kept = { λ rule. TableKeeps rule.constants.now };
 
-    ghost Value = { TableRow };
+    ghost behind = { behind_table };
 
-    ghost view = { λ row. row };
-
-    ghost Kept = { λ s. TableKeeps s.0 s.1 };
-
-    ghost behind = { λ s row. (s.0, behind_table s.1 row) };
-
-    fn keeps(&mut self, row: &TableRow) -> bool {
+    fn keeps(&self, low: u32, row: &TableRow) -> bool {
         let (start, end) = (row.start as usize, row.end as usize);
-        if !is_multiple_of_four(row.start)
-            || !is_multiple_of_four(row.end)
-            || row.start < self.low
-        {
-            return false;
-        }
-        if start >= end || end > self.constants.len() || row.lo > row.hi {
-            return false;
-        }
-        self.low = row.end;
-        words_lie_within(&self.constants[start..end], row.lo, row.hi)
+        is_multiple_of_four(row.start)
+            && is_multiple_of_four(row.end)
+            && low <= row.start
+            && start < end
+            && end <= self.constants.len()
+            && row.lo <= row.hi
+            && words_lie_within(&self.constants[start..end], row.lo, row.hi)
+    }
+
+    fn after(&self, row: &TableRow) -> u32 {
+        row.end
     }
 }
 
 pub(crate) fn tables_keep(constants: &[u8], rows: &[TableRow]) -> bool
     ensures { IsTrue result ↔ InOrder (TableKeeps constants.now) behind_table 0 rows.now }
 {
-    all_keep(TableRule { constants, low: 0 }, rows)
+    all_keep(&TableRule { constants }, 0, rows)
 }

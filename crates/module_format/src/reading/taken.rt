@@ -1,17 +1,18 @@
 //! The entries of branches that were read.
 
-ghost use Rattle.std.specs.Prelude.{◌≡◌, ◌++◌, ◌==◌, false, [], ◌∷◌, IfOk, length};
+ghost use Rattle.std.specs.Prelude.{◌≡◌, ◌<◌, ◌/◌, ◌++◌, ◌==◌, [], ◌∷◌, IfOk, length};
 ghost use Rattle.std.specs.List.{list_any};
-ghost use Rattle.module_format.specs.Pars.{Marks};
+ghost use Rattle.module_format.specs.OffsetSet.{IsSetOf};
 
+use crate::offset_set::{has_offset, mask_of, word_of};
 use std::alloc::{AllocError, Global};
 
-/// Code offsets in the order in which they were added, and a mark at each of them.
+/// Code offsets in the order in which they were added, and a bit for each of them.
 #[derive(Drop)]
 pub(crate) struct Taken {
     entries: Vec<u32>,
-    marks: Vec<bool>,
-    ghost marked: { Marks marks.items entries.items },
+    words: Vec<u64>,
+    ghost has_entries: { IsSetOf words.items entries.items },
 }
 
 impl Taken {
@@ -20,7 +21,7 @@ impl Taken {
     {
         Taken {
             entries: Vec::new(alloc),
-            marks: Vec::new(alloc),
+            words: Vec::new(alloc),
         }
     }
 
@@ -34,21 +35,27 @@ impl Taken {
     pub(crate) fn contains(&self, offset: u32) -> bool
         ensures { result ≡ list_any (λ other. other == offset) self.now.entries.items }
     {
-        match self.marks.get(offset as usize) {
-            Some(mark) => *mark,
-            None => false,
+        has_offset(&self.words, offset)
+    }
+
+    /// Makes a word for an offset's bit.
+    fn reserve(&mut self, offset: u32) -> Result<(), AllocError>
+        ensures { IfOk result
+            (λ _. (offset / 64 < length self.new.words.items) × (self.new.entries.items ≡ self.old.entries.items)) }
+    {
+        let word = word_of(offset);
+        if word >= self.words.len() {
+            self.words.resize(word + 1, 0)?;
         }
+        Ok(())
     }
 
     pub(crate) fn add(&mut self, offset: u32) -> Result<(), AllocError>
         ensures { IfOk result (λ _. self.new.entries.items ≡ self.old.entries.items ++ offset ∷ []) }
     {
-        let place = offset as usize;
-        if place >= self.marks.len() {
-            self.marks.resize(place + 1, false)?;
-        }
+        self.reserve(offset)?;
         self.entries.push(offset)?;
-        self.marks[place] = true;
+        self.words[word_of(offset)] |= mask_of(offset);
         Ok(())
     }
 }

@@ -14,79 +14,90 @@ use Rattle.module_format.proofs.keeping.pars.pars_keep.Goals as goal
 
 -- one more row
 row_entries_more : (rows : List ParRow) (i : ℕ) (row : ParRow) → i < length rows → row ≡ get_or rows i row
-    → entries_of_rows (map par_of (take (i + 1) rows)) ≡ entries_of_rows (map par_of (take i rows)) ++ entries_of (map branch_of row.branches.items)
+    → entries_of_rows (map par_of (take (i + 1) rows))
+    ≡ entries_of_rows (map par_of (take i rows)) ++ entries_of (map branch_of row.branches.items)
 row_entries_more rows i row there is =
     let entries = λ (p : Par). entries_of p.branches in
     let before = flat_map entries (map par_of (take i rows)) in
     rw (map_more par_of rows i row there, ← is)
     (flat_map-append entries (map par_of (take i rows)) (par_of row ∷ [])
-    ∙ ap (λ (ns : List ℕ). before ++ ns) (flat_map-cons entries (par_of row) [] ∙ append-nil (entries_of (map branch_of row.branches.items))))
+    ∙ ap (λ (ns : List ℕ). before ++ ns)
+    (flat_map-cons entries (par_of row) [] ∙ append-nil (entries_of (map branch_of row.branches.items))))
 
 -- what the rows before one leave
-before : ℕ → List ParRow → ℕ → Before
+abbrev before : ℕ → List ParRow → ℕ → Before
 before low rows i = record { low = low; entries = entries_of_rows (map par_of (take i rows)) }
 
-pub loop-index-init : goal.loop-index-init
-loop-index-init c = ((λ h. h, λ h. h), omega arith, omega arith)
+pub loop-row-init : goal.loop-row-init
+loop-row-init c = record {
+  rest = (λ h. h, λ h. h);
+  taken = record { each = c.new-taken.ensures };
+  contexts = omega arith;
+  few = omega arith;
+}
 
 pub returns-then-not-par_keeps : goal.returns-then-not-par_keeps
-unfolding before
 returns-then-not-par_keeps c =
     let rows = c.args.rows.now in
-    let i = c.loop-index.index in
-    let row = c.index-rows-index.result in
+    let i = c.loop-row.row-index in
+    let row = c.row-item.result in
+    let so_far = c.loop-row.invariant in
     let xs = map par_of rows in
     let K = ParKeeps c.args.own c.args.code_len in
-    let Whole = InOrder K behind_par no_branches xs in
-    let state = before c.loop-index.low rows i in
-    let here = mapped_item_at par_of rows rows i row refl c.loop-index-test.true c.index-rows-index.is in
-    never (order_fails K behind_par Whole xs i state (par_of row) here
-    (is_broken c.par_keeps.result c.if-not-par_keeps.true (c.par_keeps.ensures c.args.own c.loop-index.invariant.1)) c.loop-index.invariant.0)
+    let state = before c.loop-row.low rows i in
+    let here = mapped_item_at par_of rows rows i row refl c.loop-row-test.true c.row-item.is in
+    let same = c.par_keeps.ensures.kept c.args.own state.entries so_far.contexts so_far.taken in
+    never (order_fails K behind_par (InOrder K behind_par no_branches xs) xs i state (par_of row) here
+    (is_broken c.par_keeps.result c.if-not-par_keeps.true same) so_far.rest)
 
 pub overflow_add-contexts : goal.overflow_add-contexts
 overflow_add-contexts c =
-    let row = c.index-rows-index.result in
-    let kept = is_kept c.par_keeps.result c.if-not-par_keeps.false (c.par_keeps.ensures c.args.own c.loop-index.invariant.1) in
+    let so_far = c.loop-row.invariant in
+    let row = c.row-item.result in
+    let entries = entries_of_rows (map par_of (take c.loop-row.row-index c.args.rows.now)) in
+    let kept = is_kept c.par_keeps.result c.if-not-par_keeps.false
+    (c.par_keeps.ensures.kept c.args.own entries so_far.contexts so_far.taken) in
     let most : length row.branches.items ≤ MAX_BRANCHES = rw length-map at kept.branch_limit in
-    let here : c.len-contexts.result ≡ length row.branches.items = c.len-contexts.ensures ∙ sym c.deref.ensures.len ∙ ap length c.deref.ensures.value in
-    let bound = c.loop-index.invariant.2 in
-    let few = c.requires.few in
-    let own = c.requires.own in
-    omega arith
+    let here : c.len-contexts.result ≡ length row.branches.items =
+    c.len-contexts.ensures ∙ sym c.deref.ensures.len ∙ ap length c.deref.ensures.value in
+    omega (arith, so_far.few, c.requires.few, c.requires.own)
 
-pub loop-index-preserved : goal.loop-index-preserved
-unfolding before
-loop-index-preserved c =
+pub loop-row-preserved : goal.loop-row-preserved
+loop-row-preserved c =
     let rows = c.args.rows.now in
-    let i = c.loop-index.index in
-    let row = c.index-rows-index.result in
+    let i = c.loop-row.row-index in
+    let row = c.row-item.result in
+    let so_far = c.loop-row.invariant in
     let xs = map par_of rows in
     let K = ParKeeps c.args.own c.args.code_len in
-    let Whole = InOrder K behind_par no_branches xs in
-    let state = before c.loop-index.low rows i in
-    let here = mapped_item_at par_of rows rows i row refl c.loop-index-test.true c.index-rows-index.is in
-    let kept = is_kept c.par_keeps.result c.if-not-par_keeps.false (c.par_keeps.ensures c.args.own c.loop-index.invariant.1) in
-    let more = row_entries_more rows i row c.loop-index-test.true c.index-rows-index.is in
+    let state = before c.loop-row.low rows i in
+    let here = mapped_item_at par_of rows rows i row refl c.loop-row-test.true c.row-item.is in
+    let kept = is_kept c.par_keeps.result c.if-not-par_keeps.false
+    (c.par_keeps.ensures.kept c.args.own state.entries so_far.contexts so_far.taken) in
+    let more = row_entries_more rows i row c.loop-row-test.true c.row-item.is in
     let most : length row.branches.items ≤ MAX_BRANCHES = rw length-map at kept.branch_limit in
-    let count : c.len-contexts.result ≡ length row.branches.items = c.len-contexts.ensures ∙ sym c.deref.ensures.len ∙ ap length c.deref.ensures.value in
-    let longer : length (entries_of_rows (map par_of (take (i + 1) rows))) ≡ length (entries_of_rows (map par_of (take i rows))) + length row.branches.items =
+    let count : c.len-contexts.result ≡ length row.branches.items =
+    c.len-contexts.ensures ∙ sym c.deref.ensures.len ∙ ap length c.deref.ensures.value in
+    let longer : length (entries_of_rows (map par_of (take (i + 1) rows)))
+    ≡ length state.entries + length row.branches.items =
     rw more (simp (length-append, length-map)) in
-    let so_far = c.loop-index.invariant.1 in
-    let bound = c.loop-index.invariant.2 in (
-      rw (c.first_entry-low.ensures, c.deref.ensures.value, more)
-          (order_goes_on K behind_par Whole xs i state (par_of row) here kept c.loop-index.invariant.0),
-      omega arith,
-      omega arith,
-    )
+    let contexts = so_far.contexts in
+    let few = so_far.few in
+    record {
+      rest = rw (c.first_entry-low.ensures, c.deref.ensures.value, more)
+          (order_goes_on K behind_par (InOrder K behind_par no_branches xs) xs i state (par_of row) here kept
+          so_far.rest);
+      taken = rw more (c.par_keeps.ensures.taken state.entries so_far.taken c.if-not-par_keeps.false);
+      contexts = omega arith;
+      few = omega arith;
+    }
 
 pub returns : goal.returns
-unfolding before
 returns c =
     let rows = c.args.rows.now in
-    let i = c.loop-index.index in
+    let i = c.loop-row.row-index in
     let xs = map par_of rows in
     let K = ParKeeps c.args.own c.args.code_len in
-    let Whole = InOrder K behind_par no_branches xs in
-    let state = before c.loop-index.low rows i in
-    let past : length xs ≤ i = rw length-map c.loop-index-test.false in
-    always (order_is_done K behind_par Whole xs i state past c.loop-index.invariant.0)
+    let past : length xs ≤ i = rw length-map c.loop-row-test.false in
+    always (order_is_done K behind_par (InOrder K behind_par no_branches xs) xs i (before c.loop-row.low rows i) past
+    c.loop-row.invariant.rest)

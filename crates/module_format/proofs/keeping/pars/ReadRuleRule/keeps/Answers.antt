@@ -12,15 +12,17 @@ use Rattle.module_format.proofs.BranchLaws.{none_pass, pass_none}
 use Rattle.module_format.proofs.keeping.pars.ReadRuleRule.keeps.Goals as goal
 
 -- an interval that is apart from all that are written
-read_is : (writes : List Interval) (low : ℤ) (i : Interval) (b : Bool) → IntervalKeeps low i → b ≡ list_any (meet i) writes → IsTrue (not b) ↔ ReadKeeps writes low i
+read_is : (writes : List Interval) (low : ℤ) (i : Interval) (b : Bool) → IntervalKeeps low i
+    → b ≡ list_any (meet i) writes → IsTrue (not b) ↔ ReadKeeps writes low i
 read_is writes low i true kept e = (λ t. absurd cc, λ h. absurd (let n = pass_none (meet i) writes h.apart in cc))
-read_is writes low i false kept e = (λ _. record { interval = kept; apart = none_pass (meet i) writes (sym e) }, λ _. refl)
+read_is writes low i false kept e =
+    (λ _. record { interval = kept; apart = none_pass (meet i) writes (sym e) }, λ _. refl)
 
 pub meets_any-requires : goal.meets_any-requires
 meets_any-requires c = ∥∥₁_elim c.args.self.now.sorted (intervals_prop least_word c.args.self.now.writes.now) (λ h. h)
 
-pub returns-clause-kept : goal.returns-clause-kept
-returns-clause-kept c =
-    let low : to_z w64 (of_z w64 c.args.self.now.low) ≡ c.args.self.now.low = search (rules, ints) in
-    let kept = rw low at (is_kept c.interval_keeps.result c.if-not-interval_keeps.false c.interval_keeps.ensures) in
-    read_is c.args.self.now.writes.now c.args.self.now.low c.args.interval.now c.meets_any.result kept c.meets_any.ensures
+pub returns-then-keeps : goal.returns-then-keeps
+returns-then-keeps c =
+    let low : to_z w64 (of_z w64 c.args.low) ≡ c.args.low = search (rules, ints) in
+    let kept = rw low at (is_kept c.keeps.result c.if-keeps.true c.keeps.ensures) in
+    read_is c.args.self.now.writes.now c.args.low c.args.interval.now c.meets_any.result kept c.meets_any.ensures
