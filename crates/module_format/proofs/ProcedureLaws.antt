@@ -18,7 +18,7 @@ use Rattle.module_format.specs.Contents.{Procedure}
 use Rattle.module_format.specs.Order.{IsBytes, InOrder, IsInterval, least_word, greatest_word, is_multiple_of_four}
 use Rattle.module_format.specs.Procedures.{RangeKeeps, is_region_size, IsRegion, are_ends, AreChannels, is_frame_start, is_frame_end, KindKeeps, ParameterKeeps, behind_parameter, ProcedureKeeps, behind_procedure, words_of, IsWithin, TableKeeps, behind_table}
 use Rattle.module_format.specs.Spelling.{u16_bytes, u32_bytes, u64_bytes, i32_bytes, range_bytes, kind_bytes, parameter_bytes, procedure_bytes, table_row_bytes}
-use Rattle.module_format.specs.Reading.{fault, place, byte_at, interval_at, list_at}
+use Rattle.module_format.specs.Reading.{and_then, fault, place, byte_at, interval_at, list_at}
 use Rattle.module_format.specs.ReadingRows.{words_range_at, region_size_at, region_at, ends_at, channels_at, value_at, kind_at, parameter_word_at, parameter_at, parameters_at, frame_start_at, frame_end_at, rising_at, procedure_row_at, procedure_rows_at, table_start_at, table_end_at, is_within, table_row_at, table_rows_at}
 use Rattle.module_format.proofs.Tools.{Has, has_ok, has_err, has_then, has_unless, has_if, has_cond, has_weaker, step, Spelled, join, list_takes, list_again}
 use Rattle.module_format.proofs.FieldLaws.{IsBytes-rest, eqb-differ, wide16, wide64, number_takes, number_again, limited_takes, limited_again, u32_takes, u32_again, positive_takes, positive_again, in_code_takes, in_code_again, int_takes, int_again, interval_takes, interval_again, byte_takes, int_le-false, int_lt-le, int_le-true, int_le-le}
@@ -120,7 +120,7 @@ module _ (size : ℕ) where
   value_again lo hi rest h = ap (value_at size) (append_assoc (i32_bytes lo) (i32_bytes hi) rest) ∙ step _ (interval_again size lo hi rest h) refl
 
   kind_takes : (version : Version) (bytes : List ℕ) → IsBytes bytes → Has (kind_at size version bytes) (Spelled bytes (kind_bytes version) (KindKeeps version))
-  unfolding kind_at
+  unfolding kind_at byte_at and_then
   kind_takes version [] fits = has_err (fault TRUNCATED size)
   kind_takes version (tag ∷ bytes) fits =
       let behind = IsBytes-rest tag bytes fits in
@@ -135,7 +135,7 @@ module _ (size : ℕ) where
       has_if (eqb tag 3) wrong (channels_at size bytes) (λ three. channels_take version tag bytes behind (eqb-true _ _ three)))))
 
   kind_again : (version : Version) (kind : ParameterKind) (rest : List ℕ) → KindKeeps version kind → kind_at size version (kind_bytes version kind ++ rest) ≡ Ok (kind, rest)
-  unfolding kind_at
+  unfolding kind_at byte_at and_then
   kind_again version (kinds.Value lo hi) rest h = value_again lo hi rest h
   kind_again version (kinds.ReadRegion n lo hi) rest h = region_again version kinds.ReadRegion n lo hi rest h
   kind_again version (kinds.WrittenRegion n lo hi) rest h = region_again version kinds.WrittenRegion n lo hi rest h

@@ -15,7 +15,7 @@ use Rattle.module_format.specs.Contents.{Procedure, Label}
 use Rattle.module_format.specs.Order.{IsBytes, InOrder, IsInterval, least_word, greatest_word, is_stepped}
 use Rattle.module_format.specs.Facts.{IsStepped, IsPointer, is_loop_length, IsLoop, RegisterKeeps, WordKeeps, behind_entry, EntryKeeps, IsLabelOffset, LabelKeeps, behind_label}
 use Rattle.module_format.specs.Spelling.{u16_bytes, u32_bytes, u64_bytes, i32_bytes, step_size, fact_bytes, entry_bytes, label_bytes}
-use Rattle.module_format.specs.Reading.{fault, place, byte_at, list_at}
+use Rattle.module_format.specs.Reading.{and_then, fault, place, byte_at, list_at}
 use Rattle.module_format.specs.ReadingRows.{range_at, step_at, pointer_at, code_address_at, count_at, loop_at, fact_at, register_at, word_at, first_word_at, span_at, entry_at, entries_at, label_offset_at, registers_at, label_row_at, label_rows_at}
 use Rattle.module_format.proofs.Tools.{Has, has_ok, has_err, has_then, has_unless, has_if, has_cond, has_weaker, step, Spelled, join, list_takes, list_again}
 use Rattle.module_format.proofs.FieldLaws.{IsBytes-rest, eqb-false, eqb-differ, int_lt-false, int_le-lt, int_le-true, int_le-le, wide16, wide64, number_takes, number_again, u32_takes, u32_again, int_takes, int_again, byte_takes, at_most_takes, at_most_again, interval_takes, interval_again, in_code_takes, in_code_again}
@@ -132,24 +132,24 @@ module _ (size code_len : ℕ) where
         keeps = record { register = h.keeps.1; word = λ span. h.keeps.1 };
       }))
 
-  fact_takes : (bytes : List ℕ) → IsBytes bytes → Has (fact_at size code_len bytes) (Spelled bytes fact_bytes (IsCommon code_len))
+  fact_takes : (at tag : ℕ) (bytes : List ℕ) → IsBytes bytes → Has (fact_at size code_len at tag bytes) (Spelled (tag ∷ bytes) fact_bytes (IsCommon code_len))
   unfolding fact_at
-  fact_takes [] fits = has_err (fault TRUNCATED size)
-  fact_takes (tag ∷ bytes) fits =
-      let behind = IsBytes-rest tag bytes fits in
-      let wrong = fault RANGE (place size (tag ∷ bytes)) in
-      has_cond (eqb tag 1) (range_at size bytes) (cond (eqb tag 2) (pointer_at size bytes) (cond (eqb tag 3) (code_address_at size code_len bytes) (Err wrong))) (λ one. range_takes tag bytes behind (eqb-true _ _ one)) (λ _.
-      has_cond (eqb tag 2) (pointer_at size bytes) (cond (eqb tag 3) (code_address_at size code_len bytes) (Err wrong)) (λ two. pointer_takes tag bytes behind (eqb-true _ _ two)) (λ _.
-      has_if (eqb tag 3) wrong (code_address_at size code_len bytes) (λ three. code_address_takes tag bytes behind (eqb-true _ _ three))))
+  fact_takes at tag bytes fits =
+      let wrong = fault RANGE at in
+      has_cond (eqb tag 1) (range_at size bytes) (cond (eqb tag 2) (pointer_at size bytes) (cond (eqb tag 3) (code_address_at size code_len bytes) (Err wrong))) (λ one. range_takes tag bytes fits (eqb-true _ _ one)) (λ _.
+      has_cond (eqb tag 2) (pointer_at size bytes) (cond (eqb tag 3) (code_address_at size code_len bytes) (Err wrong)) (λ two. pointer_takes tag bytes fits (eqb-true _ _ two)) (λ _.
+      has_if (eqb tag 3) wrong (code_address_at size code_len bytes) (λ three. code_address_takes tag bytes fits (eqb-true _ _ three))))
 
   register_takes : (bytes : List ℕ) → IsBytes bytes → Has (register_at size code_len bytes) (Spelled bytes fact_bytes (RegisterKeeps code_len))
-  unfolding register_at fact_bytes
+  unfolding register_at byte_at and_then fact_bytes
   register_takes [] fits = has_err (fault TRUNCATED size)
   register_takes (tag ∷ bytes) fits =
-      has_cond (eqb tag 0) (Ok (facts.Unknown, bytes)) (fact_at size code_len (tag ∷ bytes)) (λ none.
+      let behind = IsBytes-rest tag bytes fits in
+      let other = fact_at size code_len (place size (tag ∷ bytes)) tag bytes in
+      has_cond (eqb tag 0) (Ok (facts.Unknown, bytes)) other (λ none.
       let parts : tag ∷ bytes ≡ fact_bytes facts.Unknown ++ bytes = ap (λ (t : ℕ). t ∷ bytes) (eqb-true _ _ none) in
-      has_ok (facts.Unknown, bytes) (record { parts = parts; rest_fits = IsBytes-rest tag bytes fits; keeps = tt })) (λ some.
-      has_weaker (fact_at size code_len (tag ∷ bytes)) (fact_takes (tag ∷ bytes) fits) (λ x h. record { parts = h.parts; rest_fits = h.rest_fits; keeps = h.keeps.register }))
+      has_ok (facts.Unknown, bytes) (record { parts = parts; rest_fits = behind; keeps = tt })) (λ some.
+      has_weaker other (fact_takes (place size (tag ∷ bytes)) tag bytes behind) (λ x h. record { parts = h.parts; rest_fits = h.rest_fits; keeps = h.keeps.register }))
 
   loop_takes : (tag span : ℕ) (bytes : List ℕ) → IsBytes bytes → tag ≡ 4 → span ≡ 2 → Has (loop_at size bytes) (Spelled (tag ∷ bytes) fact_bytes (WordKeeps code_len span))
   unfolding loop_at fact_bytes
@@ -166,18 +166,19 @@ module _ (size code_len : ℕ) where
       }))))
 
   word_takes : (span : ℕ) (bytes : List ℕ) → IsBytes bytes → Has (word_at size code_len span bytes) (Spelled bytes fact_bytes (WordKeeps code_len span))
-  unfolding word_at fact_bytes
+  unfolding word_at byte_at and_then fact_bytes
   word_takes span [] fits = has_err (fault TRUNCATED size)
   word_takes span (tag ∷ bytes) fits =
       let behind = IsBytes-rest tag bytes fits in
-      has_cond (eqb tag 4 && eqb span 2) (loop_at size bytes) (cond (eqb tag 5 && eqb span 1) (Ok (facts.ReturnAddress, bytes)) (fact_at size code_len (tag ∷ bytes))) (λ turns.
+      let other = fact_at size code_len (place size (tag ∷ bytes)) tag bytes in
+      has_cond (eqb tag 4 && eqb span 2) (loop_at size bytes) (cond (eqb tag 5 && eqb span 1) (Ok (facts.ReturnAddress, bytes)) other) (λ turns.
       let both = and_parts (eqb tag 4) (eqb span 2) turns in
       loop_takes tag span bytes behind (eqb-true _ _ both.0) (eqb-true _ _ both.1)) (λ _.
-      has_cond (eqb tag 5 && eqb span 1) (Ok (facts.ReturnAddress, bytes)) (fact_at size code_len (tag ∷ bytes)) (λ returns.
+      has_cond (eqb tag 5 && eqb span 1) (Ok (facts.ReturnAddress, bytes)) other (λ returns.
       let both = and_parts (eqb tag 5) (eqb span 1) returns in
       let parts : tag ∷ bytes ≡ fact_bytes facts.ReturnAddress ++ bytes = ap (λ (t : ℕ). t ∷ bytes) (eqb-true _ _ both.0) in
       has_ok (facts.ReturnAddress, bytes) (record { parts = parts; rest_fits = behind; keeps = eqb-true _ _ both.1 })) (λ _.
-      has_weaker (fact_at size code_len (tag ∷ bytes)) (fact_takes (tag ∷ bytes) fits) (λ x h. record { parts = h.parts; rest_fits = h.rest_fits; keeps = h.keeps.word span })))
+      has_weaker other (fact_takes (place size (tag ∷ bytes)) tag bytes behind) (λ x h. record { parts = h.parts; rest_fits = h.rest_fits; keeps = h.keeps.word span })))
 
 module _ (size code_len : ℕ) (small : code_len < 2 ^ 32) where
   code_address_again : (offset : ℕ) (rest : List ℕ) → offset ≤ code_len → code_address_at size code_len (u32_bytes offset ++ rest) ≡ Ok (facts.CodeAddress offset, rest)
@@ -187,7 +188,7 @@ module _ (size code_len : ℕ) (small : code_len < 2 ^ 32) where
       step _ (at_most_again size code_len offset rest lt h) refl
 
   register_again : (f : Fact) (rest : List ℕ) → RegisterKeeps code_len f → register_at size code_len (fact_bytes f ++ rest) ≡ Ok (f, rest)
-  unfolding register_at fact_at fact_bytes
+  unfolding register_at byte_at and_then fact_at fact_bytes
   register_again facts.Unknown rest h = refl
   register_again (facts.Number lo hi) rest h = range_again size lo hi rest h
   register_again (facts.Pointer region lo hi s) rest h = pointer_again size region lo hi s rest h
@@ -196,7 +197,7 @@ module _ (size code_len : ℕ) (small : code_len < 2 ^ 32) where
   register_again facts.ReturnAddress rest h = elim h [ ]
 
   word_again : (span : ℕ) (f : Fact) (rest : List ℕ) → WordKeeps code_len span f → word_at size code_len span (fact_bytes f ++ rest) ≡ Ok (f, rest)
-  unfolding word_at fact_at fact_bytes
+  unfolding word_at byte_at and_then fact_at fact_bytes
   word_again span facts.Unknown rest h = elim h [ ]
   word_again span (facts.Number lo hi) rest h = range_again size lo hi rest h
   word_again span (facts.Pointer region lo hi s) rest h = pointer_again size region lo hi s rest h

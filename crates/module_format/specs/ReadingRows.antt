@@ -1,7 +1,7 @@
 -- Reading facts, procedure rows, label rows and table rows.
-use Rattle.std.specs.Prelude.{ℕ, ◌-◌, ℤ, pos, int_lt, int_le, nat_lt, Bool, ◌==◌, ◌&&◌, ◌||◌, not, if◌then◌else◌, List, [], ◌∷◌, length, take, drop, Ok, Err}
+use Rattle.std.specs.Prelude.{ℕ, ◌-◌, ℤ, pos, int_lt, int_le, nat_lt, Bool, ◌==◌, ◌&&◌, ◌||◌, not, if◌then◌else◌, List, length, take, drop, Ok, Err}
 use Rattle.std.specs.List.{list_any, list_all}
-use Rattle.module_format.specs.declared.fault.TheConstants.{TRUNCATED, ORDER, RANGE}
+use Rattle.module_format.specs.declared.fault.TheConstants.{ORDER, RANGE}
 use Rattle.module_format.specs.declared.fact.Fact.{Fact}
 use Rattle.module_format.specs.declared.fact.Fact.TheVariants as facts
 use Rattle.module_format.specs.declared.fact.Step.{Step}
@@ -62,25 +62,25 @@ loop_at size rest = do
   weight ← number_at size 8 count.1
   Ok (facts.Loop base.0 count.0 weight.0, weight.1)
 
--- a fact that registers and words have alike, by its tag
-unfoldable pub fact_at : ℕ → ℕ → List ℕ → Read Fact
-fact_at size code_len [] = Err (fault TRUNCATED size)
-fact_at size code_len (tag ∷ rest) =
+-- a fact that registers and words have alike, behind its tag at an offset
+unfoldable pub fact_at : ℕ → ℕ → ℕ → ℕ → List ℕ → Read Fact
+fact_at size code_len at tag rest =
     if tag == 1 then range_at size rest
     else (if tag == 2 then pointer_at size rest
-    else (if tag == 3 then code_address_at size code_len rest else Err (fault RANGE (place size (tag ∷ rest)))))
+    else (if tag == 3 then code_address_at size code_len rest else Err (fault RANGE at)))
 
 -- a fact of a register
 unfoldable pub register_at : ℕ → ℕ → List ℕ → Read Fact
-register_at size code_len [] = Err (fault TRUNCATED size)
-register_at size code_len (tag ∷ rest) = if tag == 0 then Ok (facts.Unknown, rest) else fact_at size code_len (tag ∷ rest)
+register_at size code_len rest = do
+  tag ← byte_at size rest
+  if tag.0 == 0 then Ok (facts.Unknown, tag.1) else fact_at size code_len (place size rest) tag.0 tag.1
 
 -- a fact of so many frame words
 unfoldable pub word_at : ℕ → ℕ → ℕ → List ℕ → Read Fact
-word_at size code_len span [] = Err (fault TRUNCATED size)
-word_at size code_len span (tag ∷ rest) =
-    if (tag == 4) && (span == 2) then loop_at size rest
-    else (if (tag == 5) && (span == 1) then Ok (facts.ReturnAddress, rest) else fact_at size code_len (tag ∷ rest))
+word_at size code_len span rest = do
+  tag ← byte_at size rest
+  if (tag.0 == 4) && (span == 2) then loop_at size tag.1
+      else (if (tag.0 == 5) && (span == 1) then Ok (facts.ReturnAddress, tag.1) else fact_at size code_len (place size rest) tag.0 tag.1)
 
 -- ---- entries and label rows
 
@@ -183,12 +183,12 @@ value_at size rest = do
   Ok (kinds.Value range.0.0 range.0.1, range.1)
 
 unfoldable pub kind_at : ℕ → Version → List ℕ → Read ParameterKind
-kind_at size version [] = Err (fault TRUNCATED size)
-kind_at size version (kind ∷ rest) =
-    if kind == 0 then value_at size rest
-    else (if kind == 1 then region_at size version kinds.ReadRegion rest
-    else (if kind == 2 then region_at size version kinds.WrittenRegion rest
-    else (if kind == 3 then channels_at size rest else Err (fault RANGE (place size (kind ∷ rest))))))
+kind_at size version rest = do
+  kind ← byte_at size rest
+  if kind.0 == 0 then value_at size kind.1
+      else (if kind.0 == 1 then region_at size version kinds.ReadRegion kind.1
+      else (if kind.0 == 2 then region_at size version kinds.WrittenRegion kind.1
+      else (if kind.0 == 3 then channels_at size kind.1 else Err (fault RANGE (place size rest)))))
 
 -- the word of a parameter: below word `hi`, and behind the parameter before, in word `low`
 unfoldable pub parameter_word_at : ℕ → ℤ → ℕ → List ℕ → Read ℕ
