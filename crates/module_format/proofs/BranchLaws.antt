@@ -4,7 +4,7 @@ use Rattle.std.specs.Prelude.{int_lt}
 use Rattle.std.specs.Int.{w32}
 use Rattle.std.specs.List.{flat_map, list_any, AllByRecursion}
 use Rattle.std.proofs.lemmas.Bool.{ltb-true, lt-ltb, ltb-false, le-ltb, or_parts}
-use Rattle.module_format.specs.declared.fault.TheConstants.{ORDER, RANGE}
+use Rattle.module_format.specs.declared.fault.FormatFaultKind.TheVariants as faults
 use Rattle.module_format.specs.declared.rows.Interval.{Interval}
 use Rattle.module_format.specs.declared.reading.branches.BranchCounts.{BranchCounts}
 use Rattle.module_format.specs.Contents.{Branch}
@@ -34,7 +34,7 @@ module _ (size : ℕ) where
   unfolding interval_end_at
   interval_end_takes lo bytes fits =
       has_then _ _ (int_takes size bytes fits) (λ hi h.
-      has_if (int_lt lo hi.0) (fault RANGE (place size bytes)) (Ok hi) (λ some.
+      has_if (int_lt lo hi.0) (fault faults.Range (place size bytes)) (Ok hi) (λ some.
       has_ok hi (record { parts = h.parts; rest_fits = h.rest_fits; keeps = (h.keeps, int_lt-true _ _ some) })))
 
   interval_end_again : (lo hi : ℤ) (rest : List ℕ) → FitsSigned w32 hi → lo <ℤ hi → interval_end_at size lo (i32_bytes hi ++ rest) ≡ Ok (hi, rest)
@@ -69,7 +69,7 @@ module _ (size : ℕ) where
     unfolding read_words_at
     read_words_take low bytes fits =
         has_then _ _ (words_take low bytes fits) (λ i h.
-        has_unless (list_any (meet i.0) writes) (fault ORDER (place size bytes)) (Ok i) (λ apart.
+        has_unless (list_any (meet i.0) writes) (fault faults.Order (place size bytes)) (Ok i) (λ apart.
         has_ok i (record { parts = h.parts; rest_fits = h.rest_fits; keeps = record { interval = h.keeps; apart = none_pass (meet i.0) writes apart } })))
 
     read_words_again : (low : ℤ) (i : Interval) (rest : List ℕ) → ReadKeeps writes low i → read_words_at size writes low (interval_bytes i ++ rest) ≡ Ok (i, rest)
@@ -88,7 +88,7 @@ module _ (size : ℕ) where
   unfolding parameter_number_at
   parameter_number_takes low bytes fits =
       has_then _ _ (u16_takes size bytes fits) (λ n h.
-      has_unless (ltb n.0 low) (fault ORDER (place size bytes)) (Ok n) (λ rises.
+      has_unless (ltb n.0 low) (fault faults.Order (place size bytes)) (Ok n) (λ rises.
       has_ok n (record { parts = h.parts; rest_fits = h.rest_fits; keeps = record { fits = h.keeps; rises = ltb-false _ _ rises } })))
 
   parameter_number_again : (low n : ℕ) (rest : List ℕ) → NumberKeeps low n → parameter_number_at size low (u16_bytes n ++ rest) ≡ Ok (n, rest)
@@ -165,8 +165,8 @@ module _ (size code_len : ℕ) where
   unfolding branch_entry_at
   branch_entry_takes before bytes fits =
       has_then _ _ (in_code_takes size code_len bytes fits) (λ n h.
-      has_if (ltb before.low n.0) (fault ORDER (place size bytes)) (cond (list_any (λ other. eqb other n.0) before.entries) (Err (fault RANGE (place size bytes))) (Ok n)) (λ rises.
-      has_unless (list_any (λ other. eqb other n.0) before.entries) (fault RANGE (place size bytes)) (Ok n) (λ differs.
+      has_if (ltb before.low n.0) (fault faults.Order (place size bytes)) (cond (list_any (λ other. eqb other n.0) before.entries) (Err (fault faults.Range (place size bytes))) (Ok n)) (λ rises.
+      has_unless (list_any (λ other. eqb other n.0) before.entries) (fault faults.Range (place size bytes)) (Ok n) (λ differs.
       has_ok n (record { parts = h.parts; rest_fits = h.rest_fits; keeps = record { in_code = h.keeps.1; rises = ltb-true _ _ rises; differs = differs } }))))
 
   branch_entry_again : (before : Before) (n : ℕ) (rest : List ℕ) → n < 2 ^ 32 → IsBranchEntry code_len before n → branch_entry_at size code_len before (u32_bytes n ++ rest) ≡ Ok (n, rest)

@@ -6,7 +6,7 @@ use Rattle.std.specs.List.{flat_map}
 use Rattle.std.proofs.lemmas.Bool.{ltb-false, le-ltb, eqb-true, or_cases}
 use Rattle.std.proofs.lemmas.Bool.Decides.{nat_tests}
 use Rattle.std.proofs.lemmas.Int.{ints}
-use Rattle.module_format.specs.declared.fault.TheConstants.{ORDER, RANGE}
+use Rattle.module_format.specs.declared.fault.FormatFaultKind.TheVariants as faults
 use Rattle.module_format.specs.declared.rows.EndKind.{EndKind}
 use Rattle.module_format.specs.declared.rows.EndKind.TheVariants as ends
 use Rattle.module_format.specs.declared.rows.Direction.{Direction}
@@ -131,8 +131,8 @@ module _ (size : ℕ) (before : EndKey) where
   unfolding end_kind_at
   end_kind_takes bytes fits =
       has_then _ _ (byte_takes size bytes fits) (λ k h.
-      has_unless (ltb 2 k.0) (fault RANGE (place size bytes)) (cond (ltb k.0 before.kind) (Err (fault ORDER (place size bytes))) (Ok k)) (λ least.
-      has_unless (ltb k.0 before.kind) (fault ORDER (place size bytes)) (Ok k) (λ rises.
+      has_unless (ltb 2 k.0) (fault faults.Range (place size bytes)) (cond (ltb k.0 before.kind) (Err (fault faults.Order (place size bytes))) (Ok k)) (λ least.
+      has_unless (ltb k.0 before.kind) (fault faults.Order (place size bytes)) (Ok k) (λ rises.
       has_ok k (record { parts = h.parts; rest_fits = h.rest_fits; keeps = (ltb-false _ _ least, rises) }))))
 
   end_kind_again : (k : ℕ) (rest : List ℕ) → k ≤ 2 → ltb k before.kind ≡ false → end_kind_at size before (k ∷ rest) ≡ Ok (k, rest)
@@ -144,8 +144,8 @@ module _ (size : ℕ) (before : EndKey) where
     unfolding end_number_at
     end_number_takes bytes fits =
         has_then _ _ (int_takes size bytes fits) (λ n h.
-        has_if (is_number_of kind n.0) (fault RANGE (place size bytes)) (cond (eqb kind before.kind && int_lt n.0 before.number) (Err (fault ORDER (place size bytes))) (Ok n)) (λ numbered.
-        has_unless (eqb kind before.kind && int_lt n.0 before.number) (fault ORDER (place size bytes)) (Ok n) (λ rises.
+        has_if (is_number_of kind n.0) (fault faults.Range (place size bytes)) (cond (eqb kind before.kind && int_lt n.0 before.number) (Err (fault faults.Order (place size bytes))) (Ok n)) (λ numbered.
+        has_unless (eqb kind before.kind && int_lt n.0 before.number) (fault faults.Order (place size bytes)) (Ok n) (λ rises.
         has_ok n (record { parts = h.parts; rest_fits = h.rest_fits; keeps = (h.keeps, numbered, rises) }))))
 
     end_number_again : (n : ℤ) (rest : List ℕ) → FitsSigned w32 n → is_number_of kind n ≡ true → (eqb kind before.kind && int_lt n before.number) ≡ false
@@ -162,8 +162,8 @@ module _ (size : ℕ) (before : EndKey) where
       unfolding end_element_at element_falls
       end_element_takes bytes fits =
           has_then _ _ (u32_takes size bytes fits) (λ n h.
-          has_if (eqb kind 1 || eqb n.0 0) (fault RANGE (place size bytes)) (cond (element_falls n.0) (Err (fault ORDER (place size bytes))) (Ok n)) (λ some.
-          has_unless (element_falls n.0) (fault ORDER (place size bytes)) (Ok n) (λ rises.
+          has_if (eqb kind 1 || eqb n.0 0) (fault faults.Range (place size bytes)) (cond (element_falls n.0) (Err (fault faults.Order (place size bytes))) (Ok n)) (λ some.
+          has_unless (element_falls n.0) (fault faults.Order (place size bytes)) (Ok n) (λ rises.
           has_ok n (record { parts = h.parts; rest_fits = h.rest_fits; keeps = (h.keeps, some, rises) }))))
 
       end_element_again : (n : ℕ) (rest : List ℕ) → n < 2 ^ 32 → (eqb kind 1 || eqb n 0) ≡ true → element_falls n ≡ false
@@ -180,8 +180,8 @@ module _ (size : ℕ) (before : EndKey) where
         unfolding end_direction_at direction_falls
         end_direction_takes bytes fits =
             has_then _ _ (byte_takes size bytes fits) (λ d h.
-            has_if (eqb d.0 1 || eqb d.0 2) (fault RANGE (place size bytes)) (cond (direction_falls d.0) (Err (fault ORDER (place size bytes))) (Ok d)) (λ known.
-            has_unless (direction_falls d.0) (fault ORDER (place size bytes)) (Ok d) (λ rises.
+            has_if (eqb d.0 1 || eqb d.0 2) (fault faults.Range (place size bytes)) (cond (direction_falls d.0) (Err (fault faults.Order (place size bytes))) (Ok d)) (λ known.
+            has_unless (direction_falls d.0) (fault faults.Order (place size bytes)) (Ok d) (λ rises.
             has_ok d (record { parts = h.parts; rest_fits = h.rest_fits; keeps = (known, rises) }))))
 
         end_direction_again : (d : ℕ) (rest : List ℕ) → (eqb d 1 || eqb d 2) ≡ true → direction_falls d ≡ false

@@ -8,7 +8,7 @@ use Rattle.std.proofs.lemmas.Nat.{le_bytes_2, le_bytes_4, le_bytes_8}
 use Rattle.std.proofs.lemmas.Int.{ints, to_z-of_z, of_z-to_z}
 use Rattle.byteorder.specs.Endian.{little_number}
 use Rattle.byteorder.specs.Numbers.{little_number-reads_back}
-use Rattle.module_format.specs.declared.fault.TheConstants.{TRUNCATED, RANGE, LIMIT}
+use Rattle.module_format.specs.declared.fault.FormatFaultKind.TheVariants as faults
 use Rattle.module_format.specs.Order.{IsBytes, IsInterval}
 use Rattle.module_format.specs.Spelling.{u16_bytes, u32_bytes, u64_bytes, i32_bytes}
 use Rattle.module_format.specs.Reading.{fault, place, number_at, int_at, limited_at, positive_at, at_most_at, bytes_at, byte_at, in_code_at, hi_at, interval_at}
@@ -110,7 +110,7 @@ module _ (size n : ℕ) (spelling : ℕ → List ℕ) (max : ℕ) (wide : IsWide
   pub number_takes : (bytes : List ℕ) → IsBytes bytes → Has (number_at size n bytes) (Spelled bytes spelling (λ x. x < max))
   unfolding number_at
   number_takes bytes fits =
-      has_unless (ltb (length bytes) n) (fault TRUNCATED size) (Ok (little_number n bytes, drop n bytes)) (λ long.
+      has_unless (ltb (length bytes) n) (fault faults.Truncated size) (Ok (little_number n bytes, drop n bytes)) (λ long.
       let parts : bytes ≡ spelling (little_number n bytes) ++ drop n bytes = rw (wide.back bytes (ltb-false _ _ long) fits) (sym (take-append-drop n bytes)) in
       has_ok (little_number n bytes, drop n bytes) (record {
         parts = parts;
@@ -129,7 +129,7 @@ module _ (size n : ℕ) (spelling : ℕ → List ℕ) (max : ℕ) (wide : IsWide
   unfolding limited_at
   limited_takes limit bytes fits =
       has_then _ _ (number_takes bytes fits) (λ x h.
-      has_unless (ltb limit x.0) (fault LIMIT (place size bytes)) (Ok x) (λ low.
+      has_unless (ltb limit x.0) (fault faults.Limit (place size bytes)) (Ok x) (λ low.
       has_ok x (record { parts = h.parts; rest_fits = h.rest_fits; keeps = (h.keeps, ltb-false _ _ low) })))
 
   pub limited_again : (limit x : ℕ) (rest : List ℕ) → x < max → x ≤ limit → limited_at size n limit (spelling x ++ rest) ≡ Ok (x, rest)
@@ -155,7 +155,7 @@ module _ (size : ℕ) where
   unfolding positive_at
   positive_takes limit bytes fits =
       has_then _ _ (limited_takes size 4 u32_bytes (2 ^ 32) wide32 limit bytes fits) (λ x h.
-      has_unless (eqb x.0 0) (fault RANGE (place size bytes)) (Ok x) (λ some.
+      has_unless (eqb x.0 0) (fault faults.Range (place size bytes)) (Ok x) (λ some.
       has_ok x (record { parts = h.parts; rest_fits = h.rest_fits; keeps = (let differ : x.0 ≢ 0 = eqb-false _ _ some in omega arith, h.keeps.1) })))
 
   pub positive_again : (limit x : ℕ) (rest : List ℕ) → x < 2 ^ 32 → 1 ≤ x → x ≤ limit → positive_at size limit (u32_bytes x ++ rest) ≡ Ok (x, rest)
@@ -168,7 +168,7 @@ module _ (size : ℕ) where
   unfolding at_most_at
   at_most_takes most bytes fits =
       has_then _ _ (u32_takes bytes fits) (λ x h.
-      has_unless (ltb most x.0) (fault RANGE (place size bytes)) (Ok x) (λ low.
+      has_unless (ltb most x.0) (fault faults.Range (place size bytes)) (Ok x) (λ low.
       has_ok x (record { parts = h.parts; rest_fits = h.rest_fits; keeps = (h.keeps, ltb-false _ _ low) })))
 
   pub at_most_again : (most x : ℕ) (rest : List ℕ) → x < 2 ^ 32 → x ≤ most → at_most_at size most (u32_bytes x ++ rest) ≡ Ok (x, rest)
@@ -180,8 +180,8 @@ module _ (size : ℕ) where
   unfolding in_code_at
   in_code_takes code_len bytes fits =
       has_then _ _ (u32_takes bytes fits) (λ n h.
-      has_unless (eqb n.0 0) (fault RANGE (place size bytes)) (cond (ltb n.0 code_len) (Ok n) (Err (fault RANGE (place size bytes)))) (λ some.
-      has_if (ltb n.0 code_len) (fault RANGE (place size bytes)) (Ok n) (λ inside.
+      has_unless (eqb n.0 0) (fault faults.Range (place size bytes)) (cond (ltb n.0 code_len) (Ok n) (Err (fault faults.Range (place size bytes)))) (λ some.
+      has_if (ltb n.0 code_len) (fault faults.Range (place size bytes)) (Ok n) (λ inside.
       has_ok n (record { parts = h.parts; rest_fits = h.rest_fits; keeps = (let differ : n.0 ≢ 0 = eqb-false _ _ some in omega arith, ltb-true _ _ inside) }))))
 
   pub in_code_again : (code_len n : ℕ) (rest : List ℕ) → n < 2 ^ 32 → 1 ≤ n → n < code_len → in_code_at size code_len (u32_bytes n ++ rest) ≡ Ok (n, rest)
@@ -211,7 +211,7 @@ module _ (size : ℕ) where
   unfolding hi_at
   hi_takes lo bytes fits =
       has_then _ _ (int_takes bytes fits) (λ hi h.
-      has_unless (int_lt hi.0 lo) (fault RANGE (place size bytes)) (Ok hi) (λ ordered.
+      has_unless (int_lt hi.0 lo) (fault faults.Range (place size bytes)) (Ok hi) (λ ordered.
       has_ok hi (record { parts = h.parts; rest_fits = h.rest_fits; keeps = (h.keeps, int_lt-false _ _ ordered) })))
 
   pub interval_takes : (bytes : List ℕ) → IsBytes bytes → Has (interval_at size bytes) (Spelled bytes (λ r. i32_bytes r.0 ++ i32_bytes r.1) (λ r. IsInterval r.0 r.1))
@@ -236,7 +236,7 @@ module _ (size : ℕ) where
   pub bytes_take : (n : ℕ) (bytes : List ℕ) → IsBytes bytes → Has (bytes_at size n bytes) (Spelled bytes (λ run. run) (λ run. (length run ≡ n) × IsBytes run))
   unfolding bytes_at
   bytes_take n bytes fits =
-      has_unless (ltb (length bytes) n) (fault TRUNCATED size) (Ok (take n bytes, drop n bytes)) (λ long.
+      has_unless (ltb (length bytes) n) (fault faults.Truncated size) (Ok (take n bytes, drop n bytes)) (λ long.
       has_ok (take n bytes, drop n bytes) (record {
         parts = sym (take-append-drop n bytes);
         rest_fits = IsBytes-drop n bytes fits;
@@ -252,5 +252,5 @@ module _ (size : ℕ) where
   -- one byte
   pub byte_takes : (bytes : List ℕ) → IsBytes bytes → Has (byte_at size bytes) (Spelled bytes (λ b. b ∷ []) (λ b. b < 256))
   unfolding byte_at
-  byte_takes [] fits = has_err (fault TRUNCATED size)
+  byte_takes [] fits = has_err (fault faults.Truncated size)
   byte_takes (b ∷ bytes) fits = has_ok (b, bytes) (record { parts = refl; rest_fits = IsBytes-rest b bytes fits; keeps = fits 0 })

@@ -10,7 +10,7 @@ use Rattle.std.proofs.lemmas.List.Sums.{sum_by-le}
 use Rattle.module_format.specs.declared.fault.FormatFault.{FormatFault}
 use Rattle.module_format.specs.declared.fault.ReadError.{ReadError}
 use Rattle.module_format.specs.declared.fault.ReadError.TheVariants as errors
-use Rattle.module_format.specs.declared.fault.TheConstants.{LEFT_OVER}
+use Rattle.module_format.specs.declared.fault.FormatFaultKind.TheVariants as faults
 use Rattle.module_format.specs.declared.limits.TheConstants.{MAX_BRANCHES}
 use Rattle.module_format.specs.declared.reading.header.Header.{Header}
 use Rattle.module_format.specs.declared.rows.TableRow.{TableRow}
@@ -43,7 +43,7 @@ ended_takes : (size at : ℕ) (c : Contents) (rest : List ℕ) {Q : Contents →
 unfolding ended_at
 ended_takes size at c rest h =
     has_then _ _ (late_fits at c) (λ u there.
-    has_if (eqb (length rest) 0) (fault LEFT_OVER (place size rest)) (Ok c) (λ none.
+    has_if (eqb (length rest) 0) (fault faults.LeftOver (place size rest)) (Ok c) (λ none.
     has_ok c (h there (nil_from_length rest (eqb-true _ _ none)))))
 
 ended_again : (size at : ℕ) (c : Contents) → NamesAreThere c → ended_at size at c [] ≡ Ok c

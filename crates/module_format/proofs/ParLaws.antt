@@ -2,7 +2,7 @@
 use Rattle.std.proofs.Common.{◌≡◌, ◌≢◌, ℕ, ◌+◌, ◌^◌, ◌<◌, ◌≤◌, ℤ, ltb, eqb, List, ◌++◌, length, Ok, refl, ap, ◌∙◌, append_assoc, arith}
 use Rattle.std.specs.List.{flat_map}
 use Rattle.std.proofs.lemmas.Bool.{ltb-true, lt-ltb}
-use Rattle.module_format.specs.declared.fault.TheConstants.{RANGE}
+use Rattle.module_format.specs.declared.fault.FormatFaultKind.TheVariants as faults
 use Rattle.module_format.specs.declared.limits.TheConstants.{MAX_BRANCHES, MAX_MESSAGE}
 use Rattle.module_format.specs.declared.rows.ChannelRow.{ChannelRow}
 use Rattle.module_format.specs.Contents.{Par}
@@ -50,7 +50,7 @@ module _ (size : ℕ) where
   unfolding context_number_at
   context_number_takes count bytes fits =
       has_then _ _ (u16_takes size bytes fits) (λ n h.
-      has_if (ltb n.0 count) (fault RANGE (place size bytes)) (Ok n) (λ known.
+      has_if (ltb n.0 count) (fault faults.Range (place size bytes)) (Ok n) (λ known.
       has_ok n (record { parts = h.parts; rest_fits = h.rest_fits; keeps = (h.keeps, ltb-true _ _ known) })))
 
   context_number_again : (count n : ℕ) (rest : List ℕ) → n < 2 ^ 16 → n < count → context_number_at size count (u16_bytes n ++ rest) ≡ Ok (n, rest)
@@ -61,7 +61,7 @@ module _ (size : ℕ) where
   unfolding branch_count_at
   branch_count_takes bytes fits =
       has_then _ _ (limited_takes size 2 u16_bytes (2 ^ 16) wide16 MAX_BRANCHES bytes fits) (λ n h.
-      has_unless (eqb n.0 0) (fault RANGE (place size bytes)) (Ok n) (λ some.
+      has_unless (eqb n.0 0) (fault faults.Range (place size bytes)) (Ok n) (λ some.
       has_ok n (record { parts = h.parts; rest_fits = h.rest_fits; keeps = (let differ : n.0 ≢ 0 = eqb-false _ _ some in omega arith, h.keeps.1) })))
 
   branch_count_again : (n : ℕ) (rest : List ℕ) → 1 ≤ n → n ≤ MAX_BRANCHES → branch_count_at size (u16_bytes n ++ rest) ≡ Ok (n, rest)

@@ -5,7 +5,7 @@ use Rattle.std.specs.Int.{w32}
 use Rattle.std.specs.List.{flat_map, list_all, AllByRecursion}
 use Rattle.std.proofs.lemmas.Int.{ints}
 use Rattle.std.proofs.lemmas.Bool.{leb-true, le-leb, ltb-true, lt-ltb, ltb-false, le-ltb, eqb-true, not-true, not-false, and_parts, or_parts}
-use Rattle.module_format.specs.declared.fault.TheConstants.{TRUNCATED, ORDER, RANGE}
+use Rattle.module_format.specs.declared.fault.FormatFaultKind.TheVariants as faults
 use Rattle.module_format.specs.declared.limits.TheConstants.{MAX_PARAMETERS, MAX_MESSAGE}
 use Rattle.module_format.specs.declared.rows.Ends.{Ends}
 use Rattle.module_format.specs.declared.rows.Parameter.{Parameter}
@@ -44,7 +44,7 @@ module _ (size : ℕ) where
   unfolding region_size_at
   region_size_takes bytes fits =
       has_then _ _ (u32_takes size bytes fits) (λ n h.
-      has_if (is_region_size n.0) (fault RANGE (place size bytes)) (Ok n) (λ whole.
+      has_if (is_region_size n.0) (fault faults.Range (place size bytes)) (Ok n) (λ whole.
       let both = and_parts (nat_le 4 n.0) (is_multiple_of_four n.0) whole in
       has_ok n (record { parts = h.parts; rest_fits = h.rest_fits; keeps = (h.keeps, leb-true _ _ both.0, both.1) })))
 
@@ -80,7 +80,7 @@ module _ (size : ℕ) where
   unfolding ends_at
   ends_take bytes fits =
       has_then _ _ (byte_takes size bytes fits) (λ bits h.
-      has_if (are_ends bits.0) (fault RANGE (place size bytes)) (Ok (record { 0 = bits.0 }, bits.1)) (λ some.
+      has_if (are_ends bits.0) (fault faults.Range (place size bytes)) (Ok (record { 0 = bits.0 }, bits.1)) (λ some.
       let both = and_parts (nat_le 1 bits.0) (nat_le bits.0 3) some in
       has_ok (record { 0 = bits.0 }, bits.1) (record { parts = h.parts; rest_fits = h.rest_fits; keeps = (leb-true _ _ both.0, leb-true _ _ both.1) })))
 
@@ -121,10 +121,10 @@ module _ (size : ℕ) where
 
   kind_takes : (version : Version) (bytes : List ℕ) → IsBytes bytes → Has (kind_at size version bytes) (Spelled bytes (kind_bytes version) (KindKeeps version))
   unfolding kind_at byte_at and_then
-  kind_takes version [] fits = has_err (fault TRUNCATED size)
+  kind_takes version [] fits = has_err (fault faults.Truncated size)
   kind_takes version (tag ∷ bytes) fits =
       let behind = IsBytes-rest tag bytes fits in
-      let wrong = fault RANGE (place size (tag ∷ bytes)) in
+      let wrong = fault faults.Range (place size (tag ∷ bytes)) in
       let written = region_at size version kinds.WrittenRegion bytes in
       let read = region_at size version kinds.ReadRegion bytes in
       has_cond (eqb tag 0) (value_at size bytes) (cond (eqb tag 1) read (cond (eqb tag 2) written (cond (eqb tag 3) (channels_at size bytes) (Err wrong)))) (λ none. value_takes version tag bytes behind (eqb-true _ _ none)) (λ _.
@@ -148,8 +148,8 @@ module _ (size : ℕ) (version : Version) (hi : ℤ) where
   unfolding parameter_word_at
   parameter_word_takes low bytes fits =
       has_then _ _ (number_takes size 2 u16_bytes (2 ^ 16) wide16 bytes fits) (λ word h.
-      has_unless (eqb word.0 0 || int_le hi (pos word.0)) (fault RANGE (place size bytes)) (cond (ltb low word.0) (Ok word) (Err (fault ORDER (place size bytes)))) (λ inside.
-      has_if (ltb low word.0) (fault ORDER (place size bytes)) (Ok word) (λ rises.
+      has_unless (eqb word.0 0 || int_le hi (pos word.0)) (fault faults.Range (place size bytes)) (cond (ltb low word.0) (Ok word) (Err (fault faults.Order (place size bytes)))) (λ inside.
+      has_if (ltb low word.0) (fault faults.Order (place size bytes)) (Ok word) (λ rises.
       let both = or_parts (eqb word.0 0) (int_le hi (pos word.0)) inside in
       has_ok word (record { parts = h.parts; rest_fits = h.rest_fits; keeps = (ltb-true _ _ rises, int_le-false _ _ both.1) }))))
 
@@ -199,7 +199,7 @@ module _ (size : ℕ) where
   unfolding frame_start_at
   frame_start_takes bytes fits =
       has_then _ _ (int_takes size bytes fits) (λ lo h.
-      has_if (is_frame_start lo.0) (fault RANGE (place size bytes)) (Ok lo) (λ inside.
+      has_if (is_frame_start lo.0) (fault faults.Range (place size bytes)) (Ok lo) (λ inside.
       let both = and_parts (int_le (negsuc 16383) lo.0) (int_le lo.0 (pos 0)) inside in
       has_ok lo (record { parts = h.parts; rest_fits = h.rest_fits; keeps = (int_le-true _ _ both.0, int_le-true _ _ both.1) })))
 
@@ -211,7 +211,7 @@ module _ (size : ℕ) where
   unfolding frame_end_at
   frame_end_takes bytes fits =
       has_then _ _ (int_takes size bytes fits) (λ hi h.
-      has_if (is_frame_end hi.0) (fault RANGE (place size bytes)) (Ok hi) (λ inside.
+      has_if (is_frame_end hi.0) (fault faults.Range (place size bytes)) (Ok hi) (λ inside.
       let both = and_parts (int_le (pos 4) hi.0) (int_le hi.0 (pos 16384)) inside in
       has_ok hi (record { parts = h.parts; rest_fits = h.rest_fits; keeps = (int_le-true _ _ both.0, int_le-true _ _ both.1) })))
 
@@ -223,7 +223,7 @@ module _ (size : ℕ) where
   unfolding rising_at
   rising_takes code_len low bytes fits =
       has_then _ _ (in_code_takes size code_len bytes fits) (λ n h.
-      has_if (ltb low n.0) (fault ORDER (place size bytes)) (Ok n) (λ rises.
+      has_if (ltb low n.0) (fault faults.Order (place size bytes)) (Ok n) (λ rises.
       has_ok n (record { parts = h.parts; rest_fits = h.rest_fits; keeps = (ltb-true _ _ rises, h.keeps.1) })))
 
   rising_again : (code_len low n : ℕ) (rest : List ℕ) → n < 2 ^ 32 → low < n → n < code_len → rising_at size code_len low (u32_bytes n ++ rest) ≡ Ok (n, rest)
@@ -309,8 +309,8 @@ module _ (size : ℕ) where
   unfolding table_start_at
   table_start_takes low bytes fits =
       has_then _ _ (u32_takes size bytes fits) (λ n h.
-      has_unless (not (is_multiple_of_four n.0)) (fault RANGE (place size bytes)) (cond (ltb n.0 low) (Err (fault ORDER (place size bytes))) (Ok n)) (λ aligned.
-      has_unless (ltb n.0 low) (fault ORDER (place size bytes)) (Ok n) (λ apart.
+      has_unless (not (is_multiple_of_four n.0)) (fault faults.Range (place size bytes)) (cond (ltb n.0 low) (Err (fault faults.Order (place size bytes))) (Ok n)) (λ aligned.
+      has_unless (ltb n.0 low) (fault faults.Order (place size bytes)) (Ok n) (λ apart.
       has_ok n (record { parts = h.parts; rest_fits = h.rest_fits; keeps = (not-false _ aligned, ltb-false _ _ apart) }))))
 
   table_start_again : (low n : ℕ) (rest : List ℕ) → n < 2 ^ 32 → IsTrue (is_multiple_of_four n) → low ≤ n → table_start_at size low (u32_bytes n ++ rest) ≡ Ok (n, rest)
@@ -321,7 +321,7 @@ module _ (size : ℕ) where
   unfolding table_end_at
   table_end_takes const_len start bytes fits =
       has_then _ _ (u32_takes size bytes fits) (λ n h.
-      has_if (is_multiple_of_four n.0 && ltb start n.0 && not (ltb const_len n.0)) (fault RANGE (place size bytes)) (Ok n) (λ all.
+      has_if (is_multiple_of_four n.0 && ltb start n.0 && not (ltb const_len n.0)) (fault faults.Range (place size bytes)) (Ok n) (λ all.
       let both = and_parts (is_multiple_of_four n.0 && ltb start n.0) (not (ltb const_len n.0)) all in
       let first = and_parts (is_multiple_of_four n.0) (ltb start n.0) both.0 in
       has_ok n (record { parts = h.parts; rest_fits = h.rest_fits; keeps = (first.0, ltb-true _ _ first.1, ltb-false _ _ (not-true _ both.1)) })))
@@ -339,7 +339,7 @@ module _ (size : ℕ) (constants : List ℕ) where
       has_then _ _ (interval_takes size end.1 h1.rest_fits) (λ range h2.
       let made : TableRow = record { start = start.0; end = end.0; lo = range.0.0; hi = range.0.1 } in
       let words = words_of (take (end.0 - start.0) (drop start.0 constants)) in
-      has_if (list_all (is_within range.0.0 range.0.1) words) (fault RANGE (place size end.1)) (Ok (made, range.1)) (λ within.
+      has_if (list_all (is_within range.0.0 range.0.1) words) (fault faults.Range (place size end.1)) (Ok (made, range.1)) (λ within.
       let kept : TableKeeps constants low made = record {
         start_aligned = h0.keeps.0;
         apart = h0.keeps.1;

@@ -5,7 +5,7 @@ use Rattle.std.specs.Int.{w32}
 use Rattle.std.specs.List.{flat_map, list_any, AllByRecursion}
 use Rattle.std.proofs.lemmas.Int.{ints}
 use Rattle.std.proofs.lemmas.Bool.{leb-true, le-leb, ltb-true, lt-ltb, eqb-true, and_parts}
-use Rattle.module_format.specs.declared.fault.TheConstants.{TRUNCATED, ORDER, RANGE}
+use Rattle.module_format.specs.declared.fault.FormatFaultKind.TheVariants as faults
 use Rattle.module_format.specs.declared.fact.Fact.{Fact}
 use Rattle.module_format.specs.declared.fact.Fact.TheVariants as facts
 use Rattle.module_format.specs.declared.fact.Step.{Step}
@@ -43,10 +43,10 @@ module _ (size : ℕ) where
   unfolding step_at
   step_takes lo hi bytes fits =
       has_then _ _ (byte_takes size bytes fits) (λ s h.
-      has_cond (eqb s.0 1) (Ok (steps.Byte, s.1)) (cond (eqb s.0 4 && is_stepped lo && is_stepped hi) (Ok (steps.Word, s.1)) (Err (fault RANGE (place size bytes)))) (λ one.
+      has_cond (eqb s.0 1) (Ok (steps.Byte, s.1)) (cond (eqb s.0 4 && is_stepped lo && is_stepped hi) (Ok (steps.Word, s.1)) (Err (fault faults.Range (place size bytes)))) (λ one.
       let e : s.0 ≡ 1 = eqb-true _ _ one in
       has_ok (steps.Byte, s.1) (record { parts = rw (← e) h.parts; rest_fits = h.rest_fits; keeps = tt })) (λ other.
-      has_if (eqb s.0 4 && is_stepped lo && is_stepped hi) (fault RANGE (place size bytes)) (Ok (steps.Word, s.1)) (λ all.
+      has_if (eqb s.0 4 && is_stepped lo && is_stepped hi) (fault faults.Range (place size bytes)) (Ok (steps.Word, s.1)) (λ all.
       let both = and_parts (eqb s.0 4 && is_stepped lo) (is_stepped hi) all in
       let first = and_parts (eqb s.0 4) (is_stepped lo) both.0 in
       let e : s.0 ≡ 4 = eqb-true _ _ first.0 in
@@ -76,7 +76,7 @@ module _ (size : ℕ) where
   unfolding count_at
   count_takes base bytes fits =
       has_then _ _ (u32_takes size bytes fits) (λ n h.
-      has_if (is_loop_length base n.0) (fault RANGE (place size bytes)) (Ok n) (λ short.
+      has_if (is_loop_length base n.0) (fault faults.Range (place size bytes)) (Ok n) (λ short.
       has_ok n (record { parts = h.parts; rest_fits = h.rest_fits; keeps = loop_parts base n.0 short })))
 
   count_again : (base : ℤ) (n : ℕ) (rest : List ℕ) → 1 ≤ n → pos n ≤ℤ greatest_word → (base +ℤ pos n) ≤ℤ pos 2147483648 → count_at size base (u32_bytes n ++ rest) ≡ Ok (n, rest)
@@ -135,14 +135,14 @@ module _ (size code_len : ℕ) where
   fact_takes : (at tag : ℕ) (bytes : List ℕ) → IsBytes bytes → Has (fact_at size code_len at tag bytes) (Spelled (tag ∷ bytes) fact_bytes (IsCommon code_len))
   unfolding fact_at
   fact_takes at tag bytes fits =
-      let wrong = fault RANGE at in
+      let wrong = fault faults.Range at in
       has_cond (eqb tag 1) (range_at size bytes) (cond (eqb tag 2) (pointer_at size bytes) (cond (eqb tag 3) (code_address_at size code_len bytes) (Err wrong))) (λ one. range_takes tag bytes fits (eqb-true _ _ one)) (λ _.
       has_cond (eqb tag 2) (pointer_at size bytes) (cond (eqb tag 3) (code_address_at size code_len bytes) (Err wrong)) (λ two. pointer_takes tag bytes fits (eqb-true _ _ two)) (λ _.
       has_if (eqb tag 3) wrong (code_address_at size code_len bytes) (λ three. code_address_takes tag bytes fits (eqb-true _ _ three))))
 
   register_takes : (bytes : List ℕ) → IsBytes bytes → Has (register_at size code_len bytes) (Spelled bytes fact_bytes (RegisterKeeps code_len))
   unfolding register_at byte_at and_then fact_bytes
-  register_takes [] fits = has_err (fault TRUNCATED size)
+  register_takes [] fits = has_err (fault faults.Truncated size)
   register_takes (tag ∷ bytes) fits =
       let behind = IsBytes-rest tag bytes fits in
       let other = fact_at size code_len (place size (tag ∷ bytes)) tag bytes in
@@ -167,7 +167,7 @@ module _ (size code_len : ℕ) where
 
   word_takes : (span : ℕ) (bytes : List ℕ) → IsBytes bytes → Has (word_at size code_len span bytes) (Spelled bytes fact_bytes (WordKeeps code_len span))
   unfolding word_at byte_at and_then fact_bytes
-  word_takes span [] fits = has_err (fault TRUNCATED size)
+  word_takes span [] fits = has_err (fault faults.Truncated size)
   word_takes span (tag ∷ bytes) fits =
       let behind = IsBytes-rest tag bytes fits in
       let other = fact_at size code_len (place size (tag ∷ bytes)) tag bytes in
@@ -212,7 +212,7 @@ module _ (size : ℕ) where
   unfolding first_word_at
   first_word_takes low bytes fits =
       has_then _ _ (int_takes size bytes fits) (λ z h.
-      has_unless (int_lt z.0 low) (fault ORDER (place size bytes)) (Ok z) (λ apart.
+      has_unless (int_lt z.0 low) (fault faults.Order (place size bytes)) (Ok z) (λ apart.
       has_ok z (record { parts = h.parts; rest_fits = h.rest_fits; keeps = (h.keeps, int_lt-false _ _ apart) })))
 
   pub first_word_again : (low z : ℤ) (rest : List ℕ) → FitsSigned w32 z → low ≤ℤ z → first_word_at size low (i32_bytes z ++ rest) ≡ Ok (z, rest)
@@ -224,7 +224,7 @@ module _ (size : ℕ) where
   unfolding span_at
   span_takes bytes fits =
       has_then _ _ (u32_takes size bytes fits) (λ n h.
-      has_unless (eqb n.0 0) (fault RANGE (place size bytes)) (Ok n) (λ some.
+      has_unless (eqb n.0 0) (fault faults.Range (place size bytes)) (Ok n) (λ some.
       has_ok n (record { parts = h.parts; rest_fits = h.rest_fits; keeps = (h.keeps, let differ : n.0 ≢ 0 = eqb-false _ _ some in omega arith) })))
 
   pub span_again : (n : ℕ) (rest : List ℕ) → n < 2 ^ 32 → 1 ≤ n → span_at size (u32_bytes n ++ rest) ≡ Ok (n, rest)
@@ -290,8 +290,8 @@ module _ (size code_len : ℕ) (procedures : List Procedure) where
   unfolding label_offset_at
   label_offset_takes low bytes fits =
       has_then _ _ (in_code_takes size code_len bytes fits) (λ n h.
-      has_unless (list_any (λ p. eqb p.entry n.0) procedures) (fault RANGE (place size bytes)) (cond (ltb low n.0) (Ok n) (Err (fault ORDER (place size bytes)))) (λ free.
-      has_if (ltb low n.0) (fault ORDER (place size bytes)) (Ok n) (λ rises.
+      has_unless (list_any (λ p. eqb p.entry n.0) procedures) (fault faults.Range (place size bytes)) (cond (ltb low n.0) (Ok n) (Err (fault faults.Order (place size bytes)))) (λ free.
+      has_if (ltb low n.0) (fault faults.Order (place size bytes)) (Ok n) (λ rises.
       has_ok n (record { parts = h.parts; rest_fits = h.rest_fits; keeps = record { rises = ltb-true _ _ rises; in_code = h.keeps.1; no_entry = no_entry procedures n.0 free } }))))
 
   label_offset_again : (low n : ℕ) (rest : List ℕ) → n < 2 ^ 32 → IsLabelOffset code_len procedures low n → label_offset_at size code_len procedures low (u32_bytes n ++ rest) ≡ Ok (n, rest)

@@ -1,7 +1,7 @@
 -- Reading PAR rows.
 use Rattle.std.specs.Prelude.{ℕ, zero, suc, ◌+◌, ℤ, pos, int_lt, int_le, nat_lt, nat_le, ◌==◌, ◌&&◌, ◌||◌, Bool, if◌then◌else◌, List, length, unsigned_abs, Ok, Err}
 use Rattle.std.specs.List.{list_any}
-use Rattle.module_format.specs.declared.fault.TheConstants.{ORDER, RANGE}
+use Rattle.module_format.specs.declared.fault.FormatFaultKind.TheVariants as faults
 use Rattle.module_format.specs.declared.rows.ChannelRow.{ChannelRow}
 use Rattle.module_format.specs.declared.rows.Interval.{Interval}
 use Rattle.module_format.specs.declared.rows.EndKind.{EndKind}
@@ -30,7 +30,7 @@ channel_at size low rest = do
 unfoldable pub interval_end_at : ℕ → ℤ → List ℕ → Read ℤ
 interval_end_at size lo rest = do
   hi ← int_at size rest
-  if int_lt lo hi.0 then Ok hi else Err (fault RANGE (place size rest))
+  if int_lt lo hi.0 then Ok hi else Err (fault faults.Range (place size rest))
 
 -- frame words from `low` on
 unfoldable pub words_at : ℕ → ℤ → List ℕ → Read Interval
@@ -43,7 +43,7 @@ words_at size low rest = do
 unfoldable pub read_words_at : ℕ → List Interval → ℤ → List ℕ → Read Interval
 read_words_at size writes low rest = do
   i ← words_at size low rest
-  if list_any (meet i.0) writes then Err (fault ORDER (place size rest)) else Ok i
+  if list_any (meet i.0) writes then Err (fault faults.Order (place size rest)) else Ok i
 
 -- ---- parameters and ends
 
@@ -51,14 +51,14 @@ read_words_at size writes low rest = do
 unfoldable pub parameter_number_at : ℕ → ℕ → List ℕ → Read ℕ
 parameter_number_at size low rest = do
   number ← number_at size 2 rest
-  if nat_lt number.0 low then Err (fault ORDER (place size rest)) else Ok number
+  if nat_lt number.0 low then Err (fault faults.Order (place size rest)) else Ok number
 
 -- a kind of end, which is not below that of the end before
 unfoldable pub end_kind_at : ℕ → EndKey → List ℕ → Read ℕ
 end_kind_at size before rest = do
   kind ← byte_at size rest
-  if nat_lt 2 kind.0 then Err (fault RANGE (place size rest))
-      else (if nat_lt kind.0 before.kind then Err (fault ORDER (place size rest)) else Ok kind)
+  if nat_lt 2 kind.0 then Err (fault faults.Range (place size rest))
+      else (if nat_lt kind.0 before.kind then Err (fault faults.Order (place size rest)) else Ok kind)
 
 -- a link has a number from 0 to 7
 abbrev pub is_number_of : ℕ → ℤ → Bool
@@ -69,24 +69,24 @@ unfoldable pub end_number_at : ℕ → EndKey → ℕ → List ℕ → Read ℤ
 end_number_at size before kind rest = do
   number ← int_at size rest
   if is_number_of kind number.0
-      then (if (kind == before.kind) && int_lt number.0 before.number then Err (fault ORDER (place size rest)) else Ok number)
-      else Err (fault RANGE (place size rest))
+      then (if (kind == before.kind) && int_lt number.0 before.number then Err (fault faults.Order (place size rest)) else Ok number)
+      else Err (fault faults.Range (place size rest))
 
 -- the element of an end, of which only a parameter's has one
 unfoldable pub end_element_at : ℕ → EndKey → ℕ → ℤ → List ℕ → Read ℕ
 end_element_at size before kind number rest = do
   element ← number_at size 4 rest
   if (kind == 1) || (element.0 == 0)
-      then (if (kind == before.kind) && (int_le number before.number && int_le before.number number) && nat_lt element.0 before.element then Err (fault ORDER (place size rest)) else Ok element)
-      else Err (fault RANGE (place size rest))
+      then (if (kind == before.kind) && (int_le number before.number && int_le before.number number) && nat_lt element.0 before.element then Err (fault faults.Order (place size rest)) else Ok element)
+      else Err (fault faults.Range (place size rest))
 
 -- the direction of an end, by which it is above the end before where all other fields are the same
 unfoldable pub end_direction_at : ℕ → EndKey → ℕ → ℤ → ℕ → List ℕ → Read ℕ
 end_direction_at size before kind number element rest = do
   direction ← byte_at size rest
   if (direction.0 == 1) || (direction.0 == 2)
-      then (if (kind == before.kind) && (int_le number before.number && int_le before.number number) && (element == before.element) && nat_le direction.0 before.direction then Err (fault ORDER (place size rest)) else Ok direction)
-      else Err (fault RANGE (place size rest))
+      then (if (kind == before.kind) && (int_le number before.number && int_le before.number number) && (element == before.element) && nat_le direction.0 before.direction then Err (fault faults.Order (place size rest)) else Ok direction)
+      else Err (fault faults.Range (place size rest))
 
 abbrev pub end_kind : ℕ → ℤ → ℕ → EndKind
 end_kind zero number element = ends.FrameWord number
@@ -111,8 +111,8 @@ unfoldable pub branch_entry_at : ℕ → ℕ → Before → List ℕ → Read �
 branch_entry_at size code_len before rest = do
   entry ← in_code_at size code_len rest
   if nat_lt before.low entry.0
-      then (if list_any (λ other. other == entry.0) before.entries then Err (fault RANGE (place size rest)) else Ok entry)
-      else Err (fault ORDER (place size rest))
+      then (if list_any (λ other. other == entry.0) before.entries then Err (fault faults.Range (place size rest)) else Ok entry)
+      else Err (fault faults.Order (place size rest))
 
 -- how many intervals, parameters and ends a branch has
 unfoldable pub branch_counts_at : ℕ → List ℕ → Read BranchCounts
@@ -142,13 +142,13 @@ branch_at size code_len before rest = do
 unfoldable pub context_number_at : ℕ → ℕ → List ℕ → Read ℕ
 context_number_at size count rest = do
   context ← number_at size 2 rest
-  if nat_lt context.0 count then Ok context else Err (fault RANGE (place size rest))
+  if nat_lt context.0 count then Ok context else Err (fault faults.Range (place size rest))
 
 -- a number of branches, at least 1
 unfoldable pub branch_count_at : ℕ → List ℕ → Read ℕ
 branch_count_at size rest = do
   count ← limited_at size 2 MAX_BRANCHES rest
-  if count.0 == 0 then Err (fault RANGE (place size rest)) else Ok count
+  if count.0 == 0 then Err (fault faults.Range (place size rest)) else Ok count
 
 unfoldable pub par_row_at : ℕ → ℕ → ℕ → Before → List ℕ → Read Par
 par_row_at size own code_len before rest = do

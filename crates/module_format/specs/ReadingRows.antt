@@ -1,7 +1,7 @@
 -- Reading facts, procedure rows, label rows and table rows.
 use Rattle.std.specs.Prelude.{ℕ, ◌-◌, ℤ, pos, int_lt, int_le, nat_lt, Bool, ◌==◌, ◌&&◌, ◌||◌, not, if◌then◌else◌, List, length, take, drop, Ok, Err}
 use Rattle.std.specs.List.{list_any, list_all}
-use Rattle.module_format.specs.declared.fault.TheConstants.{ORDER, RANGE}
+use Rattle.module_format.specs.declared.fault.FormatFaultKind.TheVariants as faults
 use Rattle.module_format.specs.declared.fact.Fact.{Fact}
 use Rattle.module_format.specs.declared.fact.Fact.TheVariants as facts
 use Rattle.module_format.specs.declared.fact.Step.{Step}
@@ -35,7 +35,7 @@ unfoldable pub step_at : ℕ → ℤ → ℤ → List ℕ → Read Step
 step_at size lo hi rest = do
   step ← byte_at size rest
   if step.0 == 1 then Ok (steps.Byte, step.1)
-      else (if (step.0 == 4) && is_stepped lo && is_stepped hi then Ok (steps.Word, step.1) else Err (fault RANGE (place size rest)))
+      else (if (step.0 == 4) && is_stepped lo && is_stepped hi then Ok (steps.Word, step.1) else Err (fault faults.Range (place size rest)))
 
 unfoldable pub pointer_at : ℕ → List ℕ → Read Fact
 pointer_at size rest = do
@@ -53,7 +53,7 @@ code_address_at size code_len rest = do
 unfoldable pub count_at : ℕ → ℤ → List ℕ → Read ℕ
 count_at size base rest = do
   count ← number_at size 4 rest
-  if is_loop_length base count.0 then Ok count else Err (fault RANGE (place size rest))
+  if is_loop_length base count.0 then Ok count else Err (fault faults.Range (place size rest))
 
 unfoldable pub loop_at : ℕ → List ℕ → Read Fact
 loop_at size rest = do
@@ -67,7 +67,7 @@ unfoldable pub fact_at : ℕ → ℕ → ℕ → ℕ → List ℕ → Read Fact
 fact_at size code_len at tag rest =
     if tag == 1 then range_at size rest
     else (if tag == 2 then pointer_at size rest
-    else (if tag == 3 then code_address_at size code_len rest else Err (fault RANGE at)))
+    else (if tag == 3 then code_address_at size code_len rest else Err (fault faults.Range at)))
 
 -- a fact of a register
 unfoldable pub register_at : ℕ → ℕ → List ℕ → Read Fact
@@ -88,13 +88,13 @@ word_at size code_len span rest = do
 unfoldable pub first_word_at : ℕ → ℤ → List ℕ → Read ℤ
 first_word_at size low rest = do
   word ← int_at size rest
-  if int_lt word.0 low then Err (fault ORDER (place size rest)) else Ok word
+  if int_lt word.0 low then Err (fault faults.Order (place size rest)) else Ok word
 
 -- a number of words, at least 1
 unfoldable pub span_at : ℕ → List ℕ → Read ℕ
 span_at size rest = do
   span ← number_at size 4 rest
-  if span.0 == 0 then Err (fault RANGE (place size rest)) else Ok span
+  if span.0 == 0 then Err (fault faults.Range (place size rest)) else Ok span
 
 unfoldable pub entry_at : ℕ → ℕ → ℤ → List ℕ → Read Entry
 entry_at size code_len low rest = do
@@ -113,8 +113,8 @@ entries_at size code_len rest = do
 unfoldable pub label_offset_at : ℕ → ℕ → List Procedure → ℕ → List ℕ → Read ℕ
 label_offset_at size code_len procedures low rest = do
   offset ← in_code_at size code_len rest
-  if list_any (λ p. p.entry == offset.0) procedures then Err (fault RANGE (place size rest))
-      else (if nat_lt low offset.0 then Ok offset else Err (fault ORDER (place size rest)))
+  if list_any (λ p. p.entry == offset.0) procedures then Err (fault faults.Range (place size rest))
+      else (if nat_lt low offset.0 then Ok offset else Err (fault faults.Order (place size rest)))
 
 -- the facts of A, B and C
 unfoldable pub registers_at : ℕ → ℕ → List ℕ → Read (Fact × Fact × Fact)
@@ -149,7 +149,7 @@ words_range_at size versions.Two rest = interval_at size rest
 unfoldable pub region_size_at : ℕ → List ℕ → Read ℕ
 region_size_at size rest = do
   bytes ← number_at size 4 rest
-  if is_region_size bytes.0 then Ok bytes else Err (fault RANGE (place size rest))
+  if is_region_size bytes.0 then Ok bytes else Err (fault faults.Range (place size rest))
 
 -- the kind of a parameter that names a region
 abbrev pub region_kind : Access → ℕ → ℤ → ℤ → ParameterKind
@@ -167,7 +167,7 @@ region_at size version kind rest = do
 unfoldable pub ends_at : ℕ → List ℕ → Read Ends
 ends_at size rest = do
   bits ← byte_at size rest
-  if are_ends bits.0 then Ok (record { 0 = bits.0 }, bits.1) else Err (fault RANGE (place size rest))
+  if are_ends bits.0 then Ok (record { 0 = bits.0 }, bits.1) else Err (fault faults.Range (place size rest))
 
 -- a number of channels, at least 1
 unfoldable pub channels_at : ℕ → List ℕ → Read ParameterKind
@@ -188,14 +188,14 @@ kind_at size version rest = do
   if kind.0 == 0 then value_at size kind.1
       else (if kind.0 == 1 then region_at size version kinds.ReadRegion kind.1
       else (if kind.0 == 2 then region_at size version kinds.WrittenRegion kind.1
-      else (if kind.0 == 3 then channels_at size kind.1 else Err (fault RANGE (place size rest)))))
+      else (if kind.0 == 3 then channels_at size kind.1 else Err (fault faults.Range (place size rest)))))
 
 -- the word of a parameter: below word `hi`, and behind the parameter before, in word `low`
 unfoldable pub parameter_word_at : ℕ → ℤ → ℕ → List ℕ → Read ℕ
 parameter_word_at size hi low rest = do
   word ← number_at size 2 rest
-  if (word.0 == 0) || int_le hi (pos word.0) then Err (fault RANGE (place size rest))
-      else (if nat_lt low word.0 then Ok word else Err (fault ORDER (place size rest)))
+  if (word.0 == 0) || int_le hi (pos word.0) then Err (fault faults.Range (place size rest))
+      else (if nat_lt low word.0 then Ok word else Err (fault faults.Order (place size rest)))
 
 unfoldable pub parameter_at : ℕ → Version → ℤ → ℕ → List ℕ → Read Parameter
 parameter_at size version hi low rest = do
@@ -212,18 +212,18 @@ parameters_at size version hi rest = do
 unfoldable pub frame_start_at : ℕ → List ℕ → Read ℤ
 frame_start_at size rest = do
   lo ← int_at size rest
-  if is_frame_start lo.0 then Ok lo else Err (fault RANGE (place size rest))
+  if is_frame_start lo.0 then Ok lo else Err (fault faults.Range (place size rest))
 
 unfoldable pub frame_end_at : ℕ → List ℕ → Read ℤ
 frame_end_at size rest = do
   hi ← int_at size rest
-  if is_frame_end hi.0 then Ok hi else Err (fault RANGE (place size rest))
+  if is_frame_end hi.0 then Ok hi else Err (fault faults.Range (place size rest))
 
 -- an offset in the code that isn't its first, behind `low`
 unfoldable pub rising_at : ℕ → ℕ → ℕ → List ℕ → Read ℕ
 rising_at size code_len low rest = do
   offset ← in_code_at size code_len rest
-  if nat_lt low offset.0 then Ok offset else Err (fault ORDER (place size rest))
+  if nat_lt low offset.0 then Ok offset else Err (fault faults.Order (place size rest))
 
 unfoldable pub procedure_row_at : ℕ → Version → ℕ → ℕ → List ℕ → Read Procedure
 procedure_row_at size version code_len low rest = do
@@ -244,14 +244,14 @@ procedure_rows_at size version code_len count rest =
 unfoldable pub table_start_at : ℕ → ℕ → List ℕ → Read ℕ
 table_start_at size low rest = do
   start ← number_at size 4 rest
-  if not (is_multiple_of_four start.0) then Err (fault RANGE (place size rest))
-      else (if nat_lt start.0 low then Err (fault ORDER (place size rest)) else Ok start)
+  if not (is_multiple_of_four start.0) then Err (fault faults.Range (place size rest))
+      else (if nat_lt start.0 low then Err (fault faults.Order (place size rest)) else Ok start)
 
 -- the end of a table in so many bytes of constants
 unfoldable pub table_end_at : ℕ → ℕ → ℕ → List ℕ → Read ℕ
 table_end_at size const_len start rest = do
   end ← number_at size 4 rest
-  if is_multiple_of_four end.0 && nat_lt start end.0 && not (nat_lt const_len end.0) then Ok end else Err (fault RANGE (place size rest))
+  if is_multiple_of_four end.0 && nat_lt start end.0 && not (nat_lt const_len end.0) then Ok end else Err (fault faults.Range (place size rest))
 
 -- the word lies from lo to hi
 abbrev pub is_within : ℤ → ℤ → ℤ → Bool
@@ -264,7 +264,7 @@ table_row_at size constants low rest = do
   range ← interval_at size end.1
   if list_all (is_within range.0.0 range.0.1) (words_of (take (end.0 - start.0) (drop start.0 constants)))
       then Ok (record { start = start.0; end = end.0; lo = range.0.0; hi = range.0.1 }, range.1)
-      else Err (fault RANGE (place size end.1))
+      else Err (fault faults.Range (place size end.1))
 
 unfoldable pub table_rows_at : ℕ → List ℕ → ℕ → List ℕ → Read (List TableRow)
 table_rows_at size constants count rest = list_at (table_row_at size constants) behind_table count 0 rest

@@ -1,5 +1,6 @@
 -- What a cursor did that keeps its first failure.
 use Rattle.std.specs.Prelude.{◌≡◌, ⊤, ℕ, Bool, true, false, List, Option, Some, None, Result, Ok, Err}
+use Rattle.module_format.specs.declared.fault.FormatFaultKind.{FormatFaultKind}
 use Rattle.module_format.specs.declared.fault.ReadError.{ReadError}
 use Rattle.module_format.specs.declared.fault.ReadError.TheVariants as errors
 use Rattle.module_format.specs.declared.reading.cursor.Cursor.{Cursor}
@@ -35,10 +36,10 @@ pub record Stays (old new : Cursor) : Type 0 where
   pub rest : new.rest.now ≡ old.rest.now
 
 -- the failure after a test of a field at an offset
-abbrev pub failure_after : Option ReadError → Bool → ℕ → ℕ → Option ReadError
-failure_after (Some e) holds number at = Some e
-failure_after None true number at = None
-failure_after None false number at = Some (errors.Fault (fault number at))
+abbrev pub failure_after : Option ReadError → Bool → FormatFaultKind → ℕ → Option ReadError
+failure_after (Some e) holds kind at = Some e
+failure_after None true kind at = None
+failure_after None false kind at = Some (errors.Fault (fault kind at))
 
 -- the failure after memory ran out
 abbrev pub memory_after : Option ReadError → Option ReadError

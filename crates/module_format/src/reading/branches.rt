@@ -29,7 +29,7 @@ ghost use Rattle.module_format.specs.ReadingPars.{
 };
 ghost use Rattle.module_format.specs.Taking.{Takes, MayRunOut};
 
-use crate::fault::{ORDER, RANGE};
+use crate::fault::FormatFaultKind;
 use crate::reading::cursor::Cursor;
 use crate::reading::ends::EndRows;
 use crate::reading::facts::{LEAST_WORD, read_first_word};
@@ -56,7 +56,7 @@ fn read_interval_end(lo: i32, from: &mut Cursor<'_>) -> i32
 {
     let at = from.place();
     let hi = from.i32();
-    from.check(at, lo < hi, RANGE);
+    from.check(at, lo < hi, FormatFaultKind::Range);
     hi
 }
 
@@ -133,7 +133,11 @@ impl Reader for Reads<'_> {
     fn read(&mut self, from: &mut Cursor<'_>) -> Interval {
         let at = from.place();
         let interval = read_words(self.low, from);
-        from.check(at, !meets_any(&interval, self.writes), ORDER);
+        from.check(
+            at,
+            !meets_any(&interval, self.writes),
+            FormatFaultKind::Order,
+        );
         self.low = i64::from(interval.hi);
         interval
     }
@@ -180,7 +184,7 @@ impl Reader for ParameterNumbers {
     fn read(&mut self, from: &mut Cursor<'_>) -> u16 {
         let at = from.place();
         let number = from.u16();
-        from.check(at, self.low <= u32::from(number), ORDER);
+        from.check(at, self.low <= u32::from(number), FormatFaultKind::Order);
         self.low = u32::from(number) + 1;
         number
     }
@@ -273,8 +277,8 @@ impl Branches {
     {
         let at = from.place();
         let entry = from.in_code(self.code_len);
-        from.check(at, self.low < entry, ORDER);
-        from.check(at, !self.taken.contains(entry), RANGE);
+        from.check(at, self.low < entry, FormatFaultKind::Order);
+        from.check(at, !self.taken.contains(entry), FormatFaultKind::Range);
         entry
     }
 }

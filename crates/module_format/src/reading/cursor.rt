@@ -2,7 +2,7 @@
 
 ghost use Rattle.module_format.specs.Order.{IsBytes};
 
-use crate::fault::{FormatFault, ReadError, TRUNCATED};
+use crate::fault::{FormatFault, FormatFaultKind, ReadError};
 use byteorder::{ByteOrder, LittleEndian};
 
 /// What is left of a file. Once it has failed, it reads nothing and keeps that failure.
@@ -17,7 +17,7 @@ pub(crate) struct Cursor<'a> {
 impl<'a> Cursor<'a> {
     ghost use Rattle.std.specs.Prelude.{◌≡◌, ◌≤◌, ◌+◌, ◌^◌, ◌<◌, ◌==◌, nat_eq, length, drop, IfSome, is_some, None, true, false};
     ghost use Rattle.std.specs.List.{starts_with};
-    ghost use Rattle.module_format.specs.declared.fault.TheConstants.{TRUNCATED};
+    ghost use Rattle.module_format.specs.declared.fault.FormatFaultKind.TheVariants.{Truncated};
     ghost use Rattle.module_format.specs.Taking.{Takes, Stays, failure_after, failure_of, memory_after};
     ghost use Rattle.module_format.specs.Reading.{place, number_at, int_at, byte_at, bytes_at};
 
@@ -66,12 +66,12 @@ impl<'a> Cursor<'a> {
     }
 
     /// Fails at an offset, unless it has failed before.
-    pub(crate) fn fail(&mut self, at: usize, number: u8)
-        ensures failure { self.new.failure ≡ failure_after self.old.failure false number at }
+    pub(crate) fn fail(&mut self, at: usize, kind: FormatFaultKind)
+        ensures failure { self.new.failure ≡ failure_after self.old.failure false kind at }
         ensures stays { Stays self.old self.new }
     {
         if self.failure.is_none() {
-            self.failure = Some(ReadError::Fault(FormatFault { number, offset: at }));
+            self.failure = Some(ReadError::Fault(FormatFault::new(kind, at)));
         }
     }
 
@@ -86,12 +86,12 @@ impl<'a> Cursor<'a> {
     }
 
     /// Fails at an offset unless a test of the field there holds.
-    pub(crate) fn check(&mut self, at: usize, holds: bool, number: u8)
-        ensures failure { self.new.failure ≡ failure_after self.old.failure holds number at }
+    pub(crate) fn check(&mut self, at: usize, holds: bool, kind: FormatFaultKind)
+        ensures failure { self.new.failure ≡ failure_after self.old.failure holds kind at }
         ensures stays { Stays self.old self.new }
     {
         if !holds {
-            self.fail(at, number);
+            self.fail(at, kind);
         }
     }
 
@@ -99,7 +99,7 @@ impl<'a> Cursor<'a> {
     fn advance(&mut self, len: usize) -> Option<&'a [u8]>
         ensures advanced { IfSome result (λ ahead. (self.old.failure ≡ None) × (self.new.failure ≡ None) × (len ≤ length self.old.rest.now)
             × (ahead.now ≡ self.old.rest.now) × (self.new.rest.now ≡ drop len self.old.rest.now)) }
-        ensures failed { result ≡ None → (self.new.failure ≡ failure_after self.old.failure false TRUNCATED self.old.size)
+        ensures failed { result ≡ None → (self.new.failure ≡ failure_after self.old.failure false Truncated self.old.size)
             × (self.old.failure ≡ None → length self.old.rest.now < len) }
         ensures same { self.new.size ≡ self.old.size }
     {
@@ -107,7 +107,7 @@ impl<'a> Cursor<'a> {
             return None;
         }
         if self.rest.len() < len {
-            self.fail(self.size, TRUNCATED);
+            self.fail(self.size, FormatFaultKind::Truncated);
             return None;
         }
         let ahead = self.rest;

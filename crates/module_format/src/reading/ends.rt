@@ -16,7 +16,7 @@ ghost use Rattle.module_format.specs.ReadingPars.{
 };
 ghost use Rattle.module_format.specs.Taking.{Takes};
 
-use crate::fault::{ORDER, RANGE};
+use crate::fault::FormatFaultKind;
 use crate::reading::cursor::Cursor;
 use crate::reading::list::Reader;
 use crate::rows::{Direction, EndKey, EndKind, EndRow};
@@ -28,8 +28,8 @@ fn read_end_kind(before: EndKey, from: &mut Cursor<'_>) -> u8
 {
     let at = from.place();
     let kind = from.u8();
-    from.check(at, kind <= 2, RANGE);
-    from.check(at, before.kind <= kind, ORDER);
+    from.check(at, kind <= 2, FormatFaultKind::Range);
+    from.check(at, before.kind <= kind, FormatFaultKind::Order);
     kind
 }
 
@@ -49,11 +49,11 @@ fn read_end_number(before: EndKey, kind: u8, from: &mut Cursor<'_>) -> i32
     let at = from.place();
     let number = from.i32();
     if !is_number_of(kind, number) {
-        from.fail(at, RANGE);
+        from.fail(at, FormatFaultKind::Range);
         return 0;
     }
     if kind == before.kind {
-        from.check(at, before.number <= number, ORDER);
+        from.check(at, before.number <= number, FormatFaultKind::Order);
     }
     number
 }
@@ -65,10 +65,10 @@ fn read_end_element(before: EndKey, kind: u8, number: i32, from: &mut Cursor<'_>
 {
     let at = from.place();
     let element = from.u32();
-    from.check(at, kind == 1 || element == 0, RANGE);
+    from.check(at, kind == 1 || element == 0, FormatFaultKind::Range);
     let is_same = kind == before.kind && number == before.number;
     if is_same {
-        from.check(at, before.element <= element, ORDER);
+        from.check(at, before.element <= element, FormatFaultKind::Order);
     }
     element
 }
@@ -86,10 +86,10 @@ fn read_end_direction(
 {
     let at = from.place();
     let direction = from.u8();
-    from.check(at, direction == 1 || direction == 2, RANGE);
+    from.check(at, direction == 1 || direction == 2, FormatFaultKind::Range);
     let is_same = kind == before.kind && number == before.number && element == before.element;
     if is_same {
-        from.check(at, before.direction < direction, ORDER);
+        from.check(at, before.direction < direction, FormatFaultKind::Order);
     }
     direction
 }

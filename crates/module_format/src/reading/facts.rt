@@ -22,7 +22,7 @@ ghost use Rattle.module_format.specs.ReadingRows.{
 ghost use Rattle.module_format.specs.Taking.{Takes};
 
 use crate::fact::{Fact, Step};
-use crate::fault::{ORDER, RANGE};
+use crate::fault::FormatFaultKind;
 use crate::reading::cursor::Cursor;
 use crate::reading::list::{Reader, fill};
 use crate::rows::Entry;
@@ -51,7 +51,11 @@ fn read_step(lo: i32, hi: i32, from: &mut Cursor<'_>) -> Step
     if step == 1 {
         return Step::Byte;
     }
-    from.check(at, step == 4 && is_stepped(lo) && is_stepped(hi), RANGE);
+    from.check(
+        at,
+        step == 4 && is_stepped(lo) && is_stepped(hi),
+        FormatFaultKind::Range,
+    );
     Step::Word
 }
 
@@ -87,7 +91,7 @@ fn read_turn_count(base: i32, from: &mut Cursor<'_>) -> u32
 {
     let at = from.place();
     let count = from.u32();
-    from.check(at, is_loop_length(base, count), RANGE);
+    from.check(at, is_loop_length(base, count), FormatFaultKind::Range);
     count
 }
 
@@ -116,7 +120,7 @@ fn read_common_fact(code_len: u32, at: usize, tag: u8, from: &mut Cursor<'_>) ->
         2 => read_pointer(from),
         3 => read_code_address(code_len, from),
         _ => {
-            from.fail(at, RANGE);
+            from.fail(at, FormatFaultKind::Range);
             Fact::Unknown
         }
     }
@@ -156,7 +160,7 @@ pub fn read_first_word(low: i64, from: &mut Cursor<'_>) -> i32
 {
     let at = from.place();
     let word = from.i32();
-    from.check(at, low <= i64::from(word), ORDER);
+    from.check(at, low <= i64::from(word), FormatFaultKind::Order);
     word
 }
 
@@ -167,7 +171,7 @@ pub fn read_span(from: &mut Cursor<'_>) -> u32
 {
     let at = from.place();
     let span = from.u32();
-    from.check(at, span != 0, RANGE);
+    from.check(at, span != 0, FormatFaultKind::Range);
     span
 }
 

@@ -3,7 +3,7 @@
 ghost use Rattle.module_format.specs.Reading.{limited_at, positive_at, at_most_at, in_code_at, interval_at};
 ghost use Rattle.module_format.specs.Taking.{Takes};
 
-use crate::fault::{LIMIT, RANGE};
+use crate::fault::FormatFaultKind;
 use crate::reading::cursor::Cursor;
 
 impl Cursor<'_> {
@@ -14,7 +14,7 @@ impl Cursor<'_> {
     {
         let at = self.place();
         let value = self.u16();
-        self.check(at, value <= limit, LIMIT);
+        self.check(at, value <= limit, FormatFaultKind::Limit);
         value
     }
 
@@ -25,7 +25,7 @@ impl Cursor<'_> {
     {
         let at = self.place();
         let value = self.u32();
-        self.check(at, value <= limit, LIMIT);
+        self.check(at, value <= limit, FormatFaultKind::Limit);
         value
     }
 
@@ -36,7 +36,7 @@ impl Cursor<'_> {
     {
         let at = self.place();
         let value = self.u64();
-        self.check(at, value <= limit, LIMIT);
+        self.check(at, value <= limit, FormatFaultKind::Limit);
         value
     }
 
@@ -47,7 +47,7 @@ impl Cursor<'_> {
     {
         let at = self.place();
         let value = self.limited_u32(limit);
-        self.check(at, value != 0, RANGE);
+        self.check(at, value != 0, FormatFaultKind::Range);
         value
     }
 
@@ -58,7 +58,7 @@ impl Cursor<'_> {
     {
         let at = self.place();
         let value = self.u32();
-        self.check(at, value <= most, RANGE);
+        self.check(at, value <= most, FormatFaultKind::Range);
         value
     }
 
@@ -69,7 +69,7 @@ impl Cursor<'_> {
     {
         let at = self.place();
         let offset = self.u32();
-        self.check(at, offset != 0 && offset < code_len, RANGE);
+        self.check(at, offset != 0 && offset < code_len, FormatFaultKind::Range);
         offset
     }
 
@@ -81,7 +81,7 @@ impl Cursor<'_> {
         let lo = self.i32();
         let at = self.place();
         let hi = self.i32();
-        self.check(at, lo <= hi, RANGE);
+        self.check(at, lo <= hi, FormatFaultKind::Range);
         (lo, hi)
     }
 }

@@ -9,7 +9,7 @@ ghost use Rattle.module_format.specs.ReadingFile.{tables_at, ended_at, read_cont
 ghost use Rattle.module_format.specs.Taking.{Takes};
 
 use crate::contexts::Contexts;
-use crate::fault::{FormatFault, LEFT_OVER, ReadError};
+use crate::fault::{FormatFault, FormatFaultKind, ReadError};
 use crate::places::{Place, places_of};
 use crate::reading::cursor::Cursor;
 use crate::reading::header::{Header, read_header};
@@ -72,10 +72,7 @@ pub fn tables_of(alloc: Global, bytes: &[u8]) -> Result<(Tables<'_>, Vec<Place>)
     let places = places_of(alloc, &tables)?;
     late_rows(&Contexts::of_places(&tables, &places), rows)?;
     if !from.is_at_end() {
-        return Err(ReadError::Fault(FormatFault {
-            number: LEFT_OVER,
-            offset: from.place(),
-        }));
+        return Err(ReadError::Fault(FormatFault::new(FormatFaultKind::LeftOver, from.place())));
     }
     Ok((tables, places))
 }

@@ -14,7 +14,7 @@ ghost use Rattle.module_format.specs.ReadingFile.{
 };
 ghost use Rattle.module_format.specs.Taking.{Takes};
 
-use crate::fault::MAGIC;
+use crate::fault::FormatFaultKind;
 use crate::limits::{
     MAX_BUDGET, MAX_CODE, MAX_CONSTANTS, MAX_DATA_WORDS, MAX_LABELS, MAX_LONG_CODE, MAX_MESSAGE,
     MAX_PARS, MAX_PROCEDURES, MAX_TABLES,
@@ -44,7 +44,7 @@ fn read_magic(from: &mut Cursor<'_>) -> Version
     if from.skip(b"TPM2") {
         return Version::Two;
     }
-    from.fail(0, MAGIC);
+    from.fail(0, FormatFaultKind::Magic);
     Version::One
 }
 

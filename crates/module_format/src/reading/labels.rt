@@ -7,7 +7,7 @@ ghost use Rattle.module_format.specs.Facts.{behind_label};
 ghost use Rattle.module_format.specs.ReadingRows.{label_offset_at, label_row_at, label_rows_at};
 ghost use Rattle.module_format.specs.Taking.{Takes};
 
-use crate::fault::{ORDER, RANGE};
+use crate::fault::FormatFaultKind;
 use crate::offsets::is_entry;
 use crate::reading::cursor::Cursor;
 use crate::reading::facts::{read_entries, read_registers};
@@ -28,8 +28,8 @@ fn read_label_offset(
 {
     let at = from.place();
     let offset = from.in_code(code_len);
-    from.check(at, !is_entry(procedures, offset), RANGE);
-    from.check(at, low < offset, ORDER);
+    from.check(at, !is_entry(procedures, offset), FormatFaultKind::Range);
+    from.check(at, low < offset, FormatFaultKind::Order);
     offset
 }
 

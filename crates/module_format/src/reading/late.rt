@@ -3,6 +3,7 @@
 ghost use Rattle.std.specs.Prelude.{◌≡◌, ◌+◌, ◌^◌, ◌<◌, ◌≤◌, ⊤, ℕ, List, length, map, IfOk, Result};
 ghost use Rattle.std.specs.List.{flat_map};
 ghost use Rattle.module_format.specs.declared.fault.FormatFault.{FormatFault};
+ghost use Rattle.module_format.specs.declared.fault.FormatFaultKind.TheVariants.{Range};
 ghost use Rattle.module_format.specs.declared.rows.Entry.{Entry};
 ghost use Rattle.module_format.specs.Contents.{Label, label_of};
 ghost use Rattle.module_format.specs.Spelling.{fact_bytes, entry_bytes, label_bytes, par_bytes};
@@ -11,18 +12,15 @@ ghost use Rattle.module_format.specs.Late.{late_fact, late_entry, late_list, lat
 
 use crate::contexts::{Context, Contexts};
 use crate::fact::Fact;
-use crate::fault::{FormatFault, RANGE};
+use crate::fault::{FormatFault, FormatFaultKind};
 use crate::reading::facts::end_of;
 use crate::rows::{Entry, LabelRow};
 
 /// What a field names is not there.
 pub(crate) fn not_there(offset: usize) -> FormatFault
-    ensures { result ≡ fault RANGE offset }
+    ensures { result ≡ fault Range offset }
 {
-    FormatFault {
-        number: RANGE,
-        offset,
-    }
+    FormatFault::new(FormatFaultKind::Range, offset)
 }
 
 /// An item of a list, which is looked at in a context.

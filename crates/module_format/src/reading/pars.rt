@@ -9,7 +9,7 @@ ghost use Rattle.module_format.specs.Reading.{list_at};
 ghost use Rattle.module_format.specs.ReadingPars.{channel_at, context_number_at, branch_count_at, par_row_at, par_rows_at};
 ghost use Rattle.module_format.specs.Taking.{Takes};
 
-use crate::fault::RANGE;
+use crate::fault::FormatFaultKind;
 use crate::limits::{MAX_BRANCHES, MAX_MESSAGE};
 use crate::reading::branches::Branches;
 use crate::reading::cursor::Cursor;
@@ -70,7 +70,7 @@ fn read_context_number(count: usize, from: &mut Cursor<'_>) -> u16
 {
     let at = from.place();
     let context = from.u16();
-    from.check(at, usize::from(context) < count, RANGE);
+    from.check(at, usize::from(context) < count, FormatFaultKind::Range);
     context
 }
 
@@ -81,7 +81,7 @@ fn read_branch_count(from: &mut Cursor<'_>) -> u16
 {
     let at = from.place();
     let count = from.limited_u16(MAX_BRANCHES);
-    from.check(at, count != 0, RANGE);
+    from.check(at, count != 0, FormatFaultKind::Range);
     count
 }
 

@@ -26,7 +26,7 @@ ghost use Rattle.module_format.specs.ReadingRows.{
 };
 ghost use Rattle.module_format.specs.Taking.{Takes};
 
-use crate::fault::{ORDER, RANGE};
+use crate::fault::FormatFaultKind;
 use crate::limits::{MAX_MESSAGE, MAX_PARAMETERS};
 use crate::reading::cursor::Cursor;
 use crate::reading::facts::read_span;
@@ -55,7 +55,7 @@ fn read_region_size(from: &mut Cursor<'_>) -> u32
 {
     let at = from.place();
     let bytes = from.u32();
-    from.check(at, is_region_size(bytes), RANGE);
+    from.check(at, is_region_size(bytes), FormatFaultKind::Range);
     bytes
 }
 
@@ -95,7 +95,7 @@ fn read_ends(from: &mut Cursor<'_>) -> Ends
 {
     let at = from.place();
     let bits = from.u8();
-    from.check(at, are_ends(bits), RANGE);
+    from.check(at, are_ends(bits), FormatFaultKind::Range);
     Ends::from_bits_retain(bits)
 }
 
@@ -136,7 +136,7 @@ fn read_parameter_kind(version: Version, from: &mut Cursor<'_>) -> ParameterKind
         2 => read_region(version, Access::Write, from),
         3 => read_channels(from),
         _ => {
-            from.fail(at, RANGE);
+            from.fail(at, FormatFaultKind::Range);
             ParameterKind::Value { lo: 0, hi: 0 }
         }
     }
@@ -149,8 +149,12 @@ fn read_parameter_word(hi: i32, low: u16, from: &mut Cursor<'_>) -> u16
 {
     let at = from.place();
     let word = from.u16();
-    from.check(at, word != 0 && i32::from(word) < hi, RANGE);
-    from.check(at, low < word, ORDER);
+    from.check(
+        at,
+        word != 0 && i32::from(word) < hi,
+        FormatFaultKind::Range,
+    );
+    from.check(at, low < word, FormatFaultKind::Order);
     word
 }
 
@@ -218,7 +222,7 @@ fn read_frame_start(from: &mut Cursor<'_>) -> i32
 {
     let at = from.place();
     let lo = from.i32();
-    from.check(at, is_frame_start(lo), RANGE);
+    from.check(at, is_frame_start(lo), FormatFaultKind::Range);
     lo
 }
 
@@ -229,7 +233,7 @@ fn read_frame_end(from: &mut Cursor<'_>) -> i32
 {
     let at = from.place();
     let hi = from.i32();
-    from.check(at, is_frame_end(hi), RANGE);
+    from.check(at, is_frame_end(hi), FormatFaultKind::Range);
     hi
 }
 
@@ -240,7 +244,7 @@ fn read_procedure_entry(code_len: u32, low: u32, from: &mut Cursor<'_>) -> u32
 {
     let at = from.place();
     let offset = from.in_code(code_len);
-    from.check(at, low < offset, ORDER);
+    from.check(at, low < offset, FormatFaultKind::Order);
     offset
 }
 

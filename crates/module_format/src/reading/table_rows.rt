@@ -7,7 +7,7 @@ ghost use Rattle.module_format.specs.Procedures.{words_of, behind_table};
 ghost use Rattle.module_format.specs.ReadingRows.{table_start_at, table_end_at, is_within, table_row_at, table_rows_at};
 ghost use Rattle.module_format.specs.Taking.{Takes};
 
-use crate::fault::{ORDER, RANGE};
+use crate::fault::FormatFaultKind;
 use crate::reading::cursor::Cursor;
 use crate::reading::list::{Reader, fill};
 use crate::rows::TableRow;
@@ -22,8 +22,8 @@ fn read_table_start(low: u32, from: &mut Cursor<'_>) -> u32
 {
     let at = from.place();
     let start = from.u32();
-    from.check(at, is_multiple_of_four(start), RANGE);
-    from.check(at, low <= start, ORDER);
+    from.check(at, is_multiple_of_four(start), FormatFaultKind::Range);
+    from.check(at, low <= start, FormatFaultKind::Order);
     start
 }
 
@@ -36,7 +36,7 @@ fn read_table_end(const_len: usize, start: u32, from: &mut Cursor<'_>) -> u32
     let at = from.place();
     let end = from.u32();
     let is_inside = is_multiple_of_four(end) && start < end && end as usize <= const_len;
-    from.check(at, is_inside, RANGE);
+    from.check(at, is_inside, FormatFaultKind::Range);
     end
 }
 
@@ -93,7 +93,7 @@ impl Reader for TableRows<'_> {
             return TableRow { start, end, lo, hi };
         }
         let words = &self.constants[start as usize..end as usize];
-        from.check(at, words_lie_within(words, lo, hi), RANGE);
+        from.check(at, words_lie_within(words, lo, hi), FormatFaultKind::Range);
         TableRow { start, end, lo, hi }
     }
 }
