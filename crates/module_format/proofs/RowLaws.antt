@@ -1,10 +1,10 @@
 -- The laws of facts, entries and label rows.
-use Rattle.std.proofs.Common.{◌≡◌, ◌≢◌, ℕ, ◌^◌, ◌<◌, ◌≤◌, ℤ, pos, ◌+ℤ◌, ◌≤ℤ◌, true, false, ◌&&◌, ◌||◌, cond, ltb, eqb, List, [], ◌∷◌, ◌++◌, length, Ok, Err, refl, ap, ◌∙◌, append_assoc, arith, FitsSigned}
-use Rattle.std.specs.Prelude.{nat_le, int_lt, int_le}
+use Rattle.std.proofs.Common.{◌≡◌, ◌≢◌, ℕ, ◌^◌, ◌<◌, ◌≤◌, ℤ, pos, ◌+ℤ◌, ◌≤ℤ◌, true, false, ◌&&◌, ◌||◌, cond, eqb, List, [], ◌∷◌, ◌++◌, length, Ok, Err, refl, ap, ◌∙◌, append_assoc, arith, FitsSigned}
+use Rattle.std.specs.Prelude.{nat_le, int_le}
 use Rattle.std.specs.Int.{w32}
 use Rattle.std.specs.List.{flat_map, list_any, AllByRecursion}
 use Rattle.std.proofs.lemmas.Int.{ints}
-use Rattle.std.proofs.lemmas.Bool.{leb-true, le-leb, ltb-true, lt-ltb, eqb-true, and_parts}
+use Rattle.std.proofs.lemmas.Bool.{leb-true, le-leb, ltb-true, lt-ltb, eqb-true, not-true, and_parts}
 use Rattle.module_format.specs.declared.fault.FormatFaultKind.TheVariants as faults
 use Rattle.module_format.specs.declared.fact.Fact.{Fact}
 use Rattle.module_format.specs.declared.fact.Fact.TheVariants as facts
@@ -17,8 +17,8 @@ use Rattle.module_format.specs.Facts.{IsStepped, IsPointer, is_loop_length, IsLo
 use Rattle.module_format.specs.Spelling.{u16_bytes, u32_bytes, u64_bytes, i32_bytes, step_size, fact_bytes, entry_bytes, label_bytes}
 use Rattle.module_format.specs.Reading.{and_then, fault, place, byte_at, list_at}
 use Rattle.module_format.specs.ReadingRows.{range_at, step_at, pointer_at, code_address_at, count_at, loop_at, fact_at, register_at, word_at, first_word_at, span_at, entry_at, entries_at, label_offset_at, registers_at, label_row_at, label_rows_at}
-use Rattle.module_format.proofs.Tools.{Has, has_ok, has_err, has_then, has_unless, has_if, has_cond, has_weaker, step, Spelled, join, list_takes, list_again}
-use Rattle.module_format.proofs.FieldLaws.{IsBytes-rest, eqb-false, eqb-differ, int_lt-false, int_le-lt, int_le-true, int_le-le, wide16, wide64, number_takes, number_again, u32_takes, u32_again, int_takes, int_again, byte_takes, at_most_takes, at_most_again, interval_takes, interval_again, in_code_takes, in_code_again}
+use Rattle.module_format.proofs.Tools.{Has, has_ok, has_err, has_then, has_if, has_cond, has_weaker, step, Spelled, join, tested_takes, tested_again, list_takes, list_again}
+use Rattle.module_format.proofs.FieldLaws.{IsBytes-rest, eqb-false, eqb-differ, int_le-true, int_le-le, wide16, wide64, number_takes, number_again, u32_takes, u32_again, int_takes, int_again, byte_takes, at_most_takes, at_most_again, interval_takes, interval_again, in_code_takes, in_code_again}
 
 -- ---- facts
 
@@ -74,16 +74,13 @@ module _ (size : ℕ) where
   -- a count that isn't 0, and whose last index is a word
   count_takes : (base : ℤ) (bytes : List ℕ) → IsBytes bytes → Has (count_at size base bytes) (Spelled bytes u32_bytes (λ n. (1 ≤ n) × (pos n ≤ℤ greatest_word) × ((base +ℤ pos n) ≤ℤ pos 2147483648)))
   unfolding count_at
-  count_takes base bytes fits =
-      has_then _ _ (u32_takes size bytes fits) (λ n h.
-      has_if (is_loop_length base n.0) (fault faults.Range (place size bytes)) (Ok n) (λ short.
-      has_ok n (record { parts = h.parts; rest_fits = h.rest_fits; keeps = loop_parts base n.0 short })))
+  count_takes base bytes fits = tested_takes _ _ _ _ bytes (u32_takes size bytes fits) (λ n below short. loop_parts base n short)
 
   count_again : (base : ℤ) (n : ℕ) (rest : List ℕ) → 1 ≤ n → pos n ≤ℤ greatest_word → (base +ℤ pos n) ≤ℤ pos 2147483648 → count_at size base (u32_bytes n ++ rest) ≡ Ok (n, rest)
   unfolding count_at
   count_again base n rest some limit last =
       let lt : n < 2 ^ 32 = omega (arith, ints) in
-      step _ (u32_again size n rest lt) (rw (le-leb _ _ some, int_le-le _ _ limit, int_le-le _ _ last) refl)
+      tested_again _ _ _ _ (u32_again size n rest lt) (rw (le-leb _ _ some, int_le-le _ _ limit, int_le-le _ _ last) refl)
 
   loop_again : (base : ℤ) (count weight : ℕ) (rest : List ℕ) → IsLoop base count weight → loop_at size ((i32_bytes base ++ u32_bytes count ++ u64_bytes weight) ++ rest) ≡ Ok (facts.Loop base count weight, rest)
   unfolding loop_at
@@ -210,28 +207,20 @@ module _ (size code_len : ℕ) (small : code_len < 2 ^ 32) where
 module _ (size : ℕ) where
   pub first_word_takes : (low : ℤ) (bytes : List ℕ) → IsBytes bytes → Has (first_word_at size low bytes) (Spelled bytes i32_bytes (λ z. FitsSigned w32 z × (low ≤ℤ z)))
   unfolding first_word_at
-  first_word_takes low bytes fits =
-      has_then _ _ (int_takes size bytes fits) (λ z h.
-      has_unless (int_lt z.0 low) (fault faults.Order (place size bytes)) (Ok z) (λ apart.
-      has_ok z (record { parts = h.parts; rest_fits = h.rest_fits; keeps = (h.keeps, int_lt-false _ _ apart) })))
+  first_word_takes low bytes fits = tested_takes _ _ _ _ bytes (int_takes size bytes fits) (λ z fits apart. (fits, int_le-true _ _ apart))
 
   pub first_word_again : (low z : ℤ) (rest : List ℕ) → FitsSigned w32 z → low ≤ℤ z → first_word_at size low (i32_bytes z ++ rest) ≡ Ok (z, rest)
   unfolding first_word_at
-  first_word_again low z rest fits apart = step _ (int_again size z rest fits) (rw (int_le-lt _ _ apart) refl)
+  first_word_again low z rest fits apart = tested_again _ _ _ _ (int_again size z rest fits) (int_le-le _ _ apart)
 
   -- a number that isn't 0
   pub span_takes : (bytes : List ℕ) → IsBytes bytes → Has (span_at size bytes) (Spelled bytes u32_bytes (λ n. (n < 2 ^ 32) × (1 ≤ n)))
   unfolding span_at
-  span_takes bytes fits =
-      has_then _ _ (u32_takes size bytes fits) (λ n h.
-      has_unless (eqb n.0 0) (fault faults.Range (place size bytes)) (Ok n) (λ some.
-      has_ok n (record { parts = h.parts; rest_fits = h.rest_fits; keeps = (h.keeps, let differ : n.0 ≢ 0 = eqb-false _ _ some in omega arith) })))
+  span_takes bytes fits = tested_takes _ _ _ _ bytes (u32_takes size bytes fits) (λ n below some. (below, leb-true _ _ some))
 
   pub span_again : (n : ℕ) (rest : List ℕ) → n < 2 ^ 32 → 1 ≤ n → span_at size (u32_bytes n ++ rest) ≡ Ok (n, rest)
   unfolding span_at
-  span_again n rest fits some =
-      let differ : n ≢ 0 = omega arith in
-      step _ (u32_again size n rest fits) (rw (eqb-differ _ _ differ) refl)
+  span_again n rest fits some = tested_again _ _ _ _ (u32_again size n rest fits) (le-leb _ _ some)
 
 module _ (size code_len : ℕ) where
   entry_takes : (low : ℤ) (bytes : List ℕ) → IsBytes bytes → Has (entry_at size code_len low bytes) (Spelled bytes entry_bytes (EntryKeeps code_len low))
@@ -289,16 +278,15 @@ module _ (size code_len : ℕ) (procedures : List Procedure) where
   label_offset_takes : (low : ℕ) (bytes : List ℕ) → IsBytes bytes → Has (label_offset_at size code_len procedures low bytes) (Spelled bytes u32_bytes (IsLabelOffset code_len procedures low))
   unfolding label_offset_at
   label_offset_takes low bytes fits =
-      has_then _ _ (in_code_takes size code_len bytes fits) (λ n h.
-      has_unless (list_any (λ p. eqb p.entry n.0) procedures) (fault faults.Range (place size bytes)) (cond (ltb low n.0) (Ok n) (Err (fault faults.Order (place size bytes)))) (λ free.
-      has_if (ltb low n.0) (fault faults.Order (place size bytes)) (Ok n) (λ rises.
-      has_ok n (record { parts = h.parts; rest_fits = h.rest_fits; keeps = record { rises = ltb-true _ _ rises; in_code = h.keeps.1; no_entry = no_entry procedures n.0 free } }))))
+      let free = tested_takes _ _ _ _ {Q = λ n. (n < code_len) × AllByRecursion (λ p. p.entry ≢ n) procedures} bytes (in_code_takes size code_len bytes fits) (λ n h free. (h.1, no_entry procedures n (not-true _ free))) in
+      tested_takes _ _ _ _ bytes free (λ n h rises. record { rises = ltb-true _ _ rises; in_code = h.0; no_entry = h.1 })
 
   label_offset_again : (low n : ℕ) (rest : List ℕ) → n < 2 ^ 32 → IsLabelOffset code_len procedures low n → label_offset_at size code_len procedures low (u32_bytes n ++ rest) ≡ Ok (n, rest)
   unfolding label_offset_at
   label_offset_again low n rest fits h =
       let some : 1 ≤ n = let r = h.rises in omega arith in
-      step _ (in_code_again size code_len n rest fits some h.in_code) (rw (none_begins procedures n h.no_entry, lt-ltb _ _ h.rises) refl)
+      let free = tested_again _ _ _ _ (in_code_again size code_len n rest fits some h.in_code) (rw (none_begins procedures n h.no_entry) refl) in
+      tested_again _ _ _ _ free (lt-ltb _ _ h.rises)
 
   registers_take : (bytes : List ℕ) → IsBytes bytes → Has (registers_at size code_len bytes) (Spelled bytes (λ r. fact_bytes r.0 ++ fact_bytes r.1 ++ fact_bytes r.2) (λ r. RegisterKeeps code_len r.0 × RegisterKeeps code_len r.1 × RegisterKeeps code_len r.2))
   unfolding registers_at

@@ -5,7 +5,8 @@ use Rattle.std.specs.List.{flat_map}
 use Rattle.std.proofs.lemmas.List.Concat.{flat_map-cons}
 use Rattle.module_format.specs.declared.fault.FormatFault.{FormatFault}
 use Rattle.module_format.specs.Order.{IsBytes, InOrder}
-use Rattle.module_format.specs.Reading.{◌>>=◌, and_then, Read, list_at}
+use Rattle.module_format.specs.declared.fault.FormatFaultKind.{FormatFaultKind}
+use Rattle.module_format.specs.Reading.{◌>>=◌, and_then, Read, fault, place, tested, list_at}
 
 -- what is known of a value that was given
 pub record Has {A : Type 0} (read : Result A FormatFault) (Q : A → Type 0) : Type 0 where
@@ -55,6 +56,20 @@ pub record Spelled {A : Type 0} (bytes : List ℕ) (spelling : A → List ℕ) (
   pub parts : bytes ≡ spelling x.0 ++ x.1
   pub rest_fits : IsBytes x.1
   pub keeps : P x.0
+
+-- a field with a test of its own
+module _ {A : Type 0} (reader : List ℕ → Read A) (test : A → Bool) (kind : FormatFaultKind) (size : ℕ) where
+  pub tested_takes : {spelling : A → List ℕ} {P Q : A → Type 0} (bytes : List ℕ) → Has (reader bytes) (Spelled bytes spelling P) → ((x : A) → P x → test x ≡ true → Q x)
+      → Has (tested reader test kind size bytes) (Spelled bytes spelling Q)
+  unfolding tested
+  tested_takes bytes read kept =
+      has_then _ _ read (λ x h.
+      has_if (test x.0) (fault kind (place size bytes)) (Ok x) (λ passed.
+      has_ok x (record { parts = h.parts; rest_fits = h.rest_fits; keeps = kept x.0 h.keeps passed })))
+
+  pub tested_again : {x : A} {bytes rest : List ℕ} → reader bytes ≡ Ok (x, rest) → test x ≡ true → tested reader test kind size bytes ≡ Ok (x, rest)
+  unfolding tested
+  tested_again read passed = step _ read (rw passed refl)
 
 -- one piece behind another
 pub join : (a b s : List ℕ) {bytes r : List ℕ} → bytes ≡ a ++ r → r ≡ b ++ s → bytes ≡ (a ++ b) ++ s

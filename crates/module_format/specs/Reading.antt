@@ -1,7 +1,7 @@
 -- Reading a file from its front, with the first fault that is met. A reader takes the bytes that are
 -- left and gives a value and the bytes behind it; `size` is the length of the whole file, so that the
 -- place of what is left is known.
-use Rattle.std.specs.Prelude.{◌≡◌, ⊤, ℕ, zero, suc, ◌-◌, ℤ, int_lt, nat_lt, ◌==◌, if◌then◌else◌, List, [], ◌∷◌, length, take, drop, Result, Ok, Err}
+use Rattle.std.specs.Prelude.{◌≡◌, ⊤, ℕ, zero, suc, ◌-◌, ℤ, int_le, nat_lt, nat_le, Bool, ◌&&◌, if◌then◌else◌, List, [], ◌∷◌, length, take, drop, Result, Ok, Err}
 use Rattle.std.specs.Int.{w32, cast_signed}
 use Rattle.byteorder.specs.Endian.{little_number}
 use Rattle.module_format.specs.declared.fault.FormatFault.{FormatFault}
@@ -77,23 +77,23 @@ int_at size rest = do
   n ← number_at size 4 rest
   Ok (cast_signed w32 n.0, n.1)
 
+-- a field with a test of its own: where it fails, the file is at fault at the field
+unfoldable pub tested : {A : Type 0} → (List ℕ → Read A) → (A → Bool) → FormatFaultKind → ℕ → List ℕ → Read A
+tested reader test kind size rest = do
+  x ← reader rest
+  if test x.0 then Ok x else Err (fault kind (place size rest))
+
 -- a number of n bytes up to a limit
 unfoldable pub limited_at : ℕ → ℕ → ℕ → List ℕ → Read ℕ
-limited_at size n limit rest = do
-  x ← number_at size n rest
-  if nat_lt limit x.0 then Err (fault faults.Limit (place size rest)) else Ok x
+limited_at size n limit = tested (number_at size n) (λ x. nat_le x limit) faults.Limit size
 
 -- a u32 from 1 to a limit
 unfoldable pub positive_at : ℕ → ℕ → List ℕ → Read ℕ
-positive_at size limit rest = do
-  x ← limited_at size 4 limit rest
-  if x.0 == 0 then Err (fault faults.Range (place size rest)) else Ok x
+positive_at size limit = tested (limited_at size 4 limit) (nat_le 1) faults.Range size
 
 -- a u32 of which no value above `most` is allowed
 unfoldable pub at_most_at : ℕ → ℕ → List ℕ → Read ℕ
-at_most_at size most rest = do
-  x ← number_at size 4 rest
-  if nat_lt most x.0 then Err (fault faults.Range (place size rest)) else Ok x
+at_most_at size most = tested (number_at size 4) (λ x. nat_le x most) faults.Range size
 
 -- n bytes
 unfoldable pub bytes_at : ℕ → ℕ → List ℕ → Read (List ℕ)
@@ -107,16 +107,11 @@ byte_at size (b ∷ rest) = Ok (b, rest)
 
 -- an offset in the code that isn't its first
 unfoldable pub in_code_at : ℕ → ℕ → List ℕ → Read ℕ
-in_code_at size code_len rest = do
-  offset ← number_at size 4 rest
-  if offset.0 == 0 then Err (fault faults.Range (place size rest))
-      else (if nat_lt offset.0 code_len then Ok offset else Err (fault faults.Range (place size rest)))
+in_code_at size code_len = tested (number_at size 4) (λ offset. nat_le 1 offset && nat_lt offset code_len) faults.Range size
 
 -- the last word of an interval, whose first is `lo`
 unfoldable pub hi_at : ℕ → ℤ → List ℕ → Read ℤ
-hi_at size lo rest = do
-  hi ← int_at size rest
-  if int_lt hi.0 lo then Err (fault faults.Range (place size rest)) else Ok hi
+hi_at size lo = tested (int_at size) (int_le lo) faults.Range size
 
 -- the numbers of a word from lo to hi
 unfoldable pub interval_at : ℕ → List ℕ → Read (ℤ × ℤ)

@@ -1,5 +1,5 @@
 -- Reading facts, procedure rows, label rows and table rows.
-use Rattle.std.specs.Prelude.{ℕ, ◌-◌, ℤ, pos, int_lt, int_le, nat_lt, Bool, ◌==◌, ◌&&◌, ◌||◌, not, if◌then◌else◌, List, length, take, drop, Ok, Err}
+use Rattle.std.specs.Prelude.{ℕ, ◌-◌, ℤ, pos, int_lt, int_le, nat_lt, nat_le, Bool, ◌==◌, ◌&&◌, not, if◌then◌else◌, List, length, take, drop, Ok, Err}
 use Rattle.std.specs.List.{list_any, list_all}
 use Rattle.module_format.specs.declared.fault.FormatFaultKind.TheVariants as faults
 use Rattle.module_format.specs.declared.fact.Fact.{Fact}
@@ -21,7 +21,7 @@ use Rattle.module_format.specs.Order.{least_word, greatest_word, is_multiple_of_
 use Rattle.module_format.specs.Contents.{Procedure, Label}
 use Rattle.module_format.specs.Facts.{is_loop_length, behind_entry, behind_label}
 use Rattle.module_format.specs.Procedures.{is_region_size, are_ends, is_frame_start, is_frame_end, behind_parameter, behind_procedure, words_of, behind_table}
-use Rattle.module_format.specs.Reading.{◌>>=◌, Read, fault, place, number_at, int_at, limited_at, positive_at, at_most_at, byte_at, in_code_at, interval_at, list_at}
+use Rattle.module_format.specs.Reading.{◌>>=◌, Read, tested, fault, place, number_at, int_at, limited_at, positive_at, at_most_at, byte_at, in_code_at, interval_at, list_at}
 
 -- ---- facts
 
@@ -51,9 +51,7 @@ code_address_at size code_len rest = do
 
 -- how often a loop turns: its last index is a word
 unfoldable pub count_at : ℕ → ℤ → List ℕ → Read ℕ
-count_at size base rest = do
-  count ← number_at size 4 rest
-  if is_loop_length base count.0 then Ok count else Err (fault faults.Range (place size rest))
+count_at size base = tested (number_at size 4) (is_loop_length base) faults.Range size
 
 unfoldable pub loop_at : ℕ → List ℕ → Read Fact
 loop_at size rest = do
@@ -86,15 +84,11 @@ word_at size code_len span rest = do
 
 -- a frame word that no item before has: those end at word `low`
 unfoldable pub first_word_at : ℕ → ℤ → List ℕ → Read ℤ
-first_word_at size low rest = do
-  word ← int_at size rest
-  if int_lt word.0 low then Err (fault faults.Order (place size rest)) else Ok word
+first_word_at size low = tested (int_at size) (int_le low) faults.Order size
 
 -- a number of words, at least 1
 unfoldable pub span_at : ℕ → List ℕ → Read ℕ
-span_at size rest = do
-  span ← number_at size 4 rest
-  if span.0 == 0 then Err (fault faults.Range (place size rest)) else Ok span
+span_at size = tested (number_at size 4) (nat_le 1) faults.Range size
 
 unfoldable pub entry_at : ℕ → ℕ → ℤ → List ℕ → Read Entry
 entry_at size code_len low rest = do
@@ -111,10 +105,8 @@ entries_at size code_len rest = do
 
 -- the offset of a label row: no procedure's entry, and behind the row before, whose offset is `low`
 unfoldable pub label_offset_at : ℕ → ℕ → List Procedure → ℕ → List ℕ → Read ℕ
-label_offset_at size code_len procedures low rest = do
-  offset ← in_code_at size code_len rest
-  if list_any (λ p. p.entry == offset.0) procedures then Err (fault faults.Range (place size rest))
-      else (if nat_lt low offset.0 then Ok offset else Err (fault faults.Order (place size rest)))
+label_offset_at size code_len procedures low =
+    tested (tested (in_code_at size code_len) (λ offset. not (list_any (λ p. p.entry == offset) procedures)) faults.Range size) (nat_lt low) faults.Order size
 
 -- the facts of A, B and C
 unfoldable pub registers_at : ℕ → ℕ → List ℕ → Read (Fact × Fact × Fact)
@@ -147,9 +139,7 @@ words_range_at size versions.Two rest = interval_at size rest
 
 -- the bytes of a region of words
 unfoldable pub region_size_at : ℕ → List ℕ → Read ℕ
-region_size_at size rest = do
-  bytes ← number_at size 4 rest
-  if is_region_size bytes.0 then Ok bytes else Err (fault faults.Range (place size rest))
+region_size_at size = tested (number_at size 4) is_region_size faults.Range size
 
 -- the kind of a parameter that names a region
 abbrev pub region_kind : Access → ℕ → ℤ → ℤ → ParameterKind
@@ -166,8 +156,8 @@ region_at size version kind rest = do
 -- one end or both
 unfoldable pub ends_at : ℕ → List ℕ → Read Ends
 ends_at size rest = do
-  bits ← byte_at size rest
-  if are_ends bits.0 then Ok (record { 0 = bits.0 }, bits.1) else Err (fault faults.Range (place size rest))
+  bits ← tested (byte_at size) are_ends faults.Range size rest
+  Ok (record { 0 = bits.0 }, bits.1)
 
 -- a number of channels, at least 1
 unfoldable pub channels_at : ℕ → List ℕ → Read ParameterKind
@@ -192,10 +182,8 @@ kind_at size version rest = do
 
 -- the word of a parameter: below word `hi`, and behind the parameter before, in word `low`
 unfoldable pub parameter_word_at : ℕ → ℤ → ℕ → List ℕ → Read ℕ
-parameter_word_at size hi low rest = do
-  word ← number_at size 2 rest
-  if (word.0 == 0) || int_le hi (pos word.0) then Err (fault faults.Range (place size rest))
-      else (if nat_lt low word.0 then Ok word else Err (fault faults.Order (place size rest)))
+parameter_word_at size hi low =
+    tested (tested (number_at size 2) (λ word. nat_le 1 word && int_lt (pos word) hi) faults.Range size) (nat_lt low) faults.Order size
 
 unfoldable pub parameter_at : ℕ → Version → ℤ → ℕ → List ℕ → Read Parameter
 parameter_at size version hi low rest = do
@@ -210,20 +198,14 @@ parameters_at size version hi rest = do
 
 -- the first word of a frame, and the first word behind it
 unfoldable pub frame_start_at : ℕ → List ℕ → Read ℤ
-frame_start_at size rest = do
-  lo ← int_at size rest
-  if is_frame_start lo.0 then Ok lo else Err (fault faults.Range (place size rest))
+frame_start_at size = tested (int_at size) is_frame_start faults.Range size
 
 unfoldable pub frame_end_at : ℕ → List ℕ → Read ℤ
-frame_end_at size rest = do
-  hi ← int_at size rest
-  if is_frame_end hi.0 then Ok hi else Err (fault faults.Range (place size rest))
+frame_end_at size = tested (int_at size) is_frame_end faults.Range size
 
 -- an offset in the code that isn't its first, behind `low`
 unfoldable pub rising_at : ℕ → ℕ → ℕ → List ℕ → Read ℕ
-rising_at size code_len low rest = do
-  offset ← in_code_at size code_len rest
-  if nat_lt low offset.0 then Ok offset else Err (fault faults.Order (place size rest))
+rising_at size code_len low = tested (in_code_at size code_len) (nat_lt low) faults.Order size
 
 unfoldable pub procedure_row_at : ℕ → Version → ℕ → ℕ → List ℕ → Read Procedure
 procedure_row_at size version code_len low rest = do
@@ -242,16 +224,13 @@ procedure_rows_at size version code_len count rest =
 
 -- the first byte of a table, behind those that end at `low`
 unfoldable pub table_start_at : ℕ → ℕ → List ℕ → Read ℕ
-table_start_at size low rest = do
-  start ← number_at size 4 rest
-  if not (is_multiple_of_four start.0) then Err (fault faults.Range (place size rest))
-      else (if nat_lt start.0 low then Err (fault faults.Order (place size rest)) else Ok start)
+table_start_at size low =
+    tested (tested (number_at size 4) is_multiple_of_four faults.Range size) (nat_le low) faults.Order size
 
 -- the end of a table in so many bytes of constants
 unfoldable pub table_end_at : ℕ → ℕ → ℕ → List ℕ → Read ℕ
-table_end_at size const_len start rest = do
-  end ← number_at size 4 rest
-  if is_multiple_of_four end.0 && nat_lt start end.0 && not (nat_lt const_len end.0) then Ok end else Err (fault faults.Range (place size rest))
+table_end_at size const_len start =
+    tested (number_at size 4) (λ end. is_multiple_of_four end && nat_lt start end && nat_le end const_len) faults.Range size
 
 -- the word lies from lo to hi
 abbrev pub is_within : ℤ → ℤ → ℤ → Bool
@@ -261,10 +240,8 @@ unfoldable pub table_row_at : ℕ → List ℕ → ℕ → List ℕ → Read Tab
 table_row_at size constants low rest = do
   start ← table_start_at size low rest
   end ← table_end_at size (length constants) start.0 start.1
-  range ← interval_at size end.1
-  if list_all (is_within range.0.0 range.0.1) (words_of (take (end.0 - start.0) (drop start.0 constants)))
-      then Ok (record { start = start.0; end = end.0; lo = range.0.0; hi = range.0.1 }, range.1)
-      else Err (fault faults.Range (place size end.1))
+  range ← tested (interval_at size) (λ r. list_all (is_within r.0 r.1) (words_of (take (end.0 - start.0) (drop start.0 constants)))) faults.Range size end.1
+  Ok (record { start = start.0; end = end.0; lo = range.0.0; hi = range.0.1 }, range.1)
 
 unfoldable pub table_rows_at : ℕ → List ℕ → ℕ → List ℕ → Read (List TableRow)
 table_rows_at size constants count rest = list_at (table_row_at size constants) behind_table count 0 rest

@@ -22,7 +22,7 @@ use crate::reading::list::Reader;
 use crate::rows::{Direction, EndKey, EndKind, EndRow};
 
 /// A kind of end, which is not below that of the end before.
-#[tactic(auto, unfolding(crate::specs::ReadingPars::end_kind_at, crate::specs::Reading::and_then))]
+#[tactic(auto, unfolding(crate::specs::ReadingPars::end_kind_at, crate::specs::Reading::tested, crate::specs::Reading::and_then))]
 fn read_end_kind(before: EndKey, from: &mut Cursor<'_>) -> u8
     ensures { Takes (λ size. end_kind_at size before) from.old result from.new }
 {
@@ -41,7 +41,7 @@ fn is_number_of(kind: u8, number: i32) -> bool
 }
 
 /// The number of an end of this kind.
-#[tactic(auto, unfolding(crate::specs::ReadingPars::end_number_at, crate::specs::Reading::and_then))]
+#[tactic(auto, unfolding(crate::specs::ReadingPars::end_number_at, crate::specs::Reading::tested, crate::specs::Reading::and_then))]
 fn read_end_number(before: EndKey, kind: u8, from: &mut Cursor<'_>) -> i32
     ensures takes { Takes (λ size. end_number_at size before kind) from.old result from.new }
     ensures number { is_number_of kind result ≡ true }
@@ -59,7 +59,7 @@ fn read_end_number(before: EndKey, kind: u8, from: &mut Cursor<'_>) -> i32
 }
 
 /// The element of an end: only a parameter's has one.
-#[tactic(auto, unfolding(crate::specs::ReadingPars::end_element_at, crate::specs::Reading::and_then))]
+#[tactic(auto, unfolding(crate::specs::ReadingPars::end_element_at, crate::specs::Reading::tested, crate::specs::Reading::and_then))]
 fn read_end_element(before: EndKey, kind: u8, number: i32, from: &mut Cursor<'_>) -> u32
     ensures { Takes (λ size. end_element_at size before kind number) from.old result from.new }
 {
@@ -74,7 +74,7 @@ fn read_end_element(before: EndKey, kind: u8, number: i32, from: &mut Cursor<'_>
 }
 
 /// The direction of an end, behind its other fields.
-#[tactic(auto, unfolding(crate::specs::ReadingPars::end_direction_at, crate::specs::Reading::and_then))]
+#[tactic(auto, unfolding(crate::specs::ReadingPars::end_direction_at, crate::specs::Reading::tested, crate::specs::Reading::and_then))]
 fn read_end_direction(
     before: EndKey,
     kind: u8,

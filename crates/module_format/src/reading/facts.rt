@@ -85,7 +85,7 @@ fn read_code_address(code_len: u32, from: &mut Cursor<'_>) -> Fact
 }
 
 /// How often a loop turns.
-#[tactic(auto, unfolding(crate::specs::ReadingRows::count_at, crate::specs::Reading::and_then))]
+#[tactic(auto, unfolding(crate::specs::ReadingRows::count_at, crate::specs::Reading::tested, crate::specs::Reading::and_then))]
 fn read_turn_count(base: i32, from: &mut Cursor<'_>) -> u32
     ensures { Takes (λ size. count_at size base) from.old result from.new }
 {
@@ -154,7 +154,7 @@ fn read_word_fact(code_len: u32, span: u32, from: &mut Cursor<'_>) -> Fact
 }
 
 /// A frame word that no item before has: those end at word `low`.
-#[tactic(auto, unfolding(crate::specs::ReadingRows::first_word_at, crate::specs::Reading::and_then))]
+#[tactic(auto, unfolding(crate::specs::ReadingRows::first_word_at, crate::specs::Reading::tested, crate::specs::Reading::and_then))]
 pub fn read_first_word(low: i64, from: &mut Cursor<'_>) -> i32
     ensures { Takes (λ size. first_word_at size low) from.old result from.new }
 {
@@ -165,7 +165,7 @@ pub fn read_first_word(low: i64, from: &mut Cursor<'_>) -> i32
 }
 
 /// A number of words or channels, at least 1.
-#[tactic(auto, unfolding(crate::specs::ReadingRows::span_at, crate::specs::Reading::and_then))]
+#[tactic(auto, unfolding(crate::specs::ReadingRows::span_at, crate::specs::Reading::tested, crate::specs::Reading::and_then))]
 pub fn read_span(from: &mut Cursor<'_>) -> u32
     ensures { Takes span_at from.old result from.new }
 {

@@ -49,7 +49,7 @@ fn read_words_range(version: Version, from: &mut Cursor<'_>) -> (i32, i32)
 }
 
 /// The bytes of a region of words, of which it has one at least.
-#[tactic(auto, unfolding(crate::specs::ReadingRows::region_size_at, crate::specs::Reading::and_then))]
+#[tactic(auto, unfolding(crate::specs::ReadingRows::region_size_at, crate::specs::Reading::tested, crate::specs::Reading::and_then))]
 fn read_region_size(from: &mut Cursor<'_>) -> u32
     ensures { Takes region_size_at from.old result from.new }
 {
@@ -89,7 +89,7 @@ fn read_region(version: Version, access: Access, from: &mut Cursor<'_>) -> Param
 }
 
 /// One end of channels or both.
-#[tactic(auto, unfolding(crate::specs::ReadingRows::ends_at, crate::specs::Reading::and_then))]
+#[tactic(auto, unfolding(crate::specs::ReadingRows::ends_at, crate::specs::Reading::tested, crate::specs::Reading::and_then))]
 fn read_ends(from: &mut Cursor<'_>) -> Ends
     ensures { Takes ends_at from.old result from.new }
 {
@@ -143,7 +143,7 @@ fn read_parameter_kind(version: Version, from: &mut Cursor<'_>) -> ParameterKind
 }
 
 /// The word of a parameter: below word `hi`, and behind the parameter before, in word `low`.
-#[tactic(auto, unfolding(crate::specs::ReadingRows::parameter_word_at, crate::specs::Reading::and_then))]
+#[tactic(auto, unfolding(crate::specs::ReadingRows::parameter_word_at, crate::specs::Reading::tested, crate::specs::Reading::and_then))]
 fn read_parameter_word(hi: i32, low: u16, from: &mut Cursor<'_>) -> u16
     ensures { Takes (λ size. parameter_word_at size hi low) from.old result from.new }
 {
@@ -216,7 +216,7 @@ fn read_parameters(
 }
 
 /// The first word of a frame.
-#[tactic(auto, unfolding(crate::specs::ReadingRows::frame_start_at, crate::specs::Reading::and_then))]
+#[tactic(auto, unfolding(crate::specs::ReadingRows::frame_start_at, crate::specs::Reading::tested, crate::specs::Reading::and_then))]
 fn read_frame_start(from: &mut Cursor<'_>) -> i32
     ensures { Takes frame_start_at from.old result from.new }
 {
@@ -227,7 +227,7 @@ fn read_frame_start(from: &mut Cursor<'_>) -> i32
 }
 
 /// The first word behind a frame.
-#[tactic(auto, unfolding(crate::specs::ReadingRows::frame_end_at, crate::specs::Reading::and_then))]
+#[tactic(auto, unfolding(crate::specs::ReadingRows::frame_end_at, crate::specs::Reading::tested, crate::specs::Reading::and_then))]
 fn read_frame_end(from: &mut Cursor<'_>) -> i32
     ensures { Takes frame_end_at from.old result from.new }
 {
@@ -238,7 +238,7 @@ fn read_frame_end(from: &mut Cursor<'_>) -> i32
 }
 
 /// An offset in the code behind `low`.
-#[tactic(auto, unfolding(crate::specs::ReadingRows::rising_at, crate::specs::Reading::and_then))]
+#[tactic(auto, unfolding(crate::specs::ReadingRows::rising_at, crate::specs::Reading::tested, crate::specs::Reading::and_then))]
 fn read_procedure_entry(code_len: u32, low: u32, from: &mut Cursor<'_>) -> u32
     ensures { Takes (λ size. rising_at size code_len low) from.old result from.new }
 {
