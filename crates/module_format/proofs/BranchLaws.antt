@@ -30,7 +30,7 @@ pass_none test (x ∷ xs) h = rw h.0 (pass_none test xs h.1)
 module _ (size : ℕ) where
   interval_end_takes : (lo : ℤ) (bytes : List ℕ) → IsBytes bytes → Has (interval_end_at size lo bytes) (Spelled bytes i32_bytes (λ hi. FitsSigned w32 hi × (lo <ℤ hi)))
   unfolding interval_end_at
-  interval_end_takes lo bytes fits = tested_takes _ _ _ _ bytes (int_takes size bytes fits) (λ hi fits some. (fits, int_lt-true _ _ some))
+  interval_end_takes lo bytes fits = tested_takes _ _ _ _ (int_takes size bytes fits) (λ hi fits some. (fits, int_lt-true _ _ some))
 
   interval_end_again : (lo hi : ℤ) (rest : List ℕ) → FitsSigned w32 hi → lo <ℤ hi → interval_end_at size lo (i32_bytes hi ++ rest) ≡ Ok (hi, rest)
   unfolding interval_end_at
@@ -63,7 +63,7 @@ module _ (size : ℕ) where
     read_words_take : (low : ℤ) (bytes : List ℕ) → IsBytes bytes → Has (read_words_at size writes low bytes) (Spelled bytes interval_bytes (ReadKeeps writes low))
     unfolding read_words_at
     read_words_take low bytes fits =
-        tested_takes _ _ _ _ bytes (words_take low bytes fits) (λ i kept apart. record { interval = kept; apart = none_pass (meet i) writes (not-true _ apart) })
+        tested_takes _ _ _ _ (words_take low bytes fits) (λ i kept apart. record { interval = kept; apart = none_pass (meet i) writes (not-true _ apart) })
 
     read_words_again : (low : ℤ) (i : Interval) (rest : List ℕ) → ReadKeeps writes low i → read_words_at size writes low (interval_bytes i ++ rest) ≡ Ok (i, rest)
     unfolding read_words_at
@@ -79,7 +79,7 @@ module _ (size : ℕ) where
 
   parameter_number_takes : (low : ℕ) (bytes : List ℕ) → IsBytes bytes → Has (parameter_number_at size low bytes) (Spelled bytes u16_bytes (NumberKeeps low))
   unfolding parameter_number_at
-  parameter_number_takes low bytes fits = tested_takes _ _ _ _ bytes (u16_takes size bytes fits) (λ n below rises. record { fits = below; rises = leb-true _ _ rises })
+  parameter_number_takes low bytes fits = tested_takes _ _ _ _ (u16_takes size bytes fits) (λ n below rises. record { fits = below; rises = leb-true _ _ rises })
 
   parameter_number_again : (low n : ℕ) (rest : List ℕ) → NumberKeeps low n → parameter_number_at size low (u16_bytes n ++ rest) ≡ Ok (n, rest)
   unfolding parameter_number_at
@@ -154,8 +154,8 @@ module _ (size code_len : ℕ) where
   branch_entry_takes : (before : Before) (bytes : List ℕ) → IsBytes bytes → Has (branch_entry_at size code_len before bytes) (Spelled bytes u32_bytes (IsBranchEntry code_len before))
   unfolding branch_entry_at
   branch_entry_takes before bytes fits =
-      let risen = tested_takes _ _ _ _ {Q = λ n. (n < code_len) × (before.low < n)} bytes (in_code_takes size code_len bytes fits) (λ n h rises. (h.1, ltb-true _ _ rises)) in
-      tested_takes _ _ _ _ bytes risen (λ n h differs. record { in_code = h.0; rises = h.1; differs = not-true _ differs })
+      let risen = tested_takes {Q = λ n. (n < code_len) × (before.low < n)} _ _ _ _ (in_code_takes size code_len bytes fits) (λ n h rises. (h.1, ltb-true _ _ rises)) in
+      tested_takes _ _ _ _ risen (λ n h differs. record { in_code = h.0; rises = h.1; differs = not-true _ differs })
 
   branch_entry_again : (before : Before) (n : ℕ) (rest : List ℕ) → n < 2 ^ 32 → IsBranchEntry code_len before n → branch_entry_at size code_len before (u32_bytes n ++ rest) ≡ Ok (n, rest)
   unfolding branch_entry_at

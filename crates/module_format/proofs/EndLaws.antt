@@ -129,8 +129,8 @@ module _ (size : ℕ) (before : EndKey) where
   end_kind_takes : (bytes : List ℕ) → IsBytes bytes → Has (end_kind_at size before bytes) (Spelled bytes (λ k. k ∷ []) (λ k. (k ≤ 2) × (leb before.kind k ≡ true)))
   unfolding end_kind_at
   end_kind_takes bytes fits =
-      let known = tested_takes _ _ _ _ {Q = λ k. k ≤ 2} bytes (byte_takes size bytes fits) (λ k below least. leb-true _ _ least) in
-      tested_takes _ _ _ _ bytes known (λ k least rises. (least, rises))
+      let known = tested_takes {Q = λ k. k ≤ 2} _ _ _ _ (byte_takes size bytes fits) (λ k below least. leb-true _ _ least) in
+      tested_takes _ _ _ _ known (λ k least rises. (least, rises))
 
   end_kind_again : (k : ℕ) (rest : List ℕ) → k ≤ 2 → leb before.kind k ≡ true → end_kind_at size before (k ∷ rest) ≡ Ok (k, rest)
   unfolding end_kind_at byte_at
@@ -140,8 +140,8 @@ module _ (size : ℕ) (before : EndKey) where
     end_number_takes : (bytes : List ℕ) → IsBytes bytes → Has (end_number_at size before kind bytes) (Spelled bytes i32_bytes (λ n. FitsSigned w32 n × (is_number_of kind n ≡ true) × ((eqb kind before.kind && int_lt n before.number) ≡ false)))
     unfolding end_number_at
     end_number_takes bytes fits =
-        let known = tested_takes _ _ _ _ {Q = λ n. FitsSigned w32 n × (is_number_of kind n ≡ true)} bytes (int_takes size bytes fits) (λ n fits numbered. (fits, numbered)) in
-        tested_takes _ _ _ _ bytes known (λ n h rises. (h.0, h.1, not-true _ rises))
+        let known = tested_takes {Q = λ n. FitsSigned w32 n × (is_number_of kind n ≡ true)} _ _ _ _ (int_takes size bytes fits) (λ n fits numbered. (fits, numbered)) in
+        tested_takes _ _ _ _ known (λ n h rises. (h.0, h.1, not-true _ rises))
 
     end_number_again : (n : ℤ) (rest : List ℕ) → FitsSigned w32 n → is_number_of kind n ≡ true → (eqb kind before.kind && int_lt n before.number) ≡ false
         → end_number_at size before kind (i32_bytes n ++ rest) ≡ Ok (n, rest)
@@ -156,8 +156,8 @@ module _ (size : ℕ) (before : EndKey) where
       end_element_takes : (bytes : List ℕ) → IsBytes bytes → Has (end_element_at size before kind number bytes) (Spelled bytes u32_bytes (λ n. (n < 2 ^ 32) × ((eqb kind 1 || eqb n 0) ≡ true) × (element_falls n ≡ false)))
       unfolding end_element_at element_falls
       end_element_takes bytes fits =
-          let known = tested_takes _ _ _ _ {Q = λ n. (n < 2 ^ 32) × ((eqb kind 1 || eqb n 0) ≡ true)} bytes (u32_takes size bytes fits) (λ n below some. (below, some)) in
-          tested_takes _ _ _ _ bytes known (λ n h rises. (h.0, h.1, not-true _ rises))
+          let known = tested_takes {Q = λ n. (n < 2 ^ 32) × ((eqb kind 1 || eqb n 0) ≡ true)} _ _ _ _ (u32_takes size bytes fits) (λ n below some. (below, some)) in
+          tested_takes _ _ _ _ known (λ n h rises. (h.0, h.1, not-true _ rises))
 
       end_element_again : (n : ℕ) (rest : List ℕ) → n < 2 ^ 32 → (eqb kind 1 || eqb n 0) ≡ true → element_falls n ≡ false
           → end_element_at size before kind number (u32_bytes n ++ rest) ≡ Ok (n, rest)
@@ -172,8 +172,8 @@ module _ (size : ℕ) (before : EndKey) where
         end_direction_takes : (bytes : List ℕ) → IsBytes bytes → Has (end_direction_at size before kind number element bytes) (Spelled bytes (λ d. d ∷ []) (λ d. ((eqb d 1 || eqb d 2) ≡ true) × (direction_falls d ≡ false)))
         unfolding end_direction_at direction_falls
         end_direction_takes bytes fits =
-            let known = tested_takes _ _ _ _ {Q = λ d. (eqb d 1 || eqb d 2) ≡ true} bytes (byte_takes size bytes fits) (λ d below known. known) in
-            tested_takes _ _ _ _ bytes known (λ d known rises. (known, not-true _ rises))
+            let known = tested_takes {Q = λ d. (eqb d 1 || eqb d 2) ≡ true} _ _ _ _ (byte_takes size bytes fits) (λ d below known. known) in
+            tested_takes _ _ _ _ known (λ d known rises. (known, not-true _ rises))
 
         end_direction_again : (d : ℕ) (rest : List ℕ) → (eqb d 1 || eqb d 2) ≡ true → direction_falls d ≡ false
             → end_direction_at size before kind number element (d ∷ rest) ≡ Ok (d, rest)

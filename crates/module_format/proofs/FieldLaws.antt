@@ -124,7 +124,7 @@ module _ (size n : ℕ) (spelling : ℕ → List ℕ) (max : ℕ) (wide : IsWide
 
   pub limited_takes : (limit : ℕ) (bytes : List ℕ) → IsBytes bytes → Has (limited_at size n limit bytes) (Spelled bytes spelling (λ x. (x < max) × (x ≤ limit)))
   unfolding limited_at
-  limited_takes limit bytes fits = tested_takes _ _ _ _ bytes (number_takes bytes fits) (λ x below low. (below, leb-true _ _ low))
+  limited_takes limit bytes fits = tested_takes _ _ _ _ (number_takes bytes fits) (λ x below low. (below, leb-true _ _ low))
 
   pub limited_again : (limit x : ℕ) (rest : List ℕ) → x < max → x ≤ limit → limited_at size n limit (spelling x ++ rest) ≡ Ok (x, rest)
   unfolding limited_at
@@ -147,7 +147,7 @@ module _ (size : ℕ) where
 
   pub positive_takes : (limit : ℕ) (bytes : List ℕ) → IsBytes bytes → Has (positive_at size limit bytes) (Spelled bytes u32_bytes (λ x. (1 ≤ x) × (x ≤ limit)))
   unfolding positive_at
-  positive_takes limit bytes fits = tested_takes _ _ _ _ bytes (limited_takes size 4 u32_bytes (2 ^ 32) wide32 limit bytes fits) (λ x h some. (leb-true _ _ some, h.1))
+  positive_takes limit bytes fits = tested_takes _ _ _ _ (limited_takes size 4 u32_bytes (2 ^ 32) wide32 limit bytes fits) (λ x h some. (leb-true _ _ some, h.1))
 
   pub positive_again : (limit x : ℕ) (rest : List ℕ) → x < 2 ^ 32 → 1 ≤ x → x ≤ limit → positive_at size limit (u32_bytes x ++ rest) ≡ Ok (x, rest)
   unfolding positive_at
@@ -155,7 +155,7 @@ module _ (size : ℕ) where
 
   pub at_most_takes : (most : ℕ) (bytes : List ℕ) → IsBytes bytes → Has (at_most_at size most bytes) (Spelled bytes u32_bytes (λ x. (x < 2 ^ 32) × (x ≤ most)))
   unfolding at_most_at
-  at_most_takes most bytes fits = tested_takes _ _ _ _ bytes (u32_takes bytes fits) (λ x below low. (below, leb-true _ _ low))
+  at_most_takes most bytes fits = tested_takes _ _ _ _ (u32_takes bytes fits) (λ x below low. (below, leb-true _ _ low))
 
   pub at_most_again : (most x : ℕ) (rest : List ℕ) → x < 2 ^ 32 → x ≤ most → at_most_at size most (u32_bytes x ++ rest) ≡ Ok (x, rest)
   unfolding at_most_at
@@ -165,7 +165,7 @@ module _ (size : ℕ) where
   pub in_code_takes : (code_len : ℕ) (bytes : List ℕ) → IsBytes bytes → Has (in_code_at size code_len bytes) (Spelled bytes u32_bytes (λ n. (1 ≤ n) × (n < code_len)))
   unfolding in_code_at
   in_code_takes code_len bytes fits =
-      tested_takes _ _ _ _ bytes (u32_takes bytes fits) (λ n below all.
+      tested_takes _ _ _ _ (u32_takes bytes fits) (λ n below all.
       let both = and_parts (leb 1 n) (ltb n code_len) all in
       (leb-true _ _ both.0, ltb-true _ _ both.1))
 
@@ -192,7 +192,7 @@ module _ (size : ℕ) where
   -- the numbers of a word from lo to hi
   hi_takes : (lo : ℤ) (bytes : List ℕ) → IsBytes bytes → Has (hi_at size lo bytes) (Spelled bytes i32_bytes (λ hi. FitsSigned w32 hi × (lo ≤ℤ hi)))
   unfolding hi_at
-  hi_takes lo bytes fits = tested_takes _ _ _ _ bytes (int_takes bytes fits) (λ hi fits ordered. (fits, int_le-true _ _ ordered))
+  hi_takes lo bytes fits = tested_takes _ _ _ _ (int_takes bytes fits) (λ hi fits ordered. (fits, int_le-true _ _ ordered))
 
   pub interval_takes : (bytes : List ℕ) → IsBytes bytes → Has (interval_at size bytes) (Spelled bytes (λ r. i32_bytes r.0 ++ i32_bytes r.1) (λ r. IsInterval r.0 r.1))
   unfolding interval_at

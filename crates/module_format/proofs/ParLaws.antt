@@ -47,7 +47,7 @@ module _ (size : ℕ) where
 
   context_number_takes : (count : ℕ) (bytes : List ℕ) → IsBytes bytes → Has (context_number_at size count bytes) (Spelled bytes u16_bytes (λ n. (n < 2 ^ 16) × (n < count)))
   unfolding context_number_at
-  context_number_takes count bytes fits = tested_takes _ _ _ _ bytes (u16_takes size bytes fits) (λ n below known. (below, ltb-true _ _ known))
+  context_number_takes count bytes fits = tested_takes _ _ _ _ (u16_takes size bytes fits) (λ n below known. (below, ltb-true _ _ known))
 
   context_number_again : (count n : ℕ) (rest : List ℕ) → n < 2 ^ 16 → n < count → context_number_at size count (u16_bytes n ++ rest) ≡ Ok (n, rest)
   unfolding context_number_at
@@ -55,7 +55,7 @@ module _ (size : ℕ) where
 
   branch_count_takes : (bytes : List ℕ) → IsBytes bytes → Has (branch_count_at size bytes) (Spelled bytes u16_bytes (λ n. (1 ≤ n) × (n ≤ MAX_BRANCHES)))
   unfolding branch_count_at
-  branch_count_takes bytes fits = tested_takes _ _ _ _ bytes (limited_takes size 2 u16_bytes (2 ^ 16) wide16 MAX_BRANCHES bytes fits) (λ n h some. (leb-true _ _ some, h.1))
+  branch_count_takes bytes fits = tested_takes _ _ _ _ (limited_takes size 2 u16_bytes (2 ^ 16) wide16 MAX_BRANCHES bytes fits) (λ n h some. (leb-true _ _ some, h.1))
 
   branch_count_again : (n : ℕ) (rest : List ℕ) → 1 ≤ n → n ≤ MAX_BRANCHES → branch_count_at size (u16_bytes n ++ rest) ≡ Ok (n, rest)
   unfolding branch_count_at

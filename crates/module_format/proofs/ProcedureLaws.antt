@@ -43,7 +43,7 @@ module _ (size : ℕ) where
   region_size_takes : (bytes : List ℕ) → IsBytes bytes → Has (region_size_at size bytes) (Spelled bytes u32_bytes (λ n. (n < 2 ^ 32) × (4 ≤ n) × IsTrue (is_multiple_of_four n)))
   unfolding region_size_at
   region_size_takes bytes fits =
-      tested_takes _ _ _ _ bytes (u32_takes size bytes fits) (λ n below whole.
+      tested_takes _ _ _ _ (u32_takes size bytes fits) (λ n below whole.
       let both = and_parts (nat_le 4 n) (is_multiple_of_four n) whole in
       (below, leb-true _ _ both.0, both.1))
 
@@ -78,7 +78,7 @@ module _ (size : ℕ) where
   ends_take : (bytes : List ℕ) → IsBytes bytes → Has (ends_at size bytes) (Spelled bytes (λ ends. ends.0 ∷ []) (λ ends. (1 ≤ ends.0) × (ends.0 ≤ 3)))
   unfolding ends_at
   ends_take bytes fits =
-      let read = tested_takes _ _ _ _ {Q = λ bits. (1 ≤ bits) × (bits ≤ 3)} bytes (byte_takes size bytes fits) (λ bits below some.
+      let read = tested_takes {Q = λ bits. (1 ≤ bits) × (bits ≤ 3)} _ _ _ _ (byte_takes size bytes fits) (λ bits below some.
       let both = and_parts (nat_le 1 bits) (nat_le bits 3) some in
       (leb-true _ _ both.0, leb-true _ _ both.1)) in
       has_then _ _ read (λ bits h.
@@ -147,9 +147,9 @@ module _ (size : ℕ) (version : Version) (hi : ℤ) where
   parameter_word_takes : (low : ℕ) (bytes : List ℕ) → IsBytes bytes → Has (parameter_word_at size hi low bytes) (Spelled bytes u16_bytes (λ word. (low < word) × (pos word <ℤ hi)))
   unfolding parameter_word_at
   parameter_word_takes low bytes fits =
-      let inside = tested_takes _ _ _ _ {Q = λ word. pos word <ℤ hi} bytes (number_takes size 2 u16_bytes (2 ^ 16) wide16 bytes fits) (λ word below both.
+      let inside = tested_takes {Q = λ word. pos word <ℤ hi} _ _ _ _ (number_takes size 2 u16_bytes (2 ^ 16) wide16 bytes fits) (λ word below both.
       int_lt-true _ _ (and_parts (nat_le 1 word) (int_lt (pos word) hi) both).1) in
-      tested_takes _ _ _ _ bytes inside (λ word below rises. (ltb-true _ _ rises, below))
+      tested_takes _ _ _ _ inside (λ word below rises. (ltb-true _ _ rises, below))
 
   parameter_takes : (low : ℕ) (bytes : List ℕ) → IsBytes bytes → Has (parameter_at size version hi low bytes) (Spelled bytes (parameter_bytes version) (ParameterKeeps version hi low))
   unfolding parameter_at parameter_bytes
@@ -197,7 +197,7 @@ module _ (size : ℕ) where
   frame_start_takes : (bytes : List ℕ) → IsBytes bytes → Has (frame_start_at size bytes) (Spelled bytes i32_bytes (λ lo. (negsuc 16383 ≤ℤ lo) × (lo ≤ℤ pos 0)))
   unfolding frame_start_at
   frame_start_takes bytes fits =
-      tested_takes _ _ _ _ bytes (int_takes size bytes fits) (λ lo fits inside.
+      tested_takes _ _ _ _ (int_takes size bytes fits) (λ lo fits inside.
       let both = and_parts (int_le (negsuc 16383) lo) (int_le lo (pos 0)) inside in
       (int_le-true _ _ both.0, int_le-true _ _ both.1))
 
@@ -208,7 +208,7 @@ module _ (size : ℕ) where
   frame_end_takes : (bytes : List ℕ) → IsBytes bytes → Has (frame_end_at size bytes) (Spelled bytes i32_bytes (λ hi. (pos 4 ≤ℤ hi) × (hi ≤ℤ pos 16384)))
   unfolding frame_end_at
   frame_end_takes bytes fits =
-      tested_takes _ _ _ _ bytes (int_takes size bytes fits) (λ hi fits inside.
+      tested_takes _ _ _ _ (int_takes size bytes fits) (λ hi fits inside.
       let both = and_parts (int_le (pos 4) hi) (int_le hi (pos 16384)) inside in
       (int_le-true _ _ both.0, int_le-true _ _ both.1))
 
@@ -218,7 +218,7 @@ module _ (size : ℕ) where
 
   rising_takes : (code_len low : ℕ) (bytes : List ℕ) → IsBytes bytes → Has (rising_at size code_len low bytes) (Spelled bytes u32_bytes (λ n. (low < n) × (n < code_len)))
   unfolding rising_at
-  rising_takes code_len low bytes fits = tested_takes _ _ _ _ bytes (in_code_takes size code_len bytes fits) (λ n h rises. (ltb-true _ _ rises, h.1))
+  rising_takes code_len low bytes fits = tested_takes _ _ _ _ (in_code_takes size code_len bytes fits) (λ n h rises. (ltb-true _ _ rises, h.1))
 
   rising_again : (code_len low n : ℕ) (rest : List ℕ) → n < 2 ^ 32 → low < n → n < code_len → rising_at size code_len low (u32_bytes n ++ rest) ≡ Ok (n, rest)
   unfolding rising_at
@@ -302,8 +302,8 @@ module _ (size : ℕ) where
   table_start_takes : (low : ℕ) (bytes : List ℕ) → IsBytes bytes → Has (table_start_at size low bytes) (Spelled bytes u32_bytes (λ n. IsTrue (is_multiple_of_four n) × (low ≤ n)))
   unfolding table_start_at
   table_start_takes low bytes fits =
-      let aligned = tested_takes _ _ _ _ {Q = λ n. IsTrue (is_multiple_of_four n)} bytes (u32_takes size bytes fits) (λ n below aligned. aligned) in
-      tested_takes _ _ _ _ bytes aligned (λ n aligned apart. (aligned, leb-true _ _ apart))
+      let aligned = tested_takes {Q = λ n. IsTrue (is_multiple_of_four n)} _ _ _ _ (u32_takes size bytes fits) (λ n below aligned. aligned) in
+      tested_takes _ _ _ _ aligned (λ n aligned apart. (aligned, leb-true _ _ apart))
 
   table_start_again : (low n : ℕ) (rest : List ℕ) → n < 2 ^ 32 → IsTrue (is_multiple_of_four n) → low ≤ n → table_start_at size low (u32_bytes n ++ rest) ≡ Ok (n, rest)
   unfolding table_start_at
@@ -312,7 +312,7 @@ module _ (size : ℕ) where
   table_end_takes : (const_len start : ℕ) (bytes : List ℕ) → IsBytes bytes → Has (table_end_at size const_len start bytes) (Spelled bytes u32_bytes (λ n. IsTrue (is_multiple_of_four n) × (start < n) × (n ≤ const_len)))
   unfolding table_end_at
   table_end_takes const_len start bytes fits =
-      tested_takes _ _ _ _ bytes (u32_takes size bytes fits) (λ n below all.
+      tested_takes _ _ _ _ (u32_takes size bytes fits) (λ n below all.
       let both = and_parts (is_multiple_of_four n && ltb start n) (nat_le n const_len) all in
       let first = and_parts (is_multiple_of_four n) (ltb start n) both.0 in
       (first.0, ltb-true _ _ first.1, leb-true _ _ both.1))
@@ -328,7 +328,7 @@ module _ (size : ℕ) (constants : List ℕ) where
       has_then _ _ (table_start_takes size low bytes fits) (λ start h0.
       has_then _ _ (table_end_takes size (length constants) start.0 start.1 h0.rest_fits) (λ end h1.
       let words = words_of (take (end.0 - start.0) (drop start.0 constants)) in
-      let read = tested_takes _ _ _ _ {Q = λ r. IsInterval r.0 r.1 × AllByRecursion (IsWithin r.0 r.1) words} end.1 (interval_takes size end.1 h1.rest_fits) (λ r ordered within. (ordered, all_within r.0 r.1 words within)) in
+      let read = tested_takes {Q = λ r. IsInterval r.0 r.1 × AllByRecursion (IsWithin r.0 r.1) words} _ _ _ _ (interval_takes size end.1 h1.rest_fits) (λ r ordered within. (ordered, all_within r.0 r.1 words within)) in
       has_then _ _ read (λ range h2.
       let made : TableRow = record { start = start.0; end = end.0; lo = range.0.0; hi = range.0.1 } in
       let kept : TableKeeps constants low made = record {

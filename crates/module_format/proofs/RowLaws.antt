@@ -74,7 +74,7 @@ module _ (size : ℕ) where
   -- a count that isn't 0, and whose last index is a word
   count_takes : (base : ℤ) (bytes : List ℕ) → IsBytes bytes → Has (count_at size base bytes) (Spelled bytes u32_bytes (λ n. (1 ≤ n) × (pos n ≤ℤ greatest_word) × ((base +ℤ pos n) ≤ℤ pos 2147483648)))
   unfolding count_at
-  count_takes base bytes fits = tested_takes _ _ _ _ bytes (u32_takes size bytes fits) (λ n below short. loop_parts base n short)
+  count_takes base bytes fits = tested_takes _ _ _ _ (u32_takes size bytes fits) (λ n below short. loop_parts base n short)
 
   count_again : (base : ℤ) (n : ℕ) (rest : List ℕ) → 1 ≤ n → pos n ≤ℤ greatest_word → (base +ℤ pos n) ≤ℤ pos 2147483648 → count_at size base (u32_bytes n ++ rest) ≡ Ok (n, rest)
   unfolding count_at
@@ -207,7 +207,7 @@ module _ (size code_len : ℕ) (small : code_len < 2 ^ 32) where
 module _ (size : ℕ) where
   pub first_word_takes : (low : ℤ) (bytes : List ℕ) → IsBytes bytes → Has (first_word_at size low bytes) (Spelled bytes i32_bytes (λ z. FitsSigned w32 z × (low ≤ℤ z)))
   unfolding first_word_at
-  first_word_takes low bytes fits = tested_takes _ _ _ _ bytes (int_takes size bytes fits) (λ z fits apart. (fits, int_le-true _ _ apart))
+  first_word_takes low bytes fits = tested_takes _ _ _ _ (int_takes size bytes fits) (λ z fits apart. (fits, int_le-true _ _ apart))
 
   pub first_word_again : (low z : ℤ) (rest : List ℕ) → FitsSigned w32 z → low ≤ℤ z → first_word_at size low (i32_bytes z ++ rest) ≡ Ok (z, rest)
   unfolding first_word_at
@@ -216,7 +216,7 @@ module _ (size : ℕ) where
   -- a number that isn't 0
   pub span_takes : (bytes : List ℕ) → IsBytes bytes → Has (span_at size bytes) (Spelled bytes u32_bytes (λ n. (n < 2 ^ 32) × (1 ≤ n)))
   unfolding span_at
-  span_takes bytes fits = tested_takes _ _ _ _ bytes (u32_takes size bytes fits) (λ n below some. (below, leb-true _ _ some))
+  span_takes bytes fits = tested_takes _ _ _ _ (u32_takes size bytes fits) (λ n below some. (below, leb-true _ _ some))
 
   pub span_again : (n : ℕ) (rest : List ℕ) → n < 2 ^ 32 → 1 ≤ n → span_at size (u32_bytes n ++ rest) ≡ Ok (n, rest)
   unfolding span_at
@@ -278,8 +278,8 @@ module _ (size code_len : ℕ) (procedures : List Procedure) where
   label_offset_takes : (low : ℕ) (bytes : List ℕ) → IsBytes bytes → Has (label_offset_at size code_len procedures low bytes) (Spelled bytes u32_bytes (IsLabelOffset code_len procedures low))
   unfolding label_offset_at
   label_offset_takes low bytes fits =
-      let free = tested_takes _ _ _ _ {Q = λ n. (n < code_len) × AllByRecursion (λ p. p.entry ≢ n) procedures} bytes (in_code_takes size code_len bytes fits) (λ n h free. (h.1, no_entry procedures n (not-true _ free))) in
-      tested_takes _ _ _ _ bytes free (λ n h rises. record { rises = ltb-true _ _ rises; in_code = h.0; no_entry = h.1 })
+      let free = tested_takes {Q = λ n. (n < code_len) × AllByRecursion (λ p. p.entry ≢ n) procedures} _ _ _ _ (in_code_takes size code_len bytes fits) (λ n h free. (h.1, no_entry procedures n (not-true _ free))) in
+      tested_takes _ _ _ _ free (λ n h rises. record { rises = ltb-true _ _ rises; in_code = h.0; no_entry = h.1 })
 
   label_offset_again : (low n : ℕ) (rest : List ℕ) → n < 2 ^ 32 → IsLabelOffset code_len procedures low n → label_offset_at size code_len procedures low (u32_bytes n ++ rest) ≡ Ok (n, rest)
   unfolding label_offset_at

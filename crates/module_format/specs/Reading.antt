@@ -77,23 +77,22 @@ int_at size rest = do
   n ← number_at size 4 rest
   Ok (cast_signed w32 n.0, n.1)
 
--- a field with a test of its own: where it fails, the file is at fault at the field
-unfoldable pub tested : {A : Type 0} → (List ℕ → Read A) → (A → Bool) → FormatFaultKind → ℕ → List ℕ → Read A
-tested reader test kind size rest = do
-  x ← reader rest
-  if test x.0 then Ok x else Err (fault kind (place size rest))
+-- a field that was read at an offset, and has a test of its own: where it fails, the file is at fault there
+unfoldable pub tested : {A : Type 0} → Read A → (A → Bool) → FormatFaultKind → ℕ → Read A
+tested (Ok x) test kind at = if test x.0 then Ok x else Err (fault kind at)
+tested (Err f) test kind at = Err f
 
 -- a number of n bytes up to a limit
 unfoldable pub limited_at : ℕ → ℕ → ℕ → List ℕ → Read ℕ
-limited_at size n limit = tested (number_at size n) (λ x. nat_le x limit) faults.Limit size
+limited_at size n limit rest = tested (number_at size n rest) (λ x. nat_le x limit) faults.Limit (place size rest)
 
 -- a u32 from 1 to a limit
 unfoldable pub positive_at : ℕ → ℕ → List ℕ → Read ℕ
-positive_at size limit = tested (limited_at size 4 limit) (nat_le 1) faults.Range size
+positive_at size limit rest = tested (limited_at size 4 limit rest) (nat_le 1) faults.Range (place size rest)
 
 -- a u32 of which no value above `most` is allowed
 unfoldable pub at_most_at : ℕ → ℕ → List ℕ → Read ℕ
-at_most_at size most = tested (number_at size 4) (λ x. nat_le x most) faults.Range size
+at_most_at size most rest = tested (number_at size 4 rest) (λ x. nat_le x most) faults.Range (place size rest)
 
 -- n bytes
 unfoldable pub bytes_at : ℕ → ℕ → List ℕ → Read (List ℕ)
@@ -107,11 +106,12 @@ byte_at size (b ∷ rest) = Ok (b, rest)
 
 -- an offset in the code that isn't its first
 unfoldable pub in_code_at : ℕ → ℕ → List ℕ → Read ℕ
-in_code_at size code_len = tested (number_at size 4) (λ offset. nat_le 1 offset && nat_lt offset code_len) faults.Range size
+in_code_at size code_len rest =
+    tested (number_at size 4 rest) (λ offset. nat_le 1 offset && nat_lt offset code_len) faults.Range (place size rest)
 
 -- the last word of an interval, whose first is `lo`
 unfoldable pub hi_at : ℕ → ℤ → List ℕ → Read ℤ
-hi_at size lo = tested (int_at size) (int_le lo) faults.Range size
+hi_at size lo rest = tested (int_at size rest) (int_le lo) faults.Range (place size rest)
 
 -- the numbers of a word from lo to hi
 unfoldable pub interval_at : ℕ → List ℕ → Read (ℤ × ℤ)

@@ -10,10 +10,12 @@ mod limits;
 mod offsets;
 mod places;
 mod reading;
+mod row_sizes;
 mod rows;
 mod rules;
 mod stack;
 mod tables;
+mod tags;
 mod writing;
 
 pub use contexts::{Context, Contexts};

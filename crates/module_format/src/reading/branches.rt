@@ -50,7 +50,7 @@ pub struct BranchCounts {
 }
 
 /// The end of an interval, which is not empty.
-#[tactic(auto, unfolding(crate::specs::ReadingPars::interval_end_at, crate::specs::Reading::tested, crate::specs::Reading::and_then))]
+#[tactic(auto, unfolding(crate::specs::ReadingPars::interval_end_at, crate::specs::Reading::tested))]
 fn read_interval_end(lo: i32, from: &mut Cursor<'_>) -> i32
     ensures { Takes (λ size. interval_end_at size lo) from.old result from.new }
 {
@@ -129,7 +129,7 @@ impl Reader for Reads<'_> {
 
     ghost behind = { behind_interval };
 
-    #[tactic(auto, unfolding(crate::specs::ReadingPars::read_words_at, crate::specs::Reading::tested, crate::specs::Reading::and_then))]
+    #[tactic(auto, unfolding(crate::specs::ReadingPars::read_words_at, crate::specs::Reading::tested))]
     fn read(&mut self, from: &mut Cursor<'_>) -> Interval {
         let at = from.place();
         let interval = read_words(self.low, from);
@@ -180,7 +180,7 @@ impl Reader for ParameterNumbers {
 
     ghost behind = { behind_number };
 
-    #[tactic(auto, unfolding(crate::specs::ReadingPars::parameter_number_at, crate::specs::Reading::tested, crate::specs::Reading::and_then))]
+    #[tactic(auto, unfolding(crate::specs::ReadingPars::parameter_number_at, crate::specs::Reading::tested))]
     fn read(&mut self, from: &mut Cursor<'_>) -> u16 {
         let at = from.place();
         let number = from.u16();
@@ -271,7 +271,7 @@ pub(crate) struct Branches {
 
 impl Branches {
     /// The entry of the next branch.
-    #[tactic(auto, unfolding(crate::specs::ReadingPars::branch_entry_at, crate::specs::Reading::tested, crate::specs::Reading::and_then))]
+    #[tactic(auto, unfolding(crate::specs::ReadingPars::branch_entry_at, crate::specs::Reading::tested))]
     fn entry(&self, from: &mut Cursor<'_>) -> u32
         ensures { Takes (λ size. branch_entry_at size self.now.code_len (record { low = self.now.low; entries = self.now.taken.entries.items })) from.old result from.new }
     {

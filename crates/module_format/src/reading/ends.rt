@@ -20,15 +20,16 @@ use crate::fault::FormatFaultKind;
 use crate::reading::cursor::Cursor;
 use crate::reading::list::Reader;
 use crate::rows::{Direction, EndKey, EndKind, EndRow};
+use crate::tags::{DIRECTION_IN, DIRECTION_OUT, END_FRAME_WORD, END_LINK, END_PARAMETER};
 
 /// A kind of end, which is not below that of the end before.
-#[tactic(auto, unfolding(crate::specs::ReadingPars::end_kind_at, crate::specs::Reading::tested, crate::specs::Reading::and_then))]
+#[tactic(auto, unfolding(crate::specs::ReadingPars::end_kind_at, crate::specs::Reading::tested))]
 fn read_end_kind(before: EndKey, from: &mut Cursor<'_>) -> u8
     ensures { Takes (λ size. end_kind_at size before) from.old result from.new }
 {
     let at = from.place();
     let kind = from.u8();
-    from.check(at, kind <= 2, FormatFaultKind::Range);
+    from.check(at, kind <= END_LINK, FormatFaultKind::Range);
     from.check(at, before.kind <= kind, FormatFaultKind::Order);
     kind
 }
@@ -37,11 +38,11 @@ fn read_end_kind(before: EndKey, from: &mut Cursor<'_>) -> u8
 fn is_number_of(kind: u8, number: i32) -> bool
     ensures { result ≡ is_number_of kind number }
 {
-    kind < 2 || (0 <= number && number < 8)
+    kind < END_LINK || (0 <= number && number < 8)
 }
 
 /// The number of an end of this kind.
-#[tactic(auto, unfolding(crate::specs::ReadingPars::end_number_at, crate::specs::Reading::tested, crate::specs::Reading::and_then))]
+#[tactic(auto, unfolding(crate::specs::ReadingPars::end_number_at, crate::specs::Reading::tested))]
 fn read_end_number(before: EndKey, kind: u8, from: &mut Cursor<'_>) -> i32
     ensures takes { Takes (λ size. end_number_at size before kind) from.old result from.new }
     ensures number { is_number_of kind result ≡ true }
@@ -59,13 +60,17 @@ fn read_end_number(before: EndKey, kind: u8, from: &mut Cursor<'_>) -> i32
 }
 
 /// The element of an end: only a parameter's has one.
-#[tactic(auto, unfolding(crate::specs::ReadingPars::end_element_at, crate::specs::Reading::tested, crate::specs::Reading::and_then))]
+#[tactic(auto, unfolding(crate::specs::ReadingPars::end_element_at, crate::specs::Reading::tested))]
 fn read_end_element(before: EndKey, kind: u8, number: i32, from: &mut Cursor<'_>) -> u32
     ensures { Takes (λ size. end_element_at size before kind number) from.old result from.new }
 {
     let at = from.place();
     let element = from.u32();
-    from.check(at, kind == 1 || element == 0, FormatFaultKind::Range);
+    from.check(
+        at,
+        kind == END_PARAMETER || element == 0,
+        FormatFaultKind::Range,
+    );
     let is_same = kind == before.kind && number == before.number;
     if is_same {
         from.check(at, before.element <= element, FormatFaultKind::Order);
@@ -74,7 +79,7 @@ fn read_end_element(before: EndKey, kind: u8, number: i32, from: &mut Cursor<'_>
 }
 
 /// The direction of an end, behind its other fields.
-#[tactic(auto, unfolding(crate::specs::ReadingPars::end_direction_at, crate::specs::Reading::tested, crate::specs::Reading::and_then))]
+#[tactic(auto, unfolding(crate::specs::ReadingPars::end_direction_at, crate::specs::Reading::tested))]
 fn read_end_direction(
     before: EndKey,
     kind: u8,
@@ -86,7 +91,11 @@ fn read_end_direction(
 {
     let at = from.place();
     let direction = from.u8();
-    from.check(at, direction == 1 || direction == 2, FormatFaultKind::Range);
+    from.check(
+        at,
+        direction == DIRECTION_IN || direction == DIRECTION_OUT,
+        FormatFaultKind::Range,
+    );
     let is_same = kind == before.kind && number == before.number && element == before.element;
     if is_same {
         from.check(at, before.direction < direction, FormatFaultKind::Order);
@@ -100,8 +109,8 @@ fn end_kind(kind: u8, number: i32, element: u32) -> EndKind
     ensures { result ≡ end_kind kind number element }
 {
     match kind {
-        0 => EndKind::FrameWord(number),
-        1 => EndKind::Parameter { number, element },
+        END_FRAME_WORD => EndKind::FrameWord(number),
+        END_PARAMETER => EndKind::Parameter { number, element },
         _ => EndKind::Link(number as u8),
     }
 }
@@ -109,7 +118,7 @@ fn end_kind(kind: u8, number: i32, element: u32) -> EndKind
 fn direction_of(direction: u8) -> Direction
     ensures { result ≡ direction_of direction }
 {
-    if direction == 1 {
+    if direction == DIRECTION_IN {
         Direction::In
     } else {
         Direction::Out

@@ -27,6 +27,9 @@ use crate::reading::cursor::Cursor;
 use crate::reading::list::{Reader, fill};
 use crate::rows::Entry;
 use crate::rules::{is_loop_length, is_stepped};
+use crate::tags::{
+    TAG_CODE_ADDRESS, TAG_LOOP, TAG_NUMBER, TAG_POINTER, TAG_RETURN_ADDRESS, TAG_UNKNOWN,
+};
 use std::alloc::Global;
 
 /// No word is below it.
@@ -85,7 +88,7 @@ fn read_code_address(code_len: u32, from: &mut Cursor<'_>) -> Fact
 }
 
 /// How often a loop turns.
-#[tactic(auto, unfolding(crate::specs::ReadingRows::count_at, crate::specs::Reading::tested, crate::specs::Reading::and_then))]
+#[tactic(auto, unfolding(crate::specs::ReadingRows::count_at, crate::specs::Reading::tested))]
 fn read_turn_count(base: i32, from: &mut Cursor<'_>) -> u32
     ensures { Takes (λ size. count_at size base) from.old result from.new }
 {
@@ -116,9 +119,9 @@ fn read_common_fact(code_len: u32, at: usize, tag: u8, from: &mut Cursor<'_>) ->
     ensures { Takes (λ size. fact_at size code_len at tag) from.old result from.new }
 {
     match tag {
-        1 => read_range(from),
-        2 => read_pointer(from),
-        3 => read_code_address(code_len, from),
+        TAG_NUMBER => read_range(from),
+        TAG_POINTER => read_pointer(from),
+        TAG_CODE_ADDRESS => read_code_address(code_len, from),
         _ => {
             from.fail(at, FormatFaultKind::Range);
             Fact::Unknown
@@ -134,7 +137,7 @@ fn read_register(code_len: u32, from: &mut Cursor<'_>) -> Fact
     let at = from.place();
     let tag = from.u8();
     match tag {
-        0 => Fact::Unknown,
+        TAG_UNKNOWN => Fact::Unknown,
         _ => read_common_fact(code_len, at, tag, from),
     }
 }
@@ -147,14 +150,14 @@ fn read_word_fact(code_len: u32, span: u32, from: &mut Cursor<'_>) -> Fact
     let at = from.place();
     let tag = from.u8();
     match tag {
-        4 if span == 2 => read_loop(from),
-        5 if span == 1 => Fact::ReturnAddress,
+        TAG_LOOP if span == 2 => read_loop(from),
+        TAG_RETURN_ADDRESS if span == 1 => Fact::ReturnAddress,
         _ => read_common_fact(code_len, at, tag, from),
     }
 }
 
 /// A frame word that no item before has: those end at word `low`.
-#[tactic(auto, unfolding(crate::specs::ReadingRows::first_word_at, crate::specs::Reading::tested, crate::specs::Reading::and_then))]
+#[tactic(auto, unfolding(crate::specs::ReadingRows::first_word_at, crate::specs::Reading::tested))]
 pub fn read_first_word(low: i64, from: &mut Cursor<'_>) -> i32
     ensures { Takes (λ size. first_word_at size low) from.old result from.new }
 {
@@ -165,7 +168,7 @@ pub fn read_first_word(low: i64, from: &mut Cursor<'_>) -> i32
 }
 
 /// A number of words or channels, at least 1.
-#[tactic(auto, unfolding(crate::specs::ReadingRows::span_at, crate::specs::Reading::tested, crate::specs::Reading::and_then))]
+#[tactic(auto, unfolding(crate::specs::ReadingRows::span_at, crate::specs::Reading::tested))]
 pub fn read_span(from: &mut Cursor<'_>) -> u32
     ensures { Takes span_at from.old result from.new }
 {

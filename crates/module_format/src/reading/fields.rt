@@ -8,7 +8,7 @@ use crate::reading::cursor::Cursor;
 
 impl Cursor<'_> {
     /// A u16 up to a limit.
-    #[tactic(auto, unfolding(crate::specs::Reading::limited_at, crate::specs::Reading::tested, crate::specs::Reading::and_then))]
+    #[tactic(auto, unfolding(crate::specs::Reading::limited_at, crate::specs::Reading::tested))]
     pub(crate) fn limited_u16(&mut self, limit: u16) -> u16
         ensures { Takes (λ size. limited_at size 2 limit) self.old result self.new }
     {
@@ -19,7 +19,7 @@ impl Cursor<'_> {
     }
 
     /// A u32 up to a limit.
-    #[tactic(auto, unfolding(crate::specs::Reading::limited_at, crate::specs::Reading::tested, crate::specs::Reading::and_then))]
+    #[tactic(auto, unfolding(crate::specs::Reading::limited_at, crate::specs::Reading::tested))]
     pub(crate) fn limited_u32(&mut self, limit: u32) -> u32
         ensures { Takes (λ size. limited_at size 4 limit) self.old result self.new }
     {
@@ -30,7 +30,7 @@ impl Cursor<'_> {
     }
 
     /// A u64 up to a limit.
-    #[tactic(auto, unfolding(crate::specs::Reading::limited_at, crate::specs::Reading::tested, crate::specs::Reading::and_then))]
+    #[tactic(auto, unfolding(crate::specs::Reading::limited_at, crate::specs::Reading::tested))]
     pub(crate) fn limited_u64(&mut self, limit: u64) -> u64
         ensures { Takes (λ size. limited_at size 8 limit) self.old result self.new }
     {
@@ -41,7 +41,7 @@ impl Cursor<'_> {
     }
 
     /// A u32 from 1 to a limit.
-    #[tactic(auto, unfolding(crate::specs::Reading::positive_at, crate::specs::Reading::tested, crate::specs::Reading::and_then))]
+    #[tactic(auto, unfolding(crate::specs::Reading::positive_at, crate::specs::Reading::tested))]
     pub(crate) fn positive(&mut self, limit: u32) -> u32
         ensures { Takes (λ size. positive_at size limit) self.old result self.new }
     {
@@ -52,7 +52,7 @@ impl Cursor<'_> {
     }
 
     /// A u32 of which no value above `most` is allowed.
-    #[tactic(auto, unfolding(crate::specs::Reading::at_most_at, crate::specs::Reading::tested, crate::specs::Reading::and_then))]
+    #[tactic(auto, unfolding(crate::specs::Reading::at_most_at, crate::specs::Reading::tested))]
     pub(crate) fn at_most(&mut self, most: u32) -> u32
         ensures { Takes (λ size. at_most_at size most) self.old result self.new }
     {
@@ -63,7 +63,7 @@ impl Cursor<'_> {
     }
 
     /// An offset in the code that isn't its first.
-    #[tactic(auto, unfolding(crate::specs::Reading::in_code_at, crate::specs::Reading::tested, crate::specs::Reading::and_then))]
+    #[tactic(auto, unfolding(crate::specs::Reading::in_code_at, crate::specs::Reading::tested))]
     pub(crate) fn in_code(&mut self, code_len: u32) -> u32
         ensures { Takes (λ size. in_code_at size code_len) self.old result self.new }
     {

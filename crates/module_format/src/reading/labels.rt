@@ -16,7 +16,7 @@ use crate::rows::{LabelRow, ProcedureRow};
 use std::alloc::Global;
 
 /// The offset of a label row, behind a row at offset `low`.
-#[tactic(auto, unfolding(crate::specs::ReadingRows::label_offset_at, crate::specs::Reading::tested, crate::specs::Reading::and_then))]
+#[tactic(auto, unfolding(crate::specs::ReadingRows::label_offset_at, crate::specs::Reading::tested))]
 fn read_label_offset(
     code_len: u32,
     procedures: &[ProcedureRow],

@@ -14,6 +14,7 @@ use crate::contexts::{Context, Contexts};
 use crate::fact::Fact;
 use crate::fault::{FormatFault, FormatFaultKind};
 use crate::reading::facts::end_of;
+use crate::row_sizes::{COUNT_SIZE, ENTRY_HEAD_SIZE, LABEL_HEAD_SIZE, LABEL_OFFSET_SIZE, TAG_SIZE};
 use crate::rows::{Entry, LabelRow};
 
 /// What a field names is not there.
@@ -87,7 +88,7 @@ fn late_fact(parameters: usize, at: usize, fact: &Fact) -> Result<(), FormatFaul
             if region < 2 || region - 2 < parameters {
                 return Ok(());
             }
-            Err(not_there(at + 1))
+            Err(not_there(at + TAG_SIZE))
         }
         _ => Ok(()),
     }
@@ -107,8 +108,8 @@ impl Late<Context> for Entry {
         if i64::from(self.word) < context.lo || end_of(self) > context.hi {
             return Err(not_there(at));
         }
-        late_fact(context.parameters, at + 8, &self.fact)?;
-        Ok(at + 8 + fact_size(&self.fact))
+        late_fact(context.parameters, at + ENTRY_HEAD_SIZE, &self.fact)?;
+        Ok(at + ENTRY_HEAD_SIZE + fact_size(&self.fact))
     }
 }
 
@@ -119,13 +120,13 @@ fn late_row(context: &Context, at: usize, row: &LabelRow) -> Result<usize, Forma
     ensures gives { Tells result (late_row context.now at (label_of row.now)) }
     ensures behind { IfOk result (λ end. end ≡ at + length (label_bytes (label_of row.now))) }
 {
-    let at_a = at + 18;
+    let at_a = at + LABEL_HEAD_SIZE;
     late_fact(context.parameters, at_a, &row.a)?;
     let at_b = at_a + fact_size(&row.a);
     late_fact(context.parameters, at_b, &row.b)?;
     let at_c = at_b + fact_size(&row.b);
     late_fact(context.parameters, at_c, &row.c)?;
-    let at_entries = at_c + fact_size(&row.c) + 2;
+    let at_entries = at_c + fact_size(&row.c) + COUNT_SIZE;
     late_list(context, at_entries, &row.entries)
 }
 
@@ -142,7 +143,7 @@ impl Late<Contexts<'_, '_>> for LabelRow {
     fn late(&self, contexts: &Contexts<'_, '_>, at: usize) -> Result<usize, FormatFault> {
         match contexts.context(u32::from(self.context)) {
             Some(context) => late_row(&context, at, self),
-            None => Err(not_there(at + 4)),
+            None => Err(not_there(at + LABEL_OFFSET_SIZE)),
         }
     }
 }

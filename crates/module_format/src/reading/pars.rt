@@ -64,7 +64,7 @@ fn read_channels(alloc: Global, count: u16, from: &mut Cursor<'_>) -> Vec<Channe
 }
 
 /// A context of which there are so many.
-#[tactic(auto, unfolding(crate::specs::ReadingPars::context_number_at, crate::specs::Reading::tested, crate::specs::Reading::and_then))]
+#[tactic(auto, unfolding(crate::specs::ReadingPars::context_number_at, crate::specs::Reading::tested))]
 fn read_context_number(count: usize, from: &mut Cursor<'_>) -> u16
     ensures { Takes (λ size. context_number_at size count) from.old result from.new }
 {
@@ -75,7 +75,7 @@ fn read_context_number(count: usize, from: &mut Cursor<'_>) -> u16
 }
 
 /// A number of branches, at least 1.
-#[tactic(auto, unfolding(crate::specs::ReadingPars::branch_count_at, crate::specs::Reading::tested, crate::specs::Reading::and_then))]
+#[tactic(auto, unfolding(crate::specs::ReadingPars::branch_count_at, crate::specs::Reading::tested))]
 fn read_branch_count(from: &mut Cursor<'_>) -> u16
     ensures { Takes branch_count_at from.old result from.new }
 {

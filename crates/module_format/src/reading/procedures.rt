@@ -34,6 +34,7 @@ use crate::reading::list::{Reader, fill};
 use crate::rows::{Ends, Parameter, ParameterKind, ProcedureRow};
 use crate::rules::{are_ends, is_frame_end, is_frame_start, is_region_size};
 use crate::tables::Version;
+use crate::tags::{KIND_CHANNELS, KIND_READ_REGION, KIND_VALUE, KIND_WRITTEN_REGION};
 use bitflags::Flags;
 use std::alloc::Global;
 
@@ -49,7 +50,7 @@ fn read_words_range(version: Version, from: &mut Cursor<'_>) -> (i32, i32)
 }
 
 /// The bytes of a region of words, of which it has one at least.
-#[tactic(auto, unfolding(crate::specs::ReadingRows::region_size_at, crate::specs::Reading::tested, crate::specs::Reading::and_then))]
+#[tactic(auto, unfolding(crate::specs::ReadingRows::region_size_at, crate::specs::Reading::tested))]
 fn read_region_size(from: &mut Cursor<'_>) -> u32
     ensures { Takes region_size_at from.old result from.new }
 {
@@ -131,10 +132,10 @@ fn read_parameter_kind(version: Version, from: &mut Cursor<'_>) -> ParameterKind
     let at = from.place();
     let tag = from.u8();
     match tag {
-        0 => read_value(from),
-        1 => read_region(version, Access::Read, from),
-        2 => read_region(version, Access::Write, from),
-        3 => read_channels(from),
+        KIND_VALUE => read_value(from),
+        KIND_READ_REGION => read_region(version, Access::Read, from),
+        KIND_WRITTEN_REGION => read_region(version, Access::Write, from),
+        KIND_CHANNELS => read_channels(from),
         _ => {
             from.fail(at, FormatFaultKind::Range);
             ParameterKind::Value { lo: 0, hi: 0 }
@@ -143,7 +144,7 @@ fn read_parameter_kind(version: Version, from: &mut Cursor<'_>) -> ParameterKind
 }
 
 /// The word of a parameter: below word `hi`, and behind the parameter before, in word `low`.
-#[tactic(auto, unfolding(crate::specs::ReadingRows::parameter_word_at, crate::specs::Reading::tested, crate::specs::Reading::and_then))]
+#[tactic(auto, unfolding(crate::specs::ReadingRows::parameter_word_at, crate::specs::Reading::tested))]
 fn read_parameter_word(hi: i32, low: u16, from: &mut Cursor<'_>) -> u16
     ensures { Takes (λ size. parameter_word_at size hi low) from.old result from.new }
 {
@@ -216,7 +217,7 @@ fn read_parameters(
 }
 
 /// The first word of a frame.
-#[tactic(auto, unfolding(crate::specs::ReadingRows::frame_start_at, crate::specs::Reading::tested, crate::specs::Reading::and_then))]
+#[tactic(auto, unfolding(crate::specs::ReadingRows::frame_start_at, crate::specs::Reading::tested))]
 fn read_frame_start(from: &mut Cursor<'_>) -> i32
     ensures { Takes frame_start_at from.old result from.new }
 {
@@ -227,7 +228,7 @@ fn read_frame_start(from: &mut Cursor<'_>) -> i32
 }
 
 /// The first word behind a frame.
-#[tactic(auto, unfolding(crate::specs::ReadingRows::frame_end_at, crate::specs::Reading::tested, crate::specs::Reading::and_then))]
+#[tactic(auto, unfolding(crate::specs::ReadingRows::frame_end_at, crate::specs::Reading::tested))]
 fn read_frame_end(from: &mut Cursor<'_>) -> i32
     ensures { Takes frame_end_at from.old result from.new }
 {
@@ -238,7 +239,7 @@ fn read_frame_end(from: &mut Cursor<'_>) -> i32
 }
 
 /// An offset in the code behind `low`.
-#[tactic(auto, unfolding(crate::specs::ReadingRows::rising_at, crate::specs::Reading::tested, crate::specs::Reading::and_then))]
+#[tactic(auto, unfolding(crate::specs::ReadingRows::rising_at, crate::specs::Reading::tested))]
 fn read_procedure_entry(code_len: u32, low: u32, from: &mut Cursor<'_>) -> u32
     ensures { Takes (λ size. rising_at size code_len low) from.old result from.new }
 {

@@ -16,7 +16,7 @@ use byteorder::{ByteOrder, LittleEndian};
 use std::alloc::Global;
 
 /// The first byte of a table, behind those that end at `low`.
-#[tactic(auto, unfolding(crate::specs::ReadingRows::table_start_at, crate::specs::Reading::tested, crate::specs::Reading::and_then))]
+#[tactic(auto, unfolding(crate::specs::ReadingRows::table_start_at, crate::specs::Reading::tested))]
 fn read_table_start(low: u32, from: &mut Cursor<'_>) -> u32
     ensures { Takes (λ size. table_start_at size low) from.old result from.new }
 {
@@ -28,7 +28,7 @@ fn read_table_start(low: u32, from: &mut Cursor<'_>) -> u32
 }
 
 /// The end of a table in so many bytes of constants.
-#[tactic(auto, unfolding(crate::specs::ReadingRows::table_end_at, crate::specs::Reading::tested, crate::specs::Reading::and_then))]
+#[tactic(auto, unfolding(crate::specs::ReadingRows::table_end_at, crate::specs::Reading::tested))]
 fn read_table_end(const_len: usize, start: u32, from: &mut Cursor<'_>) -> u32
     ensures takes { Takes (λ size. table_end_at size const_len start) from.old result from.new }
     ensures inside { from.new.failure ≡ None → (start < result) × (result ≤ const_len) }
