@@ -1,19 +1,17 @@
 -- The laws of frame words, parameters and branches.
-use Rattle.std.proofs.Common.{◌≡◌, ℕ, ◌^◌, ◌<◌, ◌≤◌, ℤ, ◌<ℤ◌, false, Bool, cond, ltb, eqb, List, [], ◌∷◌, ◌++◌, length, Ok, Err, refl, ap, ◌∙◌, append_assoc, arith, FitsSigned}
-use Rattle.std.specs.Prelude.{int_lt}
+use Rattle.std.proofs.Common.{◌≡◌, ℕ, ◌^◌, ◌<◌, ◌≤◌, ℤ, ◌<ℤ◌, false, Bool, List, [], ◌∷◌, ◌++◌, length, Ok, refl, ap, ◌∙◌, append_assoc, arith, FitsSigned}
 use Rattle.std.specs.Int.{w32}
 use Rattle.std.specs.List.{flat_map, list_any, AllByRecursion}
-use Rattle.std.proofs.lemmas.Bool.{ltb-true, lt-ltb, ltb-false, le-ltb, or_parts}
-use Rattle.module_format.specs.declared.fault.TheConstants.{ORDER, RANGE}
+use Rattle.std.proofs.lemmas.Bool.{ltb-true, lt-ltb, leb-true, le-leb, not-true, or_parts}
 use Rattle.module_format.specs.declared.rows.Interval.{Interval}
 use Rattle.module_format.specs.declared.reading.branches.BranchCounts.{BranchCounts}
 use Rattle.module_format.specs.Contents.{Branch}
 use Rattle.module_format.specs.Order.{IsBytes, InOrder, least_word}
 use Rattle.module_format.specs.Pars.{IntervalKeeps, behind_interval, meet, ReadKeeps, NumberKeeps, behind_number, Before, IsBranchEntry, GiftsKeep, BranchKeeps}
 use Rattle.module_format.specs.Spelling.{u16_bytes, u32_bytes, i32_bytes, interval_bytes, end_bytes, branch_head, branch_bytes}
-use Rattle.module_format.specs.Reading.{fault, place, list_at}
+use Rattle.module_format.specs.Reading.{list_at}
 use Rattle.module_format.specs.ReadingPars.{interval_end_at, words_at, read_words_at, parameter_number_at, branch_entry_at, branch_counts_at, branch_at}
-use Rattle.module_format.proofs.Tools.{Has, has_ok, has_then, has_unless, has_if, step, Spelled, join, list_takes, list_again}
+use Rattle.module_format.proofs.Tools.{Has, has_ok, has_then, step, Spelled, join, tested_takes, tested_again, list_takes, list_again}
 use Rattle.module_format.proofs.FieldLaws.{int_lt-true, int_lt-holds, u16_takes, u16_again, in_code_takes, in_code_again, int_takes, int_again}
 use Rattle.module_format.proofs.RowLaws.{first_word_takes, first_word_again}
 use Rattle.module_format.proofs.EndLaws.{ends_take, ends_again}
@@ -32,14 +30,11 @@ pass_none test (x ∷ xs) h = rw h.0 (pass_none test xs h.1)
 module _ (size : ℕ) where
   interval_end_takes : (lo : ℤ) (bytes : List ℕ) → IsBytes bytes → Has (interval_end_at size lo bytes) (Spelled bytes i32_bytes (λ hi. FitsSigned w32 hi × (lo <ℤ hi)))
   unfolding interval_end_at
-  interval_end_takes lo bytes fits =
-      has_then _ _ (int_takes size bytes fits) (λ hi h.
-      has_if (int_lt lo hi.0) (fault RANGE (place size bytes)) (Ok hi) (λ some.
-      has_ok hi (record { parts = h.parts; rest_fits = h.rest_fits; keeps = (h.keeps, int_lt-true _ _ some) })))
+  interval_end_takes lo bytes fits = tested_takes _ _ _ _ (int_takes size bytes fits) (λ hi fits some. (fits, int_lt-true _ _ some))
 
   interval_end_again : (lo hi : ℤ) (rest : List ℕ) → FitsSigned w32 hi → lo <ℤ hi → interval_end_at size lo (i32_bytes hi ++ rest) ≡ Ok (hi, rest)
   unfolding interval_end_at
-  interval_end_again lo hi rest fits some = step _ (int_again size hi rest fits) (rw (int_lt-holds _ _ some) refl)
+  interval_end_again lo hi rest fits some = tested_again _ _ _ _ (int_again size hi rest fits) (int_lt-holds _ _ some)
 
   words_take : (low : ℤ) (bytes : List ℕ) → IsBytes bytes → Has (words_at size low bytes) (Spelled bytes interval_bytes (IntervalKeeps low))
   unfolding words_at interval_bytes
@@ -68,13 +63,11 @@ module _ (size : ℕ) where
     read_words_take : (low : ℤ) (bytes : List ℕ) → IsBytes bytes → Has (read_words_at size writes low bytes) (Spelled bytes interval_bytes (ReadKeeps writes low))
     unfolding read_words_at
     read_words_take low bytes fits =
-        has_then _ _ (words_take low bytes fits) (λ i h.
-        has_unless (list_any (meet i.0) writes) (fault ORDER (place size bytes)) (Ok i) (λ apart.
-        has_ok i (record { parts = h.parts; rest_fits = h.rest_fits; keeps = record { interval = h.keeps; apart = none_pass (meet i.0) writes apart } })))
+        tested_takes _ _ _ _ (words_take low bytes fits) (λ i kept apart. record { interval = kept; apart = none_pass (meet i) writes (not-true _ apart) })
 
     read_words_again : (low : ℤ) (i : Interval) (rest : List ℕ) → ReadKeeps writes low i → read_words_at size writes low (interval_bytes i ++ rest) ≡ Ok (i, rest)
     unfolding read_words_at
-    read_words_again low i rest h = step _ (words_again low i rest h.interval) (rw (pass_none (meet i) writes h.apart) refl)
+    read_words_again low i rest h = tested_again _ _ _ _ (words_again low i rest h.interval) (rw (pass_none (meet i) writes h.apart) refl)
 
     reads_take : (count : ℕ) (bytes : List ℕ) → IsBytes bytes → Has (list_at (read_words_at size writes) behind_interval count least_word bytes) (Spelled bytes (flat_map interval_bytes) (λ is. (length is ≡ count) × InOrder (ReadKeeps writes) behind_interval least_word is))
     reads_take count bytes fits = list_takes (read_words_at size writes) behind_interval interval_bytes (ReadKeeps writes) read_words_take count least_word bytes fits
@@ -86,14 +79,11 @@ module _ (size : ℕ) where
 
   parameter_number_takes : (low : ℕ) (bytes : List ℕ) → IsBytes bytes → Has (parameter_number_at size low bytes) (Spelled bytes u16_bytes (NumberKeeps low))
   unfolding parameter_number_at
-  parameter_number_takes low bytes fits =
-      has_then _ _ (u16_takes size bytes fits) (λ n h.
-      has_unless (ltb n.0 low) (fault ORDER (place size bytes)) (Ok n) (λ rises.
-      has_ok n (record { parts = h.parts; rest_fits = h.rest_fits; keeps = record { fits = h.keeps; rises = ltb-false _ _ rises } })))
+  parameter_number_takes low bytes fits = tested_takes _ _ _ _ (u16_takes size bytes fits) (λ n below rises. record { fits = below; rises = leb-true _ _ rises })
 
   parameter_number_again : (low n : ℕ) (rest : List ℕ) → NumberKeeps low n → parameter_number_at size low (u16_bytes n ++ rest) ≡ Ok (n, rest)
   unfolding parameter_number_at
-  parameter_number_again low n rest h = step _ (u16_again size n rest h.fits) (rw (le-ltb _ _ h.rises) refl)
+  parameter_number_again low n rest h = tested_again _ _ _ _ (u16_again size n rest h.fits) (le-leb _ _ h.rises)
 
   numbers_take : (count : ℕ) (bytes : List ℕ) → IsBytes bytes → Has (list_at (parameter_number_at size) behind_number count 0 bytes) (Spelled bytes (flat_map u16_bytes) (λ ns. (length ns ≡ count) × InOrder NumberKeeps behind_number 0 ns))
   numbers_take count bytes fits = list_takes (parameter_number_at size) behind_number u16_bytes NumberKeeps parameter_number_takes count 0 bytes fits
@@ -164,16 +154,14 @@ module _ (size code_len : ℕ) where
   branch_entry_takes : (before : Before) (bytes : List ℕ) → IsBytes bytes → Has (branch_entry_at size code_len before bytes) (Spelled bytes u32_bytes (IsBranchEntry code_len before))
   unfolding branch_entry_at
   branch_entry_takes before bytes fits =
-      has_then _ _ (in_code_takes size code_len bytes fits) (λ n h.
-      has_if (ltb before.low n.0) (fault ORDER (place size bytes)) (cond (list_any (λ other. eqb other n.0) before.entries) (Err (fault RANGE (place size bytes))) (Ok n)) (λ rises.
-      has_unless (list_any (λ other. eqb other n.0) before.entries) (fault RANGE (place size bytes)) (Ok n) (λ differs.
-      has_ok n (record { parts = h.parts; rest_fits = h.rest_fits; keeps = record { in_code = h.keeps.1; rises = ltb-true _ _ rises; differs = differs } }))))
+      let risen = tested_takes {Q = λ n. (n < code_len) × (before.low < n)} _ _ _ _ (in_code_takes size code_len bytes fits) (λ n h rises. (h.1, ltb-true _ _ rises)) in
+      tested_takes _ _ _ _ risen (λ n h differs. record { in_code = h.0; rises = h.1; differs = not-true _ differs })
 
   branch_entry_again : (before : Before) (n : ℕ) (rest : List ℕ) → n < 2 ^ 32 → IsBranchEntry code_len before n → branch_entry_at size code_len before (u32_bytes n ++ rest) ≡ Ok (n, rest)
   unfolding branch_entry_at
   branch_entry_again before n rest fits h =
       let some : 1 ≤ n = let r = h.rises in omega arith in
-      step _ (in_code_again size code_len n rest fits some h.in_code) (rw (lt-ltb _ _ h.rises, h.differs) refl)
+      tested_again _ _ _ _ (tested_again _ _ _ _ (in_code_again size code_len n rest fits some h.in_code) (lt-ltb _ _ h.rises)) (rw h.differs refl)
 
   pub branch_takes : (before : Before) (bytes : List ℕ) → IsBytes bytes → Has (branch_at size code_len before bytes) (Spelled bytes branch_bytes (BranchKeeps code_len before))
   unfolding branch_at branch_bytes

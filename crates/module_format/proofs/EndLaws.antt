@@ -1,12 +1,11 @@
 -- The laws of the channel ends that a branch is given.
-use Rattle.std.proofs.Common.{◌≡◌, ◌≢◌, ℕ, zero, suc, ◌^◌, ◌<◌, ◌≤◌, ℤ, pos, negsuc, Bool, true, false, ◌&&◌, ◌||◌, unsigned_abs, cond, ltb, leb, eqb, IsTrue, List, [], ◌∷◌, ◌++◌, length, Ok, Err, refl, sym, ap, ap₂, subst, ◌∙◌, append_assoc, arith, inl, inr, FitsSigned}
+use Rattle.std.proofs.Common.{◌≡◌, ◌≢◌, ℕ, zero, suc, ◌^◌, ◌<◌, ◌≤◌, ℤ, pos, negsuc, Bool, true, false, ◌&&◌, ◌||◌, unsigned_abs, ltb, leb, eqb, IsTrue, List, [], ◌∷◌, ◌++◌, length, Ok, refl, sym, ap, ap₂, subst, ◌∙◌, append_assoc, arith, inl, inr, FitsSigned}
 use Rattle.std.specs.Prelude.{int_lt, int_le}
 use Rattle.std.specs.Int.{w32}
 use Rattle.std.specs.List.{flat_map}
-use Rattle.std.proofs.lemmas.Bool.{ltb-false, le-ltb, eqb-true, or_cases}
+use Rattle.std.proofs.lemmas.Bool.{leb-true, le-leb, eqb-true, not-true, or_cases}
 use Rattle.std.proofs.lemmas.Bool.Decides.{nat_tests}
 use Rattle.std.proofs.lemmas.Int.{ints}
-use Rattle.module_format.specs.declared.fault.TheConstants.{ORDER, RANGE}
 use Rattle.module_format.specs.declared.rows.EndKind.{EndKind}
 use Rattle.module_format.specs.declared.rows.EndKind.TheVariants as ends
 use Rattle.module_format.specs.declared.rows.Direction.{Direction}
@@ -16,14 +15,14 @@ use Rattle.module_format.specs.declared.rows.EndKey.{EndKey}
 use Rattle.module_format.specs.Order.{IsBytes, InOrder}
 use Rattle.module_format.specs.Pars.{EndKindKeeps, EndKeeps, behind_end, kind_of, number_of, element_of, direction_number, key_of, first_key, is_below}
 use Rattle.module_format.specs.Spelling.{u32_bytes, i32_bytes, end_kind_bytes, end_bytes, direction_byte}
-use Rattle.module_format.specs.Reading.{fault, place, byte_at, list_at}
+use Rattle.module_format.specs.Reading.{byte_at, list_at}
 use Rattle.module_format.specs.ReadingPars.{end_kind_at, is_number_of, end_number_at, end_element_at, end_direction_at, end_kind, direction_of, end_at}
-use Rattle.module_format.proofs.Tools.{Has, has_ok, has_then, has_unless, has_if, step, Spelled, join, list_takes, list_again}
+use Rattle.module_format.proofs.Tools.{Has, has_ok, has_then, step, Spelled, join, tested_takes, tested_again, list_takes, list_again}
 use Rattle.module_format.proofs.FieldLaws.{u32_takes, u32_again, int_takes, int_again, byte_takes}
 
 -- ---- the four tests by which ends rise
 
-rises_from : (x y : EndKey) → ltb y.kind x.kind ≡ false
+rises_from : (x y : EndKey) → leb x.kind y.kind ≡ true
     → (eqb y.kind x.kind && int_lt y.number x.number) ≡ false
     → (eqb y.kind x.kind && (int_le y.number x.number && int_le x.number y.number) && ltb y.element x.element) ≡ false
     → (eqb y.kind x.kind && (int_le y.number x.number && int_le x.number y.number) && eqb y.element x.element && leb y.direction x.direction) ≡ false
@@ -32,7 +31,7 @@ rises_from x y kind number element direction = grind (arith, nat_tests, ints)
 
 -- and back
 module _ (x y : EndKey) (below : is_below x y ≡ true) where
-  kind_rises : ltb y.kind x.kind ≡ false
+  kind_rises : leb x.kind y.kind ≡ true
   kind_rises = grind (arith, nat_tests, ints)
 
   number_rises : (eqb y.kind x.kind && int_lt y.number x.number) ≡ false
@@ -127,31 +126,27 @@ direction_tested directions.Out = refl
 -- ---- the readers of the four fields
 
 module _ (size : ℕ) (before : EndKey) where
-  end_kind_takes : (bytes : List ℕ) → IsBytes bytes → Has (end_kind_at size before bytes) (Spelled bytes (λ k. k ∷ []) (λ k. (k ≤ 2) × (ltb k before.kind ≡ false)))
+  end_kind_takes : (bytes : List ℕ) → IsBytes bytes → Has (end_kind_at size before bytes) (Spelled bytes (λ k. k ∷ []) (λ k. (k ≤ 2) × (leb before.kind k ≡ true)))
   unfolding end_kind_at
   end_kind_takes bytes fits =
-      has_then _ _ (byte_takes size bytes fits) (λ k h.
-      has_unless (ltb 2 k.0) (fault RANGE (place size bytes)) (cond (ltb k.0 before.kind) (Err (fault ORDER (place size bytes))) (Ok k)) (λ least.
-      has_unless (ltb k.0 before.kind) (fault ORDER (place size bytes)) (Ok k) (λ rises.
-      has_ok k (record { parts = h.parts; rest_fits = h.rest_fits; keeps = (ltb-false _ _ least, rises) }))))
+      let known = tested_takes {Q = λ k. k ≤ 2} _ _ _ _ (byte_takes size bytes fits) (λ k below least. leb-true _ _ least) in
+      tested_takes _ _ _ _ known (λ k least rises. (least, rises))
 
-  end_kind_again : (k : ℕ) (rest : List ℕ) → k ≤ 2 → ltb k before.kind ≡ false → end_kind_at size before (k ∷ rest) ≡ Ok (k, rest)
+  end_kind_again : (k : ℕ) (rest : List ℕ) → k ≤ 2 → leb before.kind k ≡ true → end_kind_at size before (k ∷ rest) ≡ Ok (k, rest)
   unfolding end_kind_at byte_at
-  end_kind_again k rest least rises = step _ refl (rw (le-ltb _ _ least, rises) refl)
+  end_kind_again k rest least rises = tested_again _ _ _ _ (tested_again _ _ _ _ refl (le-leb _ _ least)) rises
 
   module _ (kind : ℕ) where
     end_number_takes : (bytes : List ℕ) → IsBytes bytes → Has (end_number_at size before kind bytes) (Spelled bytes i32_bytes (λ n. FitsSigned w32 n × (is_number_of kind n ≡ true) × ((eqb kind before.kind && int_lt n before.number) ≡ false)))
     unfolding end_number_at
     end_number_takes bytes fits =
-        has_then _ _ (int_takes size bytes fits) (λ n h.
-        has_if (is_number_of kind n.0) (fault RANGE (place size bytes)) (cond (eqb kind before.kind && int_lt n.0 before.number) (Err (fault ORDER (place size bytes))) (Ok n)) (λ numbered.
-        has_unless (eqb kind before.kind && int_lt n.0 before.number) (fault ORDER (place size bytes)) (Ok n) (λ rises.
-        has_ok n (record { parts = h.parts; rest_fits = h.rest_fits; keeps = (h.keeps, numbered, rises) }))))
+        let known = tested_takes {Q = λ n. FitsSigned w32 n × (is_number_of kind n ≡ true)} _ _ _ _ (int_takes size bytes fits) (λ n fits numbered. (fits, numbered)) in
+        tested_takes _ _ _ _ known (λ n h rises. (h.0, h.1, not-true _ rises))
 
     end_number_again : (n : ℤ) (rest : List ℕ) → FitsSigned w32 n → is_number_of kind n ≡ true → (eqb kind before.kind && int_lt n before.number) ≡ false
         → end_number_at size before kind (i32_bytes n ++ rest) ≡ Ok (n, rest)
     unfolding end_number_at
-    end_number_again n rest fits numbered rises = step _ (int_again size n rest fits) (rw (numbered, rises) refl)
+    end_number_again n rest fits numbered rises = tested_again _ _ _ _ (tested_again _ _ _ _ (int_again size n rest fits) numbered) (rw rises refl)
 
     module _ (number : ℤ) where
       -- the element is below that of the end before
@@ -161,15 +156,13 @@ module _ (size : ℕ) (before : EndKey) where
       end_element_takes : (bytes : List ℕ) → IsBytes bytes → Has (end_element_at size before kind number bytes) (Spelled bytes u32_bytes (λ n. (n < 2 ^ 32) × ((eqb kind 1 || eqb n 0) ≡ true) × (element_falls n ≡ false)))
       unfolding end_element_at element_falls
       end_element_takes bytes fits =
-          has_then _ _ (u32_takes size bytes fits) (λ n h.
-          has_if (eqb kind 1 || eqb n.0 0) (fault RANGE (place size bytes)) (cond (element_falls n.0) (Err (fault ORDER (place size bytes))) (Ok n)) (λ some.
-          has_unless (element_falls n.0) (fault ORDER (place size bytes)) (Ok n) (λ rises.
-          has_ok n (record { parts = h.parts; rest_fits = h.rest_fits; keeps = (h.keeps, some, rises) }))))
+          let known = tested_takes {Q = λ n. (n < 2 ^ 32) × ((eqb kind 1 || eqb n 0) ≡ true)} _ _ _ _ (u32_takes size bytes fits) (λ n below some. (below, some)) in
+          tested_takes _ _ _ _ known (λ n h rises. (h.0, h.1, not-true _ rises))
 
       end_element_again : (n : ℕ) (rest : List ℕ) → n < 2 ^ 32 → (eqb kind 1 || eqb n 0) ≡ true → element_falls n ≡ false
           → end_element_at size before kind number (u32_bytes n ++ rest) ≡ Ok (n, rest)
       unfolding end_element_at element_falls
-      end_element_again n rest fits some rises = step _ (u32_again size n rest fits) (rw (some, rises) refl)
+      end_element_again n rest fits some rises = tested_again _ _ _ _ (tested_again _ _ _ _ (u32_again size n rest fits) some) (rw rises refl)
 
       module _ (element : ℕ) where
         -- the direction is not above that of the end before
@@ -179,15 +172,13 @@ module _ (size : ℕ) (before : EndKey) where
         end_direction_takes : (bytes : List ℕ) → IsBytes bytes → Has (end_direction_at size before kind number element bytes) (Spelled bytes (λ d. d ∷ []) (λ d. ((eqb d 1 || eqb d 2) ≡ true) × (direction_falls d ≡ false)))
         unfolding end_direction_at direction_falls
         end_direction_takes bytes fits =
-            has_then _ _ (byte_takes size bytes fits) (λ d h.
-            has_if (eqb d.0 1 || eqb d.0 2) (fault RANGE (place size bytes)) (cond (direction_falls d.0) (Err (fault ORDER (place size bytes))) (Ok d)) (λ known.
-            has_unless (direction_falls d.0) (fault ORDER (place size bytes)) (Ok d) (λ rises.
-            has_ok d (record { parts = h.parts; rest_fits = h.rest_fits; keeps = (known, rises) }))))
+            let known = tested_takes {Q = λ d. (eqb d 1 || eqb d 2) ≡ true} _ _ _ _ (byte_takes size bytes fits) (λ d below known. known) in
+            tested_takes _ _ _ _ known (λ d known rises. (known, not-true _ rises))
 
         end_direction_again : (d : ℕ) (rest : List ℕ) → (eqb d 1 || eqb d 2) ≡ true → direction_falls d ≡ false
             → end_direction_at size before kind number element (d ∷ rest) ≡ Ok (d, rest)
         unfolding end_direction_at direction_falls byte_at
-        end_direction_again d rest known rises = step _ refl (rw (known, rises) refl)
+        end_direction_again d rest known rises = tested_again _ _ _ _ (tested_again _ _ _ _ refl known) (rw rises refl)
 
 -- ---- ends
 

@@ -1,18 +1,18 @@
 -- The laws of single fields: a field that is read is spelled so, and a field that is spelled so is read.
-use Rattle.std.proofs.Common.{◌≡◌, ◌≢◌, true, ℕ, ◌+◌, ◌^◌, ◌<◌, ◌≤◌, ℤ, ◌≤ℤ◌, suc, cond, Err, [], ◌∷◌, false, ltb, eqb, List, ◌++◌, length, take, drop, Ok, refl, sym, arith, rules, inl, inr, FitsSigned}
+use Rattle.std.proofs.Common.{◌≡◌, ◌≢◌, true, ℕ, ◌+◌, ◌^◌, ◌<◌, ◌≤◌, ℤ, ◌≤ℤ◌, suc, [], ◌∷◌, false, ltb, leb, eqb, List, ◌++◌, length, take, drop, Ok, refl, sym, arith, rules, inl, inr, FitsSigned}
 use Rattle.std.specs.Prelude.{int_lt, int_le, ◌<ℤ◌}
 use Rattle.std.specs.Int.{w32, cast_signed, cast_unsigned}
-use Rattle.std.proofs.lemmas.Bool.{cases_lt, ltb-true, lt-ltb, ltb-false, le-ltb}
+use Rattle.std.proofs.lemmas.Bool.{cases_lt, ltb-true, lt-ltb, ltb-false, le-ltb, leb-true, le-leb, and_parts}
 use Rattle.std.proofs.lemmas.List.{take_at, drop_at, take-append-drop, length-append, length-take, get_or-drop, get_or-take, get_or_past}
 use Rattle.std.proofs.lemmas.Nat.{le_bytes_2, le_bytes_4, le_bytes_8}
 use Rattle.std.proofs.lemmas.Int.{ints, to_z-of_z, of_z-to_z}
 use Rattle.byteorder.specs.Endian.{little_number}
 use Rattle.byteorder.specs.Numbers.{little_number-reads_back}
-use Rattle.module_format.specs.declared.fault.TheConstants.{TRUNCATED, RANGE, LIMIT}
+use Rattle.module_format.specs.declared.fault.FormatFaultKind.TheVariants as faults
 use Rattle.module_format.specs.Order.{IsBytes, IsInterval}
 use Rattle.module_format.specs.Spelling.{u16_bytes, u32_bytes, u64_bytes, i32_bytes}
-use Rattle.module_format.specs.Reading.{fault, place, number_at, int_at, limited_at, positive_at, at_most_at, bytes_at, byte_at, in_code_at, hi_at, interval_at}
-use Rattle.module_format.proofs.Tools.{Has, has_ok, has_err, has_then, has_unless, has_if, step, join, Spelled}
+use Rattle.module_format.specs.Reading.{fault, number_at, int_at, limited_at, positive_at, at_most_at, bytes_at, byte_at, in_code_at, hi_at, interval_at}
+use Rattle.module_format.proofs.Tools.{Has, has_ok, has_err, has_then, has_unless, step, join, Spelled, tested_takes, tested_again}
 
 pub IsBytes-drop : (n : ℕ) (bytes : List ℕ) → IsBytes bytes → IsBytes (drop n bytes)
 IsBytes-drop n bytes h i = rw get_or-drop (h (n + i))
@@ -42,9 +42,6 @@ int_le-lt a b h = grind (arith, ints)
 
 pub int_le-false : (a b : ℤ) → int_le a b ≡ false → b <ℤ a
 int_le-false a b e = grind (arith, ints)
-
-pub int_lt-le : (a b : ℤ) → b <ℤ a → int_le a b ≡ false
-int_lt-le a b h = grind (arith, ints)
 
 pub int_le-true : (a b : ℤ) → int_le a b ≡ true → a ≤ℤ b
 int_le-true a b e = grind (arith, ints)
@@ -110,7 +107,7 @@ module _ (size n : ℕ) (spelling : ℕ → List ℕ) (max : ℕ) (wide : IsWide
   pub number_takes : (bytes : List ℕ) → IsBytes bytes → Has (number_at size n bytes) (Spelled bytes spelling (λ x. x < max))
   unfolding number_at
   number_takes bytes fits =
-      has_unless (ltb (length bytes) n) (fault TRUNCATED size) (Ok (little_number n bytes, drop n bytes)) (λ long.
+      has_unless (ltb (length bytes) n) (fault faults.Truncated size) (Ok (little_number n bytes, drop n bytes)) (λ long.
       let parts : bytes ≡ spelling (little_number n bytes) ++ drop n bytes = rw (wide.back bytes (ltb-false _ _ long) fits) (sym (take-append-drop n bytes)) in
       has_ok (little_number n bytes, drop n bytes) (record {
         parts = parts;
@@ -127,14 +124,11 @@ module _ (size n : ℕ) (spelling : ℕ → List ℕ) (max : ℕ) (wide : IsWide
 
   pub limited_takes : (limit : ℕ) (bytes : List ℕ) → IsBytes bytes → Has (limited_at size n limit bytes) (Spelled bytes spelling (λ x. (x < max) × (x ≤ limit)))
   unfolding limited_at
-  limited_takes limit bytes fits =
-      has_then _ _ (number_takes bytes fits) (λ x h.
-      has_unless (ltb limit x.0) (fault LIMIT (place size bytes)) (Ok x) (λ low.
-      has_ok x (record { parts = h.parts; rest_fits = h.rest_fits; keeps = (h.keeps, ltb-false _ _ low) })))
+  limited_takes limit bytes fits = tested_takes _ _ _ _ (number_takes bytes fits) (λ x below low. (below, leb-true _ _ low))
 
   pub limited_again : (limit x : ℕ) (rest : List ℕ) → x < max → x ≤ limit → limited_at size n limit (spelling x ++ rest) ≡ Ok (x, rest)
   unfolding limited_at
-  limited_again limit x rest lt le = step _ (number_again x rest lt) (rw (le-ltb _ _ le) refl)
+  limited_again limit x rest lt le = tested_again _ _ _ _ (number_again x rest lt) (le-leb _ _ le)
 
 -- ---- numbers of four bytes
 
@@ -153,42 +147,31 @@ module _ (size : ℕ) where
 
   pub positive_takes : (limit : ℕ) (bytes : List ℕ) → IsBytes bytes → Has (positive_at size limit bytes) (Spelled bytes u32_bytes (λ x. (1 ≤ x) × (x ≤ limit)))
   unfolding positive_at
-  positive_takes limit bytes fits =
-      has_then _ _ (limited_takes size 4 u32_bytes (2 ^ 32) wide32 limit bytes fits) (λ x h.
-      has_unless (eqb x.0 0) (fault RANGE (place size bytes)) (Ok x) (λ some.
-      has_ok x (record { parts = h.parts; rest_fits = h.rest_fits; keeps = (let differ : x.0 ≢ 0 = eqb-false _ _ some in omega arith, h.keeps.1) })))
+  positive_takes limit bytes fits = tested_takes _ _ _ _ (limited_takes size 4 u32_bytes (2 ^ 32) wide32 limit bytes fits) (λ x h some. (leb-true _ _ some, h.1))
 
   pub positive_again : (limit x : ℕ) (rest : List ℕ) → x < 2 ^ 32 → 1 ≤ x → x ≤ limit → positive_at size limit (u32_bytes x ++ rest) ≡ Ok (x, rest)
   unfolding positive_at
-  positive_again limit x rest lt some le =
-      let differ : x ≢ 0 = omega arith in
-      step _ (limited_again size 4 u32_bytes (2 ^ 32) wide32 limit x rest lt le) (rw (eqb-differ _ _ differ) refl)
+  positive_again limit x rest lt some le = tested_again _ _ _ _ (limited_again size 4 u32_bytes (2 ^ 32) wide32 limit x rest lt le) (le-leb _ _ some)
 
   pub at_most_takes : (most : ℕ) (bytes : List ℕ) → IsBytes bytes → Has (at_most_at size most bytes) (Spelled bytes u32_bytes (λ x. (x < 2 ^ 32) × (x ≤ most)))
   unfolding at_most_at
-  at_most_takes most bytes fits =
-      has_then _ _ (u32_takes bytes fits) (λ x h.
-      has_unless (ltb most x.0) (fault RANGE (place size bytes)) (Ok x) (λ low.
-      has_ok x (record { parts = h.parts; rest_fits = h.rest_fits; keeps = (h.keeps, ltb-false _ _ low) })))
+  at_most_takes most bytes fits = tested_takes _ _ _ _ (u32_takes bytes fits) (λ x below low. (below, leb-true _ _ low))
 
   pub at_most_again : (most x : ℕ) (rest : List ℕ) → x < 2 ^ 32 → x ≤ most → at_most_at size most (u32_bytes x ++ rest) ≡ Ok (x, rest)
   unfolding at_most_at
-  at_most_again most x rest lt le = step _ (u32_again x rest lt) (rw (le-ltb _ _ le) refl)
+  at_most_again most x rest lt le = tested_again _ _ _ _ (u32_again x rest lt) (le-leb _ _ le)
 
   -- an offset in the code that isn't its first
   pub in_code_takes : (code_len : ℕ) (bytes : List ℕ) → IsBytes bytes → Has (in_code_at size code_len bytes) (Spelled bytes u32_bytes (λ n. (1 ≤ n) × (n < code_len)))
   unfolding in_code_at
   in_code_takes code_len bytes fits =
-      has_then _ _ (u32_takes bytes fits) (λ n h.
-      has_unless (eqb n.0 0) (fault RANGE (place size bytes)) (cond (ltb n.0 code_len) (Ok n) (Err (fault RANGE (place size bytes)))) (λ some.
-      has_if (ltb n.0 code_len) (fault RANGE (place size bytes)) (Ok n) (λ inside.
-      has_ok n (record { parts = h.parts; rest_fits = h.rest_fits; keeps = (let differ : n.0 ≢ 0 = eqb-false _ _ some in omega arith, ltb-true _ _ inside) }))))
+      tested_takes _ _ _ _ (u32_takes bytes fits) (λ n below all.
+      let both = and_parts (leb 1 n) (ltb n code_len) all in
+      (leb-true _ _ both.0, ltb-true _ _ both.1))
 
   pub in_code_again : (code_len n : ℕ) (rest : List ℕ) → n < 2 ^ 32 → 1 ≤ n → n < code_len → in_code_at size code_len (u32_bytes n ++ rest) ≡ Ok (n, rest)
   unfolding in_code_at
-  in_code_again code_len n rest fits some inside =
-      let differ : n ≢ 0 = omega arith in
-      step _ (u32_again n rest fits) (rw (eqb-differ _ _ differ, lt-ltb _ _ inside) refl)
+  in_code_again code_len n rest fits some inside = tested_again _ _ _ _ (u32_again n rest fits) (rw (le-leb _ _ some, lt-ltb _ _ inside) refl)
 
   -- ---- signed words
 
@@ -209,10 +192,7 @@ module _ (size : ℕ) where
   -- the numbers of a word from lo to hi
   hi_takes : (lo : ℤ) (bytes : List ℕ) → IsBytes bytes → Has (hi_at size lo bytes) (Spelled bytes i32_bytes (λ hi. FitsSigned w32 hi × (lo ≤ℤ hi)))
   unfolding hi_at
-  hi_takes lo bytes fits =
-      has_then _ _ (int_takes bytes fits) (λ hi h.
-      has_unless (int_lt hi.0 lo) (fault RANGE (place size bytes)) (Ok hi) (λ ordered.
-      has_ok hi (record { parts = h.parts; rest_fits = h.rest_fits; keeps = (h.keeps, int_lt-false _ _ ordered) })))
+  hi_takes lo bytes fits = tested_takes _ _ _ _ (int_takes bytes fits) (λ hi fits ordered. (fits, int_le-true _ _ ordered))
 
   pub interval_takes : (bytes : List ℕ) → IsBytes bytes → Has (interval_at size bytes) (Spelled bytes (λ r. i32_bytes r.0 ++ i32_bytes r.1) (λ r. IsInterval r.0 r.1))
   unfolding interval_at
@@ -228,7 +208,7 @@ module _ (size : ℕ) where
   pub interval_again : (lo hi : ℤ) (rest : List ℕ) → IsInterval lo hi → interval_at size (i32_bytes lo ++ (i32_bytes hi ++ rest)) ≡ Ok ((lo, hi), rest)
   unfolding interval_at hi_at
   interval_again lo hi rest h =
-      step _ (int_again lo (i32_bytes hi ++ rest) h.lo_fits) (step _ (step _ (int_again hi rest h.hi_fits) (rw (int_le-lt _ _ h.ordered) refl)) refl)
+      step _ (int_again lo (i32_bytes hi ++ rest) h.lo_fits) (step _ (tested_again _ _ _ _ (int_again hi rest h.hi_fits) (int_le-le _ _ h.ordered)) refl)
 
 -- ---- runs of bytes
 
@@ -236,7 +216,7 @@ module _ (size : ℕ) where
   pub bytes_take : (n : ℕ) (bytes : List ℕ) → IsBytes bytes → Has (bytes_at size n bytes) (Spelled bytes (λ run. run) (λ run. (length run ≡ n) × IsBytes run))
   unfolding bytes_at
   bytes_take n bytes fits =
-      has_unless (ltb (length bytes) n) (fault TRUNCATED size) (Ok (take n bytes, drop n bytes)) (λ long.
+      has_unless (ltb (length bytes) n) (fault faults.Truncated size) (Ok (take n bytes, drop n bytes)) (λ long.
       has_ok (take n bytes, drop n bytes) (record {
         parts = sym (take-append-drop n bytes);
         rest_fits = IsBytes-drop n bytes fits;
@@ -252,5 +232,5 @@ module _ (size : ℕ) where
   -- one byte
   pub byte_takes : (bytes : List ℕ) → IsBytes bytes → Has (byte_at size bytes) (Spelled bytes (λ b. b ∷ []) (λ b. b < 256))
   unfolding byte_at
-  byte_takes [] fits = has_err (fault TRUNCATED size)
+  byte_takes [] fits = has_err (fault faults.Truncated size)
   byte_takes (b ∷ bytes) fits = has_ok (b, bytes) (record { parts = refl; rest_fits = IsBytes-rest b bytes fits; keeps = fits 0 })

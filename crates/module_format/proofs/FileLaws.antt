@@ -1,6 +1,7 @@
 -- The laws of reading a file: what is read is the file of what it says, and the file of contents that
 -- keep the rules is read.
 use Rattle.std.proofs.Common.{◌≡◌, ℕ, ◌+◌, ◌*◌, ◌<◌, ◌≤◌, ◌^◌, Bool, eqb, List, [], ◌++◌, length, Result, Ok, Err, refl, sym, ap, ◌∙◌, append_assoc, arith}
+use Rattle.std.specs.Prelude.{None}
 use Rattle.std.specs.List.{flat_map}
 use Rattle.std.proofs.lemmas.Bool.{eqb-true}
 use Rattle.std.proofs.lemmas.List.{append-nil, length-append, nil_from_length}
@@ -9,7 +10,7 @@ use Rattle.std.proofs.lemmas.List.Sums.{sum_by-le}
 use Rattle.module_format.specs.declared.fault.FormatFault.{FormatFault}
 use Rattle.module_format.specs.declared.fault.ReadError.{ReadError}
 use Rattle.module_format.specs.declared.fault.ReadError.TheVariants as errors
-use Rattle.module_format.specs.declared.fault.TheConstants.{LEFT_OVER}
+use Rattle.module_format.specs.declared.fault.FormatFaultKind.TheVariants as faults
 use Rattle.module_format.specs.declared.limits.TheConstants.{MAX_BRANCHES}
 use Rattle.module_format.specs.declared.reading.header.Header.{Header}
 use Rattle.module_format.specs.declared.rows.TableRow.{TableRow}
@@ -21,7 +22,10 @@ use Rattle.module_format.specs.Contexts.{branch_count, first_branch, HasFewConte
 use Rattle.module_format.specs.Pars.{ParKeeps, behind_par, no_branches}
 use Rattle.module_format.specs.Keeping.{VersionKeeps, SizesKeep, BoundsKeep, LimitsKeep, RowsKeep, NamesAreThere, Keeps, Format}
 use Rattle.module_format.specs.Spelling.{procedure_bytes, label_bytes, par_bytes, table_row_bytes, header_bytes, rows_bytes, file_of}
+use Rattle.module_format.specs.declared.reading.cursor.Cursor.{Cursor}
 use Rattle.module_format.specs.Reading.{Fails, fault, out_of_memory, fault_of, place}
+use Rattle.module_format.specs.Taking.{Takes}
+use Rattle.module_format.proofs.TakingLaws.{took_ok}
 use Rattle.module_format.specs.ReadingRows.{table_rows_at}
 use Rattle.module_format.specs.ReadingFile.{header_at, contents_from, ended_at, tables_at, read_contents}
 use Rattle.module_format.proofs.Tools.{Has, has_ok, has_then, has_if, has_at, step, join}
@@ -39,7 +43,7 @@ ended_takes : (size at : ℕ) (c : Contents) (rest : List ℕ) {Q : Contents →
 unfolding ended_at
 ended_takes size at c rest h =
     has_then _ _ (late_fits at c) (λ u there.
-    has_if (eqb (length rest) 0) (fault LEFT_OVER (place size rest)) (Ok c) (λ none.
+    has_if (eqb (length rest) 0) (fault faults.LeftOver (place size rest)) (Ok c) (λ none.
     has_ok c (h there (nil_from_length rest (eqb-true _ _ none)))))
 
 ended_again : (size at : ℕ) (c : Contents) → NamesAreThere c → ended_at size at c [] ≡ Ok c
@@ -199,6 +203,17 @@ rows_ready bytes fits {h} {t} p q =
     let g = has_at (tables_at (length bytes) h.0 h.1) t (tables_take (length bytes) h.0 h.1 f.rest_fits) q in
     let whole : length bytes ≡ length (head_bytes h.0) + length h.1 = ap length f.parts ∙ length-append (head_bytes h.0) h.1 in
     (g.inside (omega arith), limits_keep h.0 t.0.0 f.keeps g.from, g.from.rows)
+
+-- the same of a cursor that went over the header and the tables
+pub rows_taken : (bytes : List ℕ) → IsBytes bytes → (front behind last : Cursor) {h : Header} {t : Contents × ℕ} → front.rest.now ≡ bytes → front.size ≡ length bytes
+    → Takes (λ size. header_at) front h behind → Takes (λ size. tables_at size h) behind t last → last.failure ≡ None
+    → (t.1 + length (flat_map label_bytes t.0.labels) + length (flat_map par_bytes t.0.pars) ≤ length bytes) × LimitsKeep t.0 × RowsKeep t.0
+rows_taken bytes fits front behind last {h} {t} at_front whole head rows still =
+    let took = rw (head.same, whole) at rows.took in
+    let g = took_ok (tables_at (length bytes) h) behind.failure behind.rest.now t last.failure last.rest.now still took in
+    let took_first = rw at_front at head.took in
+    let f = took_ok header_at front.failure bytes h behind.failure behind.rest.now g.0 took_first in
+    rows_ready bytes fits f.1 g.1
 
 -- the header of these contents
 header_of : Contents → Header

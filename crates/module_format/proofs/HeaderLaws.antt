@@ -5,7 +5,7 @@ use Rattle.std.specs.List.{flat_map, starts_with, AllByRecursion}
 use Rattle.std.proofs.lemmas.Bool.Decides.{Decides-eqb}
 use Rattle.std.proofs.lemmas.List.{append-nil}
 use Rattle.std.proofs.lemmas.Slice.Eq.{starts_is}
-use Rattle.module_format.specs.declared.fault.TheConstants.{MAGIC}
+use Rattle.module_format.specs.declared.fault.FormatFaultKind.TheVariants as faults
 use Rattle.module_format.specs.declared.limits.TheConstants.{MAX_CONSTANTS, MAX_DATA_WORDS, MAX_BUDGET, MAX_MESSAGE, MAX_PROCEDURES, MAX_LABELS, MAX_PARS, MAX_TABLES}
 use Rattle.module_format.specs.declared.tables.Version.{Version}
 use Rattle.module_format.specs.declared.tables.Version.TheVariants as versions
@@ -25,11 +25,11 @@ use Rattle.module_format.proofs.FieldLaws.{IsBytes-drop, wide32, wide64, limited
 magic_takes : (bytes : List ℕ) → IsBytes bytes → Has (magic_at bytes) (Spelled bytes magic_of (λ _. ⊤))
 unfolding magic_at
 magic_takes bytes fits =
-    has_cond (starts_with nat_eq bytes magic_one) (Ok (versions.One, drop 4 bytes)) (cond (starts_with nat_eq bytes magic_two) (Ok (versions.Two, drop 4 bytes)) (Err (fault MAGIC 0)))
+    has_cond (starts_with nat_eq bytes magic_one) (Ok (versions.One, drop 4 bytes)) (cond (starts_with nat_eq bytes magic_two) (Ok (versions.Two, drop 4 bytes)) (Err (fault faults.Magic 0)))
     (λ begins.
     let parts : bytes ≡ magic_one ++ drop 4 bytes = (starts_is Decides-eqb bytes magic_one (starts_with nat_eq bytes magic_one) refl).0 begins in
     has_ok (versions.One, drop 4 bytes) (record { parts = parts; rest_fits = IsBytes-drop 4 bytes fits; keeps = tt }))
-    (λ _. has_if (starts_with nat_eq bytes magic_two) (fault MAGIC 0) (Ok (versions.Two, drop 4 bytes)) (λ begins.
+    (λ _. has_if (starts_with nat_eq bytes magic_two) (fault faults.Magic 0) (Ok (versions.Two, drop 4 bytes)) (λ begins.
     let parts : bytes ≡ magic_two ++ drop 4 bytes = (starts_is Decides-eqb bytes magic_two (starts_with nat_eq bytes magic_two) refl).0 begins in
     has_ok (versions.Two, drop 4 bytes) (record { parts = parts; rest_fits = IsBytes-drop 4 bytes fits; keeps = tt })))
 

@@ -4,7 +4,7 @@ use Rattle.std.specs.Prelude.{⊤, int_lt, IsTrue, MatchOption}
 use Rattle.std.specs.List.{flat_map, AllByRecursion}
 use Rattle.std.proofs.lemmas.Bool.{ltb-true, lt-ltb}
 use Rattle.module_format.specs.declared.fault.FormatFault.{FormatFault}
-use Rattle.module_format.specs.declared.fault.TheConstants.{RANGE}
+use Rattle.module_format.specs.declared.fault.FormatFaultKind.TheVariants as faults
 use Rattle.module_format.specs.declared.fact.Fact.{Fact}
 use Rattle.module_format.specs.declared.fact.Fact.TheVariants as facts
 use Rattle.module_format.specs.declared.rows.Entry.{Entry}
@@ -25,7 +25,7 @@ fact_fits : (parameters at : ℕ) (f : Fact) → Has (late_fact parameters at f)
 unfolding late_fact
 fact_fits parameters at facts.Unknown = has_ok tt tt
 fact_fits parameters at (facts.Number lo hi) = has_ok tt tt
-fact_fits parameters at (facts.Pointer region lo hi s) = has_if (ltb region (2 + parameters)) (fault RANGE (at + 1)) passes (λ there. has_ok tt (ltb-true _ _ there))
+fact_fits parameters at (facts.Pointer region lo hi s) = has_if (ltb region (2 + parameters)) (fault faults.Range (at + 1)) passes (λ there. has_ok tt (ltb-true _ _ there))
 fact_fits parameters at (facts.CodeAddress offset) = has_ok tt tt
 fact_fits parameters at (facts.Loop base count weight) = has_ok tt tt
 fact_fits parameters at facts.ReturnAddress = has_ok tt tt
@@ -42,8 +42,8 @@ fact_passes parameters at facts.ReturnAddress h = refl
 entry_fits : (context : Context) (at : ℕ) (e : Entry) → Has (late_entry context at e) (λ _. EntryFits context e)
 unfolding late_entry
 entry_fits context at e =
-    has_unless (int_lt e.word context.lo) (fault RANGE at) (cond (int_lt context.hi (end_of e)) (Err (fault RANGE at)) (late_fact context.parameters (at + 8) e.fact)) (λ low.
-    has_unless (int_lt context.hi (end_of e)) (fault RANGE at) (late_fact context.parameters (at + 8) e.fact) (λ high.
+    has_unless (int_lt e.word context.lo) (fault faults.Range at) (cond (int_lt context.hi (end_of e)) (Err (fault faults.Range at)) (late_fact context.parameters (at + 8) e.fact)) (λ low.
+    has_unless (int_lt context.hi (end_of e)) (fault faults.Range at) (late_fact context.parameters (at + 8) e.fact) (λ high.
     has_weaker (late_fact context.parameters (at + 8) e.fact) (fact_fits context.parameters (at + 8) e.fact) (λ u h.
     record { low = int_lt-false _ _ low; high = int_lt-false _ _ high; fact = h })))
 
@@ -86,7 +86,7 @@ row_passes context at row h =
     (list_passes (late_entry context) entry_bytes (EntryFits context) (entry_passes context) _ row.entries h.entries)))
 
 in_fits : (o : Option Context) (at : ℕ) (row : Label) → Has (late_in o at row) (λ _. MatchOption o ⊥ (RowFits row))
-in_fits None at row = has_err (fault RANGE (at + 4))
+in_fits None at row = has_err (fault faults.Range (at + 4))
 in_fits (Some context) at row = row_fits context at row
 
 in_passes : (o : Option Context) (at : ℕ) (row : Label) → MatchOption o ⊥ (RowFits row) → late_in o at row ≡ passes
@@ -105,7 +105,7 @@ label_passes c at row h = in_passes (context_at c row.context) at row h
 
 parameter_fits : (parameters : List Parameter) (at j : ℕ) → Has (late_parameter parameters at j) (λ _. IsTrue (names is_region parameters j))
 unfolding late_parameter
-parameter_fits parameters at j = has_if (names is_region parameters j) (fault RANGE at) passes (λ there. has_ok tt there)
+parameter_fits parameters at j = has_if (names is_region parameters j) (fault faults.Range at) passes (λ there. has_ok tt there)
 
 parameter_passes : (parameters : List Parameter) (at j : ℕ) → IsTrue (names is_region parameters j) → late_parameter parameters at j ≡ passes
 unfolding late_parameter
@@ -113,7 +113,7 @@ parameter_passes parameters at j there = rw there refl
 
 end_fits : (parameters : List Parameter) (at : ℕ) (e : EndRow) → Has (late_end parameters at e) (λ _. IsTrue (names_end parameters e.kind))
 unfolding late_end
-end_fits parameters at e = has_if (names_end parameters e.kind) (fault RANGE (at + 1)) passes (λ there. has_ok tt there)
+end_fits parameters at e = has_if (names_end parameters e.kind) (fault faults.Range (at + 1)) passes (λ there. has_ok tt there)
 
 end_passes : (parameters : List Parameter) (at : ℕ) (e : EndRow) → IsTrue (names_end parameters e.kind) → late_end parameters at e ≡ passes
 unfolding late_end

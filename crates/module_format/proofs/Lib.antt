@@ -1,5 +1,6 @@
 pub mod Sizes
 pub mod Loop
+pub mod TakingLaws
 pub mod OffsetLaws
 pub mod OffsetSetLaws
 pub mod PlaceLaws

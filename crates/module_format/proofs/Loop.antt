@@ -1,15 +1,15 @@
 -- Reading items one after the other, as a loop does.
-use Rattle.std.proofs.Common.{◌≡◌, ℕ, zero, suc, ◌-◌, ◌+◌, ◌≤◌, ◌<◌, List, [], ◌∷◌, ◌++◌, length, drop, Result, Ok, Err, refl, sym, ap, ◌∙◌, append_assoc, arith, get_or, add-one, drop-cons, map, subst}
-use Rattle.std.specs.Prelude.{⊤, IfOk}
+use Rattle.std.proofs.Common.{◌≡◌, ℕ, suc, ◌-◌, ◌+◌, ◌≤◌, ◌<◌, List, [], ◌∷◌, ◌++◌, length, drop, Result, Ok, Err, refl, sym, ap, ◌∙◌, append_assoc, arith, get_or, add-one, drop-cons, map, subst}
+use Rattle.std.specs.Prelude.{⊤, IfOk, true, Option, Some, None, is_some}
 use Rattle.std.specs.List.{flat_map}
 use Rattle.std.proofs.lemmas.List.{append-nil, drop_all, length-append, length-map, get_or-map}
 use Rattle.std.proofs.lemmas.List.Concat.{flat_map-cons}
 use Rattle.module_format.specs.declared.fault.FormatFault.{FormatFault}
 use Rattle.module_format.specs.declared.fault.ReadError.{ReadError}
 use Rattle.module_format.specs.declared.fault.ReadError.TheVariants as errors
-use Rattle.module_format.specs.Reading.{◌>>=◌, and_then, Fails, Gives, Tells, Read, list_at}
+use Rattle.module_format.specs.Reading.{◌>>=◌, and_then, Fails, Tells, Read, list_at}
+use Rattle.module_format.specs.Taking.{Took, TookAfter}
 use Rattle.module_format.specs.Late.{late_list}
-use Rattle.module_format.proofs.Tools.{Has, has_at}
 
 -- what was read before, and what is still read
 abbrev pub with_front : {A : Type 0} → List A → Read (List A) → Read (List A)
@@ -56,6 +56,19 @@ module _ {A S : Type 0} (item : S → List ℕ → Read A) (next : S → A → S
       let one : with_front front (list_at item next (count - i) low bytes) ≡ Ok (front, bytes) = rw k (ap (λ (xs : List A). Ok (xs, bytes)) (append-nil front)) in
       sym so_far ∙ one
 
+  -- an item that a cursor read
+  pub taken : (old : Option ReadError) (low : S) (bytes : List ℕ) (x : A) (new : Option ReadError) (left : List ℕ) → old ≡ None → new ≡ None → TookAfter (item low) old bytes x new left → item low bytes ≡ Ok (x, left)
+  taken None low bytes x None left unfailed still took = took
+  taken None low bytes x (Some e) left unfailed still took = grind (arith, still)
+  taken (Some e) low bytes x new left unfailed still took = grind (arith, unfailed)
+
+  -- an item at which it failed
+  pub stops : (old new : Option ReadError) (front : List A) (count i : ℕ) (low : S) (bytes : List ℕ) (x : A) (left : List ℕ) (xs : List A) (total : Read (List A)) → i < count → old ≡ None → is_some new ≡ true
+      → TookAfter (item low) old bytes x new left → with_front front (list_at item next (count - i) low bytes) ≡ total → Took total xs new left
+  stops None None front count i low bytes x left xs total lt unfailed failed took so_far = grind (arith, failed)
+  stops None (Some e) front count i low bytes x left xs total lt unfailed failed took so_far = ends e front count i low bytes total lt took so_far
+  stops (Some e) new front count i low bytes x left xs total lt unfailed failed took so_far = grind (arith, unfailed)
+
 -- the item at an index, at the front of what is left
 pub item_at : {A : Type 0} (xs : List A) (i : ℕ) (d : A) → i < length xs → drop i xs ≡ get_or xs i d ∷ drop (i + 1) xs
 item_at xs i d lt = rw (add-one, drop-cons xs i d lt) refl
@@ -101,27 +114,7 @@ pub length-left : {A : Type 0} (spelled : A → List ℕ) (xs : List A) (i : ℕ
     → length (flat_map spelled (drop i xs)) ≡ length (spelled x) + length (flat_map spelled (drop (i + 1) xs))
 length-left spelled xs i x e = rw (e, flat_map-cons) (length-append (spelled x) (flat_map spelled (drop (i + 1) xs)))
 
--- ---- the same list, read with a state that holds more
-
-then_same : {A B : Type 0} {r s : Result A FormatFault} {f g : A → Result B FormatFault} → r ≡ s → ((x : A) → f x ≡ g x) → and_then r f ≡ and_then s g
-unfolding and_then
-then_same {s = Ok x} e h = rw e (h x)
-then_same {s = Err f} e h = rw e refl
-
-pub same_list : {A S T : Type 0} (item : S → List ℕ → Read A) (next : S → A → S) (reads : T → List ℕ → Read A) (behind : T → A → T) (make : S → T)
-    → ((low : S) (bytes : List ℕ) → reads (make low) bytes ≡ item low bytes) → ((low : S) (x : A) → behind (make low) x ≡ make (next low x))
-    → (n : ℕ) (low : S) (bytes : List ℕ) → list_at reads behind n (make low) bytes ≡ list_at item next n low bytes
-unfolding list_at
-same_list item next reads behind make same steps zero low bytes = refl
-same_list {A} item next reads behind make same steps (suc n) low bytes =
-    then_same (same low bytes) (λ (first : A × List ℕ).
-    then_same (ap (λ t. list_at reads behind n t first.1) (steps low first.0) ∙ same_list item next reads behind make same steps n (next low first.0) first.1) (λ others. refl))
-
--- what was given, seen in another way
-pub gives_same : {X Y : Type 0} {view other : X → Y} {read reread : Result Y FormatFault} (r : Result X ReadError) → ((x : X) → view x ≡ other x) → read ≡ reread → Gives view r read → Gives other r reread
-gives_same (Ok x) same e h = rw (← e, h, same x) refl
-gives_same (Err errors.Memory) same e h = tt
-gives_same (Err (errors.Fault f)) same e h = rw (← e) h
+-- ---- outcomes
 
 pub ok_weaker : {X E : Type 0} {P Q : X → Type 0} (r : Result X E) → IfOk r P → ((x : X) → P x → Q x) → IfOk r Q
 ok_weaker (Ok x) h f = f x h
@@ -136,8 +129,3 @@ tells_err f k e = rw e refl
 pub tells_same : {X : Type 0} {look other : Result ⊤ FormatFault} (r : Result X FormatFault) → look ≡ other → Tells r look → Tells r other
 tells_same (Ok x) e h = rw (← e) h
 tells_same (Err f) e h = rw (← e) h
-
--- what is known of all that a reader gives
-pub gives_has : {X Y : Type 0} (view : X → Y) {Q : Y → Type 0} (read : Result Y FormatFault) (r : Result X ReadError) → Gives view r read → Has read Q → IfOk r (λ x. Q (view x))
-gives_has view read (Ok x) h has = has_at read (view x) has h
-gives_has view read (Err e) h has = tt

@@ -68,9 +68,3 @@ module _ {A B S : Type 0} (K : S → B → Type 0) (next : S → B → S) (f : A
 pub behind_branches : (before : Before) (bs : List Branch) → (behind_all behind_branch before bs).entries ≡ before.entries ++ entries_of bs
 behind_branches before [] = sym (append-nil before.entries)
 behind_branches before (b ∷ bs) = behind_branches (behind_branch before b) bs ∙ append_assoc before.entries (b.entry ∷ []) (entries_of bs)
-
--- a state that holds more, behind all
-pub same_behind : {A S T : Type 0} (next : S → A → S) (step : T → A → T) (make : S → T) → ((low : S) (x : A) → step (make low) x ≡ make (next low x))
-    → (low : S) (xs : List A) → behind_all step (make low) xs ≡ make (behind_all next low xs)
-same_behind next step make steps low [] = refl
-same_behind {A} {S} {T} next step make steps low (x ∷ xs) = ap (λ (t : T). behind_all step t xs) (steps low x) ∙ same_behind next step make steps (next low x) xs

@@ -1,18 +1,17 @@
 -- The laws of PAR rows.
-use Rattle.std.proofs.Common.{◌≡◌, ◌≢◌, ℕ, ◌+◌, ◌^◌, ◌<◌, ◌≤◌, ℤ, ltb, eqb, List, ◌++◌, length, Ok, refl, ap, ◌∙◌, append_assoc, arith}
+use Rattle.std.proofs.Common.{◌≡◌, ℕ, ◌+◌, ◌^◌, ◌<◌, ◌≤◌, ℤ, List, ◌++◌, length, Ok, refl, ap, ◌∙◌, append_assoc, arith}
 use Rattle.std.specs.List.{flat_map}
-use Rattle.std.proofs.lemmas.Bool.{ltb-true, lt-ltb}
-use Rattle.module_format.specs.declared.fault.TheConstants.{RANGE}
+use Rattle.std.proofs.lemmas.Bool.{ltb-true, lt-ltb, leb-true, le-leb}
 use Rattle.module_format.specs.declared.limits.TheConstants.{MAX_BRANCHES, MAX_MESSAGE}
 use Rattle.module_format.specs.declared.rows.ChannelRow.{ChannelRow}
 use Rattle.module_format.specs.Contents.{Par}
 use Rattle.module_format.specs.Order.{IsBytes, InOrder, least_word}
 use Rattle.module_format.specs.Pars.{ChannelKeeps, behind_channel, Before, BranchKeeps, behind_branch, ParKeeps, behind_par, no_branches}
 use Rattle.module_format.specs.Spelling.{u16_bytes, u32_bytes, i32_bytes, channel_bytes, branch_bytes, par_bytes}
-use Rattle.module_format.specs.Reading.{fault, place, list_at}
+use Rattle.module_format.specs.Reading.{list_at}
 use Rattle.module_format.specs.ReadingPars.{channel_at, branch_at, context_number_at, branch_count_at, par_row_at, par_rows_at}
-use Rattle.module_format.proofs.Tools.{Has, has_ok, has_then, has_unless, has_if, step, Spelled, join, list_takes, list_again}
-use Rattle.module_format.proofs.FieldLaws.{eqb-false, eqb-differ, wide16, limited_takes, limited_again, positive_takes, positive_again, in_code_takes, in_code_again, int_takes, int_again, u16_takes, u16_again}
+use Rattle.module_format.proofs.Tools.{Has, has_ok, has_then, step, Spelled, join, tested_takes, tested_again, list_takes, list_again}
+use Rattle.module_format.proofs.FieldLaws.{wide16, limited_takes, limited_again, positive_takes, positive_again, in_code_takes, in_code_again, int_takes, int_again, u16_takes, u16_again}
 use Rattle.module_format.proofs.BranchLaws.{branch_takes, branch_again}
 use Rattle.module_format.proofs.RowLaws.{first_word_takes, first_word_again}
 pub use Rattle.module_format.proofs.BranchLaws.{writes_take}
@@ -48,28 +47,21 @@ module _ (size : ℕ) where
 
   context_number_takes : (count : ℕ) (bytes : List ℕ) → IsBytes bytes → Has (context_number_at size count bytes) (Spelled bytes u16_bytes (λ n. (n < 2 ^ 16) × (n < count)))
   unfolding context_number_at
-  context_number_takes count bytes fits =
-      has_then _ _ (u16_takes size bytes fits) (λ n h.
-      has_if (ltb n.0 count) (fault RANGE (place size bytes)) (Ok n) (λ known.
-      has_ok n (record { parts = h.parts; rest_fits = h.rest_fits; keeps = (h.keeps, ltb-true _ _ known) })))
+  context_number_takes count bytes fits = tested_takes _ _ _ _ (u16_takes size bytes fits) (λ n below known. (below, ltb-true _ _ known))
 
   context_number_again : (count n : ℕ) (rest : List ℕ) → n < 2 ^ 16 → n < count → context_number_at size count (u16_bytes n ++ rest) ≡ Ok (n, rest)
   unfolding context_number_at
-  context_number_again count n rest fits known = step _ (u16_again size n rest fits) (rw (lt-ltb _ _ known) refl)
+  context_number_again count n rest fits known = tested_again _ _ _ _ (u16_again size n rest fits) (lt-ltb _ _ known)
 
   branch_count_takes : (bytes : List ℕ) → IsBytes bytes → Has (branch_count_at size bytes) (Spelled bytes u16_bytes (λ n. (1 ≤ n) × (n ≤ MAX_BRANCHES)))
   unfolding branch_count_at
-  branch_count_takes bytes fits =
-      has_then _ _ (limited_takes size 2 u16_bytes (2 ^ 16) wide16 MAX_BRANCHES bytes fits) (λ n h.
-      has_unless (eqb n.0 0) (fault RANGE (place size bytes)) (Ok n) (λ some.
-      has_ok n (record { parts = h.parts; rest_fits = h.rest_fits; keeps = (let differ : n.0 ≢ 0 = eqb-false _ _ some in omega arith, h.keeps.1) })))
+  branch_count_takes bytes fits = tested_takes _ _ _ _ (limited_takes size 2 u16_bytes (2 ^ 16) wide16 MAX_BRANCHES bytes fits) (λ n h some. (leb-true _ _ some, h.1))
 
   branch_count_again : (n : ℕ) (rest : List ℕ) → 1 ≤ n → n ≤ MAX_BRANCHES → branch_count_at size (u16_bytes n ++ rest) ≡ Ok (n, rest)
   unfolding branch_count_at
   branch_count_again n rest some most =
       let fits : n < 2 ^ 16 = omega arith in
-      let differ : n ≢ 0 = omega arith in
-      step _ (limited_again size 2 u16_bytes (2 ^ 16) wide16 MAX_BRANCHES n rest fits most) (rw (eqb-differ _ _ differ) refl)
+      tested_again _ _ _ _ (limited_again size 2 u16_bytes (2 ^ 16) wide16 MAX_BRANCHES n rest fits most) (le-leb _ _ some)
 
 -- ---- rows
 

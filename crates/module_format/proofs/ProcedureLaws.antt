@@ -1,11 +1,11 @@
 -- The laws of parameters, procedure rows and table rows.
-use Rattle.std.proofs.Common.{◌≡◌, ◌≢◌, ℕ, ◌-◌, ◌^◌, ◌<◌, ◌≤◌, ℤ, pos, negsuc, ◌≤ℤ◌, ◌<ℤ◌, true, not, ◌&&◌, ◌||◌, cond, ltb, eqb, List, [], ◌∷◌, ◌++◌, length, take, drop, Ok, Err, refl, ap, ◌∙◌, append_assoc, arith, FitsSigned}
-use Rattle.std.specs.Prelude.{IsTrue, nat_le, int_le}
+use Rattle.std.proofs.Common.{◌≡◌, ℕ, ◌-◌, ◌^◌, ◌<◌, ◌≤◌, ℤ, pos, negsuc, ◌≤ℤ◌, ◌<ℤ◌, true, ◌&&◌, cond, ltb, eqb, List, [], ◌∷◌, ◌++◌, length, take, drop, Ok, Err, refl, ap, ◌∙◌, append_assoc, arith, FitsSigned}
+use Rattle.std.specs.Prelude.{IsTrue, nat_le, int_lt, int_le}
 use Rattle.std.specs.Int.{w32}
 use Rattle.std.specs.List.{flat_map, list_all, AllByRecursion}
 use Rattle.std.proofs.lemmas.Int.{ints}
-use Rattle.std.proofs.lemmas.Bool.{leb-true, le-leb, ltb-true, lt-ltb, ltb-false, le-ltb, eqb-true, not-true, not-false, and_parts, or_parts}
-use Rattle.module_format.specs.declared.fault.TheConstants.{TRUNCATED, ORDER, RANGE}
+use Rattle.std.proofs.lemmas.Bool.{leb-true, le-leb, ltb-true, lt-ltb, eqb-true, and_parts}
+use Rattle.module_format.specs.declared.fault.FormatFaultKind.TheVariants as faults
 use Rattle.module_format.specs.declared.limits.TheConstants.{MAX_PARAMETERS, MAX_MESSAGE}
 use Rattle.module_format.specs.declared.rows.Ends.{Ends}
 use Rattle.module_format.specs.declared.rows.Parameter.{Parameter}
@@ -16,12 +16,12 @@ use Rattle.module_format.specs.declared.tables.Version.{Version}
 use Rattle.module_format.specs.declared.tables.Version.TheVariants as versions
 use Rattle.module_format.specs.Contents.{Procedure}
 use Rattle.module_format.specs.Order.{IsBytes, InOrder, IsInterval, least_word, greatest_word, is_multiple_of_four}
-use Rattle.module_format.specs.Procedures.{RangeKeeps, is_region_size, IsRegion, are_ends, AreChannels, is_frame_start, is_frame_end, KindKeeps, ParameterKeeps, behind_parameter, ProcedureKeeps, behind_procedure, words_of, IsWithin, TableKeeps, behind_table}
+use Rattle.module_format.specs.Procedures.{RangeKeeps, IsRegion, AreChannels, KindKeeps, ParameterKeeps, behind_parameter, ProcedureKeeps, behind_procedure, words_of, IsWithin, TableKeeps, behind_table}
 use Rattle.module_format.specs.Spelling.{u16_bytes, u32_bytes, u64_bytes, i32_bytes, range_bytes, kind_bytes, parameter_bytes, procedure_bytes, table_row_bytes}
-use Rattle.module_format.specs.Reading.{fault, place, byte_at, interval_at, list_at}
+use Rattle.module_format.specs.Reading.{and_then, fault, place, byte_at, interval_at, list_at}
 use Rattle.module_format.specs.ReadingRows.{words_range_at, region_size_at, region_at, ends_at, channels_at, value_at, kind_at, parameter_word_at, parameter_at, parameters_at, frame_start_at, frame_end_at, rising_at, procedure_row_at, procedure_rows_at, table_start_at, table_end_at, is_within, table_row_at, table_rows_at}
-use Rattle.module_format.proofs.Tools.{Has, has_ok, has_err, has_then, has_unless, has_if, has_cond, has_weaker, step, Spelled, join, list_takes, list_again}
-use Rattle.module_format.proofs.FieldLaws.{IsBytes-rest, eqb-differ, wide16, wide64, number_takes, number_again, limited_takes, limited_again, u32_takes, u32_again, positive_takes, positive_again, in_code_takes, in_code_again, int_takes, int_again, interval_takes, interval_again, byte_takes, int_le-false, int_lt-le, int_le-true, int_le-le}
+use Rattle.module_format.proofs.Tools.{Has, has_ok, has_err, has_then, has_if, has_cond, has_weaker, step, Spelled, join, tested_takes, tested_again, list_takes, list_again}
+use Rattle.module_format.proofs.FieldLaws.{IsBytes-rest, wide16, wide64, number_takes, number_again, limited_takes, limited_again, u32_takes, u32_again, positive_takes, positive_again, in_code_takes, in_code_again, int_takes, int_again, interval_takes, interval_again, byte_takes, int_le-true, int_le-le, int_lt-true, int_lt-holds}
 use Rattle.module_format.proofs.RowLaws.{tagged, span_takes, span_again}
 
 -- tests
@@ -43,14 +43,13 @@ module _ (size : ℕ) where
   region_size_takes : (bytes : List ℕ) → IsBytes bytes → Has (region_size_at size bytes) (Spelled bytes u32_bytes (λ n. (n < 2 ^ 32) × (4 ≤ n) × IsTrue (is_multiple_of_four n)))
   unfolding region_size_at
   region_size_takes bytes fits =
-      has_then _ _ (u32_takes size bytes fits) (λ n h.
-      has_if (is_region_size n.0) (fault RANGE (place size bytes)) (Ok n) (λ whole.
-      let both = and_parts (nat_le 4 n.0) (is_multiple_of_four n.0) whole in
-      has_ok n (record { parts = h.parts; rest_fits = h.rest_fits; keeps = (h.keeps, leb-true _ _ both.0, both.1) })))
+      tested_takes _ _ _ _ (u32_takes size bytes fits) (λ n below whole.
+      let both = and_parts (nat_le 4 n) (is_multiple_of_four n) whole in
+      (below, leb-true _ _ both.0, both.1))
 
   region_size_again : (n : ℕ) (rest : List ℕ) → n < 2 ^ 32 → 4 ≤ n → IsTrue (is_multiple_of_four n) → region_size_at size (u32_bytes n ++ rest) ≡ Ok (n, rest)
   unfolding region_size_at
-  region_size_again n rest lt some words = step _ (u32_again size n rest lt) (rw (le-leb _ _ some, words) refl)
+  region_size_again n rest lt some words = tested_again _ _ _ _ (u32_again size n rest lt) (rw (le-leb _ _ some, words) refl)
 
   -- a region, whose kind has tag n
   region_takes : (version : Version) (kind : ℕ → ℤ → ℤ → ParameterKind) (tag n : ℕ) (bytes : List ℕ)
@@ -79,14 +78,15 @@ module _ (size : ℕ) where
   ends_take : (bytes : List ℕ) → IsBytes bytes → Has (ends_at size bytes) (Spelled bytes (λ ends. ends.0 ∷ []) (λ ends. (1 ≤ ends.0) × (ends.0 ≤ 3)))
   unfolding ends_at
   ends_take bytes fits =
-      has_then _ _ (byte_takes size bytes fits) (λ bits h.
-      has_if (are_ends bits.0) (fault RANGE (place size bytes)) (Ok (record { 0 = bits.0 }, bits.1)) (λ some.
-      let both = and_parts (nat_le 1 bits.0) (nat_le bits.0 3) some in
-      has_ok (record { 0 = bits.0 }, bits.1) (record { parts = h.parts; rest_fits = h.rest_fits; keeps = (leb-true _ _ both.0, leb-true _ _ both.1) })))
+      let read = tested_takes {Q = λ bits. (1 ≤ bits) × (bits ≤ 3)} _ _ _ _ (byte_takes size bytes fits) (λ bits below some.
+      let both = and_parts (nat_le 1 bits) (nat_le bits 3) some in
+      (leb-true _ _ both.0, leb-true _ _ both.1)) in
+      has_then _ _ read (λ bits h.
+      has_ok (record { 0 = bits.0 }, bits.1) (record { parts = h.parts; rest_fits = h.rest_fits; keeps = h.keeps }))
 
   ends_again : (ends : Ends) (rest : List ℕ) → 1 ≤ ends.0 → ends.0 ≤ 3 → ends_at size (ends.0 ∷ rest) ≡ Ok (ends, rest)
   unfolding ends_at byte_at
-  ends_again ends rest some few = step _ refl (rw (le-leb _ _ some, le-leb _ _ few) refl)
+  ends_again ends rest some few = step _ (tested_again _ _ _ _ refl (rw (le-leb _ _ some, le-leb _ _ few) refl)) refl
 
   channels_take : (version : Version) (tag : ℕ) (bytes : List ℕ) → IsBytes bytes → tag ≡ 3 → Has (channels_at size bytes) (Spelled (tag ∷ bytes) (kind_bytes version) (KindKeeps version))
   unfolding channels_at
@@ -120,11 +120,11 @@ module _ (size : ℕ) where
   value_again lo hi rest h = ap (value_at size) (append_assoc (i32_bytes lo) (i32_bytes hi) rest) ∙ step _ (interval_again size lo hi rest h) refl
 
   kind_takes : (version : Version) (bytes : List ℕ) → IsBytes bytes → Has (kind_at size version bytes) (Spelled bytes (kind_bytes version) (KindKeeps version))
-  unfolding kind_at
-  kind_takes version [] fits = has_err (fault TRUNCATED size)
+  unfolding kind_at byte_at and_then
+  kind_takes version [] fits = has_err (fault faults.Truncated size)
   kind_takes version (tag ∷ bytes) fits =
       let behind = IsBytes-rest tag bytes fits in
-      let wrong = fault RANGE (place size (tag ∷ bytes)) in
+      let wrong = fault faults.Range (place size (tag ∷ bytes)) in
       let written = region_at size version kinds.WrittenRegion bytes in
       let read = region_at size version kinds.ReadRegion bytes in
       has_cond (eqb tag 0) (value_at size bytes) (cond (eqb tag 1) read (cond (eqb tag 2) written (cond (eqb tag 3) (channels_at size bytes) (Err wrong)))) (λ none. value_takes version tag bytes behind (eqb-true _ _ none)) (λ _.
@@ -135,7 +135,7 @@ module _ (size : ℕ) where
       has_if (eqb tag 3) wrong (channels_at size bytes) (λ three. channels_take version tag bytes behind (eqb-true _ _ three)))))
 
   kind_again : (version : Version) (kind : ParameterKind) (rest : List ℕ) → KindKeeps version kind → kind_at size version (kind_bytes version kind ++ rest) ≡ Ok (kind, rest)
-  unfolding kind_at
+  unfolding kind_at byte_at and_then
   kind_again version (kinds.Value lo hi) rest h = value_again lo hi rest h
   kind_again version (kinds.ReadRegion n lo hi) rest h = region_again version kinds.ReadRegion n lo hi rest h
   kind_again version (kinds.WrittenRegion n lo hi) rest h = region_again version kinds.WrittenRegion n lo hi rest h
@@ -147,11 +147,9 @@ module _ (size : ℕ) (version : Version) (hi : ℤ) where
   parameter_word_takes : (low : ℕ) (bytes : List ℕ) → IsBytes bytes → Has (parameter_word_at size hi low bytes) (Spelled bytes u16_bytes (λ word. (low < word) × (pos word <ℤ hi)))
   unfolding parameter_word_at
   parameter_word_takes low bytes fits =
-      has_then _ _ (number_takes size 2 u16_bytes (2 ^ 16) wide16 bytes fits) (λ word h.
-      has_unless (eqb word.0 0 || int_le hi (pos word.0)) (fault RANGE (place size bytes)) (cond (ltb low word.0) (Ok word) (Err (fault ORDER (place size bytes)))) (λ inside.
-      has_if (ltb low word.0) (fault ORDER (place size bytes)) (Ok word) (λ rises.
-      let both = or_parts (eqb word.0 0) (int_le hi (pos word.0)) inside in
-      has_ok word (record { parts = h.parts; rest_fits = h.rest_fits; keeps = (ltb-true _ _ rises, int_le-false _ _ both.1) }))))
+      let inside = tested_takes {Q = λ word. pos word <ℤ hi} _ _ _ _ (number_takes size 2 u16_bytes (2 ^ 16) wide16 bytes fits) (λ word below both.
+      int_lt-true _ _ (and_parts (nat_le 1 word) (int_lt (pos word) hi) both).1) in
+      tested_takes _ _ _ _ inside (λ word below rises. (ltb-true _ _ rises, below))
 
   parameter_takes : (low : ℕ) (bytes : List ℕ) → IsBytes bytes → Has (parameter_at size version hi low bytes) (Spelled bytes (parameter_bytes version) (ParameterKeeps version hi low))
   unfolding parameter_at parameter_bytes
@@ -174,9 +172,10 @@ module _ (size : ℕ) (version : Version) (hi : ℤ) where
     parameter_word_again : (low word : ℕ) (rest : List ℕ) → low < word → pos word <ℤ hi → parameter_word_at size hi low (u16_bytes word ++ rest) ≡ Ok (word, rest)
     unfolding parameter_word_at
     parameter_word_again low word rest rises inside =
-        let differ : word ≢ 0 = omega arith in
+        let some : 1 ≤ word = omega arith in
         let fits : word < 2 ^ 16 = omega (arith, ints) in
-        step _ (number_again size 2 u16_bytes (2 ^ 16) wide16 word rest fits) (rw (eqb-differ _ _ differ, int_lt-le _ _ inside, lt-ltb _ _ rises) refl)
+        let within = tested_again _ _ _ _ (number_again size 2 u16_bytes (2 ^ 16) wide16 word rest fits) (rw (le-leb _ _ some, int_lt-holds _ _ inside) refl) in
+        tested_again _ _ _ _ within (lt-ltb _ _ rises)
 
     parameter_again : (low : ℕ) (p : Parameter) (rest : List ℕ) → ParameterKeeps version hi low p → parameter_at size version hi low (parameter_bytes version p ++ rest) ≡ Ok (p, rest)
     unfolding parameter_at parameter_bytes
@@ -198,39 +197,34 @@ module _ (size : ℕ) where
   frame_start_takes : (bytes : List ℕ) → IsBytes bytes → Has (frame_start_at size bytes) (Spelled bytes i32_bytes (λ lo. (negsuc 16383 ≤ℤ lo) × (lo ≤ℤ pos 0)))
   unfolding frame_start_at
   frame_start_takes bytes fits =
-      has_then _ _ (int_takes size bytes fits) (λ lo h.
-      has_if (is_frame_start lo.0) (fault RANGE (place size bytes)) (Ok lo) (λ inside.
-      let both = and_parts (int_le (negsuc 16383) lo.0) (int_le lo.0 (pos 0)) inside in
-      has_ok lo (record { parts = h.parts; rest_fits = h.rest_fits; keeps = (int_le-true _ _ both.0, int_le-true _ _ both.1) })))
+      tested_takes _ _ _ _ (int_takes size bytes fits) (λ lo fits inside.
+      let both = and_parts (int_le (negsuc 16383) lo) (int_le lo (pos 0)) inside in
+      (int_le-true _ _ both.0, int_le-true _ _ both.1))
 
   frame_start_again : (lo : ℤ) (rest : List ℕ) → FitsSigned w32 lo → negsuc 16383 ≤ℤ lo → lo ≤ℤ pos 0 → frame_start_at size (i32_bytes lo ++ rest) ≡ Ok (lo, rest)
   unfolding frame_start_at
-  frame_start_again lo rest fits above below = step _ (int_again size lo rest fits) (rw (int_le-le _ _ above, int_le-le _ _ below) refl)
+  frame_start_again lo rest fits above below = tested_again _ _ _ _ (int_again size lo rest fits) (rw (int_le-le _ _ above, int_le-le _ _ below) refl)
 
   frame_end_takes : (bytes : List ℕ) → IsBytes bytes → Has (frame_end_at size bytes) (Spelled bytes i32_bytes (λ hi. (pos 4 ≤ℤ hi) × (hi ≤ℤ pos 16384)))
   unfolding frame_end_at
   frame_end_takes bytes fits =
-      has_then _ _ (int_takes size bytes fits) (λ hi h.
-      has_if (is_frame_end hi.0) (fault RANGE (place size bytes)) (Ok hi) (λ inside.
-      let both = and_parts (int_le (pos 4) hi.0) (int_le hi.0 (pos 16384)) inside in
-      has_ok hi (record { parts = h.parts; rest_fits = h.rest_fits; keeps = (int_le-true _ _ both.0, int_le-true _ _ both.1) })))
+      tested_takes _ _ _ _ (int_takes size bytes fits) (λ hi fits inside.
+      let both = and_parts (int_le (pos 4) hi) (int_le hi (pos 16384)) inside in
+      (int_le-true _ _ both.0, int_le-true _ _ both.1))
 
   frame_end_again : (hi : ℤ) (rest : List ℕ) → FitsSigned w32 hi → pos 4 ≤ℤ hi → hi ≤ℤ pos 16384 → frame_end_at size (i32_bytes hi ++ rest) ≡ Ok (hi, rest)
   unfolding frame_end_at
-  frame_end_again hi rest fits above below = step _ (int_again size hi rest fits) (rw (int_le-le _ _ above, int_le-le _ _ below) refl)
+  frame_end_again hi rest fits above below = tested_again _ _ _ _ (int_again size hi rest fits) (rw (int_le-le _ _ above, int_le-le _ _ below) refl)
 
   rising_takes : (code_len low : ℕ) (bytes : List ℕ) → IsBytes bytes → Has (rising_at size code_len low bytes) (Spelled bytes u32_bytes (λ n. (low < n) × (n < code_len)))
   unfolding rising_at
-  rising_takes code_len low bytes fits =
-      has_then _ _ (in_code_takes size code_len bytes fits) (λ n h.
-      has_if (ltb low n.0) (fault ORDER (place size bytes)) (Ok n) (λ rises.
-      has_ok n (record { parts = h.parts; rest_fits = h.rest_fits; keeps = (ltb-true _ _ rises, h.keeps.1) })))
+  rising_takes code_len low bytes fits = tested_takes _ _ _ _ (in_code_takes size code_len bytes fits) (λ n h rises. (ltb-true _ _ rises, h.1))
 
   rising_again : (code_len low n : ℕ) (rest : List ℕ) → n < 2 ^ 32 → low < n → n < code_len → rising_at size code_len low (u32_bytes n ++ rest) ≡ Ok (n, rest)
   unfolding rising_at
   rising_again code_len low n rest fits rises inside =
       let some : 1 ≤ n = omega arith in
-      step _ (in_code_again size code_len n rest fits some inside) (rw (lt-ltb _ _ rises) refl)
+      tested_again _ _ _ _ (in_code_again size code_len n rest fits some inside) (lt-ltb _ _ rises)
 
 module _ (size : ℕ) (version : Version) (code_len : ℕ) where
   procedure_takes : (low : ℕ) (bytes : List ℕ) → IsBytes bytes → Has (procedure_row_at size version code_len low bytes) (Spelled bytes (procedure_bytes version) (ProcedureKeeps version code_len low))
@@ -308,27 +302,24 @@ module _ (size : ℕ) where
   table_start_takes : (low : ℕ) (bytes : List ℕ) → IsBytes bytes → Has (table_start_at size low bytes) (Spelled bytes u32_bytes (λ n. IsTrue (is_multiple_of_four n) × (low ≤ n)))
   unfolding table_start_at
   table_start_takes low bytes fits =
-      has_then _ _ (u32_takes size bytes fits) (λ n h.
-      has_unless (not (is_multiple_of_four n.0)) (fault RANGE (place size bytes)) (cond (ltb n.0 low) (Err (fault ORDER (place size bytes))) (Ok n)) (λ aligned.
-      has_unless (ltb n.0 low) (fault ORDER (place size bytes)) (Ok n) (λ apart.
-      has_ok n (record { parts = h.parts; rest_fits = h.rest_fits; keeps = (not-false _ aligned, ltb-false _ _ apart) }))))
+      let aligned = tested_takes {Q = λ n. IsTrue (is_multiple_of_four n)} _ _ _ _ (u32_takes size bytes fits) (λ n below aligned. aligned) in
+      tested_takes _ _ _ _ aligned (λ n aligned apart. (aligned, leb-true _ _ apart))
 
   table_start_again : (low n : ℕ) (rest : List ℕ) → n < 2 ^ 32 → IsTrue (is_multiple_of_four n) → low ≤ n → table_start_at size low (u32_bytes n ++ rest) ≡ Ok (n, rest)
   unfolding table_start_at
-  table_start_again low n rest fits aligned apart = step _ (u32_again size n rest fits) (rw (aligned, le-ltb _ _ apart) refl)
+  table_start_again low n rest fits aligned apart = tested_again _ _ _ _ (tested_again _ _ _ _ (u32_again size n rest fits) aligned) (le-leb _ _ apart)
 
   table_end_takes : (const_len start : ℕ) (bytes : List ℕ) → IsBytes bytes → Has (table_end_at size const_len start bytes) (Spelled bytes u32_bytes (λ n. IsTrue (is_multiple_of_four n) × (start < n) × (n ≤ const_len)))
   unfolding table_end_at
   table_end_takes const_len start bytes fits =
-      has_then _ _ (u32_takes size bytes fits) (λ n h.
-      has_if (is_multiple_of_four n.0 && ltb start n.0 && not (ltb const_len n.0)) (fault RANGE (place size bytes)) (Ok n) (λ all.
-      let both = and_parts (is_multiple_of_four n.0 && ltb start n.0) (not (ltb const_len n.0)) all in
-      let first = and_parts (is_multiple_of_four n.0) (ltb start n.0) both.0 in
-      has_ok n (record { parts = h.parts; rest_fits = h.rest_fits; keeps = (first.0, ltb-true _ _ first.1, ltb-false _ _ (not-true _ both.1)) })))
+      tested_takes _ _ _ _ (u32_takes size bytes fits) (λ n below all.
+      let both = and_parts (is_multiple_of_four n && ltb start n) (nat_le n const_len) all in
+      let first = and_parts (is_multiple_of_four n) (ltb start n) both.0 in
+      (first.0, ltb-true _ _ first.1, leb-true _ _ both.1))
 
   table_end_again : (const_len start n : ℕ) (rest : List ℕ) → n < 2 ^ 32 → IsTrue (is_multiple_of_four n) → start < n → n ≤ const_len → table_end_at size const_len start (u32_bytes n ++ rest) ≡ Ok (n, rest)
   unfolding table_end_at
-  table_end_again const_len start n rest fits aligned ordered inside = step _ (u32_again size n rest fits) (rw (aligned, lt-ltb _ _ ordered, le-ltb _ _ inside) refl)
+  table_end_again const_len start n rest fits aligned ordered inside = tested_again _ _ _ _ (u32_again size n rest fits) (rw (aligned, lt-ltb _ _ ordered, le-leb _ _ inside) refl)
 
 module _ (size : ℕ) (constants : List ℕ) where
   table_takes : (low : ℕ) (bytes : List ℕ) → IsBytes bytes → Has (table_row_at size constants low bytes) (Spelled bytes table_row_bytes (TableKeeps constants low))
@@ -336,24 +327,24 @@ module _ (size : ℕ) (constants : List ℕ) where
   table_takes low bytes fits =
       has_then _ _ (table_start_takes size low bytes fits) (λ start h0.
       has_then _ _ (table_end_takes size (length constants) start.0 start.1 h0.rest_fits) (λ end h1.
-      has_then _ _ (interval_takes size end.1 h1.rest_fits) (λ range h2.
-      let made : TableRow = record { start = start.0; end = end.0; lo = range.0.0; hi = range.0.1 } in
       let words = words_of (take (end.0 - start.0) (drop start.0 constants)) in
-      has_if (list_all (is_within range.0.0 range.0.1) words) (fault RANGE (place size end.1)) (Ok (made, range.1)) (λ within.
+      let read = tested_takes {Q = λ r. IsInterval r.0 r.1 × AllByRecursion (IsWithin r.0 r.1) words} _ _ _ _ (interval_takes size end.1 h1.rest_fits) (λ r ordered within. (ordered, all_within r.0 r.1 words within)) in
+      has_then _ _ read (λ range h2.
+      let made : TableRow = record { start = start.0; end = end.0; lo = range.0.0; hi = range.0.1 } in
       let kept : TableKeeps constants low made = record {
         start_aligned = h0.keeps.0;
         apart = h0.keeps.1;
         end_aligned = h1.keeps.0;
         ordered = h1.keeps.1;
         inside = h1.keeps.2;
-        range = h2.keeps;
-        words = all_within range.0.0 range.0.1 words within;
+        range = h2.keeps.0;
+        words = h2.keeps.1;
       } in
       let front = join (u32_bytes start.0) (u32_bytes end.0) end.1 h0.parts h1.parts in
       let whole = join (u32_bytes start.0 ++ u32_bytes end.0) (i32_bytes range.0.0 ++ i32_bytes range.0.1) range.1 front h2.parts in
       let regrouped : (u32_bytes start.0 ++ u32_bytes end.0) ++ (i32_bytes range.0.0 ++ i32_bytes range.0.1) ≡ table_row_bytes made = simp append_assoc in
       let parts : bytes ≡ table_row_bytes made ++ range.1 = whole ∙ ap (λ (t : List ℕ). t ++ range.1) regrouped in
-      has_ok (made, range.1) (record { parts = parts; rest_fits = h2.rest_fits; keeps = kept })))))
+      has_ok (made, range.1) (record { parts = parts; rest_fits = h2.rest_fits; keeps = kept }))))
 
   pub tables_take : (count : ℕ) (bytes : List ℕ) → IsBytes bytes → Has (table_rows_at size constants count bytes) (Spelled bytes (flat_map table_row_bytes) (λ rows. (length rows ≡ count) × InOrder (TableKeeps constants) behind_table 0 rows))
   unfolding table_rows_at
@@ -371,8 +362,7 @@ module _ (size : ℕ) (constants : List ℕ) where
         ap (table_row_at size constants low) regrouped
         ∙ step _ (table_start_again size low row.start tail1 start_fits h.start_aligned h.apart)
         (step _ (table_end_again size (length constants) row.start row.end tail2 end_fits h.end_aligned h.ordered h.inside)
-        (step _ (interval_again size row.lo row.hi rest h.range)
-        (rw (within_all row.lo row.hi (words_of (take (row.end - row.start) (drop row.start constants))) h.words) refl)))
+        (step _ (tested_again _ _ _ _ (interval_again size row.lo row.hi rest h.range) (within_all row.lo row.hi (words_of (take (row.end - row.start) (drop row.start constants))) h.words)) refl))
 
     pub tables_again : (rows : List TableRow) (rest : List ℕ) → InOrder (TableKeeps constants) behind_table 0 rows → table_rows_at size constants (length rows) (flat_map table_row_bytes rows ++ rest) ≡ Ok (rows, rest)
     unfolding table_rows_at

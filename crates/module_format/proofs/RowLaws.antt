@@ -1,11 +1,11 @@
 -- The laws of facts, entries and label rows.
-use Rattle.std.proofs.Common.{◌≡◌, ◌≢◌, ℕ, ◌^◌, ◌<◌, ◌≤◌, ℤ, pos, ◌+ℤ◌, ◌≤ℤ◌, true, false, ◌&&◌, ◌||◌, cond, ltb, eqb, List, [], ◌∷◌, ◌++◌, length, Ok, Err, refl, ap, ◌∙◌, append_assoc, arith, FitsSigned}
-use Rattle.std.specs.Prelude.{nat_le, int_lt, int_le}
+use Rattle.std.proofs.Common.{◌≡◌, ◌≢◌, ℕ, ◌^◌, ◌<◌, ◌≤◌, ℤ, pos, ◌+ℤ◌, ◌≤ℤ◌, true, false, ◌&&◌, ◌||◌, cond, eqb, List, [], ◌∷◌, ◌++◌, length, Ok, Err, refl, ap, ◌∙◌, append_assoc, arith, FitsSigned}
+use Rattle.std.specs.Prelude.{nat_le, int_le}
 use Rattle.std.specs.Int.{w32}
 use Rattle.std.specs.List.{flat_map, list_any, AllByRecursion}
 use Rattle.std.proofs.lemmas.Int.{ints}
-use Rattle.std.proofs.lemmas.Bool.{leb-true, le-leb, ltb-true, lt-ltb, eqb-true, and_parts}
-use Rattle.module_format.specs.declared.fault.TheConstants.{TRUNCATED, ORDER, RANGE}
+use Rattle.std.proofs.lemmas.Bool.{leb-true, le-leb, ltb-true, lt-ltb, eqb-true, not-true, and_parts}
+use Rattle.module_format.specs.declared.fault.FormatFaultKind.TheVariants as faults
 use Rattle.module_format.specs.declared.fact.Fact.{Fact}
 use Rattle.module_format.specs.declared.fact.Fact.TheVariants as facts
 use Rattle.module_format.specs.declared.fact.Step.{Step}
@@ -16,10 +16,10 @@ use Rattle.module_format.specs.Contents.{Procedure, Label}
 use Rattle.module_format.specs.Order.{IsBytes, InOrder, IsInterval, least_word, greatest_word, is_stepped}
 use Rattle.module_format.specs.Facts.{IsStepped, IsPointer, is_loop_length, IsLoop, RegisterKeeps, WordKeeps, behind_entry, EntryKeeps, IsLabelOffset, LabelKeeps, behind_label}
 use Rattle.module_format.specs.Spelling.{u16_bytes, u32_bytes, u64_bytes, i32_bytes, step_size, fact_bytes, entry_bytes, label_bytes}
-use Rattle.module_format.specs.Reading.{fault, place, byte_at, list_at}
+use Rattle.module_format.specs.Reading.{and_then, fault, place, byte_at, list_at}
 use Rattle.module_format.specs.ReadingRows.{range_at, step_at, pointer_at, code_address_at, count_at, loop_at, fact_at, register_at, word_at, first_word_at, span_at, entry_at, entries_at, label_offset_at, registers_at, label_row_at, label_rows_at}
-use Rattle.module_format.proofs.Tools.{Has, has_ok, has_err, has_then, has_unless, has_if, has_cond, has_weaker, step, Spelled, join, list_takes, list_again}
-use Rattle.module_format.proofs.FieldLaws.{IsBytes-rest, eqb-false, eqb-differ, int_lt-false, int_le-lt, int_le-true, int_le-le, wide16, wide64, number_takes, number_again, u32_takes, u32_again, int_takes, int_again, byte_takes, at_most_takes, at_most_again, interval_takes, interval_again, in_code_takes, in_code_again}
+use Rattle.module_format.proofs.Tools.{Has, has_ok, has_err, has_then, has_if, has_cond, has_weaker, step, Spelled, join, tested_takes, tested_again, list_takes, list_again}
+use Rattle.module_format.proofs.FieldLaws.{IsBytes-rest, eqb-false, eqb-differ, int_le-true, int_le-le, wide16, wide64, number_takes, number_again, u32_takes, u32_again, int_takes, int_again, byte_takes, at_most_takes, at_most_again, interval_takes, interval_again, in_code_takes, in_code_again}
 
 -- ---- facts
 
@@ -44,10 +44,10 @@ module _ (size : ℕ) where
   unfolding step_at
   step_takes lo hi bytes fits =
       has_then _ _ (byte_takes size bytes fits) (λ s h.
-      has_cond (eqb s.0 1) (Ok (steps.Byte, s.1)) (cond (eqb s.0 4 && is_stepped lo && is_stepped hi) (Ok (steps.Word, s.1)) (Err (fault RANGE (place size bytes)))) (λ one.
+      has_cond (eqb s.0 1) (Ok (steps.Byte, s.1)) (cond (eqb s.0 4 && is_stepped lo && is_stepped hi) (Ok (steps.Word, s.1)) (Err (fault faults.Range (place size bytes)))) (λ one.
       let e : s.0 ≡ 1 = eqb-true _ _ one in
       has_ok (steps.Byte, s.1) (record { parts = rw (← e) h.parts; rest_fits = h.rest_fits; keeps = tt })) (λ other.
-      has_if (eqb s.0 4 && is_stepped lo && is_stepped hi) (fault RANGE (place size bytes)) (Ok (steps.Word, s.1)) (λ all.
+      has_if (eqb s.0 4 && is_stepped lo && is_stepped hi) (fault faults.Range (place size bytes)) (Ok (steps.Word, s.1)) (λ all.
       let both = and_parts (eqb s.0 4 && is_stepped lo) (is_stepped hi) all in
       let first = and_parts (eqb s.0 4) (is_stepped lo) both.0 in
       let e : s.0 ≡ 4 = eqb-true _ _ first.0 in
@@ -75,16 +75,13 @@ module _ (size : ℕ) where
   -- a count that isn't 0, and whose last index is a word
   count_takes : (base : ℤ) (bytes : List ℕ) → IsBytes bytes → Has (count_at size base bytes) (Spelled bytes u32_bytes (λ n. (1 ≤ n) × (pos n ≤ℤ greatest_word) × ((base +ℤ pos n) ≤ℤ pos 2147483648)))
   unfolding count_at
-  count_takes base bytes fits =
-      has_then _ _ (u32_takes size bytes fits) (λ n h.
-      has_if (is_loop_length base n.0) (fault RANGE (place size bytes)) (Ok n) (λ short.
-      has_ok n (record { parts = h.parts; rest_fits = h.rest_fits; keeps = loop_parts base n.0 short })))
+  count_takes base bytes fits = tested_takes _ _ _ _ (u32_takes size bytes fits) (λ n below short. loop_parts base n short)
 
   count_again : (base : ℤ) (n : ℕ) (rest : List ℕ) → 1 ≤ n → pos n ≤ℤ greatest_word → (base +ℤ pos n) ≤ℤ pos 2147483648 → count_at size base (u32_bytes n ++ rest) ≡ Ok (n, rest)
   unfolding count_at
   count_again base n rest some limit last =
       let lt : n < 2 ^ 32 = omega (arith, ints) in
-      step _ (u32_again size n rest lt) (rw (le-leb _ _ some, int_le-le _ _ limit, int_le-le _ _ last) refl)
+      tested_again _ _ _ _ (u32_again size n rest lt) (rw (le-leb _ _ some, int_le-le _ _ limit, int_le-le _ _ last) refl)
 
   loop_again : (base : ℤ) (count weight : ℕ) (rest : List ℕ) → IsLoop base count weight → loop_at size ((i32_bytes base ++ u32_bytes count ++ u64_bytes weight) ++ rest) ≡ Ok (facts.Loop base count weight, rest)
   unfolding loop_at
@@ -133,24 +130,24 @@ module _ (size code_len : ℕ) where
         keeps = record { register = h.keeps.1; word = λ span. h.keeps.1 };
       }))
 
-  fact_takes : (bytes : List ℕ) → IsBytes bytes → Has (fact_at size code_len bytes) (Spelled bytes fact_bytes (IsCommon code_len))
+  fact_takes : (at tag : ℕ) (bytes : List ℕ) → IsBytes bytes → Has (fact_at size code_len at tag bytes) (Spelled (tag ∷ bytes) fact_bytes (IsCommon code_len))
   unfolding fact_at
-  fact_takes [] fits = has_err (fault TRUNCATED size)
-  fact_takes (tag ∷ bytes) fits =
-      let behind = IsBytes-rest tag bytes fits in
-      let wrong = fault RANGE (place size (tag ∷ bytes)) in
-      has_cond (eqb tag 1) (range_at size bytes) (cond (eqb tag 2) (pointer_at size bytes) (cond (eqb tag 3) (code_address_at size code_len bytes) (Err wrong))) (λ one. range_takes tag bytes behind (eqb-true _ _ one)) (λ _.
-      has_cond (eqb tag 2) (pointer_at size bytes) (cond (eqb tag 3) (code_address_at size code_len bytes) (Err wrong)) (λ two. pointer_takes tag bytes behind (eqb-true _ _ two)) (λ _.
-      has_if (eqb tag 3) wrong (code_address_at size code_len bytes) (λ three. code_address_takes tag bytes behind (eqb-true _ _ three))))
+  fact_takes at tag bytes fits =
+      let wrong = fault faults.Range at in
+      has_cond (eqb tag 1) (range_at size bytes) (cond (eqb tag 2) (pointer_at size bytes) (cond (eqb tag 3) (code_address_at size code_len bytes) (Err wrong))) (λ one. range_takes tag bytes fits (eqb-true _ _ one)) (λ _.
+      has_cond (eqb tag 2) (pointer_at size bytes) (cond (eqb tag 3) (code_address_at size code_len bytes) (Err wrong)) (λ two. pointer_takes tag bytes fits (eqb-true _ _ two)) (λ _.
+      has_if (eqb tag 3) wrong (code_address_at size code_len bytes) (λ three. code_address_takes tag bytes fits (eqb-true _ _ three))))
 
   register_takes : (bytes : List ℕ) → IsBytes bytes → Has (register_at size code_len bytes) (Spelled bytes fact_bytes (RegisterKeeps code_len))
-  unfolding register_at fact_bytes
-  register_takes [] fits = has_err (fault TRUNCATED size)
+  unfolding register_at byte_at and_then fact_bytes
+  register_takes [] fits = has_err (fault faults.Truncated size)
   register_takes (tag ∷ bytes) fits =
-      has_cond (eqb tag 0) (Ok (facts.Unknown, bytes)) (fact_at size code_len (tag ∷ bytes)) (λ none.
+      let behind = IsBytes-rest tag bytes fits in
+      let other = fact_at size code_len (place size (tag ∷ bytes)) tag bytes in
+      has_cond (eqb tag 0) (Ok (facts.Unknown, bytes)) other (λ none.
       let parts : tag ∷ bytes ≡ fact_bytes facts.Unknown ++ bytes = ap (λ (t : ℕ). t ∷ bytes) (eqb-true _ _ none) in
-      has_ok (facts.Unknown, bytes) (record { parts = parts; rest_fits = IsBytes-rest tag bytes fits; keeps = tt })) (λ some.
-      has_weaker (fact_at size code_len (tag ∷ bytes)) (fact_takes (tag ∷ bytes) fits) (λ x h. record { parts = h.parts; rest_fits = h.rest_fits; keeps = h.keeps.register }))
+      has_ok (facts.Unknown, bytes) (record { parts = parts; rest_fits = behind; keeps = tt })) (λ some.
+      has_weaker other (fact_takes (place size (tag ∷ bytes)) tag bytes behind) (λ x h. record { parts = h.parts; rest_fits = h.rest_fits; keeps = h.keeps.register }))
 
   loop_takes : (tag span : ℕ) (bytes : List ℕ) → IsBytes bytes → tag ≡ 4 → span ≡ 2 → Has (loop_at size bytes) (Spelled (tag ∷ bytes) fact_bytes (WordKeeps code_len span))
   unfolding loop_at fact_bytes
@@ -167,18 +164,19 @@ module _ (size code_len : ℕ) where
       }))))
 
   word_takes : (span : ℕ) (bytes : List ℕ) → IsBytes bytes → Has (word_at size code_len span bytes) (Spelled bytes fact_bytes (WordKeeps code_len span))
-  unfolding word_at fact_bytes
-  word_takes span [] fits = has_err (fault TRUNCATED size)
+  unfolding word_at byte_at and_then fact_bytes
+  word_takes span [] fits = has_err (fault faults.Truncated size)
   word_takes span (tag ∷ bytes) fits =
       let behind = IsBytes-rest tag bytes fits in
-      has_cond (eqb tag 4 && eqb span 2) (loop_at size bytes) (cond (eqb tag 5 && eqb span 1) (Ok (facts.ReturnAddress, bytes)) (fact_at size code_len (tag ∷ bytes))) (λ turns.
+      let other = fact_at size code_len (place size (tag ∷ bytes)) tag bytes in
+      has_cond (eqb tag 4 && eqb span 2) (loop_at size bytes) (cond (eqb tag 5 && eqb span 1) (Ok (facts.ReturnAddress, bytes)) other) (λ turns.
       let both = and_parts (eqb tag 4) (eqb span 2) turns in
       loop_takes tag span bytes behind (eqb-true _ _ both.0) (eqb-true _ _ both.1)) (λ _.
-      has_cond (eqb tag 5 && eqb span 1) (Ok (facts.ReturnAddress, bytes)) (fact_at size code_len (tag ∷ bytes)) (λ returns.
+      has_cond (eqb tag 5 && eqb span 1) (Ok (facts.ReturnAddress, bytes)) other (λ returns.
       let both = and_parts (eqb tag 5) (eqb span 1) returns in
       let parts : tag ∷ bytes ≡ fact_bytes facts.ReturnAddress ++ bytes = ap (λ (t : ℕ). t ∷ bytes) (eqb-true _ _ both.0) in
       has_ok (facts.ReturnAddress, bytes) (record { parts = parts; rest_fits = behind; keeps = eqb-true _ _ both.1 })) (λ _.
-      has_weaker (fact_at size code_len (tag ∷ bytes)) (fact_takes (tag ∷ bytes) fits) (λ x h. record { parts = h.parts; rest_fits = h.rest_fits; keeps = h.keeps.word span })))
+      has_weaker other (fact_takes (place size (tag ∷ bytes)) tag bytes behind) (λ x h. record { parts = h.parts; rest_fits = h.rest_fits; keeps = h.keeps.word span })))
 
 module _ (size code_len : ℕ) (small : code_len < 2 ^ 32) where
   code_address_again : (offset : ℕ) (rest : List ℕ) → offset ≤ code_len → code_address_at size code_len (u32_bytes offset ++ rest) ≡ Ok (facts.CodeAddress offset, rest)
@@ -188,7 +186,7 @@ module _ (size code_len : ℕ) (small : code_len < 2 ^ 32) where
       step _ (at_most_again size code_len offset rest lt h) refl
 
   register_again : (f : Fact) (rest : List ℕ) → RegisterKeeps code_len f → register_at size code_len (fact_bytes f ++ rest) ≡ Ok (f, rest)
-  unfolding register_at fact_at fact_bytes
+  unfolding register_at byte_at and_then fact_at fact_bytes
   register_again facts.Unknown rest h = refl
   register_again (facts.Number lo hi) rest h = range_again size lo hi rest h
   register_again (facts.Pointer region lo hi s) rest h = pointer_again size region lo hi s rest h
@@ -197,7 +195,7 @@ module _ (size code_len : ℕ) (small : code_len < 2 ^ 32) where
   register_again facts.ReturnAddress rest h = elim h [ ]
 
   word_again : (span : ℕ) (f : Fact) (rest : List ℕ) → WordKeeps code_len span f → word_at size code_len span (fact_bytes f ++ rest) ≡ Ok (f, rest)
-  unfolding word_at fact_at fact_bytes
+  unfolding word_at byte_at and_then fact_at fact_bytes
   word_again span facts.Unknown rest h = elim h [ ]
   word_again span (facts.Number lo hi) rest h = range_again size lo hi rest h
   word_again span (facts.Pointer region lo hi s) rest h = pointer_again size region lo hi s rest h
@@ -210,28 +208,20 @@ module _ (size code_len : ℕ) (small : code_len < 2 ^ 32) where
 module _ (size : ℕ) where
   pub first_word_takes : (low : ℤ) (bytes : List ℕ) → IsBytes bytes → Has (first_word_at size low bytes) (Spelled bytes i32_bytes (λ z. FitsSigned w32 z × (low ≤ℤ z)))
   unfolding first_word_at
-  first_word_takes low bytes fits =
-      has_then _ _ (int_takes size bytes fits) (λ z h.
-      has_unless (int_lt z.0 low) (fault ORDER (place size bytes)) (Ok z) (λ apart.
-      has_ok z (record { parts = h.parts; rest_fits = h.rest_fits; keeps = (h.keeps, int_lt-false _ _ apart) })))
+  first_word_takes low bytes fits = tested_takes _ _ _ _ (int_takes size bytes fits) (λ z fits apart. (fits, int_le-true _ _ apart))
 
   pub first_word_again : (low z : ℤ) (rest : List ℕ) → FitsSigned w32 z → low ≤ℤ z → first_word_at size low (i32_bytes z ++ rest) ≡ Ok (z, rest)
   unfolding first_word_at
-  first_word_again low z rest fits apart = step _ (int_again size z rest fits) (rw (int_le-lt _ _ apart) refl)
+  first_word_again low z rest fits apart = tested_again _ _ _ _ (int_again size z rest fits) (int_le-le _ _ apart)
 
   -- a number that isn't 0
   pub span_takes : (bytes : List ℕ) → IsBytes bytes → Has (span_at size bytes) (Spelled bytes u32_bytes (λ n. (n < 2 ^ 32) × (1 ≤ n)))
   unfolding span_at
-  span_takes bytes fits =
-      has_then _ _ (u32_takes size bytes fits) (λ n h.
-      has_unless (eqb n.0 0) (fault RANGE (place size bytes)) (Ok n) (λ some.
-      has_ok n (record { parts = h.parts; rest_fits = h.rest_fits; keeps = (h.keeps, let differ : n.0 ≢ 0 = eqb-false _ _ some in omega arith) })))
+  span_takes bytes fits = tested_takes _ _ _ _ (u32_takes size bytes fits) (λ n below some. (below, leb-true _ _ some))
 
   pub span_again : (n : ℕ) (rest : List ℕ) → n < 2 ^ 32 → 1 ≤ n → span_at size (u32_bytes n ++ rest) ≡ Ok (n, rest)
   unfolding span_at
-  span_again n rest fits some =
-      let differ : n ≢ 0 = omega arith in
-      step _ (u32_again size n rest fits) (rw (eqb-differ _ _ differ) refl)
+  span_again n rest fits some = tested_again _ _ _ _ (u32_again size n rest fits) (le-leb _ _ some)
 
 module _ (size code_len : ℕ) where
   entry_takes : (low : ℤ) (bytes : List ℕ) → IsBytes bytes → Has (entry_at size code_len low bytes) (Spelled bytes entry_bytes (EntryKeeps code_len low))
@@ -289,16 +279,15 @@ module _ (size code_len : ℕ) (procedures : List Procedure) where
   label_offset_takes : (low : ℕ) (bytes : List ℕ) → IsBytes bytes → Has (label_offset_at size code_len procedures low bytes) (Spelled bytes u32_bytes (IsLabelOffset code_len procedures low))
   unfolding label_offset_at
   label_offset_takes low bytes fits =
-      has_then _ _ (in_code_takes size code_len bytes fits) (λ n h.
-      has_unless (list_any (λ p. eqb p.entry n.0) procedures) (fault RANGE (place size bytes)) (cond (ltb low n.0) (Ok n) (Err (fault ORDER (place size bytes)))) (λ free.
-      has_if (ltb low n.0) (fault ORDER (place size bytes)) (Ok n) (λ rises.
-      has_ok n (record { parts = h.parts; rest_fits = h.rest_fits; keeps = record { rises = ltb-true _ _ rises; in_code = h.keeps.1; no_entry = no_entry procedures n.0 free } }))))
+      let free = tested_takes {Q = λ n. (n < code_len) × AllByRecursion (λ p. p.entry ≢ n) procedures} _ _ _ _ (in_code_takes size code_len bytes fits) (λ n h free. (h.1, no_entry procedures n (not-true _ free))) in
+      tested_takes _ _ _ _ free (λ n h rises. record { rises = ltb-true _ _ rises; in_code = h.0; no_entry = h.1 })
 
   label_offset_again : (low n : ℕ) (rest : List ℕ) → n < 2 ^ 32 → IsLabelOffset code_len procedures low n → label_offset_at size code_len procedures low (u32_bytes n ++ rest) ≡ Ok (n, rest)
   unfolding label_offset_at
   label_offset_again low n rest fits h =
       let some : 1 ≤ n = let r = h.rises in omega arith in
-      step _ (in_code_again size code_len n rest fits some h.in_code) (rw (none_begins procedures n h.no_entry, lt-ltb _ _ h.rises) refl)
+      let free = tested_again _ _ _ _ (in_code_again size code_len n rest fits some h.in_code) (rw (none_begins procedures n h.no_entry) refl) in
+      tested_again _ _ _ _ free (lt-ltb _ _ h.rises)
 
   registers_take : (bytes : List ℕ) → IsBytes bytes
       → Has (registers_at size code_len bytes) (Spelled bytes (λ (s : Stack Fact). fact_bytes s.a ++ fact_bytes s.b ++ fact_bytes s.c)

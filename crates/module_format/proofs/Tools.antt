@@ -5,7 +5,8 @@ use Rattle.std.specs.List.{flat_map}
 use Rattle.std.proofs.lemmas.List.Concat.{flat_map-cons}
 use Rattle.module_format.specs.declared.fault.FormatFault.{FormatFault}
 use Rattle.module_format.specs.Order.{IsBytes, InOrder}
-use Rattle.module_format.specs.Reading.{◌>>=◌, and_then, Read, list_at}
+use Rattle.module_format.specs.declared.fault.FormatFaultKind.{FormatFaultKind}
+use Rattle.module_format.specs.Reading.{◌>>=◌, and_then, Read, fault, tested, list_at}
 
 -- what is known of a value that was given
 pub record Has {A : Type 0} (read : Result A FormatFault) (Q : A → Type 0) : Type 0 where
@@ -55,6 +56,21 @@ pub record Spelled {A : Type 0} (bytes : List ℕ) (spelling : A → List ℕ) (
   pub parts : bytes ≡ spelling x.0 ++ x.1
   pub rest_fits : IsBytes x.1
   pub keeps : P x.0
+
+-- a field with a test of its own
+pub tested_takes : {A : Type 0} {bytes : List ℕ} {spelling : A → List ℕ} {P Q : A → Type 0} (read : Read A) (test : A → Bool) (kind : FormatFaultKind) (at : ℕ)
+    → Has read (Spelled bytes spelling P) → ((x : A) → P x → test x ≡ true → Q x) → Has (tested read test kind at) (Spelled bytes spelling Q)
+unfolding tested
+tested_takes (Ok x) test kind at h kept =
+    let g = h.given in
+    has_if (test x.0) (fault kind at) (Ok x) (λ passed.
+    has_ok x (record { parts = g.parts; rest_fits = g.rest_fits; keeps = kept x.0 g.keeps passed }))
+tested_takes (Err f) test kind at h kept = has_err f
+
+pub tested_again : {A : Type 0} {x : A} {rest : List ℕ} (read : Read A) (test : A → Bool) (kind : FormatFaultKind) (at : ℕ)
+    → read ≡ Ok (x, rest) → test x ≡ true → tested read test kind at ≡ Ok (x, rest)
+unfolding tested
+tested_again read test kind at e passed = rw (e, passed) refl
 
 -- one piece behind another
 pub join : (a b s : List ℕ) {bytes r : List ℕ} → bytes ≡ a ++ r → r ≡ b ++ s → bytes ≡ (a ++ b) ++ s

@@ -1,13 +1,15 @@
 -- Reading a file from its front, with the first fault that is met. A reader takes the bytes that are
 -- left and gives a value and the bytes behind it; `size` is the length of the whole file, so that the
 -- place of what is left is known.
-use Rattle.std.specs.Prelude.{◌≡◌, ⊤, ℕ, zero, suc, ◌-◌, ℤ, int_lt, nat_lt, ◌==◌, if◌then◌else◌, List, [], ◌∷◌, length, take, drop, Result, Ok, Err}
+use Rattle.std.specs.Prelude.{◌≡◌, ⊤, ℕ, zero, suc, ◌-◌, ℤ, int_le, nat_lt, nat_le, Bool, ◌&&◌, if◌then◌else◌, List, [], ◌∷◌, length, take, drop, Result, Ok, Err}
 use Rattle.std.specs.Int.{w32, cast_signed}
 use Rattle.byteorder.specs.Endian.{little_number}
 use Rattle.module_format.specs.declared.fault.FormatFault.{FormatFault}
 use Rattle.module_format.specs.declared.fault.ReadError.{ReadError}
 use Rattle.module_format.specs.declared.fault.ReadError.TheVariants as errors
-use Rattle.module_format.specs.declared.fault.TheConstants.{TRUNCATED, RANGE, LIMIT, MEMORY}
+use Rattle.module_format.specs.declared.fault.FormatFaultKind.{FormatFaultKind}
+use Rattle.module_format.specs.declared.fault.FormatFaultKind.TheVariants as faults
+use Rattle.module_format.specs.declared.fault.TheConstants.{MAGIC, TRUNCATED, ORDER, RANGE, LEFT_OVER, LIMIT, MEMORY}
 
 -- one step, and then the next with what it gave
 unfoldable pub and_then : {A B : Type 0} → Result A FormatFault → (A → Result B FormatFault) → Result B FormatFault
@@ -36,12 +38,22 @@ Tells (Err f) look = look ≡ Err f
 abbrev pub Read : Type 0 → Type 0
 Read A = Result (A × List ℕ) FormatFault
 
-abbrev pub fault : ℕ → ℕ → FormatFault
-fault number offset = record { number = number; offset = offset }
+-- the number by which a fault is reported
+abbrev pub number_of : FormatFaultKind → ℕ
+number_of faults.Magic = MAGIC
+number_of faults.Truncated = TRUNCATED
+number_of faults.Order = ORDER
+number_of faults.Range = RANGE
+number_of faults.LeftOver = LEFT_OVER
+number_of faults.Limit = LIMIT
+
+-- what is reported of a fault at an offset
+abbrev pub fault : FormatFaultKind → ℕ → FormatFault
+fault kind offset = record { number = number_of kind; offset = offset }
 
 -- the answer where memory ran out
 abbrev pub out_of_memory : FormatFault
-out_of_memory = fault MEMORY 0
+out_of_memory = record { number = MEMORY; offset = 0 }
 
 -- the fault that is told of a file whose reader gave this error
 abbrev pub fault_of : ReadError → FormatFault
@@ -57,7 +69,7 @@ place size rest = size - length rest
 -- a number of n bytes
 unfoldable pub number_at : ℕ → ℕ → List ℕ → Read ℕ
 number_at size n rest =
-    if nat_lt (length rest) n then Err (fault TRUNCATED size) else Ok (little_number n rest, drop n rest)
+    if nat_lt (length rest) n then Err (fault faults.Truncated size) else Ok (little_number n rest, drop n rest)
 
 -- a signed word
 unfoldable pub int_at : ℕ → List ℕ → Read ℤ
@@ -65,46 +77,41 @@ int_at size rest = do
   n ← number_at size 4 rest
   Ok (cast_signed w32 n.0, n.1)
 
+-- a field that was read at an offset, and has a test of its own: where it fails, the file is at fault there
+unfoldable pub tested : {A : Type 0} → Read A → (A → Bool) → FormatFaultKind → ℕ → Read A
+tested (Ok x) test kind at = if test x.0 then Ok x else Err (fault kind at)
+tested (Err f) test kind at = Err f
+
 -- a number of n bytes up to a limit
 unfoldable pub limited_at : ℕ → ℕ → ℕ → List ℕ → Read ℕ
-limited_at size n limit rest = do
-  x ← number_at size n rest
-  if nat_lt limit x.0 then Err (fault LIMIT (place size rest)) else Ok x
+limited_at size n limit rest = tested (number_at size n rest) (λ x. nat_le x limit) faults.Limit (place size rest)
 
 -- a u32 from 1 to a limit
 unfoldable pub positive_at : ℕ → ℕ → List ℕ → Read ℕ
-positive_at size limit rest = do
-  x ← limited_at size 4 limit rest
-  if x.0 == 0 then Err (fault RANGE (place size rest)) else Ok x
+positive_at size limit rest = tested (limited_at size 4 limit rest) (nat_le 1) faults.Range (place size rest)
 
 -- a u32 of which no value above `most` is allowed
 unfoldable pub at_most_at : ℕ → ℕ → List ℕ → Read ℕ
-at_most_at size most rest = do
-  x ← number_at size 4 rest
-  if nat_lt most x.0 then Err (fault RANGE (place size rest)) else Ok x
+at_most_at size most rest = tested (number_at size 4 rest) (λ x. nat_le x most) faults.Range (place size rest)
 
 -- n bytes
 unfoldable pub bytes_at : ℕ → ℕ → List ℕ → Read (List ℕ)
 bytes_at size n rest =
-    if nat_lt (length rest) n then Err (fault TRUNCATED size) else Ok (take n rest, drop n rest)
+    if nat_lt (length rest) n then Err (fault faults.Truncated size) else Ok (take n rest, drop n rest)
 
 -- one byte
 unfoldable pub byte_at : ℕ → List ℕ → Read ℕ
-byte_at size [] = Err (fault TRUNCATED size)
+byte_at size [] = Err (fault faults.Truncated size)
 byte_at size (b ∷ rest) = Ok (b, rest)
 
 -- an offset in the code that isn't its first
 unfoldable pub in_code_at : ℕ → ℕ → List ℕ → Read ℕ
-in_code_at size code_len rest = do
-  offset ← number_at size 4 rest
-  if offset.0 == 0 then Err (fault RANGE (place size rest))
-      else (if nat_lt offset.0 code_len then Ok offset else Err (fault RANGE (place size rest)))
+in_code_at size code_len rest =
+    tested (number_at size 4 rest) (λ offset. nat_le 1 offset && nat_lt offset code_len) faults.Range (place size rest)
 
 -- the last word of an interval, whose first is `lo`
 unfoldable pub hi_at : ℕ → ℤ → List ℕ → Read ℤ
-hi_at size lo rest = do
-  hi ← int_at size rest
-  if int_lt hi.0 lo then Err (fault RANGE (place size rest)) else Ok hi
+hi_at size lo rest = tested (int_at size rest) (int_le lo) faults.Range (place size rest)
 
 -- the numbers of a word from lo to hi
 unfoldable pub interval_at : ℕ → List ℕ → Read (ℤ × ℤ)

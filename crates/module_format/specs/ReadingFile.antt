@@ -2,7 +2,7 @@
 use Rattle.std.specs.Prelude.{ℕ, ◌+◌, nat_eq, ◌==◌, Bool, false, if◌then◌else◌, List, [], ◌∷◌, length, drop, Result, Ok, Err}
 use Rattle.std.specs.List.{starts_with}
 use Rattle.module_format.specs.declared.fault.FormatFault.{FormatFault}
-use Rattle.module_format.specs.declared.fault.TheConstants.{MAGIC, LEFT_OVER}
+use Rattle.module_format.specs.declared.fault.FormatFaultKind.TheVariants as faults
 use Rattle.module_format.specs.declared.tables.Version.{Version}
 use Rattle.module_format.specs.declared.tables.Version.TheVariants as versions
 use Rattle.module_format.specs.declared.rows.TableRow.{TableRow}
@@ -21,7 +21,7 @@ use Rattle.module_format.specs.Late.{late_at}
 unfoldable pub magic_at : List ℕ → Read Version
 magic_at bytes =
     if starts_with nat_eq bytes magic_one then Ok (versions.One, drop 4 bytes)
-    else (if starts_with nat_eq bytes magic_two then Ok (versions.Two, drop 4 bytes) else Err (fault MAGIC 0))
+    else (if starts_with nat_eq bytes magic_two then Ok (versions.Two, drop 4 bytes) else Err (fault faults.Magic 0))
 
 -- ---- the header
 
@@ -105,7 +105,7 @@ contents_from h code constants procedures labels pars table_rows = record {
 unfoldable pub ended_at : ℕ → ℕ → Contents → List ℕ → Result Contents FormatFault
 ended_at size at c rest = do
   _ ← late_at at c
-  if length rest == 0 then Ok c else Err (fault LEFT_OVER (place size rest))
+  if length rest == 0 then Ok c else Err (fault faults.LeftOver (place size rest))
 
 -- the code, the constants and the rows, with the place of the label rows
 unfoldable pub tables_at : ℕ → Header → List ℕ → Read (Contents × ℕ)

@@ -1,7 +1,8 @@
 -- Reading PAR rows.
-use Rattle.std.specs.Prelude.{ℕ, zero, suc, ◌+◌, ℤ, pos, int_lt, int_le, nat_lt, nat_le, ◌==◌, ◌&&◌, ◌||◌, Bool, if◌then◌else◌, List, length, unsigned_abs, Ok, Err}
+use Rattle.std.specs.Prelude.{ℕ, zero, suc, ◌+◌, ℤ, pos, int_lt, int_le, nat_lt, nat_le, ◌==◌, ◌&&◌, ◌||◌, not, Bool, if◌then◌else◌, List, length, unsigned_abs, Ok}
 use Rattle.std.specs.List.{list_any}
-use Rattle.module_format.specs.declared.fault.TheConstants.{ORDER, RANGE}
+use Rattle.module_format.specs.declared.tags.TheConstants.{END_PARAMETER, END_LINK, DIRECTION_IN, DIRECTION_OUT}
+use Rattle.module_format.specs.declared.fault.FormatFaultKind.TheVariants as faults
 use Rattle.module_format.specs.declared.rows.ChannelRow.{ChannelRow}
 use Rattle.module_format.specs.declared.rows.Interval.{Interval}
 use Rattle.module_format.specs.declared.rows.EndKind.{EndKind}
@@ -15,7 +16,7 @@ use Rattle.module_format.specs.declared.limits.TheConstants.{MAX_BRANCHES, MAX_M
 use Rattle.module_format.specs.Order.{least_word}
 use Rattle.module_format.specs.Contents.{Branch, Par}
 use Rattle.module_format.specs.Pars.{behind_channel, behind_interval, meet, behind_number, first_key, behind_end, Before, behind_branch, behind_par, no_branches}
-use Rattle.module_format.specs.Reading.{◌>>=◌, Read, fault, place, number_at, int_at, limited_at, positive_at, byte_at, in_code_at, list_at}
+use Rattle.module_format.specs.Reading.{◌>>=◌, Read, tested, place, number_at, int_at, limited_at, positive_at, byte_at, in_code_at, list_at}
 use Rattle.module_format.specs.ReadingRows.{first_word_at}
 
 -- ---- channels and intervals
@@ -28,9 +29,7 @@ channel_at size low rest = do
 
 -- the end of an interval, which is not empty
 unfoldable pub interval_end_at : ℕ → ℤ → List ℕ → Read ℤ
-interval_end_at size lo rest = do
-  hi ← int_at size rest
-  if int_lt lo hi.0 then Ok hi else Err (fault RANGE (place size rest))
+interval_end_at size lo rest = tested (int_at size rest) (int_lt lo) faults.Range (place size rest)
 
 -- frame words from `low` on
 unfoldable pub words_at : ℕ → ℤ → List ℕ → Read Interval
@@ -41,52 +40,45 @@ words_at size low rest = do
 
 -- words that are read, none of them one that is written
 unfoldable pub read_words_at : ℕ → List Interval → ℤ → List ℕ → Read Interval
-read_words_at size writes low rest = do
-  i ← words_at size low rest
-  if list_any (meet i.0) writes then Err (fault ORDER (place size rest)) else Ok i
+read_words_at size writes low rest = tested (words_at size low rest) (λ i. not (list_any (meet i) writes)) faults.Order (place size rest)
 
 -- ---- parameters and ends
 
 -- the number of a parameter, from `low` on
 unfoldable pub parameter_number_at : ℕ → ℕ → List ℕ → Read ℕ
-parameter_number_at size low rest = do
-  number ← number_at size 2 rest
-  if nat_lt number.0 low then Err (fault ORDER (place size rest)) else Ok number
+parameter_number_at size low rest = tested (number_at size 2 rest) (nat_le low) faults.Order (place size rest)
 
 -- a kind of end, which is not below that of the end before
 unfoldable pub end_kind_at : ℕ → EndKey → List ℕ → Read ℕ
-end_kind_at size before rest = do
-  kind ← byte_at size rest
-  if nat_lt 2 kind.0 then Err (fault RANGE (place size rest))
-      else (if nat_lt kind.0 before.kind then Err (fault ORDER (place size rest)) else Ok kind)
+end_kind_at size before rest =
+    let known = tested (byte_at size rest) (λ kind. nat_le kind END_LINK) faults.Range (place size rest) in
+    tested known (nat_le before.kind) faults.Order (place size rest)
 
 -- a link has a number from 0 to 7
 abbrev pub is_number_of : ℕ → ℤ → Bool
-is_number_of kind number = nat_lt kind 2 || (int_le (pos 0) number && int_lt number (pos 8))
+is_number_of kind number = nat_lt kind END_LINK || (int_le (pos 0) number && int_lt number (pos 8))
 
 -- The number of an end: where all fields before it are those of the end before, it is not below that end's.
 unfoldable pub end_number_at : ℕ → EndKey → ℕ → List ℕ → Read ℤ
-end_number_at size before kind rest = do
-  number ← int_at size rest
-  if is_number_of kind number.0
-      then (if (kind == before.kind) && int_lt number.0 before.number then Err (fault ORDER (place size rest)) else Ok number)
-      else Err (fault RANGE (place size rest))
+end_number_at size before kind rest =
+    let known = tested (int_at size rest) (is_number_of kind) faults.Range (place size rest) in
+    tested known (λ number. not ((kind == before.kind) && int_lt number before.number)) faults.Order (place size rest)
 
 -- the element of an end, of which only a parameter's has one
 unfoldable pub end_element_at : ℕ → EndKey → ℕ → ℤ → List ℕ → Read ℕ
-end_element_at size before kind number rest = do
-  element ← number_at size 4 rest
-  if (kind == 1) || (element.0 == 0)
-      then (if (kind == before.kind) && (int_le number before.number && int_le before.number number) && nat_lt element.0 before.element then Err (fault ORDER (place size rest)) else Ok element)
-      else Err (fault RANGE (place size rest))
+end_element_at size before kind number rest =
+    let same = (kind == before.kind) && (int_le number before.number && int_le before.number number) in
+    let known = tested (number_at size 4 rest) (λ element. (kind == END_PARAMETER) || (element == 0)) faults.Range (place size rest) in
+    tested known (λ element. not (same && nat_lt element before.element)) faults.Order (place size rest)
 
 -- the direction of an end, by which it is above the end before where all other fields are the same
 unfoldable pub end_direction_at : ℕ → EndKey → ℕ → ℤ → ℕ → List ℕ → Read ℕ
-end_direction_at size before kind number element rest = do
-  direction ← byte_at size rest
-  if (direction.0 == 1) || (direction.0 == 2)
-      then (if (kind == before.kind) && (int_le number before.number && int_le before.number number) && (element == before.element) && nat_le direction.0 before.direction then Err (fault ORDER (place size rest)) else Ok direction)
-      else Err (fault RANGE (place size rest))
+end_direction_at size before kind number element rest =
+    let same = (kind == before.kind) && (int_le number before.number && int_le before.number number) in
+    let is_known = λ (direction : ℕ). (direction == DIRECTION_IN) || (direction == DIRECTION_OUT) in
+    let known = tested (byte_at size rest) is_known faults.Range (place size rest) in
+    let falls = λ (direction : ℕ). same && (element == before.element) && nat_le direction before.direction in
+    tested known (λ direction. not (falls direction)) faults.Order (place size rest)
 
 abbrev pub end_kind : ℕ → ℤ → ℕ → EndKind
 end_kind zero number element = ends.FrameWord number
@@ -94,7 +86,7 @@ end_kind (suc zero) number element = ends.Parameter number element
 end_kind (suc (suc n)) number element = ends.Link (unsigned_abs number)
 
 abbrev pub direction_of : ℕ → Direction
-direction_of n = if n == 1 then directions.In else directions.Out
+direction_of n = if n == DIRECTION_IN then directions.In else directions.Out
 
 unfoldable pub end_at : ℕ → EndKey → List ℕ → Read EndRow
 end_at size before rest = do
@@ -108,11 +100,9 @@ end_at size before rest = do
 
 -- the entry of a branch, behind `low`, and no other's
 unfoldable pub branch_entry_at : ℕ → ℕ → Before → List ℕ → Read ℕ
-branch_entry_at size code_len before rest = do
-  entry ← in_code_at size code_len rest
-  if nat_lt before.low entry.0
-      then (if list_any (λ other. other == entry.0) before.entries then Err (fault RANGE (place size rest)) else Ok entry)
-      else Err (fault ORDER (place size rest))
+branch_entry_at size code_len before rest =
+    let risen = tested (in_code_at size code_len rest) (nat_lt before.low) faults.Order (place size rest) in
+    tested risen (λ entry. not (list_any (λ other. other == entry) before.entries)) faults.Range (place size rest)
 
 -- how many intervals, parameters and ends a branch has
 unfoldable pub branch_counts_at : ℕ → List ℕ → Read BranchCounts
@@ -140,15 +130,11 @@ branch_at size code_len before rest = do
 
 -- a context of which there are so many
 unfoldable pub context_number_at : ℕ → ℕ → List ℕ → Read ℕ
-context_number_at size count rest = do
-  context ← number_at size 2 rest
-  if nat_lt context.0 count then Ok context else Err (fault RANGE (place size rest))
+context_number_at size count rest = tested (number_at size 2 rest) (λ context. nat_lt context count) faults.Range (place size rest)
 
 -- a number of branches, at least 1
 unfoldable pub branch_count_at : ℕ → List ℕ → Read ℕ
-branch_count_at size rest = do
-  count ← limited_at size 2 MAX_BRANCHES rest
-  if count.0 == 0 then Err (fault RANGE (place size rest)) else Ok count
+branch_count_at size rest = tested (limited_at size 2 MAX_BRANCHES rest) (nat_le 1) faults.Range (place size rest)
 
 unfoldable pub par_row_at : ℕ → ℕ → ℕ → Before → List ℕ → Read Par
 par_row_at size own code_len before rest = do

@@ -1,7 +1,9 @@
 -- Reading facts, procedure rows, label rows and table rows.
-use Rattle.std.specs.Prelude.{ℕ, ◌-◌, ℤ, pos, int_lt, int_le, nat_lt, Bool, ◌==◌, ◌&&◌, ◌||◌, not, if◌then◌else◌, List, [], ◌∷◌, length, take, drop, Ok, Err}
+use Rattle.std.specs.Prelude.{ℕ, ◌-◌, ℤ, pos, int_lt, int_le, nat_lt, nat_le, Bool, ◌==◌, ◌&&◌, not, if◌then◌else◌, List, length, take, drop, Ok, Err}
 use Rattle.std.specs.List.{list_any, list_all}
-use Rattle.module_format.specs.declared.fault.TheConstants.{TRUNCATED, ORDER, RANGE}
+use Rattle.module_format.specs.declared.tags.TheConstants.{TAG_UNKNOWN, TAG_NUMBER, TAG_POINTER, TAG_CODE_ADDRESS, TAG_LOOP, TAG_RETURN_ADDRESS}
+use Rattle.module_format.specs.declared.tags.TheConstants.{KIND_VALUE, KIND_READ_REGION, KIND_WRITTEN_REGION, KIND_CHANNELS}
+use Rattle.module_format.specs.declared.fault.FormatFaultKind.TheVariants as faults
 use Rattle.module_format.specs.declared.fact.Fact.{Fact}
 use Rattle.module_format.specs.declared.fact.Fact.TheVariants as facts
 use Rattle.module_format.specs.declared.fact.Step.{Step}
@@ -22,7 +24,7 @@ use Rattle.module_format.specs.Order.{least_word, greatest_word, is_multiple_of_
 use Rattle.module_format.specs.Contents.{Procedure, Label}
 use Rattle.module_format.specs.Facts.{is_loop_length, behind_entry, behind_label}
 use Rattle.module_format.specs.Procedures.{is_region_size, are_ends, is_frame_start, is_frame_end, behind_parameter, behind_procedure, words_of, behind_table}
-use Rattle.module_format.specs.Reading.{◌>>=◌, Read, fault, place, number_at, int_at, limited_at, positive_at, at_most_at, byte_at, in_code_at, interval_at, list_at}
+use Rattle.module_format.specs.Reading.{◌>>=◌, Read, tested, fault, place, number_at, int_at, limited_at, positive_at, at_most_at, byte_at, in_code_at, interval_at, list_at}
 
 -- ---- facts
 
@@ -36,7 +38,7 @@ unfoldable pub step_at : ℕ → ℤ → ℤ → List ℕ → Read Step
 step_at size lo hi rest = do
   step ← byte_at size rest
   if step.0 == 1 then Ok (steps.Byte, step.1)
-      else (if (step.0 == 4) && is_stepped lo && is_stepped hi then Ok (steps.Word, step.1) else Err (fault RANGE (place size rest)))
+      else (if (step.0 == 4) && is_stepped lo && is_stepped hi then Ok (steps.Word, step.1) else Err (fault faults.Range (place size rest)))
 
 unfoldable pub pointer_at : ℕ → List ℕ → Read Fact
 pointer_at size rest = do
@@ -52,9 +54,7 @@ code_address_at size code_len rest = do
 
 -- how often a loop turns: its last index is a word
 unfoldable pub count_at : ℕ → ℤ → List ℕ → Read ℕ
-count_at size base rest = do
-  count ← number_at size 4 rest
-  if is_loop_length base count.0 then Ok count else Err (fault RANGE (place size rest))
+count_at size base rest = tested (number_at size 4 rest) (is_loop_length base) faults.Range (place size rest)
 
 unfoldable pub loop_at : ℕ → List ℕ → Read Fact
 loop_at size rest = do
@@ -63,39 +63,35 @@ loop_at size rest = do
   weight ← number_at size 8 count.1
   Ok (facts.Loop base.0 count.0 weight.0, weight.1)
 
--- a fact that registers and words have alike, by its tag
-unfoldable pub fact_at : ℕ → ℕ → List ℕ → Read Fact
-fact_at size code_len [] = Err (fault TRUNCATED size)
-fact_at size code_len (tag ∷ rest) =
-    if tag == 1 then range_at size rest
-    else (if tag == 2 then pointer_at size rest
-    else (if tag == 3 then code_address_at size code_len rest else Err (fault RANGE (place size (tag ∷ rest)))))
+-- a fact that registers and words have alike, behind its tag at an offset
+unfoldable pub fact_at : ℕ → ℕ → ℕ → ℕ → List ℕ → Read Fact
+fact_at size code_len at tag rest =
+    if tag == TAG_NUMBER then range_at size rest
+    else (if tag == TAG_POINTER then pointer_at size rest
+    else (if tag == TAG_CODE_ADDRESS then code_address_at size code_len rest else Err (fault faults.Range at)))
 
 -- a fact of a register
 unfoldable pub register_at : ℕ → ℕ → List ℕ → Read Fact
-register_at size code_len [] = Err (fault TRUNCATED size)
-register_at size code_len (tag ∷ rest) = if tag == 0 then Ok (facts.Unknown, rest) else fact_at size code_len (tag ∷ rest)
+register_at size code_len rest = do
+  tag ← byte_at size rest
+  if tag.0 == TAG_UNKNOWN then Ok (facts.Unknown, tag.1) else fact_at size code_len (place size rest) tag.0 tag.1
 
 -- a fact of so many frame words
 unfoldable pub word_at : ℕ → ℕ → ℕ → List ℕ → Read Fact
-word_at size code_len span [] = Err (fault TRUNCATED size)
-word_at size code_len span (tag ∷ rest) =
-    if (tag == 4) && (span == 2) then loop_at size rest
-    else (if (tag == 5) && (span == 1) then Ok (facts.ReturnAddress, rest) else fact_at size code_len (tag ∷ rest))
+word_at size code_len span rest = do
+  tag ← byte_at size rest
+  if (tag.0 == TAG_LOOP) && (span == 2) then loop_at size tag.1
+      else (if (tag.0 == TAG_RETURN_ADDRESS) && (span == 1) then Ok (facts.ReturnAddress, tag.1) else fact_at size code_len (place size rest) tag.0 tag.1)
 
 -- ---- entries and label rows
 
 -- a frame word that no item before has: those end at word `low`
 unfoldable pub first_word_at : ℕ → ℤ → List ℕ → Read ℤ
-first_word_at size low rest = do
-  word ← int_at size rest
-  if int_lt word.0 low then Err (fault ORDER (place size rest)) else Ok word
+first_word_at size low rest = tested (int_at size rest) (int_le low) faults.Order (place size rest)
 
 -- a number of words, at least 1
 unfoldable pub span_at : ℕ → List ℕ → Read ℕ
-span_at size rest = do
-  span ← number_at size 4 rest
-  if span.0 == 0 then Err (fault RANGE (place size rest)) else Ok span
+span_at size rest = tested (number_at size 4 rest) (nat_le 1) faults.Range (place size rest)
 
 unfoldable pub entry_at : ℕ → ℕ → ℤ → List ℕ → Read Entry
 entry_at size code_len low rest = do
@@ -112,10 +108,10 @@ entries_at size code_len rest = do
 
 -- the offset of a label row: no procedure's entry, and behind the row before, whose offset is `low`
 unfoldable pub label_offset_at : ℕ → ℕ → List Procedure → ℕ → List ℕ → Read ℕ
-label_offset_at size code_len procedures low rest = do
-  offset ← in_code_at size code_len rest
-  if list_any (λ p. p.entry == offset.0) procedures then Err (fault RANGE (place size rest))
-      else (if nat_lt low offset.0 then Ok offset else Err (fault ORDER (place size rest)))
+label_offset_at size code_len procedures low rest =
+    let begins = λ (offset : ℕ). list_any (λ p. p.entry == offset) procedures in
+    let free = tested (in_code_at size code_len rest) (λ offset. not (begins offset)) faults.Range (place size rest) in
+    tested free (nat_lt low) faults.Order (place size rest)
 
 -- the facts of A, B and C
 unfoldable pub registers_at : ℕ → ℕ → List ℕ → Read (Stack Fact)
@@ -155,9 +151,7 @@ words_range_at size versions.Two rest = interval_at size rest
 
 -- the bytes of a region of words
 unfoldable pub region_size_at : ℕ → List ℕ → Read ℕ
-region_size_at size rest = do
-  bytes ← number_at size 4 rest
-  if is_region_size bytes.0 then Ok bytes else Err (fault RANGE (place size rest))
+region_size_at size rest = tested (number_at size 4 rest) is_region_size faults.Range (place size rest)
 
 -- the kind of a parameter that names a region
 abbrev pub region_kind : Access → ℕ → ℤ → ℤ → ParameterKind
@@ -174,8 +168,8 @@ region_at size version kind rest = do
 -- one end or both
 unfoldable pub ends_at : ℕ → List ℕ → Read Ends
 ends_at size rest = do
-  bits ← byte_at size rest
-  if are_ends bits.0 then Ok (record { 0 = bits.0 }, bits.1) else Err (fault RANGE (place size rest))
+  bits ← tested (byte_at size rest) are_ends faults.Range (place size rest)
+  Ok (record { 0 = bits.0 }, bits.1)
 
 -- a number of channels, at least 1
 unfoldable pub channels_at : ℕ → List ℕ → Read ParameterKind
@@ -191,19 +185,18 @@ value_at size rest = do
   Ok (kinds.Value range.0.0 range.0.1, range.1)
 
 unfoldable pub kind_at : ℕ → Version → List ℕ → Read ParameterKind
-kind_at size version [] = Err (fault TRUNCATED size)
-kind_at size version (kind ∷ rest) =
-    if kind == 0 then value_at size rest
-    else (if kind == 1 then region_at size version kinds.ReadRegion rest
-    else (if kind == 2 then region_at size version kinds.WrittenRegion rest
-    else (if kind == 3 then channels_at size rest else Err (fault RANGE (place size (kind ∷ rest))))))
+kind_at size version rest = do
+  kind ← byte_at size rest
+  if kind.0 == KIND_VALUE then value_at size kind.1
+      else (if kind.0 == KIND_READ_REGION then region_at size version kinds.ReadRegion kind.1
+      else (if kind.0 == KIND_WRITTEN_REGION then region_at size version kinds.WrittenRegion kind.1
+      else (if kind.0 == KIND_CHANNELS then channels_at size kind.1 else Err (fault faults.Range (place size rest)))))
 
 -- the word of a parameter: below word `hi`, and behind the parameter before, in word `low`
 unfoldable pub parameter_word_at : ℕ → ℤ → ℕ → List ℕ → Read ℕ
-parameter_word_at size hi low rest = do
-  word ← number_at size 2 rest
-  if (word.0 == 0) || int_le hi (pos word.0) then Err (fault RANGE (place size rest))
-      else (if nat_lt low word.0 then Ok word else Err (fault ORDER (place size rest)))
+parameter_word_at size hi low rest =
+    let inside = tested (number_at size 2 rest) (λ word. nat_le 1 word && int_lt (pos word) hi) faults.Range (place size rest) in
+    tested inside (nat_lt low) faults.Order (place size rest)
 
 unfoldable pub parameter_at : ℕ → Version → ℤ → ℕ → List ℕ → Read Parameter
 parameter_at size version hi low rest = do
@@ -218,20 +211,14 @@ parameters_at size version hi rest = do
 
 -- the first word of a frame, and the first word behind it
 unfoldable pub frame_start_at : ℕ → List ℕ → Read ℤ
-frame_start_at size rest = do
-  lo ← int_at size rest
-  if is_frame_start lo.0 then Ok lo else Err (fault RANGE (place size rest))
+frame_start_at size rest = tested (int_at size rest) is_frame_start faults.Range (place size rest)
 
 unfoldable pub frame_end_at : ℕ → List ℕ → Read ℤ
-frame_end_at size rest = do
-  hi ← int_at size rest
-  if is_frame_end hi.0 then Ok hi else Err (fault RANGE (place size rest))
+frame_end_at size rest = tested (int_at size rest) is_frame_end faults.Range (place size rest)
 
 -- an offset in the code that isn't its first, behind `low`
 unfoldable pub rising_at : ℕ → ℕ → ℕ → List ℕ → Read ℕ
-rising_at size code_len low rest = do
-  offset ← in_code_at size code_len rest
-  if nat_lt low offset.0 then Ok offset else Err (fault ORDER (place size rest))
+rising_at size code_len low rest = tested (in_code_at size code_len rest) (nat_lt low) faults.Order (place size rest)
 
 unfoldable pub procedure_row_at : ℕ → Version → ℕ → ℕ → List ℕ → Read Procedure
 procedure_row_at size version code_len low rest = do
@@ -250,29 +237,30 @@ procedure_rows_at size version code_len count rest =
 
 -- the first byte of a table, behind those that end at `low`
 unfoldable pub table_start_at : ℕ → ℕ → List ℕ → Read ℕ
-table_start_at size low rest = do
-  start ← number_at size 4 rest
-  if not (is_multiple_of_four start.0) then Err (fault RANGE (place size rest))
-      else (if nat_lt start.0 low then Err (fault ORDER (place size rest)) else Ok start)
+table_start_at size low rest =
+    let aligned = tested (number_at size 4 rest) is_multiple_of_four faults.Range (place size rest) in
+    tested aligned (nat_le low) faults.Order (place size rest)
 
 -- the end of a table in so many bytes of constants
 unfoldable pub table_end_at : ℕ → ℕ → ℕ → List ℕ → Read ℕ
-table_end_at size const_len start rest = do
-  end ← number_at size 4 rest
-  if is_multiple_of_four end.0 && nat_lt start end.0 && not (nat_lt const_len end.0) then Ok end else Err (fault RANGE (place size rest))
+table_end_at size const_len start rest =
+    let is_inside = λ (end : ℕ). is_multiple_of_four end && nat_lt start end && nat_le end const_len in
+    tested (number_at size 4 rest) is_inside faults.Range (place size rest)
 
 -- the word lies from lo to hi
 abbrev pub is_within : ℤ → ℤ → ℤ → Bool
 is_within lo hi word = int_le lo word && int_le word hi
 
+-- the words of the constants from byte `start` up to byte `end` lie in a range
+abbrev pub words_lie_in : List ℕ → ℕ → ℕ → ℤ × ℤ → Bool
+words_lie_in constants start end range = list_all (is_within range.0 range.1) (words_of (take (end - start) (drop start constants)))
+
 unfoldable pub table_row_at : ℕ → List ℕ → ℕ → List ℕ → Read TableRow
 table_row_at size constants low rest = do
   start ← table_start_at size low rest
   end ← table_end_at size (length constants) start.0 start.1
-  range ← interval_at size end.1
-  if list_all (is_within range.0.0 range.0.1) (words_of (take (end.0 - start.0) (drop start.0 constants)))
-      then Ok (record { start = start.0; end = end.0; lo = range.0.0; hi = range.0.1 }, range.1)
-      else Err (fault RANGE (place size end.1))
+  range ← tested (interval_at size end.1) (words_lie_in constants start.0 end.0) faults.Range (place size end.1)
+  Ok (record { start = start.0; end = end.0; lo = range.0.0; hi = range.0.1 }, range.1)
 
 unfoldable pub table_rows_at : ℕ → List ℕ → ℕ → List ℕ → Read (List TableRow)
 table_rows_at size constants count rest = list_at (table_row_at size constants) behind_table count 0 rest

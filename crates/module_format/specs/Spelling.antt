@@ -3,6 +3,9 @@
 use Rattle.std.specs.Prelude.{ℕ, ℤ, pos, Bool, if◌then◌else◌, List, [], ◌∷◌, ◌++◌, length}
 use Rattle.std.specs.List.{flat_map}
 use Rattle.std.specs.Int.{w16, w32, w64, to_le_bytes, cast_unsigned}
+use Rattle.module_format.specs.declared.tags.TheConstants.{TAG_UNKNOWN, TAG_NUMBER, TAG_POINTER, TAG_CODE_ADDRESS, TAG_LOOP, TAG_RETURN_ADDRESS}
+use Rattle.module_format.specs.declared.tags.TheConstants.{KIND_VALUE, KIND_READ_REGION, KIND_WRITTEN_REGION, KIND_CHANNELS}
+use Rattle.module_format.specs.declared.tags.TheConstants.{END_FRAME_WORD, END_PARAMETER, END_LINK, DIRECTION_IN, DIRECTION_OUT}
 use Rattle.module_format.specs.declared.fact.Step.{Step}
 use Rattle.module_format.specs.declared.fact.Step.TheVariants as steps
 use Rattle.module_format.specs.declared.fact.Fact.{Fact}
@@ -43,12 +46,12 @@ step_size steps.Word = 4
 
 -- a tag, and what belongs to it
 unfoldable pub fact_bytes : Fact → List ℕ
-fact_bytes facts.Unknown = 0 ∷ []
-fact_bytes (facts.Number lo hi) = 1 ∷ (i32_bytes lo ++ i32_bytes hi)
-fact_bytes (facts.Pointer region lo hi step) = 2 ∷ (u16_bytes region ++ i32_bytes lo ++ i32_bytes hi ++ step_size step ∷ [])
-fact_bytes (facts.CodeAddress offset) = 3 ∷ u32_bytes offset
-fact_bytes (facts.Loop base count weight) = 4 ∷ (i32_bytes base ++ u32_bytes count ++ u64_bytes weight)
-fact_bytes facts.ReturnAddress = 5 ∷ []
+fact_bytes facts.Unknown = TAG_UNKNOWN ∷ []
+fact_bytes (facts.Number lo hi) = TAG_NUMBER ∷ (i32_bytes lo ++ i32_bytes hi)
+fact_bytes (facts.Pointer region lo hi step) = TAG_POINTER ∷ (u16_bytes region ++ i32_bytes lo ++ i32_bytes hi ++ step_size step ∷ [])
+fact_bytes (facts.CodeAddress offset) = TAG_CODE_ADDRESS ∷ u32_bytes offset
+fact_bytes (facts.Loop base count weight) = TAG_LOOP ∷ (i32_bytes base ++ u32_bytes count ++ u64_bytes weight)
+fact_bytes facts.ReturnAddress = TAG_RETURN_ADDRESS ∷ []
 
 unfoldable pub entry_bytes : Entry → List ℕ
 entry_bytes e = i32_bytes e.word ++ u32_bytes e.span ++ fact_bytes e.fact
@@ -68,10 +71,10 @@ range_bytes versions.Two lo hi = i32_bytes lo ++ i32_bytes hi
 
 -- a kind, and what belongs to it
 abbrev pub kind_bytes : Version → ParameterKind → List ℕ
-kind_bytes v (kinds.Value lo hi) = 0 ∷ (i32_bytes lo ++ i32_bytes hi)
-kind_bytes v (kinds.ReadRegion size lo hi) = 1 ∷ (u32_bytes size ++ range_bytes v lo hi)
-kind_bytes v (kinds.WrittenRegion size lo hi) = 2 ∷ (u32_bytes size ++ range_bytes v lo hi)
-kind_bytes v (kinds.Channels count len ends) = 3 ∷ (u32_bytes count ++ u32_bytes len ++ ends.0 ∷ [])
+kind_bytes v (kinds.Value lo hi) = KIND_VALUE ∷ (i32_bytes lo ++ i32_bytes hi)
+kind_bytes v (kinds.ReadRegion size lo hi) = KIND_READ_REGION ∷ (u32_bytes size ++ range_bytes v lo hi)
+kind_bytes v (kinds.WrittenRegion size lo hi) = KIND_WRITTEN_REGION ∷ (u32_bytes size ++ range_bytes v lo hi)
+kind_bytes v (kinds.Channels count len ends) = KIND_CHANNELS ∷ (u32_bytes count ++ u32_bytes len ++ ends.0 ∷ [])
 
 unfoldable pub parameter_bytes : Version → Parameter → List ℕ
 parameter_bytes v p = u16_bytes p.word ++ kind_bytes v p.kind
@@ -91,13 +94,13 @@ interval_bytes interval = i32_bytes interval.lo ++ i32_bytes interval.hi
 
 -- a kind, a number and an element, which is 0 but for a parameter's channels
 abbrev pub end_kind_bytes : EndKind → List ℕ
-end_kind_bytes (ends.FrameWord word) = 0 ∷ (i32_bytes word ++ u32_bytes 0)
-end_kind_bytes (ends.Parameter number element) = 1 ∷ (i32_bytes number ++ u32_bytes element)
-end_kind_bytes (ends.Link link) = 2 ∷ (i32_bytes (pos link) ++ u32_bytes 0)
+end_kind_bytes (ends.FrameWord word) = END_FRAME_WORD ∷ (i32_bytes word ++ u32_bytes 0)
+end_kind_bytes (ends.Parameter number element) = END_PARAMETER ∷ (i32_bytes number ++ u32_bytes element)
+end_kind_bytes (ends.Link link) = END_LINK ∷ (i32_bytes (pos link) ++ u32_bytes 0)
 
 abbrev pub direction_byte : Direction → ℕ
-direction_byte directions.In = 1
-direction_byte directions.Out = 2
+direction_byte directions.In = DIRECTION_IN
+direction_byte directions.Out = DIRECTION_OUT
 
 unfoldable pub end_bytes : EndRow → List ℕ
 end_bytes e = end_kind_bytes e.kind ++ direction_byte e.direction ∷ []

@@ -2,23 +2,56 @@
 
 ghost use Rattle.std.specs.Prelude.{◌≡◌};
 ghost use Rattle.module_format.specs.declared.fault.ReadError.TheVariants.{Memory, Fault};
-ghost use Rattle.module_format.specs.Reading.{out_of_memory, fault_of};
+ghost use Rattle.module_format.specs.Reading.{number_of, fault, out_of_memory, fault_of};
 
 use std::alloc::{AllocError, AllocFailed};
 
-/// Fewer than four bytes, or another magic.
+/// A rule of the format that a file breaks.
+#[derive(Clone, Copy)]
+pub(crate) enum FormatFaultKind {
+    /// Fewer than four bytes, or another magic.
+    Magic,
+    /// The file ends within a field.
+    Truncated,
+    /// Rows or items that do not rise, or that overlap.
+    Order,
+    /// A value that is not allowed.
+    Range,
+    /// Bytes behind the last row.
+    LeftOver,
+    /// A number above a limit of the format.
+    Limit,
+}
+
+impl FormatFaultKind {
+    /// The number by which the fault is reported.
+    fn number(self) -> u8
+        ensures { result ≡ number_of self }
+    {
+        match self {
+            FormatFaultKind::Magic => MAGIC,
+            FormatFaultKind::Truncated => TRUNCATED,
+            FormatFaultKind::Order => ORDER,
+            FormatFaultKind::Range => RANGE,
+            FormatFaultKind::LeftOver => LEFT_OVER,
+            FormatFaultKind::Limit => LIMIT,
+        }
+    }
+}
+
+/// The number where a file has fewer than four bytes, or another magic.
 pub const MAGIC: u8 = 1;
-/// The file ends within a field.
+/// The number where a file ends within a field.
 pub const TRUNCATED: u8 = 2;
-/// Rows or items that do not rise, or that overlap.
+/// The number of rows or items that do not rise, or that overlap.
 pub const ORDER: u8 = 3;
-/// A value that is not allowed.
+/// The number of a value that is not allowed.
 pub const RANGE: u8 = 4;
-/// Bytes behind the last row.
+/// The number of bytes behind the last row.
 pub const LEFT_OVER: u8 = 5;
-/// A number above a limit of the format.
+/// The number of a value above a limit of the format.
 pub const LIMIT: u8 = 6;
-/// Memory ran out.
+/// The number where memory ran out.
 pub const MEMORY: u8 = 7;
 
 /// The fault where memory ran out.
@@ -36,6 +69,18 @@ pub struct FormatFault {
     /// Where: the first byte of the field. For `TRUNCATED` it is the file's length, for `LEFT_OVER`
     /// the first byte left over, for `MEMORY` 0.
     pub offset: usize,
+}
+
+impl FormatFault {
+    /// What is reported of a fault at an offset.
+    pub(crate) fn new(kind: FormatFaultKind, offset: usize) -> FormatFault
+        ensures { result ≡ fault kind offset }
+    {
+        FormatFault {
+            number: kind.number(),
+            offset,
+        }
+    }
 }
 
 impl From<ReadError> for FormatFault {

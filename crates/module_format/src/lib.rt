@@ -12,10 +12,12 @@ mod offsets;
 mod places;
 mod reading;
 mod row_owners;
+mod row_sizes;
 mod rows;
 mod rules;
 mod stack;
 mod tables;
+mod tags;
 mod writing;
 
 pub use contexts::{Context, Contexts};

@@ -1,6 +1,7 @@
 //! From bytes to tables.
 
 mod branches;
+mod cursor;
 mod ends;
 mod facts;
 mod fields;

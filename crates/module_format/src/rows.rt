@@ -4,6 +4,7 @@ ghost use Rattle.std.specs.Prelude.{⊤, [], ◌∷◌, codes};
 
 use crate::fact::Fact;
 use crate::stack::Stack;
+use crate::tags::{DIRECTION_IN, DIRECTION_OUT, END_FRAME_WORD, END_LINK, END_PARAMETER};
 use bitflags::{Flag, Flags, bitflag_items};
 use smallvec::SmallVec;
 
@@ -190,7 +191,7 @@ impl EndKey {
         ensures { result ≡ first_key }
     {
         EndKey {
-            kind: 0,
+            kind: END_FRAME_WORD,
             number: i32::MIN,
             element: 0,
             direction: 0,
@@ -223,13 +224,13 @@ impl EndRow {
         ensures { result ≡ key_of self.now }
     {
         let direction = match self.direction {
-            Direction::In => 1,
-            Direction::Out => 2,
+            Direction::In => DIRECTION_IN,
+            Direction::Out => DIRECTION_OUT,
         };
         let (kind, number, element) = match self.kind {
-            EndKind::FrameWord(word) => (0, word, 0),
-            EndKind::Parameter { number, element } => (1, number, element),
-            EndKind::Link(link) => (2, i32::from(link), 0),
+            EndKind::FrameWord(word) => (END_FRAME_WORD, word, 0),
+            EndKind::Parameter { number, element } => (END_PARAMETER, number, element),
+            EndKind::Link(link) => (END_LINK, i32::from(link), 0),
         };
         EndKey {
             kind,

@@ -1,6 +1,6 @@
 //! Branches of PAR rows.
 
-ghost use Rattle.std.specs.Prelude.{◌≡◌, ◌==◌, ◌++◌, ℕ, ℤ, List, length, map, IfOk};
+ghost use Rattle.std.specs.Prelude.{◌≡◌, ⊤, ◌++◌, [], ◌∷◌, ℕ, ℤ, List, None, map};
 ghost use Rattle.std.specs.List.{list_any};
 ghost use Rattle.module_format.specs.Contents.{Branch, branch_of};
 ghost use Rattle.module_format.specs.declared.rows.Interval.{Interval};
@@ -16,7 +16,7 @@ ghost use Rattle.module_format.specs.Pars.{
   first_key,
   meet,
 };
-ghost use Rattle.module_format.specs.Reading.{Gives, list_at};
+ghost use Rattle.module_format.specs.Reading.{list_at};
 ghost use Rattle.module_format.specs.ReadingPars.{
   interval_end_at,
   words_at,
@@ -27,12 +27,13 @@ ghost use Rattle.module_format.specs.ReadingPars.{
   branch_counts_at,
   branch_at,
 };
+ghost use Rattle.module_format.specs.Taking.{Takes, MayRunOut};
 
-use crate::fault::{ORDER, RANGE, ReadError};
+use crate::fault::FormatFaultKind;
+use crate::reading::cursor::Cursor;
 use crate::reading::ends::EndRows;
-use crate::reading::facts::first_word_at;
-use crate::reading::fields::{fault, i32_at, in_code_at, place, u16_at};
-use crate::reading::list::{Reader, list_at};
+use crate::reading::facts::{LEAST_WORD, read_first_word};
+use crate::reading::list::{Reader, fill};
 use crate::reading::taken::Taken;
 use crate::rows::{BranchRow, EndKey, EndRow, Interval};
 use smallvec::SmallVec;
@@ -49,60 +50,61 @@ pub struct BranchCounts {
 }
 
 /// The end of an interval, which is not empty.
-#[tactic(auto, unfolding(crate::specs::ReadingPars::interval_end_at, crate::specs::Reading::and_then))]
-fn interval_end_at(size: usize, lo: i32, rest: &[u8]) -> Result<(i32, &[u8]), ReadError>
-    ensures { Gives (λ x. (x.0, x.1.now)) result (interval_end_at size lo rest.now) }
+#[tactic(auto, unfolding(crate::specs::ReadingPars::interval_end_at, crate::specs::Reading::tested))]
+fn read_interval_end(lo: i32, from: &mut Cursor<'_>) -> i32
+    ensures { Takes (λ size. interval_end_at size lo) from.old result from.new }
 {
-    let (hi, behind) = i32_at(size, rest)?;
-    if hi <= lo {
-        return Err(fault(RANGE, place(size, rest)));
-    }
-    Ok((hi, behind))
+    let at = from.place();
+    let hi = from.i32();
+    from.check(at, lo < hi, FormatFaultKind::Range);
+    hi
 }
 
 /// Frame words from `low` on.
 #[tactic(auto, unfolding(crate::specs::ReadingPars::words_at, crate::specs::Reading::and_then))]
-fn words_at(size: usize, low: i64, rest: &[u8]) -> Result<(Interval, &[u8]), ReadError>
-    ensures { Gives (λ x. (x.0, x.1.now)) result (words_at size low rest.now) }
+fn read_words(low: i64, from: &mut Cursor<'_>) -> Interval
+    ensures { Takes (λ size. words_at size low) from.old result from.new }
 {
-    let (lo, rest) = first_word_at(size, low, rest)?;
-    let (hi, rest) = interval_end_at(size, lo, rest)?;
-    Ok((Interval { lo, hi }, rest))
+    let lo = read_first_word(low, from);
+    let hi = read_interval_end(lo, from);
+    Interval { lo, hi }
 }
 
 /// Intervals that are written, from word `low` on.
 #[derive(Drop)]
 struct Writes {
-    size: usize,
     low: i64,
 }
 
 impl Reader for Writes {
     type Item = Interval;
 
-    ghost State = { ℕ × ℤ };
+    ghost Fixed = { ⊤ };
 
-    ghost state = { λ r. (r.size, r.low) };
+    ghost fixed = { λ r. tt };
+
+    ghost State = { ℤ };
+
+    ghost state = { λ r. r.low };
 
     ghost Value = { Interval };
 
     ghost view = { λ i. i };
 
-    ghost reads = { λ s. words_at s.0 s.1 };
+    ghost reads = { λ f. words_at };
 
-    ghost behind = { λ s i. (s.0, behind_interval s.1 i) };
+    ghost behind = { behind_interval };
 
-    fn read<'a>(&mut self, rest: &'a [u8]) -> Result<(Interval, &'a [u8]), ReadError> {
-        let (interval, rest) = words_at(self.size, self.low, rest)?;
+    fn read(&mut self, from: &mut Cursor<'_>) -> Interval {
+        let interval = read_words(self.low, from);
         self.low = i64::from(interval.hi);
-        Ok((interval, rest))
+        interval
     }
 }
 
 /// Intervals that are read, from word `low` on, none of them with a word that is written.
 #[derive(Drop)]
 struct Reads<'w> {
-    size: usize,
     writes: &'w [Interval],
     low: i64,
     ghost sorted: { ∥ InOrder IntervalKeeps behind_interval least_word writes.now ∥₁ },
@@ -111,26 +113,33 @@ struct Reads<'w> {
 impl Reader for Reads<'_> {
     type Item = Interval;
 
-    ghost State = { ℕ × List Interval × ℤ };
+    ghost Fixed = { List Interval };
 
-    ghost state = { λ r. (r.size, r.writes.now, r.low) };
+    ghost fixed = { λ r. r.writes.now };
+
+    ghost State = { ℤ };
+
+    ghost state = { λ r. r.low };
 
     ghost Value = { Interval };
 
     ghost view = { λ i. i };
 
-    ghost reads = { λ s. read_words_at s.0 s.1 s.2 };
+    ghost reads = { λ writes size. read_words_at size writes };
 
-    ghost behind = { λ s i. (s.0, s.1, behind_interval s.2 i) };
+    ghost behind = { behind_interval };
 
-    #[tactic(auto, unfolding(crate::specs::ReadingPars::read_words_at, crate::specs::Reading::and_then))]
-    fn read<'a>(&mut self, rest: &'a [u8]) -> Result<(Interval, &'a [u8]), ReadError> {
-        let (interval, behind) = words_at(self.size, self.low, rest)?;
-        if meets_any(&interval, self.writes) {
-            return Err(fault(ORDER, place(self.size, rest)));
-        }
+    #[tactic(auto, unfolding(crate::specs::ReadingPars::read_words_at, crate::specs::Reading::tested))]
+    fn read(&mut self, from: &mut Cursor<'_>) -> Interval {
+        let at = from.place();
+        let interval = read_words(self.low, from);
+        from.check(
+            at,
+            !meets_any(&interval, self.writes),
+            FormatFaultKind::Order,
+        );
         self.low = i64::from(interval.hi);
-        Ok((interval, behind))
+        interval
     }
 }
 
@@ -149,119 +158,105 @@ pub fn meets_any(interval: &Interval, others: &[Interval]) -> bool
 /// Numbers of parameters from `low` on.
 #[derive(Drop)]
 struct ParameterNumbers {
-    size: usize,
     low: u32,
 }
 
 impl Reader for ParameterNumbers {
     type Item = u16;
 
-    ghost State = { ℕ × ℕ };
+    ghost Fixed = { ⊤ };
 
-    ghost state = { λ r. (r.size, r.low) };
+    ghost fixed = { λ r. tt };
+
+    ghost State = { ℕ };
+
+    ghost state = { λ r. r.low };
 
     ghost Value = { ℕ };
 
     ghost view = { λ n. n };
 
-    ghost reads = { λ s. parameter_number_at s.0 s.1 };
+    ghost reads = { λ f. parameter_number_at };
 
-    ghost behind = { λ s n. (s.0, behind_number s.1 n) };
+    ghost behind = { behind_number };
 
-    #[tactic(auto, unfolding(crate::specs::ReadingPars::parameter_number_at, crate::specs::Reading::and_then))]
-    fn read<'a>(&mut self, rest: &'a [u8]) -> Result<(u16, &'a [u8]), ReadError> {
-        let (number, behind) = u16_at(self.size, rest)?;
-        if u32::from(number) < self.low {
-            return Err(fault(ORDER, place(self.size, rest)));
-        }
+    #[tactic(auto, unfolding(crate::specs::ReadingPars::parameter_number_at, crate::specs::Reading::tested))]
+    fn read(&mut self, from: &mut Cursor<'_>) -> u16 {
+        let at = from.place();
+        let number = from.u16();
+        from.check(at, self.low <= u32::from(number), FormatFaultKind::Order);
         self.low = u32::from(number) + 1;
-        Ok((number, behind))
+        number
     }
 }
 
 /// So many intervals that are written.
-fn writes_at(
-    alloc: Global,
-    size: usize,
-    count: u16,
-    rest: &[u8],
-) -> Result<(SmallVec<Interval, 2>, &[u8]), ReadError>
-    ensures gives { Gives (λ x. (x.0.items, x.1.now)) result (list_at (words_at size) behind_interval count least_word rest.now) }
-    ensures rise { IfOk result (λ x. InOrder IntervalKeeps behind_interval least_word x.0.items) }
+fn read_writes(alloc: Global, count: u16, from: &mut Cursor<'_>) -> SmallVec<Interval, 2>
+    ensures takes { Takes (λ size. list_at (words_at size) behind_interval count least_word) from.old result.items from.new }
+    ensures rise { from.new.failure ≡ None → InOrder IntervalKeeps behind_interval least_word result.items }
 {
-    let mut writes = Writes {
-        size,
-        low: i64::from(i32::MIN),
-    };
-    list_at(&mut writes, u32::from(count), SmallVec::new(alloc), rest)
+    let mut reader = Writes { low: LEAST_WORD };
+    let mut writes = SmallVec::new(alloc);
+    fill(&mut reader, u32::from(count), &mut writes, from);
+    writes
 }
 
 /// So many intervals that are read.
-fn reads_at<'a>(
+fn read_reads(
     alloc: Global,
-    size: usize,
     count: u16,
     writes: &[Interval],
-    rest: &'a [u8],
-) -> Result<(SmallVec<Interval, 2>, &'a [u8]), ReadError>
-    requires { InOrder IntervalKeeps behind_interval least_word writes.now }
-    ensures { Gives (λ x. (x.0.items, x.1.now)) result (list_at (read_words_at size writes.now) behind_interval count least_word rest.now) }
+    from: &mut Cursor<'_>,
+) -> SmallVec<Interval, 2>
+    requires { from.old.failure ≡ None → InOrder IntervalKeeps behind_interval least_word writes.now }
+    ensures { Takes (λ size. list_at (read_words_at size writes.now) behind_interval count least_word) from.old result.items from.new }
 {
-    let mut reads = Reads {
-        size,
+    let mut reads = SmallVec::new(alloc);
+    if from.has_failed() {
+        return reads;
+    }
+    let mut reader = Reads {
         writes,
-        low: i64::from(i32::MIN),
+        low: LEAST_WORD,
     };
-    list_at(&mut reads, u32::from(count), SmallVec::new(alloc), rest)
+    fill(&mut reader, u32::from(count), &mut reads, from);
+    reads
 }
 
 /// So many numbers of parameters.
-fn parameter_numbers_at(
-    alloc: Global,
-    size: usize,
-    count: u16,
-    rest: &[u8],
-) -> Result<(SmallVec<u16, 4>, &[u8]), ReadError>
-    ensures { Gives (λ x. (x.0.items, x.1.now)) result (list_at (parameter_number_at size) behind_number count 0 rest.now) }
+fn read_parameter_numbers(alloc: Global, count: u16, from: &mut Cursor<'_>) -> SmallVec<u16, 4>
+    ensures { Takes (λ size. list_at (parameter_number_at size) behind_number count 0) from.old result.items from.new }
 {
-    let mut numbers = ParameterNumbers { size, low: 0 };
-    list_at(&mut numbers, u32::from(count), SmallVec::new(alloc), rest)
+    let mut reader = ParameterNumbers { low: 0 };
+    let mut numbers = SmallVec::new(alloc);
+    fill(&mut reader, u32::from(count), &mut numbers, from);
+    numbers
 }
 
 /// So many ends.
-fn ends_at(
-    alloc: Global,
-    size: usize,
-    count: u16,
-    rest: &[u8],
-) -> Result<(Vec<EndRow>, &[u8]), ReadError>
-    ensures { Gives (λ x. (x.0.items, x.1.now)) result (list_at (end_at size) behind_end count first_key rest.now) }
+fn read_ends(alloc: Global, count: u16, from: &mut Cursor<'_>) -> Vec<EndRow>
+    ensures { Takes (λ size. list_at (end_at size) behind_end count first_key) from.old result.items from.new }
 {
-    let mut ends = EndRows {
-        size,
+    let mut reader = EndRows {
         before: EndKey::first(),
     };
-    list_at(&mut ends, u32::from(count), Vec::new(alloc), rest)
+    let mut ends = Vec::new(alloc);
+    fill(&mut reader, u32::from(count), &mut ends, from);
+    ends
 }
 
 /// How many intervals, parameters and ends a branch has.
 #[tactic(auto, unfolding(crate::specs::ReadingPars::branch_counts_at, crate::specs::Reading::and_then))]
-fn branch_counts_at(size: usize, rest: &[u8]) -> Result<(BranchCounts, &[u8]), ReadError>
-    ensures { Gives (λ x. (x.0, x.1.now)) result (branch_counts_at size rest.now) }
+fn read_branch_counts(from: &mut Cursor<'_>) -> BranchCounts
+    ensures { Takes branch_counts_at from.old result from.new }
 {
-    let (writes, rest) = u16_at(size, rest)?;
-    let (reads, rest) = u16_at(size, rest)?;
-    let (written_parameters, rest) = u16_at(size, rest)?;
-    let (read_parameters, rest) = u16_at(size, rest)?;
-    let (ends, rest) = u16_at(size, rest)?;
-    let counts = BranchCounts {
-        writes,
-        reads,
-        written_parameters,
-        read_parameters,
-        ends,
-    };
-    Ok((counts, rest))
+    BranchCounts {
+        writes: from.u16(),
+        reads: from.u16(),
+        written_parameters: from.u16(),
+        read_parameters: from.u16(),
+        ends: from.u16(),
+    }
 }
 
 /// Branches in so much code, the first of them behind an entry at `low`. None begins where one begins
@@ -269,7 +264,6 @@ fn branch_counts_at(size: usize, rest: &[u8]) -> Result<(BranchCounts, &[u8]), R
 #[derive(Drop)]
 pub(crate) struct Branches {
     pub alloc: Global,
-    pub size: usize,
     pub code_len: u32,
     pub low: u32,
     pub taken: Taken,
@@ -277,59 +271,53 @@ pub(crate) struct Branches {
 
 impl Branches {
     /// The entry of the next branch.
-    #[tactic(auto, unfolding(crate::specs::ReadingPars::branch_entry_at, crate::specs::Reading::and_then))]
-    fn entry_at<'a>(&self, rest: &'a [u8]) -> Result<(u32, &'a [u8]), ReadError>
-        ensures { Gives (λ x. (x.0, x.1.now)) result (branch_entry_at self.now.size self.now.code_len (record { low = self.now.low; entries = self.now.taken.entries.items }) rest.now) }
+    #[tactic(auto, unfolding(crate::specs::ReadingPars::branch_entry_at, crate::specs::Reading::tested))]
+    fn entry(&self, from: &mut Cursor<'_>) -> u32
+        ensures { Takes (λ size. branch_entry_at size self.now.code_len (record { low = self.now.low; entries = self.now.taken.entries.items })) from.old result from.new }
     {
-        let (entry, behind) = in_code_at(self.size, self.code_len, rest)?;
-        if entry <= self.low {
-            return Err(fault(ORDER, place(self.size, rest)));
-        }
-        if self.taken.contains(entry) {
-            return Err(fault(RANGE, place(self.size, rest)));
-        }
-        Ok((entry, behind))
+        let at = from.place();
+        let entry = from.in_code(self.code_len);
+        from.check(at, self.low < entry, FormatFaultKind::Order);
+        from.check(at, !self.taken.contains(entry), FormatFaultKind::Range);
+        entry
     }
 }
 
 impl Reader for Branches {
     type Item = BranchRow;
 
-    ghost State = { ℕ × ℕ × Before };
+    ghost Fixed = { ℕ };
 
-    ghost state = { λ r. (r.size, r.code_len, record { low = r.low; entries = r.taken.entries.items }) };
+    ghost fixed = { λ r. r.code_len };
+
+    ghost State = { Before };
+
+    ghost state = { λ r. record { low = r.low; entries = r.taken.entries.items } };
 
     ghost Value = { Branch };
 
     ghost view = { branch_of };
 
-    ghost reads = { λ s. branch_at s.0 s.1 s.2 };
+    ghost reads = { λ code_len size. branch_at size code_len };
 
-    ghost behind = { λ s b. (s.0, s.1, behind_branch s.2 b) };
+    ghost behind = { behind_branch };
 
     #[tactic(auto, unfolding(crate::specs::ReadingPars::branch_at, crate::specs::Reading::and_then))]
-    fn read<'a>(&mut self, rest: &'a [u8]) -> Result<(BranchRow, &'a [u8]), ReadError> {
-        let (entry, rest) = self.entry_at(rest)?;
-        let (workspace, rest) = i32_at(self.size, rest)?;
-        let (counts, rest) = branch_counts_at(self.size, rest)?;
-        let (writes, rest) = writes_at(self.alloc, self.size, counts.writes, rest)?;
-        let (reads, rest) = reads_at(self.alloc, self.size, counts.reads, &writes, rest)?;
-        let (written_parameters, rest) = parameter_numbers_at(
+    fn read(&mut self, from: &mut Cursor<'_>) -> BranchRow {
+        let entry = self.entry(from);
+        let workspace = from.i32();
+        let counts = read_branch_counts(from);
+        let writes = read_writes(self.alloc, counts.writes, from);
+        let reads = read_reads(self.alloc, counts.reads, &writes, from);
+        let written_parameters = read_parameter_numbers(
             self.alloc,
-            self.size,
             counts.written_parameters,
-            rest,
-        )?;
-        let (read_parameters, rest) = parameter_numbers_at(
-            self.alloc,
-            self.size,
-            counts.read_parameters,
-            rest,
-        )?;
-        let (ends, rest) = ends_at(self.alloc, self.size, counts.ends, rest)?;
-        self.low = 0;
-        self.taken.add(entry)?;
-        let row = BranchRow {
+            from,
+        );
+        let read_parameters = read_parameter_numbers(self.alloc, counts.read_parameters, from);
+        let ends = read_ends(self.alloc, counts.ends, from);
+        self.take(entry, from);
+        BranchRow {
             entry,
             workspace,
             writes,
@@ -337,25 +325,35 @@ impl Reader for Branches {
             written_parameters,
             read_parameters,
             ends,
-        };
-        Ok((row, rest))
+        }
     }
 }
 
 impl Branches {
-    /// So many branches. Behind which entry the next row's first one stands is the caller's to set.
-    pub fn branches_at<'a>(
-        &mut self,
-        count: u16,
-        rest: &'a [u8],
-    ) -> Result<(Vec<BranchRow>, &'a [u8]), ReadError>
-        ensures gives { Gives (λ x. (map branch_of x.0.items, x.1.now)) result
-            (list_at (branch_at self.old.size self.old.code_len) behind_branch count
-            (record { low = self.old.low; entries = self.old.taken.entries.items }) rest.now) }
-        ensures taken { IfOk result (λ x. self.new.taken.entries.items ≡ self.old.taken.entries.items ++ entries_of (map branch_of x.0.items)) }
-        ensures same { IfOk result (λ _. (self.new.size ≡ self.old.size) × (self.new.code_len ≡ self.old.code_len)) }
+    /// Adds the entry of a branch to those that are taken.
+    fn take(&mut self, entry: u32, from: &mut Cursor<'_>)
+        ensures memory { MayRunOut from.old from.new }
+        ensures taken { from.new.failure ≡ None → (self.new.low ≡ 0) × (self.new.taken.entries.items ≡ self.old.taken.entries.items ++ entry ∷ []) }
+        ensures same { self.new.code_len ≡ self.old.code_len }
     {
-        let branches = Vec::new(self.alloc);
-        list_at(self, u32::from(count), branches, rest)
+        if from.has_failed() {
+            return;
+        }
+        self.low = 0;
+        if self.taken.add(entry).is_err() {
+            from.run_out_of_memory();
+        }
+    }
+
+    /// So many branches. Behind which entry the next row's first one stands is the caller's to set.
+    pub fn branches(&mut self, count: u16, from: &mut Cursor<'_>) -> Vec<BranchRow>
+        ensures takes { Takes (λ size. list_at (branch_at size self.old.code_len) behind_branch count
+            (record { low = self.old.low; entries = self.old.taken.entries.items })) from.old (map branch_of result.items) from.new }
+        ensures taken { from.new.failure ≡ None → self.new.taken.entries.items ≡ self.old.taken.entries.items ++ entries_of (map branch_of result.items) }
+        ensures same { self.new.code_len ≡ self.old.code_len }
+    {
+        let mut branches = Vec::new(self.alloc);
+        fill(self, u32::from(count), &mut branches, from);
+        branches
     }
 }

@@ -1,9 +1,8 @@
 //! Facts and entries.
 
-ghost use Rattle.std.specs.Prelude.{◌≡◌, ℕ, ℤ, length};
+ghost use Rattle.std.specs.Prelude.{◌≡◌, ℕ, ℤ};
 ghost use Rattle.module_format.specs.declared.rows.Entry.{Entry};
 ghost use Rattle.module_format.specs.Facts.{end_of, behind_entry};
-ghost use Rattle.module_format.specs.Reading.{Gives};
 ghost use Rattle.module_format.specs.ReadingRows.{
   range_at,
   step_at,
@@ -20,163 +19,169 @@ ghost use Rattle.module_format.specs.ReadingRows.{
   entries_at,
   registers_at,
 };
+ghost use Rattle.module_format.specs.Taking.{Takes};
 
 use crate::fact::{Fact, Step};
-use crate::fault::{ORDER, RANGE, ReadError, TRUNCATED};
-use crate::reading::fields::{
-    at_most_at, byte_at, fault, i32_at, interval_at, place, u16_at, u32_at, u64_at,
-};
-use crate::reading::list::{Reader, list_at};
+use crate::fault::FormatFaultKind;
+use crate::reading::cursor::Cursor;
+use crate::reading::list::{Reader, fill};
 use crate::rows::Entry;
 use crate::rules::{is_loop_length, is_stepped};
 use crate::stack::Stack;
+use crate::tags::{
+    TAG_CODE_ADDRESS, TAG_LOOP, TAG_NUMBER, TAG_POINTER, TAG_RETURN_ADDRESS, TAG_UNKNOWN,
+};
 use std::alloc::Global;
+
+/// No word is below it.
+pub(crate) const LEAST_WORD: i64 = -2_147_483_648;
 
 /// The bounds of a number.
 #[tactic(auto, unfolding(crate::specs::ReadingRows::range_at, crate::specs::Reading::and_then))]
-fn range_at(size: usize, rest: &[u8]) -> Result<(Fact, &[u8]), ReadError>
-    ensures { Gives (λ x. (x.0, x.1.now)) result (range_at size rest.now) }
+fn read_range(from: &mut Cursor<'_>) -> Fact
+    ensures { Takes range_at from.old result from.new }
 {
-    let ((lo, hi), behind) = interval_at(size, rest)?;
-    Ok((Fact::Number { lo, hi }, behind))
+    let (lo, hi) = from.interval();
+    Fact::Number { lo, hi }
 }
 
 /// A step of 1, or of 4 where both bounds are multiples of it.
 #[tactic(auto, unfolding(crate::specs::ReadingRows::step_at, crate::specs::Reading::and_then))]
-fn step_at(size: usize, lo: i32, hi: i32, rest: &[u8]) -> Result<(Step, &[u8]), ReadError>
-    ensures { Gives (λ x. (x.0, x.1.now)) result (step_at size lo hi rest.now) }
+fn read_step(lo: i32, hi: i32, from: &mut Cursor<'_>) -> Step
+    ensures { Takes (λ size. step_at size lo hi) from.old result from.new }
 {
-    let (step, behind) = byte_at(size, rest)?;
+    let at = from.place();
+    let step = from.u8();
     if step == 1 {
-        return Ok((Step::Byte, behind));
+        return Step::Byte;
     }
-    if step == 4 && is_stepped(lo) && is_stepped(hi) {
-        return Ok((Step::Word, behind));
-    }
-    Err(fault(RANGE, place(size, rest)))
+    from.check(
+        at,
+        step == 4 && is_stepped(lo) && is_stepped(hi),
+        FormatFaultKind::Range,
+    );
+    Step::Word
 }
 
 /// A pointer's region, bounds and step.
 #[tactic(auto, unfolding(crate::specs::ReadingRows::pointer_at, crate::specs::Reading::and_then))]
-fn pointer_at(size: usize, rest: &[u8]) -> Result<(Fact, &[u8]), ReadError>
-    ensures { Gives (λ x. (x.0, x.1.now)) result (pointer_at size rest.now) }
+fn read_pointer(from: &mut Cursor<'_>) -> Fact
+    ensures { Takes pointer_at from.old result from.new }
 {
-    let (region, rest) = u16_at(size, rest)?;
-    let ((lo, hi), rest) = interval_at(size, rest)?;
-    let (step, rest) = step_at(size, lo, hi, rest)?;
-    let pointer = Fact::Pointer {
+    let region = from.u16();
+    let (lo, hi) = from.interval();
+    let step = read_step(lo, hi, from);
+    Fact::Pointer {
         region,
         lo,
         hi,
         step,
-    };
-    Ok((pointer, rest))
+    }
 }
 
 /// A code offset, the end of the code included.
 #[tactic(auto, unfolding(crate::specs::ReadingRows::code_address_at, crate::specs::Reading::and_then))]
-fn code_address_at(size: usize, code_len: u32, rest: &[u8]) -> Result<(Fact, &[u8]), ReadError>
-    ensures { Gives (λ x. (x.0, x.1.now)) result (code_address_at size code_len rest.now) }
+fn read_code_address(code_len: u32, from: &mut Cursor<'_>) -> Fact
+    ensures { Takes (λ size. code_address_at size code_len) from.old result from.new }
 {
-    let (offset, behind) = at_most_at(size, code_len, rest)?;
-    Ok((Fact::CodeAddress { offset }, behind))
+    let offset = from.at_most(code_len);
+    Fact::CodeAddress { offset }
 }
 
 /// How often a loop turns.
-#[tactic(auto, unfolding(crate::specs::ReadingRows::count_at, crate::specs::Reading::and_then))]
-fn count_at(size: usize, base: i32, rest: &[u8]) -> Result<(u32, &[u8]), ReadError>
-    ensures { Gives (λ x. (x.0, x.1.now)) result (count_at size base rest.now) }
+#[tactic(auto, unfolding(crate::specs::ReadingRows::count_at, crate::specs::Reading::tested))]
+fn read_turn_count(base: i32, from: &mut Cursor<'_>) -> u32
+    ensures { Takes (λ size. count_at size base) from.old result from.new }
 {
-    let (count, behind) = u32_at(size, rest)?;
-    if !is_loop_length(base, count) {
-        return Err(fault(RANGE, place(size, rest)));
-    }
-    Ok((count, behind))
+    let at = from.place();
+    let count = from.u32();
+    from.check(at, is_loop_length(base, count), FormatFaultKind::Range);
+    count
 }
 
 /// A loop's base, count and weight.
 #[tactic(auto, unfolding(crate::specs::ReadingRows::loop_at, crate::specs::Reading::and_then))]
-fn loop_at(size: usize, rest: &[u8]) -> Result<(Fact, &[u8]), ReadError>
-    ensures { Gives (λ x. (x.0, x.1.now)) result (loop_at size rest.now) }
+fn read_loop(from: &mut Cursor<'_>) -> Fact
+    ensures { Takes loop_at from.old result from.new }
 {
-    let (base, rest) = i32_at(size, rest)?;
-    let (count, rest) = count_at(size, base, rest)?;
-    let (weight, rest) = u64_at(size, rest)?;
-    let turns = Fact::Loop {
+    let base = from.i32();
+    let count = read_turn_count(base, from);
+    let weight = from.u64();
+    Fact::Loop {
         base,
         count,
         weight,
-    };
-    Ok((turns, rest))
+    }
 }
 
-/// A fact that registers and words have alike, by its tag.
-#[tactic(auto, unfolding(crate::specs::ReadingRows::fact_at, crate::specs::Reading::and_then))]
-fn fact_at(size: usize, code_len: u32, rest: &[u8]) -> Result<(Fact, &[u8]), ReadError>
-    ensures { Gives (λ x. (x.0, x.1.now)) result (fact_at size code_len rest.now) }
+/// A fact that registers and words have alike, behind its tag at an offset.
+#[tactic(auto, unfolding(crate::specs::ReadingRows::fact_at))]
+fn read_common_fact(code_len: u32, at: usize, tag: u8, from: &mut Cursor<'_>) -> Fact
+    ensures { Takes (λ size. fact_at size code_len at tag) from.old result from.new }
 {
-    match rest {
-        [] => Err(fault(TRUNCATED, size)),
-        [1, behind @ ..] => range_at(size, behind),
-        [2, behind @ ..] => pointer_at(size, behind),
-        [3, behind @ ..] => code_address_at(size, code_len, behind),
-        [_, ..] => Err(fault(RANGE, place(size, rest))),
+    match tag {
+        TAG_NUMBER => read_range(from),
+        TAG_POINTER => read_pointer(from),
+        TAG_CODE_ADDRESS => read_code_address(code_len, from),
+        _ => {
+            from.fail(at, FormatFaultKind::Range);
+            Fact::Unknown
+        }
     }
 }
 
 /// A fact of a register.
 #[tactic(auto, unfolding(crate::specs::ReadingRows::register_at, crate::specs::Reading::and_then))]
-fn register_at(size: usize, code_len: u32, rest: &[u8]) -> Result<(Fact, &[u8]), ReadError>
-    ensures { Gives (λ x. (x.0, x.1.now)) result (register_at size code_len rest.now) }
+fn read_register(code_len: u32, from: &mut Cursor<'_>) -> Fact
+    ensures { Takes (λ size. register_at size code_len) from.old result from.new }
 {
-    match rest {
-        [] => Err(fault(TRUNCATED, size)),
-        [0, behind @ ..] => Ok((Fact::Unknown, behind)),
-        [_, ..] => fact_at(size, code_len, rest),
+    let at = from.place();
+    let tag = from.u8();
+    match tag {
+        TAG_UNKNOWN => Fact::Unknown,
+        _ => read_common_fact(code_len, at, tag, from),
     }
 }
 
 /// A fact of so many frame words.
 #[tactic(auto, unfolding(crate::specs::ReadingRows::word_at, crate::specs::Reading::and_then))]
-fn word_at(size: usize, code_len: u32, span: u32, rest: &[u8]) -> Result<(Fact, &[u8]), ReadError>
-    ensures { Gives (λ x. (x.0, x.1.now)) result (word_at size code_len span rest.now) }
+fn read_word_fact(code_len: u32, span: u32, from: &mut Cursor<'_>) -> Fact
+    ensures { Takes (λ size. word_at size code_len span) from.old result from.new }
 {
-    match rest {
-        [] => Err(fault(TRUNCATED, size)),
-        [4, behind @ ..] if span == 2 => loop_at(size, behind),
-        [5, behind @ ..] if span == 1 => Ok((Fact::ReturnAddress, behind)),
-        [_, ..] => fact_at(size, code_len, rest),
+    let at = from.place();
+    let tag = from.u8();
+    match tag {
+        TAG_LOOP if span == 2 => read_loop(from),
+        TAG_RETURN_ADDRESS if span == 1 => Fact::ReturnAddress,
+        _ => read_common_fact(code_len, at, tag, from),
     }
 }
 
 /// A frame word that no item before has: those end at word `low`.
-#[tactic(auto, unfolding(crate::specs::ReadingRows::first_word_at, crate::specs::Reading::and_then))]
-pub fn first_word_at(size: usize, low: i64, rest: &[u8]) -> Result<(i32, &[u8]), ReadError>
-    ensures { Gives (λ x. (x.0, x.1.now)) result (first_word_at size low rest.now) }
+#[tactic(auto, unfolding(crate::specs::ReadingRows::first_word_at, crate::specs::Reading::tested))]
+pub fn read_first_word(low: i64, from: &mut Cursor<'_>) -> i32
+    ensures { Takes (λ size. first_word_at size low) from.old result from.new }
 {
-    let (word, behind) = i32_at(size, rest)?;
-    if i64::from(word) < low {
-        return Err(fault(ORDER, place(size, rest)));
-    }
-    Ok((word, behind))
+    let at = from.place();
+    let word = from.i32();
+    from.check(at, low <= i64::from(word), FormatFaultKind::Order);
+    word
 }
 
 /// A number of words or channels, at least 1.
-#[tactic(auto, unfolding(crate::specs::ReadingRows::span_at, crate::specs::Reading::and_then))]
-pub fn span_at(size: usize, rest: &[u8]) -> Result<(u32, &[u8]), ReadError>
-    ensures { Gives (λ x. (x.0, x.1.now)) result (span_at size rest.now) }
+#[tactic(auto, unfolding(crate::specs::ReadingRows::span_at, crate::specs::Reading::tested))]
+pub fn read_span(from: &mut Cursor<'_>) -> u32
+    ensures { Takes span_at from.old result from.new }
 {
-    let (span, behind) = u32_at(size, rest)?;
-    if span == 0 {
-        return Err(fault(RANGE, place(size, rest)));
-    }
-    Ok((span, behind))
+    let at = from.place();
+    let span = from.u32();
+    from.check(at, span != 0, FormatFaultKind::Range);
+    span
 }
 
 /// Entries of a label row.
 #[derive(Drop)]
 struct Entries {
-    size: usize,
     code_len: u32,
     low: i64,
 }
@@ -184,26 +189,30 @@ struct Entries {
 impl Reader for Entries {
     type Item = Entry;
 
-    ghost State = { ℕ × ℕ × ℤ };
+    ghost Fixed = { ℕ };
 
-    ghost state = { λ r. (r.size, r.code_len, r.low) };
+    ghost fixed = { λ r. r.code_len };
+
+    ghost State = { ℤ };
+
+    ghost state = { λ r. r.low };
 
     ghost Value = { Entry };
 
     ghost view = { λ e. e };
 
-    ghost reads = { λ s. entry_at s.0 s.1 s.2 };
+    ghost reads = { λ code_len size. entry_at size code_len };
 
-    ghost behind = { λ s e. (s.0, s.1, behind_entry s.2 e) };
+    ghost behind = { behind_entry };
 
     #[tactic(auto, unfolding(crate::specs::ReadingRows::entry_at, crate::specs::Reading::and_then))]
-    fn read<'a>(&mut self, rest: &'a [u8]) -> Result<(Entry, &'a [u8]), ReadError> {
-        let (word, rest) = first_word_at(self.size, self.low, rest)?;
-        let (span, rest) = span_at(self.size, rest)?;
-        let (fact, rest) = word_at(self.size, self.code_len, span, rest)?;
+    fn read(&mut self, from: &mut Cursor<'_>) -> Entry {
+        let word = read_first_word(self.low, from);
+        let span = read_span(from);
+        let fact = read_word_fact(self.code_len, span, from);
         let entry = Entry { word, span, fact };
         self.low = end_of(&entry);
-        Ok((entry, rest))
+        entry
     }
 }
 
@@ -216,34 +225,26 @@ pub fn end_of(entry: &Entry) -> i64
 
 /// The entries of a label row, behind their number.
 #[tactic(auto, unfolding(crate::specs::ReadingRows::entries_at, crate::specs::Reading::and_then))]
-pub fn entries_at(
-    alloc: Global,
-    size: usize,
-    code_len: u32,
-    rest: &[u8],
-) -> Result<(Vec<Entry>, &[u8]), ReadError>
-    ensures { Gives (λ x. (x.0.items, x.1.now)) result (entries_at size code_len rest.now) }
+pub fn read_entries(alloc: Global, code_len: u32, from: &mut Cursor<'_>) -> Vec<Entry>
+    ensures { Takes (λ size. entries_at size code_len) from.old result.items from.new }
 {
-    let (count, rest) = u16_at(size, rest)?;
-    let mut entries = Entries {
-        size,
+    let count = from.u16();
+    let mut reader = Entries {
         code_len,
-        low: i64::from(i32::MIN),
+        low: LEAST_WORD,
     };
-    list_at(&mut entries, u32::from(count), Vec::new(alloc), rest)
+    let mut entries = Vec::new(alloc);
+    fill(&mut reader, u32::from(count), &mut entries, from);
+    entries
 }
 
 /// The facts of A, B and C.
 #[tactic(auto, unfolding(crate::specs::ReadingRows::registers_at, crate::specs::Reading::and_then))]
-pub fn registers_at(
-    size: usize,
-    code_len: u32,
-    rest: &[u8],
-) -> Result<(Stack<Fact>, &[u8]), ReadError>
-    ensures { Gives (λ x. (x.0, x.1.now)) result (registers_at size code_len rest.now) }
+pub fn read_registers(code_len: u32, from: &mut Cursor<'_>) -> Stack<Fact>
+    ensures { Takes (λ size. registers_at size code_len) from.old result from.new }
 {
-    let (a, rest) = register_at(size, code_len, rest)?;
-    let (b, rest) = register_at(size, code_len, rest)?;
-    let (c, rest) = register_at(size, code_len, rest)?;
-    Ok((Stack { a, b, c }, rest))
+    let a = read_register(code_len, from);
+    let b = read_register(code_len, from);
+    let c = read_register(code_len, from);
+    Stack { a, b, c }
 }

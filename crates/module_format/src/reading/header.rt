@@ -2,7 +2,6 @@
 
 ghost use Rattle.std.specs.Prelude.{◌≡◌, length};
 ghost use Rattle.module_format.specs.Keeping.{max_code};
-ghost use Rattle.module_format.specs.Reading.{Gives};
 ghost use Rattle.module_format.specs.ReadingFile.{
   magic_at,
   sizes_at,
@@ -13,13 +12,14 @@ ghost use Rattle.module_format.specs.ReadingFile.{
   counts_at,
   header_at,
 };
+ghost use Rattle.module_format.specs.Taking.{Takes};
 
-use crate::fault::{MAGIC, ReadError};
+use crate::fault::FormatFaultKind;
 use crate::limits::{
     MAX_BUDGET, MAX_CODE, MAX_CONSTANTS, MAX_DATA_WORDS, MAX_LABELS, MAX_LONG_CODE, MAX_MESSAGE,
     MAX_PARS, MAX_PROCEDURES, MAX_TABLES,
 };
-use crate::reading::fields::{at_most_at, fault, limited_at, limited_u64_at, positive_at};
+use crate::reading::cursor::Cursor;
 use crate::tables::Version;
 
 /// The sizes and bounds at the header's front.
@@ -35,16 +35,17 @@ pub struct Sizes {
 
 /// The magic at the front of a file.
 #[tactic(auto, unfolding(crate::specs::ReadingFile::magic_at))]
-fn magic_at(bytes: &[u8]) -> Result<(Version, &[u8]), ReadError>
-    ensures { Gives (λ x. (x.0, x.1.now)) result (magic_at bytes.now) }
+fn read_magic(from: &mut Cursor<'_>) -> Version
+    ensures { Takes (λ size. magic_at) from.old result from.new }
 {
-    if bytes.starts_with(b"TPM1") {
-        return Ok((Version::One, &bytes[4..]));
+    if from.skip(b"TPM1") {
+        return Version::One;
     }
-    if bytes.starts_with(b"TPM2") {
-        return Ok((Version::Two, &bytes[4..]));
+    if from.skip(b"TPM2") {
+        return Version::Two;
     }
-    Err(fault(MAGIC, 0))
+    from.fail(0, FormatFaultKind::Magic);
+    Version::One
 }
 
 /// Bytes of code.
@@ -58,46 +59,45 @@ pub fn max_code(version: Version) -> u32
 }
 
 #[tactic(auto, unfolding(crate::specs::ReadingFile::sizes_at, crate::specs::Reading::and_then))]
-fn sizes_at(size: usize, version: Version, rest: &[u8]) -> Result<(Sizes, &[u8]), ReadError>
-    ensures { Gives (λ x. (x.0, x.1.now)) result (sizes_at size version rest.now) }
+fn read_sizes(version: Version, from: &mut Cursor<'_>) -> Sizes
+    ensures { Takes (λ size. sizes_at size version) from.old result from.new }
 {
-    let (code_len, rest) = positive_at(size, max_code(version), rest)?;
-    let (const_len, rest) = limited_at(size, MAX_CONSTANTS, rest)?;
-    let (data_words, rest) = positive_at(size, MAX_DATA_WORDS, rest)?;
-    let (base, rest) = at_most_at(size, data_words, rest)?;
-    let (budget, rest) = limited_u64_at(size, MAX_BUDGET, rest)?;
-    let (finish, rest) = at_most_at(size, code_len, rest)?;
-    let sizes = Sizes {
+    let code_len = from.positive(max_code(version));
+    let const_len = from.limited_u32(MAX_CONSTANTS);
+    let data_words = from.positive(MAX_DATA_WORDS);
+    let base = from.at_most(data_words);
+    let budget = from.limited_u64(MAX_BUDGET);
+    let finish = from.at_most(code_len);
+    Sizes {
         code_len,
         const_len,
         data_words,
         base,
         budget,
         finish,
-    };
-    Ok((sizes, rest))
+    }
 }
 
 /// The message lengths of four links.
 #[tactic(auto, unfolding(crate::specs::ReadingFile::four_lengths_at, crate::specs::Reading::and_then))]
-fn four_lengths_at(size: usize, rest: &[u8]) -> Result<((u32, u32, u32, u32), &[u8]), ReadError>
-    ensures { Gives (λ x. (x.0, x.1.now)) result (four_lengths_at size rest.now) }
+fn read_four_lengths(from: &mut Cursor<'_>) -> (u32, u32, u32, u32)
+    ensures { Takes four_lengths_at from.old result from.new }
 {
-    let (first, rest) = limited_at(size, MAX_MESSAGE, rest)?;
-    let (second, rest) = limited_at(size, MAX_MESSAGE, rest)?;
-    let (third, rest) = limited_at(size, MAX_MESSAGE, rest)?;
-    let (fourth, rest) = limited_at(size, MAX_MESSAGE, rest)?;
-    Ok(((first, second, third, fourth), rest))
+    let first = from.limited_u32(MAX_MESSAGE);
+    let second = from.limited_u32(MAX_MESSAGE);
+    let third = from.limited_u32(MAX_MESSAGE);
+    let fourth = from.limited_u32(MAX_MESSAGE);
+    (first, second, third, fourth)
 }
 
 /// Those of the output links and of the input links.
 #[tactic(auto, unfolding(crate::specs::ReadingFile::lengths_at, crate::specs::Reading::and_then))]
-fn lengths_at(size: usize, rest: &[u8]) -> Result<([u32; 8], &[u8]), ReadError>
-    ensures { Gives (λ x. (x.0, x.1.now)) result (lengths_at size rest.now) }
+fn read_lengths(from: &mut Cursor<'_>) -> [u32; 8]
+    ensures { Takes lengths_at from.old result from.new }
 {
-    let ((out0, out1, out2, out3), rest) = four_lengths_at(size, rest)?;
-    let ((in0, in1, in2, in3), rest) = four_lengths_at(size, rest)?;
-    Ok(([out0, out1, out2, out3, in0, in1, in2, in3], rest))
+    let (out0, out1, out2, out3) = read_four_lengths(from);
+    let (in0, in1, in2, in3) = read_four_lengths(from);
+    [out0, out1, out2, out3, in0, in1, in2, in3]
 }
 
 /// The numbers of rows, and the flag of version 2.
@@ -112,48 +112,41 @@ pub struct RowCounts {
 
 /// 0 or 1.
 #[tactic(auto, unfolding(crate::specs::ReadingFile::flag_at, crate::specs::Reading::and_then))]
-fn flag_at(size: usize, rest: &[u8]) -> Result<(bool, &[u8]), ReadError>
-    ensures { Gives (λ x. (x.0, x.1.now)) result (flag_at size rest.now) }
+fn read_flag(from: &mut Cursor<'_>) -> bool
+    ensures { Takes flag_at from.old result from.new }
 {
-    let (flag, behind) = at_most_at(size, 1, rest)?;
-    Ok((flag == 1, behind))
+    from.at_most(1) == 1
 }
 
 /// The flag and the number of table rows, which version 1 doesn't have.
 #[tactic(auto, unfolding(crate::specs::ReadingFile::extension_at, crate::specs::Reading::and_then))]
-fn extension_at(
-    size: usize,
-    version: Version,
-    rest: &[u8],
-) -> Result<((bool, u32), &[u8]), ReadError>
-    ensures { Gives (λ x. (x.0, x.1.now)) result (extension_at size version rest.now) }
+fn read_extension(version: Version, from: &mut Cursor<'_>) -> (bool, u32)
+    ensures { Takes (λ size. extension_at size version) from.old result from.new }
 {
     match version {
-        Version::One => Ok(((false, 0), rest)),
+        Version::One => (false, 0),
         Version::Two => {
-            let (flag, rest) = flag_at(size, rest)?;
-            let (count, rest) = limited_at(size, MAX_TABLES, rest)?;
-            Ok(((flag, count), rest))
+            let flag = read_flag(from);
+            (flag, from.limited_u32(MAX_TABLES))
         }
     }
 }
 
 #[tactic(auto, unfolding(crate::specs::ReadingFile::counts_at, crate::specs::Reading::and_then))]
-fn counts_at(size: usize, version: Version, rest: &[u8]) -> Result<(RowCounts, &[u8]), ReadError>
-    ensures { Gives (λ x. (x.0, x.1.now)) result (counts_at size version rest.now) }
+fn read_counts(version: Version, from: &mut Cursor<'_>) -> RowCounts
+    ensures { Takes (λ size. counts_at size version) from.old result from.new }
 {
-    let (procedures, rest) = limited_at(size, MAX_PROCEDURES, rest)?;
-    let (labels, rest) = limited_at(size, MAX_LABELS, rest)?;
-    let (pars, rest) = limited_at(size, MAX_PARS, rest)?;
-    let ((has_long_operations, table_rows), rest) = extension_at(size, version, rest)?;
-    let counts = RowCounts {
+    let procedures = from.limited_u32(MAX_PROCEDURES);
+    let labels = from.limited_u32(MAX_LABELS);
+    let pars = from.limited_u32(MAX_PARS);
+    let (has_long_operations, table_rows) = read_extension(version, from);
+    RowCounts {
         procedures,
         labels,
         pars,
         has_long_operations,
         table_rows,
-    };
-    Ok((counts, rest))
+    }
 }
 
 /// What stands before the code.
@@ -166,19 +159,18 @@ pub struct Header {
 }
 
 #[tactic(auto, unfolding(crate::specs::ReadingFile::header_at, crate::specs::Reading::and_then))]
-pub fn header_at(bytes: &[u8]) -> Result<(Header, &[u8]), ReadError>
-    ensures { Gives (λ x. (x.0, x.1.now)) result (header_at bytes.now) }
+pub fn read_header(from: &mut Cursor<'_>) -> Header
+    requires { from.old.size ≡ length from.old.rest.now }
+    ensures { Takes (λ size. header_at) from.old result from.new }
 {
-    let size = bytes.len();
-    let (version, rest) = magic_at(bytes)?;
-    let (sizes, rest) = sizes_at(size, version, rest)?;
-    let (lengths, rest) = lengths_at(size, rest)?;
-    let (counts, rest) = counts_at(size, version, rest)?;
-    let header = Header {
+    let version = read_magic(from);
+    let sizes = read_sizes(version, from);
+    let lengths = read_lengths(from);
+    let counts = read_counts(version, from);
+    Header {
         version,
         sizes,
         lengths,
         counts,
-    };
-    Ok((header, rest))
+    }
 }

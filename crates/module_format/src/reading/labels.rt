@@ -1,47 +1,42 @@
 //! Label rows.
 
-ghost use Rattle.std.specs.Prelude.{◌≡◌, ℕ, List, length, map};
+ghost use Rattle.std.specs.Prelude.{◌≡◌, ℕ, List, None, map};
 ghost use Rattle.module_format.specs.Contents.{Label, Procedure, label_of, procedure_of};
 ghost use Rattle.module_format.specs.Offsets.{EntriesRise};
 ghost use Rattle.module_format.specs.Facts.{behind_label};
-ghost use Rattle.module_format.specs.Reading.{Gives};
 ghost use Rattle.module_format.specs.ReadingRows.{label_offset_at, label_row_at, label_rows_at};
+ghost use Rattle.module_format.specs.Taking.{Takes};
 
-use crate::fault::{ORDER, RANGE, ReadError};
+use crate::fault::FormatFaultKind;
 use crate::offsets::is_entry;
-use crate::reading::facts::{entries_at, registers_at};
-use crate::reading::fields::{fault, i32_at, in_code_at, place, u16_at, u64_at};
-use crate::reading::list::{Reader, list_at};
+use crate::reading::cursor::Cursor;
+use crate::reading::facts::{read_entries, read_registers};
+use crate::reading::list::{Reader, fill};
 use crate::rows::{LabelRow, ProcedureRow};
 use std::alloc::Global;
 
 /// The offset of a label row, behind a row at offset `low`.
-#[tactic(auto, unfolding(crate::specs::ReadingRows::label_offset_at, crate::specs::Reading::and_then))]
-fn label_offset_at<'a>(
-    size: usize,
+#[tactic(auto, unfolding(crate::specs::ReadingRows::label_offset_at, crate::specs::Reading::tested))]
+fn read_label_offset(
     code_len: u32,
     procedures: &[ProcedureRow],
     low: u32,
-    rest: &'a [u8],
-) -> Result<(u32, &'a [u8]), ReadError>
+    from: &mut Cursor<'_>,
+) -> u32
     requires { EntriesRise procedures.now }
-    ensures { Gives (λ x. (x.0, x.1.now)) result (label_offset_at size code_len (map procedure_of procedures.now) low rest.now) }
+    ensures { Takes (λ size. label_offset_at size code_len (map procedure_of procedures.now) low) from.old result from.new }
 {
-    let (offset, behind) = in_code_at(size, code_len, rest)?;
-    if is_entry(procedures, offset) {
-        return Err(fault(RANGE, place(size, rest)));
-    }
-    if offset <= low {
-        return Err(fault(ORDER, place(size, rest)));
-    }
-    Ok((offset, behind))
+    let at = from.place();
+    let offset = from.in_code(code_len);
+    from.check(at, !is_entry(procedures, offset), FormatFaultKind::Range);
+    from.check(at, low < offset, FormatFaultKind::Order);
+    offset
 }
 
 /// Label rows of so much code with these procedures, behind a row at offset `low`.
 #[derive(Drop)]
 struct Labels<'p> {
     alloc: Global,
-    size: usize,
     code_len: u32,
     procedures: &'p [ProcedureRow],
     low: u32,
@@ -51,64 +46,64 @@ struct Labels<'p> {
 impl Reader for Labels<'_> {
     type Item = LabelRow;
 
-    ghost State = { ℕ × ℕ × List Procedure × ℕ };
+    ghost Fixed = { ℕ × List Procedure };
 
-    ghost state = { λ r. (r.size, r.code_len, map procedure_of r.procedures.now, r.low) };
+    ghost fixed = { λ r. (r.code_len, map procedure_of r.procedures.now) };
+
+    ghost State = { ℕ };
+
+    ghost state = { λ r. r.low };
 
     ghost Value = { Label };
 
     ghost view = { label_of };
 
-    ghost reads = { λ s. label_row_at s.0 s.1 s.2 s.3 };
+    ghost reads = { λ f size. label_row_at size f.0 f.1 };
 
-    ghost behind = { λ s row. (s.0, s.1, s.2, behind_label s.3 row) };
+    ghost behind = { behind_label };
 
     #[tactic(auto, unfolding(crate::specs::ReadingRows::label_row_at, crate::specs::Reading::and_then))]
-    fn read<'a>(&mut self, rest: &'a [u8]) -> Result<(LabelRow, &'a [u8]), ReadError> {
-        let (offset, rest) = label_offset_at(
-            self.size,
-            self.code_len,
-            self.procedures,
-            self.low,
-            rest,
-        )?;
-        let (context, rest) = u16_at(self.size, rest)?;
-        let (depth, rest) = i32_at(self.size, rest)?;
-        let (number, rest) = u64_at(self.size, rest)?;
-        let (stack, rest) = registers_at(self.size, self.code_len, rest)?;
-        let (entries, rest) = entries_at(self.alloc, self.size, self.code_len, rest)?;
+    fn read(&mut self, from: &mut Cursor<'_>) -> LabelRow {
+        let offset = read_label_offset(self.code_len, self.procedures, self.low, from);
+        let context = from.u16();
+        let depth = from.i32();
+        let number = from.u64();
+        let stack = read_registers(self.code_len, from);
+        let entries = read_entries(self.alloc, self.code_len, from);
         self.low = offset;
-        let row = LabelRow {
+        LabelRow {
             offset,
             context,
             depth,
             number,
             stack,
             entries,
-        };
-        Ok((row, rest))
+        }
     }
 }
 
 /// As many label rows as a number says.
 #[tactic(auto, unfolding(crate::specs::ReadingRows::label_rows_at))]
-pub fn label_rows_at<'a>(
+pub fn read_label_rows(
     alloc: Global,
-    size: usize,
     code_len: u32,
     procedures: &[ProcedureRow],
     count: u32,
-    bytes: &'a [u8],
-) -> Result<(Vec<LabelRow>, &'a [u8]), ReadError>
-    requires { EntriesRise procedures.now }
-    ensures { Gives (λ x. (map label_of x.0.items, x.1.now)) result (label_rows_at size code_len (map procedure_of procedures.now) count bytes.now) }
+    from: &mut Cursor<'_>,
+) -> Vec<LabelRow>
+    requires { from.old.failure ≡ None → EntriesRise procedures.now }
+    ensures { Takes (λ size. label_rows_at size code_len (map procedure_of procedures.now) count) from.old (map label_of result.items) from.new }
 {
-    let mut labels = Labels {
+    let mut labels = Vec::new(alloc);
+    if from.has_failed() {
+        return labels;
+    }
+    let mut reader = Labels {
         alloc,
-        size,
         code_len,
         procedures,
         low: 0,
     };
-    list_at(&mut labels, count, Vec::new(alloc), bytes)
+    fill(&mut reader, count, &mut labels, from);
+    labels
 }

@@ -3,6 +3,7 @@
 ghost use Rattle.std.specs.Prelude.{◌≡◌, ◌+◌, ◌^◌, ◌<◌, ◌≤◌, ⊤, ℕ, List, length, map, IfOk, Result};
 ghost use Rattle.std.specs.List.{flat_map};
 ghost use Rattle.module_format.specs.declared.fault.FormatFault.{FormatFault};
+ghost use Rattle.module_format.specs.declared.fault.FormatFaultKind.TheVariants.{Range};
 ghost use Rattle.module_format.specs.declared.rows.Entry.{Entry};
 ghost use Rattle.module_format.specs.Contents.{Label, label_of};
 ghost use Rattle.module_format.specs.Spelling.{fact_bytes, entry_bytes, label_bytes, par_bytes};
@@ -11,18 +12,16 @@ ghost use Rattle.module_format.specs.Late.{late_fact, late_entry, late_list, lat
 
 use crate::contexts::{Context, Contexts};
 use crate::fact::Fact;
-use crate::fault::{FormatFault, RANGE};
+use crate::fault::{FormatFault, FormatFaultKind};
 use crate::reading::facts::end_of;
+use crate::row_sizes::{COUNT_SIZE, ENTRY_HEAD_SIZE, LABEL_HEAD_SIZE, LABEL_OFFSET_SIZE, TAG_SIZE};
 use crate::rows::{Entry, LabelRow};
 
 /// What a field names is not there.
 pub(crate) fn not_there(offset: usize) -> FormatFault
-    ensures { result ≡ fault RANGE offset }
+    ensures { result ≡ fault Range offset }
 {
-    FormatFault {
-        number: RANGE,
-        offset,
-    }
+    FormatFault::new(FormatFaultKind::Range, offset)
 }
 
 /// An item of a list, which is looked at in a context.
@@ -89,7 +88,7 @@ fn late_fact(parameters: usize, at: usize, fact: &Fact) -> Result<(), FormatFaul
             if region < 2 || region - 2 < parameters {
                 return Ok(());
             }
-            Err(not_there(at + 1))
+            Err(not_there(at + TAG_SIZE))
         }
         _ => Ok(()),
     }
@@ -109,8 +108,8 @@ impl Late<Context> for Entry {
         if i64::from(self.word) < context.lo || end_of(self) > context.hi {
             return Err(not_there(at));
         }
-        late_fact(context.parameters, at + 8, &self.fact)?;
-        Ok(at + 8 + fact_size(&self.fact))
+        late_fact(context.parameters, at + ENTRY_HEAD_SIZE, &self.fact)?;
+        Ok(at + ENTRY_HEAD_SIZE + fact_size(&self.fact))
     }
 }
 
@@ -121,13 +120,13 @@ fn late_row(context: &Context, at: usize, row: &LabelRow) -> Result<usize, Forma
     ensures gives { Tells result (late_row context.now at (label_of row.now)) }
     ensures behind { IfOk result (λ end. end ≡ at + length (label_bytes (label_of row.now))) }
 {
-    let at_a = at + 18;
+    let at_a = at + LABEL_HEAD_SIZE;
     late_fact(context.parameters, at_a, &row.stack.a)?;
     let at_b = at_a + fact_size(&row.stack.a);
     late_fact(context.parameters, at_b, &row.stack.b)?;
     let at_c = at_b + fact_size(&row.stack.b);
     late_fact(context.parameters, at_c, &row.stack.c)?;
-    let at_entries = at_c + fact_size(&row.stack.c) + 2;
+    let at_entries = at_c + fact_size(&row.stack.c) + COUNT_SIZE;
     late_list(context, at_entries, &row.entries)
 }
 
@@ -144,7 +143,7 @@ impl Late<Contexts<'_, '_>> for LabelRow {
     fn late(&self, contexts: &Contexts<'_, '_>, at: usize) -> Result<usize, FormatFault> {
         match contexts.context(u32::from(self.context)) {
             Some(context) => late_row(&context, at, self),
-            None => Err(not_there(at + 4)),
+            None => Err(not_there(at + LABEL_OFFSET_SIZE)),
         }
     }
 }

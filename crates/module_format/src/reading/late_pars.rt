@@ -11,6 +11,10 @@ ghost use Rattle.module_format.specs.Late.{late_parameter, late_end, late_branch
 use crate::contexts::Contexts;
 use crate::fault::FormatFault;
 use crate::reading::late::{Late, late_list, not_there};
+use crate::row_sizes::{
+    BRANCH_HEAD_SIZE, CHANNEL_SIZE, END_SIZE, INTERVAL_SIZE, PAR_HEAD_SIZE, PARAMETER_NUMBER_SIZE,
+    TAG_SIZE,
+};
 use crate::rows::{BranchRow, EndKind, EndRow, ParRow, Parameter, ParameterKind};
 
 /// The parameters of a context.
@@ -65,7 +69,7 @@ impl<'p> Late<ContextParameters<'p>> for u16 {
         if !parameters.has_region(*self) {
             return Err(not_there(at));
         }
-        Ok(at + 2)
+        Ok(at + PARAMETER_NUMBER_SIZE)
     }
 }
 
@@ -81,9 +85,9 @@ impl<'p> Late<ContextParameters<'p>> for EndRow {
     #[tactic(auto, using(crate::proofs::Sizes::end_size), unfolding(crate::specs::Late::late_end))]
     fn late(&self, parameters: &ContextParameters<'p>, at: usize) -> Result<usize, FormatFault> {
         if !parameters.has_end(self.kind) {
-            return Err(not_there(at + 1));
+            return Err(not_there(at + TAG_SIZE));
         }
-        Ok(at + 10)
+        Ok(at + END_SIZE)
     }
 }
 
@@ -98,7 +102,10 @@ impl<'p> Late<ContextParameters<'p>> for BranchRow {
 
     #[tactic(auto, using(crate::proofs::Sizes::branch_size), unfolding(crate::specs::Late::late_branch, crate::specs::Reading::and_then))]
     fn late(&self, parameters: &ContextParameters<'p>, at: usize) -> Result<usize, FormatFault> {
-        let written = at + 18 + 8 * self.writes.len() + 8 * self.reads.len();
+        let written = at
+            + BRANCH_HEAD_SIZE
+            + INTERVAL_SIZE * self.writes.len()
+            + INTERVAL_SIZE * self.reads.len();
         let read = late_list(parameters, written, &self.written_parameters)?;
         let ends = late_list(parameters, read, &self.read_parameters)?;
         late_list(parameters, ends, &self.ends)
@@ -117,7 +124,7 @@ impl Late<Contexts<'_, '_>> for ParRow {
     #[tactic(auto, using(crate::proofs::Sizes::par_size), unfolding(crate::specs::Late::late_par))]
     fn late(&self, contexts: &Contexts<'_, '_>, at: usize) -> Result<usize, FormatFault> {
         let parameters = ContextParameters(contexts.parameters(u32::from(self.context)));
-        let branches = at + 18 + 8 * self.channels.len();
+        let branches = at + PAR_HEAD_SIZE + CHANNEL_SIZE * self.channels.len();
         late_list(&parameters, branches, &self.branches)
     }
 }

@@ -1,10 +1,11 @@
 //! Lists of items that stand one behind the other.
 
-ghost use Rattle.std.specs.Prelude.{◌≡◌, ◌++◌, ℕ, List, [], ◌∷◌, IfOk, Result, map};
+ghost use Rattle.std.specs.Prelude.{◌≡◌, ◌++◌, ℕ, List, [], ◌∷◌, IfOk, None, map};
 ghost use Rattle.module_format.specs.Order.{behind_all};
-ghost use Rattle.module_format.specs.Reading.{Read, Gives, list_at};
+ghost use Rattle.module_format.specs.Reading.{Read, list_at};
+ghost use Rattle.module_format.specs.Taking.{Takes};
 
-use crate::fault::ReadError;
+use crate::reading::cursor::Cursor;
 use smallvec::SmallVec;
 use std::alloc::{AllocFailed, Global};
 use std::default::MadeWith;
@@ -34,8 +35,13 @@ impl<T: MadeWith<Global> + Drop, const N: usize> Items<T> for SmallVec<T, N> {
 }
 
 /// Reads the items of a list, one behind the other.
-pub(crate) trait Reader: Drop {
+pub(crate) trait Reader {
     type Item: Drop;
+
+    /// What is the same for each item.
+    ghost Fixed: { Type 0 };
+
+    ghost fixed: { Self → Fixed };
 
     /// What is known of the items before.
     ghost State: { Type 0 };
@@ -47,33 +53,41 @@ pub(crate) trait Reader: Drop {
 
     ghost view: { Self.Item → Value };
 
-    /// What the item at the front of these bytes is.
-    ghost reads: { State → List ℕ → Read Value };
+    /// What the item at the front of these bytes is, in a file of this length.
+    ghost reads: { Fixed → ℕ → State → List ℕ → Read Value };
 
     /// What is known behind an item.
     ghost behind: { State → Value → State };
 
-    fn read<'a>(&mut self, rest: &'a [u8]) -> Result<(Self::Item, &'a [u8]), ReadError>
-        ensures gives { Gives (λ x. (view x.0, x.1.now)) result (reads (state self.old) rest.now) }
-        ensures next { IfOk result (λ x. state self.new ≡ behind (state self.old) (view x.0)) };
+    fn read(&mut self, from: &mut Cursor<'_>) -> Self::Item
+        ensures takes { Takes (λ size. reads (fixed self.old) size (state self.old)) from.old (view result) from.new }
+        ensures next { from.new.failure ≡ None → state self.new ≡ behind (state self.old) (view result) }
+        ensures same { fixed self.new ≡ fixed self.old };
 }
 
-/// As many items as a number says, added to a list that is empty.
-pub(crate) fn list_at<'a, R: Reader, L: Items<R::Item>>(
+/// Adds as many items as a number says to a list that is empty, as long as none fails.
+pub(crate) fn fill<R: Reader, L: Items<R::Item>>(
     reader: &mut R,
     count: u32,
-    mut items: L,
-    bytes: &'a [u8],
-) -> Result<(L, &'a [u8]), ReadError>
-    requires { L.items items ≡ [] }
-    ensures gives { Gives (λ x. (map R.view (L.items x.0), x.1.now)) result (list_at R.reads R.behind count (R.state reader.old) bytes.now) }
-    ensures last { IfOk result (λ x. R.state reader.new ≡ behind_all R.behind (R.state reader.old) (map R.view (L.items x.0))) }
+    items: &mut L,
+    from: &mut Cursor<'_>,
+)
+    requires { L.items items.old ≡ [] }
+    ensures takes { Takes (λ size. list_at (R.reads (R.fixed reader.old) size) R.behind count (R.state reader.old)) from.old (map R.view (L.items items.new)) from.new }
+    ensures last { from.new.failure ≡ None → R.state reader.new ≡ behind_all R.behind (R.state reader.old) (map R.view (L.items items.new)) }
+    ensures same { R.fixed reader.new ≡ R.fixed reader.old }
 {
-    let mut rest = bytes;
-    for _ in 0..count {
-        let (item, behind) = reader.read(rest)?;
-        items.add(item)?;
-        rest = behind;
+    if from.has_failed() {
+        return;
     }
-    Ok((items, rest))
+    for _ in 0..count {
+        let item = reader.read(from);
+        if from.has_failed() {
+            return;
+        }
+        if items.add(item).is_err() {
+            from.run_out_of_memory();
+            return;
+        }
+    }
 }

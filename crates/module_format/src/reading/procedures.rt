@@ -1,12 +1,11 @@
 //! Procedure rows.
 
-ghost use Rattle.std.specs.Prelude.{◌≡◌, ℕ, ℤ, length, map, IfOk};
+ghost use Rattle.std.specs.Prelude.{◌≡◌, ℕ, ℤ, None, map};
 ghost use Rattle.module_format.specs.Contents.{Procedure, procedure_of};
 ghost use Rattle.module_format.specs.declared.rows.Parameter.{Parameter};
 ghost use Rattle.module_format.specs.declared.tables.Version.{Version};
 ghost use Rattle.module_format.specs.Procedures.{behind_parameter, behind_procedure};
 ghost use Rattle.module_format.specs.Offsets.{EntriesRise};
-ghost use Rattle.module_format.specs.Reading.{Gives};
 ghost use Rattle.module_format.specs.ReadingRows.{
   words_range_at,
   region_size_at,
@@ -25,46 +24,40 @@ ghost use Rattle.module_format.specs.ReadingRows.{
   procedure_row_at,
   procedure_rows_at,
 };
+ghost use Rattle.module_format.specs.Taking.{Takes};
 
-use crate::fault::{ORDER, RANGE, ReadError, TRUNCATED};
+use crate::fault::FormatFaultKind;
 use crate::limits::{MAX_MESSAGE, MAX_PARAMETERS};
-use crate::reading::facts::span_at;
-use crate::reading::fields::{
-    byte_at, fault, i32_at, in_code_at, interval_at, limited_u16_at, place, positive_at, u16_at,
-    u32_at, u64_at,
-};
-use crate::reading::list::{Reader, list_at};
+use crate::reading::cursor::Cursor;
+use crate::reading::facts::read_span;
+use crate::reading::list::{Reader, fill};
 use crate::rows::{Ends, Parameter, ParameterKind, ProcedureRow};
 use crate::rules::{are_ends, is_frame_end, is_frame_start, is_region_size};
 use crate::tables::Version;
+use crate::tags::{KIND_CHANNELS, KIND_READ_REGION, KIND_VALUE, KIND_WRITTEN_REGION};
 use bitflags::Flags;
 use std::alloc::Global;
 
 /// The range of a region's words, which is the whole word in version 1.
 #[tactic(auto, unfolding(crate::specs::ReadingRows::words_range_at))]
-fn words_range_at(
-    size: usize,
-    version: Version,
-    rest: &[u8],
-) -> Result<((i32, i32), &[u8]), ReadError>
-    ensures { Gives (λ x. (x.0, x.1.now)) result (words_range_at size version rest.now) }
+fn read_words_range(version: Version, from: &mut Cursor<'_>) -> (i32, i32)
+    ensures { Takes (λ size. words_range_at size version) from.old result from.new }
 {
     match version {
-        Version::One => Ok(((i32::MIN, i32::MAX), rest)),
-        Version::Two => interval_at(size, rest),
+        Version::One => (i32::MIN, i32::MAX),
+        Version::Two => from.interval(),
     }
 }
 
 /// The bytes of a region of words, of which it has one at least.
-#[tactic(auto, unfolding(crate::specs::ReadingRows::region_size_at, crate::specs::Reading::and_then))]
-fn region_size_at(size: usize, rest: &[u8]) -> Result<(u32, &[u8]), ReadError>
-    ensures { Gives (λ x. (x.0, x.1.now)) result (region_size_at size rest.now) }
+#[tactic(auto, unfolding(crate::specs::ReadingRows::region_size_at, crate::specs::Reading::tested))]
+fn read_region_size(from: &mut Cursor<'_>) -> u32
+    ensures { Takes region_size_at from.old result from.new }
 {
-    let (bytes, behind) = u32_at(size, rest)?;
-    if !is_region_size(bytes) {
-        return Err(fault(RANGE, place(size, rest)));
-    }
-    Ok((bytes, behind))
+    let at = from.place();
+    let bytes = from.u32();
+    from.check(at, is_region_size(bytes), FormatFaultKind::Range);
+    bytes
 }
 
 /// What a procedure may do with the bytes of a region.
@@ -88,90 +81,87 @@ impl Access {
 
 /// A region: its bytes and the range of its words.
 #[tactic(auto, unfolding(crate::specs::ReadingRows::region_at, crate::specs::Reading::and_then))]
-fn region_at(
-    size: usize,
-    version: Version,
-    access: Access,
-    rest: &[u8],
-) -> Result<(ParameterKind, &[u8]), ReadError>
-    ensures { Gives (λ x. (x.0, x.1.now)) result (region_at size version (region_kind access) rest.now) }
+fn read_region(version: Version, access: Access, from: &mut Cursor<'_>) -> ParameterKind
+    ensures { Takes (λ size. region_at size version (region_kind access)) from.old result from.new }
 {
-    let (bytes, rest) = region_size_at(size, rest)?;
-    let ((lo, hi), rest) = words_range_at(size, version, rest)?;
-    Ok((access.region_kind(bytes, lo, hi), rest))
+    let bytes = read_region_size(from);
+    let (lo, hi) = read_words_range(version, from);
+    access.region_kind(bytes, lo, hi)
 }
 
 /// One end of channels or both.
-#[tactic(auto, unfolding(crate::specs::ReadingRows::ends_at, crate::specs::Reading::and_then))]
-fn ends_at(size: usize, rest: &[u8]) -> Result<(Ends, &[u8]), ReadError>
-    ensures { Gives (λ x. (x.0, x.1.now)) result (ends_at size rest.now) }
+#[tactic(auto, unfolding(crate::specs::ReadingRows::ends_at, crate::specs::Reading::tested, crate::specs::Reading::and_then))]
+fn read_ends(from: &mut Cursor<'_>) -> Ends
+    ensures { Takes ends_at from.old result from.new }
 {
-    let (bits, behind) = byte_at(size, rest)?;
-    if !are_ends(bits) {
-        return Err(fault(RANGE, place(size, rest)));
-    }
-    Ok((Ends::from_bits_retain(bits), behind))
+    let at = from.place();
+    let bits = from.u8();
+    from.check(at, are_ends(bits), FormatFaultKind::Range);
+    Ends::from_bits_retain(bits)
 }
 
 /// Channels: how many, the bytes of their messages, and their ends.
 #[tactic(auto, unfolding(crate::specs::ReadingRows::channels_at, crate::specs::Reading::and_then))]
-fn channels_at(size: usize, rest: &[u8]) -> Result<(ParameterKind, &[u8]), ReadError>
-    ensures { Gives (λ x. (x.0, x.1.now)) result (channels_at size rest.now) }
+fn read_channels(from: &mut Cursor<'_>) -> ParameterKind
+    ensures { Takes channels_at from.old result from.new }
 {
-    let (count, rest) = span_at(size, rest)?;
-    let (length, rest) = positive_at(size, MAX_MESSAGE, rest)?;
-    let (ends, rest) = ends_at(size, rest)?;
-    let kind = ParameterKind::Channels {
+    let count = read_span(from);
+    let length = from.positive(MAX_MESSAGE);
+    let ends = read_ends(from);
+    ParameterKind::Channels {
         count,
         length,
         ends,
-    };
-    Ok((kind, rest))
+    }
 }
 
 /// The bounds of a value.
 #[tactic(auto, unfolding(crate::specs::ReadingRows::value_at, crate::specs::Reading::and_then))]
-fn value_at(size: usize, rest: &[u8]) -> Result<(ParameterKind, &[u8]), ReadError>
-    ensures { Gives (λ x. (x.0, x.1.now)) result (value_at size rest.now) }
+fn read_value(from: &mut Cursor<'_>) -> ParameterKind
+    ensures { Takes value_at from.old result from.new }
 {
-    let ((lo, hi), behind) = interval_at(size, rest)?;
-    Ok((ParameterKind::Value { lo, hi }, behind))
+    let (lo, hi) = from.interval();
+    ParameterKind::Value { lo, hi }
 }
 
 /// What a parameter word holds.
-#[tactic(auto, unfolding(crate::specs::ReadingRows::kind_at))]
-fn kind_at(size: usize, version: Version, rest: &[u8]) -> Result<(ParameterKind, &[u8]), ReadError>
-    ensures { Gives (λ x. (x.0, x.1.now)) result (kind_at size version rest.now) }
+#[tactic(auto, unfolding(crate::specs::ReadingRows::kind_at, crate::specs::Reading::and_then))]
+fn read_parameter_kind(version: Version, from: &mut Cursor<'_>) -> ParameterKind
+    ensures { Takes (λ size. kind_at size version) from.old result from.new }
 {
-    match rest {
-        [] => Err(fault(TRUNCATED, size)),
-        [0, behind @ ..] => value_at(size, behind),
-        [1, behind @ ..] => region_at(size, version, Access::Read, behind),
-        [2, behind @ ..] => region_at(size, version, Access::Write, behind),
-        [3, behind @ ..] => channels_at(size, behind),
-        [_, ..] => Err(fault(RANGE, place(size, rest))),
+    let at = from.place();
+    let tag = from.u8();
+    match tag {
+        KIND_VALUE => read_value(from),
+        KIND_READ_REGION => read_region(version, Access::Read, from),
+        KIND_WRITTEN_REGION => read_region(version, Access::Write, from),
+        KIND_CHANNELS => read_channels(from),
+        _ => {
+            from.fail(at, FormatFaultKind::Range);
+            ParameterKind::Value { lo: 0, hi: 0 }
+        }
     }
 }
 
 /// The word of a parameter: below word `hi`, and behind the parameter before, in word `low`.
-#[tactic(auto, unfolding(crate::specs::ReadingRows::parameter_word_at, crate::specs::Reading::and_then))]
-fn parameter_word_at(size: usize, hi: i32, low: u16, rest: &[u8]) -> Result<(u16, &[u8]), ReadError>
-    ensures { Gives (λ x. (x.0, x.1.now)) result (parameter_word_at size hi low rest.now) }
+#[tactic(auto, unfolding(crate::specs::ReadingRows::parameter_word_at, crate::specs::Reading::tested))]
+fn read_parameter_word(hi: i32, low: u16, from: &mut Cursor<'_>) -> u16
+    ensures { Takes (λ size. parameter_word_at size hi low) from.old result from.new }
 {
-    let (word, behind) = u16_at(size, rest)?;
-    if word == 0 || i32::from(word) >= hi {
-        return Err(fault(RANGE, place(size, rest)));
-    }
-    if word <= low {
-        return Err(fault(ORDER, place(size, rest)));
-    }
-    Ok((word, behind))
+    let at = from.place();
+    let word = from.u16();
+    from.check(
+        at,
+        word != 0 && i32::from(word) < hi,
+        FormatFaultKind::Range,
+    );
+    from.check(at, low < word, FormatFaultKind::Order);
+    word
 }
 
 /// Parameters of a procedure whose frame ends at word `hi`.
 #[derive(Drop)]
 struct Parameters {
-    size: usize,
     version: Version,
     hi: i32,
     low: u16,
@@ -180,89 +170,89 @@ struct Parameters {
 impl Reader for Parameters {
     type Item = Parameter;
 
-    ghost State = { ℕ × Version × ℤ × ℕ };
+    ghost Fixed = { Version × ℤ };
 
-    ghost state = { λ r. (r.size, r.version, r.hi, r.low) };
+    ghost fixed = { λ r. (r.version, r.hi) };
+
+    ghost State = { ℕ };
+
+    ghost state = { λ r. r.low };
 
     ghost Value = { Parameter };
 
     ghost view = { λ p. p };
 
-    ghost reads = { λ s. parameter_at s.0 s.1 s.2 s.3 };
+    ghost reads = { λ f size. parameter_at size f.0 f.1 };
 
-    ghost behind = { λ s p. (s.0, s.1, s.2, behind_parameter s.3 p) };
+    ghost behind = { behind_parameter };
 
     #[tactic(auto, unfolding(crate::specs::ReadingRows::parameter_at, crate::specs::Reading::and_then))]
-    fn read<'a>(&mut self, rest: &'a [u8]) -> Result<(Parameter, &'a [u8]), ReadError> {
-        let (word, rest) = parameter_word_at(self.size, self.hi, self.low, rest)?;
-        let (kind, rest) = kind_at(self.size, self.version, rest)?;
+    fn read(&mut self, from: &mut Cursor<'_>) -> Parameter {
+        let word = read_parameter_word(self.hi, self.low, from);
+        let kind = read_parameter_kind(self.version, from);
         self.low = word;
-        Ok((Parameter { word, kind }, rest))
+        Parameter { word, kind }
     }
 }
 
 /// The parameters of a procedure, behind their number.
 #[tactic(auto, unfolding(crate::specs::ReadingRows::parameters_at, crate::specs::Reading::and_then))]
-fn parameters_at(
+fn read_parameters(
     alloc: Global,
-    size: usize,
     version: Version,
     hi: i32,
-    rest: &[u8],
-) -> Result<(Vec<Parameter>, &[u8]), ReadError>
-    ensures { Gives (λ x. (x.0.items, x.1.now)) result (parameters_at size version hi rest.now) }
+    from: &mut Cursor<'_>,
+) -> Vec<Parameter>
+    ensures { Takes (λ size. parameters_at size version hi) from.old result.items from.new }
 {
-    let (count, rest) = limited_u16_at(size, MAX_PARAMETERS, rest)?;
-    let mut parameters = Parameters {
-        size,
+    let count = from.limited_u16(MAX_PARAMETERS);
+    let mut reader = Parameters {
         version,
         hi,
         low: 0,
     };
-    list_at(&mut parameters, u32::from(count), Vec::new(alloc), rest)
+    let mut parameters = Vec::new(alloc);
+    fill(&mut reader, u32::from(count), &mut parameters, from);
+    parameters
 }
 
 /// The first word of a frame.
-#[tactic(auto, unfolding(crate::specs::ReadingRows::frame_start_at, crate::specs::Reading::and_then))]
-fn frame_start_at(size: usize, rest: &[u8]) -> Result<(i32, &[u8]), ReadError>
-    ensures { Gives (λ x. (x.0, x.1.now)) result (frame_start_at size rest.now) }
+#[tactic(auto, unfolding(crate::specs::ReadingRows::frame_start_at, crate::specs::Reading::tested))]
+fn read_frame_start(from: &mut Cursor<'_>) -> i32
+    ensures { Takes frame_start_at from.old result from.new }
 {
-    let (lo, behind) = i32_at(size, rest)?;
-    if !is_frame_start(lo) {
-        return Err(fault(RANGE, place(size, rest)));
-    }
-    Ok((lo, behind))
+    let at = from.place();
+    let lo = from.i32();
+    from.check(at, is_frame_start(lo), FormatFaultKind::Range);
+    lo
 }
 
 /// The first word behind a frame.
-#[tactic(auto, unfolding(crate::specs::ReadingRows::frame_end_at, crate::specs::Reading::and_then))]
-fn frame_end_at(size: usize, rest: &[u8]) -> Result<(i32, &[u8]), ReadError>
-    ensures { Gives (λ x. (x.0, x.1.now)) result (frame_end_at size rest.now) }
+#[tactic(auto, unfolding(crate::specs::ReadingRows::frame_end_at, crate::specs::Reading::tested))]
+fn read_frame_end(from: &mut Cursor<'_>) -> i32
+    ensures { Takes frame_end_at from.old result from.new }
 {
-    let (hi, behind) = i32_at(size, rest)?;
-    if !is_frame_end(hi) {
-        return Err(fault(RANGE, place(size, rest)));
-    }
-    Ok((hi, behind))
+    let at = from.place();
+    let hi = from.i32();
+    from.check(at, is_frame_end(hi), FormatFaultKind::Range);
+    hi
 }
 
 /// An offset in the code behind `low`.
-#[tactic(auto, unfolding(crate::specs::ReadingRows::rising_at, crate::specs::Reading::and_then))]
-fn rising_at(size: usize, code_len: u32, low: u32, rest: &[u8]) -> Result<(u32, &[u8]), ReadError>
-    ensures { Gives (λ x. (x.0, x.1.now)) result (rising_at size code_len low rest.now) }
+#[tactic(auto, unfolding(crate::specs::ReadingRows::rising_at, crate::specs::Reading::tested))]
+fn read_procedure_entry(code_len: u32, low: u32, from: &mut Cursor<'_>) -> u32
+    ensures { Takes (λ size. rising_at size code_len low) from.old result from.new }
 {
-    let (offset, behind) = in_code_at(size, code_len, rest)?;
-    if offset <= low {
-        return Err(fault(ORDER, place(size, rest)));
-    }
-    Ok((offset, behind))
+    let at = from.place();
+    let offset = from.in_code(code_len);
+    from.check(at, low < offset, FormatFaultKind::Order);
+    offset
 }
 
 /// Procedure rows of so much code, behind a row with its entry at `low`.
 #[derive(Drop)]
 struct Procedures {
     alloc: Global,
-    size: usize,
     version: Version,
     code_len: u32,
     low: u32,
@@ -271,56 +261,59 @@ struct Procedures {
 impl Reader for Procedures {
     type Item = ProcedureRow;
 
-    ghost State = { ℕ × Version × ℕ × ℕ };
+    ghost Fixed = { Version × ℕ };
 
-    ghost state = { λ r. (r.size, r.version, r.code_len, r.low) };
+    ghost fixed = { λ r. (r.version, r.code_len) };
+
+    ghost State = { ℕ };
+
+    ghost state = { λ r. r.low };
 
     ghost Value = { Procedure };
 
     ghost view = { procedure_of };
 
-    ghost reads = { λ s. procedure_row_at s.0 s.1 s.2 s.3 };
+    ghost reads = { λ f size. procedure_row_at size f.0 f.1 };
 
-    ghost behind = { λ s row. (s.0, s.1, s.2, behind_procedure s.3 row) };
+    ghost behind = { behind_procedure };
 
     #[tactic(auto, unfolding(crate::specs::ReadingRows::procedure_row_at, crate::specs::Reading::and_then))]
-    fn read<'a>(&mut self, rest: &'a [u8]) -> Result<(ProcedureRow, &'a [u8]), ReadError> {
-        let (entry, rest) = rising_at(self.size, self.code_len, self.low, rest)?;
-        let (lo, rest) = frame_start_at(self.size, rest)?;
-        let (hi, rest) = frame_end_at(self.size, rest)?;
-        let (number, rest) = u64_at(self.size, rest)?;
-        let (parameters, rest) = parameters_at(self.alloc, self.size, self.version, hi, rest)?;
+    fn read(&mut self, from: &mut Cursor<'_>) -> ProcedureRow {
+        let entry = read_procedure_entry(self.code_len, self.low, from);
+        let lo = read_frame_start(from);
+        let hi = read_frame_end(from);
+        let number = from.u64();
+        let parameters = read_parameters(self.alloc, self.version, hi, from);
         self.low = entry;
-        let row = ProcedureRow {
+        ProcedureRow {
             entry,
             lo,
             hi,
             number,
             parameters,
-        };
-        Ok((row, rest))
+        }
     }
 }
 
 /// As many procedure rows as a number says.
 #[tactic(auto, unfolding(crate::specs::ReadingRows::procedure_rows_at))]
-pub fn procedure_rows_at(
+pub fn read_procedure_rows(
     alloc: Global,
-    size: usize,
     version: Version,
     code_len: u32,
     count: u32,
-    bytes: &[u8],
-) -> Result<(Vec<ProcedureRow>, &[u8]), ReadError>
-    ensures gives { Gives (λ x. (map procedure_of x.0.items, x.1.now)) result (procedure_rows_at size version code_len count bytes.now) }
-    ensures rise { IfOk result (λ x. EntriesRise x.0.items) }
+    from: &mut Cursor<'_>,
+) -> Vec<ProcedureRow>
+    ensures takes { Takes (λ size. procedure_rows_at size version code_len count) from.old (map procedure_of result.items) from.new }
+    ensures rise { from.new.failure ≡ None → EntriesRise result.items }
 {
-    let mut procedures = Procedures {
+    let mut reader = Procedures {
         alloc,
-        size,
         version,
         code_len,
         low: 0,
     };
-    list_at(&mut procedures, count, Vec::new(alloc), bytes)
+    let mut procedures = Vec::new(alloc);
+    fill(&mut reader, count, &mut procedures, from);
+    procedures
 }

@@ -10,6 +10,9 @@ ghost use Rattle.module_format.specs.Writable.{Writes};
 use crate::fact::{Fact, Step};
 use crate::rows::{Entry, LabelRow};
 use crate::tables::Version;
+use crate::tags::{
+    TAG_CODE_ADDRESS, TAG_LOOP, TAG_NUMBER, TAG_POINTER, TAG_RETURN_ADDRESS, TAG_UNKNOWN,
+};
 use crate::writing::list::{Row, put_all};
 use crate::writing::writer::Writer;
 
@@ -28,7 +31,7 @@ fn step_size(step: Step) -> u8
 fn put_pointer(out: &mut Writer, region: u16, lo: i32, hi: i32, step: Step)
     ensures { Writes out.old (fact_bytes (Pointer region lo hi step)) out.new }
 {
-    out.u8(2);
+    out.u8(TAG_POINTER);
     out.u16(region);
     out.i32(lo);
     out.i32(hi);
@@ -41,9 +44,9 @@ fn put_fact(out: &mut Writer, fact: &Fact)
     ensures { Writes out.old (fact_bytes fact.now) out.new }
 {
     match *fact {
-        Fact::Unknown => out.u8(0),
+        Fact::Unknown => out.u8(TAG_UNKNOWN),
         Fact::Number { lo, hi } => {
-            out.u8(1);
+            out.u8(TAG_NUMBER);
             out.i32(lo);
             out.i32(hi);
         }
@@ -54,7 +57,7 @@ fn put_fact(out: &mut Writer, fact: &Fact)
             step,
         } => put_pointer(out, region, lo, hi, step),
         Fact::CodeAddress { offset } => {
-            out.u8(3);
+            out.u8(TAG_CODE_ADDRESS);
             out.u32(offset);
         }
         Fact::Loop {
@@ -62,12 +65,12 @@ fn put_fact(out: &mut Writer, fact: &Fact)
             count,
             weight,
         } => {
-            out.u8(4);
+            out.u8(TAG_LOOP);
             out.i32(base);
             out.u32(count);
             out.u64(weight);
         }
-        Fact::ReturnAddress => out.u8(5),
+        Fact::ReturnAddress => out.u8(TAG_RETURN_ADDRESS),
     }
 }
 

@@ -9,6 +9,7 @@ ghost use Rattle.module_format.specs.Writable.{Writes};
 
 use crate::rows::{Parameter, ParameterKind, ProcedureRow, TableRow};
 use crate::tables::Version;
+use crate::tags::{KIND_CHANNELS, KIND_READ_REGION, KIND_VALUE, KIND_WRITTEN_REGION};
 use crate::writing::list::{Row, put_all};
 use crate::writing::writer::Writer;
 use bitflags::Flags;
@@ -40,16 +41,16 @@ fn put_kind(out: &mut Writer, version: Version, kind: &ParameterKind)
 {
     match *kind {
         ParameterKind::Value { lo, hi } => {
-            out.u8(0);
+            out.u8(KIND_VALUE);
             out.i32(lo);
             out.i32(hi);
         }
         ParameterKind::ReadRegion { size, lo, hi } => {
-            out.u8(1);
+            out.u8(KIND_READ_REGION);
             put_region(out, version, size, lo, hi);
         }
         ParameterKind::WrittenRegion { size, lo, hi } => {
-            out.u8(2);
+            out.u8(KIND_WRITTEN_REGION);
             put_region(out, version, size, lo, hi);
         }
         ParameterKind::Channels {
@@ -57,7 +58,7 @@ fn put_kind(out: &mut Writer, version: Version, kind: &ParameterKind)
             length,
             ends,
         } => {
-            out.u8(3);
+            out.u8(KIND_CHANNELS);
             out.u32(count);
             out.u32(length);
             out.u8(ends.bits());

@@ -1,0 +1,16 @@
+use Rattle.std.proofs.lemmas.List.{map-id}
+use Rattle.module_format.specs.Order.{least_word}
+use Rattle.module_format.specs.Pars.{behind_interval}
+use Rattle.module_format.specs.Reading.{list_at}
+use Rattle.module_format.specs.ReadingPars.{words_at}
+use Rattle.module_format.proofs.BranchLaws.{writes_take}
+use Rattle.module_format.proofs.TakingLaws.{took_has}
+use Rattle.module_format.proofs.reading.branches.read_writes.Goals as goal
+
+pub returns-clause-rise : goal.returns-clause-rise
+returns-clause-rise c = λ still.
+    let from = c.args.from.now in
+    let new = c.fill.new.from in
+    let took = rw (c.from.ensures, map-id _) at c.fill.ensures.takes.took in
+    (took_has (list_at (words_at from.size) behind_interval c.args.count least_word) from.failure from.rest.now c.fill.new.items.items new.failure new.rest.now still took
+    (writes_take from.size c.args.count from.rest.now from.fits)).keeps.1
