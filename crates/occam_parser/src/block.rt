@@ -1,7 +1,7 @@
 //! Processes, by the levels of their lines.
 
 ghost use Rattle.std.specs.Prelude.{◌≡◌, ◌≤◌, ◌<◌, ◌-◌, [], ◌∷◌, length, map, option_map, IfOk, OnOk};
-ghost use Rattle.occam_parser.specs.Told.{Tells, Takes, StandsAbove};
+ghost use Rattle.occam_parser.specs.Told.{Tells, Pushes, Takes, StandsAbove};
 ghost use Rattle.occam_parser.specs.declared.head.BlockKind.TheVariants.{If, Alt};
 ghost use Rattle.occam_parser.specs.LineViews.{replicator_of};
 ghost use Rattle.occam_parser.specs.Reading.{Finds};
@@ -41,6 +41,18 @@ fn first_at<'l, 'a>(
         return Err(Fault::UnexpectedToken.at(line.number));
     }
     Ok((line, rest))
+}
+
+/// Pushes what was read, and tells the lines behind it.
+pub(crate) fn push<'l, 'a, T: Drop>(
+    found: &mut Vec<T>,
+    read: Result<(T, &'l [Line<'a>]), ParseFault>,
+) -> Result<&'l [Line<'a>], ParseFault>
+    ensures { Pushes read.entry found.old.items found.new.items result }
+{
+    let (item, rest) = read?;
+    found.push(item)?;
+    Ok(rest)
 }
 
 /// Declarations, and the line behind them with what it begins.
