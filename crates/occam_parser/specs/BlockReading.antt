@@ -62,6 +62,10 @@ wants level single count rows =
     if begins_at level rows then (if single && nat_lt 0 count then None else Some true)
     else (if single && (count == 0) then None else Some false)
 
+-- with one component more
+abbrev pub further : Components → Option (Component × List Row) → Option (Components × List Row)
+further found read = read >>= λ x. Some (Further found x.0, x.1)
+
 abbrev pub component_step : Option (Components × List Row) → Components → List Row → Option Bool → Option (Components × List Row)
 component_step more found rows None = None
 component_step more found rows (Some false) = Some (found, rows)

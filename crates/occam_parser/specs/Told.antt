@@ -91,12 +91,6 @@ Pushes (Err e) old new answer = answer ≡ Err e
 Pushes (Ok x) old new (Err e) = e ≡ out_of_memory
 Pushes (Ok x) old new (Ok rest) = (new ≡ old ++ x.0 ∷ []) × (rest.now ≡ x.1.now)
 
--- A turn of a loop over components, by what was read: its fault, or one component more, whether another follows, and the lines that come next.
-abbrev pub Takes : {A : Type 0} → ℕ → Bool → Result (A × Bor (List Line)) ParseFault → (old new : List A) → Result (Bool × Bor (List Line)) ParseFault → Type 0
-Takes level single (Err e) old new answer = answer ≡ Err e
-Takes level single (Ok x) old new (Err e) = (e ≡ out_of_memory) ⊎ (wants level single (length old + 1) (rows_of x.1.now) ≡ None)
-Takes level single (Ok x) old new (Ok y) = (new ≡ old ++ x.0 ∷ []) × (y.1.now ≡ x.1.now) × (wants level single (length new) (rows_of x.1.now) ≡ Some y.0)
-
 -- What a head has, beside what was read below it: the fault of that, or both, and the lines behind.
 abbrev pub StandsAbove : {A B : Type 0} → A → Result (B × Bor (List Line)) ParseFault → Result ((A × B) × Bor (List Line)) ParseFault → Type 0
 StandsAbove head (Err e) answer = answer ≡ Err e
