@@ -1,85 +1,84 @@
--- An item in two steps: up to its body's end, and then its colon.
-use Rattle.std.proofs.Common.{◌≡◌, ℕ, Bool, true, false, cond, List, [], ◌∷◌, nat_lt, Option, Some, None, refl, sym, ap, ◌∙◌}
-use Rattle.occam_parser.specs.declared.symbol.Mark.TheVariants as mark
-use Rattle.occam_parser.specs.Terminals.{Terminal, Name, Integer, Character, Text, Pair, Chain, Mark}
+-- A procedure, by its head and what follows.
+use Rattle.std.proofs.Common.{◌≡◌, ◌⊎◌, inl, inr, ℕ, ◌≤◌, ◌<◌, ◌+◌, ◌∷◌, ◌++◌, [], List, length, Option, Some, None, Result, Ok, Err, refl, sym, ap, subst, arith, ◌∙◌}
+use Rattle.std.specs.Prelude.{IfOk}
+use Rattle.std.specs.Borrow.{Bor}
+use Rattle.occam_layout.specs.declared.token.Line.{Line}
+use Rattle.occam_parser.specs.declared.fault.ParseFault.{ParseFault}
+use Rattle.occam_parser.specs.declared.tree.Process.{Process as CodeProcess}
+use Rattle.occam_parser.specs.Terminals.{Terminal}
 use Rattle.occam_parser.specs.Reading.{◌>>=◌}
-use Rattle.occam_parser.specs.Lines.{Constant, ProcHead}
-use Rattle.occam_parser.specs.LineReading.{constant_at, proc_head_at}
-use Rattle.occam_parser.specs.Blocks.{Row, Process, Procedure, ProgramItem, GlobalConstant, GlobalProcedure}
-use Rattle.occam_parser.specs.BlockReading.{process_at, behind_colon, procedure_at, item_with, item_at, procedure_start, start_with, start_at, is_procedure, behind_item}
+use Rattle.occam_parser.specs.Lines.{ProcHead}
+use Rattle.occam_parser.specs.LineReading.{proc_head_at}
+use Rattle.occam_parser.specs.Blocks.{Row, rows_of, Process, Procedure}
+use Rattle.occam_parser.specs.BlockReading.{process_at, behind_colon, procedure_at}
+use Rattle.occam_parser.specs.BlockViews.{process_of}
+use Rattle.occam_parser.specs.Told.{out_of_memory, Tells, GoesUpToColon, Pushes}
+use Rattle.occam_parser.proofs.Answering.{passed_on}
 
-abbrev pub closed : ProgramItem × List Row → Option (ProgramItem × List Row)
-closed x = behind_item (is_procedure x.0) x.1 >>= λ rest. Some (x.0, rest)
-
-abbrev as_item : Option (Procedure × List Row) → Option (ProgramItem × List Row)
-as_item o = o >>= λ p. Some (GlobalProcedure p.0, p.1)
-
-abbrev with_colon : ℕ → ProcHead → Process → Option (List Row) → Option (Procedure × List Row)
+abbrev pub with_colon : ℕ → ProcHead → Process → Option (List Row) → Option (Procedure × List Row)
 with_colon line head body o = o >>= λ rest. Some (record { line = line; head = head; body = body }, rest)
 
-abbrev with_body : ℕ → ProcHead → Option (Process × List Row) → Option (Procedure × List Row)
-with_body line head o = o >>= λ body. Some (record { line = line; head = head; body = body.0 }, body.1)
+-- what follows a head
+abbrev pub with_body : ℕ → ProcHead → Option (Process × List Row) → Option (Procedure × List Row)
+with_body line head o = o >>= λ body. with_colon line head body.0 (behind_colon body.1)
 
-abbrev with_both : ℕ → ProcHead → Option (Process × List Row) → Option (Procedure × List Row)
-with_both line head o = o >>= λ body. with_colon line head body.0 (behind_colon body.1)
-
-abbrev put_before : ProgramItem → Option (List Row) → Option (ProgramItem × List Row)
-put_before x o = o >>= λ rest. Some (x, rest)
-
-colon_is : (line : ℕ) (head : ProcHead) (body : Process) (o : Option (List Row)) → as_item (with_colon line head body o) ≡ put_before (GlobalProcedure (record { line = line; head = head; body = body })) o
-colon_is line head body None = refl
-colon_is line head body (Some rest) = refl
-
-body_is : (line : ℕ) (head : ProcHead) (o : Option (Process × List Row)) → as_item (with_both line head o) ≡ (as_item (with_body line head o) >>= closed)
-body_is line head None = refl
-body_is line head (Some body) = colon_is line head body.0 (behind_colon body.1)
-
-head_is : (line : ℕ) (rows : List Row) (o : Option ProcHead) → as_item (o >>= λ head. with_both line head (process_at 64 1 rows)) ≡ (as_item (o >>= λ head. with_body line head (process_at 64 1 rows)) >>= closed)
-head_is line rows None = refl
-head_is line rows (Some head) = body_is line head (process_at 64 1 rows)
-
-constant_is : (rows : List Row) (o : Option Constant) → (o >>= λ constant. Some (GlobalConstant constant, rows)) ≡ ((o >>= λ constant. Some (GlobalConstant constant, rows)) >>= closed)
-constant_is rows None = refl
-constant_is rows (Some c) = refl
-
-with_is : (line : ℕ) (rows : List Row) (ts : List Terminal) → item_with line rows ts ≡ (start_with line rows ts >>= closed)
-unfolding item_with start_with procedure_at procedure_start
-with_is line rows [] = refl
-with_is line rows (Mark mark.Val ∷ ts) = constant_is rows (constant_at line ts)
-with_is line rows (Mark mark.Proc ∷ ts) = head_is line rows (proc_head_at ts)
-with_is line rows (t ∷ ts) = refl
-
-if_is : (b : Bool) (line : ℕ) (rows : List Row) (ts : List Terminal) → cond b None (item_with line rows ts) ≡ (cond b None (start_with line rows ts) >>= closed)
-if_is true line rows ts = refl
-if_is false line rows ts = with_is line rows ts
-
-pub item_is : (r : Row) (rows : List Row) → item_at r rows ≡ (start_at r rows >>= closed)
-unfolding item_at start_at
-item_is r rows = if_is (nat_lt 0 r.level) r.number rows r.terminals
-
-pub item_none : (r : Row) (rows : List Row) → start_at r rows ≡ None → item_at r rows ≡ None
-item_none r rows e = item_is r rows ∙ ap (λ (o : Option (ProgramItem × List Row)). o >>= closed) e
-
-pub item_open : (r : Row) (rows rest : List Row) (x : ProgramItem) (b : Bool) → start_at r rows ≡ Some (x, rest) → b ≡ is_procedure x → behind_item b rest ≡ None → item_at r rows ≡ None
-item_open r rows rest x b e i h =
-    item_is r rows ∙ ap (λ (o : Option (ProgramItem × List Row)). o >>= closed) e ∙ ap (λ (o : Option (List Row)). o >>= λ us. Some (x, us)) (ap (λ c. behind_item c rest) (sym i) ∙ h)
-
-pub item_found : (r : Row) (rows rest after : List Row) (x : ProgramItem) (b : Bool) → start_at r rows ≡ Some (x, rest) → b ≡ is_procedure x → behind_item b rest ≡ Some after → item_at r rows ≡ Some (x, after)
-item_found r rows rest after x b e i h =
-    item_is r rows ∙ ap (λ (o : Option (ProgramItem × List Row)). o >>= closed) e ∙ ap (λ (o : Option (List Row)). o >>= λ us. Some (x, us)) (ap (λ c. behind_item c rest) (sym i) ∙ h)
-
--- ---- the steps of a start
-
-pub procedure_none : (line : ℕ) (ts : List Terminal) (rows : List Row) → proc_head_at ts ≡ None → procedure_start line ts rows ≡ None
-unfolding procedure_start
+pub procedure_none : (line : ℕ) (ts : List Terminal) (rows : List Row) → proc_head_at ts ≡ None
+    → procedure_at line ts rows ≡ None
+unfolding procedure_at
 procedure_none line ts rows e = ap (λ (o : Option ProcHead). o >>= λ head. with_body line head (process_at 64 1 rows)) e
 
-procedure_is : (line : ℕ) (ts : List Terminal) (rows : List Row) (head : ProcHead) → proc_head_at ts ≡ Some head → procedure_start line ts rows ≡ with_body line head (process_at 64 1 rows)
-unfolding procedure_start
+pub procedure_is : (line : ℕ) (ts : List Terminal) (rows : List Row) (head : ProcHead) → proc_head_at ts ≡ Some head
+    → procedure_at line ts rows ≡ with_body line head (process_at 64 1 rows)
+unfolding procedure_at
 procedure_is line ts rows head e = ap (λ (o : Option ProcHead). o >>= λ h. with_body line h (process_at 64 1 rows)) e
 
-pub procedure_empty : (line : ℕ) (ts : List Terminal) (rows : List Row) (head : ProcHead) → proc_head_at ts ≡ Some head → process_at 64 1 rows ≡ None → procedure_start line ts rows ≡ None
-procedure_empty line ts rows head e h = procedure_is line ts rows head e ∙ ap (with_body line head) h
+-- ---- a body up to its colon
 
-pub procedure_found : (line : ℕ) (ts : List Terminal) (rows rest : List Row) (head : ProcHead) (body : Process) → proc_head_at ts ≡ Some head → process_at 64 1 rows ≡ Some (body, rest) → procedure_start line ts rows ≡ Some (record { line = line; head = head; body = body }, rest)
-procedure_found line ts rows rest head body e h = procedure_is line ts rows head e ∙ ap (with_body line head) h
+abbrev pub TellsBody : Result (CodeProcess × Bor (List Line)) ParseFault → Option (Process × List Row) → Type 0
+TellsBody read got = Tells (λ x. (process_of x.0, rows_of x.1.now)) read got
+
+pub body_lost : (line : ℕ) (head : ProcHead) (read : Result (CodeProcess × Bor (List Line)) ParseFault) (t : ParseFault)
+    (got : Option (Process × List Row)) → GoesUpToColon read (Err t) → TellsBody read got
+    → (t ≡ out_of_memory) ⊎ (with_body line head got ≡ None)
+body_lost line head (Err e) t got goes told =
+    let same : e ≡ t = cc goes in
+    subst (λ (u : ParseFault). (u ≡ out_of_memory) ⊎ (with_body line head got ≡ None)) same
+    (passed_on e got (with_body line head got) (λ none. ap (with_body line head) none) told)
+body_lost line head (Ok x) t got (inl h) told = inl h
+body_lost line head (Ok x) t got (inr none) told =
+    inr (ap (with_body line head) told ∙ ap (with_colon line head (process_of x.0)) none)
+
+pub body_found : (line : ℕ) (head : ProcHead) (read : Result (CodeProcess × Bor (List Line)) ParseFault)
+    (y : CodeProcess × Bor (List Line)) (got : Option (Process × List Row)) → GoesUpToColon read (Ok y) → TellsBody read got
+    → with_body line head got ≡ Some (record { line = line; head = head; body = process_of y.0 }, rows_of y.1.now)
+body_found line head (Err e) y got goes told = absurd (cc goes)
+body_found line head (Ok x) y got goes told =
+    ap (with_body line head) told ∙ ap (with_colon line head (process_of x.0)) goes.1
+    ∙ ap (λ (p : CodeProcess). Some (record { line = line; head = head; body = process_of p }, rows_of y.1.now)) (sym goes.0)
+
+pub body_within : (read : Result (CodeProcess × Bor (List Line)) ParseFault) (y : CodeProcess × Bor (List Line)) (n : ℕ)
+    → GoesUpToColon read (Ok y) → IfOk read (λ x. length x.1.now < n) → length y.1.now ≤ n
+body_within (Err e) y n goes within = absurd (cc goes)
+body_within (Ok x) y n goes within = let shorter = goes.2 in omega arith
+
+-- ---- what was read, pushed
+
+pub pushed_lost : {A Y : Type 0} (view : A × Bor (List Line) → Y) (read : Result (A × Bor (List Line)) ParseFault)
+    (old new : List A) (t : ParseFault) (got : Option Y) → Pushes read old new (Err t) → Tells view read got
+    → (t ≡ out_of_memory) ⊎ (got ≡ None)
+pushed_lost view (Err e) old new t got pushes told =
+    let same : e ≡ t = cc pushes in subst (λ (u : ParseFault). (u ≡ out_of_memory) ⊎ (got ≡ None)) same told
+pushed_lost view (Ok x) old new t got pushes told = inl pushes
+
+-- the item that was pushed
+pub pushed_found : {A Y : Type 0} (view : A → Y) (read : Result (A × Bor (List Line)) ParseFault) (old new : List A)
+    (rest : Bor (List Line)) (n : ℕ) (got : Option (Y × List Row)) → Pushes read old new (Ok rest)
+    → Tells (λ x. (view x.0, rows_of x.1.now)) read got → IfOk read (λ x. length x.1.now ≤ n)
+    → (x : A) × (new ≡ old ++ x ∷ []) × (got ≡ Some (view x, rows_of rest.now)) × (length rest.now ≤ n)
+pushed_found view (Err e) old new rest n got pushes told within = absurd (cc pushes)
+pushed_found {A} {Y} view (Ok x) old new rest n got pushes told within = (
+  x.0,
+  pushes.0,
+  told ∙ ap (λ (us : List Line). Some (view x.0, rows_of us)) (sym pushes.1),
+  subst (λ (us : List Line). length us ≤ n) (sym pushes.1) within,
+)

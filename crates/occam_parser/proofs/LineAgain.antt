@@ -15,11 +15,11 @@ use Rattle.occam_parser.specs.declared.tree.ValueType.TheVariants as value_type
 use Rattle.occam_parser.specs.Terminals.{Terminal, Name, Integer, Character, Text, Pair, Chain, Mark}
 use Rattle.occam_parser.specs.Expressions.{Expression, Alone, Prefixed, Paired, Chained, Terms, First, Then, Term, Number, Byte, Truth, MostPos, MostNeg, Named, Element, Bracketed, Converted, prefix_sign, type_word, truth_word, written, written_terms, written_term, Fits}
 use Rattle.occam_parser.specs.declared.tree.PrefixOperator.TheVariants as prefix
-use Rattle.occam_parser.specs.Reading.{Reads, ◌>>=◌, behind, up_to, begins_with_operator, expression_at, list_of}
+use Rattle.occam_parser.specs.Reading.{Reads, ◌>>=◌, behind, is_mark, up_to, begins_with_operator, expression_at, list_of}
 use Rattle.occam_parser.specs.Laws.{Ends}
 use Rattle.occam_parser.specs.Lines.{Place, Replicator, Value, Scalar, Table, Bytes, Constant, Names, Declaration, Constants, Variables, Channels, Action, Skip, Stop, Assign, Input, Output, Instance, Guard, Receives, Skips, Formal, ProcHead, Head, Declares, Acts, Opens, in_brackets, written_place, separated, after_commas, written_name, size_of, written_value, written_constant, channel_words, written_names, written_declaration, written_action, written_replicator, block_word, written_head, written_guard, written_condition, written_formal, written_proc_head, IsWhole, AreWhole, IsWholeIfAny, HasItem, FitsPlace, FitsValue, FitsConstant, FitsNames, FitsDeclaration, FitsAction, FitsReplicator, FitsHead, FitsGuard, FitsFormal, FitsProcHead}
-use Rattle.occam_parser.specs.LineReading.{ended, only, name_at, equals_at, bracketed_behind, bracketed_at, type_behind, type_at, shape_behind, shape_at, place_at, whole_at, whole_place, table_at, value_at, constant_at, declared_as, names_at, formal_named, formal_kind_of, formal_behind, formal_at, formals_behind, proc_head_at, actuals_behind, actuals_at, sent_or_received, assigned_or_other, instance_or_other, action_at, replicator_at, block_at, declaration_at, marked_head, head_at, is_guard_sign, has_condition, input_at, skips_or_receives, conditioned_at, guard_at}
-use Rattle.occam_parser.proofs.Marks.{behind_again}
+use Rattle.occam_parser.specs.LineReading.{ended, only, name_at, equals_at, bracketed_behind, bracketed_at, type_behind, type_at, shape_behind, shape_at, place_at, whole_at, whole_place, table_at, value_at, constant_at, declared_as, names_at, formal_named, formal_kind_of, formal_behind, formal_at, formals_behind, proc_head_at, actuals_behind, actuals_at, placed_action, instance_or_other, action_at, counted_at, replicator_at, block_at, declaration_at, marked_head, head_at, is_guard_sign, has_condition, input_at, skips_or_receives, conditioned_at, guard_at}
+use Rattle.occam_parser.proofs.Marks.{behind_again, behind_other}
 use Rattle.occam_parser.proofs.Again.{up_to_again, expression_again}
 use Rattle.occam_parser.proofs.ListLaws.{Again, list_again}
 use Rattle.occam_parser.proofs.LineSound.{formal_words_join}
@@ -28,51 +28,15 @@ use Rattle.occam_parser.proofs.LineSound.{formal_words_join}
 
 -- a mark that begins no subscript ends an expression
 abbrev pub EndsBy : mark_type.Mark → Type 0
-EndsBy m = (rest : List Terminal) → behind mark.OpenBracket (Mark m ∷ rest) ≡ None
+EndsBy m = is_mark m mark.OpenBracket ≡ false
 
 ends_by : (m : mark_type.Mark) → EndsBy m → (rest : List Terminal) → Ends (Mark m ∷ rest)
 unfolding begins_with_operator
-ends_by m h rest = record { no_subscript = h rest; no_operator = refl }
+ends_by m h rest = record { no_subscript = behind_other m mark.OpenBracket h rest; no_operator = refl }
 
 ends_nothing : Ends []
 unfolding behind begins_with_operator
 ends_nothing = record { no_subscript = refl; no_operator = refl }
-
-by_comma : EndsBy mark.Comma
-unfolding behind
-by_comma rest = refl
-
-by_colon : EndsBy mark.Colon
-unfolding behind
-by_colon rest = refl
-
-by_parenthesis : EndsBy mark.CloseParenthesis
-unfolding behind
-by_parenthesis rest = refl
-
-by_bracket : EndsBy mark.CloseBracket
-unfolding behind
-by_bracket rest = refl
-
-by_for : EndsBy mark.For
-unfolding behind
-by_for rest = refl
-
-by_guard : EndsBy mark.Guard
-unfolding behind
-by_guard rest = refl
-
-by_assign : EndsBy mark.Assign
-unfolding behind
-by_assign rest = refl
-
-by_input : EndsBy mark.Input
-unfolding behind
-by_input rest = refl
-
-by_output : EndsBy mark.Output
-unfolding behind
-by_output rest = refl
 
 name_again : (name : List ℕ) (rest : List Terminal) → name_at (Name name ∷ rest) ≡ Some (name, rest)
 unfolding name_at
@@ -93,7 +57,7 @@ unfolding bracketed_at
 bracketed_again None rest fits e = ap (bracketed_behind rest) e
 bracketed_again (Some x) rest fits e =
     let ts = (written x ++ Mark mark.CloseBracket ∷ []) ++ rest in
-    let read = ap (expression_at 64) (append_assoc (written x) (Mark mark.CloseBracket ∷ []) rest) ∙ expression_before x mark.CloseBracket rest by_bracket fits in
+    let read = ap (expression_at 64) (append_assoc (written x) (Mark mark.CloseBracket ∷ []) rest) ∙ expression_before x mark.CloseBracket rest refl fits in
     ap (bracketed_behind (Mark mark.OpenBracket ∷ ts)) (behind_again mark.OpenBracket ts)
     ∙ ap (λ (o : Option (Expression × List Terminal)). o >>= λ y. Some (Some y.0, y.1)) (up_to_again mark.CloseBracket (expression_at 64 ts) x rest read)
 
@@ -145,31 +109,22 @@ whole_place_again p fits =
     ap (λ (o : Option (List ℕ × List Terminal)). o >>= λ name. place_at name.0 name.1 >>= λ x. only x.0 x.1) (name_again p.name (in_brackets p.subscript))
     ∙ ap (λ (o : Option (Place × List Terminal)). o >>= λ x. only x.0 x.1) (ap (place_at p.name) (sym (append-nil (in_brackets p.subscript))) ∙ place_again p [] fits no_bracket_nothing)
 
-expressions_again : (xs : List Expression) (m : mark_type.Mark) (rest : List Terminal) → HasItem xs → AreWhole xs → behind mark.Comma (Mark m ∷ rest) ≡ None → EndsBy m → list_of (expression_at 64) (separated written xs ++ Mark m ∷ rest) ≡ Some (xs, Mark m ∷ rest)
-expressions_again xs m rest has all none h =
-    list_again written IsWhole Ends (expression_at 64) (λ x us fits ends. expression_again x 64 us fits ends) (ends_by mark.Comma by_comma) xs (Mark m ∷ rest) has all none (ends_by m h rest)
-
-no_comma_bracket : (rest : List Terminal) → behind mark.Comma (Mark mark.CloseBracket ∷ rest) ≡ None
-unfolding behind
-no_comma_bracket rest = refl
-
-no_comma_parenthesis : (rest : List Terminal) → behind mark.Comma (Mark mark.CloseParenthesis ∷ rest) ≡ None
-unfolding behind
-no_comma_parenthesis rest = refl
-
-no_comma_colon : (rest : List Terminal) → behind mark.Comma (Mark mark.Colon ∷ rest) ≡ None
-unfolding behind
-no_comma_colon rest = refl
+expressions_again : (xs : List Expression) (m : mark_type.Mark) (rest : List Terminal) → HasItem xs → AreWhole xs
+    → is_mark m mark.Comma ≡ false → EndsBy m
+    → list_of (expression_at 64) (separated written xs ++ Mark m ∷ rest) ≡ Some (xs, Mark m ∷ rest)
+expressions_again xs m rest has all other h =
+    list_again written IsWhole Ends (expression_at 64) (λ x us fits ends. expression_again x 64 us fits ends)
+    (ends_by mark.Comma refl) xs (Mark m ∷ rest) has all (behind_other m mark.Comma other rest) (ends_by m h rest)
 
 -- ---- constants and declarations
 
 value_again : (v : Value) (rest : List Terminal) → FitsValue v → value_at (size_of v) (written_value v ++ Mark mark.Colon ∷ rest) ≡ Some (v, Mark mark.Colon ∷ rest)
 unfolding value_at table_at
-value_again (Scalar e) rest fits = ap (λ (o : Option (Expression × List Terminal)). o >>= λ x. Some (Scalar x.0, x.1)) (expression_before e mark.Colon rest by_colon fits)
+value_again (Scalar e) rest fits = ap (λ (o : Option (Expression × List Terminal)). o >>= λ x. Some (Scalar x.0, x.1)) (expression_before e mark.Colon rest refl fits)
 value_again (Table size items) rest fits =
     let more = Mark mark.Colon ∷ rest in
     let ts = (separated written items ++ Mark mark.CloseBracket ∷ []) ++ more in
-    let read = ap (list_of (expression_at 64)) (append_assoc (separated written items) (Mark mark.CloseBracket ∷ []) more) ∙ expressions_again items mark.CloseBracket more fits.1 fits.2 (no_comma_bracket more) by_bracket in
+    let read = ap (list_of (expression_at 64)) (append_assoc (separated written items) (Mark mark.CloseBracket ∷ []) more) ∙ expressions_again items mark.CloseBracket more fits.1 fits.2 refl refl in
     ap (λ (o : Option (List Expression × List Terminal)). o >>= λ x. Some (Table size x.0, x.1)) (up_to_again mark.CloseBracket (list_of (expression_at 64) ts) items more read)
 value_again (Bytes size bytes) rest fits = refl
 
@@ -205,7 +160,7 @@ all_names (n ∷ names) = (tt, all_names names)
 
 list_of_names_again : (names : List (List ℕ)) (rest : List Terminal) → HasItem names → list_of name_at (separated written_name names ++ Mark mark.Colon ∷ rest) ≡ Some (names, Mark mark.Colon ∷ rest)
 list_of_names_again names rest has =
-    list_again written_name (λ (name : List ℕ). Unit {0}) (λ (us : List Terminal). Unit {0}) name_at (λ name us fits ends. name_again name us) (λ us. tt) names (Mark mark.Colon ∷ rest) has (all_names names) (no_comma_colon rest) tt
+    list_again written_name (λ (name : List ℕ). Unit {0}) (λ (us : List Terminal). Unit {0}) name_at (λ name us fits ends. name_again name us) (λ us. tt) names (Mark mark.Colon ∷ rest) has (all_names names) (behind_other mark.Colon mark.Comma refl rest) tt
 
 pub names_again : (line : ℕ) (channel : Bool) (n : Names) → FitsNames line n → names_at line (written_names channel n) ≡ Some (declared_as channel n)
 unfolding names_at
@@ -285,7 +240,7 @@ formals_again (f ∷ fs) all =
     let close = Mark mark.CloseParenthesis ∷ [] in
     let ts = separated written_formal (f ∷ fs) ++ close in
     let none = ap (behind mark.CloseParenthesis) (append_assoc (written_formal f) (after_commas written_formal fs) close) ∙ no_close_formal f.kind f.size f.value_type f.name (after_commas written_formal fs ++ close) in
-    let read = list_again written_formal FitsFormal (λ (us : List Terminal). Unit {0}) formal_at formal_again (λ us. tt) (f ∷ fs) close tt all (no_comma_parenthesis []) tt in
+    let read = list_again written_formal FitsFormal (λ (us : List Terminal). Unit {0}) formal_at formal_again (λ us. tt) (f ∷ fs) close tt all (behind_other mark.CloseParenthesis mark.Comma refl []) tt in
     ap (formals_behind ts) none
     ∙ ap (λ (o : Option (List Formal × List Terminal)). o >>= λ x. behind mark.CloseParenthesis x.1 >>= λ rest. only x.0 rest) read
     ∙ ap (λ (o : Option (List Terminal)). o >>= λ rest. only (f ∷ fs) rest) (behind_again mark.CloseParenthesis [])
@@ -340,7 +295,7 @@ actuals_again (x ∷ xs) all =
     let ts = separated written (x ∷ xs) ++ close in
     let none = ap (behind mark.CloseParenthesis) (append_assoc (written x) (after_commas written xs) close) ∙ no_close x (after_commas written xs ++ close) in
     ap (actuals_behind ts) none
-    ∙ ap (λ (o : Option (List Expression × List Terminal)). o >>= λ y. behind mark.CloseParenthesis y.1 >>= λ rest. only y.0 rest) (expressions_again (x ∷ xs) mark.CloseParenthesis [] tt all (no_comma_parenthesis []) by_parenthesis)
+    ∙ ap (λ (o : Option (List Expression × List Terminal)). o >>= λ y. behind mark.CloseParenthesis y.1 >>= λ rest. only y.0 rest) (expressions_again (x ∷ xs) mark.CloseParenthesis [] tt all refl refl)
     ∙ ap (λ (o : Option (List Terminal)). o >>= λ rest. only (x ∷ xs) rest) (behind_again mark.CloseParenthesis [])
 
 no_open : (o : Option Expression) (m : mark_type.Mark) (rest : List Terminal) → behind mark.OpenParenthesis (Mark m ∷ rest) ≡ None → behind mark.OpenParenthesis (in_brackets o ++ Mark m ∷ rest) ≡ None
@@ -348,56 +303,33 @@ unfolding behind
 no_open None m rest e = e
 no_open (Some x) m rest e = refl
 
-open_assign : (rest : List Terminal) → behind mark.OpenParenthesis (Mark mark.Assign ∷ rest) ≡ None
-unfolding behind
-open_assign rest = refl
-
-open_input : (rest : List Terminal) → behind mark.OpenParenthesis (Mark mark.Input ∷ rest) ≡ None
-unfolding behind
-open_input rest = refl
-
-open_output : (rest : List Terminal) → behind mark.OpenParenthesis (Mark mark.Output ∷ rest) ≡ None
-unfolding behind
-open_output rest = refl
-
-assign_input : (rest : List Terminal) → behind mark.Assign (Mark mark.Input ∷ rest) ≡ None
-unfolding behind
-assign_input rest = refl
-
-assign_output : (rest : List Terminal) → behind mark.Assign (Mark mark.Output ∷ rest) ≡ None
-unfolding behind
-assign_output rest = refl
-
-output_input : (rest : List Terminal) → behind mark.Output (Mark mark.Input ∷ rest) ≡ None
-unfolding behind
-output_input rest = refl
-
 -- a line that begins with a place
-placed_again : (p : Place) (m : mark_type.Mark) (rest : List Terminal) → FitsPlace p → EndsBy m → behind mark.OpenParenthesis (Mark m ∷ rest) ≡ None → action_at p.name (in_brackets p.subscript ++ Mark m ∷ rest) ≡ assigned_or_other p (Mark m ∷ rest) (behind mark.Assign (Mark m ∷ rest))
+placed_again : (p : Place) (m : mark_type.Mark) (rest : List Terminal) → FitsPlace p → EndsBy m
+    → is_mark m mark.OpenParenthesis ≡ false
+    → action_at p.name (in_brackets p.subscript ++ Mark m ∷ rest) ≡ placed_action p (Mark m ∷ rest)
 unfolding action_at
-placed_again p m rest fits h none =
+placed_again p m rest fits h other =
     let ts = in_brackets p.subscript ++ Mark m ∷ rest in
-    ap (instance_or_other p.name ts) (no_open p.subscript m rest none) ∙ ap (λ (o : Option (Place × List Terminal)). o >>= λ place. assigned_or_other place.0 place.1 (behind mark.Assign place.1)) (place_again p (Mark m ∷ rest) fits (h rest))
+    ap (instance_or_other p.name ts) (no_open p.subscript m rest (behind_other m mark.OpenParenthesis other rest))
+    ∙ ap (λ (o : Option (Place × List Terminal)). o >>= λ place. placed_action place.0 place.1)
+    (place_again p (Mark m ∷ rest) fits (behind_other m mark.OpenBracket h rest))
 
-assign_again : (p : Place) (e : Expression) → FitsPlace p → IsWhole e → action_at p.name (in_brackets p.subscript ++ Mark mark.Assign ∷ written e) ≡ Some (Assign p e)
+assign_again : (p : Place) (e : Expression) → FitsPlace p → IsWhole e
+    → action_at p.name (in_brackets p.subscript ++ Mark mark.Assign ∷ written e) ≡ Some (Assign p e)
 assign_again p e f w =
-    placed_again p mark.Assign (written e) f by_assign (open_assign (written e))
-    ∙ ap (assigned_or_other p (Mark mark.Assign ∷ written e)) (behind_again mark.Assign (written e))
+    placed_again p mark.Assign (written e) f refl refl
     ∙ ap (λ (o : Option Expression). o >>= λ value. Some (Assign p value)) (whole_again e w)
 
-output_again : (p : Place) (e : Expression) → FitsPlace p → IsWhole e → action_at p.name (in_brackets p.subscript ++ Mark mark.Output ∷ written e) ≡ Some (Output p e)
+output_again : (p : Place) (e : Expression) → FitsPlace p → IsWhole e
+    → action_at p.name (in_brackets p.subscript ++ Mark mark.Output ∷ written e) ≡ Some (Output p e)
 output_again p e f w =
-    placed_again p mark.Output (written e) f by_output (open_output (written e))
-    ∙ ap (assigned_or_other p (Mark mark.Output ∷ written e)) (assign_output (written e))
-    ∙ ap (sent_or_received p (Mark mark.Output ∷ written e)) (behind_again mark.Output (written e))
+    placed_again p mark.Output (written e) f refl refl
     ∙ ap (λ (o : Option Expression). o >>= λ value. Some (Output p value)) (whole_again e w)
 
-received_again : (p q : Place) → FitsPlace p → FitsPlace q → action_at p.name (in_brackets p.subscript ++ Mark mark.Input ∷ written_place q) ≡ Some (Input p q)
+received_again : (p q : Place) → FitsPlace p → FitsPlace q
+    → action_at p.name (in_brackets p.subscript ++ Mark mark.Input ∷ written_place q) ≡ Some (Input p q)
 received_again p q f w =
-    placed_again p mark.Input (written_place q) f by_input (open_input (written_place q))
-    ∙ ap (assigned_or_other p (Mark mark.Input ∷ written_place q)) (assign_input (written_place q))
-    ∙ ap (sent_or_received p (Mark mark.Input ∷ written_place q)) (output_input (written_place q))
-    ∙ ap (λ (o : Option (List Terminal)). o >>= λ rest. whole_place rest >>= λ target. Some (Input p target)) (behind_again mark.Input (written_place q))
+    placed_again p mark.Input (written_place q) f refl refl
     ∙ ap (λ (o : Option Place). o >>= λ target. Some (Input p target)) (whole_place_again q w)
 
 instance_again : (name : List ℕ) (xs : List Expression) → AreWhole xs → action_at name (Mark mark.OpenParenthesis ∷ (separated written xs ++ Mark mark.CloseParenthesis ∷ [])) ≡ Some (Instance name xs)
@@ -408,23 +340,27 @@ instance_again name xs all =
 
 -- ---- heads
 
+counted_again : (r : Replicator) → FitsReplicator (Some r)
+    → counted_at r.name (written r.base ++ Mark mark.For ∷ written r.count) ≡ Some r
+unfolding counted_at
+counted_again r fits =
+    let made : Expression → Option Expression → Option Replicator = λ base o. o >>= λ count. Some (record { name = r.name; base = base; count = count }) in
+    let f1 : Option (List Terminal) → Option Replicator = λ o. o >>= λ rest. made r.base (whole_at rest) in
+    let f0 : Option (Expression × List Terminal) → Option Replicator = λ o. o >>= λ base. behind mark.For base.1 >>= λ rest. made base.0 (whole_at rest) in
+    ap f0 (expression_before r.base mark.For (written r.count) refl fits.0)
+    ∙ ap f1 (behind_again mark.For (written r.count))
+    ∙ ap (made r.base) (whole_again r.count fits.1)
+
 replicator_again : (r : Option Replicator) → FitsReplicator r → replicator_at (written_replicator r) ≡ Some r
 unfolding replicator_at
 replicator_again None fits = refl
 replicator_again (Some r) fits =
-    let t2 = written r.count in
-    let t1 = written r.base ++ Mark mark.For ∷ t2 in
-    let made = λ (name : List ℕ) (base count : Expression) (us : List Terminal). only (Some (record { name = name; base = base; count = count })) us in
-    let f3 = λ (o : Option (Expression × List Terminal)). o >>= λ count. made r.name r.base count.0 count.1 in
-    let f2 = λ (o : Option (List Terminal)). o >>= λ rest. f3 (expression_at 64 rest) in
-    let f1 = λ (o : Option (Expression × List Terminal)). o >>= λ base. behind mark.For base.1 >>= λ rest. expression_at 64 rest >>= λ count. made r.name base.0 count.0 count.1 in
-    let f0 = λ (o : Option (List Terminal)). o >>= λ equal. f1 (expression_at 64 equal) in
-    ap (λ (o : Option (List ℕ × List Terminal)). o >>= λ name. equals_at name.1 >>= λ equal. expression_at 64 equal >>= λ base. behind mark.For base.1 >>= λ rest. expression_at 64 rest >>= λ count. made name.0 base.0 count.0 count.1)
-    (name_again r.name (Pair pair.Equal ∷ t1))
-    ∙ ap f0 (equals_again t1)
-    ∙ ap f1 (expression_before r.base mark.For t2 by_for fits.0)
-    ∙ ap f2 (behind_again mark.For t2)
-    ∙ ap f3 (expression_last r.count fits.1)
+    let t1 = written r.base ++ Mark mark.For ∷ written r.count in
+    let last : Option Replicator → Option (Option Replicator) = λ o. o >>= λ q. Some (Some q) in
+    let f1 : List ℕ → Option (List Terminal) → Option (Option Replicator) = λ name o. o >>= λ equal. last (counted_at name equal) in
+    ap (λ (o : Option (List ℕ × List Terminal)). o >>= λ name. f1 name.0 (equals_at name.1)) (name_again r.name (Pair pair.Equal ∷ t1))
+    ∙ ap (f1 r.name) (equals_again t1)
+    ∙ ap last (counted_again r fits)
 
 block_again : (line : ℕ) (kind : BlockKind) (ts : List Terminal) → head_at line (block_word kind ∷ ts) ≡ block_at kind ts
 unfolding head_at marked_head
@@ -524,7 +460,7 @@ unfolding input_at
 input_again p q f w =
     let t1 = Mark mark.Input ∷ written_place q in
     ap (λ (o : Option (List ℕ × List Terminal)). o >>= λ name. place_at name.0 name.1 >>= λ channel. behind mark.Input channel.1 >>= λ rest. whole_place rest >>= λ target. Some (channel.0, target)) (name_again p.name (in_brackets p.subscript ++ t1))
-    ∙ ap (λ (o : Option (Place × List Terminal)). o >>= λ channel. behind mark.Input channel.1 >>= λ rest. whole_place rest >>= λ target. Some (channel.0, target)) (place_again p t1 f (by_input (written_place q)))
+    ∙ ap (λ (o : Option (Place × List Terminal)). o >>= λ channel. behind mark.Input channel.1 >>= λ rest. whole_place rest >>= λ target. Some (channel.0, target)) (place_again p t1 f (behind_other mark.Input mark.OpenBracket refl (written_place q)))
     ∙ ap (λ (o : Option (List Terminal)). o >>= λ rest. whole_place rest >>= λ target. Some (p, target)) (behind_again mark.Input (written_place q))
     ∙ ap (λ (o : Option Place). o >>= λ target. Some (p, target)) (whole_place_again q w)
 
@@ -540,7 +476,7 @@ conditioned_again : (e : Expression) (ts : List Terminal) (g : Guard) → IsWhol
 unfolding conditioned_at
 conditioned_again e ts g fits h =
     guard_is (written e ++ Mark mark.Guard ∷ ts) true (no_guard e (Mark mark.Guard ∷ ts))
-    ∙ ap (λ (o : Option (Expression × List Terminal)). o >>= λ condition. behind mark.Guard condition.1 >>= λ rest. skips_or_receives condition.0 rest (behind mark.Skip rest)) (expression_before e mark.Guard ts by_guard fits)
+    ∙ ap (λ (o : Option (Expression × List Terminal)). o >>= λ condition. behind mark.Guard condition.1 >>= λ rest. skips_or_receives condition.0 rest (behind mark.Skip rest)) (expression_before e mark.Guard ts refl fits)
     ∙ ap (λ (o : Option (List Terminal)). o >>= λ rest. skips_or_receives e rest (behind mark.Skip rest)) (behind_again mark.Guard ts)
     ∙ h
 

@@ -15,7 +15,7 @@ use Rattle.occam_parser.specs.Expressions.{Expression, written, type_word, Fits}
 use Rattle.occam_parser.specs.Reading.{Reads, ◌>>=◌, behind, up_to, expression_at, list_of}
 use Rattle.occam_parser.specs.Laws.{Sound}
 use Rattle.occam_parser.specs.Lines.{Place, Replicator, Value, Scalar, Table, Bytes, Constant, Names, Declaration, Constants, Variables, Channels, Action, Skip, Stop, Assign, Input, Output, Instance, Guard, Receives, Skips, Formal, ProcHead, Head, Declares, Acts, Opens, in_brackets, written_place, separated, written_name, size_of, written_value, written_constant, channel_words, written_names, written_declaration, written_action, written_replicator, block_word, written_head, written_guard, written_formal, written_proc_head, IsWhole, AreWhole, IsWholeIfAny, HasItem, FitsPlace, FitsValue, FitsConstant, FitsNames, FitsDeclaration, FitsAction, FitsReplicator, FitsHead, FitsGuard, FitsFormal, FitsProcHead}
-use Rattle.occam_parser.specs.LineReading.{ended, only, name_at, equals_at, bracketed_behind, bracketed_at, type_behind, type_at, shape_behind, shape_at, place_at, whole_at, whole_place, table_at, value_at, constant_at, declared_as, names_at, formal_named, formal_kind_of, formal_behind, formal_at, formals_behind, proc_head_at, actuals_behind, actuals_at, sent_or_received, assigned_or_other, instance_or_other, action_at, replicator_at, block_at, declaration_at, marked_head, head_at, has_condition, input_at, skips_or_receives, conditioned_at, guard_at}
+use Rattle.occam_parser.specs.LineReading.{ended, only, name_at, equals_at, bracketed_behind, bracketed_at, type_behind, type_at, shape_behind, shape_at, place_at, whole_at, whole_place, table_at, value_at, constant_at, declared_as, names_at, formal_named, formal_kind_of, formal_behind, formal_at, formals_behind, proc_head_at, actuals_behind, actuals_at, placed_action, instance_or_other, action_at, counted_at, replicator_at, block_at, declaration_at, marked_head, head_at, has_condition, input_at, skips_or_receives, conditioned_at, guard_at}
 use Rattle.occam_parser.proofs.Options.{bind_some, at_some, chosen}
 use Rattle.occam_parser.proofs.Marks.{behind_is}
 use Rattle.occam_parser.proofs.Sound.{up_to_is, expression_sound}
@@ -264,23 +264,25 @@ actuals_sound ts xs e = actuals_found ts (behind mark.CloseParenthesis ts) xs re
 abbrev pub IsAction : List Terminal → Action → Type 0
 IsAction whole a = (whole ≡ written_action a) × FitsAction a
 
-sent_sound : (whole ts : List Terminal) (place : Place) (o : Option (List Terminal)) (a : Action) → whole ≡ written_place place ++ ts → FitsPlace place → behind mark.Output ts ≡ o → sent_or_received place ts o ≡ Some a → IsAction whole a
-sent_sound whole ts place (Some rest) a w f b e =
-    let v = bind_some (whole_at rest) _ a e in
-    let h = whole_sound rest v.0 v.1 in
-    at_some (IsAction whole) (Output place v.0) a v.2 (w ∙ ap (λ us. written_place place ++ us) (behind_is mark.Output ts rest b ∙ ap (λ us. Mark mark.Output ∷ us) h.0), (f, h.1))
-sent_sound whole ts place None a w f b e =
-    let r = bind_some (behind mark.Input ts) _ a e in
-    let v = bind_some (whole_place r.0) _ a r.2 in
-    let h = whole_place_sound r.0 v.0 v.1 in
-    at_some (IsAction whole) (Input place v.0) a v.2 (w ∙ ap (λ us. written_place place ++ us) (behind_is mark.Input ts r.0 r.1 ∙ ap (λ us. Mark mark.Input ∷ us) h.0), (f, h.1))
-
-assigned_sound : (whole ts : List Terminal) (place : Place) (o : Option (List Terminal)) (a : Action) → whole ≡ written_place place ++ ts → FitsPlace place → behind mark.Assign ts ≡ o → assigned_or_other place ts o ≡ Some a → IsAction whole a
-assigned_sound whole ts place (Some rest) a w f b e =
-    let v = bind_some (whole_at rest) _ a e in
-    let h = whole_sound rest v.0 v.1 in
-    at_some (IsAction whole) (Assign place v.0) a v.2 (w ∙ ap (λ us. written_place place ++ us) (behind_is mark.Assign ts rest b ∙ ap (λ us. Mark mark.Assign ∷ us) h.0), (f, h.1))
-assigned_sound whole ts place None a w f b e = sent_sound whole ts place (behind mark.Output ts) a w f refl e
+placed_sound : (whole ts : List Terminal) (place : Place) (a : Action) → whole ≡ written_place place ++ ts
+    → FitsPlace place → placed_action place ts ≡ Some a → IsAction whole a
+placed_sound whole [] place a w f e = absurd (cc)
+placed_sound whole (Mark mark.Assign ∷ ts) place a w f e =
+    let v = bind_some (whole_at ts) _ a e in
+    let h = whole_sound ts v.0 v.1 in
+    at_some (IsAction whole) (Assign place v.0) a v.2
+    (w ∙ ap (λ us. written_place place ++ Mark mark.Assign ∷ us) h.0, (f, h.1))
+placed_sound whole (Mark mark.Input ∷ ts) place a w f e =
+    let v = bind_some (whole_place ts) _ a e in
+    let h = whole_place_sound ts v.0 v.1 in
+    at_some (IsAction whole) (Input place v.0) a v.2
+    (w ∙ ap (λ us. written_place place ++ Mark mark.Input ∷ us) h.0, (f, h.1))
+placed_sound whole (Mark mark.Output ∷ ts) place a w f e =
+    let v = bind_some (whole_at ts) _ a e in
+    let h = whole_sound ts v.0 v.1 in
+    at_some (IsAction whole) (Output place v.0) a v.2
+    (w ∙ ap (λ us. written_place place ++ Mark mark.Output ∷ us) h.0, (f, h.1))
+placed_sound whole (t ∷ ts) place a w f e = absurd (cc)
 
 instance_sound : (name : List ℕ) (ts : List Terminal) (o : Option (List Terminal)) (a : Action) → behind mark.OpenParenthesis ts ≡ o → instance_or_other name ts o ≡ Some a → IsAction (Name name ∷ ts) a
 instance_sound name ts (Some rest) a b e =
@@ -290,7 +292,7 @@ instance_sound name ts (Some rest) a b e =
 instance_sound name ts None a b e =
     let p = bind_some (place_at name ts) _ a e in
     let h = place_sound name ts p.0.0 p.0.1 p.1 in
-    assigned_sound (Name name ∷ ts) p.0.1 p.0.0 (behind mark.Assign p.0.1) a h.0 h.1 refl p.2
+    placed_sound (Name name ∷ ts) p.0.1 p.0.0 a h.0 h.1 p.2
 
 pub action_sound : (name : List ℕ) (ts : List Terminal) (a : Action) → action_at name ts ≡ Some a → IsAction (Name name ∷ ts) a
 unfolding action_at
@@ -301,22 +303,38 @@ action_sound name ts a e = instance_sound name ts (behind mark.OpenParenthesis t
 abbrev pub IsReplicator : List Terminal → Option Replicator → Type 0
 IsReplicator ts r = (ts ≡ written_replicator r) × FitsReplicator r
 
+-- how a replicator is written behind its name
+abbrev pub IsCounted : List Terminal → Replicator → Type 0
+IsCounted ts r = (ts ≡ written r.base ++ Mark mark.For ∷ written r.count) × FitsReplicator (Some r)
+
+counted_sound : (name : List ℕ) (ts : List Terminal) (r : Replicator) → counted_at name ts ≡ Some r
+    → (r.name ≡ name) × IsCounted ts r
+unfolding counted_at
+counted_sound name ts r e =
+    let base = bind_some (expression_at 64 ts) _ r e in
+    let rest = bind_some (behind mark.For base.0.1) _ r base.2 in
+    let count = bind_some (whole_at rest.0) _ r rest.2 in
+    let b = expression_sound 64 ts base.0.0 base.0.1 base.1 in
+    let k = whole_sound rest.0 count.0 count.1 in
+    let tail = behind_is mark.For base.0.1 rest.0 rest.1 ∙ ap (λ us. Mark mark.For ∷ us) k.0 in
+    at_some (λ (q : Replicator). (q.name ≡ name) × IsCounted ts q)
+    (record { name = name; base = base.0.0; count = count.0 }) r count.2
+    (refl, (b.0 ∙ ap (λ us. written base.0.0 ++ us) tail, (b.1, k.1)))
+
 replicator_sound : (ts : List Terminal) (r : Option Replicator) → replicator_at ts ≡ Some r → IsReplicator ts r
 unfolding replicator_at
 replicator_sound [] r e = at_some (IsReplicator []) None r e (refl, tt)
 replicator_sound (t ∷ ts) r e =
     let name = bind_some (name_at (t ∷ ts)) _ r e in
     let equal = bind_some (equals_at name.0.1) _ r name.2 in
-    let base = bind_some (expression_at 64 equal.0) _ r equal.2 in
-    let rest = bind_some (behind mark.For base.0.1) _ r base.2 in
-    let count = bind_some (expression_at 64 rest.0) _ r rest.2 in
-    let b = expression_sound 64 equal.0 base.0.0 base.0.1 base.1 in
-    let k = expression_sound 64 rest.0 count.0.0 count.0.1 count.1 in
-    let found : Replicator = record { name = name.0.0; base = base.0.0; count = count.0.0 } in
-    let o = only_is (Some found) count.0.1 r count.2 in
-    let tail = behind_is mark.For base.0.1 rest.0 rest.1 ∙ ap (λ us. Mark mark.For ∷ us) (whole_list rest.0 count.0.1 (written count.0.0) k.0 o.0) in
-    let whole = name_is (t ∷ ts) name.0.0 name.0.1 name.1 ∙ ap (λ us. Name name.0.0 ∷ us) (equals_is name.0.1 equal.0 equal.1 ∙ ap (λ us. Pair pair.Equal ∷ us) (b.0 ∙ ap (λ us. written base.0.0 ++ us) tail)) in
-    subst (IsReplicator (t ∷ ts)) o.1 (whole, (b.1, k.1))
+    let q = bind_some (counted_at name.0.0 equal.0) _ r equal.2 in
+    let c = counted_sound name.0.0 equal.0 q.0 q.1 in
+    let begins =
+    name_is (t ∷ ts) name.0.0 name.0.1 name.1
+    ∙ ap (λ us. Name name.0.0 ∷ us) (equals_is name.0.1 equal.0 equal.1 ∙ ap (λ us. Pair pair.Equal ∷ us) c.1.0)
+    ∙ ap (λ n. Name n ∷ Pair pair.Equal ∷ (written q.0.base ++ Mark mark.For ∷ written q.0.count)) (sym c.0)
+    in
+    at_some (IsReplicator (t ∷ ts)) (Some q.0) r q.2 (begins, c.1.1)
 
 abbrev pub IsHead : ℕ → List Terminal → Head → Type 0
 IsHead line ts h = (ts ≡ written_head h) × FitsHead line h

@@ -32,6 +32,12 @@ pub behind_again : (m : mark_type.Mark) (rest : List Terminal) → behind m (Mar
 unfolding behind
 behind_again m rest = ap (λ b. cond b (Some rest) None) (true_same mark_contract.the_type m m refl)
 
+-- another mark
+pub behind_other : (found wanted : mark_type.Mark) → is_mark found wanted ≡ false → (rest : List Terminal)
+    → behind wanted (Mark found ∷ rest) ≡ None
+unfolding behind
+behind_other found wanted e rest = ap (λ b. cond b (Some rest) None) e
+
 pub behind_operator_is : (op : ChainOperator) (ts rest : List Terminal) → behind_operator op ts ≡ Some rest → ts ≡ Chain op ∷ rest
 unfolding behind_operator
 behind_operator_is op [] rest e = absurd (cc)

@@ -34,38 +34,8 @@ fold_count found (c ∷ cs) = fold_count (Further found c) cs ∙ omega arith
 pub all_push : {A : Type 0} (f : A → Component) (found pushed : List A) (x : A) → pushed ≡ found ++ x ∷ [] → all_of (map f pushed) ≡ Further (all_of (map f found)) (f x)
 all_push f found pushed x e = ap (λ xs. all_of (map f xs)) e ∙ ap all_of (map_push f found x) ∙ fold_push NoComponent (map f found) (f x)
 
-all_count : {A : Type 0} (f : A → Component) (found : List A) → length found ≡ count_of (all_of (map f found))
+pub all_count : {A : Type 0} (f : A → Component) (found : List A) → length found ≡ count_of (all_of (map f found))
 all_count f found = let counted = fold_count NoComponent (map f found) in omega (arith, length-map found f)
-
--- whether a block goes on, by the length of the list that was found
-pub wants_next : {A : Type 0} (f : A → Component) (found : List A) (level : ℕ) (single : Bool) (rows : List Row) (o : Option Bool) → wants level single (length found) rows ≡ o → wants level single (count_of (all_of (map f found))) rows ≡ o
-wants_next f found level single rows o e = subst (λ n. wants level single n rows ≡ o) (all_count f found) e
-
--- ---- a turn of a loop over components
-
-pub turn_begins : {A : Type 0} (f : A → Component) (item : ReadsLines Component) (level : ℕ) (single : Bool) (start rows : List Row) (found : List A) → found ≡ [] → rows ≡ start → ContinuesBlock item level single start (all_of (map f found)) rows
-turn_begins f item level single start rows found e r =
-    subst (λ xs. ContinuesBlock item level single start (all_of (map f xs)) rows) (sym e) (subst (λ us. ContinuesBlock item level single start NoComponent us) (sym r) (block_begins item level single start))
-
-pub turn_goes_on : {A : Type 0} (f : A → Component) (item : ReadsLines Component) (level : ℕ) (single : Bool) (start rows rest next : List Row) (found pushed : List A) (x : A) → wants level single (length found) rows ≡ Some true → item rows ≡ Some (f x, rest) → ContinuesBlock item level single start (all_of (map f found)) rows
-    → length rest < length rows → pushed ≡ found ++ x ∷ [] → next ≡ rest
-    → ContinuesBlock item level single start (all_of (map f pushed)) next
-turn_goes_on f item level single start rows rest next found pushed x w e c less p r =
-    let going = block_goes_on item level single start (all_of (map f found)) rows rest (f x) (wants_next f found level single rows (Some true) w) e less c in
-    subst (λ cs. ContinuesBlock item level single start cs next) (sym (all_push f found pushed x p)) (subst (λ us. ContinuesBlock item level single start (Further (all_of (map f found)) (f x)) us) (sym r) going)
-
-pub turn_fails : {A : Type 0} (f : A → Component) (item : ReadsLines Component) (level : ℕ) (single : Bool) (start rows : List Row) (found : List A) → wants level single (length found) rows ≡ Some true → item rows ≡ None → ContinuesBlock item level single start (all_of (map f found)) rows → components_of item level single start ≡ None
-turn_fails f item level single start rows found w e c = block_fails item level single start (all_of (map f found)) rows (wants_next f found level single rows (Some true) w) e c
-
-pub turn_stops : {A : Type 0} (f : A → Component) (item : ReadsLines Component) (level : ℕ) (single : Bool) (start rows rest : List Row) (found pushed : List A) (x : A) (count : ℕ) → wants level single (length found) rows ≡ Some true → item rows ≡ Some (f x, rest) → ContinuesBlock item level single start (all_of (map f found)) rows
-    → length rest < length rows → pushed ≡ found ++ x ∷ [] → count ≡ length pushed → wants level single count rest ≡ None
-    → components_of item level single start ≡ None
-turn_stops f item level single start rows rest found pushed x count w e c less p n stop =
-    let going = turn_goes_on f item level single start rows rest rest found pushed x w e c less p refl in
-    block_stops item level single start (all_of (map f pushed)) rest (wants_next f pushed level single rest None (subst (λ k. wants level single k rest ≡ None) n stop)) going
-
-pub turn_ends : {A : Type 0} (f : A → Component) (item : ReadsLines Component) (level : ℕ) (single : Bool) (start rows : List Row) (found : List A) → wants level single (length found) rows ≡ Some false → ContinuesBlock item level single start (all_of (map f found)) rows → components_of item level single start ≡ Some (all_of (map f found), rows)
-turn_ends f item level single start rows found w c = block_ends item level single start (all_of (map f found)) rows (wants_next f found level single rows (Some false) w) c
 
 pub first_stops : (item : ReadsLines Component) (level : ℕ) (single : Bool) (start : List Row) → wants level single 0 start ≡ None → components_of item level single start ≡ None
 first_stops item level single start w = block_stops item level single start NoComponent start w (block_begins item level single start)

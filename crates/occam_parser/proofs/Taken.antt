@@ -1,61 +1,129 @@
--- A turn of a loop over components, as the program takes it.
-use Rattle.std.proofs.Common.{◌≡◌, ◌⊎◌, inl, inr, ℕ, ◌+◌, ◌<◌, Bool, true, List, [], ◌∷◌, ◌++◌, length, map, Option, Some, None, Result, Ok, Err, refl, sym, ap, subst, arith, ◌∙◌}
+-- Components that the program reads into the body of a block, and a head beside what was read below it.
+use Rattle.std.proofs.Common.{◌≡◌, ◌⊎◌, inl, inr, ℕ, ◌+◌, ◌<◌, Bool, true, List, [], ◌∷◌, ◌++◌, length, map, Option, Some, None, Result, Ok, Err, refl, sym, ap, subst, ◌∙◌}
 use Rattle.std.specs.Prelude.{IfOk}
 use Rattle.std.specs.Borrow.{Bor}
 use Rattle.occam_layout.specs.declared.token.Line.{Line}
 use Rattle.occam_parser.specs.declared.fault.ParseFault.{ParseFault}
+use Rattle.occam_parser.specs.declared.head.BlockKind.TheVariants as block
 use Rattle.occam_parser.specs.declared.tree.Process.{Process as CodeProcess}
-use Rattle.occam_parser.specs.Reading.{Finds}
-use Rattle.occam_parser.specs.Told.{out_of_memory, Tells, Takes, StandsAbove}
-use Rattle.occam_parser.specs.Blocks.{Row, rows_of, Component}
-use Rattle.occam_parser.specs.BlockReading.{ReadsLines, wants, components_of, process_at, plain_at}
+use Rattle.occam_parser.specs.Reading.{◌>>=◌}
+use Rattle.occam_parser.specs.Told.{out_of_memory, Tells, Pushes, IsBeside, StandsAbove}
+use Rattle.occam_parser.specs.Blocks.{Row, rows_of, Component, Components, NoComponent, Further}
+use Rattle.occam_parser.specs.BlockReading.{ReadsLines, wants, count_of, further, components_of, process_at, component_at, plain_at}
 use Rattle.occam_parser.specs.BlockViews.{all_of, process_of, plain_component}
 use Rattle.occam_parser.proofs.Answering.{passed_on}
-use Rattle.occam_parser.proofs.Turns.{ContinuesBlock}
-use Rattle.occam_parser.proofs.SeenBlocks.{turn_goes_on, turn_fails, turn_stops, rows_less}
-use Rattle.occam_parser.proofs.Levelled.{plain_none, plain_found}
+use Rattle.occam_parser.proofs.Turns.{ContinuesBlock, block_begins, block_goes_on, block_fails}
+use Rattle.occam_parser.proofs.SeenBlocks.{all_push}
+use Rattle.occam_parser.proofs.Levelled.{plain_none, plain_found, seq_is, par_is}
 
-length_more : {A : Type 0} (xs : List A) (x : A) → length (xs ++ x ∷ []) ≡ length xs + 1
-length_more [] x = refl
-length_more (y ∷ xs) x = let e : length (xs ++ x ∷ []) ≡ length xs + 1 = length_more xs x in omega arith
-
-pub takes_more : {A : Type 0} (level : ℕ) (single : Bool) (x : A × Bor (List Line)) (old new : List A) (count : ℕ) (answer : Result (Bool × Bor (List Line)) ParseFault) → new ≡ old ++ x.0 ∷ [] → count ≡ length new
-    → Finds (λ y. y.0) answer (wants level single count (rows_of x.1.now)) → IfOk answer (λ y. y.1.now ≡ x.1.now)
-    → Takes level single (Ok x) old new answer
-takes_more level single x old new count (Ok y) p n found same = (p, same, subst (λ (k : ℕ). wants level single k (rows_of x.1.now) ≡ Some y.0) n found)
-takes_more level single x old new count (Err e) p n found same =
-    let counted : count ≡ length old + 1 = n ∙ ap length p ∙ length_more old x.0 in
-    inr (subst (λ (k : ℕ). wants level single k (rows_of x.1.now) ≡ None) counted found)
+-- ---- one component
 
 -- the same processes as components
-pub plain_tells : (n level : ℕ) (rows : List Row) (read : Result (CodeProcess × Bor (List Line)) ParseFault) → Tells (λ x. (process_of x.0, rows_of x.1.now)) read (process_at n level rows) → Tells (λ x. (plain_component x.0, rows_of x.1.now)) read (plain_at n level rows)
+pub plain_tells : (n level : ℕ) (rows : List Row) (read : Result (CodeProcess × Bor (List Line)) ParseFault)
+    → Tells (λ x. (process_of x.0, rows_of x.1.now)) read (process_at n level rows)
+    → Tells (λ x. (plain_component x.0, rows_of x.1.now)) read (plain_at n level rows)
 plain_tells n level rows (Ok x) told = plain_found n level rows (rows_of x.1.now) (process_of x.0) told
 plain_tells n level rows (Err e) told = passed_on e (process_at n level rows) (plain_at n level rows) (plain_none n level rows) told
 
-pub turn_lost : {A : Type 0} (f : A → Component) (item : ReadsLines Component) (level : ℕ) (single : Bool) (start : List Row) (lines : List Line) (old new : List A) (read : Result (A × Bor (List Line)) ParseFault) (t : ParseFault) → wants level single (length old) (rows_of lines) ≡ Some true
-    → ContinuesBlock item level single start (all_of (map f old)) (rows_of lines)
-    → Tells (λ x. (f x.0, rows_of x.1.now)) read (item (rows_of lines)) → IfOk read (λ x. length x.1.now < length lines) → Takes level single read old new (Err t)
-    → (t ≡ out_of_memory) ⊎ (components_of item level single start ≡ None)
-turn_lost f item level single start lines old new (Err e) t w c told less k =
-    let same : e ≡ t = cc k in
-    subst (λ (u : ParseFault). (u ≡ out_of_memory) ⊎ (components_of item level single start ≡ None)) same
-    (passed_on e (item (rows_of lines)) (components_of item level single start) (λ none. turn_fails f item level single start (rows_of lines) old w none c) told)
-turn_lost f item level single start lines old new (Ok x) t w c told less (inl h) = inl h
-turn_lost f item level single start lines old new (Ok x) t w c told less (inr stop) =
-    inr (turn_stops f item level single start (rows_of lines) (rows_of x.1.now) old (old ++ x.0 ∷ []) x.0 (length old + 1) w told c (rows_less x.1.now lines less) refl (sym (length_more old x.0)) stop)
+pub seq_tells : (n level : ℕ) (rows : List Row) (read : Result (CodeProcess × Bor (List Line)) ParseFault)
+    → Tells (λ x. (process_of x.0, rows_of x.1.now)) read (process_at n level rows)
+    → Tells (λ x. (plain_component x.0, rows_of x.1.now)) read (component_at n level block.Seq rows)
+seq_tells n level rows read told =
+    subst (λ (item : ReadsLines Component). Tells (λ x. (plain_component x.0, rows_of x.1.now)) read (item rows))
+    (sym (seq_is n level)) (plain_tells n level rows read told)
 
-pub turn_kept : {A : Type 0} (f : A → Component) (item : ReadsLines Component) (level : ℕ) (single : Bool) (start : List Row) (lines : List Line) (old new : List A) (read : Result (A × Bor (List Line)) ParseFault) (y : Bool × Bor (List Line)) → wants level single (length old) (rows_of lines) ≡ Some true
-    → ContinuesBlock item level single start (all_of (map f old)) (rows_of lines)
-    → Tells (λ x. (f x.0, rows_of x.1.now)) read (item (rows_of lines)) → IfOk read (λ x. length x.1.now < length lines) → Takes level single read old new (Ok y)
-    → (length y.1.now < length lines) × (wants level single (length new) (rows_of y.1.now) ≡ Some y.0) × ContinuesBlock item level single start (all_of (map f new)) (rows_of y.1.now)
-turn_kept f item level single start lines old new (Err e) y w c told less k = absurd (cc k)
-turn_kept f item level single start lines old new (Ok x) y w c told less k = (
-  subst (λ (us : List Line). length us < length lines) (sym k.1) less,
-  subst (λ (us : List Line). wants level single (length new) (rows_of us) ≡ Some y.0) (sym k.1) k.2,
-  turn_goes_on f item level single start (rows_of lines) (rows_of x.1.now) (rows_of y.1.now) old new x.0 w told c (rows_less x.1.now lines less) k.0 (ap rows_of k.1),
-)
+pub par_tells : (n level : ℕ) (rows : List Row) (read : Result (CodeProcess × Bor (List Line)) ParseFault)
+    → Tells (λ x. (process_of x.0, rows_of x.1.now)) read (process_at n level rows)
+    → Tells (λ x. (plain_component x.0, rows_of x.1.now)) read (component_at n level block.Par rows)
+par_tells n level rows read told =
+    subst (λ (item : ReadsLines Component). Tells (λ x. (plain_component x.0, rows_of x.1.now)) read (item rows))
+    (sym (par_is n level)) (plain_tells n level rows read told)
+
+-- what was read is one component more
+pub pushed_tells : {A : Type 0} (f : A → Component) (read : Result (A × Bor (List Line)) ParseFault) (old new : List A)
+    (answer : Result (Bor (List Line)) ParseFault) (got : Option (Component × List Row)) → Pushes read old new answer
+    → Tells (λ x. (f x.0, rows_of x.1.now)) read got
+    → Tells (λ rest. (all_of (map f new), rows_of rest.now)) answer (further (all_of (map f old)) got)
+pushed_tells f (Err e) old new (Err t) got pushes told =
+    let same : e ≡ t = cc pushes in
+    let lost = passed_on e got (further (all_of (map f old)) got) (λ none. ap (further (all_of (map f old))) none) told in
+    subst (λ (u : ParseFault). (u ≡ out_of_memory) ⊎ (further (all_of (map f old)) got ≡ None)) same lost
+pushed_tells f (Err e) old new (Ok rest) got pushes told = absurd (cc pushes)
+pushed_tells f (Ok x) old new (Err t) got pushes told = inl pushes
+pushed_tells f (Ok x) old new (Ok rest) got pushes told =
+    ap (further (all_of (map f old))) told
+    ∙ ap (λ (cs : Components). Some (cs, rows_of x.1.now)) (sym (all_push f old new x.0 pushes.0))
+    ∙ ap (λ (us : List Line). Some (all_of (map f new), rows_of us)) (sym pushes.1)
+
+pub pushed_within : {A : Type 0} (read : Result (A × Bor (List Line)) ParseFault) (old new : List A)
+    (answer : Result (Bor (List Line)) ParseFault) (n : ℕ) → Pushes read old new answer
+    → IfOk read (λ x. length x.1.now < n) → IfOk answer (λ rest. length rest.now < n)
+pushed_within read old new (Err t) n pushes less = tt
+pushed_within (Err e) old new (Ok rest) n pushes less = absurd (cc pushes)
+pushed_within (Ok x) old new (Ok rest) n pushes less = subst (λ (us : List Line). length us < n) (sym pushes.1) less
+
+-- ---- a turn of the loop over components
+
+further_none : (found : Components) (got : Option (Component × List Row)) → further found got ≡ None → got ≡ None
+further_none found None e = refl
+further_none found (Some x) e = absurd (cc)
+
+further_is : (found new : Components) (rest : List Row) (got : Option (Component × List Row))
+    → further found got ≡ Some (new, rest) → (c : Component) × (got ≡ Some (c, rest)) × (new ≡ Further found c)
+further_is found new rest None e = absurd (cc)
+further_is found new rest (Some x) e =
+    let same : (Further found x.0, x.1) ≡ (new, rest) = cc in (
+      x.0,
+      ap (λ (z : Components × List Row). Some (x.0, z.1)) same,
+      sym (ap (λ (z : Components × List Row). z.0) same),
+    )
+
+pub turn_begins : (item : ReadsLines Component) (level : ℕ) (single : Bool) (start rows : List Row) (found : Components)
+    → found ≡ NoComponent → rows ≡ start → ContinuesBlock item level single start found rows
+turn_begins item level single start rows found none same =
+    let begins = block_begins item level single start in
+    subst (λ cs. ContinuesBlock item level single start cs rows) (sym none)
+    (subst (λ us. ContinuesBlock item level single start NoComponent us) (sym same) begins)
+
+pub turn_goes_on : (item : ReadsLines Component) (level : ℕ) (single : Bool) (start rows rest : List Row)
+    (found new : Components) (got : Option (Component × List Row)) → item rows ≡ got
+    → wants level single (count_of found) rows ≡ Some true → further found got ≡ Some (new, rest)
+    → length rest < length rows → ContinuesBlock item level single start found rows
+    → ContinuesBlock item level single start new rest
+turn_goes_on item level single start rows rest found new got same w e less c =
+    let read = further_is found new rest got e in
+    subst (λ cs. ContinuesBlock item level single start cs rest) (sym read.2)
+    (block_goes_on item level single start found rows rest read.0 w (same ∙ read.1) less c)
+
+pub turn_fails : (item : ReadsLines Component) (level : ℕ) (single : Bool) (start rows : List Row) (found : Components)
+    (got : Option (Component × List Row)) → item rows ≡ got → wants level single (count_of found) rows ≡ Some true
+    → further found got ≡ None → ContinuesBlock item level single start found rows
+    → components_of item level single start ≡ None
+turn_fails item level single start rows found got same w e c =
+    block_fails item level single start found rows w (same ∙ further_none found got e) c
 
 -- ---- a head, beside what was read below it
+
+pub beside_lost : {A B Y : Type 0} (view : B → Y) (head : A) (read : Result B ParseFault) (t : ParseFault) (got : Option Y)
+    → IsBeside head read (Err t) → Tells view read got → (t ≡ out_of_memory) ⊎ (got ≡ None)
+beside_lost view head (Err e) t got stands told =
+    let same : e ≡ t = cc stands in
+    subst (λ (u : ParseFault). (u ≡ out_of_memory) ⊎ (got ≡ None)) same told
+beside_lost view head (Ok x) t got stands told = absurd (cc stands)
+
+pub beside_found : {A B Y : Type 0} (view : B → Y) (head h : A) (x : B) (read : Result B ParseFault) (got : Option Y)
+    → IsBeside head read (Ok (h, x)) → Tells view read got → got ≡ Some (view x)
+beside_found view head h x (Err e) got stands told = absurd (cc stands)
+beside_found {A} {B} view head h x (Ok y) got stands told =
+    let same : (head, y) ≡ (h, x) = cc stands in
+    told ∙ ap (λ (z : A × B). Some (view z.1)) same
+
+pub beside_head : {A B : Type 0} (head h : A) (x : B) (read : Result B ParseFault) → IsBeside head read (Ok (h, x))
+    → head ≡ h
+beside_head head h x (Err e) stands = absurd (cc stands)
+beside_head {A} {B} head h x (Ok y) stands = let same : (head, y) ≡ (h, x) = cc stands in ap (λ (z : A × B). z.0) same
+
+-- ---- a head above what was read
 
 pub below_lost : {A B Y : Type 0} (view : B × Bor (List Line) → Y) (head : A) (read : Result (B × Bor (List Line)) ParseFault) (t : ParseFault) (got : Option Y) → StandsAbove head read (Err t) → Tells view read got → (t ≡ out_of_memory) ⊎ (got ≡ None)
 below_lost view head (Err e) t got stands told = let same : e ≡ t = cc stands in subst (λ (u : ParseFault). (u ≡ out_of_memory) ⊎ (got ≡ None)) same told

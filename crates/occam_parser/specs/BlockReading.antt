@@ -62,6 +62,10 @@ wants level single count rows =
     if begins_at level rows then (if single && nat_lt 0 count then None else Some true)
     else (if single && (count == 0) then None else Some false)
 
+-- with one component more
+abbrev pub further : Components → Option (Component × List Row) → Option (Components × List Row)
+further found read = read >>= λ x. Some (Further found x.0, x.1)
+
 abbrev pub component_step : Option (Components × List Row) → Components → List Row → Option Bool → Option (Components × List Row)
 component_step more found rows None = None
 component_step more found rows (Some false) = Some (found, rows)
@@ -168,35 +172,6 @@ item_with line rows (t ∷ ts) = None
 
 unfoldable pub item_at : Row → ReadsLines ProgramItem
 item_at r rows = if nat_lt 0 r.level then None else item_with r.number rows r.terminals
-
--- ---- items in two steps, as the program reads them: up to the body's end, and then the colon
-
-unfoldable pub procedure_start : ℕ → List Terminal → ReadsLines Procedure
-procedure_start line ts rows = do
-  head ← proc_head_at ts
-  body ← process_at 64 1 rows
-  Some (record { line = line; head = head; body = body.0 }, body.1)
-
-unfoldable pub start_with : ℕ → List Row → List Terminal → Option (ProgramItem × List Row)
-start_with line rows [] = None
-start_with line rows (Mark mark.Val ∷ ts) = do
-  constant ← constant_at line ts
-  Some (GlobalConstant constant, rows)
-start_with line rows (Mark mark.Proc ∷ ts) = do
-  procedure ← procedure_start line ts rows
-  Some (GlobalProcedure procedure.0, procedure.1)
-start_with line rows (t ∷ ts) = None
-
-unfoldable pub start_at : Row → ReadsLines ProgramItem
-start_at r rows = if nat_lt 0 r.level then None else start_with r.number rows r.terminals
-
-abbrev pub is_procedure : ProgramItem → Bool
-is_procedure (GlobalConstant constant) = false
-is_procedure (GlobalProcedure procedure) = true
-
-abbrev pub behind_item : Bool → List Row → Option (List Row)
-behind_item false rows = Some rows
-behind_item true rows = behind_colon rows
 
 -- ---- all items
 

@@ -86,12 +86,15 @@ whole_place ts = do
 
 -- ---- constants and declarations
 
+abbrev pub items_at : Expression → Reads Value
+items_at size ts = do
+  x ← up_to mark.CloseBracket (list_of (expression_at 64) ts)
+  Some (Table size x.0, x.1)
+
 unfoldable pub table_at : Expression → Reads Value
 table_at size [] = None
 table_at size (Text bytes ∷ ts) = Some (Bytes size bytes, ts)
-table_at size (Mark mark.OpenBracket ∷ ts) = do
-  x ← up_to mark.CloseBracket (list_of (expression_at 64) ts)
-  Some (Table size x.0, x.1)
+table_at size (Mark mark.OpenBracket ∷ ts) = items_at size ts
 table_at size (t ∷ ts) = None
 
 unfoldable pub value_at : Option Expression → Reads Value
@@ -134,11 +137,14 @@ abbrev pub formal_kind_of : Bool → FormalKind
 formal_kind_of true = formal_kind.Channel
 formal_kind_of false = formal_kind.Variable
 
-abbrev pub formal_behind : List Terminal → Option (List Terminal) → Option (Formal × List Terminal)
-formal_behind ts (Some after) = do
-  size ← bracketed_at after
+abbrev pub value_formal_at : Reads Formal
+value_formal_at ts = do
+  size ← bracketed_at ts
   type ← type_at size.1
   formal_named formal_kind.Value size.0 type.0 type.1
+
+abbrev pub formal_behind : List Terminal → Option (List Terminal) → Option (Formal × List Terminal)
+formal_behind ts (Some after) = value_formal_at after
 formal_behind ts None = do
   size ← bracketed_at ts
   shape ← shape_at size.1
@@ -174,20 +180,27 @@ actuals_behind ts None = do
 unfoldable pub actuals_at : List Terminal → Option (List Expression)
 actuals_at ts = actuals_behind ts (behind mark.CloseParenthesis ts)
 
-abbrev pub sent_or_received : Place → List Terminal → Option (List Terminal) → Option Action
-sent_or_received place ts (Some rest) = do
-  value ← whole_at rest
-  Some (Output place value)
-sent_or_received place ts None = do
-  rest ← behind mark.Input ts
-  target ← whole_place rest
+abbrev pub assigned : Place → List Terminal → Option Action
+assigned place ts = do
+  value ← whole_at ts
+  Some (Assign place value)
+
+abbrev pub received : Place → List Terminal → Option Action
+received place ts = do
+  target ← whole_place ts
   Some (Input place target)
 
-abbrev pub assigned_or_other : Place → List Terminal → Option (List Terminal) → Option Action
-assigned_or_other place ts (Some rest) = do
-  value ← whole_at rest
-  Some (Assign place value)
-assigned_or_other place ts None = sent_or_received place ts (behind mark.Output ts)
+abbrev pub sent : Place → List Terminal → Option Action
+sent place ts = do
+  value ← whole_at ts
+  Some (Output place value)
+
+-- behind the place that it begins with
+abbrev pub placed_action : Place → List Terminal → Option Action
+placed_action place (Mark mark.Assign ∷ ts) = assigned place ts
+placed_action place (Mark mark.Input ∷ ts) = received place ts
+placed_action place (Mark mark.Output ∷ ts) = sent place ts
+placed_action place ts = None
 
 abbrev pub instance_or_other : List ℕ → List Terminal → Option (List Terminal) → Option Action
 instance_or_other name ts (Some rest) = do
@@ -195,7 +208,7 @@ instance_or_other name ts (Some rest) = do
   Some (Instance name actuals)
 instance_or_other name ts None = do
   place ← place_at name ts
-  assigned_or_other place.0 place.1 (behind mark.Assign place.1)
+  placed_action place.0 place.1
 
 -- behind its first name
 unfoldable pub action_at : List ℕ → List Terminal → Option Action
@@ -203,15 +216,20 @@ action_at name ts = instance_or_other name ts (behind mark.OpenParenthesis ts)
 
 -- ---- heads
 
+unfoldable pub counted_at : List ℕ → List Terminal → Option Replicator
+counted_at name ts = do
+  base ← expression_at 64 ts
+  rest ← behind mark.For base.1
+  count ← whole_at rest
+  Some (record { name = name; base = base.0; count = count })
+
 unfoldable pub replicator_at : List Terminal → Option (Option Replicator)
 replicator_at [] = Some None
 replicator_at (t ∷ ts) = do
   name ← name_at (t ∷ ts)
   equal ← equals_at name.1
-  base ← expression_at 64 equal
-  rest ← behind mark.For base.1
-  count ← expression_at 64 rest
-  only (Some (record { name = name.0; base = base.0; count = count.0 })) count.1
+  replicator ← counted_at name.0 equal
+  Some (Some replicator)
 
 unfoldable pub block_at : BlockKind → List Terminal → Option Head
 block_at kind ts = do
@@ -267,11 +285,14 @@ input_at ts = do
   target ← whole_place rest
   Some (channel.0, target)
 
+abbrev pub received_if : Option Expression → List Terminal → Option Guard
+received_if condition ts = do
+  x ← input_at ts
+  Some (Receives condition x.0 x.1)
+
 abbrev pub skips_or_receives : Expression → List Terminal → Option (List Terminal) → Option Guard
 skips_or_receives condition ts (Some rest) = only (Skips condition) rest
-skips_or_receives condition ts None = do
-  x ← input_at ts
-  Some (Receives (Some condition) x.0 x.1)
+skips_or_receives condition ts None = received_if (Some condition) ts
 
 unfoldable pub conditioned_at : List Terminal → Option Guard
 conditioned_at ts = do
@@ -280,6 +301,4 @@ conditioned_at ts = do
   skips_or_receives condition.0 rest (behind mark.Skip rest)
 
 unfoldable pub guard_at : List Terminal → Option Guard
-guard_at ts =
-    if has_condition ts then conditioned_at ts
-    else (input_at ts >>= λ x. Some (Receives None x.0 x.1))
+guard_at ts = if has_condition ts then conditioned_at ts else received_if None ts

@@ -1,5 +1,5 @@
 -- How a fault of one line is told.
-use Rattle.std.specs.Prelude.{◌≡◌, ◌⊎◌, ℕ, ◌+◌, Bool, List, [], ◌∷◌, ◌++◌, length, ◌<◌, Option, Some, None, Result, Ok, Err}
+use Rattle.std.specs.Prelude.{◌≡◌, ◌⊎◌, ℕ, ◌+◌, Bool, List, [], ◌∷◌, ◌++◌, length, ◌<◌, ◌≤◌, Option, Some, None, Result, Ok, Err}
 use Rattle.std.specs.Borrow.{Bor}
 use Rattle.occam_layout.specs.declared.token.Line.{Line}
 use Rattle.occam_layout.specs.declared.token.Token.{Token}
@@ -8,12 +8,13 @@ use Rattle.occam_parser.specs.declared.fault.LineError.TheVariants as errors
 use Rattle.occam_parser.specs.declared.fault.ParseFault.{ParseFault}
 use Rattle.occam_parser.specs.declared.fault.TheConstants.{MEMORY}
 use Rattle.occam_parser.specs.declared.symbol.Mark.{Mark}
+use Rattle.occam_parser.specs.declared.symbol.Mark.TheVariants as mark
 use Rattle.occam_parser.specs.declared.tree.ValueType.{ValueType}
-use Rattle.occam_parser.specs.Terminals.{terminals_of}
-use Rattle.occam_parser.specs.Reading.{Reads, ◌>>=◌, Fails, Gives, behind}
-use Rattle.occam_parser.specs.LineReading.{type_at, name_at, only}
+use Rattle.occam_parser.specs.Terminals.{Terminal, terminals_of}
+use Rattle.occam_parser.specs.Reading.{Reads, ◌>>=◌, Fails, Gives, behind, list_of}
+use Rattle.occam_parser.specs.LineReading.{type_at, shape_at, name_at, only}
 use Rattle.occam_parser.specs.Blocks.{Row, rows_of, Procedure, ProgramItem, GlobalProcedure}
-use Rattle.occam_parser.specs.BlockReading.{wants}
+use Rattle.occam_parser.specs.BlockReading.{wants, behind_colon}
 
 -- want of memory, which no line is to blame for
 abbrev pub out_of_memory : ParseFault
@@ -46,22 +47,49 @@ typed_name_at ts = do
   name ← name_at type.1
   Some ((type.0, name.0), name.1)
 
+-- a type, or CHAN OF a type, and a name behind it
+unfoldable pub shaped_name_at : Reads ((Bool × ValueType) × List ℕ)
+shaped_name_at ts = do
+  shape ← shape_at ts
+  name ← name_at shape.1
+  Some ((shape.0, name.0), name.1)
+
+-- a type, or CHAN OF a type, and names behind it up to the end of the line
+unfoldable pub shaped_names_at : List Terminal → Option ((Bool × ValueType) × List (List ℕ))
+shaped_names_at ts = do
+  shape ← shape_at ts
+  names ← list_of name_at shape.1
+  rest ← behind mark.Colon names.1
+  only (shape.0, names.0) rest
+
 -- What was read, up to a mark: its fault, or that of a mark that is missing, or the same and the tokens behind the mark.
 abbrev pub GoesUpTo : {A : Type 0} → Mark → (read answer : Result (A × Bor (List Token)) LineError) → Type 0
 GoesUpTo mark (Err e) answer = answer ≡ Err e
 GoesUpTo mark (Ok x) (Err e) = Fails e (behind mark (terminals_of x.1.now))
 GoesUpTo mark (Ok x) (Ok y) = (y.0 ≡ x.0) × (behind mark (terminals_of x.1.now) ≡ Some (terminals_of y.1.now)) × (length y.1.now < length x.1.now)
 
+-- what was read before, beside what was read next: the fault of that, or both
+abbrev pub IsBeside : {A B E : Type 0} → A → Result B E → Result (A × B) E → Type 0
+IsBeside before (Err e) answer = answer ≡ Err e
+IsBeside before (Ok x) answer = answer ≡ Ok (before, x)
+
 -- what was read, where it is all of the line
 abbrev pub IsAll : {A : Type 0} → Result (A × Bor (List Token)) LineError → Result A LineError → Type 0
 IsAll (Err e) answer = answer ≡ Err e
 IsAll (Ok x) answer = Gives (λ y. y) answer (only x.0 (terminals_of x.1.now))
 
--- A turn of a loop over components, by what was read: its fault, or one component more, whether another follows, and the lines that come next.
-abbrev pub Takes : {A : Type 0} → ℕ → Bool → Result (A × Bor (List Line)) ParseFault → (old new : List A) → Result (Bool × Bor (List Line)) ParseFault → Type 0
-Takes level single (Err e) old new answer = answer ≡ Err e
-Takes level single (Ok x) old new (Err e) = (e ≡ out_of_memory) ⊎ (wants level single (length old + 1) (rows_of x.1.now) ≡ None)
-Takes level single (Ok x) old new (Ok y) = (new ≡ old ++ x.0 ∷ []) × (y.1.now ≡ x.1.now) × (wants level single (length new) (rows_of x.1.now) ≡ Some y.0)
+-- The lines behind what was read and the colon that ends it: the fault of either, or the same and those lines.
+abbrev pub GoesUpToColon : {A : Type 0} → (read answer : Result (A × Bor (List Line)) ParseFault) → Type 0
+GoesUpToColon (Err e) answer = answer ≡ Err e
+GoesUpToColon (Ok x) (Err e) = (e ≡ out_of_memory) ⊎ (behind_colon (rows_of x.1.now) ≡ None)
+GoesUpToColon (Ok x) (Ok y) =
+    (y.0 ≡ x.0) × (behind_colon (rows_of x.1.now) ≡ Some (rows_of y.1.now)) × (length y.1.now ≤ length x.1.now)
+
+-- What was read, pushed: its fault, or want of memory, or one item more and the lines behind.
+abbrev pub Pushes : {A : Type 0} → Result (A × Bor (List Line)) ParseFault → (old new : List A) → Result (Bor (List Line)) ParseFault → Type 0
+Pushes (Err e) old new answer = answer ≡ Err e
+Pushes (Ok x) old new (Err e) = e ≡ out_of_memory
+Pushes (Ok x) old new (Ok rest) = (new ≡ old ++ x.0 ∷ []) × (rest.now ≡ x.1.now)
 
 -- What a head has, beside what was read below it: the fault of that, or both, and the lines behind.
 abbrev pub StandsAbove : {A B : Type 0} → A → Result (B × Bor (List Line)) ParseFault → Result ((A × B) × Bor (List Line)) ParseFault → Type 0

@@ -1,16 +1,16 @@
 //! Processes, by the levels of their lines.
 
-ghost use Rattle.std.specs.Prelude.{◌≡◌, ◌≤◌, ◌<◌, ◌-◌, [], ◌∷◌, length, map, option_map, IfOk, OnOk};
-ghost use Rattle.occam_parser.specs.Told.{Tells, Takes, StandsAbove};
+ghost use Rattle.std.specs.Prelude.{◌≡◌, ◌≤◌, ◌<◌, ◌-◌, [], ◌∷◌, length, option_map, IfOk, OnOk};
+ghost use Rattle.occam_parser.specs.Told.{Tells, Pushes, StandsAbove};
 ghost use Rattle.occam_parser.specs.declared.head.BlockKind.TheVariants.{If, Alt};
 ghost use Rattle.occam_parser.specs.LineViews.{replicator_of};
 ghost use Rattle.occam_parser.specs.Reading.{Finds};
-ghost use Rattle.occam_parser.specs.Blocks.{row_of, rows_of, Block};
-ghost use Rattle.occam_parser.specs.BlockReading.{first_row, beginning_from, wants, components_of, plain_at, process_at, component_at};
-ghost use Rattle.occam_parser.specs.BlockViews.{all_of, process_of, construct_of, choice_of, branch_of, beginning_of, plain_component, kind_of, components_in};
+ghost use Rattle.occam_parser.specs.Blocks.{row_of, rows_of, Block, NoComponent};
+ghost use Rattle.occam_parser.specs.BlockReading.{first_row, beginning_from, count_of, wants, further, components_of, process_at, component_at};
+ghost use Rattle.occam_parser.specs.BlockViews.{process_of, construct_of, choice_of, branch_of, beginning_of, kind_of, components_in};
 
 use crate::fault::{Fault, ParseFault, at_line};
-use crate::head::{BlockKind, Head, Start, guard, head_of, whole};
+use crate::head::{BlockKind, Head, Start, beside, guard, head_of, whole};
 use crate::tree::{Branch, Choice, Construct, Declaration, Process, Replicator};
 use occam_layout::Line;
 use std::alloc::Global;
@@ -41,6 +41,18 @@ fn first_at<'l, 'a>(
         return Err(Fault::UnexpectedToken.at(line.number));
     }
     Ok((line, rest))
+}
+
+/// Pushes what was read, and tells the lines behind it.
+pub(crate) fn push<'l, 'a, T: Drop>(
+    found: &mut Vec<T>,
+    read: Result<(T, &'l [Line<'a>]), ParseFault>,
+) -> Result<&'l [Line<'a>], ParseFault>
+    ensures { Pushes read.entry found.old.items found.new.items result }
+{
+    let (item, rest) = read?;
+    found.push(item)?;
+    Ok(rest)
 }
 
 /// Declarations, and the line behind them with what it begins.
@@ -91,6 +103,33 @@ enum Body<'a> {
     Par(Vec<Process<'a>>),
     If(Vec<Choice<'a>>),
     Alt(Vec<Branch<'a>>),
+}
+
+impl<'a> Body<'a> {
+    /// The body of a block in which no component was read yet.
+    fn new(alloc: Global, kind: BlockKind) -> Body<'a>
+        ensures kind { kind_of result ≡ kind }
+        ensures empty { components_in result ≡ NoComponent }
+    {
+        match kind {
+            BlockKind::Seq => Body::Seq(Vec::new(alloc)),
+            BlockKind::Par => Body::Par(Vec::new(alloc)),
+            BlockKind::If => Body::If(Vec::new(alloc)),
+            BlockKind::Alt => Body::Alt(Vec::new(alloc)),
+        }
+    }
+
+    /// How many components it has.
+    fn len(&self) -> usize
+        ensures { result ≡ count_of (components_in self.now) }
+    {
+        match self {
+            Body::Seq(components) => components.len(),
+            Body::Par(components) => components.len(),
+            Body::If(choices) => choices.len(),
+            Body::Alt(branches) => branches.len(),
+        }
+    }
 }
 
 /// A block with this body.
@@ -145,61 +184,32 @@ pub(crate) fn process<'l, 'a>(
         line,
         start,
     } = opening;
-    let (construct, rest) = match start {
-        Start::Action(action) => (Construct::Action(action), rest),
+    match start {
+        Start::Action(action) => {
+            let construct = Construct::Action(action);
+            Ok((
+                Process {
+                    declarations,
+                    line,
+                    construct,
+                },
+                rest,
+            ))
+        }
         Start::Block(kind, replicator) => {
             let single = replicator.is_some();
-            let ((replicator, body), rest) = below(
-                replicator,
-                components(alloc, line, level + 1, kind, single, rest),
-            )?;
-            (block(replicator, body), rest)
-        }
-    };
-    Ok((
-        Process {
-            declarations,
-            line,
-            construct,
-        },
-        rest,
-    ))
-}
-
-/// The body of a block whose head stands on line `owner`, and the lines behind it. Its components are at `level`.
-#[cycle(process)]
-fn components<'l, 'a>(
-    alloc: Global,
-    owner: u32,
-    level: u32,
-    kind: BlockKind,
-    single: bool,
-    lines: &'l [Line<'a>],
-) -> Result<(Body<'a>, &'l [Line<'a>]), ParseFault>
-    ensures found { Tells (λ x. (components_in x.0, rows_of x.1.now)) result (components_of (component_at (65 - level) level kind) level single (rows_of lines.now)) }
-    ensures kind { IfOk result (λ x. kind_of x.0 ≡ kind) }
-    ensures within { IfOk result (λ x. length x.1.now ≤ length lines.now) }
-{
-    match kind {
-        BlockKind::Seq => {
-            let mut found = Vec::new(alloc);
-            let rest = processes(alloc, owner, level, single, lines, &mut found)?;
-            Ok((Body::Seq(found), rest))
-        }
-        BlockKind::Par => {
-            let mut found = Vec::new(alloc);
-            let rest = processes(alloc, owner, level, single, lines, &mut found)?;
-            Ok((Body::Par(found), rest))
-        }
-        BlockKind::If => {
-            let mut found = Vec::new(alloc);
-            let rest = choices(alloc, owner, level, single, lines, &mut found)?;
-            Ok((Body::If(found), rest))
-        }
-        BlockKind::Alt => {
-            let mut found = Vec::new(alloc);
-            let rest = branches(alloc, owner, level, single, lines, &mut found)?;
-            Ok((Body::Alt(found), rest))
+            let mut body = Body::new(alloc, kind);
+            let read = components(alloc, line, level + 1, single, rest, &mut body);
+            let (replicator, rest) = beside(replicator, read)?;
+            let construct = block(replicator, body);
+            Ok((
+                Process {
+                    declarations,
+                    line,
+                    construct,
+                },
+                rest,
+            ))
         }
     }
 }
@@ -232,100 +242,49 @@ fn more<'l, 'a>(
     }
 }
 
-/// Puts a component that was read to those found before, and tells whether another follows, and the lines that come next.
-fn take<'l, 'a, T: Drop>(
-    found: &mut Vec<T>,
-    owner: u32,
-    level: u32,
-    single: bool,
-    read: Result<(T, &'l [Line<'a>]), ParseFault>,
-) -> Result<(bool, &'l [Line<'a>]), ParseFault>
-    ensures { Takes level single read.entry found.old.items found.new.items result }
-{
-    let (component, rest) = read?;
-    found.push(component)?;
-    more(owner, level, single, found.len(), rest)
-}
-
-/// Reads the processes of a block into an empty list, and tells the lines behind them.
+/// Reads the components of a block, at `level`, into an empty body, and tells the lines behind them. The head of the
+/// block stands on line `owner`.
 #[cycle(process)]
-fn processes<'l, 'a>(
+fn components<'l, 'a>(
     alloc: Global,
     owner: u32,
     level: u32,
     single: bool,
     lines: &'l [Line<'a>],
-    found: &mut Vec<Process<'a>>,
+    found: &mut Body<'a>,
 ) -> Result<&'l [Line<'a>], ParseFault>
-    requires { found.old.items ≡ [] }
-    ensures found { Tells (λ rest. (all_of (map plain_component found.new.items), rows_of rest.now)) result (components_of (plain_at (65 - level) level) level single (rows_of lines.now)) }
+    requires { components_in found.old ≡ NoComponent }
+    ensures found { Tells (λ rest. (components_in found.new, rows_of rest.now)) result (components_of (component_at (65 - level) level (kind_of found.old)) level single (rows_of lines.now)) }
+    ensures kind { kind_of found.new ≡ kind_of found.old }
     ensures within { IfOk result (λ rest. length rest.now ≤ length lines.now) }
 {
     let (mut goes_on, mut rest) = more(owner, level, single, 0, lines)?;
     while goes_on {
-        (goes_on, rest) = take(
-            found,
-            owner,
-            level,
-            single,
-            process(alloc, owner, level, rest),
-        )?;
+        let behind = component(alloc, owner, level, rest, found)?;
+        (goes_on, rest) = more(owner, level, single, found.len(), behind)?;
     }
     Ok(rest)
 }
 
-/// Reads the choices of an `IF` into an empty list, and tells the lines behind them.
+/// Reads one more component of a block into its body, and tells the lines behind it.
 #[cycle(process)]
-fn choices<'l, 'a>(
+fn component<'l, 'a>(
     alloc: Global,
     owner: u32,
     level: u32,
-    single: bool,
     lines: &'l [Line<'a>],
-    found: &mut Vec<Choice<'a>>,
+    found: &mut Body<'a>,
 ) -> Result<&'l [Line<'a>], ParseFault>
-    requires { found.old.items ≡ [] }
-    ensures found { Tells (λ rest. (all_of (map choice_of found.new.items), rows_of rest.now)) result (components_of (component_at (65 - level) level If) level single (rows_of lines.now)) }
-    ensures within { IfOk result (λ rest. length rest.now ≤ length lines.now) }
+    ensures found { Tells (λ rest. (components_in found.new, rows_of rest.now)) result (further (components_in found.old) (component_at (65 - level) level (kind_of found.old) (rows_of lines.now))) }
+    ensures kind { kind_of found.new ≡ kind_of found.old }
+    ensures within { IfOk result (λ rest. length rest.now < length lines.now) }
 {
-    let (mut goes_on, mut rest) = more(owner, level, single, 0, lines)?;
-    while goes_on {
-        (goes_on, rest) = take(
-            found,
-            owner,
-            level,
-            single,
-            choice(alloc, owner, level, rest),
-        )?;
+    match found {
+        Body::Seq(found) => push(found, process(alloc, owner, level, lines)),
+        Body::Par(found) => push(found, process(alloc, owner, level, lines)),
+        Body::If(found) => push(found, choice(alloc, owner, level, lines)),
+        Body::Alt(found) => push(found, branch(alloc, owner, level, lines)),
     }
-    Ok(rest)
-}
-
-/// Reads the branches of an `ALT` into an empty list, and tells the lines behind them.
-#[cycle(process)]
-fn branches<'l, 'a>(
-    alloc: Global,
-    owner: u32,
-    level: u32,
-    single: bool,
-    lines: &'l [Line<'a>],
-    found: &mut Vec<Branch<'a>>,
-) -> Result<&'l [Line<'a>], ParseFault>
-    requires { found.old.items ≡ [] }
-    ensures found { Tells (λ rest. (all_of (map branch_of found.new.items), rows_of rest.now)) result (components_of (component_at (65 - level) level Alt) level single (rows_of lines.now)) }
-    ensures within { IfOk result (λ rest. length rest.now ≤ length lines.now) }
-{
-    let (mut goes_on, mut rest) = more(owner, level, single, 0, lines)?;
-    while goes_on {
-        (goes_on, rest) = take(
-            found,
-            owner,
-            level,
-            single,
-            branch(alloc, owner, level, rest),
-        )?;
-    }
-    Ok(rest)
 }
 
 /// A condition, and the process below it.

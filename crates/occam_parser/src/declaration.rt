@@ -5,12 +5,12 @@ ghost use Rattle.occam_parser.specs.Terminals.{terminals_of};
 ghost use Rattle.occam_parser.specs.Views.{expression_of};
 ghost use Rattle.occam_parser.specs.LineViews.{spelling_of, value_of, constant_of, declaration_of, formal_of, proc_head_of};
 ghost use Rattle.occam_parser.specs.Reading.{Gives, Finds, list_of};
-ghost use Rattle.occam_parser.specs.LineReading.{type_at, shape_at, name_at, value_at, constant_at, names_at, formal_named, formal_at, proc_head_at};
-ghost use Rattle.occam_parser.specs.Told.{typed_name_at};
+ghost use Rattle.occam_parser.specs.LineReading.{type_at, shape_at, name_at, value_at, constant_at, table_at, items_at, names_at, value_formal_at, formal_at, proc_head_at};
+ghost use Rattle.occam_parser.specs.Told.{typed_name_at, shaped_name_at, shaped_names_at};
 
 use crate::expression::{expect, expression, expressions, in_brackets, up_to};
 use crate::fault::{Fault, LineError};
-use crate::head::{at_end, expect_end, name};
+use crate::head::{at_end, beside, expect_end, name};
 use crate::symbol::{Mark, Symbol, behind, first};
 use crate::tree::{
     Constant, ConstantValue, Declaration, Expr, Formal, FormalKind, Names, ValueType,
@@ -43,7 +43,8 @@ fn value_type<'t, 'a>(tokens: &'t [Token<'a>]) -> Result<(ValueType, &'t [Token<
 fn typed_name<'t, 'a>(
     tokens: &'t [Token<'a>],
 ) -> Result<((ValueType, &'a [u8]), &'t [Token<'a>]), LineError>
-    ensures { Gives (λ x. ((x.0.0, x.0.1.now), terminals_of x.1.now)) result (typed_name_at (terminals_of tokens.now)) }
+    ensures found { Gives (λ x. ((x.0.0, x.0.1.now), terminals_of x.1.now)) result (typed_name_at (terminals_of tokens.now)) }
+    ensures within { IfOk result (λ x. length x.1.now ≤ length tokens.now) }
 {
     let (value_type, rest) = value_type(tokens)?;
     let (name, rest) = name(rest)?;
@@ -64,6 +65,19 @@ fn shape<'t, 'a>(tokens: &'t [Token<'a>]) -> Result<((bool, ValueType), &'t [Tok
     Ok(((false, value_type), rest))
 }
 
+/// `type name` or `CHAN OF type name`, and the tokens behind it.
+#[tactic(auto, unfolding(crate::specs::Told::shaped_name_at))]
+fn shaped_name<'t, 'a>(
+    tokens: &'t [Token<'a>],
+) -> Result<(((bool, ValueType), &'a [u8]), &'t [Token<'a>]), LineError>
+    ensures found { Gives (λ x. ((x.0.0, x.0.1.now), terminals_of x.1.now)) result (shaped_name_at (terminals_of tokens.now)) }
+    ensures within { IfOk result (λ x. length x.1.now ≤ length tokens.now) }
+{
+    let (shape, rest) = shape(tokens)?;
+    let (name, rest) = name(rest)?;
+    Ok(((shape, name), rest))
+}
+
 /// A constant, behind its `VAL`.
 #[tactic(auto, unfolding(crate::specs::LineReading::constant_at, crate::specs::Told::typed_name_at))]
 pub(crate) fn constant<'a>(
@@ -74,7 +88,7 @@ pub(crate) fn constant<'a>(
     ensures { Gives constant_of result (constant_at line (terminals_of tokens.now)) }
 {
     let (size, rest) = in_brackets(alloc, tokens)?;
-    let ((value_type, name), rest) = up_to(Mark::Is, typed_name(rest))?;
+    let (size, ((value_type, name), rest)) = beside(size, up_to(Mark::Is, typed_name(rest)))?;
     let value = at_end(up_to(Mark::Colon, constant_value(alloc, size, rest)))?;
     Ok(Constant {
         line,
@@ -85,7 +99,7 @@ pub(crate) fn constant<'a>(
 }
 
 /// What a constant stands for: a table where it has a size.
-#[tactic(auto, unfolding(crate::specs::LineReading::value_at, crate::specs::LineReading::table_at, crate::specs::Reading::up_to))]
+#[tactic(auto, unfolding(crate::specs::LineReading::value_at))]
 fn constant_value<'t, 'a>(
     alloc: Global,
     size: Option<Expr<'a>>,
@@ -97,24 +111,46 @@ fn constant_value<'t, 'a>(
         let (value, rest) = expression(alloc, tokens)?;
         return Ok((ConstantValue::Scalar(value), rest));
     };
+    table(alloc, size, tokens)
+}
+
+/// A table of this size: its items, or a string.
+#[tactic(auto, unfolding(crate::specs::LineReading::table_at))]
+fn table<'t, 'a>(
+    alloc: Global,
+    size: Expr<'a>,
+    tokens: &'t [Token<'a>],
+) -> Result<(ConstantValue<'a>, &'t [Token<'a>]), LineError>
+    ensures { Gives (λ x. (value_of x.0, terminals_of x.1.now)) result (table_at (expression_of size.entry) (terminals_of tokens.now)) }
+{
     match first(tokens) {
         Some((Symbol::Text(text), rest)) => Ok((ConstantValue::Text { size, text }, rest)),
-        Some((Symbol::Mark(Mark::OpenBracket), rest)) => {
-            let (items, rest) = up_to(Mark::CloseBracket, expressions(alloc, rest))?;
-            Ok((ConstantValue::Table { size, items }, rest))
-        }
+        Some((Symbol::Mark(Mark::OpenBracket), rest)) => table_items(alloc, size, rest),
         _ => Err(LineError::Fault(Fault::UnexpectedToken)),
     }
 }
 
+/// The items of a table of this size, behind the bracket that opens it.
+#[tactic(auto, unfolding(crate::specs::Reading::up_to))]
+fn table_items<'t, 'a>(
+    alloc: Global,
+    size: Expr<'a>,
+    tokens: &'t [Token<'a>],
+) -> Result<(ConstantValue<'a>, &'t [Token<'a>]), LineError>
+    ensures { Gives (λ x. (value_of x.0, terminals_of x.1.now)) result (items_at (expression_of size.entry) (terminals_of tokens.now)) }
+{
+    let items = up_to(Mark::CloseBracket, expressions(alloc, tokens));
+    let (size, (items, rest)) = beside(size, items)?;
+    Ok((ConstantValue::Table { size, items }, rest))
+}
+
 /// The declaration of variables or channels that a line is.
-#[tactic(auto, unfolding(crate::specs::LineReading::names_at))]
+#[tactic(auto, unfolding(crate::specs::LineReading::names_at, crate::specs::Told::shaped_names_at))]
 pub(crate) fn typed_names<'a>(alloc: Global, line: &Line<'a>) -> Result<Declaration<'a>, LineError>
     ensures { Gives declaration_of result (names_at line.now.number (terminals_of line.now.tokens.items)) }
 {
     let (size, rest) = in_brackets(alloc, &line.tokens)?;
-    let ((is_channel, value_type), rest) = shape(rest)?;
-    let names = at_end(up_to(Mark::Colon, names(alloc, rest)))?;
+    let (size, ((is_channel, value_type), names)) = beside(size, shaped_names(alloc, rest))?;
     let found = Names {
         line: line.number,
         size,
@@ -126,6 +162,19 @@ pub(crate) fn typed_names<'a>(alloc: Global, line: &Line<'a>) -> Result<Declarat
     } else {
         Declaration::Variables(found)
     })
+}
+
+/// A type, or `CHAN OF` and a type, and the names behind it up to the colon that ends the line.
+#[tactic(auto, unfolding(crate::specs::Told::shaped_names_at))]
+fn shaped_names<'a>(
+    alloc: Global,
+    tokens: &[Token<'a>],
+) -> Result<((bool, ValueType), Vec<&'a [u8]>), LineError>
+    ensures { Gives (λ x. (x.0, map spelling_of x.1.items)) result (shaped_names_at (terminals_of tokens.now)) }
+{
+    let (shape, rest) = shape(tokens)?;
+    let names = at_end(up_to(Mark::Colon, names(alloc, rest)))?;
+    Ok((shape, names))
 }
 
 /// Names with commas between them, one at least.
@@ -185,7 +234,7 @@ fn formals<'t, 'a>(
 }
 
 /// A formal parameter, and the tokens behind it.
-#[tactic(auto, unfolding(crate::specs::LineReading::formal_at))]
+#[tactic(auto, unfolding(crate::specs::LineReading::formal_at, crate::specs::LineReading::formal_named, crate::specs::Told::shaped_name_at))]
 fn formal<'t, 'a>(
     alloc: Global,
     tokens: &'t [Token<'a>],
@@ -194,35 +243,40 @@ fn formal<'t, 'a>(
     ensures within { IfOk result (λ x. length x.1.now ≤ length tokens.now) }
 {
     if let Some(rest) = behind(Mark::Val, tokens) {
-        let (size, rest) = in_brackets(alloc, rest)?;
-        let (value_type, rest) = value_type(rest)?;
-        return formal_named(FormalKind::Value, size, value_type, rest);
+        return value_formal(alloc, rest);
     }
     let (size, rest) = in_brackets(alloc, tokens)?;
-    let ((is_channel, value_type), rest) = shape(rest)?;
+    let (size, (((is_channel, value_type), name), rest)) = beside(size, shaped_name(rest))?;
     let kind = if is_channel {
         FormalKind::Channel
     } else {
         FormalKind::Variable
     };
-    formal_named(kind, size, value_type, rest)
-}
-
-/// A formal parameter, of which only the name is left to read.
-#[tactic(auto, unfolding(crate::specs::LineReading::formal_named))]
-fn formal_named<'t, 'a>(
-    kind: FormalKind,
-    size: Option<Expr<'a>>,
-    value_type: ValueType,
-    tokens: &'t [Token<'a>],
-) -> Result<(Formal<'a>, &'t [Token<'a>]), LineError>
-    ensures found { Gives (λ x. (formal_of x.0, terminals_of x.1.now)) result (formal_named kind (option_map expression_of size.entry) value_type (terminals_of tokens.now)) }
-    ensures within { IfOk result (λ x. length x.1.now ≤ length tokens.now) }
-{
-    let (name, rest) = name(tokens)?;
     Ok((
         Formal {
             kind,
+            size,
+            value_type,
+            name,
+        },
+        rest,
+    ))
+}
+
+/// A formal parameter that is a value, behind its `VAL`.
+#[tactic(auto, unfolding(crate::specs::LineReading::formal_named, crate::specs::Told::typed_name_at))]
+fn value_formal<'t, 'a>(
+    alloc: Global,
+    tokens: &'t [Token<'a>],
+) -> Result<(Formal<'a>, &'t [Token<'a>]), LineError>
+    ensures found { Gives (λ x. (formal_of x.0, terminals_of x.1.now)) result (value_formal_at (terminals_of tokens.now)) }
+    ensures within { IfOk result (λ x. length x.1.now ≤ length tokens.now) }
+{
+    let (size, rest) = in_brackets(alloc, tokens)?;
+    let (size, ((value_type, name), rest)) = beside(size, typed_name(rest))?;
+    Ok((
+        Formal {
+            kind: FormalKind::Value,
             size,
             value_type,
             name,

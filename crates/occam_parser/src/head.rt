@@ -5,8 +5,9 @@ ghost use Rattle.occam_parser.specs.Terminals.{terminals_of, seen_symbol};
 ghost use Rattle.occam_parser.specs.Views.{expression_of};
 ghost use Rattle.occam_parser.specs.LineViews.{place_of, replicator_of, action_of, guard_of, head_of};
 ghost use Rattle.occam_parser.specs.Reading.{Gives, Finds};
-ghost use Rattle.occam_parser.specs.Told.{IsAll};
-ghost use Rattle.occam_parser.specs.LineReading.{ended, name_at, head_at, marked_head, block_at, replicator_at, place_at, action_at, actuals_at, whole_at, whole_place, is_guard_sign, has_condition, guard_at, input_at};
+ghost use Rattle.occam_parser.specs.Told.{IsAll, IsBeside};
+ghost use Rattle.occam_parser.specs.Lines.{Skips};
+ghost use Rattle.occam_parser.specs.LineReading.{ended, only, name_at, head_at, marked_head, block_at, replicator_at, counted_at, place_at, action_at, placed_action, assigned, received, sent, actuals_at, whole_at, whole_place, is_guard_sign, has_condition, guard_at, conditioned_at, received_if, input_at};
 
 use crate::declaration::{constant, typed_names};
 use crate::expression::{expect, expression, expressions, in_brackets, up_to};
@@ -58,6 +59,16 @@ pub(crate) fn at_end<T: Drop>(read: Result<(T, &[Token<'_>]), LineError>) -> Res
     let (found, rest) = read?;
     expect_end(rest)?;
     Ok(found)
+}
+
+/// What was read before, beside what was read next. It carries a tree past a `?` in one call: see the notes.
+pub(crate) fn beside<H: Drop, T, E>(before: H, read: Result<T, E>) -> Result<(H, T), E>
+    ensures { IsBeside before read result }
+{
+    match read {
+        Ok(found) => Ok((before, found)),
+        Err(error) => Err(error),
+    }
 }
 
 /// The name at the front of some tokens, and the tokens behind it.
@@ -130,7 +141,7 @@ fn block<'a>(alloc: Global, kind: BlockKind, tokens: &[Token<'a>]) -> Result<Hea
 }
 
 /// The replicator up to the end of the line, if anything stands there.
-#[tactic(auto, unfolding(crate::specs::LineReading::replicator_at, crate::specs::LineReading::equals_at, crate::specs::LineReading::whole_at))]
+#[tactic(auto, unfolding(crate::specs::LineReading::replicator_at, crate::specs::LineReading::equals_at))]
 fn replicator<'a>(alloc: Global, tokens: &[Token<'a>]) -> Result<Option<Replicator<'a>>, LineError>
     ensures { Gives (option_map replicator_of) result (replicator_at (terminals_of tokens.now)) }
 {
@@ -141,9 +152,21 @@ fn replicator<'a>(alloc: Global, tokens: &[Token<'a>]) -> Result<Option<Replicat
     let Some((Symbol::Pair(PairOperator::Equal), rest)) = first(rest) else {
         return Err(LineError::Fault(Fault::UnexpectedToken));
     };
-    let (base, rest) = up_to(Mark::For, expression(alloc, rest))?;
-    let count = whole(alloc, rest)?;
-    Ok(Some(Replicator { name, base, count }))
+    Ok(Some(counted(alloc, name, rest)?))
+}
+
+/// A replicator, behind its name and the sign after it.
+#[tactic(auto, unfolding(crate::specs::LineReading::counted_at, crate::specs::LineReading::whole_at))]
+fn counted<'a>(
+    alloc: Global,
+    name: &'a [u8],
+    tokens: &[Token<'a>],
+) -> Result<Replicator<'a>, LineError>
+    ensures { Gives replicator_of result (counted_at name.now (terminals_of tokens.now)) }
+{
+    let (base, rest) = up_to(Mark::For, expression(alloc, tokens))?;
+    let (base, count) = beside(base, whole(alloc, rest))?;
+    Ok(Replicator { name, base, count })
 }
 
 /// A variable or a channel whose name was read.
@@ -176,23 +199,60 @@ fn named_action<'a>(
         });
     }
     let (place, rest) = place(alloc, name, tokens)?;
-    if let Some(rest) = behind(Mark::Assign, rest) {
-        return Ok(Action::Assign {
-            target: place,
-            value: whole(alloc, rest)?,
-        });
+    placed_action(alloc, place, rest)
+}
+
+/// An assignment or a communication, behind the place that it begins with.
+#[tactic(auto, unfolding(crate::specs::Reading::behind))]
+fn placed_action<'a>(
+    alloc: Global,
+    place: Place<'a>,
+    tokens: &[Token<'a>],
+) -> Result<Action<'a>, LineError>
+    ensures { Gives action_of result (placed_action (place_of place.entry) (terminals_of tokens.now)) }
+{
+    match first(tokens) {
+        Some((Symbol::Mark(Mark::Assign), rest)) => assign(alloc, place, rest),
+        Some((Symbol::Mark(Mark::Input), rest)) => receive(alloc, place, rest),
+        Some((Symbol::Mark(Mark::Output), rest)) => send(alloc, place, rest),
+        _ => Err(LineError::Fault(Fault::UnexpectedToken)),
     }
-    if let Some(rest) = behind(Mark::Output, rest) {
-        return Ok(Action::Output {
-            channel: place,
-            value: whole(alloc, rest)?,
-        });
-    }
-    let rest = expect(Mark::Input, rest)?;
-    Ok(Action::Input {
-        channel: place,
-        target: whole_place(alloc, rest)?,
-    })
+}
+
+/// An assignment to a place, behind its `:=`.
+fn assign<'a>(
+    alloc: Global,
+    target: Place<'a>,
+    tokens: &[Token<'a>],
+) -> Result<Action<'a>, LineError>
+    ensures { Gives action_of result (assigned (place_of target.entry) (terminals_of tokens.now)) }
+{
+    let (target, value) = beside(target, whole(alloc, tokens))?;
+    Ok(Action::Assign { target, value })
+}
+
+/// An input on a channel, behind its `?`.
+fn receive<'a>(
+    alloc: Global,
+    channel: Place<'a>,
+    tokens: &[Token<'a>],
+) -> Result<Action<'a>, LineError>
+    ensures { Gives action_of result (received (place_of channel.entry) (terminals_of tokens.now)) }
+{
+    let (channel, target) = beside(channel, whole_place(alloc, tokens))?;
+    Ok(Action::Input { channel, target })
+}
+
+/// An output on a channel, behind its `!`.
+fn send<'a>(
+    alloc: Global,
+    channel: Place<'a>,
+    tokens: &[Token<'a>],
+) -> Result<Action<'a>, LineError>
+    ensures { Gives action_of result (sent (place_of channel.entry) (terminals_of tokens.now)) }
+{
+    let (channel, value) = beside(channel, whole(alloc, tokens))?;
+    Ok(Action::Output { channel, value })
 }
 
 /// The actual parameters up to the end of the line.
@@ -246,26 +306,48 @@ fn has_condition(tokens: &[Token<'_>]) -> bool
 }
 
 /// The guard that a line of an `ALT` is.
-#[tactic(auto, unfolding(crate::specs::LineReading::guard_at, crate::specs::LineReading::conditioned_at))]
+#[tactic(auto, unfolding(crate::specs::LineReading::guard_at))]
 pub(crate) fn guard<'a>(alloc: Global, tokens: &[Token<'a>]) -> Result<Guard<'a>, LineError>
     ensures { Gives guard_of result (guard_at (terminals_of tokens.now)) }
 {
-    if !has_condition(tokens) {
-        let (channel, target) = input(alloc, tokens)?;
-        return Ok(Guard::Input {
-            condition: None,
-            channel,
-            target,
-        });
+    if has_condition(tokens) {
+        conditioned(alloc, tokens)
+    } else {
+        input_guard(alloc, None, tokens)
     }
+}
+
+/// A guard with a condition.
+#[tactic(auto, unfolding(crate::specs::LineReading::conditioned_at))]
+fn conditioned<'a>(alloc: Global, tokens: &[Token<'a>]) -> Result<Guard<'a>, LineError>
+    ensures { Gives guard_of result (conditioned_at (terminals_of tokens.now)) }
+{
     let (condition, rest) = up_to(Mark::Guard, expression(alloc, tokens))?;
-    if let Some(rest) = behind(Mark::Skip, rest) {
-        expect_end(rest)?;
-        return Ok(Guard::Skip { condition });
+    match behind(Mark::Skip, rest) {
+        Some(rest) => skip_guard(condition, rest),
+        None => input_guard(alloc, Some(condition), rest),
     }
-    let (channel, target) = input(alloc, rest)?;
+}
+
+/// A guard that is always ready, behind its `SKIP`.
+fn skip_guard<'a>(condition: Expr<'a>, rest: &[Token<'_>]) -> Result<Guard<'a>, LineError>
+    ensures { Gives guard_of result (only (Skips (expression_of condition.entry)) (terminals_of rest.now)) }
+{
+    let (condition, ()) = beside(condition, expect_end(rest))?;
+    Ok(Guard::Skip { condition })
+}
+
+/// A guard that waits for an input, behind its condition.
+fn input_guard<'a>(
+    alloc: Global,
+    condition: Option<Expr<'a>>,
+    tokens: &[Token<'a>],
+) -> Result<Guard<'a>, LineError>
+    ensures { Gives guard_of result (received_if (option_map expression_of condition.entry) (terminals_of tokens.now)) }
+{
+    let (condition, (channel, target)) = beside(condition, input(alloc, tokens))?;
     Ok(Guard::Input {
-        condition: Some(condition),
+        condition,
         channel,
         target,
     })
@@ -278,5 +360,5 @@ fn input<'a>(alloc: Global, tokens: &[Token<'a>]) -> Result<(Place<'a>, Place<'a
 {
     let (name, rest) = name(tokens)?;
     let (channel, rest) = up_to(Mark::Input, place(alloc, name, rest))?;
-    Ok((channel, whole_place(alloc, rest)?))
+    beside(channel, whole_place(alloc, rest))
 }

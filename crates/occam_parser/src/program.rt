@@ -1,13 +1,13 @@
 //! Programs: constants and procedures.
 
 ghost use Rattle.std.specs.Prelude.{◌≡◌, ◌≤◌, ◌<◌, List, length, map, IfOk};
-ghost use Rattle.occam_parser.specs.Told.{Tells, Answers, as_item};
+ghost use Rattle.occam_parser.specs.Told.{Tells, Answers, GoesUpToColon, as_item};
 ghost use Rattle.occam_parser.specs.Terminals.{terminals_of};
 ghost use Rattle.occam_parser.specs.Blocks.{Row, ProgramItem, row_of, rows_of, IsProgram};
-ghost use Rattle.occam_parser.specs.BlockReading.{is_procedure, behind_item, procedure_start, start_at, program_at};
+ghost use Rattle.occam_parser.specs.BlockReading.{behind_colon, procedure_at, item_at, program_at};
 ghost use Rattle.occam_parser.specs.BlockViews.{item_of, items_of};
 
-use crate::block::process;
+use crate::block::{process, push};
 use crate::declaration::{constant, proc_head};
 use crate::fault::{Fault, ParseFault, at_line};
 use crate::head::expect_end;
@@ -16,29 +16,12 @@ use crate::tree::{Item, Proc, Program};
 use occam_layout::{Line, Token};
 use std::alloc::Global;
 
-/// Whether an item is a procedure.
-fn is_procedure(item: &Item<'_>) -> bool
-    ensures { result ≡ is_procedure (item_of item.now) }
-{
-    match item {
-        Item::Constant(_) => false,
-        Item::Proc(_) => true,
-    }
-}
-
-/// The lines behind an item: a procedure ends with a colon, which stands behind the line `last` where it is missing.
+/// The lines behind the colon that ends a procedure. Where it is missing, that is told at the line `last` at the latest.
 #[tactic(auto, unfolding(crate::specs::BlockReading::behind_colon))]
-fn behind_item<'l, 'a>(
-    is_procedure: bool,
-    last: u32,
-    lines: &'l [Line<'a>],
-) -> Result<&'l [Line<'a>], ParseFault>
-    ensures found { Tells (λ rest. rows_of rest.now) result (behind_item is_procedure (rows_of lines.now)) }
+fn behind_colon<'l, 'a>(last: u32, lines: &'l [Line<'a>]) -> Result<&'l [Line<'a>], ParseFault>
+    ensures found { Tells (λ rest. rows_of rest.now) result (behind_colon (rows_of lines.now)) }
     ensures within { IfOk result (λ rest. length rest.now ≤ length lines.now) }
 {
-    if !is_procedure {
-        return Ok(lines);
-    }
     let Some((line, rest)) = lines.split_first() else {
         return Err(Fault::UnexpectedToken.at(last));
     };
@@ -53,18 +36,31 @@ fn behind_item<'l, 'a>(
     }
 }
 
-/// The item that is the procedure whose head is a line, behind its `PROC`, and the lines behind its body.
+/// What was read, where a colon has to end it, and the lines behind the colon.
+fn up_to_colon<'l, 'a, T: Drop>(
+    last: u32,
+    read: Result<(T, &'l [Line<'a>]), ParseFault>,
+) -> Result<(T, &'l [Line<'a>]), ParseFault>
+    ensures { GoesUpToColon read.entry result }
+{
+    let (found, rest) = read?;
+    let rest = behind_colon(last, rest)?;
+    Ok((found, rest))
+}
+
+/// The item that is the procedure whose head is a line, behind its `PROC`, and the lines behind its colon.
 fn proc<'l, 'a>(
     alloc: Global,
+    last: u32,
     line: u32,
     tokens: &[Token<'a>],
     lines: &'l [Line<'a>],
 ) -> Result<(Item<'a>, &'l [Line<'a>]), ParseFault>
-    ensures found { Tells (λ x. (item_of x.0, rows_of x.1.now)) result (as_item (procedure_start line (terminals_of tokens.now) (rows_of lines.now))) }
+    ensures found { Tells (λ x. (item_of x.0, rows_of x.1.now)) result (as_item (procedure_at line (terminals_of tokens.now) (rows_of lines.now))) }
     ensures within { IfOk result (λ x. length x.1.now ≤ length lines.now) }
 {
     let head = at_line(proc_head(alloc, tokens), line)?;
-    let (body, rest) = process(alloc, line, 1, lines)?;
+    let (body, rest) = up_to_colon(last, process(alloc, line, 1, lines))?;
     Ok((
         Item::Proc(Proc {
             line,
@@ -76,14 +72,15 @@ fn proc<'l, 'a>(
     ))
 }
 
-/// The item that begins with a line, without a colon at its end, and the lines behind it.
-#[tactic(auto, unfolding(crate::specs::BlockReading::start_at, crate::specs::BlockReading::start_with))]
+/// The item that begins with a line, and the lines behind it. The last of all lines is the line `last`.
+#[tactic(auto, unfolding(crate::specs::BlockReading::item_at, crate::specs::BlockReading::item_with))]
 fn item<'l, 'a>(
     alloc: Global,
+    last: u32,
     line: &Line<'a>,
     lines: &'l [Line<'a>],
 ) -> Result<(Item<'a>, &'l [Line<'a>]), ParseFault>
-    ensures found { Tells (λ x. (item_of x.0, rows_of x.1.now)) result (start_at (row_of line.now) (rows_of lines.now)) }
+    ensures found { Tells (λ x. (item_of x.0, rows_of x.1.now)) result (item_at (row_of line.now) (rows_of lines.now)) }
     ensures within { IfOk result (λ x. length x.1.now ≤ length lines.now) }
 {
     if line.level > 0 {
@@ -94,7 +91,7 @@ fn item<'l, 'a>(
             let constant = at_line(constant(alloc, line.number, rest), line.number)?;
             Ok((Item::Constant(constant), lines))
         }
-        Some((Symbol::Mark(Mark::Proc), rest)) => proc(alloc, line.number, rest, lines),
+        Some((Symbol::Mark(Mark::Proc), rest)) => proc(alloc, last, line.number, rest, lines),
         _ => Err(Fault::UnexpectedToken.at(line.number)),
     }
 }
@@ -111,10 +108,7 @@ fn items<'a>(alloc: Global, lines: &[Line<'a>]) -> Result<Vec<Item<'a>>, ParseFa
     let mut found = Vec::new(alloc);
     let mut next = lines.split_first();
     while let Some((line, after)) = next {
-        let (first, behind) = item(alloc, line, after)?;
-        let is_procedure = is_procedure(&first);
-        found.push(first)?;
-        let rest = behind_item(is_procedure, last, behind)?;
+        let rest = push(&mut found, item(alloc, last, line, after))?;
         next = rest.split_first();
     }
     Ok(found)

@@ -1,4 +1,4 @@
-use Rattle.std.proofs.Common.{◌≡◌, ◌-◌, ◌+◌, ◌∷◌, ◌++◌, ◌<◌, [], Some, None, length, map, sym, refl, ap, subst, arith, ◌∙◌, inl, inr, rules}
+use Rattle.std.proofs.Common.{◌≡◌, ◌-◌, ◌+◌, ◌∷◌, ◌<◌, [], Some, None, length, map, sym, refl, ap, subst, arith, ◌∙◌, inl, inr, rules}
 use Rattle.std.specs.Prelude.{option_map}
 use Rattle.std.proofs.lemmas.Result.{err_from_is_err_and}
 use Rattle.occam_parser.specs.declared.head.BlockKind.TheVariants as block
@@ -8,215 +8,166 @@ use Rattle.occam_parser.specs.Terminals.{terminals_of}
 use Rattle.occam_parser.specs.LineReading.{whole_at, guard_at}
 use Rattle.occam_parser.specs.Views.{expression_of}
 use Rattle.occam_parser.specs.Blocks.{row_of, rows_of, Block}
-use Rattle.occam_parser.specs.BlockReading.{plain_at, component_at}
-use Rattle.occam_parser.specs.BlockViews.{all_of, process_of, construct_of, choice_of, branch_of, beginning_of, plain_component, kind_of, components_in}
+use Rattle.occam_parser.specs.BlockReading.{component_at, wants}
+use Rattle.occam_parser.specs.BlockViews.{process_of, plain_component, kind_of, components_in}
 use Rattle.occam_parser.proofs.Answering.{told_found, told_lost, passed_on}
-use Rattle.occam_parser.proofs.Levelled.{process_none, process_is, block_found, block_lost, body_found, body_none, seq_is, par_is, kind_reads, choice_none, choice_unread, choice_empty, choice_found, branch_none, branch_unread, branch_empty, branch_found}
-use Rattle.occam_parser.proofs.SeenBlocks.{turn_begins, turn_ends, first_stops, single_is, view-Action, view-Process, view-Choice, view-Branch, started}
-use Rattle.occam_parser.proofs.Taken.{plain_tells, turn_lost, turn_kept, below_lost, below_found, below_head, below_keeps}
+use Rattle.occam_parser.proofs.Turns.{block_stops, block_ends}
+use Rattle.occam_parser.proofs.Levelled.{process_none, process_is, block_found, block_lost, body_found, body_none, kind_reads, choice_none, choice_unread, choice_empty, choice_found, branch_none, branch_unread, branch_empty, branch_found}
+use Rattle.occam_parser.proofs.SeenBlocks.{first_stops, single_is, view-Action, view-Process, view-Choice, view-Branch, started, rows_less}
+use Rattle.occam_parser.proofs.Taken.{seq_tells, par_tells, pushed_tells, turn_begins, turn_goes_on, turn_fails, beside_lost, beside_found, beside_head, below_lost, below_found, below_head, below_keeps}
 use Rattle.occam_parser.proofs.block.+process.Goals as goal
-use Rattle.occam_parser.proofs.block.+process.Goals.{process-in-Action, process-in-Block+in_ok-replicator-in-Block}
 
-pub components-returns-in_err-rest-in-Seq-clause-found : goal.components-returns-in_err-rest-in-Seq-clause-found
-components-returns-in_err-rest-in-Seq-clause-found t c =
+pub component-returns-in-Seq-clause-found : goal.component-returns-in-Seq-clause-found
+component-returns-in-Seq-clause-found t c =
+    let n = 65 - c.args.level in
+    let rows = rows_of c.args.lines.now in
+    let read = c.process.result in
+    let told = seq_tells n c.args.level rows read c.process.ensures.found in
+    rw c.in-Seq.is
+    (pushed_tells plain_component read c.in-Seq.found.items c.push.new.found.items c.push.result
+    (component_at n c.args.level block.Seq rows) c.push.ensures told)
+
+pub component-returns-in-Par-clause-found : goal.component-returns-in-Par-clause-found
+component-returns-in-Par-clause-found t c =
+    let n = 65 - c.args.level in
+    let rows = rows_of c.args.lines.now in
+    let read = c.process-in-Par.result in
+    let told = par_tells n c.args.level rows read c.process-in-Par.ensures.found in
+    rw c.in-Par.is
+    (pushed_tells plain_component read c.in-Par.found.items c.push-in-Par.new.found.items c.push-in-Par.result
+    (component_at n c.args.level block.Par rows) c.push-in-Par.ensures told)
+
+pub components-returns-in_err-goes_on-clause-found : goal.components-returns-in_err-goes_on-clause-found
+components-returns-in_err-goes_on-clause-found t c =
+    let item = component_at (65 - c.args.level) c.args.level (kind_of c.args.found.now) in
     let p = err_from_is_err_and c.from_residual.result c.from_residual.ensures.1 in
-    rw (p.1, p.2) (passed_on _ _ _ (λ none. kind_reads c.args.kind block.Seq (plain_at (65 - c.args.level) c.args.level) c.args.level c.args.single (rows_of c.args.lines.now) c.in-Seq.is (seq_is (65 - c.args.level) c.args.level) ∙ none) c.in_err-rest-in-Seq.ensures.found)
+    rw (p.1, p.2)
+    (inr (first_stops item c.args.level c.args.single (rows_of c.args.lines.now) c.in_err-goes_on.ensures.found))
 
-pub components-returns-in_err-rest-in-Seq-clause-kind : goal.components-returns-in_err-rest-in-Seq-clause-kind
-components-returns-in_err-rest-in-Seq-clause-kind t c =
-    let p = err_from_is_err_and c.from_residual.result c.from_residual.ensures.1 in
-    rw p.1 tt
+pub components-loop-goes_on-init : goal.components-loop-goes_on-init
+components-loop-goes_on-init t c =
+    let item = component_at (65 - c.args.level) c.args.level (kind_of c.args.found.now) in
+    let first = c.in_ok-goes_on in
+    record {
+      within = let same = ap length first.ensures.same in omega arith;
+      kind = refl;
+      wanted = rw (c.requires, first.ensures.same) first.ensures.found;
+      reads = turn_begins item c.args.level c.args.single (rows_of c.args.lines.now) (rows_of first.rest.now) (components_in c.args.found.now) c.requires (ap rows_of first.ensures.same);
+    }
 
-pub components-returns-in_err-rest-in-Seq-clause-within : goal.components-returns-in_err-rest-in-Seq-clause-within
-components-returns-in_err-rest-in-Seq-clause-within t c =
-    let p = err_from_is_err_and c.from_residual.result c.from_residual.ensures.1 in
-    rw p.1 tt
-
-pub components-returns-in_ok-rest-in-Seq-clause-found : goal.components-returns-in_ok-rest-in-Seq-clause-found
-components-returns-in_ok-rest-in-Seq-clause-found t c = kind_reads c.args.kind block.Seq (plain_at (65 - c.args.level) c.args.level) c.args.level c.args.single (rows_of c.args.lines.now) c.in-Seq.is (seq_is (65 - c.args.level) c.args.level) ∙ c.in_ok-rest-in-Seq.ensures.found
-
-pub components-returns-in_ok-rest-in-Seq-clause-kind : goal.components-returns-in_ok-rest-in-Seq-clause-kind
-components-returns-in_ok-rest-in-Seq-clause-kind t c = sym c.in-Seq.is
-
-pub components-returns-in_ok-rest-in-Seq-clause-within : goal.components-returns-in_ok-rest-in-Seq-clause-within
-components-returns-in_ok-rest-in-Seq-clause-within t c = c.in_ok-rest-in-Seq.ensures.within
-
-pub components-returns-in_err-rest-in-Par-clause-found : goal.components-returns-in_err-rest-in-Par-clause-found
-components-returns-in_err-rest-in-Par-clause-found t c =
-    let p = err_from_is_err_and c.from_residual-in_err-rest-in-Par.result c.from_residual-in_err-rest-in-Par.ensures.1 in
-    rw (p.1, p.2) (passed_on _ _ _ (λ none. kind_reads c.args.kind block.Par (plain_at (65 - c.args.level) c.args.level) c.args.level c.args.single (rows_of c.args.lines.now) c.in-Par.is (par_is (65 - c.args.level) c.args.level) ∙ none) c.in_err-rest-in-Par.ensures.found)
-
-pub components-returns-in_err-rest-in-Par-clause-kind : goal.components-returns-in_err-rest-in-Par-clause-kind
-components-returns-in_err-rest-in-Par-clause-kind t c =
-    let p = err_from_is_err_and c.from_residual-in_err-rest-in-Par.result c.from_residual-in_err-rest-in-Par.ensures.1 in
-    rw p.1 tt
-
-pub components-returns-in_err-rest-in-Par-clause-within : goal.components-returns-in_err-rest-in-Par-clause-within
-components-returns-in_err-rest-in-Par-clause-within t c =
-    let p = err_from_is_err_and c.from_residual-in_err-rest-in-Par.result c.from_residual-in_err-rest-in-Par.ensures.1 in
-    rw p.1 tt
-
-pub components-returns-in_ok-rest-in-Par-clause-found : goal.components-returns-in_ok-rest-in-Par-clause-found
-components-returns-in_ok-rest-in-Par-clause-found t c = kind_reads c.args.kind block.Par (plain_at (65 - c.args.level) c.args.level) c.args.level c.args.single (rows_of c.args.lines.now) c.in-Par.is (par_is (65 - c.args.level) c.args.level) ∙ c.in_ok-rest-in-Par.ensures.found
-
-pub components-returns-in_ok-rest-in-Par-clause-kind : goal.components-returns-in_ok-rest-in-Par-clause-kind
-components-returns-in_ok-rest-in-Par-clause-kind t c = sym c.in-Par.is
-
-pub components-returns-in_ok-rest-in-Par-clause-within : goal.components-returns-in_ok-rest-in-Par-clause-within
-components-returns-in_ok-rest-in-Par-clause-within t c = c.in_ok-rest-in-Par.ensures.within
-
-pub components-returns-in_err-rest-in-If-clause-found : goal.components-returns-in_err-rest-in-If-clause-found
-components-returns-in_err-rest-in-If-clause-found t c =
-    let p = err_from_is_err_and c.from_residual-in_err-rest-in-If.result c.from_residual-in_err-rest-in-If.ensures.1 in
-    rw (p.1, p.2) (passed_on _ _ _ (λ none. kind_reads c.args.kind block.If (component_at (65 - c.args.level) c.args.level block.If) c.args.level c.args.single (rows_of c.args.lines.now) c.in-If.is refl ∙ none) c.in_err-rest-in-If.ensures.found)
-
-pub components-returns-in_err-rest-in-If-clause-kind : goal.components-returns-in_err-rest-in-If-clause-kind
-components-returns-in_err-rest-in-If-clause-kind t c =
-    let p = err_from_is_err_and c.from_residual-in_err-rest-in-If.result c.from_residual-in_err-rest-in-If.ensures.1 in
-    rw p.1 tt
-
-pub components-returns-in_err-rest-in-If-clause-within : goal.components-returns-in_err-rest-in-If-clause-within
-components-returns-in_err-rest-in-If-clause-within t c =
-    let p = err_from_is_err_and c.from_residual-in_err-rest-in-If.result c.from_residual-in_err-rest-in-If.ensures.1 in
-    rw p.1 tt
-
-pub components-returns-in_ok-rest-in-If-clause-found : goal.components-returns-in_ok-rest-in-If-clause-found
-components-returns-in_ok-rest-in-If-clause-found t c = kind_reads c.args.kind block.If (component_at (65 - c.args.level) c.args.level block.If) c.args.level c.args.single (rows_of c.args.lines.now) c.in-If.is refl ∙ c.in_ok-rest-in-If.ensures.found
-
-pub components-returns-in_ok-rest-in-If-clause-kind : goal.components-returns-in_ok-rest-in-If-clause-kind
-components-returns-in_ok-rest-in-If-clause-kind t c = sym c.in-If.is
-
-pub components-returns-in_ok-rest-in-If-clause-within : goal.components-returns-in_ok-rest-in-If-clause-within
-components-returns-in_ok-rest-in-If-clause-within t c = c.in_ok-rest-in-If.ensures.within
-
-pub components-returns-in_err-rest-in-Alt-clause-found : goal.components-returns-in_err-rest-in-Alt-clause-found
-components-returns-in_err-rest-in-Alt-clause-found t c =
-    let p = err_from_is_err_and c.from_residual-in_err-rest-in-Alt.result c.from_residual-in_err-rest-in-Alt.ensures.1 in
-    rw (p.1, p.2) (passed_on _ _ _ (λ none. kind_reads c.args.kind block.Alt (component_at (65 - c.args.level) c.args.level block.Alt) c.args.level c.args.single (rows_of c.args.lines.now) c.in-Alt.is refl ∙ none) c.in_err-rest-in-Alt.ensures.found)
-
-pub components-returns-in_err-rest-in-Alt-clause-kind : goal.components-returns-in_err-rest-in-Alt-clause-kind
-components-returns-in_err-rest-in-Alt-clause-kind t c =
-    let p = err_from_is_err_and c.from_residual-in_err-rest-in-Alt.result c.from_residual-in_err-rest-in-Alt.ensures.1 in
-    rw p.1 tt
-
-pub components-returns-in_err-rest-in-Alt-clause-within : goal.components-returns-in_err-rest-in-Alt-clause-within
-components-returns-in_err-rest-in-Alt-clause-within t c =
-    let p = err_from_is_err_and c.from_residual-in_err-rest-in-Alt.result c.from_residual-in_err-rest-in-Alt.ensures.1 in
-    rw p.1 tt
-
-pub components-returns-in_ok-rest-in-Alt-clause-found : goal.components-returns-in_ok-rest-in-Alt-clause-found
-components-returns-in_ok-rest-in-Alt-clause-found t c = kind_reads c.args.kind block.Alt (component_at (65 - c.args.level) c.args.level block.Alt) c.args.level c.args.single (rows_of c.args.lines.now) c.in-Alt.is refl ∙ c.in_ok-rest-in-Alt.ensures.found
-
-pub components-returns-in_ok-rest-in-Alt-clause-kind : goal.components-returns-in_ok-rest-in-Alt-clause-kind
-components-returns-in_ok-rest-in-Alt-clause-kind t c = sym c.in-Alt.is
-
-pub components-returns-in_ok-rest-in-Alt-clause-within : goal.components-returns-in_ok-rest-in-Alt-clause-within
-components-returns-in_ok-rest-in-Alt-clause-within t c = c.in_ok-rest-in-Alt.ensures.within
-
-pub processes-returns-in_err-goes_on-clause-found : goal.processes-returns-in_err-goes_on-clause-found
-processes-returns-in_err-goes_on-clause-found t c =
-    let p = err_from_is_err_and c.from_residual.result c.from_residual.ensures.1 in
-    rw (p.1, p.2) (inr (first_stops (plain_at (65 - c.args.level) c.args.level) c.args.level c.args.single (rows_of c.args.lines.now) c.in_err-goes_on.ensures.found))
-
-pub processes-loop-goes_on-init : goal.processes-loop-goes_on-init
-processes-loop-goes_on-init t c = record {
-  within = let same = ap length c.in_ok-goes_on.ensures.same in omega arith;
-  wanted = rw (c.requires, c.in_ok-goes_on.ensures.same) c.in_ok-goes_on.ensures.found;
-  reads = turn_begins plain_component (plain_at (65 - c.args.level) c.args.level) c.args.level c.args.single (rows_of c.args.lines.now) (rows_of c.in_ok-goes_on.rest.now) c.args.found.now.items c.requires (ap rows_of c.in_ok-goes_on.ensures.same);
-}
-
-pub processes-returns-in_err-goes_on-2-clause-found : goal.processes-returns-in_err-goes_on-2-clause-found
-processes-returns-in_err-goes_on-2-clause-found t c =
+pub components-returns-in_err-behind-clause-found : goal.components-returns-in_err-behind-clause-found
+components-returns-in_err-behind-clause-found t c =
     let l = c.loop-goes_on in
+    let level = c.args.level in
+    let item = component_at (65 - level) level (kind_of c.args.found.now) in
+    let rows = rows_of l.rest.now in
+    let got = component_at (65 - level) level (kind_of l.found) rows in
+    let same = ap (λ k. component_at (65 - level) level k rows) (sym l.invariant.kind) in
+    let goes = l.invariant.wanted ∙ ap Some c.loop-goes_on-test.true in
+    let p = err_from_is_err_and c.from_residual-in_err-behind.result c.from_residual-in_err-behind.ensures.1 in
+    rw (p.1, p.2)
+    (passed_on _ _ _
+    (λ none. turn_fails item level c.args.single (rows_of c.args.lines.now) rows (components_in l.found) got same goes none l.invariant.reads)
+    c.in_err-behind.ensures.found)
+
+pub components-returns-in_err-goes_on-2-clause-found : goal.components-returns-in_err-goes_on-2-clause-found
+components-returns-in_err-goes_on-2-clause-found t c =
+    let l = c.loop-goes_on in
+    let level = c.args.level in
+    let item = component_at (65 - level) level (kind_of c.args.found.now) in
+    let rows = rows_of l.rest.now in
+    let start = rows_of c.args.lines.now in
+    let behind = c.in_ok-behind.behind in
+    let new = components_in c.component.new.found in
+    let got = component_at (65 - level) level (kind_of l.found) rows in
+    let same = ap (λ k. component_at (65 - level) level k rows) (sym l.invariant.kind) in
+    let goes = l.invariant.wanted ∙ ap Some c.loop-goes_on-test.true in
+    let less = rows_less behind.now l.rest.now c.in_ok-behind.ensures.within in
+    let going = turn_goes_on item level c.args.single start rows (rows_of behind.now) (components_in l.found) new got same goes c.in_ok-behind.ensures.found less l.invariant.reads in
+    let stops = subst (λ n. wants level c.args.single n (rows_of behind.now) ≡ None) c.len.ensures c.in_err-goes_on-2.ensures.found in
     let p = err_from_is_err_and c.from_residual-in_err-goes_on-2.result c.from_residual-in_err-goes_on-2.ensures.1 in
-    rw (p.1, p.2) (turn_lost plain_component (plain_at (65 - c.args.level) c.args.level) c.args.level c.args.single (rows_of c.args.lines.now) l.rest.now l.found.items c.take.new.found.items c.process.result _ (l.invariant.wanted ∙ ap Some c.loop-goes_on-test.true) l.invariant.reads (plain_tells (65 - c.args.level) c.args.level (rows_of l.rest.now) c.process.result c.process.ensures.found) c.process.ensures.within c.in_err-goes_on-2.ensures)
+    rw (p.1, p.2) (inr (block_stops item level c.args.single start new (rows_of behind.now) stops going))
 
-pub processes-loop-goes_on-preserved : goal.processes-loop-goes_on-preserved
-processes-loop-goes_on-preserved t c =
+pub components-loop-goes_on-preserved : goal.components-loop-goes_on-preserved
+components-loop-goes_on-preserved t c =
     let l = c.loop-goes_on in
-    let kept = turn_kept plain_component (plain_at (65 - c.args.level) c.args.level) c.args.level c.args.single (rows_of c.args.lines.now) l.rest.now l.found.items c.take.new.found.items c.process.result (c.in_ok-goes_on-2.field-0-0, c.in_ok-goes_on-2.field-0-1) (l.invariant.wanted ∙ ap Some c.loop-goes_on-test.true) l.invariant.reads (plain_tells (65 - c.args.level) c.args.level (rows_of l.rest.now) c.process.result c.process.ensures.found) c.process.ensures.within c.in_ok-goes_on-2.ensures in
-    record { within = omega (arith, kept.0, l.invariant.within); wanted = kept.1; reads = kept.2 }
+    let level = c.args.level in
+    let item = component_at (65 - level) level (kind_of c.args.found.now) in
+    let rows = rows_of l.rest.now in
+    let start = rows_of c.args.lines.now in
+    let behind = c.in_ok-behind.behind in
+    let next = c.in_ok-goes_on-2 in
+    let new = components_in c.component.new.found in
+    let got = component_at (65 - level) level (kind_of l.found) rows in
+    let same = ap (λ k. component_at (65 - level) level k rows) (sym l.invariant.kind) in
+    let goes = l.invariant.wanted ∙ ap Some c.loop-goes_on-test.true in
+    let less = rows_less behind.now l.rest.now c.in_ok-behind.ensures.within in
+    let going = turn_goes_on item level c.args.single start rows (rows_of behind.now) (components_in l.found) new got same goes c.in_ok-behind.ensures.found less l.invariant.reads in
+    record {
+      within = let on = ap length next.ensures.same in omega (arith, on, c.in_ok-behind.ensures.within, l.invariant.within);
+      kind = c.component.ensures.kind ∙ l.invariant.kind;
+      wanted = rw (sym c.len.ensures, next.ensures.same) next.ensures.found;
+      reads = rw next.ensures.same going;
+    }
 
-pub processes-loop-goes_on-smaller : goal.processes-loop-goes_on-smaller
-processes-loop-goes_on-smaller t c =
+pub components-returns-clause-found : goal.components-returns-clause-found
+components-returns-clause-found t c =
     let l = c.loop-goes_on in
-    let kept = turn_kept plain_component (plain_at (65 - c.args.level) c.args.level) c.args.level c.args.single (rows_of c.args.lines.now) l.rest.now l.found.items c.take.new.found.items c.process.result (c.in_ok-goes_on-2.field-0-0, c.in_ok-goes_on-2.field-0-1) (l.invariant.wanted ∙ ap Some c.loop-goes_on-test.true) l.invariant.reads (plain_tells (65 - c.args.level) c.args.level (rows_of l.rest.now) c.process.result c.process.ensures.found) c.process.ensures.within c.in_ok-goes_on-2.ensures in
-    kept.0
+    let item = component_at (65 - c.args.level) c.args.level (kind_of c.args.found.now) in
+    let ends = l.invariant.wanted ∙ ap Some c.loop-goes_on-test.false in
+    block_ends item c.args.level c.args.single (rows_of c.args.lines.now) (components_in l.found) (rows_of l.rest.now) ends l.invariant.reads
 
-pub processes-returns-clause-found : goal.processes-returns-clause-found
-processes-returns-clause-found t c =
-    let l = c.loop-goes_on in
-    turn_ends plain_component (plain_at (65 - c.args.level) c.args.level) c.args.level c.args.single (rows_of c.args.lines.now) (rows_of l.rest.now) l.found.items (l.invariant.wanted ∙ ap Some c.loop-goes_on-test.false) l.invariant.reads
+pub process-returns-in-Action-clause-found : goal.process-returns-in-Action-clause-found
+process-returns-in-Action-clause-found t c =
+    let o = c.in_ok-opening.opening in
+    let rest = rows_of c.in_ok-opening.rest.now in
+    let ds = map declaration_of o.declarations.items in
+    let began = c.in_ok-opening.ensures.found ∙ ap (λ s. started ds o.line s rest) c.in-Action.is in
+    rw (view-Process, view-Action)
+    (process_is c.args.level (rows_of c.args.lines.now) rest
+    (record { declarations = ds; line = o.line; start = start_of (start.Action c.in-Action.action) }) c.in_ok-opening.ensures.level began)
 
-pub choices-returns-in_err-goes_on-clause-found : goal.choices-returns-in_err-goes_on-clause-found
-choices-returns-in_err-goes_on-clause-found t c =
-    let p = err_from_is_err_and c.from_residual.result c.from_residual.ensures.1 in
-    rw (p.1, p.2) (inr (first_stops (component_at (65 - c.args.level) c.args.level block.If) c.args.level c.args.single (rows_of c.args.lines.now) c.in_err-goes_on.ensures.found))
+pub process-returns-in_err-replicator-in-Block-clause-found : goal.process-returns-in_err-replicator-in-Block-clause-found
+process-returns-in_err-replicator-in-Block-clause-found t c =
+    let o = c.in_ok-opening.opening in
+    let rest = rows_of c.in_ok-opening.rest.now in
+    let ds = map declaration_of o.declarations.items in
+    let kind = c.in-Block.kind in
+    let r = option_map replicator_of c.in-Block.replicator in
+    let level = c.args.level + 1 in
+    let single = c.is_some-single.result in
+    let empty = c.new-body.result in
+    let read = c.components-read in
+    let is = kind_reads kind (kind_of empty) (component_at (65 - level) level (kind_of empty)) level single rest (sym c.new-body.ensures.kind) refl in
+    let began = c.in_ok-opening.ensures.found ∙ ap (λ s. started ds o.line s rest) c.in-Block.is in
+    let p = err_from_is_err_and c.from_residual-in_err-replicator-in-Block.result c.from_residual-in_err-replicator-in-Block.ensures.1 in
+    rw (p.1, p.2)
+    (passed_on _ _ _
+    (λ none. block_lost c.args.level (rows_of c.args.lines.now) rest ds o.line kind r c.in_ok-opening.ensures.level began
+    (body_none kind (component_at (65 - level) level kind) level r single rest (single_is c.in-Block.replicator _ c.is_some-single.ensures) (is ∙ none)))
+    (beside_lost (λ behind. (components_in read.new.found, rows_of behind.now)) c.in-Block.replicator read.result _ _ c.in_err-replicator-in-Block.ensures read.ensures.found))
 
-pub choices-loop-goes_on-init : goal.choices-loop-goes_on-init
-choices-loop-goes_on-init t c = record {
-  within = let same = ap length c.in_ok-goes_on.ensures.same in omega arith;
-  wanted = rw (c.requires, c.in_ok-goes_on.ensures.same) c.in_ok-goes_on.ensures.found;
-  reads = turn_begins choice_of (component_at (65 - c.args.level) c.args.level block.If) c.args.level c.args.single (rows_of c.args.lines.now) (rows_of c.in_ok-goes_on.rest.now) c.args.found.now.items c.requires (ap rows_of c.in_ok-goes_on.ensures.same);
-}
-
-pub choices-returns-in_err-goes_on-2-clause-found : goal.choices-returns-in_err-goes_on-2-clause-found
-choices-returns-in_err-goes_on-2-clause-found t c =
-    let l = c.loop-goes_on in
-    let p = err_from_is_err_and c.from_residual-in_err-goes_on-2.result c.from_residual-in_err-goes_on-2.ensures.1 in
-    rw (p.1, p.2) (turn_lost choice_of (component_at (65 - c.args.level) c.args.level block.If) c.args.level c.args.single (rows_of c.args.lines.now) l.rest.now l.found.items c.take.new.found.items c.choice.result _ (l.invariant.wanted ∙ ap Some c.loop-goes_on-test.true) l.invariant.reads c.choice.ensures.found c.choice.ensures.within c.in_err-goes_on-2.ensures)
-
-pub choices-loop-goes_on-preserved : goal.choices-loop-goes_on-preserved
-choices-loop-goes_on-preserved t c =
-    let l = c.loop-goes_on in
-    let kept = turn_kept choice_of (component_at (65 - c.args.level) c.args.level block.If) c.args.level c.args.single (rows_of c.args.lines.now) l.rest.now l.found.items c.take.new.found.items c.choice.result (c.in_ok-goes_on-2.field-0-0, c.in_ok-goes_on-2.field-0-1) (l.invariant.wanted ∙ ap Some c.loop-goes_on-test.true) l.invariant.reads c.choice.ensures.found c.choice.ensures.within c.in_ok-goes_on-2.ensures in
-    record { within = omega (arith, kept.0, l.invariant.within); wanted = kept.1; reads = kept.2 }
-
-pub choices-loop-goes_on-smaller : goal.choices-loop-goes_on-smaller
-choices-loop-goes_on-smaller t c =
-    let l = c.loop-goes_on in
-    let kept = turn_kept choice_of (component_at (65 - c.args.level) c.args.level block.If) c.args.level c.args.single (rows_of c.args.lines.now) l.rest.now l.found.items c.take.new.found.items c.choice.result (c.in_ok-goes_on-2.field-0-0, c.in_ok-goes_on-2.field-0-1) (l.invariant.wanted ∙ ap Some c.loop-goes_on-test.true) l.invariant.reads c.choice.ensures.found c.choice.ensures.within c.in_ok-goes_on-2.ensures in
-    kept.0
-
-pub choices-returns-clause-found : goal.choices-returns-clause-found
-choices-returns-clause-found t c =
-    let l = c.loop-goes_on in
-    turn_ends choice_of (component_at (65 - c.args.level) c.args.level block.If) c.args.level c.args.single (rows_of c.args.lines.now) (rows_of l.rest.now) l.found.items (l.invariant.wanted ∙ ap Some c.loop-goes_on-test.false) l.invariant.reads
-
-pub branches-returns-in_err-goes_on-clause-found : goal.branches-returns-in_err-goes_on-clause-found
-branches-returns-in_err-goes_on-clause-found t c =
-    let p = err_from_is_err_and c.from_residual.result c.from_residual.ensures.1 in
-    rw (p.1, p.2) (inr (first_stops (component_at (65 - c.args.level) c.args.level block.Alt) c.args.level c.args.single (rows_of c.args.lines.now) c.in_err-goes_on.ensures.found))
-
-pub branches-loop-goes_on-init : goal.branches-loop-goes_on-init
-branches-loop-goes_on-init t c = record {
-  within = let same = ap length c.in_ok-goes_on.ensures.same in omega arith;
-  wanted = rw (c.requires, c.in_ok-goes_on.ensures.same) c.in_ok-goes_on.ensures.found;
-  reads = turn_begins branch_of (component_at (65 - c.args.level) c.args.level block.Alt) c.args.level c.args.single (rows_of c.args.lines.now) (rows_of c.in_ok-goes_on.rest.now) c.args.found.now.items c.requires (ap rows_of c.in_ok-goes_on.ensures.same);
-}
-
-pub branches-returns-in_err-goes_on-2-clause-found : goal.branches-returns-in_err-goes_on-2-clause-found
-branches-returns-in_err-goes_on-2-clause-found t c =
-    let l = c.loop-goes_on in
-    let p = err_from_is_err_and c.from_residual-in_err-goes_on-2.result c.from_residual-in_err-goes_on-2.ensures.1 in
-    rw (p.1, p.2) (turn_lost branch_of (component_at (65 - c.args.level) c.args.level block.Alt) c.args.level c.args.single (rows_of c.args.lines.now) l.rest.now l.found.items c.take.new.found.items c.branch-alloc.result _ (l.invariant.wanted ∙ ap Some c.loop-goes_on-test.true) l.invariant.reads c.branch-alloc.ensures.found c.branch-alloc.ensures.within c.in_err-goes_on-2.ensures)
-
-pub branches-loop-goes_on-preserved : goal.branches-loop-goes_on-preserved
-branches-loop-goes_on-preserved t c =
-    let l = c.loop-goes_on in
-    let kept = turn_kept branch_of (component_at (65 - c.args.level) c.args.level block.Alt) c.args.level c.args.single (rows_of c.args.lines.now) l.rest.now l.found.items c.take.new.found.items c.branch-alloc.result (c.in_ok-goes_on-2.field-0-0, c.in_ok-goes_on-2.field-0-1) (l.invariant.wanted ∙ ap Some c.loop-goes_on-test.true) l.invariant.reads c.branch-alloc.ensures.found c.branch-alloc.ensures.within c.in_ok-goes_on-2.ensures in
-    record { within = omega (arith, kept.0, l.invariant.within); wanted = kept.1; reads = kept.2 }
-
-pub branches-loop-goes_on-smaller : goal.branches-loop-goes_on-smaller
-branches-loop-goes_on-smaller t c =
-    let l = c.loop-goes_on in
-    let kept = turn_kept branch_of (component_at (65 - c.args.level) c.args.level block.Alt) c.args.level c.args.single (rows_of c.args.lines.now) l.rest.now l.found.items c.take.new.found.items c.branch-alloc.result (c.in_ok-goes_on-2.field-0-0, c.in_ok-goes_on-2.field-0-1) (l.invariant.wanted ∙ ap Some c.loop-goes_on-test.true) l.invariant.reads c.branch-alloc.ensures.found c.branch-alloc.ensures.within c.in_ok-goes_on-2.ensures in
-    kept.0
-
-pub branches-returns-clause-found : goal.branches-returns-clause-found
-branches-returns-clause-found t c =
-    let l = c.loop-goes_on in
-    turn_ends branch_of (component_at (65 - c.args.level) c.args.level block.Alt) c.args.level c.args.single (rows_of c.args.lines.now) (rows_of l.rest.now) l.found.items (l.invariant.wanted ∙ ap Some c.loop-goes_on-test.false) l.invariant.reads
+pub process-returns-in_ok-replicator-in-Block-clause-found : goal.process-returns-in_ok-replicator-in-Block-clause-found
+process-returns-in_ok-replicator-in-Block-clause-found t c =
+    let o = c.in_ok-opening.opening in
+    let rest = rows_of c.in_ok-opening.rest.now in
+    let ds = map declaration_of o.declarations.items in
+    let head = c.in-Block.replicator in
+    let kind = c.in-Block.kind in
+    let r = option_map replicator_of head in
+    let level = c.args.level + 1 in
+    let single = c.is_some-single.result in
+    let empty = c.new-body.result in
+    let read = c.components-read in
+    let body = read.new.found in
+    let y = c.in_ok-replicator-in-Block in
+    let is = kind_reads kind (kind_of empty) (component_at (65 - level) level (kind_of empty)) level single rest (sym c.new-body.ensures.kind) refl in
+    let began = c.in_ok-opening.ensures.found ∙ ap (λ s. started ds o.line s rest) c.in-Block.is in
+    let found = beside_found (λ behind. (components_in body, rows_of behind.now)) head y.replicator y.rest read.result _ y.ensures read.ensures.found in
+    let made = c.block-construct.ensures ∙ ap (λ q. Block (kind_of body) (option_map replicator_of q) (components_in body)) (sym (beside_head head y.replicator y.rest read.result y.ensures)) in
+    rw view-Process
+    (block_found c.args.level (rows_of c.args.lines.now) rest _ ds o.line kind r _ c.in_ok-opening.ensures.level began
+    (body_found kind _ (component_at (65 - level) level kind) level r single rest _ _ _ (single_is head _ c.is_some-single.ensures) (is ∙ found) made (read.ensures.kind ∙ c.new-body.ensures.kind)))
 
 pub choice-returns-in_err-first-clause-found : goal.choice-returns-in_err-first-clause-found
 choice-returns-in_err-first-clause-found t c =
@@ -288,42 +239,3 @@ pub process-returns-in_err-opening-clause-found : goal.process-returns-in_err-op
 process-returns-in_err-opening-clause-found t c =
     let p = err_from_is_err_and c.from_residual.result c.from_residual.ensures.1 in
     rw (p.1, p.2) (passed_on _ _ _ (process_none c.args.level (rows_of c.args.lines.now)) c.in_err-opening.ensures.found)
-
-pub process-returns-in_err-replicator-in-Block-clause-found : goal.process-returns-in_err-replicator-in-Block-clause-found
-process-returns-in_err-replicator-in-Block-clause-found t c =
-    let o = c.in_ok-opening.opening in
-    let rest = rows_of c.in_ok-opening.rest.now in
-    let ds = map declaration_of o.declarations.items in
-    let kind = c.in-Block.kind in
-    let r = option_map replicator_of c.in-Block.replicator in
-    let began = c.in_ok-opening.ensures.found ∙ ap (λ s. started ds o.line s rest) c.in-Block.is in
-    let p = err_from_is_err_and c.from_residual-in_err-replicator-in-Block.result c.from_residual-in_err-replicator-in-Block.ensures.1 in
-    rw (p.1, p.2)
-    (passed_on _ _ _
-    (λ none. block_lost c.args.level (rows_of c.args.lines.now) rest ds o.line kind r c.in_ok-opening.ensures.level began
-    (body_none kind (component_at (65 - (c.args.level + 1)) (c.args.level + 1) kind) (c.args.level + 1) r c.is_some-single.result rest (single_is c.in-Block.replicator _ c.is_some-single.ensures) none))
-    (below_lost (λ x. (components_in x.0, rows_of x.1.now)) c.in-Block.replicator c.components.result _ _ c.in_err-replicator-in-Block.ensures c.components.ensures.found))
-
-pub process-returns-clause-found : goal.process-returns-clause-found
-process-returns-clause-found t c =
-    let o = c.in_ok-opening.opening in
-    let rest = rows_of c.in_ok-opening.rest.now in
-    let ds = map declaration_of o.declarations.items in
-    let rows = rows_of c.args.lines.now in
-    elim c.match-start.branch [
-      | process-in-Action w ↦
-          (let began = c.in_ok-opening.ensures.found ∙ ap (λ s. started ds o.line s rest) w.in-Action.is in
-          rw (w.construct-is, view-Process, view-Action) (process_is c.args.level rows rest (record { declarations = ds; line = o.line; start = start_of (start.Action w.in-Action.action) }) c.in_ok-opening.ensures.level began))
-      | process-in-Block+in_ok-replicator-in-Block w ↦
-          (let began = c.in_ok-opening.ensures.found ∙ ap (λ s. started ds o.line s rest) w.in-Block.is in
-          let kind = w.in-Block.kind in
-          let head = w.in-Block.replicator in
-          let read = w.components.result in
-          let y = w.in_ok-replicator-in-Block in
-          let r = option_map replicator_of head in
-          let made = w.block.ensures ∙ ap (λ q. Block (kind_of y.body) (option_map replicator_of q) (components_in y.body)) (sym (below_head head y.replicator y.body y.rest read y.ensures)) in
-          rw (w.construct-is, view-Process)
-          (block_found c.args.level rows rest _ ds o.line kind r _ c.in_ok-opening.ensures.level began
-          (body_found kind _ (component_at (65 - (c.args.level + 1)) (c.args.level + 1) kind) (c.args.level + 1) r w.is_some-single.result rest _ _ _ (single_is head _ w.is_some-single.ensures)
-          (below_found (λ x. (components_in x.0, rows_of x.1.now)) head y.replicator y.body y.rest read _ y.ensures w.components.ensures.found) made (below_keeps (λ x. kind_of x.0 ≡ kind) head y.replicator y.body y.rest read y.ensures w.components.ensures.kind))))
-    ]
