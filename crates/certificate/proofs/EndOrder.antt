@@ -42,13 +42,13 @@ module _ (x y z : EndKey) where
   -- by kind, then by number, then by element, then by what is left
   by_element : (r1 r2 r l2 : Bool) → (l2 ≡ true → y.element < z.element) → (r1 ≡ true → r2 ≡ true → r ≡ true)
       → (ltb x.element y.element || (eqb x.element y.element && r1)) ≡ true
-          → (l2 || (eqb y.element z.element && r2)) ≡ true
+      → (l2 || (eqb y.element z.element && r2)) ≡ true
       → (ltb x.element z.element || (eqb x.element z.element && r)) ≡ true
   by_element r1 r2 r l2 less =
       lex_trans (ltb x.element y.element) (eqb x.element y.element) r1 l2 (eqb y.element z.element) r2
-          (ltb x.element z.element) (eqb x.element z.element) r
+      (ltb x.element z.element) (eqb x.element z.element) r
       (λ a b. let c = less b in grind (arith, nat_tests)) (λ a b. grind (arith, nat_tests))
-          (λ a b. let c = less b in grind (arith, nat_tests)) (λ a b. grind (arith, nat_tests))
+      (λ a b. let c = less b in grind (arith, nat_tests)) (λ a b. grind (arith, nat_tests))
 
   by_number : (r1 r2 r l2 : Bool) → (l2 ≡ true → y.number <ℤ z.number) → (r1 ≡ true → r2 ≡ true → r ≡ true)
       → (int_lt x.number y.number || ((int_le x.number y.number && int_le y.number x.number) && r1)) ≡ true
@@ -56,26 +56,26 @@ module _ (x y z : EndKey) where
       → (int_lt x.number z.number || ((int_le x.number z.number && int_le z.number x.number) && r)) ≡ true
   by_number r1 r2 r l2 less =
       lex_trans (int_lt x.number y.number) (int_le x.number y.number && int_le y.number x.number) r1 l2
-          (int_le y.number z.number && int_le z.number y.number) r2
+      (int_le y.number z.number && int_le z.number y.number) r2
       (int_lt x.number z.number) (int_le x.number z.number && int_le z.number x.number) r
       (λ a b. let c = less b in grind (arith, ints)) (λ a b. grind (arith, ints))
-          (λ a b. let c = less b in grind (arith, ints)) (λ a b. grind (arith, ints))
+      (λ a b. let c = less b in grind (arith, ints)) (λ a b. grind (arith, ints))
 
   by_kind : (r1 r2 r l2 : Bool) → (l2 ≡ true → y.kind < z.kind) → (r1 ≡ true → r2 ≡ true → r ≡ true)
       → (ltb x.kind y.kind || (eqb x.kind y.kind && r1)) ≡ true → (l2 || (eqb y.kind z.kind && r2)) ≡ true
       → (ltb x.kind z.kind || (eqb x.kind z.kind && r)) ≡ true
   by_kind r1 r2 r l2 less =
       lex_trans (ltb x.kind y.kind) (eqb x.kind y.kind) r1 l2 (eqb y.kind z.kind) r2 (ltb x.kind z.kind)
-          (eqb x.kind z.kind) r
+      (eqb x.kind z.kind) r
       (λ a b. let c = less b in grind (arith, nat_tests)) (λ a b. grind (arith, nat_tests))
-          (λ a b. let c = less b in grind (arith, nat_tests)) (λ a b. grind (arith, nat_tests))
+      (λ a b. let c = less b in grind (arith, nat_tests)) (λ a b. grind (arith, nat_tests))
 
   below_behind : is_below x y ≡ true → is_below y z ≡ true → is_below x z ≡ true
   below_behind =
       by_kind _ _ _ (ltb y.kind z.kind) (ltb-true y.kind z.kind)
       (by_number _ _ _ (int_lt y.number z.number) (λ e. grind (arith, ints))
       (by_element (ltb x.direction y.direction) (ltb y.direction z.direction) (ltb x.direction z.direction)
-          (ltb y.element z.element) (ltb-true y.element z.element)
+      (ltb y.element z.element) (ltb-true y.element z.element)
       (λ a b. grind (arith, nat_tests))))
 
   below_same : is_below x y ≡ true → is_same_end y z ≡ true → is_below x z ≡ true
@@ -83,10 +83,10 @@ module _ (x y z : EndKey) where
       by_kind _ _ _ false (λ e. absurd cc)
       (by_number _ _ _ false (λ e. absurd cc)
       (by_element (ltb x.direction y.direction) (eqb y.direction z.direction) (ltb x.direction z.direction) false
-          (λ e. absurd cc)
+      (λ e. absurd cc)
       (λ a b. grind (arith, nat_tests)))) below
       (all_four (eqb y.kind z.kind) (int_le y.number z.number && int_le z.number y.number) (eqb y.element z.element)
-          (eqb y.direction z.direction) same)
+      (eqb y.direction z.direction) same)
 
 below_differs : (x y : EndKey) → is_below x y ≡ true → is_same_end x y ≡ false
 below_differs x y a = grind (arith, nat_tests, ints)
@@ -139,7 +139,7 @@ module _ (d : EndRow) where
 -- what a search for a key finds among ends that rise: the first n are below it, and the others aren't
 module _ (key low : EndKey) (es : List EndRow) (n : ℕ) (h : InOrder EndKeeps behind_end low es)
     (point : IsPartitionPoint (λ (e : EndRow). is_below (key_of e) key ≡ true)
-        (λ (e : EndRow). is_below (key_of e) key ≡ false) es n) where
+    (λ (e : EndRow). is_below (key_of e) key ≡ false) es n) where
   abbrev is_it : EndRow → Bool
   is_it e = is_same_end (key_of e) key
 
@@ -156,19 +156,19 @@ module _ (key low : EndKey) (es : List EndRow) (n : ℕ) (h : InOrder EndKeeps b
     | true ↦ λ e. sym (list_any_at is_it es n d inside e)
     | false ↦ λ e. sym (list_any_none is_it es (All-from_get_or (λ e. is_it e ≡ false) es d
         (λ i lt. elim (cases_lt i n) [
-      | inl less ↦ differs_before d i less
-      | inr ge ↦ elim (cases_lt n i) [
-        | inl behind ↦ elim (is_it (get_or es i d)) as (λ b. is_it (get_or es i d) ≡ b → b ≡ false) [
-          | true ↦ λ same.
-              let rises = rise d low es n i h behind lt in
-              let below = below_same (key_of (get_or es n d)) (key_of (get_or es i d)) key rises same in
-              let not_below = point.1 n d (omega arith) inside in
-              absurd cc
-          | false ↦ λ same. refl
-        ] refl
-        | inr le ↦
-            let here : i ≡ n = omega arith in
-            rw here e
-      ]
-    ])))
+          | inl less ↦ differs_before d i less
+          | inr ge ↦ elim (cases_lt n i) [
+            | inl behind ↦ elim (is_it (get_or es i d)) as (λ b. is_it (get_or es i d) ≡ b → b ≡ false) [
+              | true ↦ λ same.
+                  let rises = rise d low es n i h behind lt in
+                  let below = below_same (key_of (get_or es n d)) (key_of (get_or es i d)) key rises same in
+                  let not_below = point.1 n d (omega arith) inside in
+                  absurd cc
+              | false ↦ λ same. refl
+            ] refl
+            | inr le ↦
+                let here : i ≡ n = omega arith in
+                rw here e
+          ]
+        ])))
   ] refl

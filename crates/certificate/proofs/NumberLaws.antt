@@ -47,10 +47,10 @@ many_branches [] = refl
 many_branches (row ∷ rows) =
     let paired : Branch → Par × Branch = λ y. (row, y) in
     length-append (map paired row.branches) (branches_of rows)
-        ∙ (let here = length-map row.branches paired in let others = many_branches rows in
-        let count = count_cons row rows in
+    ∙ (let here = length-map row.branches paired in let others = many_branches rows in
+    let count = count_cons row rows in
     let sum : length (map paired row.branches) + length (branches_of rows) ≡ branch_count (row ∷ rows) =
-        omega arith in sum)
+    omega arith in sum)
 
 pub branch_missing : (c : Contents) (places : List Place) (n : ℕ) → ArePlaces c (branch_count c.pars) places
     → first_branch c ≤ n → length places ≤ n - first_branch c → numbered_branch c n ≡ None
@@ -94,20 +94,20 @@ branch_found c n x ge is = rw (le-ltb n (first_branch c) ge) is
 pub contexts_fit : (c : Contents) → Keeps c → first_branch c + branch_count c.pars < 2 ^ 32
 contexts_fit c keeps =
     let few = each (ParKeeps (first_branch c) (length c.code)) behind_par (λ row. length row.branches ≤ MAX_BRANCHES)
-        (λ low row h. h.branch_limit) no_branches c.pars keeps.rows.pars in
+    (λ low row h. h.branch_limit) no_branches c.pars keeps.rows.pars in
     let most : branch_count c.pars ≤ length c.pars * MAX_BRANCHES =
-        sum_by-le (λ row. length row.branches) MAX_BRANCHES c.pars (All-from_recursion _ c.pars few) in
+    sum_by-le (λ row. length row.branches) MAX_BRANCHES c.pars (All-from_recursion _ c.pars few) in
     omega (arith, most, keeps.limits.procedures, keeps.limits.pars)
 
 -- one entry more
 pub number_more : (n : ℕ) (entries : List ℕ) (entry at : ℕ) → 1 ≤ n
     → number_from n (entries ++ entry ∷ []) at
-        ≡ (if (number_from n entries at == 0) && (entry == at) then n + length entries else number_from n entries at)
+    ≡ (if (number_from n entries at == 0) && (entry == at) then n + length entries else number_from n entries at)
 number_more n [] entry at some = let here : n ≡ n + 0 = omega arith in ap (λ (m : ℕ). cond (eqb entry at) m 0) here
 number_more n (e ∷ entries) entry at some =
     elim (eqb e at) as (λ b. cond b n (number_from (n + 1) (entries ++ entry ∷ []) at)
     ≡ cond (eqb (cond b n (number_from (n + 1) entries at)) 0 && eqb entry at) (n + length (e ∷ entries))
-        (cond b n (number_from (n + 1) entries at))) [
+    (cond b n (number_from (n + 1) entries at))) [
       | true ↦ let differs : eqb n 0 ≡ false = grind (arith, nat_tests) in rw differs refl
       | false ↦ let count : (n + 1) + length entries ≡ n + suc (length entries) = omega arith in
           number_more (n + 1) entries entry at (omega arith)
@@ -124,27 +124,27 @@ found_inside (y ∷ xs) (suc i) x is = let next = found_inside xs i x is in omeg
 pub numbers_more : (n : ℕ) (xs : List (Par × Branch)) (i : ℕ) (x : Par × Branch) (at old new : ℕ) → 1 ≤ n
     → slice_get xs i ≡ Some x → old ≡ number_from n (map (λ y. y.1.entry) (take i xs)) at
     → new ≡ (if (old == 0) && (x.1.entry == at) then n + i else old)
-        → new ≡ number_from n (map (λ y. y.1.entry) (take (i + 1) xs)) at
+    → new ≡ number_from n (map (λ y. y.1.entry) (take (i + 1) xs)) at
 numbers_more n xs i x at old new some is before now =
     let entry = λ (y : Par × Branch). y.1.entry in
     let entries = map entry (take i xs) in
     let lt = found_inside xs i x is in
     let long : length entries ≡ i = length-map (take i xs) entry ∙ length-take-le i xs (omega arith) in
     let longer : map entry (take (i + 1) xs) ≡ entries ++ x.1.entry ∷ [] =
-        map_more entry xs i x lt ∙ ap (λ (y : Par × Branch). entries ++ entry y ∷ [])
-        (get_or_from_slice_get xs i x x is) in
+    map_more entry xs i x lt ∙ ap (λ (y : Par × Branch). entries ++ entry y ∷ [])
+    (get_or_from_slice_get xs i x x is) in
     now ∙ rw (before, longer, number_more n entries x.1.entry at some, long) refl
 
 -- all branches have their numbers
 pub numbers_all : (c : Contents) (places : List Place) (i at : ℕ) → ArePlaces c (branch_count c.pars) places
     → length places ≤ i
     → number_from (first_branch c) (map (λ y. y.1.entry) (take i (branches_of c.pars))) at
-        ≡ number_from (first_branch c) (map (λ y. y.1.entry) (branches_of c.pars)) at
+    ≡ number_from (first_branch c) (map (λ y. y.1.entry) (branches_of c.pars)) at
 numbers_all c places i at h past =
     let many = h.many in
     let all = many_branches c.pars in
     ap (λ (xs : List (Par × Branch)). number_from (first_branch c) (map (λ y. y.1.entry) xs) at)
-        (take_all i (branches_of c.pars) (omega arith))
+    (take_all i (branches_of c.pars) (omega arith))
 
 -- with the number of its context v
 abbrev pub forked : ℕ → Par × Branch → Forked
@@ -152,7 +152,7 @@ forked v x = record { context = v; par = x.0; branch = x.1 }
 
 numbered_from : (xs : List (Par × Branch)) (n at : ℕ) → let v = number_from n (map (λ x. x.1.entry) xs) at in
     ((v ≡ 0) × (branch_from n xs at ≡ None))
-        ⊎ ((n ≤ v) × (branch_from n xs at ≡ option_map (forked v) (slice_get xs (v - n))))
+    ⊎ ((n ≤ v) × (branch_from n xs at ≡ option_map (forked v) (slice_get xs (v - n))))
 numbered_from [] n at = inl (refl, refl)
 numbered_from (x ∷ xs) n at =
     elim (eqb x.1.entry at) as (λ b. let v = cond b n (number_from (n + 1) (map (λ x. x.1.entry) xs) at) in

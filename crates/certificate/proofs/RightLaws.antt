@@ -54,8 +54,11 @@ pub found_kept : (c : Contents) (n : ℕ) (x : Par × Branch) → Keeps c → nu
     → GiftsKeep x.1 × InOrder ChannelKeeps behind_channel least_word x.0.channels
 found_kept c n x keeps is =
     let rows = each (ParKeeps (first_branch c) (length c.code)) behind_par RowKept
-        (λ before row h. (h.channels, each (BranchKeeps (length c.code)) behind_branch GiftsKeep
-        (λ low b k. k.gifts) before row.branches h.branches)) no_branches c.pars keeps.rows.pars in
+    (λ before row h. (
+      h.channels,
+      each (BranchKeeps (length c.code)) behind_branch GiftsKeep
+          (λ low b k. k.gifts) before row.branches h.branches,
+    )) no_branches c.pars keeps.rows.pars in
     elim (ltb n (first_branch c)) as (λ b. ltb n (first_branch c) ≡ b → Kept x) [
       | true ↦ λ e. absurd (let none : None ≡ Some x = rw e at is in cc)
       | false ↦ λ e. all_at Kept (branches_of c.pars) (n - first_branch c) x (all_kept c.pars rows) (rw e at is)
@@ -135,7 +138,7 @@ none_listed k (c ∷ cs) all = rw (all 0 c (omega arith)) (none_listed k cs (λ 
 
 module _ (k : ℤ) (cs : List ChannelRow) (n : ℕ) (h : InOrder ChannelKeeps behind_channel least_word cs)
     (point : IsPartitionPoint (λ (c : ChannelRow). int_lt c.word k ≡ true)
-        (λ (c : ChannelRow). int_lt c.word k ≡ false) cs n) where
+    (λ (c : ChannelRow). int_lt c.word k ≡ false) cs n) where
   pub past_listed : length cs ≤ n → listed_length cs k ≡ None
   past_listed past = none_listed k cs (λ i d lt. not_before k (get_or cs i d) (point.0 i d (omega arith) (omega arith)))
 
@@ -172,9 +175,11 @@ pub around_more : (c : Contents) (left n : ℕ) (k : ℤ) (found : Par × Branch
 around_more c zero n k found total is none some h = absurd (omega arith)
 around_more c (suc more) n k found total is none some h =
     let one : length_around (suc more) c n k ≡ length_around more c found.0.context k =
-    ap (λ (o : Option (Par × Branch)). elim o
-        [ None ↦ None | Some x ↦ elim (listed_length x.0.channels k)
-        [ Some len ↦ Some len | None ↦ length_around more c x.0.context k ] ]) is
+    ap (λ (o : Option (Par × Branch)). elim o [
+      | None ↦ None
+      | Some x ↦ elim (listed_length x.0.channels k)
+          [ Some len ↦ Some len | None ↦ length_around more c x.0.context k ]
+    ]) is
     ∙ ap (λ (o : Option ℕ). elim o [ Some len ↦ Some len | None ↦ length_around more c found.0.context k ]) none in
     let count : suc more - 1 ≡ more = omega arith in
     ap (λ (m : ℕ). length_around m c found.0.context k) count ∙ sym one ∙ h

@@ -64,9 +64,9 @@ module _ (at : ℕ) where
   label_marked (row ∷ rows) = elim (row.offset == at) as (λ b.
       (b || list_any is (flat_map (λ row. row.offset ∷ []) rows))
       ≡ is_some (cond b (Some (label_of row)) (find (λ row. row.offset == at) (map label_of rows)))) [
-    | true ↦ refl
-    | false ↦ label_marked rows
-  ]
+        | true ↦ refl
+        | false ↦ label_marked rows
+      ]
 
   procedure_marked : (n : ℕ) (rows : List ProcedureRow)
       → list_any is (flat_map (λ row. row.entry ∷ []) rows) ≡ is_some (procedure_from n (map procedure_of rows) at)
@@ -75,9 +75,9 @@ module _ (at : ℕ) where
       (λ b. (b || list_any is (flat_map (λ row. row.entry ∷ []) rows))
       ≡ is_some (cond b (Some (record { context = n; procedure = procedure_of row }))
       (procedure_from (n + 1) (map procedure_of rows) at))) [
-    | true ↦ refl
-    | false ↦ procedure_marked (n + 1) rows
-  ]
+        | true ↦ refl
+        | false ↦ procedure_marked (n + 1) rows
+      ]
 
   abbrev marked_by : ParRow → List ℕ
   marked_by row = row.successor ∷ entries_of (map branch_of row.branches.items)
@@ -87,25 +87,34 @@ module _ (at : ℕ) where
   par_marked [] = refl
   par_marked (row ∷ rows) =
       let entries = entries_of (map branch_of row.branches.items) in
-      rw (list_any-append is entries (flat_map marked_by rows),
-          list_any-append is entries (entries_of_rows (map par_of rows)), par_marked rows)
+      rw (
+        list_any-append is entries (flat_map marked_by rows),
+        list_any-append is entries (entries_of_rows (map par_of rows)),
+        par_marked rows,
+      )
       (turned (is row.successor) (list_any is entries) (list_any is (entries_of_rows (map par_of rows)))
-          (list_any (λ row. row.successor == at) (map par_of rows)))
+      (list_any (λ row. row.successor == at) (map par_of rows)))
 
 -- the marks of the label rows, then those of the procedure rows, then those of the PAR rows
 pub starts_marked : (t : Tables) (before labels procedures marks : List Bool) → before ≡ []
     → Adds before (flat_map (λ row. row.offset ∷ []) t.labels.items) labels
     → Adds labels (flat_map (λ row. row.entry ∷ []) t.procedures.items) procedures
     → Adds procedures (flat_map (λ row. row.successor ∷ entries_of
-        (map branch_of row.branches.items)) t.pars.items) marks
+    (map branch_of row.branches.items)) t.pars.items) marks
     → AreStarts marks (contents_of t)
 starts_marked t before labels procedures marks none a b c n =
     let empty : has_mark before n ≡ false = rw none refl in
-    rw (c n, b n, a n, par_marked n t.pars.items, procedure_marked n 1 t.procedures.items,
-        label_marked n t.labels.items)
+    rw (
+      c n,
+      b n,
+      a n,
+      par_marked n t.pars.items,
+      procedure_marked n 1 t.procedures.items,
+      label_marked n t.labels.items,
+    )
     (four (is_some (label_at (contents_of t) n)) (is_some (procedure_at (contents_of t) n))
-        (list_any (is n) (entries_of_rows (map par_of t.pars.items)))
-        (list_any (λ row. row.successor == n) (map par_of t.pars.items)) (has_mark before n) empty)
+    (list_any (is n) (entries_of_rows (map par_of t.pars.items)))
+    (list_any (λ row. row.successor == n) (map par_of t.pars.items)) (has_mark before n) empty)
 
 branch_entries : (rows : List BranchRow) → flat_map (λ row. row.entry ∷ []) rows ≡ entries_of (map branch_of rows)
 branch_entries [] = refl
@@ -117,7 +126,7 @@ pub adds_par : (before between marks : List Bool) (successor : ℕ) (rows items 
     → Adds before (successor ∷ entries_of (map branch_of items)) marks
 adds_par before between marks successor rows items same a b n =
     rw (b n, a n, branch_entries rows, same)
-        (swapped (list_any (is n) (entries_of (map branch_of items))) (successor == n) (has_mark before n))
+    (swapped (list_any (is n) (entries_of (map branch_of items))) (successor == n) (has_mark before n))
 
 -- ---- the row at an offset
 
@@ -140,7 +149,7 @@ module _ (at : ℕ) where
       → find (λ row. row.offset == at) (map label_of rows) ≡ Some (label_of row)
   label_is rows n row lt before is here =
       label_found rows n row lt before (sym (ap (λ (r : LabelRow). r.offset) is) ∙ here)
-          ∙ ap (λ r. Some (label_of r)) (sym is)
+      ∙ ap (λ r. Some (label_of r)) (sym is)
 
   pub label_missing : (rows : List LabelRow) → IsNowhere (λ row. row.offset) rows at
       → find (λ row. row.offset == at) (map label_of rows) ≡ None
@@ -153,7 +162,7 @@ module _ (at : ℕ) where
   pub procedure_found : (first : ℕ) (rows : List ProcedureRow) (n : ℕ) (d : ProcedureRow) → n < length rows
       → ((k : ℕ) → k < n → (get_or rows k d).entry ≢ at) → (get_or rows n d).entry ≡ at
       → procedure_from first (map procedure_of rows) at
-          ≡ Some (record { context = first + n; procedure = procedure_of (get_or rows n d) })
+      ≡ Some (record { context = first + n; procedure = procedure_of (get_or rows n d) })
   procedure_found first [] n d lt before here = absurd (omega arith)
   procedure_found first (row ∷ rows) zero d lt before here =
       let same : eqb row.entry at ≡ true = grind (arith, nat_tests) in

@@ -54,8 +54,11 @@ abbrev pub length_around : ℕ → Contents → ℕ → ℤ → Option ℕ
 length_around zero c n k = None
 length_around (suc more) c n k = elim (numbered_branch c n) [
   | None ↦ None
-  | Some found ↦ elim (listed_length found.0.channels k) [ Some len ↦ Some len | None ↦
-      length_around more c found.0.context k ]
+  | Some found ↦ elim (listed_length found.0.channels k) [
+    | Some len ↦ Some len
+    | None ↦
+        length_around more c found.0.context k
+  ]
 ]
 
 -- no more rows are around a context than there are, since a row's context is below those of its branches

@@ -31,7 +31,8 @@ impl<'a> Model for Module<'a> {
 }
 
 impl<'a> Module<'a> {
-    ghost use Rattle.std.specs.Prelude.{◌≡◌, ◌≢◌, ◌⊎◌, IfOk, IfErr, MatchResult, Ok, Err, MatchOption, IfSome, Some, None};
+    ghost use Rattle.std.specs.Prelude.{◌≡◌, ◌≢◌, ◌⊎◌, IfOk, IfErr, MatchResult, Ok, Err, MatchOption, IfSome, Some};
+    ghost use Rattle.std.specs.Prelude.{None};
     ghost use Rattle.module_format.specs.Contents.{Contents, contents_of, label_of, procedure_of, label_at};
     ghost use Rattle.module_format.specs.Contents.{par_of, branch_of};
     ghost use Rattle.module_format.specs.Contexts.{context_at, parameters_at};

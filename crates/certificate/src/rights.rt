@@ -3,8 +3,10 @@
 ghost use Rattle.std.specs.Prelude.{◌≡◌};
 ghost use Rattle.std.specs.List.{list_any};
 ghost use Rattle.module_format.specs.Order.{InOrder, least_word};
-ghost use Rattle.module_format.specs.Pars.{IntervalKeeps, behind_interval, ChannelKeeps, behind_channel, EndKeeps, behind_end, first_key, key_of};
-ghost use Rattle.certificate.specs.Rights.{is_among, listed_length, gives_link, gives_element, gives_parameter, is_same_end};
+ghost use Rattle.module_format.specs.Pars.{IntervalKeeps, behind_interval, ChannelKeeps, behind_channel, EndKeeps};
+ghost use Rattle.module_format.specs.Pars.{behind_end, first_key, key_of};
+ghost use Rattle.certificate.specs.Rights.{is_among, listed_length, gives_link, gives_element, gives_parameter};
+ghost use Rattle.certificate.specs.Rights.{is_same_end};
 
 use crate::modules::Module;
 use bitflags::Flags;

@@ -4,7 +4,8 @@ ghost use Rattle.std.specs.Prelude.{◌≡◌};
 ghost use Rattle.std.specs.Option.{option_map};
 ghost use Rattle.word_arithmetic.specs.Range.{ends_of};
 ghost use Rattle.states.specs.Rows.{LoopFits};
-ghost use Rattle.facts.specs.Rules.{outside_alternation, outside_starts, alone, uses, forward, source_of, loaded, range_of, number_in, result_fact, unary_result_fact};
+ghost use Rattle.facts.specs.Rules.{outside_alternation, outside_starts, alone, uses, forward, source_of, loaded};
+ghost use Rattle.facts.specs.Rules.{range_of, number_in, result_fact, unary_result_fact};
 ghost use Rattle.facts.specs.Telling.{Admits, Gives};
 
 use certificate::Fact;

@@ -23,10 +23,14 @@ impl Place<'_, '_> {
     ghost use Rattle.module_format.specs.Contents.{Contents};
     ghost use Rattle.module_format.specs.Keeping.{Keeps};
     ghost use Rattle.machine_state.specs.LocalStep.{target};
-    ghost use Rattle.machine_state.specs.declared.op.Op.TheVariants.{Reverse, StopProcess, MinimumInteger, Binary, Unary};
-    ghost use Rattle.machine_state.specs.declared.instruction.Instruction.TheVariants.{Jump, LoadConstant, LoadLocal, StoreLocal, WithConstant, Operate};
+    ghost use Rattle.machine_state.specs.declared.op.Op.TheVariants.{Reverse, StopProcess, MinimumInteger, Binary};
+    ghost use Rattle.machine_state.specs.declared.op.Op.TheVariants.{Unary};
+    ghost use Rattle.machine_state.specs.declared.instruction.Instruction.TheVariants.{Jump, LoadConstant, LoadLocal};
+    ghost use Rattle.machine_state.specs.declared.instruction.Instruction.TheVariants.{StoreLocal, WithConstant};
+    ghost use Rattle.machine_state.specs.declared.instruction.Instruction.TheVariants.{Operate};
     ghost use Rattle.states.specs.Views.{state_of, CanWrite, BelongsTo};
-    ghost use Rattle.facts.specs.Rules.{writes_word, reads_word, schedules, pays, goes_on, leads_to, becomes, operation_rule, instruction_rule};
+    ghost use Rattle.facts.specs.Rules.{writes_word, reads_word, schedules, pays, goes_on, leads_to, becomes};
+    ghost use Rattle.facts.specs.Rules.{operation_rule, instruction_rule};
     ghost use Rattle.facts.specs.Telling.{Admits, Leaves, Advances};
     ghost use Rattle.facts.specs.Places.{site_of};
 

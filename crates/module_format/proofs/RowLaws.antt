@@ -291,7 +291,7 @@ module _ (size code_len : ℕ) (procedures : List Procedure) where
 
   registers_take : (bytes : List ℕ) → IsBytes bytes
       → Has (registers_at size code_len bytes) (Spelled bytes (λ (s : Stack Fact). fact_bytes s.a ++ fact_bytes s.b ++ fact_bytes s.c)
-          (λ s. RegisterKeeps code_len s.a × RegisterKeeps code_len s.b × RegisterKeeps code_len s.c))
+      (λ s. RegisterKeeps code_len s.a × RegisterKeeps code_len s.b × RegisterKeeps code_len s.c))
   unfolding registers_at
   registers_take bytes fits =
       has_then _ _ (register_takes size code_len bytes fits) (λ a h.

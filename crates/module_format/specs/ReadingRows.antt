@@ -129,14 +129,17 @@ label_row_at size code_len procedures low rest = do
   number ← number_at size 8 depth.1
   stack ← registers_at size code_len number.1
   entries ← entries_at size code_len stack.1
-  Ok (record {
-    offset = offset.0;
-    context = context.0;
-    depth = depth.0;
-    number = number.0;
-    stack = stack.0;
-    entries = entries.0;
-  }, entries.1)
+  Ok (
+    record {
+      offset = offset.0;
+      context = context.0;
+      depth = depth.0;
+      number = number.0;
+      stack = stack.0;
+      entries = entries.0;
+    },
+    entries.1,
+  )
 
 unfoldable pub label_rows_at : ℕ → ℕ → List Procedure → ℕ → List ℕ → Read (List Label)
 label_rows_at size code_len procedures count rest =

@@ -2,13 +2,8 @@
 
 ghost use Rattle.std.specs.Prelude.{◌≡◌, option_map};
 ghost use Rattle.module_format.specs.Contents.{procedure_of, contents_of};
-ghost use Rattle.module_format.specs.Contexts.{
-  root_context,
-  procedure_context,
-  procedure_at,
-  own_context,
-  own_parameters,
-};
+ghost use Rattle.module_format.specs.Contexts.{root_context, procedure_context, procedure_at, own_context};
+ghost use Rattle.module_format.specs.Contexts.{own_parameters};
 
 use crate::places::{Place, owner_of};
 use crate::row_owners::{RowOwner, row_owner_of, rows_end};
@@ -110,13 +105,8 @@ impl<'t, 'a> Model for Contexts<'t, 'a> {
 impl<'t, 'a> Contexts<'t, 'a> {
     ghost use Rattle.std.specs.Prelude.{◌≡◌, ◌+◌, length};
     ghost use Rattle.module_format.specs.Contents.{contents_of};
-    ghost use Rattle.module_format.specs.Contexts.{
-      HasFewContexts,
-      first_branch,
-      branch_count,
-      context_at,
-      parameters_at,
-    };
+    ghost use Rattle.module_format.specs.Contexts.{HasFewContexts, first_branch, branch_count, context_at};
+    ghost use Rattle.module_format.specs.Contexts.{parameters_at};
     ghost use Rattle.module_format.specs.Places.{ArePlaces, AreRowOwners, owner_at};
 
     /// Looked up in the owners of the PAR rows.

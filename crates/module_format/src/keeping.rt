@@ -9,7 +9,8 @@ ghost use Rattle.std.specs.Prelude.{◌≡◌, ◌↔◌, ◌≤◌, IsTrue, len
 ghost use Rattle.std.specs.List.{AllByRecursion};
 ghost use Rattle.module_format.specs.Contents.{contents_of};
 ghost use Rattle.module_format.specs.Order.{IsBytes};
-ghost use Rattle.module_format.specs.Keeping.{VersionKeeps, SizesKeep, BoundsKeep, LimitsKeep, RowsKeep, NamesAreThere, Keeps};
+ghost use Rattle.module_format.specs.Keeping.{VersionKeeps, SizesKeep, BoundsKeep, LimitsKeep, RowsKeep, NamesAreThere};
+ghost use Rattle.module_format.specs.Keeping.{Keeps};
 
 use crate::contexts::Contexts;
 use crate::keeping::labels::labels_keep;

@@ -9,7 +9,8 @@ mod writer;
 ghost use Rattle.std.specs.Prelude.{◌≡◌, ◌++◌, IfOk, length};
 ghost use Rattle.module_format.specs.Contents.{contents_of};
 ghost use Rattle.module_format.specs.Keeping.{Keeps};
-ghost use Rattle.module_format.specs.Spelling.{u32_bytes, u64_bytes, magic_of, flag_bytes, header_bytes, rows_bytes, file_of};
+ghost use Rattle.module_format.specs.Spelling.{u32_bytes, u64_bytes, magic_of, flag_bytes, header_bytes, rows_bytes};
+ghost use Rattle.module_format.specs.Spelling.{file_of};
 ghost use Rattle.module_format.specs.Writable.{Writes};
 
 use crate::tables::{Tables, Version};

@@ -1,8 +1,10 @@
 //! Lines by their indentation, and the tokens of each.
 
-ghost use Rattle.std.specs.Prelude.{ℕ, List, ◌≡◌, ◌<◌, ◌≤◌, ◌+◌, ◌^◌, ◌∷◌, [], map, length, option_map, drop, Ok, Err, IfOk, IfSome};
+ghost use Rattle.std.specs.Prelude.{ℕ, List, ◌≡◌, ◌<◌, ◌≤◌, ◌+◌, ◌^◌, ◌∷◌, [], map, length, option_map, drop, Ok, Err};
+ghost use Rattle.std.specs.Prelude.{IfOk, IfSome};
 ghost use Rattle.std.specs.List.{prefix_len, list_all};
-ghost use Rattle.occam_layout.specs.Reading.{Row, lexeme_of, row_of, Continues, is_character, is_in_line, is_space, is_blank, lines_of, tokens_at, row_at, read, Gives, Answers};
+ghost use Rattle.occam_layout.specs.Reading.{Row, lexeme_of, row_of, Continues, is_character, is_in_line, is_space};
+ghost use Rattle.occam_layout.specs.Reading.{is_blank, lines_of, tokens_at, row_at, read, Gives, Answers};
 ghost use Rattle.occam_layout.specs.Tokens.{IsSource, AreLines, ArePlaced};
 
 use crate::fault::{Fault, LayoutFault, ScanError};

@@ -1,10 +1,12 @@
 //! The token that begins a text.
 
-ghost use Rattle.std.specs.Prelude.{◌≡◌, ◌<◌, ◌≤◌, ◌+◌, ◌*◌, ◌^◌, List, ℕ, length, option_map, if◌then◌else◌, nat_le, Some, None, Ok, Err, IfOk};
+ghost use Rattle.std.specs.Prelude.{◌≡◌, ◌<◌, ◌≤◌, ◌+◌, ◌*◌, ◌^◌, List, ℕ, length, option_map, if◌then◌else◌, nat_le};
+ghost use Rattle.std.specs.Prelude.{Some, None, Ok, Err, IfOk};
 ghost use Rattle.std.specs.List.{prefix_len};
 ghost use Rattle.std.specs.Char.{is_ascii_digit, is_ascii_hexdigit};
 ghost use Rattle.occam_layout.specs.Kind.{kind_of, bytes_of};
-ghost use Rattle.occam_layout.specs.Reading.{is_name_byte, value, seen, seen_text, word_at, decimal_at, hexadecimal_at, quoted_at, character_at, string_at, sign_at, token_at};
+ghost use Rattle.occam_layout.specs.Reading.{is_name_byte, value, seen, seen_text, word_at, decimal_at, hexadecimal_at};
+ghost use Rattle.occam_layout.specs.Reading.{quoted_at, character_at, string_at, sign_at, token_at};
 
 use crate::fault::Fault;
 use crate::text::{Text, body_len, digit_value};

@@ -1,6 +1,8 @@
 //! The characters between the quotes of a literal.
 
-ghost use Rattle.std.specs.Prelude.{◌≡◌, ◌+◌, ◌∷◌, List, ℕ, [], true, false, ◌&&◌, Some, None, if◌then◌else◌, ◌<◌, ◌≤◌, ◌*◌, length, IfSome, IsTrue, ◌↔◌, ◌-◌, MatchOption, IsSome, is_some, option_map, unwrap_or, drop};
+ghost use Rattle.std.specs.Prelude.{◌≡◌, ◌+◌, ◌∷◌, List, ℕ, [], true, false, ◌&&◌, Some, None, if◌then◌else◌, ◌<◌, ◌≤◌};
+ghost use Rattle.std.specs.Prelude.{◌*◌, length, IfSome, IsTrue, ◌↔◌, ◌-◌, MatchOption, IsSome, is_some, option_map};
+ghost use Rattle.std.specs.Prelude.{unwrap_or, drop};
 ghost use Rattle.std.specs.Char.{is_ascii_hexdigit, digit_value};
 ghost use Rattle.occam_layout.specs.Characters.{escape, character_at, decoded, body_len};
 

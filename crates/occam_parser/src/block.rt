@@ -6,8 +6,10 @@ ghost use Rattle.occam_parser.specs.declared.head.BlockKind.TheVariants.{If, Alt
 ghost use Rattle.occam_parser.specs.LineViews.{replicator_of};
 ghost use Rattle.occam_parser.specs.Reading.{Finds};
 ghost use Rattle.occam_parser.specs.Blocks.{row_of, rows_of, Block, NoComponent};
-ghost use Rattle.occam_parser.specs.BlockReading.{first_row, beginning_from, count_of, wants, further, components_of, process_at, component_at};
-ghost use Rattle.occam_parser.specs.BlockViews.{process_of, construct_of, choice_of, branch_of, beginning_of, kind_of, components_in};
+ghost use Rattle.occam_parser.specs.BlockReading.{first_row, beginning_from, count_of, wants, further, components_of};
+ghost use Rattle.occam_parser.specs.BlockReading.{process_at, component_at};
+ghost use Rattle.occam_parser.specs.BlockViews.{process_of, construct_of, choice_of, branch_of, beginning_of, kind_of};
+ghost use Rattle.occam_parser.specs.BlockViews.{components_in};
 
 use crate::fault::{Fault, ParseFault, at_line};
 use crate::head::{BlockKind, Head, Start, beside, guard, head_of, whole};

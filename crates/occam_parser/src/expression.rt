@@ -3,7 +3,9 @@
 ghost use Rattle.std.specs.Prelude.{◌≡◌, ◌≤◌, ◌<◌, length, map, option_map, IfOk, IfSome};
 ghost use Rattle.occam_parser.specs.Terminals.{terminals_of};
 ghost use Rattle.occam_parser.specs.Views.{expression_of, term_of};
-ghost use Rattle.occam_parser.specs.Reading.{Gives, Finds, behind, behind_operator, prefix_at, begins_with_operator, expression_at, one_operator, chain, term_at, marked, named, converted, up_to, inner_at, operand_within, list_of};
+ghost use Rattle.occam_parser.specs.Reading.{Gives, Finds, behind, behind_operator, prefix_at, begins_with_operator};
+ghost use Rattle.occam_parser.specs.Reading.{expression_at, one_operator, chain, term_at, marked, named, converted};
+ghost use Rattle.occam_parser.specs.Reading.{up_to, inner_at, operand_within, list_of};
 ghost use Rattle.occam_parser.specs.LineReading.{bracketed_at};
 ghost use Rattle.occam_parser.specs.Told.{GoesUpTo};
 

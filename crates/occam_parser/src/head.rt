@@ -7,7 +7,10 @@ ghost use Rattle.occam_parser.specs.LineViews.{place_of, replicator_of, action_o
 ghost use Rattle.occam_parser.specs.Reading.{Gives, Finds};
 ghost use Rattle.occam_parser.specs.Told.{IsAll, IsBeside};
 ghost use Rattle.occam_parser.specs.Lines.{Skips};
-ghost use Rattle.occam_parser.specs.LineReading.{ended, only, name_at, head_at, marked_head, block_at, replicator_at, counted_at, place_at, action_at, placed_action, assigned, received, sent, actuals_at, whole_at, whole_place, is_guard_sign, has_condition, guard_at, conditioned_at, received_if, input_at};
+ghost use Rattle.occam_parser.specs.LineReading.{ended, only, name_at, head_at, marked_head, block_at, replicator_at};
+ghost use Rattle.occam_parser.specs.LineReading.{counted_at, place_at, action_at, placed_action, assigned, received};
+ghost use Rattle.occam_parser.specs.LineReading.{sent, actuals_at, whole_at, whole_place, is_guard_sign, has_condition};
+ghost use Rattle.occam_parser.specs.LineReading.{guard_at, conditioned_at, received_if, input_at};
 
 use crate::declaration::{constant, typed_names};
 use crate::expression::{expect, expression, expressions, in_brackets, up_to};

@@ -59,7 +59,7 @@ words_say-at : (facts : Facts) (entry : Entry) (span n : ℕ) → words_say fact
 words_say-at facts entry zero n h l = absurd (omega arith)
 words_say-at facts entry (suc m) n h l =
     let p : (says (facts (entry.word +ℤ pos m)) (said_of entry.fact (eqb m 0)) ≡ true)
-        × (words_say facts entry m ≡ true) = and-parts _ _ h in
+    × (words_say facts entry m ≡ true) = and-parts _ _ h in
     elim (cases_lt n m) [
       | inl low ↦ words_say-at facts entry m n p.1 low
       | inr high ↦ let same : n ≡ m =
@@ -103,11 +103,11 @@ says-entries_hold low facts (entry ∷ entries) r h =
     let k = entry.word +ℤ pos n in
     ap (λ c. says (facts k) (said_of entry.fact c)) (sym (first-test entry.word n))
     ∙ (sym (ap (says (facts k)) (entry_fact-within k entry entries (omega (arith, ints)) (omega (arith, ints))))
-        ∙ h k)))
+    ∙ h k)))
     (says-entries_hold (end_of entry) facts entries p.1 (λ k. by_lt_z k (end_of entry)
     (λ l. ap (says (facts k)) (unknown-below (end_of entry) k entries p.1 l) ∙ says-unknown (facts k))
     (λ l. sym (ap (λ b. says (facts k) (cond b (said_of entry.fact (is_word entry.word k)) (entry_fact entries k)))
-        (about-behind entry k l)) ∙ h k)))
+    (about-behind entry k l)) ∙ h k)))
 
 pub entries_hold-true : (facts : Facts) (entries : List Entry) → AreApart entries → SaysAll facts (entry_fact entries)
     → entries_hold facts entries ≡ true
@@ -153,13 +153,13 @@ item-asked wanted lo word index fact other b word_is is asked =
 pub items-more : (written : List Written) (n : ℕ) (lo : ℤ) (wanted : Facts) (e : Written) → n < length written
     → ItemsSay written n lo wanted
     → says (Alone ((get_or written n e).fact)) (wanted (lo +ℤ pos ((get_or written n e).index))) ≡ true
-        → ItemsSay written (n + 1) lo wanted
+    → ItemsSay written (n + 1) lo wanted
 items-more written n lo wanted e low earlier here = λ i h d. elim (cases_lt i n) [
   | inl l ↦ earlier i l d
   | inr l ↦
       let same : i ≡ n = omega arith in
       let item : get_or written i d ≡ get_or written n e =
-          ap (λ j. get_or written j d) same ∙ get_or_default written n d e low in
+      ap (λ j. get_or written j d) same ∙ get_or_default written n d e low in
       ap (λ (w : Written). says (Alone w.fact) (wanted (lo +ℤ pos w.index))) item ∙ here
 ]
 
@@ -190,22 +190,22 @@ written-says written lo wanted d each = λ k fact h.
     let i = index-found written (k -ℤ lo) fact h in
     let f = found-at written i.0 fact d i.2 in
     let word : lo +ℤ pos ((get_or written f.0 d).index) ≡ k = let same = f.2 in let index =
-        i.1 in omega (arith, ints) in
+    i.1 in omega (arith, ints) in
     ap (λ (x : Fact). says (Alone x) (wanted k)) (sym f.3)
-        ∙ (ap (λ (j : ℤ). says (Alone ((get_or written f.0 d).fact)) (wanted j)) (sym word) ∙ each f.0 f.1 d)
+    ∙ (ap (λ (j : ℤ). says (Alone ((get_or written f.0 d).fact)) (wanted j)) (sym word) ∙ each f.0 f.1 d)
 
 -- an item that says less
 pub written-less : (places : List ℕ) (written : List Written) (row : List Entry) (lo : ℤ) (wanted : Facts) (i : ℕ)
     (d : Written) → ArePlaced places written → i < length written
     → says (Alone ((get_or written i d).fact)) (wanted (lo +ℤ pos ((get_or written i d).index))) ≡ false
-        → SaysLess (facts_over lo row written) wanted
+    → SaysLess (facts_over lo row written) wanted
 written-less places written row lo wanted i d placed low h =
     let item = get_or written i d in
     let k = lo +ℤ pos item.index in
     let found = lookup-at places written item.index i d placed low (indices-at written i d low) in
     let z : k -ℤ lo ≡ pos item.index = omega (arith, ints) in
     let fact : facts_over lo row written k ≡ Alone item.fact =
-        ap (λ o. unwrap_or (option_map Alone o) (entry_fact row k)) (ap (fact_of_index written) z ∙ found) in
+    ap (λ o. unwrap_or (option_map Alone o) (entry_fact row k)) (ap (fact_of_index written) z ∙ found) in
     (k, ap (λ (x : WordFact). says x (wanted k)) fact ∙ h)
 
 -- ---- two rows side by side
@@ -224,10 +224,10 @@ pub says-more : (said facts wanted rest_said rest_wanted : Facts) (word here the
     → SaysUpTo said facts wanted word
     → ((k : ℤ) → word ≤ℤ k → rest_said k ≡ said k) → ((k : ℤ) → word ≤ℤ k → rest_wanted k ≡ wanted k)
     → ((k : ℤ) → word ≤ℤ k → k <ℤ here → rest_said k ≡ fact)
-        → ((k : ℤ) → word ≤ℤ k → k <ℤ there → rest_wanted k ≡ other)
+    → ((k : ℤ) → word ≤ℤ k → k <ℤ there → rest_wanted k ≡ other)
     → end ≤ℤ here → end ≤ℤ there
     → ((k : ℤ) → word ≤ℤ k → k <ℤ end → (says fact other ≡ true) ⊎ (says (facts k) other ≡ true))
-        → SaysUpTo said facts wanted end
+    → SaysUpTo said facts wanted end
 says-more said facts wanted rest_said rest_wanted word here there end fact other earlier said_same wanted_same said_is
     wanted_is e_here e_there stretch = λ k l.
     by_lt_z k word (λ low. earlier k low) (λ high.
@@ -242,7 +242,7 @@ pub says-all : (said facts : Facts) (row rest : List Entry) (word : ℤ) → Say
     → rest ≡ [] → ((k : ℤ) → word ≤ℤ k → entry_fact rest k ≡ entry_fact row k) → OneSaysAll said facts (entry_fact row)
 says-all said facts row rest word earlier none same = λ k. by_lt_z k word (λ low. earlier k low) (λ high.
     inl (ap (says (said k)) (sym (same k high) ∙ ap (λ (es : List Entry). entry_fact es k) none)
-        ∙ says-unknown (said k)))
+    ∙ says-unknown (said k)))
 
 pub says-less : (facts wanted rest_wanted : Facts) (word there end : ℤ) (other : WordFact)
     → ((k : ℤ) → word ≤ℤ k → rest_wanted k ≡ wanted k) → ((k : ℤ) → word ≤ℤ k → k <ℤ there → rest_wanted k ≡ other)

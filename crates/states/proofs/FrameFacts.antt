@@ -44,7 +44,7 @@ facts_over-empty lo row written none = fun_ext (λ k. ap (λ o. unwrap_or (optio
 write-at : (written new : List Written) (fact : Fact) (rest : WordFact) (lo word k : ℤ) (i : ℕ) (z : ℤ) → z ≡ k -ℤ lo
     → word ≡ lo +ℤ pos i → ((j : ℕ) → lookup new j ≡ cond (eqb j i) (Some fact) (lookup written j))
     → unwrap_or (option_map Alone (fact_of_index new z)) rest
-        ≡ cond (is_word k word) (Alone fact) (unwrap_or (option_map Alone (fact_of_index written z)) rest)
+    ≡ cond (is_word k word) (Alone fact) (unwrap_or (option_map Alone (fact_of_index written z)) rest)
 write-at written new fact rest lo word k i (pos n) z_is word_is each = elim (cases_eq n i) [
   | inl e ↦
       let yes : eqb n i ≡ true = grind (arith, nat_tests) in
@@ -107,7 +107,7 @@ part-alone false false fact = refl
 
 part-index : (before behind : Bool) (loop : Loop)
     → parted_if behind is_count (parted_if before is_index (Index loop))
-        ≡ cond before (Alone (by_itself (Index loop))) (Index loop)
+    ≡ cond before (Alone (by_itself (Index loop))) (Index loop)
 part-index true true loop = refl
 part-index true false loop = refl
 part-index false true loop = refl
@@ -115,7 +115,7 @@ part-index false false loop = refl
 
 part-count : (before behind : Bool) (loop : Loop)
     → parted_if behind is_count (parted_if before is_index (Count loop))
-        ≡ cond behind (Alone (by_itself (Count loop))) (Count loop)
+    ≡ cond behind (Alone (by_itself (Count loop))) (Count loop)
 part-count true true loop = refl
 part-count true false loop = refl
 part-count false true loop = refl
@@ -157,7 +157,7 @@ parts-write w fact facts = fun_ext (λ j. elim (word-cases j w) [
 pub write-steps : (w here before behind : ℤ) (fact : Fact) (facts first second new : Facts) → here ≡ w
     → before ≡ w -ℤ pos 1 → behind ≡ w +ℤ pos 1
     → first ≡ parted is_index before facts → second ≡ parted is_count behind first → new ≡ with_alone here fact second
-        → new ≡ with_fact w fact facts
+    → new ≡ with_fact w fact facts
 write-steps w here before behind fact facts first second new here_is before_is behind_is one two three =
     three ∙ (rw (here_is, two, behind_is, one, before_is) (parts-write w fact facts))
 

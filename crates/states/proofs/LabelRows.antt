@@ -97,7 +97,7 @@ row-found m at [] t all h = absurd (cc)
 row-found m at (row ∷ rows) t all h = elim (cases_Bool (row.offset == at)) [
   | inl e ↦
       let here : Some row ≡ Some t =
-          sym (ap (λ (b : Bool). cond b (Some row) (find (λ row. row.offset == at) rows)) e) ∙ h in
+      sym (ap (λ (b : Bool). cond b (Some row) (find (λ row. row.offset == at) rows)) e) ∙ h in
       let same : row ≡ t = cc in
       subst (λ (r : Label). IsRowOf m r) same all.0
   | inr e ↦ row-found m at rows t all.1 (sym (ap (λ (b : Bool). cond b (Some row)

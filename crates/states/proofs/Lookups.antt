@@ -107,7 +107,7 @@ lookup-set places ws p w j placed low is = elim (cases_eq j w.index) [
   | inl e ↦
       let longer : p < length (set ws p w) = let e = length-set ws p w in omega arith in
       let here : get_or (indices (set ws p w)) p 0 ≡ j =
-          ap (λ ns. get_or ns p 0) (indices-set ws p w is low) ∙ (is ∙ sym e) in
+      ap (λ ns. get_or ns p 0) (indices-set ws p w is low) ∙ (is ∙ sym e) in
       let found = lookup-at places (set ws p w) j p w (ArePlaced-set places ws p w placed low is) longer here in
       let fact_is : get_or (set ws p w) p w ≡ w = get_or-set_same ws p w w low in
       let yes : eqb j w.index ≡ true = grind (arith, nat_tests) in
@@ -146,15 +146,18 @@ ArePlaced-push places ws w placed none low = λ i l.
           let p = placed i h in
           let old : get_or (indices (ws ++ w ∷ [])) i 0 ≡ get_or (indices ws) i 0 =
           ap (λ ns. get_or ns i 0) (indices-push ws w)
-              ∙ get_or-append (indices ws) (w.index ∷ []) 0 i (let e = length-indices ws in omega arith) in
+          ∙ get_or-append (indices ws) (w.index ∷ []) 0 i (let e = length-indices ws in omega arith) in
           let other : get_or (indices ws) i 0 ≢ w.index = stands-nowhere places ws w.index i w placed none h in
-          rw old (omega (arith, p.0), get_or-set_other places w.index (get_or (indices ws) i 0) (length ws) 0 other
-              ∙ p.1)
+          rw old (
+            omega (arith, p.0),
+            get_or-set_other places w.index (get_or (indices ws) i 0) (length ws) 0 other
+                ∙ p.1,
+          )
       | inr h ↦
           let last : i ≡ length ws = omega arith in
           let new : get_or (indices (ws ++ w ∷ [])) i 0 ≡ w.index =
           ap (λ ns. get_or ns i 0) (indices-push ws w)
-              ∙ get_or_push (indices ws) w.index 0 i (length-indices ws ∙ sym last) in
+          ∙ get_or_push (indices ws) w.index 0 i (length-indices ws ∙ sym last) in
           rw new (omega arith, get_or-set_same places w.index (length ws) 0 low ∙ sym last)
     ]
 
@@ -197,7 +200,7 @@ length-le-places places ws placed =
     let i_is = get_or_default_zero (indices ws) i d (omega arith) in
     let j_is = get_or_default_zero (indices ws) j d (omega arith) in
     let same : i ≡ j =
-        sym (placed i i_low).1 ∙ (ap (λ n. get_or places n 0) (sym i_is ∙ (e ∙ j_is)) ∙ (placed j j_low).1) in
+    sym (placed i i_low).1 ∙ (ap (λ n. get_or places n 0) (sym i_is ∙ (e ∙ j_is)) ∙ (placed j j_low).1) in
     absurd (omega arith) in
     grind (arith, nat_tests)))
     (λ q h. let m = member-at (indices ws) q h in rw (← m.2) (placed m.0 (omega (arith, m.1))).0) in
@@ -208,7 +211,7 @@ pub room-for-one : (places : List ℕ) (ws : List Written) (w : Written) → Are
     → w.index < length places → length ws < length places
 room-for-one places ws w placed none low =
     let more =
-        length-le-places (set places w.index (length ws)) (ws ++ w ∷ []) (ArePlaced-push places ws w placed none low) in
+    length-le-places (set places w.index (length ws)) (ws ++ w ∷ []) (ArePlaced-push places ws w placed none low) in
     let longer = length_push ws w in
     let same = length-set places w.index (length ws) in
     omega arith

@@ -28,8 +28,8 @@ pub price-free : (facts : Facts) (entry : Entry) (base : ℤ) (count weight : �
     → price facts entry ≡ 0
 price-free facts entry base count weight next turns second is next_is second_is turns_is none =
     let no : holds_constant (facts (entry.word +ℤ pos 1)) (pos count) ≡ false =
-        ap (λ f. holds_constant f (pos count)) (ap facts (sym next_is) ∙ sym second_is)
-        ∙ (ap (holds_constant second) (sym turns_is) ∙ none) in
+    ap (λ f. holds_constant f (pos count)) (ap facts (sym next_is) ∙ sym second_is)
+    ∙ (ap (holds_constant second) (sym turns_is) ∙ none) in
     rw is (ap (λ b. cond b (weight * (count - 1)) 0) (and-no (holds_constant (facts entry.word) base) _ no))
   where
     and-no : (x y : Bool) → y ≡ false → x && y ≡ false
@@ -41,13 +41,13 @@ pub price-due : (facts : Facts) (entry : Entry) (base : ℤ) (count weight : ℕ
     (first second : WordFact) → entry.fact ≡ Loop base count weight → word ≡ entry.word → next ≡ entry.word +ℤ pos 1
     → first ≡ facts word → second ≡ facts next
     → begin ≡ base → turns ≡ pos count → holds_constant first begin ≡ true → holds_constant second turns ≡ true
-        → price facts entry ≡ weight * (count - 1)
+    → price facts entry ≡ weight * (count - 1)
 price-due facts entry base count weight word next begin turns first second is word_is next_is first_is second_is
     begin_is turns_is begun counted =
     let yes : holds_constant (facts entry.word) base ≡ true =
-        ap (λ f. holds_constant f base) (ap facts (sym word_is) ∙ sym first_is)
-        ∙ (ap (holds_constant first) (sym begin_is) ∙ begun) in
+    ap (λ f. holds_constant f base) (ap facts (sym word_is) ∙ sym first_is)
+    ∙ (ap (holds_constant first) (sym begin_is) ∙ begun) in
     let due : holds_constant (facts (entry.word +ℤ pos 1)) (pos count) ≡ true =
-        ap (λ f. holds_constant f (pos count)) (ap facts (sym next_is) ∙ sym second_is)
-        ∙ (ap (holds_constant second) (sym turns_is) ∙ counted) in
+    ap (λ f. holds_constant f (pos count)) (ap facts (sym next_is) ∙ sym second_is)
+    ∙ (ap (holds_constant second) (sym turns_is) ∙ counted) in
     rw (is, yes, due) refl

@@ -33,7 +33,7 @@ owner-below : (first : ℕ) (rows : List Par) (n : ℕ) → n < first → owner 
 owner-below first [] n h = refl
 owner-below first (row ∷ rows) n h =
     let within : owner (first + length row.branches) rows n ≡ n =
-        owner-below (first + length row.branches) rows n (omega arith) in
+    owner-below (first + length row.branches) rows n (omega arith) in
     let low : nat_lt n first ≡ true = grind (arith, nat_tests) in
     rw (within, low) refl
 
@@ -71,8 +71,8 @@ word-room : (m : Contents) (s : InMemory) (n : ℕ) (p : Procedure) (word : ℕ)
     → context_at m n ≡ Some (procedure_context p) → p.lo ≤ℤ pos 0 → pos word <ℤ p.hi → HasRoom s.frame (pos word)
 word-room m s n p word b is low high =
     let own : has_word (context_at m n) (pos word) ≡ true =
-        ap (λ o. has_word o (pos word)) is
-        ∙ and-both _ _ (le-yes p.lo (pos word) (omega (arith, ints))) (lt-yes (pos word) p.hi high) in
+    ap (λ o. has_word o (pos word)) is
+    ∙ and-both _ _ (le-yes p.lo (pos word) (omega (arith, ints))) (lt-yes (pos word) p.hi high) in
     (b.room n (pos word) own).room
 
 -- what becomes of a state where a procedure begins
@@ -88,8 +88,10 @@ begins m s n p k b some is =
     let row = (at-row m.version (length m.code) 0 m.procedures (n - 1) p k.rows.procedures is).1 in
     record {
       first = word-room m s n p 0 b context row.lo_high (let h = row.hi_low in omega (arith, ints));
-      each = record { each = λ i h d. word-room m s n p (get_or p.parameters i d).word b context row.lo_high
-          (parameter-inside m.version p.hi 0 p.parameters i d row.parameters h) };
+      each = record {
+        each = λ i h d. word-room m s n p (get_or p.parameters i d).word b context row.lo_high
+            (parameter-inside m.version p.hi 0 p.parameters i d row.parameters h);
+      };
       few = row.few;
     }
 
@@ -100,7 +102,7 @@ pub parameters-none : (ps rest : List Parameter) (facts : Facts) → rest ≡ ps
     → (ps ≡ rest ++ drop (length rest) ps) × (facts ≡ parameter_facts (2 + length rest) (drop (length rest) ps))
 parameters-none ps rest facts all none =
     let behind : drop (length rest) ps ≡ [] =
-        ap (λ (qs : List Parameter). drop (length qs) ps) all ∙ drop-length ps in (
+    ap (λ (qs : List Parameter). drop (length qs) ps) all ∙ drop-length ps in (
       rw (behind, append-nil) (sym all),
       rw behind (none ∙ fun_ext (λ k. refl)),
     )
@@ -120,9 +122,9 @@ behind-last ps rest earlier last is front =
 pub parameters-more : (ps rest earlier : List Parameter) (last : Parameter) (facts new : Facts) (word : ℤ) (region : ℕ)
     (fact : Fact) → rest ≡ earlier ++ last ∷ [] → length earlier + 1 ≡ length rest → ps ≡ rest ++ drop (length rest) ps
     → facts ≡ parameter_facts (2 + length rest) (drop (length rest) ps) → word ≡ pos last.word
-        → region ≡ 2 + length earlier → fact ≡ parameter_fact region last.kind → new ≡ with_alone word fact facts
+    → region ≡ 2 + length earlier → fact ≡ parameter_fact region last.kind → new ≡ with_alone word fact facts
     → (ps ≡ earlier ++ drop (length earlier) ps)
-        × (new ≡ parameter_facts (2 + length earlier) (drop (length earlier) ps))
+    × (new ≡ parameter_facts (2 + length earlier) (drop (length earlier) ps))
 parameters-more ps rest earlier last facts new word region fact is len front so_far word_is region_is fact_is placed =
     let behind = behind-last ps rest earlier last is front in
     let next : 2 + length rest ≡ 2 + length earlier + 1 = omega arith in (
@@ -137,10 +139,10 @@ pub parameter-room : (old new : Frame) (ps rest earlier : List Parameter) (last 
 parameter-room old new ps rest earlier last word all same is front word_is =
     let whole = split ps rest earlier last is front in
     let inside : length earlier < length ps =
-        rw whole (omega (arith, length-append earlier (last ∷ drop (length rest) ps))) in
+    rw whole (omega (arith, length-append earlier (last ∷ drop (length rest) ps))) in
     let at : get_or ps (length earlier) last ≡ last =
-        ap (λ (qs : List Parameter). get_or qs (length earlier) last) whole
-        ∙ get_or-append_seam earlier last (drop (length rest) ps) last in
+    ap (λ (qs : List Parameter). get_or qs (length earlier) last) whole
+    ∙ get_or-append_seam earlier last (drop (length rest) ps) last in
     let here = subst (λ (q : Parameter). HasRoom old (pos q.word)) at (all.each (length earlier) inside last) in
     let low = here.low in
     let high = here.high in

@@ -139,7 +139,7 @@ entry_fact-take low k (entry ∷ entries) zero d r l h =
 entry_fact-take low k (entry ∷ entries) (suc n) d r l h =
     let p = rise-parts low entry entries r in
     ap (λ f. cond (is_about entry k) (said_of entry.fact (is_word entry.word k)) f)
-        (entry_fact-take (end_of entry) k entries n d p.1 (omega arith) h)
+    (entry_fact-take (end_of entry) k entries n d p.1 (omega arith) h)
 
 -- one entry alone
 pub entry_fact-one : (k : ℤ) (entries : List Entry) (d : Entry) → length entries ≡ 1
@@ -159,7 +159,7 @@ pub entry_fact-before : (low k : ℤ) (entry : Entry) (entries : List Entry) →
     → k <ℤ entry.word → entry_fact (entry ∷ entries) k ≡ Alone Unknown
 entry_fact-before low k entry entries r h =
     unknown-below entry.word k (entry ∷ entries)
-        (and-both _ _ (le-yes entry.word entry.word (omega (arith, ints))) (rise-parts low entry entries r).1) h
+    (and-both _ _ (le-yes entry.word entry.word (omega (arith, ints))) (rise-parts low entry entries r).1) h
 
 pub entry_fact-within : (k : ℤ) (entry : Entry) (entries : List Entry) → entry.word ≤ℤ k → k <ℤ end_of entry
     → entry_fact (entry ∷ entries) k ≡ said_of entry.fact (is_word entry.word k)
@@ -173,8 +173,8 @@ pub row-back : (rest back : List Entry) (mid : ℕ) (k w : ℤ) (d : Entry) → 
     → AreApart back × (entry_fact back k ≡ entry_fact rest k)
 row-back rest back mid k w d apart half low first le =
     let first_is : w ≡ (get_or rest mid d).word =
-        first ∙ ap (λ (e : Entry). e.word)
-        (ap (λ es. get_or es 0 d) half ∙ get_or-drop mid rest 0 d ∙ ap (λ n. get_or rest n d) (add-zero mid)) in (
+    first ∙ ap (λ (e : Entry). e.word)
+    (ap (λ es. get_or es 0 d) half ∙ get_or-drop mid rest 0 d ∙ ap (λ n. get_or rest n d) (add-zero mid)) in (
       subst (λ es. AreApart es) (sym half) (rise-drop least_word rest mid apart),
       ap (λ es. entry_fact es k) half ∙ entry_fact-drop least_word k rest mid d apart low
           (subst (λ (z : ℤ). z ≤ℤ k) first_is le),
@@ -186,8 +186,8 @@ pub row-front : (rest front back : List Entry) (mid : ℕ) (k w : ℤ) (d : Entr
     → AreApart front × (entry_fact front k ≡ entry_fact rest k)
 row-front rest front back mid k w d apart first_half half low first lt =
     let first_is : w ≡ (get_or rest mid d).word =
-        first ∙ ap (λ (e : Entry). e.word)
-        (ap (λ es. get_or es 0 d) half ∙ get_or-drop mid rest 0 d ∙ ap (λ n. get_or rest n d) (add-zero mid)) in (
+    first ∙ ap (λ (e : Entry). e.word)
+    (ap (λ es. get_or es 0 d) half ∙ get_or-drop mid rest 0 d ∙ ap (λ n. get_or rest n d) (add-zero mid)) in (
       subst (λ es. AreApart es) (sym first_half) (rise-take least_word rest mid apart),
       ap (λ es. entry_fact es k) first_half
           ∙ entry_fact-take least_word k rest mid d apart low (subst (λ (z : ℤ). k <ℤ z) first_is lt),
@@ -200,21 +200,21 @@ pub segment-before : (row : List Entry) (entry : Entry) (later : List Entry) (st
     → row ≡ entry ∷ later → start ≡ entry.word → k <ℤ start → entry_fact row k ≡ Alone Unknown
 segment-before row entry later start k apart is start_is h =
     ap (λ es. entry_fact es k) is ∙ entry_fact-before least_word k entry later (subst (λ es. AreApart es) is apart)
-        (subst (λ (z : ℤ). k <ℤ z) start_is h)
+    (subst (λ (z : ℤ). k <ℤ z) start_is h)
 
 pub segment-within : (row : List Entry) (entry : Entry) (later : List Entry) (start end k : ℤ) → row ≡ entry ∷ later
     → start ≡ entry.word → end ≤ℤ end_of entry → start ≤ℤ k → k <ℤ end
     → entry_fact row k ≡ said_of entry.fact (is_word entry.word k)
 segment-within row entry later start end k is start_is end_is l h =
     ap (λ es. entry_fact es k) is ∙ entry_fact-within k entry later (subst (λ (z : ℤ). z ≤ℤ k) start_is l)
-        (omega (arith, ints))
+    (omega (arith, ints))
 
 -- an entry that ends before a word says nothing from there on
 pub segment-behind : (row : List Entry) (entry : Entry) (later : List Entry) (end k : ℤ) → row ≡ entry ∷ later
     → end ≡ end_of entry → end ≤ℤ k → entry_fact later k ≡ entry_fact row k
 segment-behind row entry later end k is end_is h =
     sym (ap (λ es. entry_fact es k) is ∙ entry_fact-behind k k entry later (subst (λ (z : ℤ). z ≤ℤ k) end_is h)
-        (omega (arith, ints)))
+    (omega (arith, ints)))
 
 pub segment-apart : (row : List Entry) (entry : Entry) (later : List Entry) → AreApart row → row ≡ entry ∷ later
     → AreApart later

@@ -24,7 +24,7 @@ use Rattle.states.proofs.RowFacts.{and-parts, le-from, lt-from}
 -- a state whose fields are those of one with a word written is that one
 pub written-fields : (word w v : ℤ) (fact : Fact) (s : State) (a b c : Known) (frame : Facts)
     → a ≡ forgets w s.stack.a → b ≡ forgets w s.stack.b → c ≡ forgets w s.stack.c → frame ≡ with_fact v fact s.frame
-        → w ≡ word → v ≡ word
+    → w ≡ word → v ≡ word
     → ◌≡◌ {A = State} (record s { stack = record { a = a; b = b; c = c }; frame = frame }) (written word fact s)
 unfolding written
 written-fields word w v fact s a b c frame p q r f w_is v_is =
@@ -67,15 +67,15 @@ own-within : (m : Contents) (lo hi : ℤ) (rows : List ProcedureRow) (n : ℕ) (
 own-within m lo hi rows n context is root each h = elim (cases_Bool (n == 0)) [
   | inl e ↦
       let chosen : Some (root_context m) ≡ Some context =
-          sym (ap (λ b. cond b (Some (root_context m)) (option_map procedure_context
-          (slice_get m.procedures (n - 1)))) e) ∙ h in
+      sym (ap (λ b. cond b (Some (root_context m)) (option_map procedure_context
+      (slice_get m.procedures (n - 1)))) e) ∙ h in
       let same : root_context m ≡ context = cc in
       subst (λ (x : Context). Within lo hi x) same root
   | inr e ↦
       procedure-within lo hi rows (n - 1) context each
       (ap (λ ps. option_map procedure_context (slice_get ps (n - 1))) (sym is)
-          ∙ (sym (ap (λ b. cond b (Some (root_context m)) (option_map procedure_context
-          (slice_get m.procedures (n - 1)))) e) ∙ h))
+      ∙ (sym (ap (λ b. cond b (Some (root_context m)) (option_map procedure_context
+      (slice_get m.procedures (n - 1)))) e) ∙ h))
 ]
 
 context-within : (m : Contents) (lo hi : ℤ) (rows : List ProcedureRow) (n : ℕ) (context : Context)
@@ -84,13 +84,13 @@ context-within : (m : Contents) (lo hi : ℤ) (rows : List ProcedureRow) (n : �
 unfolding context_at
 context-within m lo hi rows n context is root each h =
     elim (cases_Bool (nat_lt n (1 + length m.procedures + branch_count m.pars))) [
-  | inl e ↦ own-within m lo hi rows (owner (1 + length m.procedures) m.pars n) context is root each
-      (sym (ap (λ b. cond b (own_context m (owner (1 + length m.procedures) m.pars n)) None) e) ∙ h)
-  | inr e ↦
-      let none : None ≡ Some context =
+      | inl e ↦ own-within m lo hi rows (owner (1 + length m.procedures) m.pars n) context is root each
+          (sym (ap (λ b. cond b (own_context m (owner (1 + length m.procedures) m.pars n)) None) e) ∙ h)
+      | inr e ↦
+          let none : None ≡ Some context =
           sym (ap (λ b. cond b (own_context m (owner (1 + length m.procedures) m.pars n)) None) e) ∙ h in
-      absurd (cc)
-]
+          absurd (cc)
+    ]
 
 word-within : (lo hi : ℤ) (o : Option Context) (k : ℤ) → ((context : Context) → o ≡ Some context → Within lo hi context)
     → has_word o k ≡ true → (lo ≤ℤ k) × (k <ℤ hi)

@@ -95,7 +95,7 @@ abbrev pub price : Facts → Entry → ℕ
 price facts entry = elim entry.fact [
   | Loop base count weight ↦
       if holds_constant (facts entry.word) base
-          && holds_constant (facts (entry.word +ℤ pos 1)) (pos count) then weight * (count - 1) else 0
+      && holds_constant (facts (entry.word +ℤ pos 1)) (pos count) then weight * (count - 1) else 0
   | _ ↦ 0
 ]
 

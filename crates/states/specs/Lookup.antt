@@ -17,4 +17,4 @@ indices written = map (λ w. w.index) written
 abbrev pub ArePlaced : List ℕ → List Written → Type 0
 ArePlaced places written =
     (i : ℕ) → i < length written → (slice_index (indices written) i < length places)
-        × (slice_index places (slice_index (indices written) i) ≡ i)
+    × (slice_index places (slice_index (indices written) i) ≡ i)

@@ -152,7 +152,7 @@ abbrev pub parameter_facts : ℕ → List Parameter → Facts
 parameter_facts region [] k = Alone Unknown
 parameter_facts region (parameter ∷ parameters) k =
     if is_word k (pos parameter.word) then Alone (parameter_fact region parameter.kind) else parameter_facts
-        (region + 1) parameters k
+    (region + 1) parameters k
 
 -- word 0 is the return address, and parameter j has region 2 + j
 abbrev pub procedure_facts : Procedure → Facts

@@ -1,6 +1,7 @@
 //! What is known of the words of a frame.
 
-ghost use Rattle.std.specs.Prelude.{◌≡◌, ◌≤◌, ◌<◌, ◌-◌, ℤ, pos, ◌+ℤ◌, ◌-ℤ◌, ◌≤ℤ◌, ◌<ℤ◌, ◌⊎◌, ◌^◌, IfOk, IsTrue, IsFalse, true, false, SomeIff, sum_by, length, Some, None, vec_len};
+ghost use Rattle.std.specs.Prelude.{◌≡◌, ◌≤◌, ◌<◌, ◌-◌, ℤ, pos, ◌+ℤ◌, ◌-ℤ◌, ◌≤ℤ◌, ◌<ℤ◌, ◌⊎◌, ◌^◌, IfOk, IsTrue};
+ghost use Rattle.std.specs.Prelude.{IsFalse, true, false, SomeIff, sum_by, length, Some, None, vec_len};
 ghost use Rattle.std.specs.List.{list_all};
 ghost use Rattle.module_format.specs.Contents.{procedure_of};
 ghost use Rattle.module_format.specs.Order.{least_word};
@@ -31,7 +32,8 @@ pub(crate) struct Frame<'a> {
 impl<'a> Frame<'a> {
     ghost use Rattle.states.specs.State.{no_facts, with_fact, procedure_facts};
     ghost use Rattle.states.specs.Below.{says, entries_hold, is_whole, price};
-    ghost use Rattle.states.specs.Frames.{fact_of_index, frame_facts, with_alone, is_index, is_count, parted, HasRoom, HasRoomForAll, SameRoom};
+    ghost use Rattle.states.specs.Frames.{fact_of_index, frame_facts, with_alone, is_index, is_count, parted, HasRoom};
+    ghost use Rattle.states.specs.Frames.{HasRoomForAll, SameRoom};
     ghost use Rattle.states.specs.Comparing.{SaysLess, OneSaysAll, WrittenSaysAll};
 
     /// The frame of so many words from `lo` on, of which nothing is known.

@@ -1,6 +1,7 @@
 //! Facts by index: a sparse set, which is emptied in constant time.
 
-ghost use Rattle.std.specs.Prelude.{◌≡◌, ◌<◌, ◌≤◌, ◌==◌, ℕ, if◌then◌else◌, length, vec_len, vec_capacity, Some, None, [], IfOk, IfSome, IfNone, slice_index};
+ghost use Rattle.std.specs.Prelude.{◌≡◌, ◌<◌, ◌≤◌, ◌==◌, ℕ, if◌then◌else◌, length, vec_len, vec_capacity, Some, None};
+ghost use Rattle.std.specs.Prelude.{[], IfOk, IfSome, IfNone, slice_index};
 ghost use Rattle.states.specs.Lookup.{lookup, indices, ArePlaced};
 
 use certificate::Fact;

@@ -5,7 +5,8 @@ ghost use Rattle.module_format.specs.Contents.{Contents, contents_of, procedure_
 ghost use Rattle.certificate.specs.Rights.{may_write_word, may_read_word};
 ghost use Rattle.module_format.specs.Keeping.{Keeps};
 ghost use Rattle.module_format.specs.Stack.{pushed, popped, reversed};
-ghost use Rattle.states.specs.State.{unknown, known, without_source, forgets, written, begun, root_state, procedure_state, label_state};
+ghost use Rattle.states.specs.State.{unknown, known, without_source, forgets, written, begun, root_state};
+ghost use Rattle.states.specs.State.{procedure_state, label_state};
 ghost use Rattle.states.specs.Rows.{LoopFits, IsRowOf};
 ghost use Rattle.states.specs.Views.{state_of, CanWrite, BelongsTo};
 ghost use Rattle.states.specs.Room.{Covers};

@@ -8,6 +8,7 @@ use Rattle.module_format.specs.Stack.{of_empty}
 use Rattle.module_format.specs.Contents.{Contents}
 use Rattle.module_format.specs.Contexts.{context_at}
 use Rattle.machine_state.specs.Instructions.{op_of, instruction_of}
+use Rattle.machine_state.specs.SmallModules as small
 use Rattle.states.specs.declared.rule.Rule.TheVariants as rules
 use Rattle.states.specs.State.{written}
 use Rattle.states.specs.Below.{below}
@@ -18,21 +19,7 @@ use Rattle.verifier.specs.Judge.{judged_at, judge, verdict, refused}
 
 -- ldc 5, stl 1, ldl 1, adc 1, stl 1, stopp
 abbrev first : ℕ → Contents
-first budget = record {
-  version = One;
-  code = 0x45 ∷ 0xd1 ∷ 0x71 ∷ 0x81 ∷ 0xd1 ∷ 0x21 ∷ 0xf5 ∷ [];
-  constants = [];
-  data_words = 5;
-  base = 3;
-  budget = budget;
-  finish = 7;
-  lengths = replicate 8 0;
-  has_long_operations = false;
-  procedures = [];
-  labels = [];
-  pars = [];
-  table_rows = [];
-}
+first budget = record small.first { budget = budget }
 
 first_is_accepted : verdict (first 7) ≡ Ok tt
 unfolding judge judged_at below written context_at outside_alternation outside_starts uses becomes result_fact
@@ -61,19 +48,8 @@ it_has_no_rule = refl
 
 -- ldc 5, stl 1, j 0 to the label at 3 of this number, ldl 1, stopp
 abbrev jump : ℕ → ℕ → Contents
-jump budget number = record {
-  version = One;
-  code = 0x45 ∷ 0xd1 ∷ 0x00 ∷ 0x71 ∷ 0x21 ∷ 0xf5 ∷ [];
-  constants = [];
-  data_words = 5;
-  base = 3;
+jump budget number = record small.jump {
   budget = budget;
-  finish = 6;
-  lengths = replicate 8 0;
-  has_long_operations = false;
-  procedures = [];
-  pars = [];
-  table_rows = [];
   labels = record {
     offset = 3;
     context = 0;

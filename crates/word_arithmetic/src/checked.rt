@@ -1,7 +1,8 @@
 //! The checked operations: `None` exactly where the T414 sets the error flag. They are those of the standard library;
 //! what they add is the contract.
 ghost use Rattle.std.specs.Prelude.{◌≡◌};
-ghost use Rattle.word_arithmetic.specs.Word.{checked_sum, checked_difference, checked_product, checked_quotient, checked_remainder};
+ghost use Rattle.word_arithmetic.specs.Word.{checked_sum, checked_difference, checked_product, checked_quotient};
+ghost use Rattle.word_arithmetic.specs.Word.{checked_remainder};
 
 /// The sum; `None` where no word stands for it.
 pub fn checked_add(left: i32, right: i32) -> Option<i32>

@@ -17,7 +17,8 @@ pub struct Range {
 }
 
 impl Range {
-    ghost use Rattle.word_arithmetic.specs.Range.{Ends, ends_of, InRange, IsWithin, in_range, is_within, constant, constant_of, bytes, full, hull, range_between, truths};
+    ghost use Rattle.word_arithmetic.specs.Range.{Ends, ends_of, InRange, IsWithin, in_range, is_within, constant};
+    ghost use Rattle.word_arithmetic.specs.Range.{constant_of, bytes, full, hull, range_between, truths};
 
     /// The words from `lo` to `hi`.
     pub fn new(lo: i32, hi: i32) -> Self

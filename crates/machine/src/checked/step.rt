@@ -2,7 +2,8 @@
 
 ghost use Rattle.std.specs.Prelude.{◌≡◌, ◌+◌, ◌*◌, ◌<◌, ◌^◌, ℕ, IsTrue, length, slice_get, Err};
 ghost use Rattle.module_format.specs.Contents.{Contents, contents_of};
-ghost use Rattle.machine_state.specs.Happens.{between, failed, settled, answered, ran, prefix_turn, task_turn, step_turn};
+ghost use Rattle.machine_state.specs.Happens.{between, failed, settled, answered, ran, prefix_turn, task_turn};
+ghost use Rattle.machine_state.specs.Happens.{step_turn};
 ghost use Rattle.machine_state.specs.Happens.{most_executed};
 ghost use Rattle.machine.specs.Applying.{Applies, turn_of, here_at, outcome_of, outcome_at};
 ghost use Rattle.machine_state.specs.Instructions.{has_body};

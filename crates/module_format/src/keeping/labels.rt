@@ -4,18 +4,8 @@ ghost use Rattle.std.specs.Prelude.{◌≡◌, ◌↔◌, IsTrue, map};
 ghost use Rattle.module_format.specs.Contents.{label_of, procedure_of};
 ghost use Rattle.module_format.specs.Order.{InOrder, least_word};
 ghost use Rattle.module_format.specs.Offsets.{EntriesRise};
-ghost use Rattle.module_format.specs.Facts.{
-  IsPointer,
-  ValueKeeps,
-  RegisterKeeps,
-  WordKeeps,
-  EntryKeeps,
-  IsLabelOffset,
-  FactsKeep,
-  LabelKeeps,
-  behind_entry,
-  behind_label,
-};
+ghost use Rattle.module_format.specs.Facts.{IsPointer, ValueKeeps, RegisterKeeps, WordKeeps, EntryKeeps, IsLabelOffset};
+ghost use Rattle.module_format.specs.Facts.{FactsKeep, LabelKeeps, behind_entry, behind_label};
 
 use crate::fact::{Fact, Step};
 use crate::keeping::list::{Rule, all_keep};

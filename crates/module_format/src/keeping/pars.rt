@@ -5,26 +5,10 @@ ghost use Rattle.module_format.specs.Contents.{branch_of, par_of};
 ghost use Rattle.module_format.specs.Order.{InOrder, least_word};
 ghost use Rattle.module_format.specs.OffsetSet.{IsSetOf};
 ghost use Rattle.module_format.specs.declared.limits.TheConstants.{MAX_LONG_CODE, MAX_PARS};
-ghost use Rattle.module_format.specs.Pars.{
-  ChannelKeeps,
-  behind_channel,
-  IntervalKeeps,
-  behind_interval,
-  ReadKeeps,
-  NumberKeeps,
-  behind_number,
-  EndKindKeeps,
-  EndKeeps,
-  behind_end,
-  first_key,
-  GiftsKeep,
-  BranchKeeps,
-  behind_branch,
-  ParKeeps,
-  behind_par,
-  no_branches,
-  entries_of,
-};
+ghost use Rattle.module_format.specs.Pars.{ChannelKeeps, behind_channel, IntervalKeeps, behind_interval, ReadKeeps};
+ghost use Rattle.module_format.specs.Pars.{NumberKeeps, behind_number, EndKindKeeps, EndKeeps, behind_end, first_key};
+ghost use Rattle.module_format.specs.Pars.{GiftsKeep, BranchKeeps, behind_branch, ParKeeps, behind_par, no_branches};
+ghost use Rattle.module_format.specs.Pars.{entries_of};
 
 use crate::keeping::list::{Rule, all_keep};
 use crate::limits::MAX_BRANCHES;

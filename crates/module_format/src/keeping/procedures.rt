@@ -3,18 +3,9 @@
 ghost use Rattle.std.specs.Prelude.{◌≡◌, ◌↔◌, IsTrue, map};
 ghost use Rattle.module_format.specs.Contents.{procedure_of};
 ghost use Rattle.module_format.specs.Order.{InOrder};
-ghost use Rattle.module_format.specs.Procedures.{
-  RangeKeeps,
-  IsRegion,
-  AreChannels,
-  KindKeeps,
-  ParameterKeeps,
-  behind_parameter,
-  ProcedureKeeps,
-  behind_procedure,
-  TableKeeps,
-  behind_table,
-};
+ghost use Rattle.module_format.specs.Procedures.{RangeKeeps, IsRegion, AreChannels, KindKeeps, ParameterKeeps};
+ghost use Rattle.module_format.specs.Procedures.{behind_parameter, ProcedureKeeps, behind_procedure, TableKeeps};
+ghost use Rattle.module_format.specs.Procedures.{behind_table};
 
 use crate::keeping::list::{Rule, all_keep};
 use crate::limits::MAX_PARAMETERS;

@@ -5,28 +5,11 @@ ghost use Rattle.std.specs.List.{list_any};
 ghost use Rattle.module_format.specs.Contents.{Branch, branch_of};
 ghost use Rattle.module_format.specs.declared.rows.Interval.{Interval};
 ghost use Rattle.module_format.specs.Order.{InOrder, least_word};
-ghost use Rattle.module_format.specs.Pars.{
-  Before,
-  IntervalKeeps,
-  behind_interval,
-  behind_number,
-  behind_end,
-  behind_branch,
-  entries_of,
-  first_key,
-  meet,
-};
+ghost use Rattle.module_format.specs.Pars.{Before, IntervalKeeps, behind_interval, behind_number, behind_end};
+ghost use Rattle.module_format.specs.Pars.{behind_branch, entries_of, first_key, meet};
 ghost use Rattle.module_format.specs.Reading.{list_at};
-ghost use Rattle.module_format.specs.ReadingPars.{
-  interval_end_at,
-  words_at,
-  read_words_at,
-  parameter_number_at,
-  end_at,
-  branch_entry_at,
-  branch_counts_at,
-  branch_at,
-};
+ghost use Rattle.module_format.specs.ReadingPars.{interval_end_at, words_at, read_words_at, parameter_number_at};
+ghost use Rattle.module_format.specs.ReadingPars.{end_at, branch_entry_at, branch_counts_at, branch_at};
 ghost use Rattle.module_format.specs.Taking.{Takes, MayRunOut};
 
 use crate::fault::FormatFaultKind;

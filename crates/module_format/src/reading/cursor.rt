@@ -15,7 +15,8 @@ pub(crate) struct Cursor<'a> {
 }
 
 impl<'a> Cursor<'a> {
-    ghost use Rattle.std.specs.Prelude.{◌≡◌, ◌≤◌, ◌+◌, ◌^◌, ◌<◌, ◌==◌, nat_eq, length, drop, IfSome, is_some, None, true, false};
+    ghost use Rattle.std.specs.Prelude.{◌≡◌, ◌≤◌, ◌+◌, ◌^◌, ◌<◌, ◌==◌, nat_eq, length, drop, IfSome, is_some, None};
+    ghost use Rattle.std.specs.Prelude.{true, false};
     ghost use Rattle.std.specs.List.{starts_with};
     ghost use Rattle.module_format.specs.declared.fault.FormatFaultKind.TheVariants.{Truncated};
     ghost use Rattle.module_format.specs.Taking.{Takes, Stays, failure_after, failure_of, memory_after};

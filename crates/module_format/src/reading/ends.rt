@@ -4,16 +4,8 @@ ghost use Rattle.std.specs.Prelude.{◌≡◌, ⊤, true};
 ghost use Rattle.module_format.specs.declared.rows.EndKey.{EndKey};
 ghost use Rattle.module_format.specs.declared.rows.EndRow.{EndRow};
 ghost use Rattle.module_format.specs.Pars.{behind_end};
-ghost use Rattle.module_format.specs.ReadingPars.{
-  end_kind_at,
-  is_number_of,
-  end_number_at,
-  end_element_at,
-  end_direction_at,
-  end_kind,
-  direction_of,
-  end_at,
-};
+ghost use Rattle.module_format.specs.ReadingPars.{end_kind_at, is_number_of, end_number_at, end_element_at};
+ghost use Rattle.module_format.specs.ReadingPars.{end_direction_at, end_kind, direction_of, end_at};
 ghost use Rattle.module_format.specs.Taking.{Takes};
 
 use crate::fault::FormatFaultKind;

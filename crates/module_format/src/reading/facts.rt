@@ -3,22 +3,9 @@
 ghost use Rattle.std.specs.Prelude.{◌≡◌, ℕ, ℤ};
 ghost use Rattle.module_format.specs.declared.rows.Entry.{Entry};
 ghost use Rattle.module_format.specs.Facts.{end_of, behind_entry};
-ghost use Rattle.module_format.specs.ReadingRows.{
-  range_at,
-  step_at,
-  pointer_at,
-  code_address_at,
-  count_at,
-  loop_at,
-  fact_at,
-  register_at,
-  word_at,
-  first_word_at,
-  span_at,
-  entry_at,
-  entries_at,
-  registers_at,
-};
+ghost use Rattle.module_format.specs.ReadingRows.{range_at, step_at, pointer_at, code_address_at, count_at, loop_at};
+ghost use Rattle.module_format.specs.ReadingRows.{fact_at, register_at, word_at, first_word_at, span_at, entry_at};
+ghost use Rattle.module_format.specs.ReadingRows.{entries_at, registers_at};
 ghost use Rattle.module_format.specs.Taking.{Takes};
 
 use crate::fact::{Fact, Step};

@@ -2,16 +2,8 @@
 
 ghost use Rattle.std.specs.Prelude.{◌≡◌, length};
 ghost use Rattle.module_format.specs.Keeping.{max_code};
-ghost use Rattle.module_format.specs.ReadingFile.{
-  magic_at,
-  sizes_at,
-  four_lengths_at,
-  lengths_at,
-  flag_at,
-  extension_at,
-  counts_at,
-  header_at,
-};
+ghost use Rattle.module_format.specs.ReadingFile.{magic_at, sizes_at, four_lengths_at, lengths_at, flag_at};
+ghost use Rattle.module_format.specs.ReadingFile.{extension_at, counts_at, header_at};
 ghost use Rattle.module_format.specs.Taking.{Takes};
 
 use crate::fault::FormatFaultKind;

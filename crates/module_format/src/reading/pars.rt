@@ -6,7 +6,8 @@ ghost use Rattle.module_format.specs.declared.rows.ChannelRow.{ChannelRow};
 ghost use Rattle.module_format.specs.Order.{least_word};
 ghost use Rattle.module_format.specs.Pars.{Before, behind_channel, behind_par, first_entry};
 ghost use Rattle.module_format.specs.Reading.{list_at};
-ghost use Rattle.module_format.specs.ReadingPars.{channel_at, context_number_at, branch_count_at, par_row_at, par_rows_at};
+ghost use Rattle.module_format.specs.ReadingPars.{channel_at, context_number_at, branch_count_at, par_row_at};
+ghost use Rattle.module_format.specs.ReadingPars.{par_rows_at};
 ghost use Rattle.module_format.specs.Taking.{Takes};
 
 use crate::fault::FormatFaultKind;

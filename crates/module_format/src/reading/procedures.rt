@@ -6,24 +6,10 @@ ghost use Rattle.module_format.specs.declared.rows.Parameter.{Parameter};
 ghost use Rattle.module_format.specs.declared.tables.Version.{Version};
 ghost use Rattle.module_format.specs.Procedures.{behind_parameter, behind_procedure};
 ghost use Rattle.module_format.specs.Offsets.{EntriesRise};
-ghost use Rattle.module_format.specs.ReadingRows.{
-  words_range_at,
-  region_size_at,
-  region_kind,
-  region_at,
-  ends_at,
-  channels_at,
-  value_at,
-  kind_at,
-  parameter_word_at,
-  parameter_at,
-  parameters_at,
-  frame_start_at,
-  frame_end_at,
-  rising_at,
-  procedure_row_at,
-  procedure_rows_at,
-};
+ghost use Rattle.module_format.specs.ReadingRows.{words_range_at, region_size_at, region_kind, region_at, ends_at};
+ghost use Rattle.module_format.specs.ReadingRows.{channels_at, value_at, kind_at, parameter_word_at, parameter_at};
+ghost use Rattle.module_format.specs.ReadingRows.{parameters_at, frame_start_at, frame_end_at, rising_at};
+ghost use Rattle.module_format.specs.ReadingRows.{procedure_row_at, procedure_rows_at};
 ghost use Rattle.module_format.specs.Taking.{Takes};
 
 use crate::fault::FormatFaultKind;

@@ -5,7 +5,8 @@ ghost use Rattle.module_format.specs.declared.rows.ChannelRow.{ChannelRow};
 ghost use Rattle.module_format.specs.declared.rows.Interval.{Interval};
 ghost use Rattle.module_format.specs.declared.rows.EndRow.{EndRow};
 ghost use Rattle.module_format.specs.Contents.{Branch, Par, branch_of, par_of};
-ghost use Rattle.module_format.specs.Spelling.{u32_bytes, i32_bytes, channel_bytes, interval_bytes, end_bytes, branch_bytes, branch_head, par_bytes};
+ghost use Rattle.module_format.specs.Spelling.{u32_bytes, i32_bytes, channel_bytes, interval_bytes, end_bytes};
+ghost use Rattle.module_format.specs.Spelling.{branch_bytes, branch_head, par_bytes};
 ghost use Rattle.module_format.specs.Writable.{Writes, BranchIsWritable, ParIsWritable};
 
 use crate::rows::{BranchRow, ChannelRow, EndRow, Interval, ParRow};

@@ -4,7 +4,8 @@ ghost use Rattle.std.specs.Prelude.{◌++◌, ◌^◌, ◌<◌, ⊤, length};
 ghost use Rattle.module_format.specs.declared.rows.Parameter.{Parameter};
 ghost use Rattle.module_format.specs.declared.rows.TableRow.{TableRow};
 ghost use Rattle.module_format.specs.Contents.{Procedure, procedure_of};
-ghost use Rattle.module_format.specs.Spelling.{u32_bytes, range_bytes, kind_bytes, parameter_bytes, procedure_bytes, table_row_bytes};
+ghost use Rattle.module_format.specs.Spelling.{u32_bytes, range_bytes, kind_bytes, parameter_bytes, procedure_bytes};
+ghost use Rattle.module_format.specs.Spelling.{table_row_bytes};
 ghost use Rattle.module_format.specs.Writable.{Writes};
 
 use crate::rows::{Parameter, ParameterKind, ProcedureRow, TableRow};

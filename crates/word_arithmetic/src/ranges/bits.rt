@@ -2,7 +2,9 @@
 ghost use Rattle.std.specs.Prelude.{◌≡◌, ℤ, pos, ◌≤ℤ◌, ◌^◌, ◌*ℤ◌, ◌&&◌, unsigned_abs};
 ghost use Rattle.std.specs.Int.{int_max};
 ghost use Rattle.word_arithmetic.specs.Word.{word_and, word_or, word_xor, word_not, shifted_left, shifted_right};
-ghost use Rattle.word_arithmetic.specs.Range.{ends_of, InRange, Holds, is_constant, is_not_negative, zero_to, bits_range, all_ones, not_range, and_range, or_range, xor_range, shift_left_range, shift_right_range};
+ghost use Rattle.word_arithmetic.specs.Range.{ends_of, InRange, Holds, is_constant, is_not_negative, zero_to};
+ghost use Rattle.word_arithmetic.specs.Range.{bits_range, all_ones, not_range, and_range, or_range, xor_range};
+ghost use Rattle.word_arithmetic.specs.Range.{shift_left_range, shift_right_range};
 
 use crate::ranges::Range;
 use crate::ranges::wide::{fitting, or_full};

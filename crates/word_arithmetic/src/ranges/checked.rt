@@ -1,8 +1,12 @@
 //! The ranges of the checked operations' results: `None` where some members set the error flag.
 ghost use Rattle.std.specs.Prelude.{◌≡◌, ◌≢◌, pos, ◌*ℤ◌, int_div, ◌<◌, ◌≤◌, ◌^◌, ◌≤ℤ◌};
 ghost use Rattle.std.specs.Option.{option_map};
-ghost use Rattle.word_arithmetic.specs.Word.{checked_sum, checked_difference, checked_product, checked_quotient, checked_remainder};
-ghost use Rattle.word_arithmetic.specs.Range.{ends_of, constant, BoundsResults, BoundsExactly, sum_range, difference_range, product_range, quotient_range, can_fail_to_divide, greatest_size, lowest_remainder, highest_remainder, remainder_ends, remainder_range};
+ghost use Rattle.word_arithmetic.specs.Word.{checked_sum, checked_difference, checked_product, checked_quotient};
+ghost use Rattle.word_arithmetic.specs.Word.{checked_remainder};
+ghost use Rattle.word_arithmetic.specs.Range.{ends_of, constant, BoundsResults, BoundsExactly, sum_range};
+ghost use Rattle.word_arithmetic.specs.Range.{difference_range, product_range, quotient_range, can_fail_to_divide};
+ghost use Rattle.word_arithmetic.specs.Range.{greatest_size, lowest_remainder, highest_remainder, remainder_ends};
+ghost use Rattle.word_arithmetic.specs.Range.{remainder_range};
 
 use crate::ranges::Range;
 use crate::ranges::wide::{corners, fitting};

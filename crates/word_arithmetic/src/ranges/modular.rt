@@ -1,7 +1,8 @@
 //! The ranges of sums, differences and products modulo 2^32: exact where no result leaves a word, else all words.
 ghost use Rattle.std.specs.Prelude.{◌≡◌};
 ghost use Rattle.word_arithmetic.specs.Word.{word_sum, word_difference, word_product};
-ghost use Rattle.word_arithmetic.specs.Range.{ends_of, Holds, word_sum_range, word_difference_range, word_product_range};
+ghost use Rattle.word_arithmetic.specs.Range.{ends_of, Holds, word_sum_range, word_difference_range};
+ghost use Rattle.word_arithmetic.specs.Range.{word_product_range};
 
 use crate::ranges::Range;
 use crate::ranges::wide::or_full;

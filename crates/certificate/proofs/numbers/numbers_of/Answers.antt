@@ -38,8 +38,8 @@ index-branch-requires c =
     let place = get_or places i nowhere in
     let is : place ≡ get_or places i place = get_or_default places i nowhere place c.loop-index-test.true in
     let inside =
-        branch_inside c.args.tables.now places i place c.requires.places c.loop-index-test.true is
-        c.index-row.result.now (rw c.from.ensures at c.index-row.ensures) in
+    branch_inside c.args.tables.now places i place c.requires.places c.loop-index-test.true is
+    c.index-row.result.now (rw c.from.ensures at c.index-row.ensures) in
     search (rules, inside)
 
 pub loop-index-preserved : goal.loop-index-preserved
@@ -51,12 +51,12 @@ loop-index-preserved c = λ at.
     let place = get_or places i nowhere in
     let is : place ≡ get_or places i place = get_or_default places i nowhere place c.loop-index-test.true in
     let stands = place_stands t places i place c.requires.places c.loop-index-test.true is c.index-row.result.now
-        (rw c.from.ensures at c.index-row.ensures) c.index-branch.result.now
-        (rw c.from-in-loop-index.ensures at c.index-branch.ensures) in
+    (rw c.from.ensures at c.index-row.ensures) c.index-branch.result.now
+    (rw c.from-in-loop-index.ensures at c.index-branch.ensures) in
     let first = c.first_branch-first.ensures in
     numbers_more (first_branch (contents_of t)) (branches_of (contents_of t).pars) i
-        (par_of c.index-row.result.now, branch_of c.index-branch.result.now) at _ _ (omega arith) stands
-        (c.loop-index.invariant at) (rw first at (c.in_ok-note.ensures at))
+    (par_of c.index-row.result.now, branch_of c.index-branch.result.now) at _ _ (omega arith) stands
+    (c.loop-index.invariant at) (rw first at (c.in_ok-note.ensures at))
 
 pub returns : goal.returns
 returns c =

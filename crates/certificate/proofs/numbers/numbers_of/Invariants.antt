@@ -10,4 +10,4 @@ abbrev pub invariant-loop-index : goal.invariant-loop-index
 invariant-loop-index l =
     let c = contents_of l.tables in
     (at : ℕ) → slice_index l.numbers.items at
-        ≡ number_from (first_branch c) (map (λ y. y.1.entry) (take l.index (branches_of c.pars))) at
+    ≡ number_from (first_branch c) (map (λ y. y.1.entry) (take l.index (branches_of c.pars))) at

@@ -22,20 +22,26 @@ returns-in-Some c =
     let n = c.partition_point-first.result in
     let d = c.in-Some.interval.now in
     let point = IsPartitionPoint-from_clause (λ (w : Interval).
-        int_le w.hi k) ws n c.partition_point-first.ensures.partitioned
-        (λ j m e. parted e i least_word ws c.requires j m) (λ a r f' h. search rules) in
+    int_le w.hi k) ws n c.partition_point-first.ensures.partitioned
+    (λ j m e. parted e i least_word ws c.requires j m) (λ a r f' h. search rules) in
     let inside : n < length ws = ltb-true n (length ws) (sym c.in-Some.ensures.lookup.0) in
     let here : get_or ws n d ≡ d = sym c.in-Some.ensures.lookup.1 in
     let lo_fits : FitsSigned w64 c.from.result = search rules in
     let word_fits : FitsSigned w64 k = search rules in
     let low_fits : FitsSigned w32 d.lo = search rules in
     let one : int_lt (get_or ws n d).lo i.hi ≡ list_any (meet i) ws =
-        one_tells d i least_word ws n c.requires inside (λ m lt. point.0 m d (omega arith) lt)
-        (point.1 n d (omega arith) inside) in
+    one_tells d i least_word ws n c.requires inside (λ m lt. point.0 m d (omega arith) lt)
+    (point.1 n d (omega arith) inside) in
     let told : int_lt d.lo i.hi ≡ list_any (meet i) ws =
-        subst (λ (w : Interval). int_lt w.lo i.hi ≡ list_any (meet i) ws) here one in
-    rw (to_z-of_z w64 c.from.result lo_fits, to_z-of_z w64 k word_fits, c.from.ensures, to_z-of_z w32 d.lo low_fits,
-        sym (word_lt d.lo k), sym (meets_words k ws)) told
+    subst (λ (w : Interval). int_lt w.lo i.hi ≡ list_any (meet i) ws) here one in
+    rw (
+      to_z-of_z w64 c.from.result lo_fits,
+      to_z-of_z w64 k word_fits,
+      c.from.ensures,
+      to_z-of_z w32 d.lo low_fits,
+      sym (word_lt d.lo k),
+      sym (meets_words k ws),
+    ) told
 
 pub returns-in-None : goal.returns-in-None
 unfolding none
@@ -45,7 +51,7 @@ returns-in-None c =
     let ws = c.args.intervals.now in
     let n = c.partition_point-first.result in
     let point = IsPartitionPoint-from_clause (λ (w : Interval).
-        int_le w.hi k) ws n c.partition_point-first.ensures.partitioned
-        (λ j m e. parted e i least_word ws c.requires j m) (λ a r f' h. search rules) in
+    int_le w.hi k) ws n c.partition_point-first.ensures.partitioned
+    (λ j m e. parted e i least_word ws c.requires j m) (λ a r f' h. search rules) in
     let past : length ws ≤ n = ltb-false n (length ws) (sym c.in-None.ensures.lookup.0) in
     rw (sym (meets_words k ws)) (none_tells none i ws (λ m lt. point.0 m none (omega arith) (omega arith)))

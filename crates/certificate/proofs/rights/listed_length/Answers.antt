@@ -14,8 +14,8 @@ returns-in_err-channel c =
     let cs = c.args.channels.now in
     let n = c.partition_point-index.result in
     let point = IsPartitionPoint-from_clause (λ (x : ChannelRow).
-        int_lt x.word k) cs n c.partition_point-index.ensures.partitioned
-        (λ i j d. channels_parted k least_word cs d c.requires i j) (λ a r f' h. search rules) in
+    int_lt x.word k) cs n c.partition_point-index.ensures.partitioned
+    (λ i j d. channels_parted k least_word cs d c.requires i j) (λ a r f' h. search rules) in
     let past : length cs ≤ n = ltb-false n (length cs) (sym c.in_err-channel.ensures.lookup.0) in
     rw c.from_residual.ensures (sym (past_listed k cs n c.requires point past))
 
@@ -25,11 +25,11 @@ returns-then-channel-word c =
     let cs = c.args.channels.now in
     let n = c.partition_point-index.result in
     let point = IsPartitionPoint-from_clause (λ (x : ChannelRow).
-        int_lt x.word k) cs n c.partition_point-index.ensures.partitioned
-        (λ i j d. channels_parted k least_word cs d c.requires i j) (λ a r f' h. search rules) in
+    int_lt x.word k) cs n c.partition_point-index.ensures.partitioned
+    (λ i j d. channels_parted k least_word cs d c.requires i j) (λ a r f' h. search rules) in
     let inside : n < length cs = ltb-true n (length cs) (sym c.in_ok-channel.ensures.lookup.0) in
     sym (other_listed k cs n c.requires point c.in_ok-channel.channel.now inside c.in_ok-channel.ensures.lookup.1
-        (λ e. c.if-channel-word.true (ap (of_z w32) e)))
+    (λ e. c.if-channel-word.true (ap (of_z w32) e)))
 
 pub returns : goal.returns
 returns c =
@@ -37,13 +37,13 @@ returns c =
     let cs = c.args.channels.now in
     let n = c.partition_point-index.result in
     let point = IsPartitionPoint-from_clause (λ (x : ChannelRow).
-        int_lt x.word k) cs n c.partition_point-index.ensures.partitioned
-        (λ i j d. channels_parted k least_word cs d c.requires i j) (λ a r f' h. search rules) in
+    int_lt x.word k) cs n c.partition_point-index.ensures.partitioned
+    (λ i j d. channels_parted k least_word cs d c.requires i j) (λ a r f' h. search rules) in
     let inside : n < length cs = ltb-true n (length cs) (sym c.in_ok-channel.ensures.lookup.0) in
     let word_fits : FitsSigned w32 c.in_ok-channel.channel.now.word = search rules in
     let fits : FitsSigned w32 k = search rules in
     let same : c.in_ok-channel.channel.now.word ≡ k =
-        sym (to_z-of_z w32 c.in_ok-channel.channel.now.word word_fits) ∙ ap (to_z w32) c.if-channel-word.false
-        ∙ to_z-of_z w32 k fits in
+    sym (to_z-of_z w32 c.in_ok-channel.channel.now.word word_fits) ∙ ap (to_z w32) c.if-channel-word.false
+    ∙ to_z-of_z w32 k fits in
     sym (here_listed k cs n c.in_ok-channel.channel.now inside
-        (λ i less. point.0 i c.in_ok-channel.channel.now (omega arith) less) c.in_ok-channel.ensures.lookup.1 same)
+    (λ i less. point.0 i c.in_ok-channel.channel.now (omega arith) less) c.in_ok-channel.ensures.lookup.1 same)

@@ -17,13 +17,13 @@ returns-in-Some c =
     let n = c.partition_point-first.result in
     let d = c.in-Some.other.now in
     let point = IsPartitionPoint-from_clause (λ (e : EndRow). is_below
-        (key_of e) key) es n c.partition_point-first.ensures.partitioned
-        (λ i j m. parted m key first_key es c.requires i j) (λ a r f' h. search rules) in
+    (key_of e) key) es n c.partition_point-first.ensures.partitioned
+    (λ i j m. parted m key first_key es c.requires i j) (λ a r f' h. search rules) in
     let inside : n < length es = ltb-true n (length es) (sym c.in-Some.ensures.lookup.0) in
     let here : get_or es n d ≡ d = sym c.in-Some.ensures.lookup.1 in
     let told : is_same_end (key_of d) key ≡ list_any (λ other. is_same_end (key_of other) key) es =
     subst (λ (e : EndRow). is_same_end (key_of e) key ≡ list_any (λ other. is_same_end (key_of other) key) es) here
-        (one_tells key first_key es n c.requires point d inside) in
+    (one_tells key first_key es n c.requires point d inside) in
     rw (c.eq.ensures, c.key.ensures, c.key-key.ensures) (same_key (key_of d) key ∙ told)
 
 none : EndRow
@@ -36,7 +36,7 @@ returns-in-None c =
     let es = c.args.others.now in
     let n = c.partition_point-first.result in
     let point = IsPartitionPoint-from_clause (λ (e : EndRow). is_below
-        (key_of e) key) es n c.partition_point-first.ensures.partitioned
-        (λ i j m. parted m key first_key es c.requires i j) (λ a r f' h. search rules) in
+    (key_of e) key) es n c.partition_point-first.ensures.partitioned
+    (λ i j m. parted m key first_key es c.requires i j) (λ a r f' h. search rules) in
     let past : length es ≤ n = ltb-false n (length es) (sym c.in-None.ensures.lookup.0) in
     sym (none_listed key first_key es n c.requires point none past)

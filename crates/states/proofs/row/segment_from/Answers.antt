@@ -7,7 +7,7 @@ pub returns-then-word-start-clause-fact : goal.returns-then-word-start-clause-fa
 returns-then-word-start-clause-fact c = λ k l h.
     sym (c.loop-entry.invariant.1 k (omega (arith, ints)))
     ∙ segment-before c.loop-entry.rest.now c.in-Some.entry.now c.in-Some.later.now c.start_of-start.result k
-        c.loop-entry.invariant.0 (search rules) c.start_of-start.ensures.value (omega (arith, ints))
+    c.loop-entry.invariant.0 (search rules) c.start_of-start.ensures.value (omega (arith, ints))
 
 pub loop-entry-preserved : goal.loop-entry-preserved
 loop-entry-preserved c = (
@@ -21,6 +21,6 @@ pub returns-then-word-end_of-clause-fact : goal.returns-then-word-end_of-clause-
 returns-then-word-end_of-clause-fact c = λ k l h.
     sym (c.loop-entry.invariant.1 k (omega (arith, ints)))
     ∙ (segment-within c.loop-entry.rest.now c.in-Some.entry.now c.in-Some.later.now c.start_of-start.result
-        c.stretch_from-fact.result.1 k (search rules) c.start_of-start.ensures.value c.stretch_from-fact.ensures.near
-        (omega (arith, ints)) (omega (arith, ints))
+    c.stretch_from-fact.result.1 k (search rules) c.start_of-start.ensures.value c.stretch_from-fact.ensures.near
+    (omega (arith, ints)) (omega (arith, ints))
     ∙ c.stretch_from-fact.ensures.fact k (omega (arith, ints)) (omega (arith, ints)))

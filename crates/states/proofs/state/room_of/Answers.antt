@@ -10,11 +10,11 @@ use Rattle.states.proofs.state.room_of.Goals as goal
 pub returns-clause-covers : goal.returns-clause-covers
 returns-clause-covers c =
     covers (contents_of c.args.tables.now) (to_z w32 c.loop-row.lo-bits)
-        (to_z w32 c.loop-row.hi-bits) c.args.tables.now.procedures.items refl
+    (to_z w32 c.loop-row.hi-bits) c.args.tables.now.procedures.items refl
     (record { low = c.loop-row.invariant.low; high = c.loop-row.invariant.high })
     (subst (λ (rows : List ProcedureRow).
-        RowsWithin (to_z w32 c.loop-row.lo-bits) (to_z w32 c.loop-row.hi-bits) rows
-        (length rows)) c.deref-row-items.ensures.value (λ i h d. c.loop-row.invariant.rows i (omega arith) d))
+    RowsWithin (to_z w32 c.loop-row.lo-bits) (to_z w32 c.loop-row.hi-bits) rows
+    (length rows)) c.deref-row-items.ensures.value (λ i h d. c.loop-row.invariant.rows i (omega arith) d))
 
 pub loop-row-preserved : goal.loop-row-preserved
 loop-row-preserved c = record {
@@ -22,7 +22,7 @@ loop-row-preserved c = record {
   high = let h = c.loop-row.invariant.high in omega (arith, ints, clamps);
   rows =
       rows-within-more _ _ _ _ c.deref-row-items.result.now c.loop-row.row-index c.row-item.result
-          (search rules) c.loop-row.invariant.rows
+      (search rules) c.loop-row.invariant.rows
       (omega (arith, ints, clamps)) (omega (arith, ints, clamps)) c.row-item.is (omega (arith, ints, clamps))
-          (omega (arith, ints, clamps));
+      (omega (arith, ints, clamps));
 }

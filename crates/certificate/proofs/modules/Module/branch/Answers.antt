@@ -14,9 +14,9 @@ returns-in_err-place-clause-found c =
     let first = c.first_branch-first.ensures in
     let ge : first_branch (contents_of t) ≤ n = rw first at c.if-number-first.false in
     let past : length c.self.inside.index.places.items ≤ n - first_branch (contents_of t) =
-        rw (c.deref.ensures.value, first) at (ltb-false _ _ (sym c.in_err-place.ensures.lookup.0)) in
+    rw (c.deref.ensures.value, first) at (ltb-false _ _ (sym c.in_err-place.ensures.lookup.0)) in
     rw c.from_residual.ensures (ap (λ m. numbered_branch m n) (sym c.self.view_is) ∙ branch_missing
-        (contents_of t) c.self.inside.index.places.items n c.self.invariant.1.places ge past)
+    (contents_of t) c.self.inside.index.places.items n c.self.invariant.1.places ge past)
 
 pub index-row-requires : goal.index-row-requires
 index-row-requires c =
@@ -24,12 +24,12 @@ index-row-requires c =
     let n = c.args.number in
     let first = c.first_branch-first.ensures in
     let lt : n - first_branch (contents_of t) < length c.self.inside.index.places.items =
-        rw (c.deref.ensures.value, first) at (ltb-true _ _ (sym c.in_ok-place.ensures.lookup.0)) in
+    rw (c.deref.ensures.value, first) at (ltb-true _ _ (sym c.in_ok-place.ensures.lookup.0)) in
     let is : c.in_ok-place.place.now ≡ get_or c.self.inside.index.places.items
-        (n - first_branch (contents_of t)) c.in_ok-place.place.now =
-        rw (c.deref.ensures.value, first) at c.in_ok-place.ensures.lookup.1 in
+    (n - first_branch (contents_of t)) c.in_ok-place.place.now =
+    rw (c.deref.ensures.value, first) at c.in_ok-place.ensures.lookup.1 in
     let inside = par_inside t c.self.inside.index.places.items
-        (n - first_branch (contents_of t)) c.in_ok-place.place.now c.self.invariant.1.places lt is in
+    (n - first_branch (contents_of t)) c.in_ok-place.place.now c.self.invariant.1.places lt is in
     search (rules, inside)
 
 pub index-requires : goal.index-requires
@@ -38,14 +38,14 @@ index-requires c =
     let n = c.args.number in
     let first = c.first_branch-first.ensures in
     let lt : n - first_branch (contents_of t) < length c.self.inside.index.places.items =
-        rw (c.deref.ensures.value, first) at (ltb-true _ _ (sym c.in_ok-place.ensures.lookup.0)) in
+    rw (c.deref.ensures.value, first) at (ltb-true _ _ (sym c.in_ok-place.ensures.lookup.0)) in
     let is : c.in_ok-place.place.now ≡ get_or c.self.inside.index.places.items
-        (n - first_branch (contents_of t)) c.in_ok-place.place.now =
-        rw (c.deref.ensures.value, first) at c.in_ok-place.ensures.lookup.1 in
+    (n - first_branch (contents_of t)) c.in_ok-place.place.now =
+    rw (c.deref.ensures.value, first) at c.in_ok-place.ensures.lookup.1 in
     let inside = branch_inside t c.self.inside.index.places.items
-        (n - first_branch
-        (contents_of t)) c.in_ok-place.place.now c.self.invariant.1.places lt is c.index-row.result.now
-        (rw c.from.ensures at c.index-row.ensures) in
+    (n - first_branch
+    (contents_of t)) c.in_ok-place.place.now c.self.invariant.1.places lt is c.index-row.result.now
+    (rw c.from.ensures at c.index-row.ensures) in
     search (rules, inside)
 
 pub returns-clause-found : goal.returns-clause-found
@@ -55,16 +55,16 @@ returns-clause-found c =
     let first = c.first_branch-first.ensures in
     let ge : first_branch (contents_of t) ≤ n = rw first at c.if-number-first.false in
     let lt : n - first_branch (contents_of t) < length c.self.inside.index.places.items =
-        rw (c.deref.ensures.value, first) at (ltb-true _ _ (sym c.in_ok-place.ensures.lookup.0)) in
+    rw (c.deref.ensures.value, first) at (ltb-true _ _ (sym c.in_ok-place.ensures.lookup.0)) in
     let is : c.in_ok-place.place.now ≡ get_or c.self.inside.index.places.items
-        (n - first_branch (contents_of t)) c.in_ok-place.place.now =
-        rw (c.deref.ensures.value, first) at c.in_ok-place.ensures.lookup.1 in
+    (n - first_branch (contents_of t)) c.in_ok-place.place.now =
+    rw (c.deref.ensures.value, first) at c.in_ok-place.ensures.lookup.1 in
     ap (λ m. numbered_branch m n) (sym c.self.view_is)
     ∙ branch_found (contents_of t) n (par_of c.index-row.result.now, branch_of c.index.result.now) ge
-        (place_stands t c.self.inside.index.places.items
-        (n - first_branch
-        (contents_of t)) c.in_ok-place.place.now c.self.invariant.1.places lt is c.index-row.result.now
-        (rw c.from.ensures at c.index-row.ensures) c.index.result.now (rw c.from-2.ensures at c.index.ensures))
+    (place_stands t c.self.inside.index.places.items
+    (n - first_branch
+    (contents_of t)) c.in_ok-place.place.now c.self.invariant.1.places lt is c.index-row.result.now
+    (rw c.from.ensures at c.index-row.ensures) c.index.result.now (rw c.from-2.ensures at c.index.ensures))
 
 pub returns-clause-kept : goal.returns-clause-kept
 returns-clause-kept c =
@@ -73,13 +73,13 @@ returns-clause-kept c =
     let first = c.first_branch-first.ensures in
     let ge : first_branch (contents_of t) ≤ n = rw first at c.if-number-first.false in
     let lt : n - first_branch (contents_of t) < length c.self.inside.index.places.items =
-        rw (c.deref.ensures.value, first) at (ltb-true _ _ (sym c.in_ok-place.ensures.lookup.0)) in
+    rw (c.deref.ensures.value, first) at (ltb-true _ _ (sym c.in_ok-place.ensures.lookup.0)) in
     let is : c.in_ok-place.place.now ≡ get_or c.self.inside.index.places.items
-        (n - first_branch (contents_of t)) c.in_ok-place.place.now =
-        rw (c.deref.ensures.value, first) at c.in_ok-place.ensures.lookup.1 in
+    (n - first_branch (contents_of t)) c.in_ok-place.place.now =
+    rw (c.deref.ensures.value, first) at c.in_ok-place.ensures.lookup.1 in
     found_kept (contents_of t) n (par_of c.index-row.result.now, branch_of c.index.result.now) c.self.invariant.0.keeps
     (branch_found (contents_of t) n (par_of c.index-row.result.now, branch_of c.index.result.now) ge
-        (place_stands t c.self.inside.index.places.items
-        (n - first_branch
-        (contents_of t)) c.in_ok-place.place.now c.self.invariant.1.places lt is c.index-row.result.now
-        (rw c.from.ensures at c.index-row.ensures) c.index.result.now (rw c.from-2.ensures at c.index.ensures)))
+    (place_stands t c.self.inside.index.places.items
+    (n - first_branch
+    (contents_of t)) c.in_ok-place.place.now c.self.invariant.1.places lt is c.index-row.result.now
+    (rw c.from.ensures at c.index-row.ensures) c.index.result.now (rw c.from-2.ensures at c.index.ensures)))

@@ -14,7 +14,7 @@ returns-in_err-row c =
     let given : v ≡ slice_index numbers at = rw c.deref.ensures.value at c.number_at-number.ensures in
     let is : branch_at c.args.self.now at ≡ option_map (forked v) (numbered_branch c.args.self.now v) =
     subst (λ (k : Contents). branch_at k at ≡ option_map (forked v) (numbered_branch k v)) c.self.view_is
-        (branch_at_is m numbers at v c.self.invariant.1.numbers given) in
+    (branch_at_is m numbers at v c.self.invariant.1.numbers given) in
     rw c.from_residual.ensures (is ∙ ap (option_map (forked v)) c.in_err-row.ensures.found)
 
 pub returns : goal.returns
@@ -26,5 +26,5 @@ returns c =
     let given : v ≡ slice_index numbers at = rw c.deref.ensures.value at c.number_at-number.ensures in
     let is : branch_at c.args.self.now at ≡ option_map (forked v) (numbered_branch c.args.self.now v) =
     subst (λ (k : Contents). branch_at k at ≡ option_map (forked v) (numbered_branch k v)) c.self.view_is
-        (branch_at_is m numbers at v c.self.invariant.1.numbers given) in
+    (branch_at_is m numbers at v c.self.invariant.1.numbers given) in
     is ∙ ap (option_map (forked v)) c.in_ok-row.ensures.found

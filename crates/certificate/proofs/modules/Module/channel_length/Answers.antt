@@ -12,6 +12,6 @@ loop-preserved c =
     rw c.from-number.ensures
     (ap (λ (m : ℕ). length_around m c.args.self.now c.in_ok-row.row.now.context k) count
     ∙ around_more c.args.self.now left c.loop.number k (par_of c.in_ok-row.row.now, branch_of c.in_ok-row._branch.now)
-        (channel_length c.args.self.now c.args.context k)
+    (channel_length c.args.self.now c.args.context k)
     c.in_ok-row.ensures.found (rw c.deref.ensures.value at (sym c.in_default.ensures))
-        (omega (arith, c.loop-test.true)) c.loop.invariant)
+    (omega (arith, c.loop-test.true)) c.loop.invariant)

@@ -9,7 +9,7 @@ pub returns-then-written_holds : goal.returns-then-written_holds
 returns-then-written_holds c = elim (cases_Bool c.row_holds.result) [
   | inl h ↦ h ∙ sym (entries_hold-true (frame_facts c.args.self.now) c.args.row.now c.requires
       (says-combined c.args.self.now.lo c.args.self.now.row.now c.args.self.now.overlay.written.items
-          (entry_fact c.args.row.now)
+      (entry_fact c.args.row.now)
       (c.if-written_holds.ensures.yes refl) (c.row_holds.ensures.yes h)))
   | inr h ↦ h ∙ sym (entries_hold-false (frame_facts c.args.self.now) c.args.row.now (c.row_holds.ensures.no h))
 ]

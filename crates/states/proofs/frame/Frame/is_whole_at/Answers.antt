@@ -11,6 +11,6 @@ returns-in-Loop c =
     ∙ (ap (λ b. are_alike b c.is_alone-in-Loop.result) c.is_alone.ensures
     ∙ (ap (are_alike _) c.is_alone-in-Loop.ensures
     ∙ whole-loop
-        (frame_facts c.args.self.now) c.args.entry.now c.in-Loop.base c.in-Loop.count c.in-Loop.weight _ _
-        c.fact_at.result c.fact_at-in-Loop.result c.in-Loop.is (omega (arith, ints))
-        (omega (arith, ints)) c.fact_at.ensures.value c.fact_at-in-Loop.ensures.value))
+    (frame_facts c.args.self.now) c.args.entry.now c.in-Loop.base c.in-Loop.count c.in-Loop.weight _ _
+    c.fact_at.result c.fact_at-in-Loop.result c.in-Loop.is (omega (arith, ints))
+    (omega (arith, ints)) c.fact_at.ensures.value c.fact_at-in-Loop.ensures.value))

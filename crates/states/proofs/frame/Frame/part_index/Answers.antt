@@ -14,12 +14,12 @@ pub returns-then-is_index-clause-facts : goal.returns-then-is_index-clause-facts
 returns-then-is_index-clause-facts c =
     let same = to_z-of_z w64 c.args.word c.ranges.word in
     parted-place is_index c.args.word (frame_facts c.args.self.now)
-        (frame_facts c.place.new.self) c.fact_at-fact.result c.by_itself.result
-        (rw same at c.fact_at-fact.ensures.value) (sym c.if-is_index.true ∙ c.is_index.ensures) c.by_itself.ensures
-        (rw same at c.place.ensures.facts)
+    (frame_facts c.place.new.self) c.fact_at-fact.result c.by_itself.result
+    (rw same at c.fact_at-fact.ensures.value) (sym c.if-is_index.true ∙ c.is_index.ensures) c.by_itself.ensures
+    (rw same at c.place.ensures.facts)
 
 pub returns-else-is_index-clause-facts : goal.returns-else-is_index-clause-facts
 returns-else-is_index-clause-facts c =
     let same = to_z-of_z w64 c.args.word c.ranges.word in
     parted-none is_index c.args.word (frame_facts c.args.self.now) c.fact_at-fact.result
-        (rw same at c.fact_at-fact.ensures.value) (sym c.if-is_index.false ∙ c.is_index.ensures)
+    (rw same at c.fact_at-fact.ensures.value) (sym c.if-is_index.false ∙ c.is_index.ensures)

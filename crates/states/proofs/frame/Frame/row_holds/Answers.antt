@@ -22,9 +22,9 @@ loop-base-init c = record {
 pub returns-then-not-stretch_holds-clause-no : goal.returns-then-not-stretch_holds-clause-no
 returns-then-not-stretch_holds-clause-no c = λ _.
     says-less (frame_facts c.args.self.now) (entry_fact c.args.row.now)
-        (entry_fact c.loop-base.wanted.now) _ c.segment_from-there.result.end _ c.segment_from-there.result.fact
+    (entry_fact c.loop-base.wanted.now) _ c.segment_from-there.result.end _ c.segment_from-there.result.fact
     c.loop-base.invariant.wanted_same c.segment_from-there.ensures.fact (omega (arith, ints, clamps))
-        (c.if-not-stretch_holds.ensures.no refl)
+    (c.if-not-stretch_holds.ensures.no refl)
 
 pub loop-base-smaller : goal.loop-base-smaller
 loop-base-smaller c = ahead-falls _ _ (omega (arith, ints, clamps)) (omega (arith, ints, clamps))
@@ -40,17 +40,17 @@ loop-base-preserved c = record {
   near = λ h. let near = c.segment_from-there.ensures.near h in omega (arith, ints, clamps);
   so_far =
       says-more (entry_fact c.args.self.now.row.now) (frame_facts c.args.self.now) (entry_fact c.args.row.now)
-          (entry_fact c.loop-base.base.now) (entry_fact c.loop-base.wanted.now)
+      (entry_fact c.loop-base.base.now) (entry_fact c.loop-base.wanted.now)
       _ c.segment_from-here.result.end c.segment_from-there.result.end _ c.segment_from-here.result.fact
-          c.segment_from-there.result.fact
+      c.segment_from-there.result.fact
       c.loop-base.invariant.so_far c.loop-base.invariant.base_same c.loop-base.invariant.wanted_same
-          c.segment_from-here.ensures.fact c.segment_from-there.ensures.fact
+      c.segment_from-here.ensures.fact c.segment_from-there.ensures.fact
       (omega (arith, ints, clamps)) (omega (arith, ints, clamps))
-          (λ k l h. c.if-not-stretch_holds.ensures.yes refl k l (omega (arith, ints)));
+      (λ k l h. c.if-not-stretch_holds.ensures.yes refl k l (omega (arith, ints)));
 }
 
 pub stretch_holds-requires : goal.stretch_holds-requires
 stretch_holds-requires c =
     subst LoopFits (sym (c.loop-base.invariant.base_same _ (omega (arith, ints))) ∙ c.segment_from-here.ensures.fact _
-        (omega (arith, ints)) c.segment_from-here.ensures.ahead)
+    (omega (arith, ints)) c.segment_from-here.ensures.ahead)
     (loop-at (entry_fact c.args.self.now.row.now) _ c.args.self.now.loops)

@@ -7,7 +7,7 @@ use Rattle.states.proofs.frame.Frame.words_say.Goals as goal
 pub returns-then-not-says-clause-no : goal.returns-then-not-says-clause-no
 returns-then-not-says-clause-no c = λ _.
     say-fails (frame_facts c.args.self.now) c.args.wanted c.args.word _ c.args.end c.fact_at.result
-        (omega (arith, ints, c.loop-k.invariant.0)) (grind (arith, ints)) c.fact_at.ensures.value c.if-not-says.ensures
+    (omega (arith, ints, c.loop-k.invariant.0)) (grind (arith, ints)) c.fact_at.ensures.value c.if-not-says.ensures
 
 pub loop-k-preserved : goal.loop-k-preserved
 loop-k-preserved c = (

@@ -10,34 +10,34 @@ use Rattle.states.proofs.frame.Frame.written_holds.Goals as goal
 pub word_at-requires : goal.word_at-requires
 word_at-requires c =
     let low =
-        index-low c.args.self.now.overlay.places.items c.args.self.now.overlay.written.items
-        c.loop-written.written-index (record { index = 0; fact = Unknown }) c.args.self.now.overlay.placed
-        (search rules) in
+    index-low c.args.self.now.overlay.places.items c.args.self.now.overlay.written.items
+    c.loop-written.written-index (record { index = 0; fact = Unknown }) c.args.self.now.overlay.placed
+    (search rules) in
     search (rules, c.deref-written-items.ensures.value)
 
 pub returns-then-not-says-clause-no : goal.returns-then-not-says-clause-no
 returns-then-not-says-clause-no c = λ _.
     let item =
-        get_or c.deref-written-items.result.now c.loop-written.written-index (record { index = 0; fact = Unknown }) in
+    get_or c.deref-written-items.result.now c.loop-written.written-index (record { index = 0; fact = Unknown }) in
     let less = item-asked (entry_fact c.args.row.now) c.args.self.now.lo _ item.index item.fact c.row_fact.result false
-        (let e = c.word_at.ensures in omega (arith, ints, e)) c.row_fact.ensures c.if-not-says.ensures in
+    (let e = c.word_at.ensures in omega (arith, ints, e)) c.row_fact.ensures c.if-not-says.ensures in
     written-less c.args.self.now.overlay.places.items c.args.self.now.overlay.written.items c.args.self.now.row.now
-        c.args.self.now.lo (entry_fact c.args.row.now)
+    c.args.self.now.lo (entry_fact c.args.row.now)
     c.loop-written.written-index (record { index = 0; fact = Unknown }) c.args.self.now.overlay.placed (search rules)
     (rw c.deref-written-items.ensures.value at less)
 
 pub loop-written-preserved : goal.loop-written-preserved
 loop-written-preserved c =
     items-more c.deref-written-items.result.now c.loop-written.written-index c.args.self.now.lo
-        (entry_fact c.args.row.now) (record { index = 0; fact = Unknown })
+    (entry_fact c.args.row.now) (record { index = 0; fact = Unknown })
     (search rules) c.loop-written.invariant
     (item-asked (entry_fact c.args.row.now) c.args.self.now.lo _ _ _ c.row_fact.result true
-        (let e = c.word_at.ensures in omega (arith, ints, e)) c.row_fact.ensures c.if-not-says.ensures)
+    (let e = c.word_at.ensures in omega (arith, ints, e)) c.row_fact.ensures c.if-not-says.ensures)
 
 pub returns-clause-yes : goal.returns-clause-yes
 returns-clause-yes c = λ _.
     written-says c.args.self.now.overlay.written.items c.args.self.now.lo (entry_fact c.args.row.now)
-        (record { index = 0; fact = Unknown })
+    (record { index = 0; fact = Unknown })
     (subst (λ (ws : List Written). ItemsSay ws (length ws) c.args.self.now.lo
-        (entry_fact c.args.row.now)) c.deref-written-items.ensures.value
+    (entry_fact c.args.row.now)) c.deref-written-items.ensures.value
     (λ i h d. c.loop-written.invariant i (omega arith) d))

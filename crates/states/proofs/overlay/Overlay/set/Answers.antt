@@ -8,19 +8,19 @@ use Rattle.states.proofs.overlay.Overlay.set.Goals.{After-push}
 pub invariant_of-self-clause-placed : goal.invariant_of-self-clause-placed
 invariant_of-self-clause-placed c =
     ArePlaced-set c.args.self.now.places.items c.args.self.now.written.items c.in-Some.place
-        (record { index = c.args.index; fact = c.args.fact })
+    (record { index = c.args.index; fact = c.args.fact })
     c.args.self.now.placed (search rules) (search rules)
 
 pub returns-in-Some-clause-facts : goal.returns-in-Some-clause-facts
 returns-in-Some-clause-facts c = λ j.
     lookup-set c.args.self.now.places.items c.args.self.now.written.items c.in-Some.place
-        (record { index = c.args.index; fact = c.args.fact }) j
+    (record { index = c.args.index; fact = c.args.fact }) j
     c.args.self.now.placed (search rules) (search rules)
 
 pub unwrap-requires : goal.unwrap-requires
 unwrap-requires c =
     let room = room-for-one c.args.self.now.places.items c.args.self.now.written.items
-        (record { index = c.args.index; fact = c.args.fact })
+    (record { index = c.args.index; fact = c.args.fact })
     c.args.self.now.placed c.in-None.ensures.none (search rules) in
     c.push.ensures.succeeds (search rules)
 
@@ -29,7 +29,7 @@ pushed : (c : After-push) → c.push.new.self.items ≡ c.args.self.now.written.
     ++ record { index = c.args.index; fact = c.args.fact } ∷ []
 pushed c =
     let room = room-for-one c.args.self.now.places.items c.args.self.now.written.items
-        (record { index = c.args.index; fact = c.args.fact })
+    (record { index = c.args.index; fact = c.args.fact })
     c.args.self.now.placed c.in-None.ensures.none (search rules) in
     let ok : is_ok c.push.result ≡ true = c.push.ensures.succeeds (search rules) in
     rw ok at c.push.ensures.items
@@ -38,15 +38,15 @@ pub invariant_of-self-in-None-clause-placed : goal.invariant_of-self-in-None-cla
 invariant_of-self-in-None-clause-placed c =
     let len : c.len.result ≡ length c.args.self.now.written.items = search rules in
     subst (λ (ws : List Written). ArePlaced (set c.args.self.now.places.items c.args.index c.len.result) ws)
-        (sym (pushed c))
+    (sym (pushed c))
     (subst (λ (n : ℕ). ArePlaced (set c.args.self.now.places.items c.args.index n)
-        (c.args.self.now.written.items ++ record { index = c.args.index; fact = c.args.fact } ∷ [])) (sym len)
+    (c.args.self.now.written.items ++ record { index = c.args.index; fact = c.args.fact } ∷ [])) (sym len)
     (ArePlaced-push c.args.self.now.places.items c.args.self.now.written.items
-        (record { index = c.args.index; fact = c.args.fact })
+    (record { index = c.args.index; fact = c.args.fact })
     c.args.self.now.placed c.in-None.ensures.none (search rules)))
 
 pub returns-in-None-clause-facts : goal.returns-in-None-clause-facts
 returns-in-None-clause-facts c = λ j.
     ap (λ ws. lookup ws j) (pushed (goal.at.returns-in-None-clause-facts c).After-push)
     ∙ lookup-push c.args.self.now.written.items
-        (record { index = c.args.index; fact = c.args.fact }) j c.in-None.ensures.none
+    (record { index = c.args.index; fact = c.args.fact }) j c.in-None.ensures.none

@@ -16,7 +16,7 @@ is_allowed c m b =
     let same = to_z-of_z w64 c.args.word c.ranges.word in
     ap (λ (m : Contents). may_read_word m c.args.self.now.context c.args.word) (sym b.is)
     ∙ (ap (may_read_word c.args.self.now.module.now c.args.self.now.context) (sym same)
-        ∙ (sym c.may_read_word.ensures ∙ c.if-not-may_read_word.false))
+    ∙ (sym c.may_read_word.ensures ∙ c.if-not-may_read_word.false))
 
 room : (c : After-ok) (m : Contents) → BelongsTo m c.args.self.now → CanWrite c.args.self.now c.args.word
 room c m b =
@@ -35,4 +35,4 @@ returns-clause-allowed c = λ m b. ap is_some (taken (goal.at.returns-clause-all
 pub returns-clause-room : goal.returns-clause-room
 returns-clause-room c = λ m b.
     subst (λ o. IfSome o (CanWrite c.args.self.now)) (sym (taken (goal.at.returns-clause-room c).After-ok m b))
-        (room (goal.at.returns-clause-room c).After-ok m b)
+    (room (goal.at.returns-clause-room c).After-ok m b)
