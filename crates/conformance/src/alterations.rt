@@ -1,7 +1,8 @@
 //! A file altered in many ways, and how many of the altered files are read.
 
 use crate::answer::Answer;
-use certificate::{FormatFault, MAGIC, Module, TRUNCATED, write};
+use crate::modules::validity;
+use certificate::{FormatFault, MAGIC, Module, TRUNCATED};
 use std::alloc::Global;
 
 /// How many files are read, valid and written back, how many have which fault, and the sum of the faults' offsets.
@@ -11,16 +12,6 @@ struct Sums {
     offsets: u64,
     /// How many files are read, but not valid or written otherwise.
     wrong: u64,
-}
-
-/// Whether what was read is valid and written back as its file.
-fn is_kept(alloc: Global, module: &Module, file: &[u8]) -> bool {
-    let tables = module.tables();
-    tables.keeps()
-        && match write(alloc, tables) {
-            Ok(written) => written.as_slice() == file,
-            Err(_) => false,
-        }
 }
 
 impl Sums {
@@ -41,7 +32,7 @@ impl Sums {
     fn count(&mut self, alloc: Global, file: &[u8]) {
         match Module::read(alloc, file) {
             Ok(module) => {
-                let is_wrong = !is_kept(alloc, &module, file);
+                let is_wrong = validity(alloc, &module, file) != "ok";
                 self.wrong = self.wrong.wrapping_add(u64::from(is_wrong));
                 self.add(0);
             }

@@ -23,7 +23,8 @@ pub(crate) fn read(alloc: Global, file: &[u8], out: &mut Answer) {
     }
 }
 
-fn validity(alloc: Global, module: &Module, file: &[u8]) -> &'static str {
+/// `ok` where what was read is valid and written back as its file.
+pub(crate) fn validity(alloc: Global, module: &Module, file: &[u8]) -> &'static str {
     if !module.tables().keeps() {
         return "not valid";
     }
@@ -98,10 +99,7 @@ impl<'t> Expected<'t> {
         if self.lists(refusal) {
             return Outcome::Held;
         }
-        if self.is_pending(module, refusal) {
-            return Outcome::Pending;
-        }
-        Outcome::Differs
+        Outcome::pending(self.is_pending(module, refusal))
     }
 }
 

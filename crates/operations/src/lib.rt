@@ -24,6 +24,3 @@ pub fn operate<S: Store>(cpu: &mut Cpu<S>, op: Op) -> Result<Flow, Fault>
         Op::Unary(op) => arithmetic::unary(cpu, op),
     }
 }
-
-#[cfg(test)]
-mod tests;
