@@ -9,7 +9,7 @@ use crate::outcome::{Outcome, judged};
 use crate::report::Report;
 use crate::running::{replayed, run};
 use crate::setting::Setting;
-use crate::sources::{layout, program};
+use crate::sources::ask_source;
 use crate::statements::{Statement, first_statement, lines_of};
 use crate::stepping::step;
 use crate::words::{Words, question};
@@ -66,8 +66,7 @@ fn ask(alloc: Global, setting: &mut Setting, statement: Statement, out: &mut Ans
         "cuts" => cuts(alloc, &setting.file, out),
         "bits" => altered_bits(alloc, &mut setting.file, out),
         "bytes" => return ask_bytes(alloc, &mut setting.file, statement.rest, out),
-        "lines" => return layout(alloc, &setting.source, statement, out),
-        "parse" => return program(alloc, &setting.source, statement, out),
+        "lines" | "parse" => return ask_source(alloc, &setting.source, statement, out),
         _ => return ask_file(alloc, setting, statement, out),
     }
     judged(out, statement.rest)

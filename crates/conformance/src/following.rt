@@ -37,10 +37,9 @@ fn push(module: &Module, state: &mut State, words: &mut Words)
     ensures { BelongsTo «module».now state.new }
 {
     let _ = module;
-    let word = words.word();
-    if word == "-" {
+    let Some(word) = words.given() else {
         return;
-    }
+    };
     match fact(word) {
         Some(fact) => state.push(Known::of(fact)),
         None => words.fail(),
@@ -53,10 +52,9 @@ fn write(module: &Module, state: &mut State, words: &mut Words)
     ensures { BelongsTo «module».now state.new }
 {
     let _ = module;
-    let word = words.word();
-    if word == "-" {
+    let Some(word) = words.given() else {
         return;
-    }
+    };
     let (number, known) = word.split_once('=').unwrap_or((word, ""));
     let place = state.writable_word(number.parse::<i64>().unwrap_or(i64::MAX));
     match (place, fact(known)) {

@@ -60,20 +60,24 @@ fn run(
     Ok(())
 }
 
-/// Runs the cases, and prints what came of them.
-fn run_all(rt: &(impl Env + Files + Input + Print + AllocGlobal)) -> io::Result<bool> {
+/// Runs the cases that the arguments name.
+fn run_named(rt: &(impl Env + Files + Input + AllocGlobal), report: &mut Report) -> io::Result<()> {
     let words: Vec<String> = env::args(rt)?.collect(rt.alloc())?;
-    let mut report = Report::new(rt.alloc());
-    run(rt, &words, &mut report)?;
+    run(rt, &words, report)
+}
+
+/// Prints what came of the cases, unless memory ran out.
+fn print(rt: &impl Print, report: &mut Report) -> io::Result<()> {
     report.put_counts();
     if report.is_out_of_memory() {
         return Err(io::ErrorKind::OutOfMemory.into());
     }
-    println!(rt; "{}", report.as_str())?;
-    Ok(report.is_clean())
+    println!(rt; "{}", report.as_str())
 }
 
 fn main(rt: HostRuntime) -> io::Result<ExitCode> {
-    let is_clean = run_all(&rt)?;
-    Ok(ExitCode::from(u8::from(!is_clean)))
+    let mut report = Report::new(rt.alloc());
+    run_named(&rt, &mut report)?;
+    print(&rt, &mut report)?;
+    Ok(ExitCode::from(u8::from(!report.is_clean())))
 }

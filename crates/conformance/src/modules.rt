@@ -10,6 +10,9 @@ use states::SPELLING;
 use std::alloc::Global;
 use verifier::{Refusal, verify};
 
+/// What is said of a file that is read, valid and written back byte for byte.
+pub(crate) const READ: &str = "ok";
+
 /// A fault of a file as a case says it.
 pub(crate) fn put_fault(fault: FormatFault, out: &mut Answer) {
     out.fault("C", fault.number, fault.offset as u64);
@@ -17,19 +20,26 @@ pub(crate) fn put_fault(fault: FormatFault, out: &mut Answer) {
 
 /// `ok` where the file is read, valid and written back byte for byte, or else the fault.
 pub(crate) fn read(alloc: Global, file: &[u8], out: &mut Answer) {
-    match Module::read(alloc, file) {
-        Ok(module) => out.put(validity(alloc, &module, file)),
+    match reading(alloc, file) {
+        Ok(validity) => out.put(validity),
         Err(fault) => put_fault(fault, out),
     }
 }
 
-/// `ok` where what was read is valid and written back as its file.
-pub(crate) fn validity(alloc: Global, module: &Module, file: &[u8]) -> &'static str {
+/// What comes of reading a file: `READ` where it is valid and written back byte for byte.
+pub(crate) fn reading(alloc: Global, file: &[u8]) -> Result<&'static str, FormatFault> {
+    match Module::read(alloc, file) {
+        Ok(module) => Ok(validity(alloc, &module, file)),
+        Err(fault) => Err(fault),
+    }
+}
+
+fn validity(alloc: Global, module: &Module, file: &[u8]) -> &'static str {
     if !module.tables().keeps() {
         return "not valid";
     }
     match write(alloc, module.tables()) {
-        Ok(written) if written.as_slice() == file => "ok",
+        Ok(written) if written.as_slice() == file => READ,
         Ok(_) => "written otherwise",
         Err(_) => "out of memory",
     }

@@ -84,21 +84,29 @@ impl<'t> Words<'t> {
         number.unwrap_or(0)
     }
 
-    /// The next word as a word of the machine.
-    pub(crate) fn integer(&mut self) -> i32 {
-        let number = i32::try_from(self.signed()).ok();
+    /// A text of this line as a word of the machine.
+    fn integer_of(&mut self, text: &str) -> i32 {
+        let number = i32::try_from(self.parsed(text)).ok();
         self.is_wrong |= number.is_none();
         number.unwrap_or(0)
     }
 
+    /// The next word as a word of the machine.
+    pub(crate) fn integer(&mut self) -> i32 {
+        let word = self.word();
+        self.integer_of(word)
+    }
+
     /// The next word as a word of the machine, `-` where it is undefined.
     pub(crate) fn value(&mut self) -> Option<i32> {
-        let before = *self;
-        if self.word() == "-" {
-            return None;
-        }
-        *self = before;
-        Some(self.integer())
+        let word = self.given()?;
+        Some(self.integer_of(word))
+    }
+
+    /// The next word, unless it is `-`.
+    pub(crate) fn given(&mut self) -> Option<&'t str> {
+        let word = self.word();
+        if word == "-" { None } else { Some(word) }
     }
 
     /// What follows the words that were taken.
