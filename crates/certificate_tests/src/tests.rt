@@ -7,9 +7,9 @@ mod kept_pars;
 mod kept_rows;
 mod lookups;
 
-use certificate::{FormatFault, MEMORY, Module, TRUNCATED, write};
+use certificate::{FormatFault, MEMORY, Module, TRUNCATED, Tables, write};
 use files::{EVERY_ROW, EVERY_ROW_AGAIN, ROWS};
-use std::alloc::Global;
+use std::alloc::{AllocError, Global};
 use std::process::Abort;
 use std::test::*;
 
@@ -27,10 +27,8 @@ const OUT_OF_MEMORY: FormatFault = FormatFault {
     offset: 0,
 };
 
-#[test]
-fn a_file_is_read_and_written(rt: HostRuntime) -> Result<(), Fail> {
-    let module = Module::read(rt.alloc(), &JUMP).ok().ok_or("read")?;
-    let tables = module.tables();
+/// The tables say what the file `JUMP` says.
+fn says_jump(rt: &impl Abort, tables: &Tables) {
     assert!(rt; tables.keeps());
     assert_eq!(rt; tables.code, [0x45, 0xd1, 0, 0x71, 0x21, 0xf5].as_slice());
     assert_eq!(rt;
@@ -44,8 +42,20 @@ fn a_file_is_read_and_written(rt: HostRuntime) -> Result<(), Fail> {
             (3, 0, 0, 3)
         );
     }
-    let written = write(rt.alloc(), tables)?;
+}
+
+/// The module is written as the file `JUMP`.
+fn is_written(rt: &impl Abort, alloc: Global, module: &Module) -> Result<(), AllocError> {
+    let written = write(alloc, module.tables())?;
     assert_eq!(rt; written.as_slice(), JUMP.as_slice());
+    Ok(())
+}
+
+#[test]
+fn a_file_is_read_and_written(rt: HostRuntime) -> Result<(), Fail> {
+    let module = Module::read(rt.alloc(), &JUMP).ok().ok_or("read")?;
+    says_jump(&rt, module.tables());
+    is_written(&rt, rt.alloc(), &module)?;
     Ok(())
 }
 

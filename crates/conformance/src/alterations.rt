@@ -1,7 +1,8 @@
 //! A file altered in many ways, and how many of the altered files are read.
 
 use crate::answer::Answer;
-use certificate::{FormatFault, MAGIC, Module, TRUNCATED, write};
+use crate::modules::{READ, reading};
+use certificate::{FormatFault, MAGIC, TRUNCATED};
 use std::alloc::Global;
 
 /// How many files are read, valid and written back, how many have which fault, and the sum of the faults' offsets.
@@ -11,16 +12,6 @@ struct Sums {
     offsets: u64,
     /// How many files are read, but not valid or written otherwise.
     wrong: u64,
-}
-
-/// Whether what was read is valid and written back as its file.
-fn is_kept(alloc: Global, module: &Module, file: &[u8]) -> bool {
-    let tables = module.tables();
-    tables.keeps()
-        && match write(alloc, tables) {
-            Ok(written) => written.as_slice() == file,
-            Err(_) => false,
-        }
 }
 
 impl Sums {
@@ -39,10 +30,9 @@ impl Sums {
 
     /// Counts a file.
     fn count(&mut self, alloc: Global, file: &[u8]) {
-        match Module::read(alloc, file) {
-            Ok(module) => {
-                let is_wrong = !is_kept(alloc, &module, file);
-                self.wrong = self.wrong.wrapping_add(u64::from(is_wrong));
+        match reading(alloc, file) {
+            Ok(validity) => {
+                self.wrong = self.wrong.wrapping_add(u64::from(validity != READ));
                 self.add(0);
             }
             Err(FormatFault { number, offset }) => {
@@ -120,10 +110,7 @@ fn is_cut(alloc: Global, file: &[u8]) -> bool {
     } else {
         (TRUNCATED, file.len())
     };
-    match Module::read(alloc, file) {
-        Ok(_) => false,
-        Err(fault) => fault == FormatFault { number, offset },
-    }
+    reading(alloc, file).err() == Some(FormatFault { number, offset })
 }
 
 /// How many of the shorter files that the file begins with are refused as cut.

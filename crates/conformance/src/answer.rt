@@ -44,13 +44,14 @@ impl Answer {
         }
     }
 
+    /// A number that may be negative.
     pub(crate) fn number(&mut self, value: i64) {
-        if write!(self.text, "{value}").is_err() {
-            self.is_out_of_memory = true;
+        if value < 0 {
+            self.put("-");
         }
+        self.great(value.unsigned_abs());
     }
 
-    /// A number that may be greater than the others.
     pub(crate) fn great(&mut self, value: u64) {
         if write!(self.text, "{value}").is_err() {
             self.is_out_of_memory = true;

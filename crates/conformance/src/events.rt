@@ -21,8 +21,8 @@ pub(crate) fn event(word: &str) -> Option<Event> {
     let (first, second) = rest.split_once(',').unwrap_or((rest, ""));
     match kind {
         "s" => step(first, second),
-        "a" => arrival(link(first)?, second),
-        "k" => Some(Event::Acknowledge { link: link(first)? }),
+        "a" => arrival(link(first), second),
+        "k" => acknowledgement(link(first)),
         _ => None,
     }
 }
@@ -35,9 +35,13 @@ fn step(slice: &str, pick: &str) -> Option<Event> {
     })
 }
 
-fn arrival(link: Link, digits: &str) -> Option<Event> {
+fn arrival(link: Option<Link>, digits: &str) -> Option<Event> {
     let byte = u8::from_str_radix(digits, 16).ok()?;
-    Some(Event::Arrive { link, byte })
+    Some(Event::Arrive { link: link?, byte })
+}
+
+fn acknowledgement(link: Option<Link>) -> Option<Event> {
+    Some(Event::Acknowledge { link: link? })
 }
 
 /// The letter of an effect.

@@ -1,123 +1,99 @@
 //! What a module answers to look-ups.
 
 use crate::answer::Answer;
-use crate::words::Words;
+use crate::outcome::{Outcome, judged};
+use crate::words::{Words, question};
 use certificate::{Direction, EndKind, EndRow, Module};
 
-/// A look-up in a module.
-#[derive(Clone, Copy)]
-pub(crate) enum LookUp {
-    Context(u32),
-    Parameters(u32),
-    Branch(u32),
-    LabelAt(u32),
-    ProcedureAt(u32),
-    BranchAt(u32),
-    IsStart(u32),
-    MayWriteWord { context: u32, word: i64 },
-    MayReadWord { context: u32, word: i64 },
-    ChannelLength { context: u32, word: i32 },
-    HasEnd { context: u32, end: EndRow },
-}
-
 /// `word WORD`, `parameter NUMBER ELEMENT` or `link LINK`.
-fn end_kind(words: &mut Words) -> Option<EndKind> {
+fn end_kind(words: &mut Words) -> EndKind {
     match words.word() {
-        "word" => Some(EndKind::FrameWord(words.frame_word())),
-        "link" => Some(EndKind::Link(u8::try_from(words.number()).ok()?)),
-        "parameter" => Some(EndKind::Parameter {
-            number: words.frame_word(),
+        "word" => EndKind::FrameWord(words.integer()),
+        "parameter" => EndKind::Parameter {
+            number: words.integer(),
             element: words.number(),
-        }),
-        _ => None,
+        },
+        "link" => EndKind::Link(u8::try_from(words.number()).unwrap_or(u8::MAX)),
+        _ => {
+            words.fail();
+            EndKind::Link(u8::MAX)
+        }
     }
 }
 
 /// An end, and then `in` or `out`.
-fn end(words: &mut Words) -> Option<EndRow> {
-    let kind = end_kind(words)?;
-    let direction = match words.word() {
-        "in" => Direction::In,
-        "out" => Direction::Out,
-        _ => return None,
-    };
-    Some(EndRow { kind, direction })
-}
-
-/// The look-up of this name in a context or at an offset, with its other arguments.
-fn named(name: &str, number: u32, words: &mut Words) -> Option<LookUp> {
-    match name {
-        "context" => Some(LookUp::Context(number)),
-        "parameters" => Some(LookUp::Parameters(number)),
-        "branch" => Some(LookUp::Branch(number)),
-        "label_at" => Some(LookUp::LabelAt(number)),
-        "procedure_at" => Some(LookUp::ProcedureAt(number)),
-        "branch_at" => Some(LookUp::BranchAt(number)),
-        "is_start" => Some(LookUp::IsStart(number)),
-        _ => named_right(name, number, words),
+fn end(words: &mut Words) -> EndRow {
+    let kind = end_kind(words);
+    let direction = words.word();
+    if direction != "in" && direction != "out" {
+        words.fail();
+    }
+    EndRow {
+        kind,
+        direction: if direction == "in" {
+            Direction::In
+        } else {
+            Direction::Out
+        },
     }
 }
 
-/// The look-up of this name of what a context may do.
-fn named_right(name: &str, context: u32, words: &mut Words) -> Option<LookUp> {
+/// The answer to the look-up of this name in a context or at an offset: `none`, `true` or `false`, or the numbers that
+/// are found.
+fn answer(module: &Module, name: &str, number: u32, words: &mut Words, out: &mut Answer) {
     match name {
-        "may_write_word" => Some(LookUp::MayWriteWord {
-            context,
-            word: words.signed(),
-        }),
-        "may_read_word" => Some(LookUp::MayReadWord {
-            context,
-            word: words.signed(),
-        }),
-        "channel_length" => Some(LookUp::ChannelLength {
-            context,
-            word: words.frame_word(),
-        }),
-        "has_end" => Some(LookUp::HasEnd {
-            context,
-            end: end(words)?,
-        }),
-        _ => None,
+        "context" => context(module, number, out),
+        "parameters" => out.great(module.parameters(number).len() as u64),
+        "branch" => branch(module, number, out),
+        "label_at" => label_at(module, number, out),
+        "procedure_at" => procedure_at(module, number, out),
+        "branch_at" => branch_at(module, number, out),
+        "is_start" => out.truth(module.is_start(number)),
+        _ => answer_right(module, name, number, words, out),
     }
 }
 
-/// The look-up of this name, with these arguments.
-pub(crate) fn look_up(name: &str, arguments: &str) -> Option<LookUp> {
+/// The answer to the look-up of this name of what a context may do.
+fn answer_right(module: &Module, name: &str, context: u32, words: &mut Words, out: &mut Answer) {
+    match name {
+        "may_write_word" => out.truth(module.may_write_word(context, words.signed())),
+        "may_read_word" => out.truth(module.may_read_word(context, words.signed())),
+        "channel_length" => channel_length(module, context, words.integer(), out),
+        "has_end" => out.truth(module.has_end(context, end(words))),
+        _ => words.fail(),
+    }
+}
+
+/// A look-up: `NAME ARGUMENTS = ANSWER`.
+pub(crate) fn look_up(module: &Module, name: &str, rest: &str, out: &mut Answer) -> Outcome {
+    let (arguments, expected) = question(rest);
     let mut words = Words::of(arguments);
     let number = words.number();
-    let found = named(name, number, &mut words)?;
-    words.is_read().then_some(found)
-}
-
-/// The answer as text: `none`, `true` or `false`, or the numbers that are found.
-pub(crate) fn answer(module: &Module, look_up: LookUp, out: &mut Answer) {
-    match look_up {
-        LookUp::Context(number) => context(module, number, out),
-        LookUp::Parameters(number) => out.great(module.parameters(number).len() as u64),
-        LookUp::Branch(number) => branch(module, number, out),
-        LookUp::LabelAt(offset) => {
-            let number = module.label_at(offset).map(|row| row.number);
-            found(number, out);
-        }
-        LookUp::ProcedureAt(offset) => {
-            let context = module.procedure_at(offset).map(|found| u64::from(found.0));
-            found(context, out);
-        }
-        LookUp::BranchAt(offset) => branch_at(module, offset, out),
-        LookUp::IsStart(offset) => out.truth(module.is_start(offset)),
-        LookUp::MayWriteWord { context, word } => out.truth(module.may_write_word(context, word)),
-        LookUp::MayReadWord { context, word } => out.truth(module.may_read_word(context, word)),
-        LookUp::ChannelLength { context, word } => {
-            let length = module.channel_length(context, word);
-            found(length.map(u64::from), out);
-        }
-        LookUp::HasEnd { context, end } => out.truth(module.has_end(context, end)),
+    answer(module, name, number, &mut words, out);
+    if words.is_read() {
+        judged(out, expected)
+    } else {
+        Outcome::Unreadable
     }
 }
 
-fn found(number: Option<u64>, out: &mut Answer) {
-    match number {
-        Some(number) => out.great(number),
+fn label_at(module: &Module, offset: u32, out: &mut Answer) {
+    match module.label_at(offset) {
+        Some(row) => out.great(row.number),
+        None => out.put("none"),
+    }
+}
+
+fn procedure_at(module: &Module, offset: u32, out: &mut Answer) {
+    match module.procedure_at(offset) {
+        Some((context, _)) => out.great(u64::from(context)),
+        None => out.put("none"),
+    }
+}
+
+fn channel_length(module: &Module, context: u32, word: i32, out: &mut Answer) {
+    match module.channel_length(context, word) {
+        Some(length) => out.great(u64::from(length)),
         None => out.put("none"),
     }
 }

@@ -6,8 +6,10 @@
 
 mod alterations;
 mod answer;
+mod asking;
 mod edits;
 mod events;
+mod following;
 mod lookups;
 mod modules;
 mod outcome;
@@ -17,47 +19,65 @@ mod running;
 mod setting;
 mod sources;
 mod statements;
+mod stepping;
 mod tokens;
 mod trees;
 mod words;
 
-use report::{Counts, print_counts, run_cases};
+use asking::run_cases;
+use report::Report;
 use std::process::ExitCode;
 use std::rt::{Env, Files};
 use std::{env, fs, io};
 
 /// Runs the cases of a file.
-fn run_file(
-    rt: &(impl Files + Print + AllocGlobal),
-    name: &str,
-    counts: &mut Counts,
-) -> io::Result<()> {
+fn run_file(rt: &(impl Files + AllocGlobal), name: &str, report: &mut Report) -> io::Result<()> {
     let text = fs::read_to_string(rt, name)?;
-    run_cases(rt, name, text.as_str(), counts)
+    run_cases(rt.alloc(), name, text.as_str(), report);
+    Ok(())
 }
 
 /// Runs the cases of standard input.
-fn run_input(rt: &(impl Input + Print + AllocGlobal), counts: &mut Counts) -> io::Result<()> {
+fn run_input(rt: &(impl Input + AllocGlobal), report: &mut Report) -> io::Result<()> {
     let text = io::read_to_string(rt.alloc(), rt.reader())?;
-    run_cases(rt, "standard input", text.as_str(), counts)
+    run_cases(rt.alloc(), "standard input", text.as_str(), report);
+    Ok(())
 }
 
-/// Runs the files of cases that the arguments name, or else those of standard input.
-fn run(rt: &(impl Env + Files + Input + Print + AllocGlobal)) -> io::Result<Counts> {
-    let mut counts = Counts::NONE;
-    let mut named = false;
-    for word in env::args(rt)?.skip(1) {
-        named = true;
-        run_file(rt, word.as_str(), &mut counts)?;
+/// Runs the files of cases that the words after the first name, or else those of standard input.
+fn run(
+    rt: &(impl Files + Input + AllocGlobal),
+    words: &[String],
+    report: &mut Report,
+) -> io::Result<()> {
+    let names = words.get(1..).unwrap_or(&[]);
+    for name in names {
+        run_file(rt, name.as_str(), report)?;
     }
-    if !named {
-        run_input(rt, &mut counts)?;
+    if names.is_empty() {
+        run_input(rt, report)?;
     }
-    Ok(counts)
+    Ok(())
+}
+
+/// Runs the cases that the arguments name.
+fn run_named(rt: &(impl Env + Files + Input + AllocGlobal), report: &mut Report) -> io::Result<()> {
+    let words: Vec<String> = env::args(rt)?.collect(rt.alloc())?;
+    run(rt, &words, report)
+}
+
+/// Prints what came of the cases, unless memory ran out.
+fn print(rt: &impl Print, report: &mut Report) -> io::Result<()> {
+    report.put_counts();
+    if report.is_out_of_memory() {
+        return Err(io::ErrorKind::OutOfMemory.into());
+    }
+    println!(rt; "{}", report.as_str())
 }
 
 fn main(rt: HostRuntime) -> io::Result<ExitCode> {
-    let counts = run(&rt)?;
-    print_counts(&rt, counts)?;
-    Ok(ExitCode::from(u8::from(!counts.is_clean())))
+    let mut report = Report::new(rt.alloc());
+    run_named(&rt, &mut report)?;
+    print(&rt, &mut report)?;
+    Ok(ExitCode::from(u8::from(!report.is_clean())))
 }

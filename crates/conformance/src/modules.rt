@@ -10,6 +10,9 @@ use states::SPELLING;
 use std::alloc::Global;
 use verifier::{Refusal, verify};
 
+/// What is said of a file that is read, valid and written back byte for byte.
+pub(crate) const READ: &str = "ok";
+
 /// A fault of a file as a case says it.
 pub(crate) fn put_fault(fault: FormatFault, out: &mut Answer) {
     out.fault("C", fault.number, fault.offset as u64);
@@ -17,9 +20,17 @@ pub(crate) fn put_fault(fault: FormatFault, out: &mut Answer) {
 
 /// `ok` where the file is read, valid and written back byte for byte, or else the fault.
 pub(crate) fn read(alloc: Global, file: &[u8], out: &mut Answer) {
-    match Module::read(alloc, file) {
-        Ok(module) => out.put(validity(alloc, &module, file)),
+    match reading(alloc, file) {
+        Ok(validity) => out.put(validity),
         Err(fault) => put_fault(fault, out),
+    }
+}
+
+/// What comes of reading a file: `READ` where it is valid and written back byte for byte.
+pub(crate) fn reading(alloc: Global, file: &[u8]) -> Result<&'static str, FormatFault> {
+    match Module::read(alloc, file) {
+        Ok(module) => Ok(validity(alloc, &module, file)),
+        Err(fault) => Err(fault),
     }
 }
 
@@ -28,7 +39,7 @@ fn validity(alloc: Global, module: &Module, file: &[u8]) -> &'static str {
         return "not valid";
     }
     match write(alloc, module.tables()) {
-        Ok(written) if written.as_slice() == file => "ok",
+        Ok(written) if written.as_slice() == file => READ,
         Ok(_) => "written otherwise",
         Err(_) => "out of memory",
     }
@@ -98,10 +109,7 @@ impl<'t> Expected<'t> {
         if self.lists(refusal) {
             return Outcome::Held;
         }
-        if self.is_pending(module, refusal) {
-            return Outcome::Pending;
-        }
-        Outcome::Differs
+        Outcome::pending(self.is_pending(module, refusal))
     }
 }
 

@@ -28,6 +28,15 @@ impl Outcome {
         }
     }
 
+    /// What comes of a question whose answer is another one, where an instruction is not there yet or is.
+    pub(crate) fn pending(is_pending: bool) -> Self {
+        if is_pending {
+            Outcome::Pending
+        } else {
+            Outcome::Differs
+        }
+    }
+
     /// What comes of a statement that asks nothing and can be read, or cannot.
     pub(crate) fn set(is_read: bool) -> Self {
         if is_read {

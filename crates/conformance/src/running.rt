@@ -10,7 +10,7 @@ use certificate::Module;
 use machine::{Checked, Replay, Stop, replay};
 use machine_state::{Event, Fault, UNKNOWN_OPERATION};
 use std::alloc::Global;
-use verifier::verify;
+use verifier::{Verified, verify};
 
 /// How a run went so far.
 #[derive(Clone, Copy)]
@@ -62,7 +62,7 @@ fn all_events(machine: &mut Checked, setting: &Setting) -> Course {
 }
 
 /// The fault as a case says it.
-fn put_fault(fault: Option<Fault>, out: &mut Answer) {
+pub(crate) fn put_fault(fault: Option<Fault>, out: &mut Answer) {
     if let Some(fault) = fault {
         out.fault("F", fault.number, fault.process);
         out.put(" ");
@@ -98,6 +98,32 @@ fn judge_end(machine: &Checked, expected: &str, out: &mut Answer) -> Outcome {
     judged(out, expected)
 }
 
+/// What comes of the events of a run on a machine.
+fn judge_run(
+    machine: &mut Checked,
+    module: &Module,
+    setting: &Setting,
+    expected: &str,
+    out: &mut Answer,
+) -> Outcome {
+    let course = all_events(machine, setting);
+    put_fault(course.fault, out);
+    if course.outcome != Outcome::Held {
+        return course.outcome;
+    }
+    if out.as_str() != setting.fault {
+        return Outcome::pending(is_pending(module, course.fault));
+    }
+    match course.differing {
+        Some(letter) => {
+            out.put(letter);
+            out.put(" in place of what an event should do");
+            Outcome::Differs
+        }
+        None => judge_end(machine, expected, out),
+    }
+}
+
 /// The events of a run, with what each does, and what the four questions answer afterwards.
 pub(crate) fn run(
     alloc: Global,
@@ -109,42 +135,24 @@ pub(crate) fn run(
     if Words::of(setting.effects).count() > Words::of(setting.events).count() {
         return Outcome::Unreadable;
     }
-    let Ok(mut machine) = Checked::load(alloc, module) else {
-        return Outcome::OutOfMemory;
-    };
-    let course = all_events(&mut machine, setting);
-    put_fault(course.fault, out);
-    if course.outcome != Outcome::Held {
-        return course.outcome;
-    }
-    if out.as_str() != setting.fault {
-        return if is_pending(module, course.fault) {
-            Outcome::Pending
-        } else {
-            Outcome::Differs
-        };
-    }
-    match course.differing {
-        Some(letter) => {
-            out.put(letter);
-            out.put(" in place of what an event should do");
-            Outcome::Differs
-        }
-        None => judge_end(&machine, expected, out),
+    match Checked::load(alloc, module) {
+        Ok(mut machine) => judge_run(&mut machine, module, setting, expected, out),
+        Err(_) => Outcome::OutOfMemory,
     }
 }
 
-/// The events of a run, unless one cannot be read or memory runs out.
-fn events_of(alloc: Global, text: &str) -> Option<Vec<Event>> {
+/// Appends the events of a run. False where one cannot be read or memory runs out.
+fn read_events(events: &mut Vec<Event>, text: &str) -> bool {
     let mut words = Words::of(text);
-    let mut events = Vec::new(alloc);
-    for _ in 0..u64::MAX {
-        let Some(word) = words.next() else {
-            break;
+    for _ in 0..words.count() {
+        let Some(event) = event(words.word()) else {
+            return false;
         };
-        events.push(event(word)?).ok()?;
+        if events.push(event).is_err() {
+            return false;
+        }
     }
-    Some(events)
+    true
 }
 
 /// The bytes executed, whether the module is finished, and what went out on each link.
@@ -160,22 +168,28 @@ fn put_replay(replay: &Replay, out: &mut Answer) {
     }
 }
 
+/// What `replay` answers to events.
+fn put_answer(alloc: Global, verified: &Verified, events: &[Event], out: &mut Answer) {
+    match replay(alloc, verified, events) {
+        Ok(replay) => put_replay(&replay, out),
+        Err(_) => out.fail(),
+    }
+}
+
 /// What `replay` answers to the events of a run, where the module is accepted.
 pub(crate) fn replayed(
     alloc: Global,
     module: &Module,
-    events: &str,
+    text: &str,
     expected: &str,
     out: &mut Answer,
 ) -> Outcome {
-    let Some(events) = events_of(alloc, events) else {
+    let mut events = Vec::new(alloc);
+    if !read_events(&mut events, text) {
         return Outcome::Unreadable;
-    };
+    }
     match verify(alloc, module) {
-        Ok(verified) => match replay(alloc, &verified, &events) {
-            Ok(replay) => put_replay(&replay, out),
-            Err(_) => return Outcome::OutOfMemory,
-        },
+        Ok(verified) => put_answer(alloc, &verified, &events, out),
         Err(refusal) => out.fault("V", refusal.number, u64::from(refusal.offset)),
     }
     judged(out, expected)

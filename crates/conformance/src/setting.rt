@@ -1,13 +1,13 @@
 //! What the statements before a question say.
 
-use crate::edits::set;
+use crate::edits::Edit;
 use crate::outcome::Outcome;
 use crate::quoted::append_quoted;
 use crate::statements::{Statement, unindented};
 use crate::words::Words;
 use std::alloc::Global;
 
-/// What is asked about: a file, a source, a run.
+/// What is asked about: a file, a source, a run, a process, a state.
 #[derive(Drop)]
 pub(crate) struct Setting<'t> {
     alloc: Global,
@@ -19,6 +19,10 @@ pub(crate) struct Setting<'t> {
     pub(crate) events: &'t str,
     pub(crate) effects: &'t str,
     pub(crate) fault: &'t str,
+    pub(crate) process: &'t str,
+    pub(crate) state: &'t str,
+    /// Whether the present statement cannot be read, or memory ran out.
+    is_wrong: bool,
 }
 
 impl<'t> Setting<'t> {
@@ -31,113 +35,119 @@ impl<'t> Setting<'t> {
             events: "",
             effects: "",
             fault: "",
+            process: "",
+            state: "",
+            is_wrong: false,
         }
     }
 
     /// Takes a statement that asks nothing; any other is left.
     pub(crate) fn take(&mut self, statement: Statement<'_, 't>) -> Option<Outcome> {
         let rest = statement.rest;
-        let taken = match statement.word {
+        self.is_wrong = false;
+        match statement.word {
             "module" => self.read_module(rest),
             "with" => self.alter(rest),
             "source" => self.begin_source(rest, statement.block),
             "repeat" => self.repeat(rest),
             "levels" => self.descend(rest),
             "run" => self.begin_run(rest),
-            "did" => {
-                self.effects = rest;
-                Some(())
-            }
-            "fault" => {
-                self.fault = rest;
-                Some(())
-            }
+            "did" => self.effects = rest,
+            "fault" => self.fault = rest,
+            "process" => self.process = rest,
+            "state" => self.state = rest,
             _ => return None,
-        };
-        Some(Outcome::set(taken.is_some()))
+        }
+        Some(Outcome::set(!self.is_wrong))
     }
 
-    fn read_module(&mut self, digits: &str) -> Option<()> {
-        self.module = hex::decode(self.alloc, digits).ok()?;
-        self.restore()
+    fn read_module(&mut self, digits: &str) {
+        match hex::decode(self.alloc, digits) {
+            Ok(bytes) => self.module = bytes,
+            Err(_) => self.is_wrong = true,
+        }
+        self.restore();
     }
 
     /// The file as the last `module` gives it.
-    fn restore(&mut self) -> Option<()> {
+    fn restore(&mut self) {
         self.file.clear();
-        self.file.extend_from_slice(&self.module).ok()
+        self.is_wrong |= self.file.extend_from_slice(&self.module).is_err();
     }
 
     /// The module's file with some numbers altered.
-    fn alter(&mut self, rest: &str) -> Option<()> {
-        self.restore()?;
+    fn alter(&mut self, rest: &str) {
+        self.restore();
         let mut words = Words::of(rest);
-        for _ in 0..u64::MAX {
-            let Some(word) = words.next() else {
-                break;
-            };
+        for _ in 0..words.count() {
+            let word = words.word();
             match word.strip_prefix("size=") {
-                Some(size) => self.resize(size)?,
-                None => set(&mut self.file, word)?,
+                Some(size) => self.resize(words.parsed(size)),
+                None => self.is_wrong |= !Edit::of(word, &mut words).apply(&mut self.file),
             }
         }
-        Some(())
+        self.is_wrong |= !words.is_right();
     }
 
     /// Cuts the file to a length, or fills it with zeros.
-    fn resize(&mut self, size: &str) -> Option<()> {
-        let size = size.parse::<usize>().ok()?;
-        self.file.resize(size, 0).ok()
+    fn resize(&mut self, size: i64) {
+        let size = usize::try_from(size).unwrap_or(0);
+        self.is_wrong |= self.file.resize(size, 0).is_err();
     }
 
-    fn begin_source(&mut self, rest: &str, block: &[&str]) -> Option<()> {
+    /// Appends to the source.
+    fn append(&mut self, bytes: &[u8]) {
+        self.is_wrong |= self.source.extend_from_slice(bytes).is_err();
+    }
+
+    /// Appends to the source so many times.
+    fn append_times(&mut self, times: u32, bytes: &[u8]) {
+        for _ in 0..times {
+            self.append(bytes);
+        }
+    }
+
+    fn begin_source(&mut self, rest: &str, block: &[&str]) {
         self.source.clear();
         if !rest.is_empty() {
-            return append_quoted(&mut self.source, rest);
+            self.is_wrong |= !append_quoted(&mut self.source, rest);
+            return;
         }
         for line in block {
-            self.source
-                .extend_from_slice(unindented(line).as_bytes())
-                .ok()?;
-            self.source.push(b'\n').ok()?;
+            self.append(unindented(line).as_bytes());
+            self.append(b"\n");
         }
-        Some(())
+    }
+
+    /// The text in quotes that follows the words.
+    fn piece(&mut self, words: &Words) -> Vec<u8> {
+        let mut piece = Vec::new(self.alloc);
+        self.is_wrong |= !append_quoted(&mut piece, words.rest()) || !words.is_right();
+        piece
     }
 
     /// Appends a text to the source so many times.
-    fn repeat(&mut self, rest: &str) -> Option<()> {
+    fn repeat(&mut self, rest: &str) {
         let mut words = Words::of(rest);
         let times = words.number();
-        let mut piece = Vec::new(self.alloc);
-        append_quoted(&mut piece, words.rest())?;
-        append_times(&mut self.source, times, &piece)?;
-        words.is_right().then_some(())
+        let piece = self.piece(&words);
+        self.append_times(times, &piece);
     }
 
     /// Appends a text at each level of indentation from the first number up to the second, which is left out.
-    fn descend(&mut self, rest: &str) -> Option<()> {
+    fn descend(&mut self, rest: &str) {
         let mut words = Words::of(rest);
         let (from, to) = (words.number(), words.number());
-        let mut piece = Vec::new(self.alloc);
-        append_quoted(&mut piece, words.rest())?;
+        let piece = self.piece(&words);
         for level in from..to {
-            append_times(&mut self.source, level, b"  ")?;
-            append_times(&mut self.source, 1, &piece)?;
+            self.append_times(level, b"  ");
+            self.append(&piece);
         }
-        words.is_right().then_some(())
     }
 
-    fn begin_run(&mut self, events: &'t str) -> Option<()> {
+    fn begin_run(&mut self, events: &'t str) {
         self.events = events;
         self.effects = "";
         self.fault = "";
-        Some(())
     }
-}
-
-fn append_times(out: &mut Vec<u8>, times: u32, piece: &[u8]) -> Option<()> {
-    for _ in 0..times {
-        out.extend_from_slice(piece).ok()?;
-    }
-    Some(())
 }

@@ -4,9 +4,9 @@ use crate::answer::Answer;
 use crate::outcome::{Outcome, judged};
 use crate::statements::{Statement, has_lines};
 use crate::tokens::write_lines;
-use crate::trees::write_program;
+use crate::trees::write_items;
 use occam_layout::{Line, lines};
-use occam_parser::{Program, parse};
+use occam_parser::{Item, Program, parse};
 use std::alloc::Global;
 
 /// What comes of the lines of a source: how many there are, or the tokens of each.
@@ -20,30 +20,15 @@ fn judge_lines(found: &[Line], statement: Statement, out: &mut Answer) -> Outcom
     Outcome::of(has_lines(out.as_str(), statement.block))
 }
 
-/// The lines of a source, or the fault.
-pub(crate) fn layout(
-    alloc: Global,
+/// What comes of the items of a program: `ok`, or `same` where they are printed back as their source, or their lines as
+/// they are printed back.
+fn judge_items<'p>(
+    items: &'p [Item<'p>],
     source: &[u8],
     statement: Statement,
     out: &mut Answer,
 ) -> Outcome {
-    match lines(alloc, source) {
-        Ok(found) => judge_lines(&found, statement, out),
-        Err(fault) => {
-            out.fault("O", fault.number, u64::from(fault.line));
-            judged(out, statement.rest)
-        }
-    }
-}
-
-/// What comes of a program: `ok`, or `same` where it is printed back as its source, or its lines as they are printed back.
-fn judge_program(
-    program: Program,
-    source: &[u8],
-    statement: Statement,
-    out: &mut Answer,
-) -> Outcome {
-    write_program(out, program);
+    write_items(out, items);
     match statement.rest {
         "ok" => Outcome::Held,
         "same" => Outcome::of(out.as_str().as_bytes() == source),
@@ -51,7 +36,9 @@ fn judge_program(
     }
 }
 
-fn judge_rows(
+/// The program of the lines of a source, or the fault. Its items are never freed, so that they can be lent for as long
+/// as the names in them.
+fn judge_program(
     alloc: Global,
     rows: &[Line],
     source: &[u8],
@@ -59,7 +46,7 @@ fn judge_rows(
     out: &mut Answer,
 ) -> Outcome {
     match parse(alloc, rows) {
-        Ok(program) => judge_program(program, source, statement, out),
+        Ok(Program { items }) => judge_items(items.leak(), source, statement, out),
         Err(fault) => {
             out.fault("O", fault.number, u64::from(fault.line));
             judged(out, statement.rest)
@@ -67,15 +54,16 @@ fn judge_rows(
     }
 }
 
-/// The program of a source, or the fault.
-pub(crate) fn program(
+/// What is asked of the lines of a source, or else of its program.
+pub(crate) fn ask_source(
     alloc: Global,
     source: &[u8],
     statement: Statement,
     out: &mut Answer,
 ) -> Outcome {
     match lines(alloc, source) {
-        Ok(rows) => judge_rows(alloc, &rows, source, statement, out),
+        Ok(rows) if statement.word == "lines" => judge_lines(&rows, statement, out),
+        Ok(rows) => judge_program(alloc, &rows, source, statement, out),
         Err(fault) => {
             out.fault("O", fault.number, u64::from(fault.line));
             judged(out, statement.rest)

@@ -30,8 +30,8 @@ fn block<'l, 't>(lines: &'l [&'t str]) -> &'l [&'t str] {
     lines
 }
 
-/// The statement with which these lines begin, of which the first has this number, unless the line is blank, a comment, or
-/// within a block.
+/// The statement with which these lines begin, of which the first has this number, unless the line is blank, a comment,
+/// or within a block.
 pub(crate) fn first_statement<'l, 't>(
     lines: &'l [&'t str],
     line: usize,

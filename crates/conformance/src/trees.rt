@@ -5,16 +5,11 @@ use crate::tokens::{write_character, write_name, write_text};
 use occam_parser::{
     Action, Branch, ChainOperator, Choice, Constant, ConstantValue, Construct, Declaration, Expr,
     Formal, FormalKind, Guard, Item, Names, Operand, PairOperator, Place, PrefixOperator, Proc,
-    Process, Program, Replicator, ValueType,
+    Process, Replicator, ValueType,
 };
 
-/// The program as a source. The items are never freed, so that they can be lent for as long as the names in them.
-pub(crate) fn write_program(out: &mut Answer, program: Program) {
-    let Program { items } = program;
-    write_items(out, items.leak());
-}
-
-fn write_items<'p>(out: &mut Answer, items: &'p [Item<'p>]) {
+/// The items of a program as a source.
+pub(crate) fn write_items<'p>(out: &mut Answer, items: &'p [Item<'p>]) {
     for item in items {
         match item {
             Item::Constant(constant) => write_constant(out, constant),

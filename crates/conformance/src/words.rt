@@ -64,30 +64,59 @@ impl<'t> Words<'t> {
         next.unwrap_or("")
     }
 
-    /// The next word as a number.
-    pub(crate) fn number(&mut self) -> u32 {
-        let number = self.word().parse::<u32>().ok();
+    /// A text of this line as a number.
+    pub(crate) fn parsed(&mut self, text: &str) -> i64 {
+        let number = text.parse::<i64>().ok();
         self.is_wrong |= number.is_none();
         number.unwrap_or(0)
     }
 
     /// The next word as a number that may be negative.
     pub(crate) fn signed(&mut self) -> i64 {
-        let number = self.word().parse::<i64>().ok();
+        let word = self.word();
+        self.parsed(word)
+    }
+
+    /// The next word as a number.
+    pub(crate) fn number(&mut self) -> u32 {
+        let number = u32::try_from(self.signed()).ok();
         self.is_wrong |= number.is_none();
         number.unwrap_or(0)
     }
 
-    /// The next word as the number of a frame word.
-    pub(crate) fn frame_word(&mut self) -> i32 {
-        let number = self.word().parse::<i32>().ok();
+    /// A text of this line as a word of the machine.
+    fn integer_of(&mut self, text: &str) -> i32 {
+        let number = i32::try_from(self.parsed(text)).ok();
         self.is_wrong |= number.is_none();
         number.unwrap_or(0)
+    }
+
+    /// The next word as a word of the machine.
+    pub(crate) fn integer(&mut self) -> i32 {
+        let word = self.word();
+        self.integer_of(word)
+    }
+
+    /// The next word as a word of the machine, `-` where it is undefined.
+    pub(crate) fn value(&mut self) -> Option<i32> {
+        let word = self.given()?;
+        Some(self.integer_of(word))
+    }
+
+    /// The next word, unless it is `-`.
+    pub(crate) fn given(&mut self) -> Option<&'t str> {
+        let word = self.word();
+        if word == "-" { None } else { Some(word) }
     }
 
     /// What follows the words that were taken.
     pub(crate) fn rest(&self) -> &'t str {
         self.rest
+    }
+
+    /// A word was not what it should be.
+    pub(crate) fn fail(&mut self) {
+        self.is_wrong = true;
     }
 
     /// Whether each word that was asked for was there.
@@ -99,4 +128,9 @@ impl<'t> Words<'t> {
     pub(crate) fn is_read(&mut self) -> bool {
         !self.is_wrong && self.next().is_none()
     }
+}
+
+/// A question and the answer that is expected: `QUESTION = ANSWER`.
+pub(crate) fn question<'t>(rest: &'t str) -> (&'t str, &'t str) {
+    rest.split_once(" = ").unwrap_or((rest, ""))
 }

@@ -31,6 +31,3 @@ pub fn direct<S: Store>(cpu: &mut Cpu<S>, fun: Fun, operand: i32) -> Result<Flow
         _ => Err(cpu.fault(FaultKind::UnknownOperation)),
     }
 }
-
-#[cfg(test)]
-mod tests;

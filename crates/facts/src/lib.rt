@@ -6,8 +6,6 @@ mod combinators;
 mod following;
 mod laws;
 mod place;
-#[cfg(test)]
-mod tests;
 
 pub use advancing::{advance, has_rule};
 pub use following::{Successors, transfer};

@@ -26,6 +26,3 @@ pub fn operate<S: Store>(cpu: &mut Cpu<S>, op: Op) -> Result<Flow, Fault>
         _ => Err(cpu.fault(FaultKind::UnknownOperation)),
     }
 }
-
-#[cfg(test)]
-mod tests;

@@ -47,6 +47,13 @@ pub fn jump(alloc: Global) -> Result<Tables<'static>, AllocError> {
     Ok(tables_with(alloc, labels))
 }
 
+/// Whether the tables with this label row keep the format.
+fn keeps_with(alloc: Global, row: LabelRow) -> Result<bool, AllocError> {
+    let mut labels = Vec::new(alloc);
+    labels.push(row)?;
+    Ok(tables_with(alloc, labels).keeps())
+}
+
 #[test]
 fn written_by_hand(rt: HostRuntime) -> Result<(), Fail> {
     let tables = jump(rt.alloc())?;
@@ -56,52 +63,35 @@ fn written_by_hand(rt: HostRuntime) -> Result<(), Fail> {
     Ok(())
 }
 
+/// How many numbers of the header can be wrong.
+const WRONG_HEADERS: u8 = 9;
+
+/// Makes one number of the header wrong.
+fn make_wrong(tables: &mut Tables, case: u8) {
+    match case {
+        0 => tables.code = &[],
+        1 => tables.finish = 7,
+        2 => tables.constants = &LONG,
+        3 => {
+            tables.data_words = 0;
+            tables.base = 0;
+        }
+        4 => tables.data_words = 16_385,
+        5 => tables.base = 6,
+        6 => tables.budget = 4_611_686_018_427_387_905,
+        7 => tables.lengths = [0, 0, 0, 4_097, 0, 0, 0, 0],
+        // version 1 has no long operations
+        _ => tables.has_long_operations = true,
+    }
+}
+
 /// Which numbers of the header do not keep the format.
 #[test]
 fn headers(rt: HostRuntime) -> Result<(), Fail> {
-    let alloc = rt.alloc();
-    let bad = [
-        Tables {
-            code: &[],
-            ..jump(alloc)?
-        },
-        Tables {
-            finish: 7,
-            ..jump(alloc)?
-        },
-        Tables {
-            constants: &LONG,
-            ..jump(alloc)?
-        },
-        Tables {
-            data_words: 0,
-            base: 0,
-            ..jump(alloc)?
-        },
-        Tables {
-            data_words: 16_385,
-            ..jump(alloc)?
-        },
-        Tables {
-            base: 6,
-            ..jump(alloc)?
-        },
-        Tables {
-            budget: 4_611_686_018_427_387_905,
-            ..jump(alloc)?
-        },
-        Tables {
-            lengths: [0, 0, 0, 4_097, 0, 0, 0, 0],
-            ..jump(alloc)?
-        },
-        // version 1 has no long operations
-        Tables {
-            has_long_operations: true,
-            ..jump(alloc)?
-        },
-    ];
-    for tables in &bad {
-        assert!(rt; !tables.keeps());
+    for case in 0..WRONG_HEADERS {
+        let mut tables = jump(rt.alloc())?;
+        make_wrong(&mut tables, case);
+        assert!(rt; !tables.keeps(), "{case}");
     }
     Ok(())
 }
@@ -109,19 +99,10 @@ fn headers(rt: HostRuntime) -> Result<(), Fail> {
 /// What version 2 may have.
 #[test]
 fn headers_again(rt: HostRuntime) -> Result<(), Fail> {
-    let alloc = rt.alloc();
-    let good = [
-        Tables {
-            version: Version::Two,
-            ..jump(alloc)?
-        },
-        Tables {
-            version: Version::Two,
-            has_long_operations: true,
-            ..jump(alloc)?
-        },
-    ];
-    for tables in &good {
+    for has_long_operations in [false, true] {
+        let mut tables = jump(rt.alloc())?;
+        tables.version = Version::Two;
+        tables.has_long_operations = has_long_operations;
         assert!(rt; tables.keeps());
     }
     Ok(())
@@ -203,15 +184,13 @@ fn facts(rt: HostRuntime) -> Result<(), Fail> {
     let cases = facts_of_registers();
     for (fact, keeps) in &cases {
         for register in 0..3 {
-            let mut labels = Vec::new(alloc);
             let mut row = label(alloc, 3);
             match register {
                 0 => row.stack.a = *fact,
                 1 => row.stack.b = *fact,
                 _ => row.stack.c = *fact,
             }
-            labels.push(row)?;
-            assert_eq!(rt; tables_with(alloc, labels).keeps(), *keeps, "{fact:?}");
+            assert_eq!(rt; keeps_with(alloc, row)?, *keeps, "{fact:?}");
         }
     }
     Ok(())
@@ -245,10 +224,8 @@ fn entries(rt: HostRuntime) -> Result<(), Fail> {
         let mut row = label(alloc, 3);
         row.entries.push(number_at(*word, *span))?;
         row.entries.push(number_at(*other, *length))?;
-        let mut labels = Vec::new(alloc);
-        labels.push(row)?;
         assert_eq!(rt;
-            tables_with(alloc, labels).keeps(),
+            keeps_with(alloc, row)?,
             *keeps,
             "{word} {span} {other} {length}"
         );
@@ -267,15 +244,26 @@ const ORDERS: [(u32, u32, u16, bool); 7] = [
     (1, 5, 65_535, false),
 ];
 
+/// Appends a label row of a context.
+fn add_label(
+    alloc: Global,
+    labels: &mut Vec<LabelRow>,
+    offset: u32,
+    context: u16,
+) -> Result<(), AllocError> {
+    let mut row = label(alloc, offset);
+    row.context = context;
+    labels.push(row)?;
+    Ok(())
+}
+
 #[test]
 fn orders(rt: HostRuntime) -> Result<(), Fail> {
     let alloc = rt.alloc();
     for (first, second, context, keeps) in &ORDERS {
-        let mut row = label(alloc, *second);
-        row.context = *context;
         let mut labels = Vec::new(alloc);
-        labels.push(label(alloc, *first))?;
-        labels.push(row)?;
+        add_label(alloc, &mut labels, *first, 0)?;
+        add_label(alloc, &mut labels, *second, *context)?;
         assert_eq!(rt;
             tables_with(alloc, labels).keeps(),
             *keeps,
@@ -361,10 +349,7 @@ fn facts_of_words(rt: HostRuntime) -> Result<(), Fail> {
             span: *span,
             fact: *fact,
         })?;
-        let mut labels = Vec::new(alloc);
-        labels.push(row)?;
-        let tables = tables_with(alloc, labels);
-        assert_eq!(rt; tables.keeps(), *keeps, "{fact:?} {span}");
+        assert_eq!(rt; keeps_with(alloc, row)?, *keeps, "{fact:?} {span}");
     }
     Ok(())
 }

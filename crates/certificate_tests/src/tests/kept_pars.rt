@@ -54,6 +54,16 @@ fn with_branch(alloc: Global, context: u16, row: BranchRow) -> Result<Tables<'st
     with_par(alloc, pars)
 }
 
+/// Whether the tables with that PAR of one branch keep the format.
+fn branch_keeps(alloc: Global, context: u16, row: BranchRow) -> Result<bool, AllocError> {
+    Ok(with_branch(alloc, context, row)?.keeps())
+}
+
+/// Whether the tables with that PAR keep the format.
+fn par_keeps(alloc: Global, row: ParRow) -> Result<bool, AllocError> {
+    Ok(with_par(alloc, row)?.keeps())
+}
+
 /// Contexts and successors of a PAR whose branches are contexts 2 and 3, and whether they keep the format.
 const PLACES: [(u16, u32, bool); 9] = [
     (0, 5, true),
@@ -73,8 +83,11 @@ fn places(rt: HostRuntime) -> Result<(), Fail> {
     for (context, successor, keeps) in &PLACES {
         let mut row = par(rt.alloc(), *context, &entries)?;
         row.successor = *successor;
-        let tables = with_par(rt.alloc(), row)?;
-        assert_eq!(rt; tables.keeps(), *keeps, "{context} {successor}");
+        assert_eq!(rt;
+            par_keeps(rt.alloc(), row)?,
+            *keeps,
+            "{context} {successor}"
+        );
     }
     Ok(())
 }
@@ -93,14 +106,29 @@ const ENTRIES: [(&[u32], &[u32], bool); 10] = [
     (&[3, 1], &[4, 1], false),
 ];
 
+/// Appends a PAR of branches at these entries.
+fn add_par(
+    alloc: Global,
+    tables: &mut Tables,
+    context: u16,
+    entries: &[u32],
+) -> Result<(), AllocError> {
+    tables.pars.push(par(alloc, context, entries)?)?;
+    Ok(())
+}
+
+fn entries_keep(alloc: Global, first: &[u32], second: &[u32]) -> Result<bool, AllocError> {
+    let mut tables = jump(alloc)?;
+    add_par(alloc, &mut tables, 0, first)?;
+    add_par(alloc, &mut tables, 1, second)?;
+    Ok(tables.keeps())
+}
+
 #[test]
 fn entries(rt: HostRuntime) -> Result<(), Fail> {
-    let alloc = rt.alloc();
     for (first, second, keeps) in &ENTRIES {
-        let mut tables = jump(alloc)?;
-        tables.pars.push(par(alloc, 0, first)?)?;
-        tables.pars.push(par(alloc, 1, second)?)?;
-        assert_eq!(rt; tables.keeps(), *keeps, "{first:?} {second:?}");
+        let found = entries_keep(rt.alloc(), first, second)?;
+        assert_eq!(rt; found, *keeps, "{first:?} {second:?}");
     }
     Ok(())
 }
@@ -131,9 +159,7 @@ fn many_pars(rt: HostRuntime) -> Result<(), Fail> {
         let mut tables = jump(alloc)?;
         tables.code = &CODE;
         for entry in 1..=count {
-            let mut row = par(alloc, 0, &NO_BRANCHES)?;
-            row.branches.push(branch(alloc, entry))?;
-            tables.pars.push(row)?;
+            add_par(alloc, &mut tables, 0, &[entry])?;
         }
         assert_eq!(rt; tables.keeps(), keeps, "{count}");
     }
@@ -149,8 +175,7 @@ fn many_channels(rt: HostRuntime) -> Result<(), Fail> {
         for word in 0..count {
             row.channels.push(ChannelRow { word, length: 1 })?;
         }
-        let tables = with_par(alloc, row)?;
-        assert_eq!(rt; tables.keeps(), keeps, "{count}");
+        assert_eq!(rt; par_keeps(alloc, row)?, keeps, "{count}");
     }
     Ok(())
 }
@@ -164,8 +189,7 @@ fn many_intervals(rt: HostRuntime) -> Result<(), Fail> {
         for lo in 0..count {
             row.writes.push(Interval { lo, hi: lo + 1 })?;
         }
-        let tables = with_branch(alloc, 0, row)?;
-        assert_eq!(rt; tables.keeps(), keeps, "{count}");
+        assert_eq!(rt; branch_keeps(alloc, 0, row)?, keeps, "{count}");
     }
     Ok(())
 }
@@ -179,8 +203,7 @@ fn many_ends(rt: HostRuntime) -> Result<(), Fail> {
         for word in 0..count {
             row.ends.push(end(0, word, 0, 1))?;
         }
-        let tables = with_branch(alloc, 0, row)?;
-        assert_eq!(rt; tables.keeps(), keeps, "{count}");
+        assert_eq!(rt; branch_keeps(alloc, 0, row)?, keeps, "{count}");
     }
     Ok(())
 }
@@ -197,19 +220,25 @@ const CHANNELS: [(&[(i32, u32)], bool); 8] = [
     (&[(2, 4), (3, u32::MAX)], false),
 ];
 
+fn channels_keep(alloc: Global, channels: &[(i32, u32)]) -> Result<bool, AllocError> {
+    let mut row = par(alloc, 0, &[1])?;
+    for (word, length) in channels {
+        row.channels.push(ChannelRow {
+            word: *word,
+            length: *length,
+        })?;
+    }
+    par_keeps(alloc, row)
+}
+
 #[test]
 fn channels(rt: HostRuntime) -> Result<(), Fail> {
-    let entries = [1];
     for (channels, keeps) in &CHANNELS {
-        let mut row = par(rt.alloc(), 0, &entries)?;
-        for (word, length) in *channels {
-            row.channels.push(ChannelRow {
-                word: *word,
-                length: *length,
-            })?;
-        }
-        let tables = with_par(rt.alloc(), row)?;
-        assert_eq!(rt; tables.keeps(), *keeps, "{channels:?}");
+        assert_eq!(rt;
+            channels_keep(rt.alloc(), channels)?,
+            *keeps,
+            "{channels:?}"
+        );
     }
     Ok(())
 }
@@ -243,14 +272,22 @@ fn add_intervals(
     Ok(())
 }
 
+fn intervals_keep(
+    alloc: Global,
+    writes: &[(i32, i32)],
+    reads: &[(i32, i32)],
+) -> Result<bool, AllocError> {
+    let mut row = branch(alloc, 1);
+    add_intervals(&mut row.writes, writes)?;
+    add_intervals(&mut row.reads, reads)?;
+    branch_keeps(alloc, 0, row)
+}
+
 #[test]
 fn intervals(rt: HostRuntime) -> Result<(), Fail> {
     for (writes, reads, keeps) in &INTERVALS {
-        let mut row = branch(rt.alloc(), 1);
-        add_intervals(&mut row.writes, writes)?;
-        add_intervals(&mut row.reads, reads)?;
-        let tables = with_branch(rt.alloc(), 0, row)?;
-        assert_eq!(rt; tables.keeps(), *keeps, "{writes:?} {reads:?}");
+        let found = intervals_keep(rt.alloc(), writes, reads)?;
+        assert_eq!(rt; found, *keeps, "{writes:?} {reads:?}");
     }
     Ok(())
 }
@@ -280,14 +317,23 @@ fn add_parameters(numbers: &mut SmallVec<u16, 4>, others: &[u16]) -> Result<(), 
     Ok(())
 }
 
+fn parameters_keep(
+    alloc: Global,
+    context: u16,
+    written: &[u16],
+    read: &[u16],
+) -> Result<bool, AllocError> {
+    let mut row = branch(alloc, 1);
+    add_parameters(&mut row.written_parameters, written)?;
+    add_parameters(&mut row.read_parameters, read)?;
+    branch_keeps(alloc, context, row)
+}
+
 #[test]
 fn lists_of_parameters(rt: HostRuntime) -> Result<(), Fail> {
     for (context, written, read, keeps) in &PARAMETER_LISTS {
-        let mut row = branch(rt.alloc(), 1);
-        add_parameters(&mut row.written_parameters, written)?;
-        add_parameters(&mut row.read_parameters, read)?;
-        let tables = with_branch(rt.alloc(), *context, row)?;
-        assert_eq!(rt; tables.keeps(), *keeps, "{context} {written:?} {read:?}");
+        let found = parameters_keep(rt.alloc(), *context, written, read)?;
+        assert_eq!(rt; found, *keeps, "{context} {written:?} {read:?}");
     }
     Ok(())
 }
@@ -352,15 +398,22 @@ const ENDS: [(u16, &[End], bool); 19] = [
     (0, &[(1, 3, 0, 1)], false),
 ];
 
+fn ends_keep(alloc: Global, context: u16, ends: &[End]) -> Result<bool, AllocError> {
+    let mut row = branch(alloc, 1);
+    for (kind, number, element, direction) in ends {
+        row.ends.push(end(*kind, *number, *element, *direction))?;
+    }
+    branch_keeps(alloc, context, row)
+}
+
 #[test]
 fn ends(rt: HostRuntime) -> Result<(), Fail> {
     for (context, ends, keeps) in &ENDS {
-        let mut row = branch(rt.alloc(), 1);
-        for (kind, number, element, direction) in *ends {
-            row.ends.push(end(*kind, *number, *element, *direction))?;
-        }
-        let tables = with_branch(rt.alloc(), *context, row)?;
-        assert_eq!(rt; tables.keeps(), *keeps, "{context} {ends:?}");
+        assert_eq!(rt;
+            ends_keep(rt.alloc(), *context, ends)?,
+            *keeps,
+            "{context} {ends:?}"
+        );
     }
     Ok(())
 }

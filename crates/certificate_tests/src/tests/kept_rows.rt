@@ -109,18 +109,27 @@ fn procedures(rt: HostRuntime) -> Result<(), Fail> {
 /// Entries of two procedures, and whether they keep the format.
 const ENTRIES: [(u32, u32, bool); 4] = [(1, 2, true), (2, 4, true), (2, 2, false), (4, 2, false)];
 
+/// Appends a procedure with this entry and these parameters.
+fn add_procedure(
+    alloc: Global,
+    tables: &mut Tables,
+    entry: u32,
+    parameters: &[Parameter],
+) -> Result<(), AllocError> {
+    let mut row = procedure(alloc, parameters)?;
+    row.entry = entry;
+    tables.procedures.push(row)?;
+    Ok(())
+}
+
 #[test]
 fn procedures_rise(rt: HostRuntime) -> Result<(), Fail> {
     let alloc = rt.alloc();
     let given = parameters();
     for (first, second, keeps) in &ENTRIES {
         let mut tables = jump(alloc)?;
-        let mut row = procedure(alloc, &given)?;
-        row.entry = *first;
-        tables.procedures.push(row)?;
-        let mut row = procedure(alloc, &given)?;
-        row.entry = *second;
-        tables.procedures.push(row)?;
+        add_procedure(alloc, &mut tables, *first, &given)?;
+        add_procedure(alloc, &mut tables, *second, &given)?;
         assert_eq!(rt; tables.keeps(), *keeps, "{first} {second}");
     }
     Ok(())
@@ -178,26 +187,21 @@ fn kinds() -> [(ParameterKind, bool, bool); 18] {
     ]
 }
 
+/// Whether the tables of a version with a procedure that has this parameter keep the format.
+fn kind_keeps(alloc: Global, version: Version, kind: ParameterKind) -> Result<bool, AllocError> {
+    let row = procedure(alloc, &[Parameter { word: 1, kind }])?;
+    let mut tables = with_procedure(alloc, row)?;
+    tables.version = version;
+    Ok(tables.keeps())
+}
+
 #[test]
 fn kinds_of_parameters(rt: HostRuntime) -> Result<(), Fail> {
     let alloc = rt.alloc();
     let cases = kinds();
     for (kind, keeps, keeps_again) in &cases {
-        for version in [Version::One, Version::Two] {
-            let mut row = procedure(alloc, &NO_PARAMETERS)?;
-            row.parameters.push(Parameter {
-                word: 1,
-                kind: *kind,
-            })?;
-            let mut tables = with_procedure(alloc, row)?;
-            tables.version = version;
-            let want = if matches!(version, Version::One) {
-                *keeps
-            } else {
-                *keeps_again
-            };
-            assert_eq!(rt; tables.keeps(), want);
-        }
+        assert_eq!(rt; kind_keeps(alloc, Version::One, *kind)?, *keeps);
+        assert_eq!(rt; kind_keeps(alloc, Version::Two, *kind)?, *keeps_again);
     }
     Ok(())
 }
@@ -214,13 +218,8 @@ fn sets_of_ends(rt: HostRuntime) -> Result<(), Fail> {
         (Ends::from_bits_retain(7), false),
     ];
     for (ends, keeps) in &sets {
-        let mut row = procedure(alloc, &NO_PARAMETERS)?;
-        row.parameters.push(Parameter {
-            word: 1,
-            kind: channels(1, 4, *ends),
-        })?;
-        let tables = with_procedure(alloc, row)?;
-        assert_eq!(rt; tables.keeps(), *keeps);
+        let found = kind_keeps(alloc, Version::One, channels(1, 4, *ends))?;
+        assert_eq!(rt; found, *keeps);
     }
     Ok(())
 }
@@ -251,16 +250,15 @@ fn many_procedures(rt: HostRuntime) -> Result<(), Fail> {
         let mut tables = tables_with(alloc, Vec::new(alloc));
         tables.code = &CODE;
         for entry in 1..=count {
-            let mut row = procedure(alloc, &NO_PARAMETERS)?;
-            row.entry = entry;
-            tables.procedures.push(row)?;
+            add_procedure(alloc, &mut tables, entry, &NO_PARAMETERS)?;
         }
         assert_eq!(rt; tables.keeps(), keeps, "{count}");
     }
     Ok(())
 }
 
-/// Start, end, lo and hi of table rows over six words 1, -7, 9, 2, the least and the greatest, and whether they keep the format.
+/// Start, end, lo and hi of table rows over six words 1, -7, 9, 2, the least and the greatest, and whether they keep the
+/// format.
 const TABLES: [(&[(u32, u32, i32, i32)], bool); 14] = [
     (&[(0, 8, -7, 1)], true),
     (&[(0, 16, -7, 9)], true),
@@ -278,23 +276,33 @@ const TABLES: [(&[(u32, u32, i32, i32)], bool); 14] = [
     (&[(0, 8, -7, 1), (4, 8, -7, -7)], false),
 ];
 
+fn table_rows_keep(
+    alloc: Global,
+    version: Version,
+    rows: &[(u32, u32, i32, i32)],
+) -> Result<bool, AllocError> {
+    let mut tables = jump(alloc)?;
+    tables.version = version;
+    tables.constants = &SIX_WORDS;
+    for (start, end, lo, hi) in rows {
+        tables.table_rows.push(TableRow {
+            start: *start,
+            end: *end,
+            lo: *lo,
+            hi: *hi,
+        })?;
+    }
+    Ok(tables.keeps())
+}
+
 #[test]
 fn table_rows(rt: HostRuntime) -> Result<(), Fail> {
     for (rows, keeps) in &TABLES {
-        let mut tables = jump(rt.alloc())?;
-        tables.constants = &SIX_WORDS;
-        for (start, end, lo, hi) in *rows {
-            tables.table_rows.push(TableRow {
-                start: *start,
-                end: *end,
-                lo: *lo,
-                hi: *hi,
-            })?;
-        }
         // version 1 has none
-        assert!(rt; !tables.keeps(), "{rows:?}");
-        tables.version = Version::Two;
-        assert_eq!(rt; tables.keeps(), *keeps, "{rows:?}");
+        let found = table_rows_keep(rt.alloc(), Version::One, rows)?;
+        assert!(rt; !found, "{rows:?}");
+        let found = table_rows_keep(rt.alloc(), Version::Two, rows)?;
+        assert_eq!(rt; found, *keeps, "{rows:?}");
     }
     Ok(())
 }

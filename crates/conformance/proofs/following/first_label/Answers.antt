@@ -7,7 +7,7 @@ use Rattle.module_format.specs.Contents.{Contents, label_of}
 use Rattle.module_format.specs.Keeping.{Keeps}
 use Rattle.states.specs.Rows.{IsRowOf}
 use Rattle.states.proofs.LabelRows.{label_row_of}
-use Rattle.facts.proofs.tests.first_row.Goals as goal
+use Rattle.conformance.proofs.following.first_label.Goals as goal
 
 first_of : (m : Contents) (rows : List LabelRow) (found : Option (Bor LabelRow)) → Keeps m
     → m.labels ≡ map label_of rows → option_copied found ≡ slice_get rows 0

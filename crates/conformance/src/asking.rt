@@ -1,0 +1,112 @@
+//! Asks the layers what the cases of a text ask.
+
+use crate::alterations::{altered_bits, altered_bytes, cuts};
+use crate::answer::Answer;
+use crate::following::follow;
+use crate::lookups::look_up;
+use crate::modules::{put_fault, read, verdict};
+use crate::outcome::{Outcome, judged};
+use crate::report::Report;
+use crate::running::{replayed, run};
+use crate::setting::Setting;
+use crate::sources::ask_source;
+use crate::statements::{Statement, first_statement, lines_of};
+use crate::stepping::step;
+use crate::words::{Words, question};
+use certificate::Module;
+use std::alloc::Global;
+
+/// What is asked of a module.
+fn ask_module<'a>(
+    alloc: Global,
+    module: &'a Module<'a>,
+    setting: &Setting,
+    statement: Statement,
+    out: &mut Answer,
+) -> Outcome {
+    let rest = statement.rest;
+    match statement.word {
+        "verify" => verdict(alloc, module, rest, out),
+        "then" => run(alloc, module, setting, rest, out),
+        "replay" => replayed(alloc, module, setting.events, rest, out),
+        "step" => step(alloc, module, setting.process, rest, out),
+        "follow" => follow(alloc, module, setting.state, rest, out),
+        name => look_up(module, name, rest, out),
+    }
+}
+
+/// What is asked of the module that a file is.
+fn ask_file(alloc: Global, setting: &Setting, statement: Statement, out: &mut Answer) -> Outcome {
+    match Module::read(alloc, &setting.file) {
+        Ok(module) => ask_module(alloc, &module, setting, statement, out),
+        Err(fault) => {
+            put_fault(fault, out);
+            Outcome::Differs
+        }
+    }
+}
+
+/// The files with a byte altered: `FROM TO = SUMS`.
+fn ask_bytes(alloc: Global, file: &mut [u8], rest: &str, out: &mut Answer) -> Outcome {
+    let (range, expected) = question(rest);
+    let mut words = Words::of(range);
+    let (from, to) = (words.number(), words.number());
+    altered_bytes(alloc, file, from, to, out);
+    if words.is_right() {
+        judged(out, expected)
+    } else {
+        Outcome::Unreadable
+    }
+}
+
+/// What is asked of a file or a source, and else of a module.
+fn ask(alloc: Global, setting: &mut Setting, statement: Statement, out: &mut Answer) -> Outcome {
+    match statement.word {
+        "read" => read(alloc, &setting.file, out),
+        "cuts" => cuts(alloc, &setting.file, out),
+        "bits" => altered_bits(alloc, &mut setting.file, out),
+        "bytes" => return ask_bytes(alloc, &mut setting.file, statement.rest, out),
+        "lines" | "parse" => return ask_source(alloc, &setting.source, statement, out),
+        _ => return ask_file(alloc, setting, statement, out),
+    }
+    judged(out, statement.rest)
+}
+
+/// What comes of a statement.
+fn perform<'t>(
+    alloc: Global,
+    setting: &mut Setting<'t>,
+    statement: Statement<'_, 't>,
+    out: &mut Answer,
+) -> Outcome {
+    out.clear();
+    let outcome = match setting.take(statement) {
+        Some(outcome) => outcome,
+        None => ask(alloc, setting, statement, out),
+    };
+    if out.is_out_of_memory() {
+        Outcome::OutOfMemory
+    } else {
+        outcome
+    }
+}
+
+/// Runs the cases of these lines of a text with this name.
+fn run_lines(alloc: Global, name: &str, lines: &[&str], report: &mut Report) {
+    let mut setting = Setting::new(alloc);
+    let mut out = Answer::new(alloc);
+    for place in 0..lines.len() {
+        if let Some(statement) = first_statement(&lines[place..], place + 1) {
+            let outcome = perform(alloc, &mut setting, statement, &mut out);
+            report.add(name, statement, outcome, out.as_str());
+        }
+    }
+}
+
+/// Runs the cases of a text. Its name is said with each that differs.
+pub(crate) fn run_cases(alloc: Global, name: &str, text: &str, report: &mut Report) {
+    match lines_of(alloc, text) {
+        Ok(lines) => run_lines(alloc, name, &lines, report),
+        Err(_) => report.fail(),
+    }
+}
