@@ -50,9 +50,9 @@ pub(crate) fn function(name: &str) -> Option<Fun> {
 fn mode(name: &str) -> Option<Mode> {
     match name {
         "plain" => Some(Mode::Plain),
-        "enabling" => Some(Mode::Enabling),
+        "enabling" => Some(Mode::Enabling { is_ready: false }),
         "disabling" => Some(Mode::Disabling { selection: None }),
-        "starting" => Some(Mode::Starting { row: 0, started: 1 }),
+        "starting" => Some(Mode::Starting),
         _ => None,
     }
 }
@@ -168,7 +168,9 @@ pub(crate) fn step(
         process: PROCESS,
         registers: REGISTERS,
         mode: Mode::Plain,
+        code_start: DATA_START,
         code_length: 0,
+        has_long_operations: false,
         store,
     };
     if execute(&mut cpu, Words::of(process), Words::of(asked), out) {

@@ -4,8 +4,8 @@ ghost use Rattle.std.specs.Prelude.{◌≡◌};
 
 use certificate::{Direction, Tables, Version};
 use machine_state::{
-    DATA_START, End, FaultKind, Holding, Instruction, Join, Link, Op, Role, Span, Store,
-    TaggedStore, Task, Word, local_address, place_of,
+    DATA_START, End, FaultKind, Holding, Instruction, Join, Link, LongOp, Op, Role, Shift, Span,
+    Store, TaggedStore, Task, Word, local_address, place_of,
 };
 use prefix_decoder::Fun;
 use std::alloc::{AllocError, Global};
@@ -183,26 +183,25 @@ fn holding(alloc: Global, end: u32) -> Result<Holding, AllocError> {
 }
 
 #[test]
-fn holds_its_own_then_the_rest_then_nothing(rt: HostRuntime) -> Result<(), Fail> {
+fn holds_its_own_then_the_rest(rt: HostRuntime) -> Result<(), Fail> {
     let mut role = Role {
         own: holding(rt.alloc(), 12)?,
-        above: Vec::new(rt.alloc()),
+        opener: None,
         opened: None,
-        is_over: false,
     };
-    let held = role.held().ok_or("nothing")?;
+    let held = role.held();
     assert!(rt; held.may_write_word(8) && held.may_read_word(4) && !held.may_write_word(9));
     role.opened = Some(Join {
         row: 0,
         block: DATA_START,
+        base: DATA_START,
+        parameters: Vec::new(rt.alloc()),
+        started: 1,
         rest: holding(rt.alloc(), 8)?,
         members: Vec::new(rt.alloc()),
-        is_starting: true,
     });
-    let held = role.held().ok_or("nothing")?;
+    let held = role.held();
     assert!(rt; held.may_write_word(4) && !held.may_write_word(8) && !held.may_write(3));
-    role.is_over = true;
-    assert!(rt; role.held().is_none());
     Ok(())
 }
 
@@ -274,6 +273,9 @@ fn numbers_links_and_operations(rt: HostRuntime) -> Result<(), Fail> {
         (0x42, Some(Op::MinimumInteger)),
         (0x05, Some(Op::Binary(Binary::Add))),
         (0x32, Some(Op::Unary(Unary::Not))),
+        (0x40, Some(Op::Shift(Shift::Right))),
+        (0x37, Some(Op::Long(LongOp::Sum))),
+        (0x07, Some(Op::Input)),
         (0x14, None),
         (-0x15, None),
         (-1, None),
@@ -288,7 +290,12 @@ fn numbers_links_and_operations(rt: HostRuntime) -> Result<(), Fail> {
         Instruction::of(Fun::StoreLocal, -1),
         Some(Instruction::StoreLocal)
     );
-    assert_eq!(rt; Instruction::of(Fun::Call, 0), None);
+    assert_eq!(rt; Instruction::of(Fun::Call, 0), Some(Instruction::Call));
+    assert!(rt; Instruction::StoreLocal.has_body() && !Instruction::Call.has_body());
+    assert!(rt; Op::Reverse.has_body() && !Op::Input.has_body());
+    assert!(rt;
+        Instruction::Operate(Op::Reverse).has_body() && !Instruction::Operate(Op::Input).has_body()
+    );
     assert_eq!(rt; FaultKind::ErrorFlag.number(), 1);
     assert_eq!(rt; FaultKind::CountRange.number(), 11);
     let root = Task::root(&tables(rt.alloc(), b"\x21\xf5", &[], [0; 8]));
