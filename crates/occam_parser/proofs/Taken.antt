@@ -95,7 +95,8 @@ turn_goes_on kind k level single goes start lines behind found new same w true_i
     let read = further_is found new (rows_of behind) (component_at (65 - level) level k rows) e in
     let reads = ap (λ (j : BlockKind). component_at (65 - level) level j rows) (sym same) ∙ read.1 in
     subst (λ cs. ContinuesBlock item level single start cs (rows_of behind)) (sym read.2)
-    (block_goes_on item level single start found rows (rows_of behind) read.0 (w ∙ ap Some true_is) reads (rows_less behind lines less) c)
+    (block_goes_on item level single start found rows (rows_of behind) read.0 (w ∙ ap Some true_is) reads
+    (rows_less behind lines less) c)
 
 pub turn_fails : (kind k : BlockKind) (level : ℕ) (single goes : Bool) (start : List Row) (lines : List Line)
     (found : Components) → k ≡ kind → wants level single (count_of found) (rows_of lines) ≡ Some goes → goes ≡ true

@@ -52,7 +52,9 @@ components-loop-goes_on-init t c =
       within = let same = ap length first.ensures.same in omega arith;
       kind = refl;
       wanted = rw (c.requires, first.ensures.same) first.ensures.found;
-      reads = turn_begins item c.args.level c.args.single (rows_of c.args.lines.now) (rows_of first.rest.now) (components_in c.args.found.now) c.requires (ap rows_of first.ensures.same);
+      reads =
+          turn_begins item c.args.level c.args.single (rows_of c.args.lines.now) (rows_of first.rest.now)
+          (components_in c.args.found.now) c.requires (ap rows_of first.ensures.same);
     }
 
 pub components-returns-in_err-behind-clause-found : goal.components-returns-in_err-behind-clause-found
@@ -110,7 +112,8 @@ components-returns-clause-found t c =
     let l = c.loop-goes_on in
     let item = component_at (65 - c.args.level) c.args.level (kind_of c.args.found.now) in
     let ends = l.invariant.wanted ∙ ap Some c.loop-goes_on-test.false in
-    block_ends item c.args.level c.args.single (rows_of c.args.lines.now) (components_in l.found) (rows_of l.rest.now) ends l.invariant.reads
+    block_ends item c.args.level c.args.single (rows_of c.args.lines.now) (components_in l.found) (rows_of l.rest.now)
+    ends l.invariant.reads
 
 pub process-returns-in-Action-clause-found : goal.process-returns-in-Action-clause-found
 process-returns-in-Action-clause-found t c =
@@ -120,7 +123,8 @@ process-returns-in-Action-clause-found t c =
     let began = c.in_ok-opening.ensures.found ∙ ap (λ s. started ds o.line s rest) c.in-Action.is in
     rw (view-Process, view-Action)
     (process_is c.args.level (rows_of c.args.lines.now) rest
-    (record { declarations = ds; line = o.line; start = start_of (start.Action c.in-Action.action) }) c.in_ok-opening.ensures.level began)
+    (record { declarations = ds; line = o.line; start = start_of (start.Action c.in-Action.action) })
+    c.in_ok-opening.ensures.level began)
 
 pub process-returns-in_err-replicator-in-Block-clause-found : goal.process-returns-in_err-replicator-in-Block-clause-found
 process-returns-in_err-replicator-in-Block-clause-found t c =
@@ -133,14 +137,19 @@ process-returns-in_err-replicator-in-Block-clause-found t c =
     let single = c.is_some-single.result in
     let empty = c.new-body.result in
     let read = c.components-read in
-    let is = kind_reads kind (kind_of empty) (component_at (65 - level) level (kind_of empty)) level single rest (sym c.new-body.ensures.kind) refl in
+    let is =
+    kind_reads kind (kind_of empty) (component_at (65 - level) level (kind_of empty)) level single rest
+    (sym c.new-body.ensures.kind) refl
+    in
     let began = c.in_ok-opening.ensures.found ∙ ap (λ s. started ds o.line s rest) c.in-Block.is in
     let p = err_from_is_err_and c.from_residual-in_err-replicator-in-Block.result c.from_residual-in_err-replicator-in-Block.ensures.1 in
     rw (p.1, p.2)
     (passed_on _ _ _
     (λ none. block_lost c.args.level (rows_of c.args.lines.now) rest ds o.line kind r c.in_ok-opening.ensures.level began
-    (body_none kind (component_at (65 - level) level kind) level r single rest (single_is c.in-Block.replicator _ c.is_some-single.ensures) (is ∙ none)))
-    (beside_lost (λ behind. (components_in read.new.found, rows_of behind.now)) c.in-Block.replicator read.result _ _ c.in_err-replicator-in-Block.ensures read.ensures.found))
+    (body_none kind (component_at (65 - level) level kind) level r single rest
+    (single_is c.in-Block.replicator _ c.is_some-single.ensures) (is ∙ none)))
+    (beside_lost (λ behind. (components_in read.new.found, rows_of behind.now)) c.in-Block.replicator read.result _ _
+    c.in_err-replicator-in-Block.ensures read.ensures.found))
 
 pub process-returns-in_ok-replicator-in-Block-clause-found : goal.process-returns-in_ok-replicator-in-Block-clause-found
 process-returns-in_ok-replicator-in-Block-clause-found t c =
@@ -156,13 +165,24 @@ process-returns-in_ok-replicator-in-Block-clause-found t c =
     let read = c.components-read in
     let body = read.new.found in
     let y = c.in_ok-replicator-in-Block in
-    let is = kind_reads kind (kind_of empty) (component_at (65 - level) level (kind_of empty)) level single rest (sym c.new-body.ensures.kind) refl in
+    let is =
+    kind_reads kind (kind_of empty) (component_at (65 - level) level (kind_of empty)) level single rest
+    (sym c.new-body.ensures.kind) refl
+    in
     let began = c.in_ok-opening.ensures.found ∙ ap (λ s. started ds o.line s rest) c.in-Block.is in
-    let found = beside_found (λ behind. (components_in body, rows_of behind.now)) head y.replicator y.rest read.result _ y.ensures read.ensures.found in
-    let made = c.block-construct.ensures ∙ ap (λ q. Block (kind_of body) (option_map replicator_of q) (components_in body)) (sym (beside_head head y.replicator y.rest read.result y.ensures)) in
+    let found =
+    beside_found (λ behind. (components_in body, rows_of behind.now)) head y.replicator y.rest read.result _ y.ensures
+    read.ensures.found
+    in
+    let made =
+    c.block-construct.ensures
+    ∙ ap (λ q. Block (kind_of body) (option_map replicator_of q) (components_in body))
+    (sym (beside_head head y.replicator y.rest read.result y.ensures))
+    in
     rw view-Process
     (block_found c.args.level (rows_of c.args.lines.now) rest _ ds o.line kind r _ c.in_ok-opening.ensures.level began
-    (body_found kind _ (component_at (65 - level) level kind) level r single rest _ _ _ (single_is head _ c.is_some-single.ensures) (is ∙ found) made (read.ensures.kind ∙ c.new-body.ensures.kind)))
+    (body_found kind _ (component_at (65 - level) level kind) level r single rest _ _ _
+    (single_is head _ c.is_some-single.ensures) (is ∙ found) made (read.ensures.kind ∙ c.new-body.ensures.kind)))
 
 pub choice-returns-in_err-first-clause-found : goal.choice-returns-in_err-first-clause-found
 choice-returns-in_err-first-clause-found t c =
