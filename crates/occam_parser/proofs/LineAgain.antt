@@ -344,9 +344,13 @@ counted_again : (r : Replicator) → FitsReplicator (Some r)
     → counted_at r.name (written r.base ++ Mark mark.For ∷ written r.count) ≡ Some r
 unfolding counted_at
 counted_again r fits =
-    let made : Expression → Option Expression → Option Replicator = λ base o. o >>= λ count. Some (record { name = r.name; base = base; count = count }) in
+    let made : Expression → Option Expression → Option Replicator =
+    λ base o. o >>= λ count. Some (record { name = r.name; base = base; count = count })
+    in
     let f1 : Option (List Terminal) → Option Replicator = λ o. o >>= λ rest. made r.base (whole_at rest) in
-    let f0 : Option (Expression × List Terminal) → Option Replicator = λ o. o >>= λ base. behind mark.For base.1 >>= λ rest. made base.0 (whole_at rest) in
+    let f0 : Option (Expression × List Terminal) → Option Replicator =
+    λ o. o >>= λ base. behind mark.For base.1 >>= λ rest. made base.0 (whole_at rest)
+    in
     ap f0 (expression_before r.base mark.For (written r.count) refl fits.0)
     ∙ ap f1 (behind_again mark.For (written r.count))
     ∙ ap (made r.base) (whole_again r.count fits.1)

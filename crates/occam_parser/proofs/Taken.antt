@@ -1,10 +1,10 @@
 -- Components that the program reads into the body of a block, and a head beside what was read below it.
-use Rattle.std.proofs.Common.{◌≡◌, ◌⊎◌, inl, inr, ℕ, ◌+◌, ◌<◌, Bool, true, List, [], ◌∷◌, ◌++◌, length, map, Option, Some, None, Result, Ok, Err, refl, sym, ap, subst, ◌∙◌}
+use Rattle.std.proofs.Common.{◌≡◌, ◌⊎◌, inl, inr, ℕ, ◌+◌, ◌-◌, ◌<◌, Bool, true, List, [], ◌∷◌, ◌++◌, length, map, Option, Some, None, Result, Ok, Err, refl, sym, ap, subst, ◌∙◌}
 use Rattle.std.specs.Prelude.{IfOk}
 use Rattle.std.specs.Borrow.{Bor}
 use Rattle.occam_layout.specs.declared.token.Line.{Line}
 use Rattle.occam_parser.specs.declared.fault.ParseFault.{ParseFault}
-use Rattle.occam_parser.specs.declared.head.BlockKind.TheVariants as block
+use Rattle.occam_parser.specs.declared.head.BlockKind.{BlockKind}
 use Rattle.occam_parser.specs.declared.tree.Process.{Process as CodeProcess}
 use Rattle.occam_parser.specs.Reading.{◌>>=◌}
 use Rattle.occam_parser.specs.Told.{out_of_memory, Tells, Pushes, IsBeside, StandsAbove}
@@ -13,8 +13,8 @@ use Rattle.occam_parser.specs.BlockReading.{ReadsLines, wants, count_of, further
 use Rattle.occam_parser.specs.BlockViews.{all_of, process_of, plain_component}
 use Rattle.occam_parser.proofs.Answering.{passed_on}
 use Rattle.occam_parser.proofs.Turns.{ContinuesBlock, block_begins, block_goes_on, block_fails}
-use Rattle.occam_parser.proofs.SeenBlocks.{all_push}
-use Rattle.occam_parser.proofs.Levelled.{plain_none, plain_found, seq_is, par_is}
+use Rattle.occam_parser.proofs.SeenBlocks.{all_push, rows_less}
+use Rattle.occam_parser.proofs.Levelled.{plain_none, plain_found}
 
 -- ---- one component
 
@@ -25,19 +25,13 @@ pub plain_tells : (n level : ℕ) (rows : List Row) (read : Result (CodeProcess 
 plain_tells n level rows (Ok x) told = plain_found n level rows (rows_of x.1.now) (process_of x.0) told
 plain_tells n level rows (Err e) told = passed_on e (process_at n level rows) (plain_at n level rows) (plain_none n level rows) told
 
-pub seq_tells : (n level : ℕ) (rows : List Row) (read : Result (CodeProcess × Bor (List Line)) ParseFault)
+pub kind_tells : (k : BlockKind) (n level : ℕ) (rows : List Row) (read : Result (CodeProcess × Bor (List Line)) ParseFault)
+    → component_at n level k ≡ plain_at n level
     → Tells (λ x. (process_of x.0, rows_of x.1.now)) read (process_at n level rows)
-    → Tells (λ x. (plain_component x.0, rows_of x.1.now)) read (component_at n level block.Seq rows)
-seq_tells n level rows read told =
+    → Tells (λ x. (plain_component x.0, rows_of x.1.now)) read (component_at n level k rows)
+kind_tells k n level rows read same told =
     subst (λ (item : ReadsLines Component). Tells (λ x. (plain_component x.0, rows_of x.1.now)) read (item rows))
-    (sym (seq_is n level)) (plain_tells n level rows read told)
-
-pub par_tells : (n level : ℕ) (rows : List Row) (read : Result (CodeProcess × Bor (List Line)) ParseFault)
-    → Tells (λ x. (process_of x.0, rows_of x.1.now)) read (process_at n level rows)
-    → Tells (λ x. (plain_component x.0, rows_of x.1.now)) read (component_at n level block.Par rows)
-par_tells n level rows read told =
-    subst (λ (item : ReadsLines Component). Tells (λ x. (plain_component x.0, rows_of x.1.now)) read (item rows))
-    (sym (par_is n level)) (plain_tells n level rows read told)
+    (sym same) (plain_tells n level rows read told)
 
 -- what was read is one component more
 pub pushed_tells : {A : Type 0} (f : A → Component) (read : Result (A × Bor (List Line)) ParseFault) (old new : List A)
@@ -85,22 +79,36 @@ turn_begins item level single start rows found none same =
     subst (λ cs. ContinuesBlock item level single start cs rows) (sym none)
     (subst (λ us. ContinuesBlock item level single start NoComponent us) (sym same) begins)
 
-pub turn_goes_on : (item : ReadsLines Component) (level : ℕ) (single : Bool) (start rows rest : List Row)
-    (found new : Components) (got : Option (Component × List Row)) → item rows ≡ got
-    → wants level single (count_of found) rows ≡ Some true → further found got ≡ Some (new, rest)
-    → length rest < length rows → ContinuesBlock item level single start found rows
-    → ContinuesBlock item level single start new rest
-turn_goes_on item level single start rows rest found new got same w e less c =
-    let read = further_is found new rest got e in
-    subst (λ cs. ContinuesBlock item level single start cs rest) (sym read.2)
-    (block_goes_on item level single start found rows rest read.0 w (same ∙ read.1) less c)
+-- the components of a block of a kind, as `k` is
+abbrev pub Continues : BlockKind → ℕ → Bool → List Row → Components → List Line → Type 0
+Continues kind level single start found lines =
+    ContinuesBlock (component_at (65 - level) level kind) level single start found (rows_of lines)
 
-pub turn_fails : (item : ReadsLines Component) (level : ℕ) (single : Bool) (start rows : List Row) (found : Components)
-    (got : Option (Component × List Row)) → item rows ≡ got → wants level single (count_of found) rows ≡ Some true
-    → further found got ≡ None → ContinuesBlock item level single start found rows
-    → components_of item level single start ≡ None
-turn_fails item level single start rows found got same w e c =
-    block_fails item level single start found rows w (same ∙ further_none found got e) c
+pub turn_goes_on : (kind k : BlockKind) (level : ℕ) (single goes : Bool) (start : List Row) (lines behind : List Line)
+    (found new : Components) → k ≡ kind → wants level single (count_of found) (rows_of lines) ≡ Some goes → goes ≡ true
+    → further found (component_at (65 - level) level k (rows_of lines)) ≡ Some (new, rows_of behind)
+    → length behind < length lines → Continues kind level single start found lines
+    → Continues kind level single start new behind
+turn_goes_on kind k level single goes start lines behind found new same w true_is e less c =
+    let item = component_at (65 - level) level kind in
+    let rows = rows_of lines in
+    let read = further_is found new (rows_of behind) (component_at (65 - level) level k rows) e in
+    let reads = ap (λ (j : BlockKind). component_at (65 - level) level j rows) (sym same) ∙ read.1 in
+    subst (λ cs. ContinuesBlock item level single start cs (rows_of behind)) (sym read.2)
+    (block_goes_on item level single start found rows (rows_of behind) read.0 (w ∙ ap Some true_is) reads
+    (rows_less behind lines less) c)
+
+pub turn_fails : (kind k : BlockKind) (level : ℕ) (single goes : Bool) (start : List Row) (lines : List Line)
+    (found : Components) → k ≡ kind → wants level single (count_of found) (rows_of lines) ≡ Some goes → goes ≡ true
+    → further found (component_at (65 - level) level k (rows_of lines)) ≡ None
+    → Continues kind level single start found lines
+    → components_of (component_at (65 - level) level kind) level single start ≡ None
+turn_fails kind k level single goes start lines found same w true_is e c =
+    let item = component_at (65 - level) level kind in
+    let rows = rows_of lines in
+    let none = further_none found (component_at (65 - level) level k rows) e in
+    let reads = ap (λ (j : BlockKind). component_at (65 - level) level j rows) (sym same) ∙ none in
+    block_fails item level single start found rows (w ∙ ap Some true_is) reads c
 
 -- ---- a head, beside what was read below it
 

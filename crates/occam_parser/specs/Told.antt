@@ -86,7 +86,8 @@ GoesUpToColon (Ok x) (Ok y) =
     (y.0 ≡ x.0) × (behind_colon (rows_of x.1.now) ≡ Some (rows_of y.1.now)) × (length y.1.now ≤ length x.1.now)
 
 -- What was read, pushed: its fault, or want of memory, or one item more and the lines behind.
-abbrev pub Pushes : {A : Type 0} → Result (A × Bor (List Line)) ParseFault → (old new : List A) → Result (Bor (List Line)) ParseFault → Type 0
+abbrev pub Pushes : {A : Type 0} → Result (A × Bor (List Line)) ParseFault → (old new : List A)
+    → Result (Bor (List Line)) ParseFault → Type 0
 Pushes (Err e) old new answer = answer ≡ Err e
 Pushes (Ok x) old new (Err e) = e ≡ out_of_memory
 Pushes (Ok x) old new (Ok rest) = (new ≡ old ++ x.0 ∷ []) × (rest.now ≡ x.1.now)

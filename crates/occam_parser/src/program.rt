@@ -16,7 +16,7 @@ use crate::tree::{Item, Proc, Program};
 use occam_layout::{Line, Token};
 use std::alloc::Global;
 
-/// The lines behind the colon that ends a procedure. Where it is missing, that is told at the line `last` at the latest.
+/// The lines behind the colon that ends a procedure. Where no line is left for it, that is told at the line `last`.
 #[tactic(auto, unfolding(crate::specs::BlockReading::behind_colon))]
 fn behind_colon<'l, 'a>(last: u32, lines: &'l [Line<'a>]) -> Result<&'l [Line<'a>], ParseFault>
     ensures found { Tells (λ rest. rows_of rest.now) result (behind_colon (rows_of lines.now)) }

@@ -12,9 +12,9 @@ use Rattle.occam_parser.specs.BlockReading.{component_at, wants}
 use Rattle.occam_parser.specs.BlockViews.{process_of, plain_component, kind_of, components_in}
 use Rattle.occam_parser.proofs.Answering.{told_found, told_lost, passed_on}
 use Rattle.occam_parser.proofs.Turns.{block_stops, block_ends}
-use Rattle.occam_parser.proofs.Levelled.{process_none, process_is, block_found, block_lost, body_found, body_none, kind_reads, choice_none, choice_unread, choice_empty, choice_found, branch_none, branch_unread, branch_empty, branch_found}
-use Rattle.occam_parser.proofs.SeenBlocks.{first_stops, single_is, view-Action, view-Process, view-Choice, view-Branch, started, rows_less}
-use Rattle.occam_parser.proofs.Taken.{seq_tells, par_tells, pushed_tells, turn_begins, turn_goes_on, turn_fails, beside_lost, beside_found, beside_head, below_lost, below_found, below_head, below_keeps}
+use Rattle.occam_parser.proofs.Levelled.{process_none, process_is, block_found, block_lost, body_found, body_none, seq_is, par_is, kind_reads, choice_none, choice_unread, choice_empty, choice_found, branch_none, branch_unread, branch_empty, branch_found}
+use Rattle.occam_parser.proofs.SeenBlocks.{first_stops, single_is, view-Action, view-Process, view-Choice, view-Branch, started}
+use Rattle.occam_parser.proofs.Taken.{kind_tells, pushed_tells, turn_begins, turn_goes_on, turn_fails, beside_lost, beside_found, beside_head, below_lost, below_found, below_head, below_keeps}
 use Rattle.occam_parser.proofs.block.+process.Goals as goal
 
 pub component-returns-in-Seq-clause-found : goal.component-returns-in-Seq-clause-found
@@ -22,7 +22,7 @@ component-returns-in-Seq-clause-found t c =
     let n = 65 - c.args.level in
     let rows = rows_of c.args.lines.now in
     let read = c.process.result in
-    let told = seq_tells n c.args.level rows read c.process.ensures.found in
+    let told = kind_tells block.Seq n c.args.level rows read (seq_is n c.args.level) c.process.ensures.found in
     rw c.in-Seq.is
     (pushed_tells plain_component read c.in-Seq.found.items c.push.new.found.items c.push.result
     (component_at n c.args.level block.Seq rows) c.push.ensures told)
@@ -32,7 +32,7 @@ component-returns-in-Par-clause-found t c =
     let n = 65 - c.args.level in
     let rows = rows_of c.args.lines.now in
     let read = c.process-in-Par.result in
-    let told = par_tells n c.args.level rows read c.process-in-Par.ensures.found in
+    let told = kind_tells block.Par n c.args.level rows read (par_is n c.args.level) c.process-in-Par.ensures.found in
     rw c.in-Par.is
     (pushed_tells plain_component read c.in-Par.found.items c.push-in-Par.new.found.items c.push-in-Par.result
     (component_at n c.args.level block.Par rows) c.push-in-Par.ensures told)
@@ -52,59 +52,56 @@ components-loop-goes_on-init t c =
       within = let same = ap length first.ensures.same in omega arith;
       kind = refl;
       wanted = rw (c.requires, first.ensures.same) first.ensures.found;
-      reads = turn_begins item c.args.level c.args.single (rows_of c.args.lines.now) (rows_of first.rest.now) (components_in c.args.found.now) c.requires (ap rows_of first.ensures.same);
+      reads =
+          turn_begins item c.args.level c.args.single (rows_of c.args.lines.now) (rows_of first.rest.now)
+          (components_in c.args.found.now) c.requires (ap rows_of first.ensures.same);
     }
 
 pub components-returns-in_err-behind-clause-found : goal.components-returns-in_err-behind-clause-found
 components-returns-in_err-behind-clause-found t c =
     let l = c.loop-goes_on in
-    let level = c.args.level in
-    let item = component_at (65 - level) level (kind_of c.args.found.now) in
-    let rows = rows_of l.rest.now in
-    let got = component_at (65 - level) level (kind_of l.found) rows in
-    let same = ap (λ k. component_at (65 - level) level k rows) (sym l.invariant.kind) in
-    let goes = l.invariant.wanted ∙ ap Some c.loop-goes_on-test.true in
+    let kind = kind_of c.args.found.now in
+    let start = rows_of c.args.lines.now in
     let p = err_from_is_err_and c.from_residual-in_err-behind.result c.from_residual-in_err-behind.ensures.1 in
     rw (p.1, p.2)
     (passed_on _ _ _
-    (λ none. turn_fails item level c.args.single (rows_of c.args.lines.now) rows (components_in l.found) got same goes none l.invariant.reads)
+    (λ none. turn_fails kind (kind_of l.found) c.args.level c.args.single l.goes_on start l.rest.now (components_in l.found)
+    l.invariant.kind l.invariant.wanted c.loop-goes_on-test.true none l.invariant.reads)
     c.in_err-behind.ensures.found)
 
 pub components-returns-in_err-goes_on-2-clause-found : goal.components-returns-in_err-goes_on-2-clause-found
 components-returns-in_err-goes_on-2-clause-found t c =
     let l = c.loop-goes_on in
-    let level = c.args.level in
-    let item = component_at (65 - level) level (kind_of c.args.found.now) in
-    let rows = rows_of l.rest.now in
+    let on = c.in_ok-behind in
+    let kind = kind_of c.args.found.now in
     let start = rows_of c.args.lines.now in
-    let behind = c.in_ok-behind.behind in
     let new = components_in c.component.new.found in
-    let got = component_at (65 - level) level (kind_of l.found) rows in
-    let same = ap (λ k. component_at (65 - level) level k rows) (sym l.invariant.kind) in
-    let goes = l.invariant.wanted ∙ ap Some c.loop-goes_on-test.true in
-    let less = rows_less behind.now l.rest.now c.in_ok-behind.ensures.within in
-    let going = turn_goes_on item level c.args.single start rows (rows_of behind.now) (components_in l.found) new got same goes c.in_ok-behind.ensures.found less l.invariant.reads in
-    let stops = subst (λ n. wants level c.args.single n (rows_of behind.now) ≡ None) c.len.ensures c.in_err-goes_on-2.ensures.found in
+    let going =
+    turn_goes_on kind (kind_of l.found) c.args.level c.args.single l.goes_on start l.rest.now on.behind.now
+    (components_in l.found) new l.invariant.kind l.invariant.wanted c.loop-goes_on-test.true on.ensures.found
+    on.ensures.within l.invariant.reads
+    in
+    let rows = rows_of on.behind.now in
+    let item = component_at (65 - c.args.level) c.args.level kind in
+    let stops = subst (λ n. wants c.args.level c.args.single n rows ≡ None) c.len.ensures c.in_err-goes_on-2.ensures.found in
     let p = err_from_is_err_and c.from_residual-in_err-goes_on-2.result c.from_residual-in_err-goes_on-2.ensures.1 in
-    rw (p.1, p.2) (inr (block_stops item level c.args.single start new (rows_of behind.now) stops going))
+    rw (p.1, p.2) (inr (block_stops item c.args.level c.args.single start new rows stops going))
 
 pub components-loop-goes_on-preserved : goal.components-loop-goes_on-preserved
 components-loop-goes_on-preserved t c =
     let l = c.loop-goes_on in
-    let level = c.args.level in
-    let item = component_at (65 - level) level (kind_of c.args.found.now) in
-    let rows = rows_of l.rest.now in
+    let on = c.in_ok-behind in
+    let kind = kind_of c.args.found.now in
     let start = rows_of c.args.lines.now in
-    let behind = c.in_ok-behind.behind in
-    let next = c.in_ok-goes_on-2 in
     let new = components_in c.component.new.found in
-    let got = component_at (65 - level) level (kind_of l.found) rows in
-    let same = ap (λ k. component_at (65 - level) level k rows) (sym l.invariant.kind) in
-    let goes = l.invariant.wanted ∙ ap Some c.loop-goes_on-test.true in
-    let less = rows_less behind.now l.rest.now c.in_ok-behind.ensures.within in
-    let going = turn_goes_on item level c.args.single start rows (rows_of behind.now) (components_in l.found) new got same goes c.in_ok-behind.ensures.found less l.invariant.reads in
+    let going =
+    turn_goes_on kind (kind_of l.found) c.args.level c.args.single l.goes_on start l.rest.now on.behind.now
+    (components_in l.found) new l.invariant.kind l.invariant.wanted c.loop-goes_on-test.true on.ensures.found
+    on.ensures.within l.invariant.reads
+    in
+    let next = c.in_ok-goes_on-2 in
     record {
-      within = let on = ap length next.ensures.same in omega (arith, on, c.in_ok-behind.ensures.within, l.invariant.within);
+      within = let same = ap length next.ensures.same in omega (arith, same, on.ensures.within, l.invariant.within);
       kind = c.component.ensures.kind ∙ l.invariant.kind;
       wanted = rw (sym c.len.ensures, next.ensures.same) next.ensures.found;
       reads = rw next.ensures.same going;
@@ -115,7 +112,8 @@ components-returns-clause-found t c =
     let l = c.loop-goes_on in
     let item = component_at (65 - c.args.level) c.args.level (kind_of c.args.found.now) in
     let ends = l.invariant.wanted ∙ ap Some c.loop-goes_on-test.false in
-    block_ends item c.args.level c.args.single (rows_of c.args.lines.now) (components_in l.found) (rows_of l.rest.now) ends l.invariant.reads
+    block_ends item c.args.level c.args.single (rows_of c.args.lines.now) (components_in l.found) (rows_of l.rest.now)
+    ends l.invariant.reads
 
 pub process-returns-in-Action-clause-found : goal.process-returns-in-Action-clause-found
 process-returns-in-Action-clause-found t c =
@@ -125,7 +123,8 @@ process-returns-in-Action-clause-found t c =
     let began = c.in_ok-opening.ensures.found ∙ ap (λ s. started ds o.line s rest) c.in-Action.is in
     rw (view-Process, view-Action)
     (process_is c.args.level (rows_of c.args.lines.now) rest
-    (record { declarations = ds; line = o.line; start = start_of (start.Action c.in-Action.action) }) c.in_ok-opening.ensures.level began)
+    (record { declarations = ds; line = o.line; start = start_of (start.Action c.in-Action.action) })
+    c.in_ok-opening.ensures.level began)
 
 pub process-returns-in_err-replicator-in-Block-clause-found : goal.process-returns-in_err-replicator-in-Block-clause-found
 process-returns-in_err-replicator-in-Block-clause-found t c =
@@ -138,14 +137,19 @@ process-returns-in_err-replicator-in-Block-clause-found t c =
     let single = c.is_some-single.result in
     let empty = c.new-body.result in
     let read = c.components-read in
-    let is = kind_reads kind (kind_of empty) (component_at (65 - level) level (kind_of empty)) level single rest (sym c.new-body.ensures.kind) refl in
+    let is =
+    kind_reads kind (kind_of empty) (component_at (65 - level) level (kind_of empty)) level single rest
+    (sym c.new-body.ensures.kind) refl
+    in
     let began = c.in_ok-opening.ensures.found ∙ ap (λ s. started ds o.line s rest) c.in-Block.is in
     let p = err_from_is_err_and c.from_residual-in_err-replicator-in-Block.result c.from_residual-in_err-replicator-in-Block.ensures.1 in
     rw (p.1, p.2)
     (passed_on _ _ _
     (λ none. block_lost c.args.level (rows_of c.args.lines.now) rest ds o.line kind r c.in_ok-opening.ensures.level began
-    (body_none kind (component_at (65 - level) level kind) level r single rest (single_is c.in-Block.replicator _ c.is_some-single.ensures) (is ∙ none)))
-    (beside_lost (λ behind. (components_in read.new.found, rows_of behind.now)) c.in-Block.replicator read.result _ _ c.in_err-replicator-in-Block.ensures read.ensures.found))
+    (body_none kind (component_at (65 - level) level kind) level r single rest
+    (single_is c.in-Block.replicator _ c.is_some-single.ensures) (is ∙ none)))
+    (beside_lost (λ behind. (components_in read.new.found, rows_of behind.now)) c.in-Block.replicator read.result _ _
+    c.in_err-replicator-in-Block.ensures read.ensures.found))
 
 pub process-returns-in_ok-replicator-in-Block-clause-found : goal.process-returns-in_ok-replicator-in-Block-clause-found
 process-returns-in_ok-replicator-in-Block-clause-found t c =
@@ -161,13 +165,24 @@ process-returns-in_ok-replicator-in-Block-clause-found t c =
     let read = c.components-read in
     let body = read.new.found in
     let y = c.in_ok-replicator-in-Block in
-    let is = kind_reads kind (kind_of empty) (component_at (65 - level) level (kind_of empty)) level single rest (sym c.new-body.ensures.kind) refl in
+    let is =
+    kind_reads kind (kind_of empty) (component_at (65 - level) level (kind_of empty)) level single rest
+    (sym c.new-body.ensures.kind) refl
+    in
     let began = c.in_ok-opening.ensures.found ∙ ap (λ s. started ds o.line s rest) c.in-Block.is in
-    let found = beside_found (λ behind. (components_in body, rows_of behind.now)) head y.replicator y.rest read.result _ y.ensures read.ensures.found in
-    let made = c.block-construct.ensures ∙ ap (λ q. Block (kind_of body) (option_map replicator_of q) (components_in body)) (sym (beside_head head y.replicator y.rest read.result y.ensures)) in
+    let found =
+    beside_found (λ behind. (components_in body, rows_of behind.now)) head y.replicator y.rest read.result _ y.ensures
+    read.ensures.found
+    in
+    let made =
+    c.block-construct.ensures
+    ∙ ap (λ q. Block (kind_of body) (option_map replicator_of q) (components_in body))
+    (sym (beside_head head y.replicator y.rest read.result y.ensures))
+    in
     rw view-Process
     (block_found c.args.level (rows_of c.args.lines.now) rest _ ds o.line kind r _ c.in_ok-opening.ensures.level began
-    (body_found kind _ (component_at (65 - level) level kind) level r single rest _ _ _ (single_is head _ c.is_some-single.ensures) (is ∙ found) made (read.ensures.kind ∙ c.new-body.ensures.kind)))
+    (body_found kind _ (component_at (65 - level) level kind) level r single rest _ _ _
+    (single_is head _ c.is_some-single.ensures) (is ∙ found) made (read.ensures.kind ∙ c.new-body.ensures.kind)))
 
 pub choice-returns-in_err-first-clause-found : goal.choice-returns-in_err-first-clause-found
 choice-returns-in_err-first-clause-found t c =
