@@ -91,8 +91,13 @@ uncalled code entry number = record {
   lengths = replicate 8 0;
   has_long_operations = false;
   procedures =
-      record { entry = entry; lo = negsuc 2; hi = pos 4; number = number;
-      parameters = record { word = 1; kind = Value (pos 0) (pos 5) } ∷ [] } ∷ [];
+      record {
+        entry = entry;
+        lo = negsuc 2;
+        hi = pos 4;
+        number = number;
+        parameters = record { word = 1; kind = Value (pos 0) (pos 5) } ∷ [];
+      } ∷ [];
   pars = [];
   table_rows = [];
   labels = [];

@@ -17,8 +17,11 @@ given_label m at t l =
     ap (λ (o : Option Label). elim o [ None ↦ first_state (procedure_at m at) | Some t ↦ Some (label_state t) ]) l
 
 pub given_none : (m : Contents) (at : ℕ) → label_at m at ≡ None → procedure_at m at ≡ None → given m at ≡ None
-given_none m at l p = ap (λ (o : Option Label). elim o [ None ↦ first_state (procedure_at m at) | Some t ↦ Some
-    (label_state t) ]) l ∙ ap first_state p
+given_none m at l p = ap (λ (o : Option Label). elim o [
+  | None ↦ first_state (procedure_at m at)
+  | Some t ↦ Some
+      (label_state t)
+]) l ∙ ap first_state p
 
 -- ---- starts
 
@@ -40,6 +43,7 @@ or_right false b h = h
 pub start_of_none : (m : Contents) (at : ℕ) → is_start m at ≡ false
     → (label_at m at ≡ None) × (procedure_at m at ≡ None)
 start_of_none m at h =
-    let both = or_left _ _ (or_left _ _ h) in
-    (none_by (label_at m at) (or_left _ _ both),
-        none_by (procedure_at m at) (or_right (is_some (label_at m at)) _ both))
+    let both = or_left _ _ (or_left _ _ h) in (
+      none_by (label_at m at) (or_left _ _ both),
+      none_by (procedure_at m at) (or_right (is_some (label_at m at)) _ both),
+    )

@@ -141,7 +141,7 @@ broken_in m at before i v None e r low sp h = elim (cases_Bool (has_rule i)) [
 ]
 broken_in m at before i v (Some s) e r low sp h =
     elim (both_err (entering m at before) (rule_at m at i s) v h)
-        [ inl p ↦ entered r low p | inr p ↦ broken r low e sp p ]
+    [ inl p ↦ entered r low p | inr p ↦ broken r low e sp p ]
 
 broken_at : (m : Contents) (at : ℕ) (before : Option State) (i : Instr) (v : Rule) → Reaches m at before
     → at < length m.code → fetched m.code at ≡ Ok i → judged_at m at before i ≡ Err v → IsBroken m v at
@@ -159,7 +159,7 @@ no_first_start m at (suc more) h o low high =
     elim (cases_Bool (is_start m at)) [
       | inr l ↦
           let rest : first_start m (at + 1) more ≡ None =
-              sym (ap (λ (b : Bool). cond b (Some at) (first_start m (at + 1) more)) l) ∙ h in
+          sym (ap (λ (b : Bool). cond b (Some at) (first_start m (at + 1) more)) l) ∙ h in
           elim (cases_eq o at) [
             | inl e ↦ rw e l
             | inr d ↦ no_first_start m (at + 1) more rest o (omega arith) (omega arith)
@@ -182,7 +182,7 @@ first_start_is m at (suc more) o h =
     elim (cases_Bool (is_start m at)) [
       | inr l ↦
           let rest : first_start m (at + 1) more ≡ Some o =
-              sym (ap (λ (b : Bool). cond b (Some at) (first_start m (at + 1) more)) l) ∙ h in
+          sym (ap (λ (b : Bool). cond b (Some at) (first_start m (at + 1) more)) l) ∙ h in
           let f = first_start_is m (at + 1) more o rest in
           record {
             low = omega (arith, f.low);
@@ -304,8 +304,11 @@ module _ (m : Contents) (spans : Spans m) where
         let l = led m p e.0 e.1 in
         let later : e.0.0 ≤ q.0 = behind k e.0 q rest in
         let some = spans.some p.0 l.instr l.spelled in
-        record { later = omega (arith, l.to); far = λ i sp. let same : i
-            ≡ l.instr = same_ok (fetched m.code p.0) i l.instr sp l.spelled in rw same (omega (arith, l.to)) }
+        record {
+          later = omega (arith, l.to);
+          far = λ i sp. let same : i
+              ≡ l.instr = same_ok (fetched m.code p.0) i l.instr sp l.spelled in rw same (omega (arith, l.to));
+        }
   ]
 
   -- of two places on one trail, they are the same or one lies behind the other
@@ -389,7 +392,7 @@ walk_beyond : (n : ℕ) (m : Contents) (at : ℕ) (before after : Option State) 
 unfolding walk
 walk_beyond n m at before after i target low sp j =
     ap (λ (b : Bool). cond b (state_at m at before) (walk_past m (λ to after. walk n m to after target) at before
-        (fetched m.code at))) (eqb-apart target at (λ e. omega arith))
+    (fetched m.code at))) (eqb-apart target at (λ e. omega arith))
     ∙ ap (walk_past m (λ to after. walk n m to after target) at before) sp
     ∙ ap (walk_on (λ to after. walk n m to after target) (at + i.len)) j
 
@@ -418,7 +421,7 @@ module _ (n : ℕ) (m : Contents) (at : ℕ) (before : Option State) where
   past_starts_is : (i : Instr) (after : Option State) (found : Option ℕ) (v : Verdict) → fetched m.code at ≡ Ok i
       → judged_at m at before i ≡ Ok after → first_start m (at + 1) (i.len - 1) ≡ found
       → past_starts (λ to after. judge n m to after) (at + i.len) after found ≡ v
-          → Passed n m at before v ⊎ ((r : Breach) × (v ≡ Err r) × Halted m at before r.rule r.offset)
+      → Passed n m at before v ⊎ ((r : Breach) × (v ≡ Err r) × Halted m at before r.rule r.offset)
   past_starts_is i after (Some o) v sp j l h =
       inr (record { rule = rules.InstructionStart; offset = o }, sym h, at_start_within refl sp j l)
   past_starts_is i after None v sp j l h =
@@ -427,13 +430,13 @@ module _ (n : ℕ) (m : Contents) (at : ℕ) (before : Option State) where
   past_rule_is : (i : Instr) (judged : Result (Option State) Rule) (v : Verdict) → fetched m.code at ≡ Ok i
       → judged_at m at before i ≡ judged
       → past_rule m (λ to after. judge n m to after) at i.len judged ≡ v
-          → Passed n m at before v ⊎ ((r : Breach) × (v ≡ Err r) × Halted m at before r.rule r.offset)
+      → Passed n m at before v ⊎ ((r : Breach) × (v ≡ Err r) × Halted m at before r.rule r.offset)
   past_rule_is i (Err u) v sp j h = inr (record { rule = u; offset = at }, sym h, at_rule refl sp j)
   past_rule_is i (Ok after) v sp j h = past_starts_is i after (first_start m (at + 1) (i.len - 1)) v sp j refl h
 
   past_spelling_is : (fetch : Result Instr DecodeFault) (v : Verdict) → fetched m.code at ≡ fetch
       → past_spelling m (λ to after. judge n m to after) at before fetch ≡ v
-          → Passed n m at before v ⊎ ((r : Breach) × (v ≡ Err r) × Halted m at before r.rule r.offset)
+      → Passed n m at before v ⊎ ((r : Breach) × (v ≡ Err r) × Halted m at before r.rule r.offset)
   past_spelling_is (Err e) v sp h = inr (record { rule = rules.Spelling; offset = at }, sym h, at_spelling refl refl sp)
   past_spelling_is (Ok i) v sp h = past_rule_is i (judged_at m at before i) v sp refl h
 
@@ -443,7 +446,7 @@ module _ (n : ℕ) (m : Contents) (at : ℕ) (before : Option State) where
   judge_step v low h =
       let e : past_spelling m (λ to after. judge n m to after) at before (fetched m.code at) ≡ v =
       sym (ap (λ (b : Bool). cond b (at_the_end at before) (past_spelling m (λ to after. judge n m to after) at before
-          (fetched m.code at))) (leb-false (length m.code) at low)) ∙ h in
+      (fetched m.code at))) (leb-false (length m.code) at low)) ∙ h in
       past_spelling_is (fetched m.code at) v refl e
 
 pub judge_end : (n : ℕ) (m : Contents) (at : ℕ) (before : Option State) → length m.code ≤ at
@@ -469,8 +472,13 @@ states_of m = λ target. walk (length m.code) m 0 (Some (root_state m)) target
 
 at_start : (m : Contents) → OnWay m (verdict m) 0 (Some (root_state m))
 at_start m =
-    record { fuel = length m.code; enough = omega arith; inside = omega arith; verdict = refl;
-    states = λ target low. refl }
+    record {
+      fuel = length m.code;
+      enough = omega arith;
+      inside = omega arith;
+      verdict = refl;
+      states = λ target low. refl;
+    }
 
 module _ (m : Contents) (spans : Spans m) where
   -- one instruction further
@@ -522,8 +530,7 @@ module _ (m : Contents) (spans : Spans m) where
         let some = spans.some at i sp in
         let low : at < length m.code = omega arith in
         elim w.fuel as (λ n. length m.code ≤ at + n → judge n m at before ≡ Ok tt
-            → ((target : ℕ) → at ≤ target → states_of m target ≡ walk n m at before target) → OnWay m (Ok tt) to after)
-            [
+        → ((target : ℕ) → at ≤ target → states_of m target ≡ walk n m at before target) → OnWay m (Ok tt) to after) [
           | zero ↦ λ enough h states. absurd (omega arith)
           | suc n ↦ λ enough h states.
               let p = accepted_step at before n low h in
@@ -532,10 +539,10 @@ module _ (m : Contents) (spans : Spans m) where
               let same_s : step.state ≡ s = same_some (state_at m at before) step.state s step.stands st in
               let to' : at + p.instr.len ≡ to = ap (λ (j : Instr). at + j.len) same_i ∙ sym to_is in
               let after' : p.after ≡ after =
-                  step.after_is ∙ ap (λ (j : Instr). falling (rule_at m at j step.state)) same_i
-                  ∙ ap (λ (t : State). falling (rule_at m at i t)) same_s ∙ sym after_is in
+              step.after_is ∙ ap (λ (j : Instr). falling (rule_at m at j step.state)) same_i
+              ∙ ap (λ (t : State). falling (rule_at m at i t)) same_s ∙ sym after_is in
               subst (λ (q : Place). OnWay m (Ok tt) q.0 q.1) (pair_is to' after')
-                  (goes_further (Ok tt) at before n enough states p)
+              (goes_further (Ok tt) at before n enough states p)
         ] w.enough w.verdict w.states
 
     -- a start that the tables tell is one
@@ -563,8 +570,8 @@ module _ (m : Contents) (spans : Spans m) where
     each_holds at before low r =
         let w = on_way r in
         elim w.fuel as (λ n. length m.code ≤ at + n → judge n m at before ≡ Ok tt
-            → ((target : ℕ) → at ≤ target → states_of m target ≡ walk n m at before target)
-            → HoldsAt m (states_of m) at before) [
+        → ((target : ℕ) → at ≤ target → states_of m target ≡ walk n m at before target)
+        → HoldsAt m (states_of m) at before) [
           | zero ↦ λ enough h states. absurd (omega arith)
           | suc n ↦ λ enough h states.
               let p = accepted_step at before n low h in
@@ -575,9 +582,9 @@ module _ (m : Contents) (spans : Spans m) where
     nothing_falls_off before r =
         let w = on_way r in
         let e : at_the_end (length m.code) before ≡ Ok tt =
-            sym (judge_end w.fuel m (length m.code) before (omega arith)) ∙ w.verdict in
+        sym (judge_end w.fuel m (length m.code) before (omega arith)) ∙ w.verdict in
         elim before as (λ b. at_the_end (length m.code) b ≡ Ok tt → b ≡ None)
-            [ None ↦ λ h. refl | Some s ↦ λ h. absurd (cc) ] e
+        [ None ↦ λ h. refl | Some s ↦ λ h. absurd (cc) ] e
 
     pub accepted_is_certified : IsCertified m
     accepted_is_certified = record {
@@ -619,7 +626,7 @@ module _ (m : Contents) (spans : Spans m) where
             let r' : Reaches m at b = subst (λ x. Reaches m x b) e r in
             let same : b ≡ before = one_way m spans at b before r' a.reached in
             subst (λ (p : Place). HoldsAt m (states_of m) p.0 p.1) (pair_is (sym e) (sym same))
-                (holds_at at before after i n sp j (a.states at (omega arith)))
+            (holds_at at before after i n sp j (a.states at (omega arith)))
         | inr d ↦ absurd (none_within m spans at q before b i sp (omega arith) (omega arith) a.reached r)
       ]
     ];
@@ -651,13 +658,13 @@ module _ (m : Contents) (spans : Spans m) where
       let same : ◌≡◌ {A = Verdict} (refused rules.Flow at) (Err r) = h in
       let r_is : record { rule = rules.Flow; offset = at } ≡ r = cc in
       subst (λ (r : Breach). IsRefused m r.rule r.offset) r_is
-          (record { states = states_of m; holds = a.below; broken = fallen_off refl e a.reached })
+      (record { states = states_of m; holds = a.below; broken = fallen_off refl e a.reached })
 
   judged_is_refused : (n at : ℕ) (before : Option State) (r : Breach) → Arrived at before n
       → judge n m at before ≡ Err r → IsRefused m r.rule r.offset
   judged_is_refused zero at before r a h =
       ended_is_refused at before zero r (omega (arith, a.enough, a.inside)) a
-          (sym (judge_end zero m at before (omega (arith, a.enough))) ∙ h)
+      (sym (judge_end zero m at before (omega (arith, a.enough))) ∙ h)
   judged_is_refused (suc n) at before r a h = elim (cases_lt at (length m.code)) [
     | inr high ↦ ended_is_refused at before (suc n) r (omega (arith, a.inside)) a
         (sym (judge_end (suc n) m at before high) ∙ h)
@@ -666,7 +673,7 @@ module _ (m : Contents) (spans : Spans m) where
           let same : ◌≡◌ {A = Verdict} (Err r) (Err x.0) = x.1 in
           let r_is : x.0 ≡ r = cc in
           subst (λ (r : Breach). IsRefused m r.rule r.offset) r_is
-              (halted_is_refused at before n x.0.rule x.0.offset low a x.2)
+          (halted_is_refused at before n x.0.rule x.0.offset low a x.2)
       | inl p ↦
           let step = stepped m at before p.instr p.after p.judged in
           let some = spans.some at p.instr p.spelled in

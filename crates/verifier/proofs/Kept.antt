@@ -59,10 +59,11 @@ found_keeps code_len procedures low at [] t all h = absurd (cc)
 found_keeps code_len procedures low at (row ∷ rows) t all h = elim (eqb_tells row.offset at) [
   | inl e ↦
       let here : Some row ≡ Some t =
-          sym (ap (λ (b : Bool). cond b (Some row) (find (λ row. row.offset == at) rows)) e.0) ∙ h in
-      let same : row ≡ t = cc in
-      (subst (λ (r : Label). r.offset ≡ at) same e.1,
-          subst (λ (r : Label). r.offset < code_len) same all.0.offset.in_code)
+      sym (ap (λ (b : Bool). cond b (Some row) (find (λ row. row.offset == at) rows)) e.0) ∙ h in
+      let same : row ≡ t = cc in (
+        subst (λ (r : Label). r.offset ≡ at) same e.1,
+        subst (λ (r : Label). r.offset < code_len) same all.0.offset.in_code,
+      )
   | inr e ↦ found_keeps code_len procedures row.offset at rows t all.1
       (sym (ap (λ (b : Bool). cond b (Some row) (find (λ row. row.offset == at) rows)) e.0) ∙ h)
 ]

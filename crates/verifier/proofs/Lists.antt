@@ -33,8 +33,12 @@ total_set (x ∷ xs) (suc p) d e h = let rest = total_set xs p d e h in omega ar
 pub ready_same : (tasks : List Task) (p : ℕ) (t : Task) (q : ℕ) → t.condition ≡ Ready → IsReadyAt tasks q
     → IsReadyAt (slice_set tasks p t) q
 ready_same tasks p t q ready r = elim (cases_eq p q) [
-  | inl e ↦ record { task = t; here = subst (λ n. slice_get (slice_set tasks p t) n ≡ Some t) e
-      (got_set tasks p r.task t (subst (λ n. slice_get tasks n ≡ Some r.task) (sym e) r.here)); ready = ready }
+  | inl e ↦ record {
+    task = t;
+    here = subst (λ n. slice_get (slice_set tasks p t) n ≡ Some t) e
+        (got_set tasks p r.task t (subst (λ n. slice_get tasks n ≡ Some r.task) (sym e) r.here));
+    ready = ready;
+  }
   | inr differ ↦ record { task = r.task; here = got_other tasks p q t differ ∙ r.here; ready = r.ready }
 ]
 
@@ -47,9 +51,10 @@ all_ready_same tasks p t (q ∷ qs) ready all =
 pub all_ready_without : (tasks : List Task) (p : ℕ) (t : Task) (qs : List ℕ) → IsAbsent p qs → AllReady tasks qs
     → AllReady (slice_set tasks p t) qs
 all_ready_without tasks p t [] absent all = tt
-all_ready_without tasks p t (q ∷ qs) absent all =
-    (record { task = all.0.task; here = got_other tasks p q t absent.0 ∙ all.0.here; ready = all.0.ready },
-        all_ready_without tasks p t qs absent.1 all.1)
+all_ready_without tasks p t (q ∷ qs) absent all = (
+  record { task = all.0.task; here = got_other tasks p q t absent.0 ∙ all.0.here; ready = all.0.ready },
+  all_ready_without tasks p t qs absent.1 all.1,
+)
 
 -- who is not ready stands in no line
 pub absent_by_condition : (tasks : List Task) (p : ℕ) (t : Task) (qs : List ℕ) → slice_get tasks p ≡ Some t

@@ -41,7 +41,7 @@ unfolding judge
 further-by m at zero before low enough same = absurd (omega arith)
 further-by m at (suc n) before low enough same =
     let inside : leb (length m.code) at ≡ false =
-        elim (leb_tells (length m.code) at) [ inl t ↦ absurd (omega (arith, t.1)) | inr t ↦ t.0 ] in
+    elim (leb_tells (length m.code) at) [ inl t ↦ absurd (omega (arith, t.1)) | inr t ↦ t.0 ] in
     record {
       fuel = n;
       enough = enough;
@@ -66,7 +66,7 @@ judged-is : (m : Contents) (at : ℕ) (before : Option State) (i : Instr) (judge
 judged-is m at before i judged low w sp j =
     let f = further m at before low w in
     sym f.same ∙ ap (past_spelling m (λ to after. judge f.fuel m to after) at before) sp
-        ∙ ap (past_rule m (λ to after. judge f.fuel m to after) at i.len) j
+    ∙ ap (past_rule m (λ to after. judge f.fuel m to after) at i.len) j
 
 -- where a rule is broken
 pub broken-is : (m : Contents) (at : ℕ) (v : Rule) (before : Option State) (i : Instr) → at < length m.code
@@ -79,7 +79,7 @@ pub hidden-is : (m : Contents) (at o : ℕ) (before after : Option State) (i : I
     → first_start m (at + 1) (i.len - 1) ≡ Some o → verdict m ≡ refused rules.InstructionStart o
 hidden-is m at o before after i low w sp j l =
     judged-is m at before i (Ok after) low w sp j
-        ∙ ap (past_starts (λ to after. judge (further m at before low w).fuel m to after) (at + i.len) after) l
+    ∙ ap (past_starts (λ to after. judge (further m at before low w).fuel m to after) (at + i.len) after) l
 
 -- where the pass goes on
 pub goes-on : (m : Contents) (at : ℕ) (before after : Option State) (i : Instr) → Spans m → at < length m.code

@@ -55,9 +55,10 @@ labels-rise : (code_len : ℕ) (procedures : List Procedure) (low at : ℕ) (row
     → InOrder (LabelKeeps code_len procedures) behind_label low (map label_of rows)
     → RiseFrom (λ row. row.offset) at rows
 labels-rise code_len procedures low at [] h keeps = tt
-labels-rise code_len procedures low at (row ∷ rows) h keeps =
-    (omega (arith, keeps.0.offset.rises),
-    labels-rise code_len procedures row.offset (row.offset + 1) rows (omega arith) keeps.1)
+labels-rise code_len procedures low at (row ∷ rows) h keeps = (
+  omega (arith, keeps.0.offset.rises),
+  labels-rise code_len procedures row.offset (row.offset + 1) rows (omega arith) keeps.1,
+)
 
 labels-first : (m : Contents) (rows : List LabelRow) → Keeps m → m.labels ≡ map label_of rows → LabelsLeft m 0 rows
 labels-first m rows keeps is = record {
@@ -71,8 +72,11 @@ labels-first m rows keeps is = record {
 pub labels-on : (m : Contents) (at : ℕ) (rows : List LabelRow) → LabelsLeft m at rows
     → ((row : LabelRow) (later : List LabelRow) → rows ≡ row ∷ later → row.offset ≢ at) → LabelsLeft m (at + 1) rows
 labels-on m at rows a h =
-    record { rise = rise-on (λ row. row.offset) at rows a.rise h; sound = a.sound;
-    same = λ o l. a.same o (omega arith) }
+    record {
+      rise = rise-on (λ row. row.offset) at rows a.rise h;
+      sound = a.sound;
+      same = λ o l. a.same o (omega arith);
+    }
 
 -- no row stands at the offset
 pub labels-none : (m : Contents) (at : ℕ) (rows : List LabelRow) → LabelsLeft m at rows
@@ -119,9 +123,11 @@ procedures-rise : (version : Version) (code_len low at : ℕ) (rows : List Proce
     → InOrder (ProcedureKeeps version code_len) behind_procedure low (map procedure_of rows)
     → RiseFrom (λ row. row.entry) at rows
 procedures-rise version code_len low at [] h keeps = tt
-procedures-rise version code_len low at (row ∷ rows) h keeps =
-    (omega (arith, keeps.0.rises), procedures-rise version code_len row.entry (row.entry + 1) rows
-    (omega arith) keeps.1)
+procedures-rise version code_len low at (row ∷ rows) h keeps = (
+  omega (arith, keeps.0.rises),
+  procedures-rise version code_len row.entry (row.entry + 1) rows
+      (omega arith) keeps.1,
+)
 
 procedures-first : (m : Contents) (rows : List ProcedureRow) → Keeps m → m.procedures ≡ map procedure_of rows
     → ProceduresLeft m 0 1 rows
@@ -137,8 +143,12 @@ pub procedures-on : (m : Contents) (at context : ℕ) (rows : List ProcedureRow)
     → ((row : ProcedureRow) (later : List ProcedureRow) → rows ≡ row ∷ later → row.entry ≢ at)
     → ProceduresLeft m (at + 1) context rows
 procedures-on m at context rows a h =
-    record { rise = rise-on (λ row. row.entry) at rows a.rise h; same = λ o l. a.same o (omega arith);
-    behind_root = a.behind_root; rest = a.rest }
+    record {
+      rise = rise-on (λ row. row.entry) at rows a.rise h;
+      same = λ o l. a.same o (omega arith);
+      behind_root = a.behind_root;
+      rest = a.rest;
+    }
 
 pub procedures-none : (m : Contents) (at context : ℕ) (rows : List ProcedureRow) → ProceduresLeft m at context rows
     → ((row : ProcedureRow) (later : List ProcedureRow) → rows ≡ row ∷ later → row.entry ≢ at)
@@ -191,7 +201,7 @@ label-before m at more (row ∷ rows) a h = (
     | inr high ↦ high
     | inl low ↦
         let clash : None ≡ Some (label_of row) =
-            sym (h row.offset a.rise.0 low) ∙ (a.same row.offset a.rise.0 ∙ label-here row rows row.offset refl) in
+        sym (h row.offset a.rise.0 low) ∙ (a.same row.offset a.rise.0 ∙ label-here row rows row.offset refl) in
         absurd (cc)
   ],
   a.rise.1,
@@ -207,7 +217,7 @@ procedure-before m at more context (row ∷ rows) a h = (
         let here : procedure_at m row.entry ≡ Some (record { context = context; procedure = procedure_of row }) =
         a.same row.entry a.rise.0 ∙ from-here context row.entry (procedure_of row) (map procedure_of rows) refl in
         let clash : None ≡ Some (record { context = context; procedure = procedure_of row }) =
-            sym (h row.entry a.rise.0 low) ∙ here in
+        sym (h row.entry a.rise.0 low) ∙ here in
         absurd (cc)
   ],
   a.rise.1,
@@ -227,7 +237,7 @@ pub left-further : (m : Contents) (at more : ℕ) (rows : Rows) → AreLeft m at
     → AreLeft m (at + more) rows
 left-further m at more rows a none =
     let nothing : (o : ℕ) → at ≤ o → o < at + more → (label_at m o ≡ None) × (procedure_at m o ≡ None) =
-        λ o low high. start_of_none m o (no_first_start m at more none o low high) in
+    λ o low high. start_of_none m o (no_first_start m at more none o low high) in
     record {
       labels = record {
         rise = label-before m at more rows.labels.now a.labels (λ o low high. (nothing o low high).0);

@@ -37,14 +37,14 @@ owner_of_root first [] some = refl
 owner_of_root first (row ∷ rows) some =
     let rest = owner_of_root (first + length row.branches) rows (omega arith) in
     ap (λ n. if ltb n first then n else row.context) rest
-        ∙ ap (λ (b : Bool). if b then 0 else row.context) (le-leb 1 first some)
+    ∙ ap (λ (b : Bool). if b then 0 else row.context) (le-leb 1 first some)
 
 root_is : (m : Contents) → context_at m 0 ≡ Some (root_context m)
 unfolding context_at
 root_is m =
     let first : ℕ = 1 + length m.procedures in
     ap (λ (b : Bool). if b then own_context m (owner first m.pars 0) else None)
-        (le-leb 1 (first + branch_count m.pars) (omega arith))
+    (le-leb 1 (first + branch_count m.pars) (omega arith))
     ∙ ap (own_context m) (owner_of_root first m.pars (omega arith))
 
 memory_length : (m : Contents) → length (loaded_memory m) ≡ 4 * m.data_words + length m.code + padding
@@ -69,9 +69,9 @@ root_writes_word : (m : Contents) (place : ℕ) → place + 4 ≤ 4 * m.data_wor
 unfolding may_write_word
 root_writes_word m place low =
     ap (λ (b : Bool). b && may_write (root_holding m) (place + 1) && may_write (root_holding m) (place + 2)
-        && may_write (root_holding m) (place + 3)) (root_writes m place (omega arith))
+    && may_write (root_holding m) (place + 3)) (root_writes m place (omega arith))
     ∙ ap (λ (b : Bool). b && may_write (root_holding m) (place + 2) && may_write (root_holding m) (place + 3))
-        (root_writes m (place + 1) (omega arith))
+    (root_writes m (place + 1) (omega arith))
     ∙ ap (λ (b : Bool). b && may_write (root_holding m) (place + 3)) (root_writes m (place + 2) (omega arith))
     ∙ root_writes m (place + 3) (omega arith)
 
@@ -173,9 +173,9 @@ module _ (m : Contents) (d : Decodes m) (wf : IsWellFormed m) (c : IsCertified m
   loaded_holds : Holds m (loaded m)
   loaded_holds =
       let en = enter m d wf c (root_holding m) machine_modes.Plain root_activation 0
-          (root_state m) root_local begins wf.some_code root_after in
+      (root_state m) root_local begins wf.some_code root_after in
       let lives = lives_at m d wf c (root_holding m) machine_modes.Plain en.act 0
-          (Some (root_state m)) en.state root_local begins wf.some_code en.stands en.after in
+      (Some (root_state m)) en.state root_local begins wf.some_code en.stands en.after in
       record {
         dues = en.state.number ∷ [];
         table = record {

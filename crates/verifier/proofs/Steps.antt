@@ -68,7 +68,7 @@ four_readable h place e =
 pub knows_agree : (m : Contents) (h : Holding) (reads : ℤ → Bool) (s : State) (act : Activation) (r : Registers)
     (memory later : Memory) → ((k : ℤ) → reads k ≡ true → IsReadableWord h (length memory) act.origin k)
     → ((place : ℕ) → may_read h place ≡ true → byte_at later place ≡ byte_at memory place)
-        → Knows m reads s act r memory → Knows m reads s act r later
+    → Knows m reads s act r memory → Knows m reads s act r later
 knows_agree m h reads s act r memory later readable agree known = record {
   stack = known.stack;
   words = λ k. elim (cases_Bool (reads k)) [
@@ -84,7 +84,7 @@ knows_agree m h reads s act r memory later readable agree known = record {
         let w = readable k inside in
         let four = four_readable h w.place w.readable in
         let at : (place : ℕ) → may_read h place ≡ true → byte_at memory place ≡ byte_at later place =
-            λ place e. sym (agree place e) in
+        λ place e. sym (agree place e) in
         frame_word_is memory act.origin k w.place w.is
         ∙ word_same memory later w.place (at _ four.0) (at _ four.1) (at _ four.2) (at _ four.3)
         ∙ sym (ap (word_at_place later) (sym w.is))
@@ -135,14 +135,14 @@ longer zero bytes operand taken i h = absurd (cc)
 longer (suc fuel) [] operand taken i h = absurd (cc)
 longer (suc fuel) (byte ∷ bytes) operand taken i h =
     on_function (fun_of (function_code byte))
-        (λ e. longer fuel bytes (after_prefix (function_code byte) (with_nibble operand (nibble byte)))
-        (taken + 1) i e) h
+    (λ e. longer fuel bytes (after_prefix (function_code byte) (with_nibble operand (nibble byte)))
+    (taken + 1) i e) h
   where
     on_function : (f : Option Fun) → (read fuel bytes (after_prefix (function_code byte)
         (with_nibble operand (nibble byte))) (taken + 1) ≡ Ok i → taken + 1 < i.len)
         → ended_or f (with_nibble operand (nibble byte)) (taken + 1)
-            (read fuel bytes (after_prefix (function_code byte) (with_nibble operand (nibble byte))) (taken + 1)) ≡ Ok i
-            → taken < i.len
+        (read fuel bytes (after_prefix (function_code byte) (with_nibble operand (nibble byte))) (taken + 1)) ≡ Ok i
+        → taken < i.len
     on_function (Some f) later e =
         let same : record { fun = f; operand = with_nibble operand (nibble byte); len = taken + 1 } ≡ i = cc in
         let len : taken + 1 ≡ i.len = ap (λ (j : Instr). j.len) same in
@@ -201,8 +201,8 @@ module _ (m : Contents) (d : Decodes m) (wf : IsWellFormed m) (c : IsCertified m
   enter_on : (h : Holding) (mode : machine.Mode) (act : Activation) (at : ℕ) (s : State) (l : Local) (cost : ℕ)
       (label : Option Label) (begun : Option Begun) → label_at m at ≡ label → procedure_at m at ≡ begun
       → After m h mode act s l → elim label as (λ o. Result ℕ Rule)
-          [ None ↦ cond (is_some begun) (Err rules.Flow) (Ok 0) | Some t ↦ below s t ] ≡ Ok cost
-          → Entered h mode at s.number (Some s) l
+      [ None ↦ cond (is_some begun) (Err rules.Flow) (Ok 0) | Some t ↦ below s t ] ≡ Ok cost
+      → Entered h mode at s.number (Some s) l
   enter_on h mode act at s l cost None None no_label no_procedure a ok = record {
     state = s;
     stands = nothing_given m at (Some s) (given_none m at no_label no_procedure);
@@ -230,8 +230,11 @@ module _ (m : Contents) (d : Decodes m) (wf : IsWellFormed m) (c : IsCertified m
   -- between two instructions
   pub lives_at : (h : Holding) (mode : machine.Mode) (act : Activation) (at : ℕ) (before : Option State) (s : State)
       (l : Local) → Reaches m at before → at < length m.code → state_at m at before ≡ Some s
-      → After m h mode act s l → Lives m h l.memory (record { registers = between at l.registers; mode = mode;
-          condition = Ready }) s.number
+      → After m h mode act s l → Lives m h l.memory (record {
+        registers = between at l.registers;
+        mode = mode;
+        condition = Ready;
+      }) s.number
   lives_at h mode act at before s l r low st a =
       let holds = c.holds.each at before low r in
       record {
@@ -243,8 +246,13 @@ module _ (m : Contents) (d : Decodes m) (wf : IsWellFormed m) (c : IsCertified m
           instr = holds.instr;
           taken = 0;
           reading =
-              record { fuel = 8; whole = refl; at_is = omega arith; spelled = holds.spelled;
-              rest = d.reads at holds.instr holds.spelled };
+              record {
+                fuel = 8;
+                whole = refl;
+                at_is = omega arith;
+                spelled = holds.spelled;
+                rest = d.reads at holds.instr holds.spelled;
+              };
           act = act;
           frame = subst (λ n. HasFrame h n (rights.may_write_word m s.context)
               (rights.may_read_word m s.context) act.origin s.depth l.registers.workspace) (sym size) a.frame;
@@ -264,13 +272,21 @@ module _ (m : Contents) (d : Decodes m) (wf : IsWellFormed m) (c : IsCertified m
   -- how the rule at the process's point and the step fit, with the whole instruction read
   abbrev pub here_of : Holding → Activation → Memory → Task → State → Instr → Here
   here_of h act memory t s i =
-      record { m = m; h = h; act = act; mode = t.mode; memory = memory; number = s.number; at = t.registers.began;
-      len = i.len }
+      record {
+        m = m;
+        h = h;
+        act = act;
+        mode = t.mode;
+        memory = memory;
+        number = s.number;
+        at = t.registers.began;
+        len = i.len;
+      }
 
   pub point_fits : (h : Holding) (memory : Memory) (t : Task) (due : ℕ) (p : Stands m h memory t due)
       → Fits (here_of h p.act memory t p.state p.instr) (rule_at m t.registers.began p.instr p.state)
       (local_step (step_site (here_of h p.act memory t p.state p.instr)) p.instr.fun p.instr.operand
-          (record { registers = t.registers; memory = memory }))
+      (record { registers = t.registers; memory = memory }))
   point_fits h memory t due p =
       let x = here_of h p.act memory t p.state p.instr in
       function_fits x wf p.state (record { registers = t.registers; memory = memory })
@@ -285,11 +301,11 @@ module _ (m : Contents) (d : Decodes m) (wf : IsWellFormed m) (c : IsCertified m
   unbroken h memory t due p low v e =
       let holds = c.holds.each t.registers.began p.before low p.reached in
       let i_is : p.instr ≡ holds.instr =
-          same_ok (fetched m.code t.registers.began) p.instr holds.instr p.reading.spelled holds.spelled in
+      same_ok (fetched m.code t.registers.began) p.instr holds.instr p.reading.spelled holds.spelled in
       let s_is : p.state ≡ holds.state =
-          same_some (state_at m t.registers.began p.before) p.state holds.state p.stands holds.stands in
+      same_some (state_at m t.registers.began p.before) p.state holds.state p.stands holds.stands in
       holds.unbroken v (ap (λ j. rule_at m t.registers.began j holds.state) (sym i_is) ∙ ap
-          (λ u. rule_at m t.registers.began p.instr u) (sym s_is) ∙ e)
+      (λ u. rule_at m t.registers.began p.instr u) (sym s_is) ∙ e)
 
   began_inside : (h : Holding) (memory : Memory) (t : Task) (due : ℕ) (p : Stands m h memory t due)
       → t.registers.began < length m.code
@@ -309,14 +325,19 @@ module _ (m : Contents) (d : Decodes m) (wf : IsWellFormed m) (c : IsCertified m
   owes h memory t due p =
       let pay = can_pay h memory t due p in
       let more =
-          longer p.reading.fuel (drop t.registers.at m.code) t.registers.operand p.taken p.instr p.reading.rest in
+      longer p.reading.fuel (drop t.registers.at m.code) t.registers.operand p.taken p.instr p.reading.rest in
       omega (arith, p.paid)
 
   -- a prefix: the process is one byte further in its instruction
   pub prefixed_stands : (h : Holding) (memory : Memory) (t : Task) (due byte : ℕ) → Stands m h memory t (suc due)
       → slice_get m.code t.registers.at ≡ Some byte → fun_of (function_code byte) ≡ None
-      → Stands m h memory (record t { registers = record t.registers { at = t.registers.at + 1; operand = after_prefix
-          (function_code byte) (with_nibble t.registers.operand (nibble byte)) } }) due
+      → Stands m h memory (record t {
+        registers = record t.registers {
+          at = t.registers.at + 1;
+          operand = after_prefix
+              (function_code byte) (with_nibble t.registers.operand (nibble byte));
+        };
+      }) due
   prefixed_stands h memory t due byte p here none =
       let b = byte_here m t.registers p.instr p.taken p.reading in
       let same : b.byte ≡ byte = same_some (slice_get m.code t.registers.at) b.byte byte b.here here in
@@ -334,9 +355,9 @@ module _ (m : Contents) (d : Decodes m) (wf : IsWellFormed m) (c : IsCertified m
           spelled = p.reading.spelled;
           rest = after_none (fun_of (function_code byte)) _ _ _ p.instr none
               (subst (λ y. ended_or (fun_of (function_code y)) (with_nibble t.registers.operand (nibble y))
-                  (p.taken + 1) (read b.fuel (drop (t.registers.at + 1) m.code)
-                  (after_prefix (function_code y) (with_nibble t.registers.operand (nibble y))) (p.taken + 1))
-                  ≡ Ok p.instr) same b.rest);
+              (p.taken + 1) (read b.fuel (drop (t.registers.at + 1) m.code)
+              (after_prefix (function_code y) (with_nibble t.registers.operand (nibble y))) (p.taken + 1))
+              ≡ Ok p.instr) same b.rest);
         };
         act = p.act;
         frame = p.frame;
@@ -360,8 +381,12 @@ module _ (m : Contents) (d : Decodes m) (wf : IsWellFormed m) (c : IsCertified m
   pub data Comes (h : Holding) (memory : Memory) (t : Task) (due : ℕ) : Outcome → Type 0 where
     -- it goes on behind it
     comes_on : {l : Local} (later : ℕ) → ChangesOwn h memory l.memory
-        → Lives m h l.memory (record { registers = between (t.registers.at + 1) l.registers; mode = t.mode; condition =
-        Ready }) later → later + 1 ≤ due → Comes h memory t due (goes l)
+        → Lives m h l.memory (record {
+          registers = between (t.registers.at + 1) l.registers;
+          mode = t.mode;
+          condition =
+              Ready;
+        }) later → later + 1 ≤ due → Comes h memory t due (goes l)
     -- or at a label
     comes_to : {to : ℕ} {l : Local} (later : ℕ) → ChangesOwn h memory l.memory
         → Lives m h l.memory (record { registers = between to l.registers; mode = t.mode; condition = Ready }) later
@@ -374,21 +399,25 @@ module _ (m : Contents) (d : Decodes m) (wf : IsWellFormed m) (c : IsCertified m
       → Fits (here_of h p.act memory t p.state p.instr) r o → Comes h memory t due o
   comes h memory t due p r o e last (it_falls {s = s'} {l = l} low after changes pay) =
       let next : Reaches m (t.registers.began + p.instr.len) (Some s') =
-          follows p.reached p.stands p.reading.spelled refl (ap falling e) in
+      follows p.reached p.stands p.reading.spelled refl (ap falling e) in
       let at : t.registers.began + p.instr.len ≡ t.registers.at + 1 = omega (arith, p.reading.at_is) in
       let en = enter h t.mode p.act (t.registers.began + p.instr.len) s' l next low after in
       let lives =
-          lives_at h t.mode en.act (t.registers.began + p.instr.len) (Some s') en.state l next low en.stands en.after in
+      lives_at h t.mode en.act (t.registers.began + p.instr.len) (Some s') en.state l next low en.stands en.after in
       comes_on en.state.number changes
-      (subst (λ n. Lives m h l.memory (record { registers = between n l.registers; mode = t.mode; condition =
-          Ready }) en.state.number) at lives)
+      (subst (λ n. Lives m h l.memory (record {
+        registers = between n l.registers;
+        mode = t.mode;
+        condition =
+            Ready;
+      }) en.state.number) at lives)
       (omega (arith, p.paid, en.paid))
   comes h memory t due p r o e last (it_leads {to = to} {l = l} {t = label} turns is low after changes pay) =
       let r = c.holds.starts to low (label_is_start m to label is) in
       let st : state_at m to r.0 ≡ Some (label_state label) =
-          is_given m to r.0 (label_state label) (given_label m to label is) in
+      is_given m to r.0 (label_state label) (given_label m to label is) in
       comes_to label.number changes (lives_at h t.mode (with_turns turns p.act) to r.0
-          (label_state label) l r.1 low st after) (omega (arith, p.paid))
+      (label_state label) l r.1 low st after) (omega (arith, p.paid))
   comes h memory t due p r o e last (it_ends changes pay) = comes_down changes (omega (arith, p.paid))
   comes h memory t due p r o e last (it_breaks {broken = v}) =
       absurd (unbroken h memory t due p (began_inside h memory t due p) v (sym e))
@@ -397,21 +426,21 @@ module _ (m : Contents) (d : Decodes m) (wf : IsWellFormed m) (c : IsCertified m
   pub comes_last : (h : Holding) (memory : Memory) (t : Task) (due byte : ℕ) (f : Fun) → Stands m h memory t due
       → slice_get m.code t.registers.at ≡ Some byte → fun_of (function_code byte) ≡ Some f
       → Comes h memory t due (local_step (site_in (t.registers.at + 1) t.mode h) f (with_nibble t.registers.operand (nibble byte))
-          (record { registers = t.registers; memory = memory }))
+      (record { registers = t.registers; memory = memory }))
   comes_last h memory t due byte f p here some =
       let b = byte_here m t.registers p.instr p.taken p.reading in
       let same : b.byte ≡ byte = same_some (slice_get m.code t.registers.at) b.byte byte b.here here in
       let rest = subst (λ y. ended_or (fun_of (function_code y)) (with_nibble t.registers.operand (nibble y))
-          (p.taken + 1) (read b.fuel (drop (t.registers.at + 1) m.code)
-          (after_prefix (function_code y) (with_nibble t.registers.operand (nibble y))) (p.taken + 1))
-          ≡ Ok p.instr) same b.rest in
+      (p.taken + 1) (read b.fuel (drop (t.registers.at + 1) m.code)
+      (after_prefix (function_code y) (with_nibble t.registers.operand (nibble y))) (p.taken + 1))
+      ≡ Ok p.instr) same b.rest in
       let is = after_some (fun_of (function_code byte)) f _ _ _ p.instr some rest in
       let at : t.registers.began + p.instr.len ≡ t.registers.at + 1 = omega (arith, p.reading.at_is, is.2) in
       subst (λ n. Comes h memory t due (local_step (site_in n t.mode h) f (with_nibble t.registers.operand (nibble byte))
-          (record { registers = t.registers; memory = memory }))) at
+      (record { registers = t.registers; memory = memory }))) at
       (subst (λ g. Comes h memory t due (local_step (step_site (here_of h p.act memory t p.state p.instr)) g
-          (with_nibble t.registers.operand (nibble byte)) (record { registers = t.registers; memory = memory })))
-          (sym is.0)
+      (with_nibble t.registers.operand (nibble byte)) (record { registers = t.registers; memory = memory })))
+      (sym is.0)
       (subst (λ e. Comes h memory t due (local_step (step_site (here_of h p.act memory t p.state p.instr)) p.instr.fun e
-          (record { registers = t.registers; memory = memory }))) (sym is.1)
+      (record { registers = t.registers; memory = memory }))) (sym is.1)
       (comes h memory t due p (rule_at m t.registers.began p.instr p.state) _ refl is.2 (point_fits h memory t due p))))

@@ -86,7 +86,7 @@ table_put : (m : Contents) (memory new : Memory) (tasks : List Task) (roles : Li
     → IsApart (held r) (held s))
     → Table m memory tasks roles dues
     → slice_get tasks p ≡ Some t → slice_get roles p ≡ Some role → slice_get dues p ≡ Some due
-        → ChangesOwn (held role) memory new → Meets m (held role) new u later
+    → ChangesOwn (held role) memory new → Meets m (held role) new u later
     → Table m new (slice_set tasks p u) roles (slice_set dues p later)
 table_put m memory new tasks roles dues p t u due later role apart table here has_role has_due changes meets =
     record { each = each }
@@ -96,7 +96,7 @@ table_put m memory new tasks roles dues p t u due later role apart table here ha
     each q v h = elim (cases_eq p q) [
       | inl e ↦
           let there : slice_get (slice_set tasks p u) q ≡ Some u =
-              subst (λ n. slice_get (slice_set tasks p u) n ≡ Some u) e (got_set tasks p t u here) in
+          subst (λ n. slice_get (slice_set tasks p u) n ≡ Some u) e (got_set tasks p t u here) in
           let same : u ≡ v = same_some (slice_get (slice_set tasks p u) q) u v there h in
           record {
             role = role;
@@ -122,8 +122,15 @@ table_put m memory new tasks roles dues p t u due later role apart table here ha
 waits_same : (tasks : List Task) (p q word : ℕ) (u : Task) → p ≢ q → WaitsOn tasks q word
     → WaitsOn (slice_set tasks p u) q word
 waits_same tasks p q word u differ w =
-    record { task = w.task; here = got_other tasks p q u differ ∙ w.here; exchange = w.exchange; done = w.done;
-    waits = w.waits; on = w.on; more = w.more }
+    record {
+      task = w.task;
+      here = got_other tasks p q u differ ∙ w.here;
+      exchange = w.exchange;
+      done = w.done;
+      waits = w.waits;
+      on = w.on;
+      more = w.more;
+    }
 
 not_waiting : (tasks : List Task) (p q word : ℕ) (t : Task) → slice_get tasks p ≡ Some t → t.condition ≡ Ready
     → WaitsOn tasks q word → p ≢ q
@@ -219,8 +226,11 @@ module _ (m : Contents) (w : World) (h : Holds m w) (p : ℕ) (r : Runs m w h.du
   was_sliced u new later pick running ready changes lives less =
       let there = went_on u new later ready changes lives less in
       let l : Line (slice_set w.tasks p u) (record { running = Some p; ready = w.queue.ready }) =
-          subst (λ o. Line (slice_set w.tasks p u) (record { running = o; ready =
-          w.queue.ready })) running there.line in
+      subst (λ o. Line (slice_set w.tasks p u) (record {
+        running = o;
+        ready =
+            w.queue.ready;
+      })) running there.line in
       let left = leave_line (slice_set w.tasks p u) p w.queue.ready l in
       let pushed = push_line (slice_set w.tasks p u) None w.queue.ready p left.0 left.2 left.1 in
       record {
@@ -240,7 +250,7 @@ module _ (m : Contents) (w : World) (h : Holds m w) (p : ℕ) (r : Runs m w h.du
   unfolding dispatch
   has_stopped u new pick b running stopped changes less =
       let l : Line w.tasks (record { running = Some p; ready = w.queue.ready }) =
-          subst (λ o. Line w.tasks (record { running = o; ready = w.queue.ready })) running h.line in
+      subst (λ o. Line w.tasks (record { running = o; ready = w.queue.ready })) running h.line in
       let left = leave_line w.tasks p w.queue.ready l in
       record {
         dues = slice_set h.dues p 0;
@@ -258,21 +268,35 @@ module _ (m : Contents) (w : World) (h : Holds m w) (p : ℕ) (r : Runs m w h.du
       → w.queue.running ≡ Some p → Comes m d wf c (held r.role) w.memory r.task r.due o
       → Holds m (settled (at_here m p r.task pick) slice o w).world
   settled_holds d wf c slice pick o running (comes_on {l = l} later changes lives less) =
-      went_on (record r.task { registers = between
-          (r.task.registers.at + 1) l.registers }) l.memory later r.ready changes
-      (subst (λ c. Lives m (held r.role) l.memory (record { registers = between (r.task.registers.at + 1) l.registers;
-          mode = r.task.mode; condition = c }) later) (sym r.ready) lives) less
+      went_on (record r.task {
+        registers = between
+            (r.task.registers.at + 1) l.registers;
+      }) l.memory later r.ready changes
+      (subst (λ c. Lives m (held r.role) l.memory (record {
+        registers = between (r.task.registers.at + 1) l.registers;
+        mode = r.task.mode;
+        condition = c;
+      }) later) (sym r.ready) lives) less
   settled_holds d wf c true pick o running (comes_to {to = to} {l = l} later changes lives less) =
       was_sliced (record r.task { registers = between to l.registers }) l.memory later pick running r.ready changes
-      (subst (λ c. Lives m (held r.role) l.memory (record { registers = between to l.registers; mode = r.task.mode;
-          condition = c }) later) (sym r.ready) lives) less
+      (subst (λ c. Lives m (held r.role) l.memory (record {
+        registers = between to l.registers;
+        mode = r.task.mode;
+        condition = c;
+      }) later) (sym r.ready) lives) less
   settled_holds d wf c false pick o running (comes_to {to = to} {l = l} later changes lives less) =
       went_on (record r.task { registers = between to l.registers }) l.memory later r.ready changes
-      (subst (λ c. Lives m (held r.role) l.memory (record { registers = between to l.registers; mode = r.task.mode;
-          condition = c }) later) (sym r.ready) lives) less
+      (subst (λ c. Lives m (held r.role) l.memory (record {
+        registers = between to l.registers;
+        mode = r.task.mode;
+        condition = c;
+      }) later) (sym r.ready) lives) less
   settled_holds d wf c slice pick o running (comes_down {l = l} changes less) =
-      has_stopped (record r.task { registers = between (r.task.registers.at + 1) l.registers; condition =
-          Stopped }) l.memory pick (eqb (r.task.registers.at + 1) m.finish) running refl changes less
+      has_stopped (record r.task {
+        registers = between (r.task.registers.at + 1) l.registers;
+        condition =
+            Stopped;
+      }) l.memory pick (eqb (r.task.registers.at + 1) m.finish) running refl changes less
 
 -- ---- a byte of the running process
 
@@ -286,23 +310,30 @@ module _ (m : Contents) (d : Decodes m) (wf : IsWellFormed m) (c : IsCertified m
   prefix_holds : (pick : ℕ) (w : World) (h : Holds m w) (p : ℕ) (r : Runs m w h.dues p) (byte : ℕ)
       → slice_get m.code r.task.registers.at ≡ Some byte → fun_of (function_code byte) ≡ None
       → Holds m (prefix_turn (at_here m p r.task pick) (after_prefix (function_code byte)
-          (with_nibble r.task.registers.operand (nibble byte))) w).world
+      (with_nibble r.task.registers.operand (nibble byte))) w).world
   prefix_holds pick w h p r byte here none =
       let now = stands_now w h p r in
       let some = owes m d wf c (held r.role) w.memory r.task r.due now in
       on_due r.due refl now some
     where
       u : Task
-      u = record r.task { registers = record r.task.registers { at = r.task.registers.at + 1; operand = after_prefix
-          (function_code byte) (with_nibble r.task.registers.operand (nibble byte)) } }
+      u = record r.task {
+        registers = record r.task.registers {
+          at = r.task.registers.at + 1;
+          operand = after_prefix
+              (function_code byte) (with_nibble r.task.registers.operand (nibble byte));
+        };
+      }
 
       on_test : (b : Bool) → ltb (r.task.registers.at + 1) (length m.code) ≡ b → r.task.registers.at + 1 < length m.code
           → Holds m (counted (put p u w.memory w))
           → Holds m (if b then answered ran (counted (put p u w.memory w)) else failed (at_here m p r.task pick) OutsideCode w).world
       on_test true e low holds = holds
-      on_test false e low holds = elim (leb_tells (suc (r.task.registers.at + 1)) (length m.code))
-          [ inl t ↦ let no' : true ≡ false = sym t.0 ∙ e in
-          absurd (cc) | inr t ↦ let high : length m.code < suc (r.task.registers.at + 1) = t.1 in absurd (omega arith) ]
+      on_test false e low holds = elim (leb_tells (suc (r.task.registers.at + 1)) (length m.code)) [
+        | inl t ↦ let no' : true ≡ false = sym t.0 ∙ e in
+            absurd (cc)
+        | inr t ↦ let high : length m.code < suc (r.task.registers.at + 1) = t.1 in absurd (omega arith)
+      ]
 
       on_due : (due : ℕ) → r.due ≡ due → Stands m (held r.role) w.memory r.task r.due → 1 ≤ r.due
           → Holds m (prefix_turn (at_here m p r.task pick) (after_prefix (function_code byte)
@@ -310,17 +341,19 @@ module _ (m : Contents) (d : Decodes m) (wf : IsWellFormed m) (c : IsCertified m
       on_due zero e now some = absurd (omega arith)
       on_due (suc due) e now some =
           let further : (later : Memory) → Stands m (held r.role) later r.task r.due
-              → Stands m (held r.role) later u due =
+          → Stands m (held r.role) later u due =
           λ later s. prefixed_stands m d wf c (held r.role) later r.task due byte
-              (subst (λ n. Stands m (held r.role) later r.task n) e s) here none in
+          (subst (λ n. Stands m (held r.role) later r.task n) e s) here none in
           let moved = further w.memory now in
           let b = byte_here m u.registers moved.instr moved.taken moved.reading in
           let low : r.task.registers.at + 1 < length m.code =
-              slice_get_within m.code (r.task.registers.at + 1) b.byte b.here in
+          slice_get_within m.code (r.task.registers.at + 1) b.byte b.here in
           on_test (ltb (r.task.registers.at + 1) (length m.code)) refl low
           (went_on m w h p r u w.memory due r.ready (record { size = refl; others = λ place e. refl })
-          (record { claim = λ later size agree bytes. further later (r.lives.claim later size agree bytes);
-              room = r.lives.room }) (omega arith))
+          (record {
+            claim = λ later size agree bytes. further later (r.lives.claim later size agree bytes);
+            room = r.lives.room;
+          }) (omega arith))
 
   -- whatever the byte is
   byte_holds : (slice : Bool) (pick : ℕ) (w : World) (h : Holds m w) (p : ℕ) → w.queue.running ≡ Some p
@@ -347,7 +380,7 @@ module _ (m : Contents) (d : Decodes m) (wf : IsWellFormed m) (c : IsCertified m
       on_function (Some f) e =
           settled_holds m w h p r d wf c slice pick (local_step (site_of (at_here m p r.task pick) w) f operand local) running
           (subst (λ g. Comes m d wf c (held r.role) w.memory r.task r.due
-              (local_step (site_in m d wf c (r.task.registers.at + 1) r.task.mode g) f operand local)) (sym held_here)
+          (local_step (site_in m d wf c (r.task.registers.at + 1) r.task.mode g) f operand local)) (sym held_here)
           (comes_last m d wf c (held r.role) w.memory r.task r.due byte f (stands_now w h p r) here e))
 
   -- a step
@@ -356,8 +389,11 @@ module _ (m : Contents) (d : Decodes m) (wf : IsWellFormed m) (c : IsCertified m
     where
       on_byte : (p : ℕ) → w.queue.running ≡ Some p → (r : Runs m w h.dues p) (o : Option ℕ)
           → slice_get m.code r.task.registers.at ≡ o
-          → Holds m (elim o as (λ o. Turn) [ None ↦ failed (at_here m p r.task pick) OutsideCode w | Some byte ↦
-              byte_turn has_body (at_here m p r.task pick) byte slice w ]).world
+          → Holds m (elim o as (λ o. Turn) [
+            | None ↦ failed (at_here m p r.task pick) OutsideCode w
+            | Some byte ↦
+                byte_turn has_body (at_here m p r.task pick) byte slice w
+          ]).world
       on_byte p running r None e =
           let now = stands_now w h p r in
           let b = byte_here m r.task.registers now.instr now.taken now.reading in
@@ -366,18 +402,21 @@ module _ (m : Contents) (d : Decodes m) (wf : IsWellFormed m) (c : IsCertified m
       on_byte p running r (Some byte) e = byte_holds slice pick w h p running r byte e
 
       on_task : (p : ℕ) → w.queue.running ≡ Some p → (o : Option Task) → slice_get w.tasks p ≡ o
-          → Holds m (elim o as (λ o. Turn) [ None ↦ answered idle w | Some task ↦
-              task_turn has_body (at_here m p task pick) slice w ]).world
+          → Holds m (elim o as (λ o. Turn) [
+            | None ↦ answered idle w
+            | Some task ↦
+                task_turn has_body (at_here m p task pick) slice w
+          ]).world
       on_task p running None e = h
       on_task p running (Some task) e =
           let r = runs m w h p running in
           let same : r.task ≡ task = same_some (slice_get w.tasks p) r.task task r.here e in
           subst (λ t. Holds m (task_turn has_body (at_here m p t pick) slice w).world) same
-              (on_byte p running r (slice_get m.code r.task.registers.at) refl)
+          (on_byte p running r (slice_get m.code r.task.registers.at) refl)
 
       on_count : (p : ℕ) → w.queue.running ≡ Some p → (b : Bool)
           → Holds m (if b then answered idle w else elim (slice_get w.tasks p) as (λ o. Turn)
-              [ None ↦ answered idle w | Some task ↦ task_turn has_body (at_here m p task pick) slice w ]).world
+          [ None ↦ answered idle w | Some task ↦ task_turn has_body (at_here m p task pick) slice w ]).world
       on_count p running true = h
       on_count p running false = on_task p running (slice_get w.tasks p) refl
 
@@ -459,8 +498,12 @@ module _ (m : Contents) (w : World) (h : Holds m w) (p : ℕ) (t : Task) (r : Wa
   woken : (new : Memory) (links : Links) → ChangesOwn (held r.role) w.memory new
       → Lives m (held r.role) new (record t { condition = Ready }) r.due
       → Waiters (slice_set w.tasks p (record t { condition = Ready })) links
-      → Holds m (record w { memory = new; tasks = slice_set w.tasks p (record t { condition = Ready }); links = links;
-          queue = record w.queue { ready = w.queue.ready ++ p ∷ [] } })
+      → Holds m (record w {
+        memory = new;
+        tasks = slice_set w.tasks p (record t { condition = Ready });
+        links = links;
+        queue = record w.queue { ready = w.queue.ready ++ p ∷ [] };
+      })
   woken new links changes lives waiters =
       let u : Task = record t { condition = Ready } in
       let there = waits_on u new links changes lives waiters in
@@ -516,7 +559,7 @@ apart_by_word tasks p q word other v w differ e =
     let there : slice_get tasks p ≡ Some w.task = subst (λ n. slice_get tasks n ≡ Some w.task) (sym e) w.here in
     let same : v.task ≡ w.task = same_some (slice_get tasks p) v.task w.task v.here there in
     let both : OnLink v.exchange v.done ≡ OnLink w.exchange w.done =
-        sym v.waits ∙ ap (λ (x : Task). x.condition) same ∙ w.waits in
+    sym v.waits ∙ ap (λ (x : Task). x.condition) same ∙ w.waits in
     let exchange : v.exchange ≡ w.exchange = cc in
     differ (sym v.on ∙ ap (λ (x : Exchange). x.channel) exchange ∙ w.on)
 
@@ -530,22 +573,22 @@ after_ack tasks links k p l u here w v = record {
       let old = w.inputs j x q a b in
       let low : k < 4 = omega (arith, slice_get_within links.outputs k l here, w.few) in
       waits_same tasks p q (input_word j) u
-          (apart_by_word tasks p q (output_word k) (input_word j) v old (λ e. omega arith)) old;
+      (apart_by_word tasks p q (output_word k) (input_word j) v old (λ e. omega arith)) old;
   outputs = λ j x q a b. elim (cases_eq k j) [
     | inl e ↦
         let there : slice_get (slice_set links.outputs k (record { waiting = None })) j
-            ≡ Some (record { waiting = None }) =
-            subst (λ n. slice_get (slice_set links.outputs k (record { waiting = None })) n
-            ≡ Some (record { waiting = None })) e (got_set links.outputs k l (record { waiting = None }) here) in
+        ≡ Some (record { waiting = None }) =
+        subst (λ n. slice_get (slice_set links.outputs k (record { waiting = None })) n
+        ≡ Some (record { waiting = None })) e (got_set links.outputs k l (record { waiting = None }) here) in
         let same : record { waiting = None } ≡ x =
-            same_some (slice_get (slice_set links.outputs k (record { waiting = None })) j)
-            (record { waiting = None }) x there a in
+        same_some (slice_get (slice_set links.outputs k (record { waiting = None })) j)
+        (record { waiting = None }) x there a in
         let no' : None ≡ Some q = ap (λ (y : OutputLink). y.waiting) same ∙ b in
         absurd (cc)
     | inr differ ↦
         let old = w.outputs j x q (sym (got_other links.outputs k j (record { waiting = None }) differ) ∙ a) b in
         waits_same tasks p q (output_word j) u
-            (apart_by_word tasks p q (output_word k) (output_word j) v old (λ e. differ (omega arith))) old
+        (apart_by_word tasks p q (output_word k) (output_word j) v old (λ e. differ (omega arith))) old
   ];
 }
 
@@ -553,14 +596,17 @@ awaits_no_input : (c : Condition) (x : Exchange) (done place : ℕ) → c ≡ On
     → awaits c place ≡ false
 awaits_no_input c x done place e low =
     ap (λ c. awaits c place) e ∙ ap (λ (b : Bool). b && is_filled x done (x.length - done) place)
-        (not_above (input_word 0) x.channel low)
+    (not_above (input_word 0) x.channel low)
   where
     not_above : (a b : ℕ) → b < a → leb a b ≡ false
     not_above a b h = elim (leb_tells a b) [ inl t ↦ absurd (omega (arith, t.1)) | inr t ↦ t.0 ]
 
 wake_is : (w : World) (p : ℕ) (t : Task) → slice_get w.tasks p ≡ Some t
-    → wake p w ≡ record w { tasks = slice_set w.tasks p (record t { condition = Ready }); queue =
-        record w.queue { ready = w.queue.ready ++ p ∷ [] } }
+    → wake p w ≡ record w {
+      tasks = slice_set w.tasks p (record t { condition = Ready });
+      queue =
+          record w.queue { ready = w.queue.ready ++ p ∷ [] };
+    }
 wake_is w p t here = ap (λ (o : Option Task). enqueue p (elim o as (λ o. World)
     [ None ↦ w | Some task ↦ record w { tasks = slice_set w.tasks p (record task { condition = Ready }) } ])) here
 
@@ -573,10 +619,12 @@ module _ (m : Contents) where
       let r = waits_at m w h p v.task (OnLink v.exchange v.done) v.here v.waits (λ e. cc) (λ e. cc) (λ e. cc) in
       let low : k < 4 = omega (arith, slice_get_within w.links.outputs k l here, h.waiters.few) in
       let channel : v.exchange.channel < input_word 0 = omega (arith, v.on) in
-      let woke = woken m w h p v.task r w.memory (record w.links { outputs = slice_set w.links.outputs k
-          (record { waiting = None }) }) (record { size = refl; others = λ place e. refl })
+      let woke = woken m w h p v.task r w.memory (record w.links {
+        outputs = slice_set w.links.outputs k
+            (record { waiting = None });
+      }) (record { size = refl; others = λ place e. refl })
       (lives_ready m (held r.role) w.memory v.task r.due
-          (λ place. awaits_no_input v.task.condition v.exchange v.done place v.waits channel) r.lives)
+      (λ place. awaits_no_input v.task.condition v.exchange v.done place v.waits channel) r.lives)
       (after_ack w.tasks w.links k p l (record v.task { condition = Ready }) here h.waiters v) in
       dispatch_holds m 0 (wake p (with_output k (record { waiting = None }) w))
       (subst (λ x. Holds m x) (sym (wake_is (with_output k (record { waiting = None }) w) p v.task v.here)) woke)
@@ -585,16 +633,22 @@ module _ (m : Contents) where
   acknowledge_holds k w h = on_link (slice_get w.links.outputs k) refl
     where
       on_waiting : (l : OutputLink) → slice_get w.links.outputs k ≡ Some l → (o : Option ℕ) → l.waiting ≡ o
-          → Holds m (elim o as (λ o. Turn) [ None ↦ answered ignored w | Some p ↦ answered acknowledged
-              (dispatch 0 (wake p (with_output k (record { waiting = None }) w))) ]).world
+          → Holds m (elim o as (λ o. Turn) [
+            | None ↦ answered ignored w
+            | Some p ↦ answered acknowledged
+                (dispatch 0 (wake p (with_output k (record { waiting = None }) w)))
+          ]).world
       on_waiting l here None e = h
       on_waiting l here (Some p) e = acknowledged_holds k w h l p here e
 
       on_link : (o : Option OutputLink) → slice_get w.links.outputs k ≡ o
           → Holds m (elim o as (λ o. Turn) [
             | None ↦ answered ignored w
-            | Some link ↦ elim link.waiting as (λ o. Turn) [ None ↦ answered ignored w | Some p ↦ answered acknowledged
-                (dispatch 0 (wake p (with_output k (record { waiting = None }) w))) ]
+            | Some link ↦ elim link.waiting as (λ o. Turn) [
+              | None ↦ answered ignored w
+              | Some p ↦ answered acknowledged
+                  (dispatch 0 (wake p (with_output k (record { waiting = None }) w)))
+            ]
           ]).world
       on_link None e = h
       on_link (Some l) e = on_waiting l e l.waiting refl
@@ -610,7 +664,7 @@ module _ (m : Contents) where
       | inl e ↦
           let n : InputLink = record l { kept = Some byte } in
           let there : slice_get (slice_set links.inputs k n) j ≡ Some n =
-              subst (λ i. slice_get (slice_set links.inputs k n) i ≡ Some n) e (got_set links.inputs k l n here) in
+          subst (λ i. slice_get (slice_set links.inputs k n) i ≡ Some n) e (got_set links.inputs k l n here) in
           let same : n ≡ x = same_some (slice_get (slice_set links.inputs k n) j) n x there a in
           let no' : None ≡ Some q = sym none ∙ ap (λ (y : InputLink). y.waiting) same ∙ b in
           absurd (cc)
@@ -626,7 +680,7 @@ module _ (m : Contents) where
       let there : slice_get tasks p ≡ Some w.task = subst (λ n. slice_get tasks n ≡ Some w.task) (sym e) w.here in
       let same : t ≡ w.task = same_some (slice_get tasks p) t w.task here there in
       let both : Alternating ≡ OnLink w.exchange w.done =
-          sym alternating ∙ ap (λ (x : Task). x.condition) same ∙ w.waits in
+      sym alternating ∙ ap (λ (x : Task). x.condition) same ∙ w.waits in
       cc
 
   -- a process that is enabling an alternation is not alive: no state of a certificate is
@@ -711,7 +765,7 @@ module _ (m : Contents) where
         | inl same ↦
             let q = h.table.each p t here in
             let there : slice_get (slice_set w.tasks p u) i ≡ Some u =
-                subst (λ n. slice_get (slice_set w.tasks p u) n ≡ Some u) same (got_set w.tasks p t u here) in
+            subst (λ n. slice_get (slice_set w.tasks p u) n ≡ Some u) same (got_set w.tasks p t u here) in
             let is : u ≡ v = same_some (slice_get (slice_set w.tasks p u) i) u v there e in
             record {
               role = q.role;
@@ -731,9 +785,11 @@ module _ (m : Contents) where
       on_mode : (t : Task) → slice_get w.tasks p ≡ Some t → (mode : Mode) → t.mode ≡ mode
           → Holds m (rouse_enabling p mode w)
       on_mode t here (modes.Enabling is_ready) e =
-          subst (λ x. Holds m x) (sym (ap (λ (o : Option Task). elim o as (λ o. World)
-              [ None ↦ w | Some task ↦
-              record w { tasks = slice_set w.tasks p (record task { mode = modes.Enabling true }) } ]) here))
+          subst (λ x. Holds m x) (sym (ap (λ (o : Option Task). elim o as (λ o. World) [
+            | None ↦ w
+            | Some task ↦
+                record w { tasks = slice_set w.tasks p (record task { mode = modes.Enabling true }) }
+          ]) here))
           (roused_holds p w h t is_ready here e)
       on_mode t here modes.Plain e = h
       on_mode t here (modes.Disabling selection) e = h
@@ -745,7 +801,7 @@ module _ (m : Contents) where
           let r = waits_at m w h p t Alternating here e (λ x. cc) (λ x. cc) (λ x. cc) in
           let u : Task = record t { condition = Ready } in
           subst (λ x. Holds m x) (sym (wake_is w p t here))
-              (woken m w h p t r w.memory w.links (record { size = refl; others = λ place e. refl })
+          (woken m w h p t r w.memory w.links (record { size = refl; others = λ place e. refl })
           (lives_ready m (held r.role) w.memory t r.due (λ place. ap (λ c. awaits c place) e) r.lives)
           (record {
             few = h.waiters.few;
@@ -803,7 +859,7 @@ module _ (m : Contents) (k byte : ℕ) (small : byte < 256) (w : World) (h : Hol
   awaited place =
       ap (λ c. awaits c place) v.waits
       ∙ ap (λ (b : Bool). b && is_filled v.exchange v.done (v.exchange.length - v.done) place)
-          (le-leb (input_word 0) v.exchange.channel (omega (arith, v.on)))
+      (le-leb (input_word 0) v.exchange.channel (omega (arith, v.on)))
       ∙ ap (λ n. is_filled v.exchange v.done n place) rest
     where
       rest : v.exchange.length - v.done ≡ suc (v.exchange.length - (v.done + 1))
@@ -843,18 +899,18 @@ module _ (m : Contents) (k byte : ℕ) (small : byte < 256) (w : World) (h : Hol
         (r.lives.claim later (size ∙ changes.size)
         (λ place e free.
         let not_still : still place ≡ false =
-            or_false_right (eqb place goal_place) (still place) (sym (was place) ∙ free) in
+        or_false_right (eqb place goal_place) (still place) (sym (was place) ∙ free) in
         let not_here : eqb place goal_place ≡ false =
-            or_false_left (eqb place goal_place) (still place) (sym (was place) ∙ free) in
+        or_false_left (eqb place goal_place) (still place) (sym (was place) ∙ free) in
         agree place e (is_still place ∙ not_still)
-            ∙ byte_at-with_byte_other w.memory goal_place place (Some byte) (differs place not_here))
+        ∙ byte_at-with_byte_other w.memory goal_place place (Some byte) (differs place not_here))
         (λ place e. elim (bool_cases (still place)) [
           | inl s ↦ bytes place (is_still place ∙ s)
           | inr s ↦
               let is_here : place ≡ goal_place = same_place place (still place) s (sym (was place) ∙ e) in
               subst (λ q. IsByte (byte_at later q)) (sym is_here)
               (comes_in later (agree goal_place (readable_byte (held r.role) goal_place mine)
-                  (subst (λ q. awaits c q ≡ false) is_here (is_still place ∙ s))))
+              (subst (λ q. awaits c q ≡ false) is_here (is_still place ∙ s))))
         ]));
     room = λ place e. let q = r.lives.room place (was place ∙ or_true_right (eqb place goal_place) (still place)
         (sym (is_still place) ∙ e)) in (q.0, omega (arith, q.1, changes.size));
@@ -892,7 +948,7 @@ module _ (m : Contents) (k byte : ℕ) (small : byte < 256) (w : World) (h : Hol
   others_wait u j q x links differ same a b =
       let old = h.waiters.inputs j x q (sym same ∙ a) b in
       waits_same w.tasks p q (input_word j) u
-          (apart_by_word w.tasks p q (input_word k) (input_word j) v old (λ e. differ (omega arith))) old
+      (apart_by_word w.tasks p q (input_word k) (input_word j) v old (λ e. differ (omega arith))) old
 
   outputs_wait : (u : Task) (j q : ℕ) (x : OutputLink) → slice_get w.links.outputs j ≡ Some x → x.waiting ≡ Some q
       → WaitsOn (slice_set w.tasks p u) q (output_word j)
@@ -900,7 +956,7 @@ module _ (m : Contents) (k byte : ℕ) (small : byte < 256) (w : World) (h : Hol
       let old = h.waiters.outputs j x q a b in
       let low : j < 4 = omega (arith, slice_get_within w.links.outputs j x a, h.waiters.few) in
       waits_same w.tasks p q (output_word j) u
-          (apart_by_word w.tasks p q (input_word k) (output_word j) v old (λ e. omega arith)) old
+      (apart_by_word w.tasks p q (input_word k) (output_word j) v old (λ e. omega arith)) old
 
   -- with the last byte it becomes ready
   whole_holds : v.done + 1 ≡ v.exchange.length
@@ -912,14 +968,14 @@ module _ (m : Contents) (k byte : ℕ) (small : byte < 256) (w : World) (h : Hol
       (woken m w h p v.task r filled (record w.links { inputs = slice_set w.links.inputs k n }) changes
       (claim_after Ready (λ place. false) (λ place. refl)
       (λ place. awaited place ∙ ap (λ i. eqb place goal_place || is_filled v.exchange
-          (v.done + 1) i place) nothing_left))
+      (v.done + 1) i place) nothing_left))
       (record {
         few = h.waiters.few;
         inputs = λ j x q a b. elim (cases_eq k j) [
           | inl e ↦
               let there : slice_get (slice_set w.links.inputs k n) j ≡ Some n =
-                  subst (λ i. slice_get (slice_set w.links.inputs k n) i ≡ Some n) e
-                  (got_set w.links.inputs k l n here) in
+              subst (λ i. slice_get (slice_set w.links.inputs k n) i ≡ Some n) e
+              (got_set w.links.inputs k l n here) in
               let same : n ≡ x = same_some (slice_get (slice_set w.links.inputs k n) j) n x there a in
               let no' : None ≡ Some q = ap (λ (y : InputLink). y.waiting) same ∙ b in
               absurd (cc)
@@ -937,14 +993,19 @@ module _ (m : Contents) (k byte : ℕ) (small : byte < 256) (w : World) (h : Hol
       → Holds m (with_condition p (OnLink v.exchange (v.done + 1)) (record w { memory = filled }))
   part_holds more =
       let u : Task = record v.task { condition = OnLink v.exchange (v.done + 1) } in
-      subst (λ x. Holds m x) (sym (ap (λ (o : Option Task). elim o as (λ o. World)
-          [ None ↦ record w { memory = filled } | Some task ↦
-          record w { memory = filled; tasks = slice_set w.tasks p
-          (record task { condition = OnLink v.exchange (v.done + 1) }) } ]) v.here))
+      subst (λ x. Holds m x) (sym (ap (λ (o : Option Task). elim o as (λ o. World) [
+        | None ↦ record w { memory = filled }
+        | Some task ↦
+            record w {
+              memory = filled;
+              tasks = slice_set w.tasks p
+                  (record task { condition = OnLink v.exchange (v.done + 1) });
+            }
+      ]) v.here))
       (waits_on m w h p v.task r u filled w.links changes
       (claim_after (OnLink v.exchange (v.done + 1)) (λ place. is_filled v.exchange (v.done + 1) behind_it place)
       (λ place. ap (λ (b : Bool). b && is_filled v.exchange (v.done + 1) behind_it place)
-          (le-leb (input_word 0) v.exchange.channel (omega (arith, v.on)))) awaited)
+      (le-leb (input_word 0) v.exchange.channel (omega (arith, v.on)))) awaited)
       (record {
         few = h.waiters.few;
         inputs = λ j x q a b. elim (cases_eq k j) [
@@ -954,9 +1015,16 @@ module _ (m : Contents) (k byte : ℕ) (small : byte < 256) (w : World) (h : Hol
               let me : Some p ≡ Some q = sym waiting ∙ ap (λ (y : InputLink). y.waiting) same ∙ b in
               let is : p ≡ q = cc in
               subst (λ i. WaitsOn (slice_set w.tasks p u) q (input_word i)) e
-                  (subst (λ i. WaitsOn (slice_set w.tasks p u) i (input_word k)) is
-              (record { task = u; here = got_set w.tasks p v.task u v.here; exchange = v.exchange; done = v.done + 1;
-                  waits = refl; on = v.on; more = further }))
+              (subst (λ i. WaitsOn (slice_set w.tasks p u) i (input_word k)) is
+              (record {
+                task = u;
+                here = got_set w.tasks p v.task u v.here;
+                exchange = v.exchange;
+                done = v.done + 1;
+                waits = refl;
+                on = v.on;
+                more = further;
+              }))
           | inr differ ↦ others_wait u j q x w.links.inputs differ refl a b
         ];
         outputs = λ j x q a b. outputs_wait u j q x a b;
@@ -968,14 +1036,14 @@ module _ (m : Contents) (k byte : ℕ) (small : byte < 256) (w : World) (h : Hol
   filled_holds : Holds m (fill p k byte l w)
   filled_holds =
       subst (λ x. Holds m x) (sym (ap (λ (o : Option Task). elim o as (λ o. World)
-          [ None ↦ w | Some task ↦ fill_condition p k byte l task.condition w ]) v.here
-          ∙ ap (λ c. fill_condition p k byte l c w) v.waits))
+      [ None ↦ w | Some task ↦ fill_condition p k byte l task.condition w ]) v.here
+      ∙ ap (λ c. fill_condition p k byte l c w) v.waits))
       (on_last (eqb (v.done + 1) v.exchange.length) refl)
     where
       on_last : (b : Bool) → eqb (v.done + 1) v.exchange.length ≡ b
           → Holds m (if b then wake p (with_input k (record l { waiting = None })
-              (record w { memory = filled })) else with_condition p (OnLink v.exchange (v.done + 1))
-              (record w { memory = filled }))
+          (record w { memory = filled })) else with_condition p (OnLink v.exchange (v.done + 1))
+          (record w { memory = filled }))
       on_last true e = whole_holds (elim (eqb_tells (v.done + 1) v.exchange.length)
           [ inl t ↦ t.1 | inr t ↦ let no' : true ≡ false = sym e ∙ t.0 in absurd (cc) ])
       on_last false e = part_holds (λ same. elim (eqb_tells (v.done + 1) v.exchange.length)
@@ -987,17 +1055,22 @@ arrive_holds : (m : Contents) (k byte : ℕ) → byte < 256 → (w : World) → 
 arrive_holds m k byte small w h = on_link (slice_get w.links.inputs k) refl
   where
     on_kept : (l : InputLink) → slice_get w.links.inputs k ≡ Some l → l.waiting ≡ None → (o : Option ℕ)
-        → Holds m (elim o as (λ o. Turn) [ Some before ↦ answered busy w | None ↦ answered kept
-            (dispatch 0 (rouse l.enabled (with_input k (record l { kept = Some byte }) w))) ]).world
+        → Holds m (elim o as (λ o. Turn) [
+          | Some before ↦ answered busy w
+          | None ↦ answered kept
+              (dispatch 0 (rouse l.enabled (with_input k (record l { kept = Some byte }) w)))
+        ]).world
     on_kept l here none (Some before) = h
     on_kept l here none None = kept_holds m k byte w h l here none
 
     on_waiting : (l : InputLink) → slice_get w.links.inputs k ≡ Some l → (o : Option ℕ) → l.waiting ≡ o
         → Holds m (elim o as (λ o. Turn) [
           | Some p ↦ answered taken (dispatch 0 (fill p k byte l w))
-          | None ↦ elim l.kept as (λ o. Turn)
-              [ Some before ↦ answered busy w | None ↦
-              answered kept (dispatch 0 (rouse l.enabled (with_input k (record l { kept = Some byte }) w))) ]
+          | None ↦ elim l.kept as (λ o. Turn) [
+            | Some before ↦ answered busy w
+            | None ↦
+                answered kept (dispatch 0 (rouse l.enabled (with_input k (record l { kept = Some byte }) w)))
+          ]
         ]).world
     on_waiting l here (Some p) e = dispatch_holds m 0 (fill p k byte l w) (filled_holds m k byte small w h l p here e)
     on_waiting l here None e = on_kept l here e l.kept

@@ -99,7 +99,7 @@ pub data IsBroken (m : Contents) : Rule → ℕ → Type 0 where
   -- the instruction breaks its rule
   broken : {rule : Rule} {at : ℕ} {before : Option State} {s : State} {i : Instr} → Reaches m at before
       → at < length m.code → state_at m at before ≡ Some s → fetched m.code at ≡ Ok i → rule_at m at i s ≡ breaks rule
-          → IsBroken m rule at
+      → IsBroken m rule at
 
 -- All holds below the offset, and there the rule is broken.
 pub record IsRefused (m : Contents) (rule : Rule) (at : ℕ) : Type 0 where

@@ -68,7 +68,7 @@ unfoldable pub judge : ℕ → Contents → ℕ → Option State → Verdict
 judge zero m at before = at_the_end at before
 judge (suc more) m at before =
     if nat_le (length m.code) at then at_the_end at before else past_spelling m
-        (λ to after. judge more m to after) at before (fetched m.code at)
+    (λ to after. judge more m to after) at before (fetched m.code at)
 
 abbrev pub verdict : Contents → Verdict
 verdict m = judge (length m.code) m 0 (Some (root_state m))

@@ -38,15 +38,15 @@ pub returns-in_default-fetch-clause-refuses : goal.returns-in_default-fetch-clau
 returns-in_default-fetch-clause-refuses c =
     told c.args.module.now c.broken.result rules.Spelling c.loop-at.at c.broken.ensures
     (misspelled-is c.args.module.now c.loop-at.at _ c.in_default-fetch.field-0
-        (low (goal.at.returns-in_default-fetch-clause-refuses c).After-fetch) c.loop-at.invariant.on_the_way
+    (low (goal.at.returns-in_default-fetch-clause-refuses c).After-fetch) c.loop-at.invariant.on_the_way
     (ap (λ (code : List ℕ). fetched code c.loop-at.at)
-        (sym (ap (λ (m : Contents). m.code) c.tables-tables.ensures.contents)) ∙ sym c.in_default-fetch.ensures.exact))
+    (sym (ap (λ (m : Contents). m.code) c.tables-tables.ensures.contents)) ∙ sym c.in_default-fetch.ensures.exact))
 
 pub returns-in-Err-clause-refuses : goal.returns-in-Err-clause-refuses
 returns-in-Err-clause-refuses c =
     told c.args.module.now c.broken-in-Err.result c.in-Err.rule c.loop-at.at c.broken-in-Err.ensures
     (broken-is c.args.module.now c.loop-at.at c.in-Err.rule _ c.in-Ok-fetch.instr
-        (low (goal.at.returns-in-Err-clause-refuses c).After-fetch) c.loop-at.invariant.on_the_way
+    (low (goal.at.returns-in-Err-clause-refuses c).After-fetch) c.loop-at.invariant.on_the_way
     (spelled (goal.at.returns-in-Err-clause-refuses c).In-Ok-fetch) c.in-Err.ensures.judged)
 
 -- how many bytes of the instruction are behind its first
@@ -58,10 +58,10 @@ pub returns-in-Some-clause-refuses : goal.returns-in-Some-clause-refuses
 returns-in-Some-clause-refuses c =
     told c.args.module.now c.broken-in-Some.result rules.InstructionStart c.in-Some.inside c.broken-in-Some.ensures
     (hidden-is c.args.module.now c.loop-at.at c.in-Some.inside _ _ c.in-Ok-fetch.instr
-        (low (goal.at.returns-in-Some-clause-refuses c).After-fetch) c.loop-at.invariant.on_the_way
+    (low (goal.at.returns-in-Some-clause-refuses c).After-fetch) c.loop-at.invariant.on_the_way
     (spelled (goal.at.returns-in-Some-clause-refuses c).In-Ok-fetch) c.in-Ok-judge.ensures.judged
     (ap (first_start c.args.module.now (c.loop-at.at + 1))
-        (sym (behind_first (goal.at.returns-in-Some-clause-refuses c).In-Ok-judge)) ∙ sym c.in-Some.ensures))
+    (sym (behind_first (goal.at.returns-in-Some-clause-refuses c).In-Ok-judge)) ∙ sym c.in-Some.ensures))
 
 pub loop-at-preserved : goal.loop-at-preserved
 loop-at-preserved c =
@@ -71,33 +71,33 @@ loop-at-preserved c =
     let end : c.loop-at.at + 1 + (c.in-Ok-fetch.instr.len - 1) ≡ c.loop-at.at + c.in-Ok-fetch.instr.len = omega arith in
     let none : first_start c.args.module.now (c.loop-at.at + 1) (c.in-Ok-fetch.instr.len - 1) ≡ None =
     ap (first_start c.args.module.now (c.loop-at.at + 1)) (sym (behind_first (goal.at.loop-at-preserved c).In-Ok-judge))
-        ∙ sym c.start_within.ensures ∙ c.in_default-start_within.is in
+    ∙ sym c.start_within.ensures ∙ c.in_default-start_within.is in
     record {
       inside = spans.inside c.loop-at.at c.in-Ok-fetch.instr sp;
       belongs = c.judge.ensures.belongs;
       left =
           subst (λ (o : ℕ). AreLeft c.args.module.now o c.take-given.new.self) end
           (left-further c.args.module.now (c.loop-at.at + 1) (c.in-Ok-fetch.instr.len - 1) c.take-given.new.self
-              (c.take-given.ensures.left c.args.module.now c.loop-at.invariant.left) none);
+          (c.take-given.ensures.left c.args.module.now c.loop-at.invariant.left) none);
       on_the_way =
           goes-on c.args.module.now c.loop-at.at _ _ c.in-Ok-fetch.instr spans
-              (low (goal.at.loop-at-preserved c).After-fetch) c.loop-at.invariant.on_the_way sp
-              c.in-Ok-judge.ensures.judged none;
+          (low (goal.at.loop-at-preserved c).After-fetch) c.loop-at.invariant.on_the_way sp
+          c.in-Ok-judge.ensures.judged none;
     }
 
 pub returns-then-falls-clause-refuses : goal.returns-then-falls-clause-refuses
 returns-then-falls-clause-refuses c =
     let high : length c.args.module.now.code ≤ c.loop-at.at =
     subst (λ (code : List ℕ). length code ≤ c.loop-at.at)
-        (ap (λ (m : Contents). m.code) c.tables-tables.ensures.contents) c.loop-at-test.false in
+    (ap (λ (m : Contents). m.code) c.tables-tables.ensures.contents) c.loop-at-test.false in
     told c.args.module.now c.broken-then-falls.result rules.Flow c.loop-at.at c.broken-then-falls.ensures
     (fallen-off c.args.module.now c.loop-at.at c.loop-at.falls
-        (state_of c.loop-at.state) high c.loop-at.invariant.on_the_way c.if-falls.true)
+    (state_of c.loop-at.state) high c.loop-at.invariant.on_the_way c.if-falls.true)
 
 pub returns-clause-accepts : goal.returns-clause-accepts
 returns-clause-accepts c =
     let high : length c.args.module.now.code ≤ c.loop-at.at =
     subst (λ (code : List ℕ). length code ≤ c.loop-at.at)
-        (ap (λ (m : Contents). m.code) c.tables-tables.ensures.contents) c.loop-at-test.false in
+    (ap (λ (m : Contents). m.code) c.tables-tables.ensures.contents) c.loop-at-test.false in
     all-judged c.args.module.now c.loop-at.at c.loop-at.falls
-        (state_of c.loop-at.state) high c.loop-at.invariant.on_the_way c.if-falls.false
+    (state_of c.loop-at.state) high c.loop-at.invariant.on_the_way c.if-falls.false

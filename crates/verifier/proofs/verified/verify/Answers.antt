@@ -12,17 +12,22 @@ returns-in_err-pass-clause-refuses c =
     rw (p.1, p.2) (reports c.args.module.now c.pass.ensures.kept c.in_err-pass.field-0.0 c.in_err-pass.ensures.refuses)
 
 pub invariant_of-result : goal.invariant_of-result
-invariant_of-result c = ∣ (c.pass.ensures.kept, accepted_is_certified c.args.module.now
-    (spans c.args.module.now c.pass.ensures.kept) c.in_ok-pass.ensures.accepts) ∣₁
+invariant_of-result c = ∣ (
+  c.pass.ensures.kept,
+  accepted_is_certified c.args.module.now
+      (spans c.args.module.now c.pass.ensures.kept) c.in_ok-pass.ensures.accepts,
+) ∣₁
 
 pub returns-clause-accepts : goal.returns-clause-accepts
-returns-clause-accepts c =
-    (refl, accepted_is_certified c.args.module.now
-    (spans c.args.module.now c.pass.ensures.kept) c.in_ok-pass.ensures.accepts)
+returns-clause-accepts c = (
+  refl,
+  accepted_is_certified c.args.module.now
+      (spans c.args.module.now c.pass.ensures.kept) c.in_ok-pass.ensures.accepts,
+)
 
 pub returns-clause-headline : goal.returns-clause-headline
 returns-clause-headline c =
     let m = c.args.module.now in
     let kept = c.pass.ensures.kept in
     runs_well m (decodes m kept) (well_formed m kept)
-        (accepted_is_certified m (spans m kept) c.in_ok-pass.ensures.accepts)
+    (accepted_is_certified m (spans m kept) c.in_ok-pass.ensures.accepts)

@@ -8,4 +8,4 @@ returns c =
     let labels = ap (λ (m : Contents). m.labels) (sym c.tables-tables.ensures.contents) in
     let procedures = ap (λ (m : Contents). m.procedures) (sym c.tables-tables.ensures.contents) in
     left-first c.args.module.now _ c.tables-tables.ensures.kept (rw c.deref.ensures.value labels)
-        (rw c.deref-2.ensures.value procedures) refl
+    (rw c.deref-2.ensures.value procedures) refl

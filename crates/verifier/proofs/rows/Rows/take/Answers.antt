@@ -9,7 +9,7 @@ left : (c : After-take_procedure-procedure) (m : Contents) → AreLeft m c.args.
     → AreLeft m (c.args.at + 1) c.take_procedure-procedure.new.self
 left c m a =
     let procedures = subst (λ rs. ProceduresLeft m c.args.at c.args.self.now.context rs)
-        (sym c.take_label-label.ensures.procedures) a.procedures in
+    (sym c.take_label-label.ensures.procedures) a.procedures in
     record {
       labels = subst (λ rs. LabelsLeft m (c.args.at + 1) rs) (sym c.take_procedure-procedure.ensures.labels)
           (c.take_label-label.ensures.left m a.labels);
