@@ -1,5 +1,6 @@
 -- An event that reports a fault leaves it in the world.
-use Rattle.std.proofs.Common.{◌≡◌, ℕ, ◌+◌, ◌&&◌, Bool, is_some, true, false, if◌then◌else◌, nat_le, nat_lt, ℤ, List, [], ◌∷◌, length}
+use Rattle.std.proofs.Common.{◌≡◌, ℕ, ◌+◌, ◌&&◌, Bool, is_some, true, false, if◌then◌else◌, nat_le, nat_lt, ℤ, List, []}
+use Rattle.std.proofs.Common.{◌∷◌, length}
 use Rattle.std.proofs.Common.{Option, Some, None, Result, Ok, Err, refl, sym, subst, slice_get}
 use Rattle.std.specs.Prelude.{⊤, ◌==◌}
 use Rattle.prefix_decoder.specs.declared.function.Fun.{Fun}

@@ -12,7 +12,8 @@ use Rattle.machine_state.specs.World.{World}
 use Rattle.machine_state.specs.Site.{Local, Outcome, goes, jumps, stops}
 use Rattle.machine_state.specs.LocalStep.{local_step}
 use Rattle.machine_state.specs.Performing.{reported}
-use Rattle.machine_state.specs.Happens.{Effect, ran, idle, taken, kept, busy, acknowledged, ignored, Turn, Here, site_of}
+use Rattle.machine_state.specs.Happens.{Effect, ran, idle, taken, kept, busy, acknowledged, ignored, Turn, Here}
+use Rattle.machine_state.specs.Happens.{site_of}
 use Rattle.machine.specs.declared.checked.act.Act.{Act}
 use Rattle.machine.specs.declared.checked.act.Act.TheVariants.{Ran, Idle, Taken, Kept, Busy, Acknowledged, Ignored}
 use Rattle.machine.specs.declared.checked.act.Stop.{Stop}

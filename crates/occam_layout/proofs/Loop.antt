@@ -11,19 +11,26 @@ abbrev pub with_front : {A E : Type 0} → List A → Result (List A) E → Resu
 with_front front read = read >>= λ xs. Ok (front ++ xs)
 
 -- one more
-regroup : {A E : Type 0} (front : List A) (x : A) (others : Result (List A) E) → with_front front (others >>= λ xs. Ok (x ∷ xs)) ≡ with_front (front ++ x ∷ []) others
+regroup : {A E : Type 0} (front : List A) (x : A) (others : Result (List A) E)
+    → with_front front (others >>= λ xs. Ok (x ∷ xs)) ≡ with_front (front ++ x ∷ []) others
 regroup front x (Ok xs) = ap Ok (sym (append_assoc front (x ∷ []) xs))
 regroup front x (Err e) = refl
 
-pub goes_on : {A E : Type 0} (front : List A) (x : A) (now others total : Result (List A) E) → now ≡ (others >>= λ xs. Ok (x ∷ xs)) → with_front front now ≡ total → with_front (front ++ x ∷ []) others ≡ total
-goes_on front x now others total is_now so_far = sym (regroup front x others) ∙ ap (with_front front) (sym is_now) ∙ so_far
+pub goes_on : {A E : Type 0} (front : List A) (x : A) (now others total : Result (List A) E)
+    → now ≡ (others >>= λ xs. Ok (x ∷ xs)) → with_front front now ≡ total
+    → with_front (front ++ x ∷ []) others ≡ total
+goes_on front x now others total is_now so_far =
+    sym (regroup front x others) ∙ ap (with_front front) (sym is_now) ∙ so_far
 
-pub is_done : {A E : Type 0} (front : List A) (now total : Result (List A) E) → now ≡ Ok [] → with_front front now ≡ total → total ≡ Ok front
+pub is_done : {A E : Type 0} (front : List A) (now total : Result (List A) E) → now ≡ Ok []
+    → with_front front now ≡ total → total ≡ Ok front
 is_done front now total is_now so_far = sym so_far ∙ ap (with_front front) is_now ∙ ap Ok (append-nil front)
 
-pub fails : {A E : Type 0} (front : List A) (e : E) (now total : Result (List A) E) → now ≡ Err e → with_front front now ≡ total → total ≡ Err e
+pub fails : {A E : Type 0} (front : List A) (e : E) (now total : Result (List A) E) → now ≡ Err e
+    → with_front front now ≡ total → total ≡ Err e
 fails front e now total is_now so_far = sym so_far ∙ ap (with_front front) is_now
 
-pub Fails-bind : {A B : Type 0} (e : ScanError) (read : Result A Fault) (f : A → Result B Fault) → Fails e read → Fails e (read >>= f)
+pub Fails-bind : {A B : Type 0} (e : ScanError) (read : Result A Fault) (f : A → Result B Fault) → Fails e read
+    → Fails e (read >>= f)
 Fails-bind errors.Memory read f h = tt
 Fails-bind (errors.Fault fault) read f h = rw h refl

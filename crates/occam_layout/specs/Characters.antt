@@ -1,8 +1,11 @@
--- The characters between the quotes of a literal (occam 2 reference manual; lower case escapes alone are our own choice).
-use Rattle.std.specs.Prelude.{ℕ, zero, suc, ◌+◌, ◌*◌, Bool, true, false, ◌&&◌, ◌||◌, List, [], ◌∷◌, Option, Some, None, option_map, option_and_then, ◌==◌, if◌then◌else◌}
+-- The characters between the quotes of a literal (occam 2 reference manual; lower case escapes alone are our own
+-- choice).
+use Rattle.std.specs.Prelude.{ℕ, zero, suc, ◌+◌, ◌*◌, Bool, true, false, ◌&&◌, ◌||◌, List, [], ◌∷◌, Option, Some, None}
+use Rattle.std.specs.Prelude.{option_map, option_and_then, ◌==◌, if◌then◌else◌}
 use Rattle.std.specs.Char.{is_ascii_hexdigit, digit_value}
 
--- what a sign stands for behind an asterisk: c return, n line feed, t tab, s space, and quotes and the asterisk themselves
+-- what a sign stands for behind an asterisk: c return, n line feed, t tab, s space, and quotes and the asterisk
+-- themselves
 abbrev pub escape : ℕ → Option ℕ
 escape c =
     if c == 99 then Some 13

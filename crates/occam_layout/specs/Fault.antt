@@ -1,6 +1,7 @@
 -- Which number a fault has, and how it is told.
 use Rattle.std.specs.Prelude.{ℕ}
-use Rattle.occam_layout.specs.declared.fault.TheConstants.{ODD_INDENTATION, TOO_DEEP, CHARACTER, LITERAL, TOO_LARGE, MEMORY}
+use Rattle.occam_layout.specs.declared.fault.TheConstants.{ODD_INDENTATION, TOO_DEEP, CHARACTER, LITERAL, TOO_LARGE}
+use Rattle.occam_layout.specs.declared.fault.TheConstants.{MEMORY}
 use Rattle.occam_layout.specs.declared.fault.Fault.{Fault}
 use Rattle.occam_layout.specs.declared.fault.Fault.TheVariants.{OddIndentation, TooDeep, Character, Literal, TooLarge}
 use Rattle.occam_layout.specs.declared.fault.LayoutFault.{LayoutFault}

@@ -1,5 +1,6 @@
 -- What a token is, apart from where it stands in memory.
-use Rattle.std.specs.Prelude.{ℕ, ℤ, Bool, List, [], ◌∷◌, length, filter, ◌==◌, codes, bytes_eq, unwrap_or, Option, Some, None, if◌then◌else◌}
+use Rattle.std.specs.Prelude.{ℕ, ℤ, Bool, List, [], ◌∷◌, length, filter, ◌==◌, codes, bytes_eq, unwrap_or, Option, Some}
+use Rattle.std.specs.Prelude.{None, if◌then◌else◌}
 use Rattle.std.specs.List.{list_any}
 use Rattle.occam_layout.specs.Characters.{decoded}
 use Rattle.occam_layout.specs.declared.text.Text as text
@@ -19,13 +20,16 @@ pub data Kind : Type 0 where
 abbrev pub keywords : List (List ℕ)
 keywords =
     codes "VAL" ∷ codes "IS" ∷ codes "INT" ∷ codes "BYTE" ∷ codes "PROC" ∷ codes "CHAN" ∷ codes "OF" ∷ codes "SKIP" ∷
-    codes "STOP" ∷ codes "SEQ" ∷ codes "PAR" ∷ codes "IF" ∷ codes "ALT" ∷ codes "FOR" ∷ codes "MOSTPOS" ∷ codes "MOSTNEG" ∷
-    codes "PLUS" ∷ codes "MINUS" ∷ codes "TIMES" ∷ codes "AND" ∷ codes "OR" ∷ codes "NOT" ∷ codes "TRUE" ∷ codes "FALSE" ∷ []
+    codes "STOP" ∷ codes "SEQ" ∷ codes "PAR" ∷ codes "IF" ∷ codes "ALT" ∷ codes "FOR" ∷ codes "MOSTPOS" ∷ codes
+    "MOSTNEG" ∷
+    codes "PLUS" ∷ codes "MINUS" ∷ codes "TIMES" ∷ codes "AND" ∷ codes "OR" ∷ codes "NOT" ∷ codes "TRUE" ∷ codes
+    "FALSE" ∷ []
 
 -- the operators and the other signs, from the same manual
 abbrev pub signs : List (List ℕ)
 signs =
-    codes ":=" ∷ codes "/\\" ∷ codes "\\/" ∷ codes "><" ∷ codes "<<" ∷ codes ">>" ∷ codes "<>" ∷ codes "<=" ∷ codes ">=" ∷
+    codes ":=" ∷ codes "/\\" ∷ codes "\\/" ∷ codes "><" ∷ codes "<<" ∷ codes ">>" ∷ codes "<>" ∷ codes "<=" ∷ codes
+    ">=" ∷
     codes ":" ∷ codes "," ∷ codes "(" ∷ codes ")" ∷ codes "[" ∷ codes "]" ∷ codes "?" ∷ codes "!" ∷ codes "&" ∷
     codes "+" ∷ codes "-" ∷ codes "*" ∷ codes "/" ∷ codes "\\" ∷ codes "~" ∷ codes "=" ∷ codes "<" ∷ codes ">" ∷ []
 

@@ -43,8 +43,10 @@ abbrev pub AreSound : List Piece → Type 0
 AreSound [] = Unit {0}
 AreSound (Space ∷ pieces) = AreSound pieces
 AreSound (LineFeed ∷ pieces) = AreSound pieces
-AreSound (Comment text ∷ pieces) = (begins_comment text ≡ true) × (list_all is_character text ≡ true) × FollowLine pieces × AreSound pieces
-AreSound (Spelled kind text ∷ pieces) = (is_lexeme text ≡ true) × (meaning text ≡ Some kind) × (list_all is_character text ≡ true) × AreSound pieces
+AreSound (Comment text ∷ pieces) = (begins_comment text ≡ true) × (list_all is_character text ≡ true) × FollowLine
+    pieces × AreSound pieces
+AreSound (Spelled kind text ∷ pieces) = (is_lexeme text ≡ true) × (meaning text ≡ Some kind) ×
+    (list_all is_character text ≡ true) × AreSound pieces
 
 -- Bytes that begin at an offset are pieces put together, and these are all the tokens among the pieces.
 pub record ArePieces (offset : ℕ) (bytes : List ℕ) (tokens : List Lexeme) : Type 0 where

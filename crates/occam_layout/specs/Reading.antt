@@ -1,5 +1,7 @@
 -- Reading a source from left to right, with the first fault that is met.
-use Rattle.std.specs.Prelude.{◌≡◌, ◌⊎◌, ℕ, zero, suc, pred, pos, ◌+◌, ◌*◌, ◌/◌, ◌%◌, ◌^◌, Bool, not, ◌&&◌, ◌||◌, false, List, [], ◌∷◌, ◌++◌, length, map, take, drop, fold, codes, nat_eq, nat_lt, ◌==◌, if◌then◌else◌, Option, Some, None, unwrap_or, ok_or, option_to_list, Result, Ok, Err}
+use Rattle.std.specs.Prelude.{◌≡◌, ◌⊎◌, ℕ, zero, suc, pred, pos, ◌+◌, ◌*◌, ◌/◌, ◌%◌, ◌^◌, Bool, not, ◌&&◌, ◌||◌, false}
+use Rattle.std.specs.Prelude.{List, [], ◌∷◌, ◌++◌, length, map, take, drop, fold, codes, nat_eq, nat_lt, ◌==◌}
+use Rattle.std.specs.Prelude.{if◌then◌else◌, Option, Some, None, unwrap_or, ok_or, option_to_list, Result, Ok, Err}
 use Rattle.std.specs.Borrow.{Bor}
 use Rattle.std.specs.Global.{Vec}
 use Rattle.std.specs.List.{prefix_len, list_all, starts_with}
@@ -17,7 +19,8 @@ use Rattle.occam_layout.specs.declared.text.Text as text
 use Rattle.occam_layout.specs.declared.token.TokenKind.{TokenKind}
 use Rattle.occam_layout.specs.Characters.{decoded, body_len}
 use Rattle.occam_layout.specs.Fault.{refused, out_of_memory}
-use Rattle.occam_layout.specs.Kind.{Kind, kind_of, bytes_of, Name, Integer, Character, Text, keywords, keyword_among, sign_of}
+use Rattle.occam_layout.specs.Kind.{Kind, kind_of, bytes_of, Name, Integer, Character, Text, keywords, keyword_among}
+use Rattle.occam_layout.specs.Kind.{sign_of}
 
 infixl 10 ◌>>=◌
 abbrev pub ◌>>=◌ : {A B E : Type 0} → Result A E → (A → Result B E) → Result B E
@@ -235,7 +238,9 @@ Answers (Ok lines) read = read ≡ Ok (map row_of lines.items)
 Answers (Err e) read = (e ≡ out_of_memory) ⊎ (read ≡ Err e)
 
 -- A step of a loop over tokens: `rest` reads what is left from an offset on.
-abbrev pub Continues : (ℕ → List ℕ → Result (List Lexeme) Fault) → ℕ → List ℕ → Result (Option (Token × Bor (List ℕ))) Fault → Type 0
+abbrev pub Continues : (ℕ → List ℕ → Result (List Lexeme) Fault) → ℕ → List ℕ
+    → Result (Option (Token × Bor (List ℕ))) Fault → Type 0
 Continues reads offset line (Ok None) = reads offset line ≡ Ok []
-Continues reads offset line (Ok (Some x)) = reads offset line ≡ (reads x.0.end x.1.now >>= λ others. Ok (lexeme_of x.0 ∷ others))
+Continues reads offset line (Ok (Some x)) = reads offset
+    line ≡ (reads x.0.end x.1.now >>= λ others. Ok (lexeme_of x.0 ∷ others))
 Continues reads offset line (Err fault) = reads offset line ≡ Err fault

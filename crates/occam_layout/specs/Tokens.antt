@@ -1,13 +1,16 @@
 -- A source and its lines of tokens, by the bytes. The layout of lines, comments and the shapes of tokens are those of
 -- the occam 2 reference manual; the limits, and that a line may be only one level deeper, are our own choice.
-use Rattle.std.specs.Prelude.{◌≡◌, ◌⊎◌, ℕ, pos, ◌+◌, ◌-◌, ◌*◌, ◌^◌, ◌<◌, ◌≤◌, Bool, true, false, ◌||◌, List, [], ◌∷◌, ◌++◌, length, take, drop, nat_lt, ◌==◌, if◌then◌else◌, Option, Some, None, unwrap_or, option_map, option_and_then}
+use Rattle.std.specs.Prelude.{◌≡◌, ◌⊎◌, ℕ, pos, ◌+◌, ◌-◌, ◌*◌, ◌^◌, ◌<◌, ◌≤◌, Bool, true, false, ◌||◌, List, [], ◌∷◌}
+use Rattle.std.specs.Prelude.{◌++◌, length, take, drop, nat_lt, ◌==◌, if◌then◌else◌, Option, Some, None, unwrap_or}
+use Rattle.std.specs.Prelude.{option_map, option_and_then}
 use Rattle.std.specs.List.{prefix_len, list_all, AllByRecursion}
 use Rattle.std.specs.Char.{is_ascii_alphabetic, is_ascii_digit, is_ascii_hexdigit}
 use Rattle.std.specs.Int.{w32, cast_signed}
 use Rattle.occam_layout.specs.declared.layout.TheConstants.{MAX_BYTES, MAX_LINES}
 use Rattle.occam_layout.specs.Characters.{decoded, body_len}
 use Rattle.occam_layout.specs.Kind.{Kind, Sign, Name, Integer, Character, Text, keywords, keyword_among, is_sign}
-use Rattle.occam_layout.specs.Reading.{is_name_byte, value, is_character, is_space, is_blank, is_in_line, begins_comment, lines_of, Lexeme, Row}
+use Rattle.occam_layout.specs.Reading.{is_name_byte, value, is_character, is_space, is_blank, is_in_line}
+use Rattle.occam_layout.specs.Reading.{begins_comment, lines_of, Lexeme, Row}
 
 -- ---- one token
 
@@ -37,7 +40,8 @@ abbrev pub in_int : ℕ → Option Kind
 in_int number = if nat_lt number (2 ^ 31) then Some (Integer (pos number)) else None
 
 abbrev pub bits_of : List ℕ → Option Kind
-bits_of digits = if length digits == 0 || nat_lt 8 (length digits) then None else Some (Integer (cast_signed w32 (value 16 digits)))
+bits_of digits = if length digits == 0 || nat_lt 8 (length digits) then None else Some
+    (Integer (cast_signed w32 (value 16 digits)))
 
 abbrev pub character_of : List ℕ → Option Kind
 character_of [] = None
@@ -66,8 +70,10 @@ meaning (c ∷ rest) =
 pub data Tokens : ℕ → List ℕ → List Lexeme → Type 0 where
   Ends : (offset : ℕ) → Tokens offset [] []
   Comment : (offset : ℕ) (bytes : List ℕ) → begins_comment bytes ≡ true → Tokens offset bytes []
-  Space : (offset : ℕ) (rest : List ℕ) (tokens : List Lexeme) → Tokens (offset + 1) rest tokens → Tokens offset (32 ∷ rest) tokens
-  Token : (offset : ℕ) (text rest : List ℕ) (kind : Kind) (tokens : List Lexeme) → begins_comment (text ++ rest) ≡ false → IsLongest text rest → meaning text ≡ Some kind
+  Space : (offset : ℕ) (rest : List ℕ) (tokens : List Lexeme) → Tokens (offset + 1) rest tokens
+      → Tokens offset (32 ∷ rest) tokens
+  Token : (offset : ℕ) (text rest : List ℕ) (kind : Kind) (tokens : List Lexeme)
+      → begins_comment (text ++ rest) ≡ false → IsLongest text rest → meaning text ≡ Some kind
       → Tokens (offset + length text) rest tokens
       → Tokens offset (text ++ rest) (record { kind = kind; start = offset; end = offset + length text } ∷ tokens)
 
@@ -84,10 +90,13 @@ behind_indent line = drop (indent_of line) line
 -- one level deeper than the line before it that counts.
 pub data Rows : ℕ → ℕ → ℕ → List (List ℕ) → List Row → Type 0 where
   NoLine : (number offset deepest : ℕ) → Rows number offset deepest [] []
-  Blank : (number offset deepest : ℕ) (line : List ℕ) (lines : List (List ℕ)) (rows : List Row) → number ≤ MAX_LINES → list_all is_character line ≡ true → is_blank (behind_indent line) ≡ true
+  Blank : (number offset deepest : ℕ) (line : List ℕ) (lines : List (List ℕ)) (rows : List Row) → number ≤ MAX_LINES
+      → list_all is_character line ≡ true → is_blank (behind_indent line) ≡ true
       → Rows (number + 1) (offset + length line + 1) deepest lines rows
       → Rows number offset deepest (line ∷ lines) rows
-  Counts : (number offset deepest level : ℕ) (line : List ℕ) (lines : List (List ℕ)) (tokens : List Lexeme) (rows : List Row) → number ≤ MAX_LINES → list_all is_character line ≡ true → is_blank (behind_indent line) ≡ false
+  Counts : (number offset deepest level : ℕ) (line : List ℕ) (lines : List (List ℕ)) (tokens : List Lexeme)
+      (rows : List Row) → number ≤ MAX_LINES → list_all is_character line ≡ true
+      → is_blank (behind_indent line) ≡ false
       → indent_of line ≡ 2 * level → level ≤ deepest → Tokens (offset + 2 * level) (behind_indent line) tokens
       → Rows (number + 1) (offset + length line + 1) (level + 1) lines rows
       → Rows number offset deepest (line ∷ lines) (record { number = number; level = level; tokens = tokens } ∷ rows)
@@ -126,4 +135,5 @@ AreInOrder offset (token ∷ tokens) = (offset ≤ token.start) × AreInOrder to
 
 -- each line's tokens stand in the source where they say, in order
 abbrev pub ArePlaced : List ℕ → List Row → Type 0
-ArePlaced source rows = AllByRecursion (λ row. AllByRecursion (IsSpelled source) row.tokens × AreInOrder 0 row.tokens) rows
+ArePlaced source rows = AllByRecursion (λ row. AllByRecursion (IsSpelled source) row.tokens × AreInOrder 0
+    row.tokens) rows

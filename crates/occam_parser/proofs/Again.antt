@@ -1,5 +1,6 @@
 -- What is written is read again.
-use Rattle.std.proofs.Common.{◌≡◌, ℕ, zero, suc, pred, ◌<◌, ◌≤◌, Bool, true, false, cond, List, [], ◌∷◌, ◌++◌, length, Option, Some, None, refl, sym, ap, subst, arith, append_assoc, length-append, ◌∙◌}
+use Rattle.std.proofs.Common.{◌≡◌, ℕ, zero, suc, pred, ◌<◌, ◌≤◌, Bool, true, false, cond, List, [], ◌∷◌, ◌++◌, length}
+use Rattle.std.proofs.Common.{Option, Some, None, refl, sym, ap, subst, arith, append_assoc, length-append, ◌∙◌}
 use Rattle.occam_parser.specs.declared.symbol.Mark as mark_type
 use Rattle.occam_parser.specs.declared.symbol.Mark.TheVariants as mark
 use Rattle.occam_parser.specs.declared.tree.ValueType.{ValueType}
@@ -9,8 +10,14 @@ use Rattle.occam_parser.specs.declared.tree.PrefixOperator.TheVariants as prefix
 use Rattle.occam_parser.specs.declared.tree.PairOperator.{PairOperator}
 use Rattle.occam_parser.specs.declared.tree.ChainOperator.{ChainOperator}
 use Rattle.occam_parser.specs.Terminals.{Terminal, Name, Integer, Character, Text, Pair, Chain, Mark}
-use Rattle.occam_parser.specs.Expressions.{Expression, Alone, Prefixed, Paired, Chained, Terms, First, Then, Term, Number, Byte, Truth, MostPos, MostNeg, Named, Element, Bracketed, Converted, prefix_sign, type_word, truth_word, written, written_terms, written_term, IsChain, Fits, FitTerms, FitsTerm}
-use Rattle.occam_parser.specs.Reading.{Reads, ◌>>=◌, behind, behind_operator, prefix_at, begins_with_operator, up_to, named_behind, named, converted, marked, term_with, chain_step, chain_from, chain, after_first, one_behind, one_operator, alone, expression_with, nothing, term_at, inner_at, operand_within, expression_at}
+use Rattle.occam_parser.specs.Expressions.{Expression, Alone, Prefixed, Paired, Chained, Terms, First, Then, Term}
+use Rattle.occam_parser.specs.Expressions.{Number, Byte, Truth, MostPos, MostNeg, Named, Element, Bracketed, Converted}
+use Rattle.occam_parser.specs.Expressions.{prefix_sign, type_word, truth_word, written, written_terms, written_term}
+use Rattle.occam_parser.specs.Expressions.{IsChain, Fits, FitTerms, FitsTerm}
+use Rattle.occam_parser.specs.Reading.{Reads, ◌>>=◌, behind, behind_operator, prefix_at, begins_with_operator, up_to}
+use Rattle.occam_parser.specs.Reading.{named_behind, named, converted, marked, term_with, chain_step, chain_from, chain}
+use Rattle.occam_parser.specs.Reading.{after_first, one_behind, one_operator, alone, expression_with, nothing, term_at}
+use Rattle.occam_parser.specs.Reading.{inner_at, operand_within, expression_at}
 use Rattle.occam_parser.specs.Laws.{Ends}
 use Rattle.occam_parser.proofs.Marks.{behind_again, behind_operator_again}
 use Rattle.occam_parser.proofs.Levels.{inner_is, operand_is}
@@ -30,27 +37,37 @@ term_name : (n : ℕ) (ts : List Terminal) (name : List ℕ) → term_at n (Name
 unfolding term_at term_with
 term_name n ts name = refl
 
-term_mark : (n : ℕ) (ts : List Terminal) (m : mark_type.Mark) → term_at n (Mark m ∷ ts) ≡ marked (inner_at n) (operand_within n) m ts
+term_mark : (n : ℕ) (ts : List Terminal) (m : mark_type.Mark)
+    → term_at n (Mark m ∷ ts) ≡ marked (inner_at n) (operand_within n) m ts
 unfolding term_at term_with
 term_mark n ts m = refl
 
-pub up_to_again : {A : Type 0} (close : mark_type.Mark) (read : Option (A × List Terminal)) (x : A) (rest : List Terminal) → read ≡ Some (x, Mark close ∷ rest) → up_to close read ≡ Some (x, rest)
+pub up_to_again : {A : Type 0} (close : mark_type.Mark) (read : Option (A × List Terminal)) (x : A)
+    (rest : List Terminal) → read ≡ Some (x, Mark close ∷ rest) → up_to close read ≡ Some (x, rest)
 unfolding up_to
 up_to_again {A} close read x rest e =
-    ap (λ (o : Option (A × List Terminal)). o >>= λ y. behind close y.1 >>= λ us. Some (y.0, us)) e ∙ ap (λ o. o >>= λ us. Some (x, us)) (behind_again close rest)
+    ap (λ (o : Option (A × List Terminal)). o >>= λ y. behind close y.1 >>= λ us. Some (y.0, us)) e ∙ ap
+        (λ o. o >>= λ us. Some (x, us)) (behind_again close rest)
 
-named_alone : (inner : Reads Expression) (name : List ℕ) (ts : List Terminal) → behind mark.OpenBracket ts ≡ None → named inner name ts ≡ Some (Named name, ts)
+named_alone : (inner : Reads Expression) (name : List ℕ) (ts : List Terminal) → behind mark.OpenBracket ts ≡ None
+    → named inner name ts ≡ Some (Named name, ts)
 unfolding named
 named_alone inner name ts e = ap (named_behind name ts inner) e
 
-named_element : (inner : Reads Expression) (name : List ℕ) (ts rest : List Terminal) (e : Expression) → inner ts ≡ Some (e, Mark mark.CloseBracket ∷ rest) → named inner name (Mark mark.OpenBracket ∷ ts) ≡ Some (Element name e, rest)
+named_element : (inner : Reads Expression) (name : List ℕ) (ts rest : List Terminal) (e : Expression)
+    → inner ts ≡ Some (e, Mark mark.CloseBracket ∷ rest)
+    → named inner name (Mark mark.OpenBracket ∷ ts) ≡ Some (Element name e, rest)
 unfolding named
 named_element inner name ts rest e h =
-    ap (named_behind name (Mark mark.OpenBracket ∷ ts) inner) (behind_again mark.OpenBracket ts) ∙ ap (λ o. o >>= λ x. Some (Element name x.0, x.1)) (up_to_again mark.CloseBracket (inner ts) e rest h)
+    ap (named_behind name (Mark mark.OpenBracket ∷ ts) inner) (behind_again mark.OpenBracket ts) ∙ ap
+        (λ o. o >>= λ x. Some (Element name x.0, x.1)) (up_to_again mark.CloseBracket (inner ts) e rest h)
 
-bracketed_again : (inner : Reads Expression) (operand : Reads Term) (ts rest : List Terminal) (e : Expression) → inner ts ≡ Some (e, Mark mark.CloseParenthesis ∷ rest) → marked inner operand mark.OpenParenthesis ts ≡ Some (Bracketed e, rest)
+bracketed_again : (inner : Reads Expression) (operand : Reads Term) (ts rest : List Terminal) (e : Expression)
+    → inner ts ≡ Some (e, Mark mark.CloseParenthesis ∷ rest)
+    → marked inner operand mark.OpenParenthesis ts ≡ Some (Bracketed e, rest)
 unfolding marked
-bracketed_again inner operand ts rest e h = ap (λ o. o >>= λ x. Some (Bracketed x.0, x.1)) (up_to_again mark.CloseParenthesis (inner ts) e rest h)
+bracketed_again inner operand ts rest e h = ap (λ o. o >>= λ x. Some (Bracketed x.0, x.1))
+    (up_to_again mark.CloseParenthesis (inner ts) e rest h)
 
 truth_again : (n : ℕ) (ts : List Terminal) (b : Bool) → term_at n (truth_word b ∷ ts) ≡ Some (Truth b, ts)
 unfolding marked
@@ -59,18 +76,22 @@ truth_again n ts false = term_mark n ts mark.False
 
 most_pos_again : (n : ℕ) (ts : List Terminal) → term_at n (Mark mark.MostPos ∷ Mark mark.Int ∷ ts) ≡ Some (MostPos, ts)
 unfolding marked
-most_pos_again n ts = term_mark n (Mark mark.Int ∷ ts) mark.MostPos ∙ ap (λ o. o >>= λ rest. Some (MostPos, rest)) (behind_again mark.Int ts)
+most_pos_again n ts = term_mark n (Mark mark.Int ∷ ts) mark.MostPos ∙ ap (λ o. o >>= λ rest. Some (MostPos, rest))
+    (behind_again mark.Int ts)
 
 most_neg_again : (n : ℕ) (ts : List Terminal) → term_at n (Mark mark.MostNeg ∷ Mark mark.Int ∷ ts) ≡ Some (MostNeg, ts)
 unfolding marked
-most_neg_again n ts = term_mark n (Mark mark.Int ∷ ts) mark.MostNeg ∙ ap (λ o. o >>= λ rest. Some (MostNeg, rest)) (behind_again mark.Int ts)
+most_neg_again n ts = term_mark n (Mark mark.Int ∷ ts) mark.MostNeg ∙ ap (λ o. o >>= λ rest. Some (MostNeg, rest))
+    (behind_again mark.Int ts)
 
-converted_is : (n : ℕ) (ts : List Terminal) (to : ValueType) → term_at n (type_word to ∷ ts) ≡ converted (operand_within n) to ts
+converted_is : (n : ℕ) (ts : List Terminal) (to : ValueType)
+    → term_at n (type_word to ∷ ts) ≡ converted (operand_within n) to ts
 unfolding marked
 converted_is n ts value_type.Int = term_mark n ts mark.Int
 converted_is n ts value_type.Byte = term_mark n ts mark.Byte
 
-converted_again : (operand : Reads Term) (to : ValueType) (ts rest : List Terminal) (t : Term) → operand ts ≡ Some (t, rest) → converted operand to ts ≡ Some (Converted to t, rest)
+converted_again : (operand : Reads Term) (to : ValueType) (ts rest : List Terminal) (t : Term)
+    → operand ts ≡ Some (t, rest) → converted operand to ts ≡ Some (Converted to t, rest)
 unfolding converted
 converted_again operand to ts rest t h = ap (λ o. o >>= λ x. Some (Converted to x.0, x.1)) h
 
@@ -112,37 +133,49 @@ no_prefix (Bracketed e) rest = refl
 no_prefix (Converted value_type.Int t) rest = refl
 no_prefix (Converted value_type.Byte t) rest = refl
 
-after_alone : (p : Reads Term) (first : Term) (rest : List Terminal) → begins_with_operator rest ≡ false → after_first p first rest ≡ Some (Alone first, rest)
+after_alone : (p : Reads Term) (first : Term) (rest : List Terminal) → begins_with_operator rest ≡ false
+    → after_first p first rest ≡ Some (Alone first, rest)
 unfolding after_first begins_with_operator
 after_alone p first [] e = refl
 after_alone p first (Pair op ∷ ts) e = absurd (cc)
 after_alone p first (Chain op ∷ ts) e = absurd (cc)
 after_alone p first (t ∷ ts) e = refl
 
-ends_well : (o : Option (Expression × List Terminal)) (e : Expression) (rest : List Terminal) → o ≡ Some (e, rest) → begins_with_operator rest ≡ false → alone o ≡ Some (e, rest)
+ends_well : (o : Option (Expression × List Terminal)) (e : Expression) (rest : List Terminal) → o ≡ Some (e, rest)
+    → begins_with_operator rest ≡ false → alone o ≡ Some (e, rest)
 ends_well o e rest h b = ap alone h ∙ ap (λ t. cond t None (Some (e, rest))) b
 
-alone_again : (p : Reads Term) (ts rest : List Terminal) (t : Term) → prefix_at ts ≡ None → p ts ≡ Some (t, rest) → begins_with_operator rest ≡ false → expression_with p ts ≡ Some (Alone t, rest)
+alone_again : (p : Reads Term) (ts rest : List Terminal) (t : Term) → prefix_at ts ≡ None → p ts ≡ Some (t, rest)
+    → begins_with_operator rest ≡ false → expression_with p ts ≡ Some (Alone t, rest)
 unfolding expression_with one_operator
 alone_again p ts rest t n h b =
-    ends_well (one_operator p ts) (Alone t) rest (ap (one_behind p ts) n ∙ ap (λ o. o >>= λ x. after_first p x.0 x.1) h ∙ after_alone p t rest b) b
+    ends_well (one_operator p ts) (Alone t) rest
+        (ap (one_behind p ts) n ∙ ap (λ o. o >>= λ x. after_first p x.0 x.1) h ∙ after_alone p t rest b) b
 
-prefixed_again : (p : Reads Term) (op : PrefixOperator) (ts rest : List Terminal) (t : Term) → p ts ≡ Some (t, rest) → begins_with_operator rest ≡ false → expression_with p (prefix_sign op ∷ ts) ≡ Some (Prefixed op t, rest)
+prefixed_again : (p : Reads Term) (op : PrefixOperator) (ts rest : List Terminal) (t : Term) → p ts ≡ Some (t, rest)
+    → begins_with_operator rest ≡ false → expression_with p (prefix_sign op ∷ ts) ≡ Some (Prefixed op t, rest)
 unfolding expression_with one_operator
 prefixed_again p op ts rest t h b =
-    ends_well (one_operator p (prefix_sign op ∷ ts)) (Prefixed op t) rest (ap (one_behind p (prefix_sign op ∷ ts)) (prefix_again op ts) ∙ ap (λ o. o >>= λ x. Some (Prefixed op x.0, x.1)) h) b
+    ends_well (one_operator p (prefix_sign op ∷ ts)) (Prefixed op t) rest
+        (ap (one_behind p (prefix_sign op ∷ ts)) (prefix_again op ts) ∙ ap
+        (λ o. o >>= λ x. Some (Prefixed op x.0, x.1)) h) b
 
-after_pair : (p : Reads Term) (op : PairOperator) (a b : Term) (ts rest : List Terminal) → p ts ≡ Some (b, rest) → after_first p a (Pair op ∷ ts) ≡ Some (Paired op a b, rest)
+after_pair : (p : Reads Term) (op : PairOperator) (a b : Term) (ts rest : List Terminal) → p ts ≡ Some (b, rest)
+    → after_first p a (Pair op ∷ ts) ≡ Some (Paired op a b, rest)
 unfolding after_first
 after_pair p op a b ts rest h = ap (λ o. o >>= λ x. Some (Paired op a x.0, x.1)) h
 
-paired_again : (p : Reads Term) (op : PairOperator) (ts us rest : List Terminal) (a b : Term) → prefix_at ts ≡ None → p ts ≡ Some (a, Pair op ∷ us) → p us ≡ Some (b, rest) → begins_with_operator rest ≡ false → expression_with p ts ≡ Some (Paired op a b, rest)
+paired_again : (p : Reads Term) (op : PairOperator) (ts us rest : List Terminal) (a b : Term) → prefix_at ts ≡ None
+    → p ts ≡ Some (a, Pair op ∷ us) → p us ≡ Some (b, rest) → begins_with_operator rest ≡ false
+    → expression_with p ts ≡ Some (Paired op a b, rest)
 unfolding expression_with one_operator
 paired_again p op ts us rest a b n h k e =
-    ends_well (one_operator p ts) (Paired op a b) rest (ap (one_behind p ts) n ∙ ap (λ o. o >>= λ x. after_first p x.0 x.1) h ∙ after_pair p op a b us rest k) e
+    ends_well (one_operator p ts) (Paired op a b) rest
+        (ap (one_behind p ts) n ∙ ap (λ o. o >>= λ x. after_first p x.0 x.1) h ∙ after_pair p op a b us rest k) e
 
 -- How the reading of a chain goes on when these operands were read, and rest is left.
-pub record ReadSo (p : Reads Term) (op : ChainOperator) (ts : List Terminal) (terms : Terms) (rest : List Terminal) : Type 0 where
+pub record ReadSo (p : Reads Term) (op : ChainOperator) (ts : List Terminal) (terms : Terms) (rest : List Terminal)
+    : Type 0 where
   pub first : Term
   pub more : List Terminal
   pub second : Term
@@ -151,34 +184,47 @@ pub record ReadSo (p : Reads Term) (op : ChainOperator) (ts : List Terminal) (te
   pub plain : prefix_at ts ≡ None
   pub reads_first : p ts ≡ Some (first, Chain op ∷ more)
   pub reads_second : p more ≡ Some (second, behind_second)
-  pub goes_on : chain_from p op (length more) (Then (First first) second) behind_second ≡ chain_from p op turns terms rest
+  pub goes_on : chain_from p op (length more) (Then (First first) second) behind_second ≡ chain_from p op turns terms
+      rest
   pub enough : length rest ≤ turns
 
-after_chain : (p : Reads Term) (op : ChainOperator) (a : Term) (ts : List Terminal) → after_first p a (Chain op ∷ ts) ≡ chain p op a ts
+after_chain : (p : Reads Term) (op : ChainOperator) (a : Term) (ts : List Terminal)
+    → after_first p a (Chain op ∷ ts) ≡ chain p op a ts
 unfolding after_first
 after_chain p op a ts = refl
 
-no_operator_none : (op : ChainOperator) (rest : List Terminal) → begins_with_operator rest ≡ false → behind_operator op rest ≡ None
+no_operator_none : (op : ChainOperator) (rest : List Terminal) → begins_with_operator rest ≡ false
+    → behind_operator op rest ≡ None
 unfolding begins_with_operator behind_operator
 no_operator_none op [] e = refl
 no_operator_none op (Pair o ∷ ts) e = absurd (cc)
 no_operator_none op (Chain o ∷ ts) e = absurd (cc)
 no_operator_none op (t ∷ ts) e = refl
 
-chain_again : (p : Reads Term) (op : ChainOperator) (ts : List Terminal) (terms : Terms) (rest : List Terminal) → ReadSo p op ts terms rest → begins_with_operator rest ≡ false → expression_with p ts ≡ Some (Chained op terms, rest)
+chain_again : (p : Reads Term) (op : ChainOperator) (ts : List Terminal) (terms : Terms) (rest : List Terminal)
+    → ReadSo p op ts terms rest → begins_with_operator rest ≡ false
+    → expression_with p ts ≡ Some (Chained op terms, rest)
 unfolding expression_with one_operator chain
 chain_again p op ts terms rest r b =
-    let found = ap (λ (o : Option (Term × List Terminal)). o >>= λ x. chain_from p op (length r.more) (Then (First r.first) x.0) x.1 >>= λ y. Some (Chained op y.0, y.1)) r.reads_second in
-    let done = ap (λ (o : Option (Terms × List Terminal)). o >>= λ y. Some (Chained op y.0, y.1)) (r.goes_on ∙ chain_no_turn p op r.turns terms rest (no_operator_none op rest b)) in
+    let found = ap (λ (o : Option (Term × List Terminal)). o >>= λ x. chain_from p op (length r.more)
+        (Then (First r.first) x.0) x.1 >>= λ y. Some (Chained op y.0, y.1)) r.reads_second in
+    let done = ap (λ (o : Option (Terms × List Terminal)). o >>= λ y. Some (Chained op y.0, y.1))
+        (r.goes_on ∙ chain_no_turn p op r.turns terms rest (no_operator_none op rest b)) in
     ends_well (one_operator p ts) (Chained op terms) rest
-    (ap (one_behind p ts) r.plain ∙ ap (λ (o : Option (Term × List Terminal)). o >>= λ x. after_first p x.0 x.1) r.reads_first ∙ after_chain p op r.first r.more ∙ found ∙ done)
+    (ap (one_behind p ts) r.plain ∙ ap (λ (o : Option (Term × List Terminal)). o >>= λ x. after_first p x.0 x.1)
+        r.reads_first ∙ after_chain p op r.first r.more ∙ found ∙ done)
     b
 
-chain_first : (p : Reads Term) (op : ChainOperator) (ts us rest : List Terminal) (a b : Term) → prefix_at ts ≡ None → p ts ≡ Some (a, Chain op ∷ us) → p us ≡ Some (b, rest) → length rest ≤ length us → ReadSo p op ts (Then (First a) b) rest
+chain_first : (p : Reads Term) (op : ChainOperator) (ts us rest : List Terminal) (a b : Term) → prefix_at ts ≡ None
+    → p ts ≡ Some (a, Chain op ∷ us) → p us ≡ Some (b, rest) → length rest ≤ length us
+    → ReadSo p op ts (Then (First a) b) rest
 chain_first p op ts us rest a b n h k l =
-    record { first = a; more = us; second = b; behind_second = rest; turns = length us; plain = n; reads_first = h; reads_second = k; goes_on = refl; enough = l }
+    record { first = a; more = us; second = b; behind_second = rest; turns = length us; plain = n; reads_first =
+        h; reads_second = k; goes_on = refl; enough = l }
 
-chain_more : (p : Reads Term) (op : ChainOperator) (ts us rest : List Terminal) (terms : Terms) (b : Term) → ReadSo p op ts terms (Chain op ∷ us) → p us ≡ Some (b, rest) → length rest ≤ length us → ReadSo p op ts (Then terms b) rest
+chain_more : (p : Reads Term) (op : ChainOperator) (ts us rest : List Terminal) (terms : Terms) (b : Term)
+    → ReadSo p op ts terms (Chain op ∷ us) → p us ≡ Some (b, rest) → length rest ≤ length us
+    → ReadSo p op ts (Then terms b) rest
 chain_more p op ts us rest terms b r h l =
     let t = chain_turn p op r.turns terms (Chain op ∷ us) us (behind_operator_again op us) r.enough in
     record {
@@ -190,7 +236,8 @@ chain_more p op ts us rest terms b r h l =
       plain = r.plain;
       reads_first = r.reads_first;
       reads_second = r.reads_second;
-      goes_on = r.goes_on ∙ t.2 ∙ ap (λ (o : Option (Term × List Terminal)). o >>= λ x. chain_from p op t.0 (Then terms x.0) x.1) h;
+      goes_on = r.goes_on ∙ t.2 ∙ ap (λ (o : Option (Term × List Terminal)). o >>= λ x. chain_from p op t.0
+          (Then terms x.0) x.1) h;
       enough = omega (arith, t.1);
     }
 
@@ -202,29 +249,46 @@ tail_le ts rest = omega (arith, length-append ts rest)
 mutual
   unfolding expression_at
 
-  pub expression_again : (e : Expression) (n : ℕ) (rest : List Terminal) → Fits e n → Ends rest → expression_at n (written e ++ rest) ≡ Some (e, rest)
-  expression_again (Alone t) n rest fits ends = alone_again (term_at n) (written_term t ++ rest) rest t (no_prefix t rest) (term_again t n rest fits ends.no_subscript) ends.no_operator
-  expression_again (Prefixed op t) n rest fits ends = prefixed_again (term_at n) op (written_term t ++ rest) rest t (term_again t n rest fits ends.no_subscript) ends.no_operator
+  pub expression_again : (e : Expression) (n : ℕ) (rest : List Terminal) → Fits e n → Ends rest
+      → expression_at n (written e ++ rest) ≡ Some (e, rest)
+  expression_again (Alone t) n rest fits ends =
+      alone_again (term_at n) (written_term t ++ rest) rest t (no_prefix t rest)
+      (term_again t n rest fits ends.no_subscript) ends.no_operator
+  expression_again (Prefixed op t) n rest fits ends =
+      prefixed_again (term_at n) op (written_term t ++ rest) rest t (term_again t n rest fits ends.no_subscript)
+      ends.no_operator
   expression_again (Paired op a b) n rest fits ends =
       ap (expression_with (term_at n)) (append_assoc (written_term a) (Pair op ∷ written_term b) rest)
-      ∙ paired_again (term_at n) op (written_term a ++ Pair op ∷ (written_term b ++ rest)) (written_term b ++ rest) rest a b (no_prefix a (Pair op ∷ (written_term b ++ rest)))
+      ∙ paired_again (term_at n) op (written_term a ++ Pair op ∷ (written_term b ++ rest)) (written_term b ++ rest)
+          rest a b (no_prefix a (Pair op ∷ (written_term b ++ rest)))
       (term_again a n (Pair op ∷ (written_term b ++ rest)) fits.0 (no_subscript_pair op (written_term b ++ rest)))
       (term_again b n rest fits.1 ends.no_subscript)
       ends.no_operator
-  expression_again (Chained op terms) n rest fits ends = chain_again (term_at n) op (written_terms op terms ++ rest) terms rest (terms_again terms op n rest fits.0 fits.1 ends.no_subscript) ends.no_operator
+  expression_again (Chained op terms) n rest fits ends =
+      chain_again (term_at n) op (written_terms op terms ++ rest) terms rest
+      (terms_again terms op n rest fits.0 fits.1 ends.no_subscript) ends.no_operator
 
-  terms_again : (terms : Terms) (op : ChainOperator) (n : ℕ) (rest : List Terminal) → IsChain terms → FitTerms terms n → behind mark.OpenBracket rest ≡ None → ReadSo (term_at n) op (written_terms op terms ++ rest) terms rest
+  terms_again : (terms : Terms) (op : ChainOperator) (n : ℕ) (rest : List Terminal) → IsChain terms
+      → FitTerms terms n → behind mark.OpenBracket rest ≡ None
+      → ReadSo (term_at n) op (written_terms op terms ++ rest) terms rest
   terms_again (First a) op n rest is fits e = absurd is
   terms_again (Then (First a) b) op n rest is fits e =
       let us = written_term b ++ rest in
-      subst (λ ts. ReadSo (term_at n) op ts (Then (First a) b) rest) (sym (append_assoc (written_term a) (Chain op ∷ written_term b) rest))
-      (chain_first (term_at n) op (written_term a ++ Chain op ∷ us) us rest a b (no_prefix a (Chain op ∷ us)) (term_again a n (Chain op ∷ us) fits.0 (no_subscript_chain op us)) (term_again b n rest fits.1 e) (tail_le (written_term b) rest))
+      subst (λ ts. ReadSo (term_at n) op ts (Then (First a) b) rest)
+          (sym (append_assoc (written_term a) (Chain op ∷ written_term b) rest))
+      (chain_first (term_at n) op (written_term a ++ Chain op ∷ us) us rest a b (no_prefix a (Chain op ∷ us))
+          (term_again a n (Chain op ∷ us) fits.0 (no_subscript_chain op us)) (term_again b n rest fits.1 e)
+          (tail_le (written_term b) rest))
   terms_again (Then (Then ts c) b) op n rest is fits e =
       let us = written_term b ++ rest in
-      subst (λ vs. ReadSo (term_at n) op vs (Then (Then ts c) b) rest) (sym (append_assoc (written_terms op (Then ts c)) (Chain op ∷ written_term b) rest))
-      (chain_more (term_at n) op (written_terms op (Then ts c) ++ Chain op ∷ us) us rest (Then ts c) b (terms_again (Then ts c) op n (Chain op ∷ us) tt fits.0 (no_subscript_chain op us)) (term_again b n rest fits.1 e) (tail_le (written_term b) rest))
+      subst (λ vs. ReadSo (term_at n) op vs (Then (Then ts c) b) rest)
+          (sym (append_assoc (written_terms op (Then ts c)) (Chain op ∷ written_term b) rest))
+      (chain_more (term_at n) op (written_terms op (Then ts c) ++ Chain op ∷ us) us rest (Then ts c) b
+          (terms_again (Then ts c) op n (Chain op ∷ us) tt fits.0 (no_subscript_chain op us))
+          (term_again b n rest fits.1 e) (tail_le (written_term b) rest))
 
-  term_again : (t : Term) (n : ℕ) (rest : List Terminal) → FitsTerm t n → behind mark.OpenBracket rest ≡ None → term_at n (written_term t ++ rest) ≡ Some (t, rest)
+  term_again : (t : Term) (n : ℕ) (rest : List Terminal) → FitsTerm t n → behind mark.OpenBracket rest ≡ None
+      → term_at n (written_term t ++ rest) ≡ Some (t, rest)
   term_again (Number value) n rest fits e = term_number n rest value
   term_again (Byte byte) n rest fits e = term_byte n rest byte
   term_again (Truth holds) n rest fits e = truth_again n rest holds
@@ -233,13 +297,20 @@ mutual
   term_again (Named name) n rest fits e = term_name n rest name ∙ named_alone (inner_at n) name rest e
   term_again (Element name x) n rest fits e =
       let ts = written x ++ Mark mark.CloseBracket ∷ rest in
-      ap (λ us. term_at n (Name name ∷ Mark mark.OpenBracket ∷ us)) (append_assoc (written x) (Mark mark.CloseBracket ∷ []) rest)
+      ap (λ us. term_at n (Name name ∷ Mark mark.OpenBracket ∷ us))
+          (append_assoc (written x) (Mark mark.CloseBracket ∷ []) rest)
       ∙ (term_name n (Mark mark.OpenBracket ∷ ts) name
-      ∙ named_element (inner_at n) name ts rest x (inner_is n ts fits.0 ∙ expression_again x (pred n) (Mark mark.CloseBracket ∷ rest) fits.1 (ends_bracket rest)))
+      ∙ named_element (inner_at n) name ts rest x
+          (inner_is n ts fits.0 ∙ expression_again x (pred n) (Mark mark.CloseBracket ∷ rest) fits.1
+          (ends_bracket rest)))
   term_again (Bracketed x) n rest fits e =
       let ts = written x ++ Mark mark.CloseParenthesis ∷ rest in
-      ap (λ us. term_at n (Mark mark.OpenParenthesis ∷ us)) (append_assoc (written x) (Mark mark.CloseParenthesis ∷ []) rest)
+      ap (λ us. term_at n (Mark mark.OpenParenthesis ∷ us))
+          (append_assoc (written x) (Mark mark.CloseParenthesis ∷ []) rest)
       ∙ (term_mark n ts mark.OpenParenthesis
-      ∙ bracketed_again (inner_at n) (operand_within n) ts rest x (inner_is n ts fits.0 ∙ expression_again x (pred n) (Mark mark.CloseParenthesis ∷ rest) fits.1 (ends_parenthesis rest)))
+      ∙ bracketed_again (inner_at n) (operand_within n) ts rest x
+          (inner_is n ts fits.0 ∙ expression_again x (pred n) (Mark mark.CloseParenthesis ∷ rest) fits.1
+          (ends_parenthesis rest)))
   term_again (Converted to t) n rest fits e =
-      converted_is n (written_term t ++ rest) to ∙ converted_again (operand_within n) to (written_term t ++ rest) rest t (operand_is n (written_term t ++ rest) fits.0 ∙ term_again t (pred n) rest fits.1 e)
+      converted_is n (written_term t ++ rest) to ∙ converted_again (operand_within n) to (written_term t ++ rest)
+          rest t (operand_is n (written_term t ++ rest) fits.0 ∙ term_again t (pred n) rest fits.1 e)

@@ -1,40 +1,60 @@
 -- What is read of lines is written so, and fits.
-use Rattle.std.proofs.Common.{◌≡◌, ℕ, zero, suc, ◌+◌, ◌<◌, ◌≤◌, Bool, true, false, cond, List, [], ◌∷◌, ◌++◌, length, map, nat_lt, ◌==◌, Option, Some, None, refl, sym, ap, subst, arith, append_assoc, append-nil, ◌∙◌}
+use Rattle.std.proofs.Common.{◌≡◌, ℕ, zero, suc, ◌+◌, ◌<◌, ◌≤◌, Bool, true, false, cond, List, [], ◌∷◌, ◌++◌, length}
+use Rattle.std.proofs.Common.{map, nat_lt, ◌==◌, Option, Some, None, refl, sym, ap, subst, arith, append_assoc}
+use Rattle.std.proofs.Common.{append-nil, ◌∙◌}
 use Rattle.std.specs.List.{AllByRecursion}
 use Rattle.occam_parser.specs.declared.head.BlockKind.{BlockKind}
 use Rattle.occam_parser.specs.declared.head.BlockKind.TheVariants as block
 use Rattle.occam_parser.specs.Terminals.{Terminal}
 use Rattle.occam_parser.specs.Expressions.{Expression, written}
 use Rattle.occam_parser.specs.Reading.{◌>>=◌}
-use Rattle.occam_parser.specs.Lines.{Declaration, Replicator, Action, Guard, Head, Declares, Acts, Opens, written_declaration, written_action, written_replicator, block_word, written_head, written_guard, IsWhole, FitsDeclaration, FitsAction, FitsReplicator, FitsHead, FitsGuard, Constants, Variables, Channels}
+use Rattle.occam_parser.specs.Lines.{Declaration, Replicator, Action, Guard, Head, Declares, Acts, Opens}
+use Rattle.occam_parser.specs.Lines.{written_declaration, written_action, written_replicator, block_word, written_head}
+use Rattle.occam_parser.specs.Lines.{written_guard, IsWhole, FitsDeclaration, FitsAction, FitsReplicator, FitsHead}
+use Rattle.occam_parser.specs.Lines.{FitsGuard, Constants, Variables, Channels}
 use Rattle.occam_parser.specs.LineReading.{head_at, whole_at, guard_at}
-use Rattle.occam_parser.specs.Blocks.{Row, Process, Declared, Does, Construct, Act, Block, Components, NoComponent, Further, Component, Plain, Chosen, Guarded, declaration_line, lines_of, lines_of_construct, lines_of_components, lines_of_component, IsOne, HasRightCount, IsOf, FitsProcess, FitsConstruct, FitComponents, FitsComponent}
-use Rattle.occam_parser.specs.BlockReading.{ReadsLines, is_at, first_row, Beginning, begun, beginning_from, with_declarations, count_of, wants, component_step, components_from, components_of, is_some, block_with, process_behind, process_with, choice_with, branch_with, plain, component_with, no_lines, process_at, component_at}
+use Rattle.occam_parser.specs.Blocks.{Row, Process, Declared, Does, Construct, Act, Block, Components, NoComponent}
+use Rattle.occam_parser.specs.Blocks.{Further, Component, Plain, Chosen, Guarded, declaration_line, lines_of}
+use Rattle.occam_parser.specs.Blocks.{lines_of_construct, lines_of_components, lines_of_component, IsOne, HasRightCount}
+use Rattle.occam_parser.specs.Blocks.{IsOf, FitsProcess, FitsConstruct, FitComponents, FitsComponent}
+use Rattle.occam_parser.specs.BlockReading.{ReadsLines, is_at, first_row, Beginning, begun, beginning_from}
+use Rattle.occam_parser.specs.BlockReading.{with_declarations, count_of, wants, component_step, components_from}
+use Rattle.occam_parser.specs.BlockReading.{components_of, is_some, block_with, process_behind, process_with}
+use Rattle.occam_parser.specs.BlockReading.{choice_with, branch_with, plain, component_with, no_lines, process_at}
+use Rattle.occam_parser.specs.BlockReading.{component_at}
 use Rattle.occam_parser.proofs.Options.{bind_some, at_some}
 use Rattle.occam_parser.proofs.LineSound.{head_sound, whole_sound, guard_sound}
 use Rattle.occam_parser.proofs.Turns.{at_is, first_row_is, wants_first, wants_one}
 
-pub row_eq : (r : Row) (level : ℕ) (ts : List Terminal) → r.level ≡ level → r.terminals ≡ ts → r ≡ record { number = r.number; level = level; terminals = ts }
-row_eq r level ts e f = ap (λ (l : ℕ). record { number = r.number; level = l; terminals = r.terminals }) e ∙ ap (λ (us : List Terminal). record { number = r.number; level = level; terminals = us }) f
+pub row_eq : (r : Row) (level : ℕ) (ts : List Terminal) → r.level ≡ level → r.terminals ≡ ts
+    → r ≡ record { number = r.number; level = level; terminals = ts }
+row_eq r level ts e f = ap (λ (l : ℕ). record { number = r.number; level = l; terminals = r.terminals }) e ∙ ap
+    (λ (us : List Terminal). record { number = r.number; level = level; terminals = us }) f
 
 -- ---- declarations
 
 abbrev pub declared_rows : ℕ → List Declaration → List Row
 declared_rows level [] = []
-declared_rows level (d ∷ ds) = record { number = declaration_line d; level = level; terminals = written_declaration d } ∷ declared_rows level ds
+declared_rows level (d ∷ ds) = record { number = declaration_line d; level = level; terminals =
+    written_declaration d } ∷ declared_rows level ds
 
 abbrev pub AllDeclared : List Declaration → Type 0
 AllDeclared = AllByRecursion (λ d. FitsDeclaration (declaration_line d) d)
 
-pub with_written : (ds : List Declaration) (p : Process) (level : ℕ) → lines_of (with_declarations ds p) level ≡ declared_rows level ds ++ lines_of p level
+pub with_written : (ds : List Declaration) (p : Process) (level : ℕ)
+    → lines_of (with_declarations ds p) level ≡ declared_rows level ds ++ lines_of p level
 with_written [] p level = refl
-with_written (d ∷ ds) p level = ap (λ rows. record { number = declaration_line d; level = level; terminals = written_declaration d } ∷ rows) (with_written ds p level)
+with_written (d ∷ ds) p level = ap (λ rows. record
+    { number = declaration_line d; level = level; terminals = written_declaration d } ∷ rows)
+    (with_written ds p level)
 
-pub with_fits : (ds : List Declaration) (p : Process) (level : ℕ) → level ≤ 64 → AllDeclared ds → FitsProcess p level → FitsProcess (with_declarations ds p) level
+pub with_fits : (ds : List Declaration) (p : Process) (level : ℕ) → level ≤ 64 → AllDeclared ds → FitsProcess p level
+    → FitsProcess (with_declarations ds p) level
 with_fits [] p level low all fits = fits
 with_fits (d ∷ ds) p level low all fits = (low, all.0, with_fits ds p level low all.1 fits)
 
-declared_at : (line : ℕ) (d : Declaration) → FitsDeclaration line d → (line ≡ declaration_line d) × FitsDeclaration (declaration_line d) d
+declared_at : (line : ℕ) (d : Declaration) → FitsDeclaration line d
+    → (line ≡ declaration_line d) × FitsDeclaration (declaration_line d) d
 declared_at line (Constants c) h = (sym h.0, (refl, h.1))
 declared_at line (Variables n) h = (sym h.0, (refl, h.1, h.2))
 declared_at line (Channels n) h = (sym h.0, (refl, h.1, h.2))
@@ -43,18 +63,21 @@ declared_at line (Channels n) h = (sym h.0, (refl, h.1, h.2))
 pub record Begins (level : ℕ) (found : List Declaration) (rows : List Row) (x : Beginning × List Row) : Type 0 where
   pub declared : List Declaration
   pub all : x.0.declarations ≡ found ++ declared
-  pub whole : rows ≡ declared_rows level declared ++ record { number = x.0.line; level = level; terminals = written_head x.0.start } ∷ x.1
+  pub whole : rows ≡ declared_rows level declared ++ record
+      { number = x.0.line; level = level; terminals = written_head x.0.start } ∷ x.1
   pub fits : AllDeclared declared
   pub start : FitsHead x.0.line x.0.start
   pub low : level ≤ 64
 
-begins_here : (level : ℕ) (found : List Declaration) (r : Row) (rows : List Row) (h : Head) (x : Beginning × List Row) → is_at level r ≡ true → head_at r.number r.terminals ≡ Some h
+begins_here : (level : ℕ) (found : List Declaration) (r : Row) (rows : List Row) (h : Head)
+    (x : Beginning × List Row) → is_at level r ≡ true → head_at r.number r.terminals ≡ Some h
     → Some (record { declarations = found; line = r.number; start = h }, rows) ≡ Some x
     → Begins level found (r ∷ rows) x
 begins_here level found r rows h x a e s =
     let at = at_is level r a in
     let sound = head_sound r.number r.terminals h e in
-    let made : Begins level found (r ∷ rows) (record { declarations = found; line = r.number; start = h }, rows) = record {
+    let made : Begins level found (r ∷ rows) (record { declarations = found; line = r.number; start = h }, rows) =
+        record {
       declared = [];
       all = sym (append-nil found);
       whole = ap (λ q. q ∷ rows) (row_eq r level (written_head h) at.0 sound.0);
@@ -64,48 +87,65 @@ begins_here level found r rows h x a e s =
     } in
     at_some (Begins level found (r ∷ rows)) (record { declarations = found; line = r.number; start = h }, rows) x s made
 
-begins_later : (level : ℕ) (found : List Declaration) (r : Row) (rows : List Row) (d : Declaration) (x : Beginning × List Row) → is_at level r ≡ true → head_at r.number r.terminals ≡ Some (Declares d) → Begins level (found ++ d ∷ []) rows x → Begins level found (r ∷ rows) x
+begins_later : (level : ℕ) (found : List Declaration) (r : Row) (rows : List Row) (d : Declaration)
+    (x : Beginning × List Row) → is_at level r ≡ true → head_at r.number r.terminals ≡ Some (Declares d)
+    → Begins level (found ++ d ∷ []) rows x → Begins level found (r ∷ rows) x
 begins_later level found r rows d x a e b =
     let at = at_is level r a in
     let sound = head_sound r.number r.terminals (Declares d) e in
     let line = declared_at r.number d sound.1 in
-    let first = row_eq r level (written_declaration d) at.0 sound.0 ∙ ap (λ (n : ℕ). record { number = n; level = level; terminals = written_declaration d }) line.0 in
+    let first = row_eq r level (written_declaration d) at.0 sound.0 ∙ ap
+        (λ (n : ℕ). record { number = n; level = level; terminals = written_declaration d }) line.0 in
     record {
       declared = d ∷ b.declared;
       all = b.all ∙ append_assoc found (d ∷ []) b.declared;
-      whole = ap (λ q. q ∷ rows) first ∙ ap (λ qs. record { number = declaration_line d; level = level; terminals = written_declaration d } ∷ qs) b.whole;
+      whole = ap (λ q. q ∷ rows) first ∙ ap (λ qs. record
+          { number = declaration_line d; level = level; terminals = written_declaration d } ∷ qs) b.whole;
       fits = (line.1, b.fits);
       start = b.start;
       low = b.low;
     }
 
-begun_sound : (level : ℕ) (found : List Declaration) (r : Row) (rows : List Row) (more : List Declaration → Option (Beginning × List Row)) → ((ds : List Declaration) (y : Beginning × List Row) → more ds ≡ Some y → Begins level ds rows y)
-    → (o : Option Head) (x : Beginning × List Row) → is_at level r ≡ true → head_at r.number r.terminals ≡ o → begun found r.number rows more o ≡ Some x
+begun_sound : (level : ℕ) (found : List Declaration) (r : Row) (rows : List Row)
+    (more : List Declaration → Option (Beginning × List Row))
+    → ((ds : List Declaration) (y : Beginning × List Row) → more ds ≡ Some y → Begins level ds rows y)
+    → (o : Option Head) (x : Beginning × List Row) → is_at level r ≡ true → head_at r.number r.terminals ≡ o
+        → begun found r.number rows more o ≡ Some x
     → Begins level found (r ∷ rows) x
 begun_sound level found r rows more m None x a h e = absurd (cc)
-begun_sound level found r rows more m (Some (Declares d)) x a h e = begins_later level found r rows d x a h (m (found ++ d ∷ []) x e)
+begun_sound level found r rows more m (Some (Declares d)) x a h e =
+    begins_later level found r rows d x a h (m (found ++ d ∷ []) x e)
 begun_sound level found r rows more m (Some (Acts act)) x a h e = begins_here level found r rows (Acts act) x a h e
-begun_sound level found r rows more m (Some (Opens kind replicator)) x a h e = begins_here level found r rows (Opens kind replicator) x a h e
+begun_sound level found r rows more m (Some (Opens kind replicator)) x a h e =
+    begins_here level found r rows (Opens kind replicator) x a h e
 
-begins_if : (b : Bool) (level : ℕ) (found : List Declaration) (r : Row) (rows : List Row) (more : List Declaration → Option (Beginning × List Row)) → ((ds : List Declaration) (y : Beginning × List Row) → more ds ≡ Some y → Begins level ds rows y)
-    → (x : Beginning × List Row) → is_at level r ≡ b → cond b (begun found r.number rows more (head_at r.number r.terminals)) None ≡ Some x
+begins_if : (b : Bool) (level : ℕ) (found : List Declaration) (r : Row) (rows : List Row)
+    (more : List Declaration → Option (Beginning × List Row))
+    → ((ds : List Declaration) (y : Beginning × List Row) → more ds ≡ Some y → Begins level ds rows y)
+    → (x : Beginning × List Row) → is_at level r ≡ b
+        → cond b (begun found r.number rows more (head_at r.number r.terminals)) None ≡ Some x
     → Begins level found (r ∷ rows) x
-begins_if true level found r rows more m x a e = begun_sound level found r rows more m (head_at r.number r.terminals) x a refl e
+begins_if true level found r rows more m x a e =
+    begun_sound level found r rows more m (head_at r.number r.terminals) x a refl e
 begins_if false level found r rows more m x a e = absurd (cc)
 
-pub beginning_sound : (level : ℕ) (rows : List Row) (found : List Declaration) (x : Beginning × List Row) → beginning_from level found rows ≡ Some x → Begins level found rows x
+pub beginning_sound : (level : ℕ) (rows : List Row) (found : List Declaration) (x : Beginning × List Row)
+    → beginning_from level found rows ≡ Some x → Begins level found rows x
 unfolding beginning_from
 beginning_sound level [] found x e = absurd (cc)
-beginning_sound level (r ∷ rows) found x e = begins_if (is_at level r) level found r rows (λ more. beginning_from level more rows) (λ ds y. beginning_sound level rows ds y) x refl e
+beginning_sound level (r ∷ rows) found x e = begins_if (is_at level r) level found r rows
+    (λ more. beginning_from level more rows) (λ ds y. beginning_sound level rows ds y) x refl e
 
 -- ---- components
 
 abbrev pub SoundComponent : BlockKind → ℕ → ReadsLines Component → Type 0
 SoundComponent kind level item =
-    (rows : List Row) (x : Component) (rest : List Row) → item rows ≡ Some (x, rest) → (rows ≡ lines_of_component x level ++ rest) × IsOf kind x × FitsComponent x level
+    (rows : List Row) (x : Component) (rest : List Row) → item rows ≡ Some (x, rest)
+        → (rows ≡ lines_of_component x level ++ rest) × IsOf kind x × FitsComponent x level
 
 -- what the components of a block were read from
-pub record AreRead (kind : BlockKind) (level : ℕ) (single : Bool) (whole : List Row) (x : Components × List Row) : Type 0 where
+pub record AreRead (kind : BlockKind) (level : ℕ) (single : Bool) (whole : List Row) (x : Components × List Row)
+    : Type 0 where
   pub are : whole ≡ lines_of_components x.0 level ++ x.1
   pub fit : FitComponents x.0 kind level
   pub one : single ≡ true → count_of x.0 ≡ 1
@@ -114,85 +154,119 @@ pub record Found (kind : BlockKind) (level : ℕ) (single : Bool) (found : Compo
   pub fit : FitComponents found kind level
   pub few : single ≡ true → count_of found ≤ 1
 
-step_sound : (item : ReadsLines Component) (kind : BlockKind) (level : ℕ) (single : Bool) (more : Option (Components × List Row)) (found : Components) (rows : List Row) (o : Option Bool) (x : Components × List Row) → Found kind level single found
-    → ((x : Components × List Row) → more ≡ Some x → wants level single (count_of found) rows ≡ Some true → AreRead kind level single (lines_of_components found level ++ rows) x)
+step_sound : (item : ReadsLines Component) (kind : BlockKind) (level : ℕ) (single : Bool)
+    (more : Option (Components × List Row)) (found : Components) (rows : List Row) (o : Option Bool)
+    (x : Components × List Row) → Found kind level single found
+    → ((x : Components × List Row) → more ≡ Some x → wants level single (count_of found) rows ≡ Some true
+        → AreRead kind level single (lines_of_components found level ++ rows) x)
     → wants level single (count_of found) rows ≡ o → component_step more found rows o ≡ Some x
     → AreRead kind level single (lines_of_components found level ++ rows) x
 step_sound item kind level single more found rows None x f m w e = absurd (cc)
 step_sound item kind level single more found rows (Some true) x f m w e = m x e w
 step_sound item kind level single more found rows (Some false) x f m w e =
     at_some (AreRead kind level single (lines_of_components found level ++ rows)) (found, rows) x e
-    (record { are = refl; fit = f.fit; one = λ s. let some = wants_one level single (count_of found) rows w s in let few = f.few s in omega arith })
+    (record { are = refl; fit = f.fit; one = λ s. let some =
+        wants_one level single (count_of found) rows w s in let few = f.few s in omega arith })
 
-components_sound : (item : ReadsLines Component) (kind : BlockKind) (level : ℕ) (single : Bool) → SoundComponent kind level item → (n : ℕ) (found : Components) (rows : List Row) (x : Components × List Row) → Found kind level single found → components_from item level single n found rows ≡ Some x
+components_sound : (item : ReadsLines Component) (kind : BlockKind) (level : ℕ) (single : Bool)
+    → SoundComponent kind level item → (n : ℕ) (found : Components) (rows : List Row) (x : Components × List Row)
+    → Found kind level single found → components_from item level single n found rows ≡ Some x
     → AreRead kind level single (lines_of_components found level ++ rows) x
 unfolding components_from
-components_sound item kind level single s zero found rows x f e = step_sound item kind level single None found rows (wants level single (count_of found) rows) x f (λ y h w. absurd (cc)) refl e
+components_sound item kind level single s zero found rows x f e =
+    step_sound item kind level single None found rows (wants level single (count_of found) rows) x f
+    (λ y h w. absurd (cc)) refl e
 components_sound item kind level single s (suc n) found rows x f e =
-    step_sound item kind level single (item rows >>= λ y. components_from item level single n (Further found y.0) y.1) found rows (wants level single (count_of found) rows) x f
+    step_sound item kind level single (item rows >>= λ y. components_from item level single n (Further found y.0)
+        y.1) found rows (wants level single (count_of found) rows) x f
     (λ y h w.
     let c = bind_some (item rows) _ y h in
     let is = s rows c.0.0 c.0.1 c.1 in
-    let next : Found kind level single (Further found c.0.0) = record { fit = (f.fit, is.1, is.2); few = λ t. let none = wants_first level single (count_of found) rows w t in omega arith } in
+    let next : Found kind level single (Further found c.0.0) =
+        record { fit = (f.fit, is.1, is.2); few = λ t. let none =
+        wants_first level single (count_of found) rows w t in omega arith } in
     let rest = components_sound item kind level single s n (Further found c.0.0) c.0.1 y next c.2 in
-    let whole = ap (λ us. lines_of_components found level ++ us) is.0 ∙ sym (append_assoc (lines_of_components found level) (lines_of_component c.0.0 level) c.0.1) in
+    let whole = ap (λ us. lines_of_components found level ++ us) is.0 ∙ sym
+        (append_assoc (lines_of_components found level) (lines_of_component c.0.0 level) c.0.1) in
     record { are = whole ∙ rest.are; fit = rest.fit; one = rest.one })
     refl
     e
 
-pub block_read : (item : ReadsLines Component) (kind : BlockKind) (level : ℕ) (single : Bool) (rows : List Row) (x : Components × List Row) → SoundComponent kind level item → components_of item level single rows ≡ Some x → AreRead kind level single rows x
+pub block_read : (item : ReadsLines Component) (kind : BlockKind) (level : ℕ) (single : Bool) (rows : List Row)
+    (x : Components × List Row) → SoundComponent kind level item → components_of item level single rows ≡ Some x
+    → AreRead kind level single rows x
 unfolding components_of
-block_read item kind level single rows x s e = components_sound item kind level single s (length rows) NoComponent rows x (record { fit = tt; few = λ t. omega arith }) e
+block_read item kind level single rows x s e =
+    components_sound item kind level single s (length rows) NoComponent rows x
+    (record { fit = tt; few = λ t. omega arith }) e
 
 is_one : (cs : Components) → count_of cs ≡ 1 → IsOne cs
 is_one NoComponent e = absurd (omega arith)
 is_one (Further NoComponent c) e = tt
 is_one (Further (Further cs b) c) e = absurd (omega arith)
 
-right_count : (replicator : Option Replicator) (cs : Components) → (is_some replicator ≡ true → count_of cs ≡ 1) → HasRightCount replicator cs
+right_count : (replicator : Option Replicator) (cs : Components) → (is_some replicator ≡ true → count_of cs ≡ 1)
+    → HasRightCount replicator cs
 right_count None cs one = tt
 right_count (Some r) cs one = is_one cs (one refl)
 
 -- ---- processes
 
 abbrev pub SoundProcess : ℕ → ReadsLines Process → Type 0
-SoundProcess level p = (rows : List Row) (x : Process) (rest : List Row) → p rows ≡ Some (x, rest) → (rows ≡ lines_of x level ++ rest) × FitsProcess x level
+SoundProcess level p = (rows : List Row) (x : Process) (rest : List Row) → p rows ≡ Some (x, rest)
+    → (rows ≡ lines_of x level ++ rest) × FitsProcess x level
 
 abbrev pub IsProcessOf : ℕ → List Row → Process × List Row → Type 0
 IsProcessOf level rows x = (rows ≡ lines_of x.0 level ++ x.1) × FitsProcess x.0 level
 
-joined : (ds : List Declaration) (p : Process) (level : ℕ) (rest : List Row) → declared_rows level ds ++ (lines_of p level ++ rest) ≡ lines_of (with_declarations ds p) level ++ rest
-joined ds p level rest = sym (append_assoc (declared_rows level ds) (lines_of p level) rest) ∙ ap (λ us. us ++ rest) (sym (with_written ds p level))
+joined : (ds : List Declaration) (p : Process) (level : ℕ) (rest : List Row)
+    → declared_rows level ds ++ (lines_of p level ++ rest) ≡ lines_of (with_declarations ds p) level ++ rest
+joined ds p level rest = sym (append_assoc (declared_rows level ds) (lines_of p level) rest) ∙ ap (λ us. us ++ rest)
+    (sym (with_written ds p level))
 
-behind_sound : (component : BlockKind → ReadsLines Component) (level : ℕ) → ((kind : BlockKind) → SoundComponent kind (level + 1) (component kind)) → (ds : List Declaration) (line : ℕ) (h : Head) (after rows : List Row) (x : Process × List Row)
+behind_sound : (component : BlockKind → ReadsLines Component) (level : ℕ)
+    → ((kind : BlockKind) → SoundComponent kind (level + 1) (component kind))
+    → (ds : List Declaration) (line : ℕ) (h : Head) (after rows : List Row) (x : Process × List Row)
     → level ≤ 64 → AllDeclared ds → FitsHead line h
     → rows ≡ declared_rows level ds ++ record { number = line; level = level; terminals = written_head h } ∷ after
     → process_behind component level (record { declarations = ds; line = line; start = h }) after h ≡ Some x
     → IsProcessOf level rows x
 unfolding block_with
 behind_sound component level s ds line (Acts a) after rows x low all fits whole e =
-    at_some (IsProcessOf level rows) (with_declarations ds (Does line (Act a)), after) x e (whole ∙ joined ds (Does line (Act a)) level after, with_fits ds (Does line (Act a)) level low all (low, fits))
+    at_some (IsProcessOf level rows) (with_declarations ds (Does line (Act a)), after) x e
+        (whole ∙ joined ds (Does line (Act a)) level after, with_fits ds (Does line (Act a)) level low all
+        (low, fits))
 behind_sound component level s ds line (Opens kind replicator) after rows x low all fits whole e =
-    let c = bind_some (components_of (component kind) (level + 1) (is_some replicator) after >>= λ y. Some (Block kind replicator y.0, y.1)) _ x e in
+    let c = bind_some (components_of (component kind) (level + 1) (is_some replicator) after >>= λ y. Some
+        (Block kind replicator y.0, y.1)) _ x e in
     let y = bind_some (components_of (component kind) (level + 1) (is_some replicator) after) _ c.0 c.1 in
     let read = block_read (component kind) kind (level + 1) (is_some replicator) after y.0 (s kind) y.1 in
     let construct = Block kind replicator y.0.0 in
-    let body = ap (λ us. declared_rows level ds ++ record { number = line; level = level; terminals = written_head (Opens kind replicator) } ∷ us) read.are in
-    at_some (IsProcessOf level rows) (with_declarations ds (Does line construct), y.0.1) x (ap (λ (o : Option (Construct × List Row)). o >>= λ z. Some (with_declarations ds (Does line z.0), z.1)) y.2 ∙ c.2)
-    (whole ∙ body ∙ joined ds (Does line construct) level y.0.1, with_fits ds (Does line construct) level low all (low, (fits, right_count replicator y.0.0 read.one, read.fit)))
+    let body = ap (λ us. declared_rows level ds ++ record
+        { number = line; level = level; terminals = written_head (Opens kind replicator) } ∷ us) read.are in
+    at_some (IsProcessOf level rows) (with_declarations ds (Does line construct), y.0.1) x
+        (ap (λ (o : Option (Construct × List Row)). o >>= λ z. Some (with_declarations ds (Does line z.0), z.1))
+        y.2 ∙ c.2)
+    (whole ∙ body ∙ joined ds (Does line construct) level y.0.1, with_fits ds (Does line construct) level low all
+        (low, (fits, right_count replicator y.0.0 read.one, read.fit)))
 behind_sound component level s ds line (Declares d) after rows x low all fits whole e = absurd (cc)
 
-process_with_sound : (component : BlockKind → ReadsLines Component) (level : ℕ) → ((kind : BlockKind) → SoundComponent kind (level + 1) (component kind)) → SoundProcess level (process_with component level)
+process_with_sound : (component : BlockKind → ReadsLines Component) (level : ℕ)
+    → ((kind : BlockKind) → SoundComponent kind (level + 1) (component kind))
+    → SoundProcess level (process_with component level)
 unfolding process_with
 process_with_sound component level s rows x rest e =
     let b = bind_some (beginning_from level [] rows) _ (x, rest) e in
     let begins = beginning_sound level rows [] b.0 b.1 in
     let same : b.0.0.declarations ≡ begins.declared = begins.all in
     let fits : AllDeclared b.0.0.declarations = subst AllDeclared (sym same) begins.fits in
-    let whole = begins.whole ∙ ap (λ ds. declared_rows level ds ++ record { number = b.0.0.line; level = level; terminals = written_head b.0.0.start } ∷ b.0.1) (sym same) in
-    behind_sound component level s b.0.0.declarations b.0.0.line b.0.0.start b.0.1 rows (x, rest) begins.low fits begins.start whole b.2
+    let whole = begins.whole ∙ ap (λ ds. declared_rows level ds ++ record
+        { number = b.0.0.line; level = level; terminals = written_head b.0.0.start } ∷ b.0.1) (sym same) in
+    behind_sound component level s b.0.0.declarations b.0.0.line b.0.0.start b.0.1 rows (x, rest) begins.low fits
+        begins.start whole b.2
 
-choice_sound : (p : ReadsLines Process) (level : ℕ) → SoundProcess (level + 1) p → SoundComponent block.If level (choice_with p level)
+choice_sound : (p : ReadsLines Process) (level : ℕ) → SoundProcess (level + 1) p
+    → SoundComponent block.If level (choice_with p level)
 unfolding choice_with
 choice_sound p level s rows x rest e =
     let r = bind_some (first_row level rows) _ (x, rest) e in
@@ -203,10 +277,13 @@ choice_sound p level s rows x rest e =
     let w = whole_sound r.0.0.terminals c.0 c.1 in
     let h = s r.0.1 y.0.0 y.0.1 y.1 in
     let row = row_eq r.0.0 level (written c.0) at.0 w.0 in
-    let whole = first.0 ∙ ap (λ q. q ∷ r.0.1) row ∙ ap (λ us. record { number = r.0.0.number; level = level; terminals = written c.0 } ∷ us) h.0 in
-    at_some (λ (z : Component × List Row). (rows ≡ lines_of_component z.0 level ++ z.1) × IsOf block.If z.0 × FitsComponent z.0 level) (Chosen r.0.0.number c.0 y.0.0, y.0.1) (x, rest) y.2 (whole, tt, (at.1, w.1, h.1))
+    let whole = first.0 ∙ ap (λ q. q ∷ r.0.1) row ∙ ap
+        (λ us. record { number = r.0.0.number; level = level; terminals = written c.0 } ∷ us) h.0 in
+    at_some (λ (z : Component × List Row). (rows ≡ lines_of_component z.0 level ++ z.1) × IsOf block.If z.0 ×
+        FitsComponent z.0 level) (Chosen r.0.0.number c.0 y.0.0, y.0.1) (x, rest) y.2 (whole, tt, (at.1, w.1, h.1))
 
-branch_sound : (p : ReadsLines Process) (level : ℕ) → SoundProcess (level + 1) p → SoundComponent block.Alt level (branch_with p level)
+branch_sound : (p : ReadsLines Process) (level : ℕ) → SoundProcess (level + 1) p
+    → SoundComponent block.Alt level (branch_with p level)
 unfolding branch_with
 branch_sound p level s rows x rest e =
     let r = bind_some (first_row level rows) _ (x, rest) e in
@@ -217,16 +294,21 @@ branch_sound p level s rows x rest e =
     let w = guard_sound r.0.0.terminals c.0 c.1 in
     let h = s r.0.1 y.0.0 y.0.1 y.1 in
     let row = row_eq r.0.0 level (written_guard c.0) at.0 w.0 in
-    let whole = first.0 ∙ ap (λ q. q ∷ r.0.1) row ∙ ap (λ us. record { number = r.0.0.number; level = level; terminals = written_guard c.0 } ∷ us) h.0 in
-    at_some (λ (z : Component × List Row). (rows ≡ lines_of_component z.0 level ++ z.1) × IsOf block.Alt z.0 × FitsComponent z.0 level) (Guarded r.0.0.number c.0 y.0.0, y.0.1) (x, rest) y.2 (whole, tt, (at.1, w.1, h.1))
+    let whole = first.0 ∙ ap (λ q. q ∷ r.0.1) row ∙ ap
+        (λ us. record { number = r.0.0.number; level = level; terminals = written_guard c.0 } ∷ us) h.0 in
+    at_some (λ (z : Component × List Row). (rows ≡ lines_of_component z.0 level ++ z.1) × IsOf block.Alt z.0 ×
+        FitsComponent z.0 level) (Guarded r.0.0.number c.0 y.0.0, y.0.1) (x, rest) y.2 (whole, tt, (at.1, w.1, h.1))
 
-plain_sound : (kind : BlockKind) (level : ℕ) (p : ReadsLines Process) → ((q : Process) → IsOf kind (Plain q)) → SoundProcess level p → SoundComponent kind level (λ rows. plain (p rows))
+plain_sound : (kind : BlockKind) (level : ℕ) (p : ReadsLines Process) → ((q : Process) → IsOf kind (Plain q))
+    → SoundProcess level p → SoundComponent kind level (λ rows. plain (p rows))
 plain_sound kind level p is s rows x rest e =
     let y = bind_some (p rows) _ (x, rest) e in
     let h = s rows y.0.0 y.0.1 y.1 in
-    at_some (λ (z : Component × List Row). (rows ≡ lines_of_component z.0 level ++ z.1) × IsOf kind z.0 × FitsComponent z.0 level) (Plain y.0.0, y.0.1) (x, rest) y.2 (h.0, is y.0.0, h.1)
+    at_some (λ (z : Component × List Row). (rows ≡ lines_of_component z.0 level ++ z.1) × IsOf kind z.0 ×
+        FitsComponent z.0 level) (Plain y.0.0, y.0.1) (x, rest) y.2 (h.0, is y.0.0, h.1)
 
-component_with_sound : (p q : ReadsLines Process) (level : ℕ) → SoundProcess level p → SoundProcess (level + 1) q → (kind : BlockKind) → SoundComponent kind level (component_with p q level kind)
+component_with_sound : (p q : ReadsLines Process) (level : ℕ) → SoundProcess level p → SoundProcess (level + 1) q
+    → (kind : BlockKind) → SoundComponent kind level (component_with p q level kind)
 component_with_sound p q level s t block.Seq = plain_sound block.Seq level p (λ x. tt) s
 component_with_sound p q level s t block.Par = plain_sound block.Par level p (λ x. tt) s
 component_with_sound p q level s t block.If = choice_sound q level t
@@ -237,9 +319,12 @@ mutual
 
   pub process_sound : (n level : ℕ) → SoundProcess level (process_at n level)
   process_sound zero level rows x rest e = absurd (cc)
-  process_sound (suc n) level rows x rest e = process_with_sound (component_at n (level + 1)) level (component_sound n (level + 1)) rows x rest e
+  process_sound (suc n) level rows x rest e =
+      process_with_sound (component_at n (level + 1)) level (component_sound n (level + 1)) rows x rest e
 
   component_sound : (n level : ℕ) (kind : BlockKind) → SoundComponent kind level (component_at n level kind)
   component_sound zero level kind rows x rest e = absurd (cc)
   component_sound (suc n) level kind rows x rest e =
-      component_with_sound (process_with (component_at n (level + 1)) level) (process_at n (level + 1)) level (process_with_sound (component_at n (level + 1)) level (component_sound n (level + 1))) (process_sound n (level + 1)) kind rows x rest e
+      component_with_sound (process_with (component_at n (level + 1)) level) (process_at n (level + 1)) level
+          (process_with_sound (component_at n (level + 1)) level (component_sound n (level + 1)))
+          (process_sound n (level + 1)) kind rows x rest e

@@ -10,12 +10,18 @@ use Rattle.occam_parser.specs.Told.{GoesUpTo}
 use Rattle.occam_parser.proofs.Levels.{fails_on, up_to_none, up_to_fails, up_to_found}
 
 -- what was read, seen as the grammar sees it, up to a mark
-pub seen_up_to : {A Y : Type 0} (view : A → Y) (m : Mark) (read answer : Result (A × Bor (List Token)) LineError) (parsed : Option (Y × List Terminal)) → Gives (λ x. (view x.0, terminals_of x.1.now)) read parsed → GoesUpTo m read answer
+pub seen_up_to : {A Y : Type 0} (view : A → Y) (m : Mark) (read answer : Result (A × Bor (List Token)) LineError)
+    (parsed : Option (Y × List Terminal)) → Gives (λ x. (view x.0, terminals_of x.1.now)) read parsed
+    → GoesUpTo m read answer
     → Gives (λ x. (view x.0, terminals_of x.1.now)) answer (up_to m parsed)
 seen_up_to view m (Err e) (Err f) parsed given u =
     let same : e ≡ f = cc u in
-    subst (λ (d : LineError). Fails d (up_to m parsed)) same (fails_on e parsed (up_to m parsed) (up_to_none m parsed) given)
+    subst (λ (d : LineError). Fails d (up_to m parsed)) same
+        (fails_on e parsed (up_to m parsed) (up_to_none m parsed) given)
 seen_up_to view m (Err e) (Ok y) parsed given u = absurd (cc u)
-seen_up_to view m (Ok x) (Err f) parsed given u = fails_on f (behind m (terminals_of x.1.now)) (up_to m parsed) (λ none. up_to_fails m parsed (view x.0) (terminals_of x.1.now) given none) u
+seen_up_to view m (Ok x) (Err f) parsed given u =
+    fails_on f (behind m (terminals_of x.1.now)) (up_to m parsed)
+    (λ none. up_to_fails m parsed (view x.0) (terminals_of x.1.now) given none) u
 seen_up_to view m (Ok x) (Ok y) parsed given u =
-    up_to_found m parsed (view x.0) (terminals_of x.1.now) (terminals_of y.1.now) given u.1 ∙ ap (λ z. Some (view z, terminals_of y.1.now)) (sym u.0)
+    up_to_found m parsed (view x.0) (terminals_of x.1.now) (terminals_of y.1.now) given u.1 ∙ ap
+        (λ z. Some (view z, terminals_of y.1.now)) (sym u.0)

@@ -1,5 +1,6 @@
 -- A procedure, by its head and what follows.
-use Rattle.std.proofs.Common.{◌≡◌, ◌⊎◌, inl, inr, ℕ, ◌≤◌, ◌<◌, ◌+◌, ◌∷◌, ◌++◌, [], List, length, Option, Some, None, Result, Ok, Err, refl, sym, ap, subst, arith, ◌∙◌}
+use Rattle.std.proofs.Common.{◌≡◌, ◌⊎◌, inl, inr, ℕ, ◌≤◌, ◌<◌, ◌+◌, ◌∷◌, ◌++◌, [], List, length, Option, Some, None}
+use Rattle.std.proofs.Common.{Result, Ok, Err, refl, sym, ap, subst, arith, ◌∙◌}
 use Rattle.std.specs.Prelude.{IfOk}
 use Rattle.std.specs.Borrow.{Bor}
 use Rattle.occam_layout.specs.declared.token.Line.{Line}
@@ -49,12 +50,14 @@ body_lost line head (Ok x) t got (inr none) told =
     inr (ap (with_body line head) told ∙ ap (with_colon line head (process_of x.0)) none)
 
 pub body_found : (line : ℕ) (head : ProcHead) (read : Result (CodeProcess × Bor (List Line)) ParseFault)
-    (y : CodeProcess × Bor (List Line)) (got : Option (Process × List Row)) → GoesUpToColon read (Ok y) → TellsBody read got
+    (y : CodeProcess × Bor (List Line)) (got : Option (Process × List Row)) → GoesUpToColon read (Ok y)
+        → TellsBody read got
     → with_body line head got ≡ Some (record { line = line; head = head; body = process_of y.0 }, rows_of y.1.now)
 body_found line head (Err e) y got goes told = absurd (cc goes)
 body_found line head (Ok x) y got goes told =
     ap (with_body line head) told ∙ ap (with_colon line head (process_of x.0)) goes.1
-    ∙ ap (λ (p : CodeProcess). Some (record { line = line; head = head; body = process_of p }, rows_of y.1.now)) (sym goes.0)
+    ∙ ap (λ (p : CodeProcess). Some (record { line = line; head = head; body = process_of p }, rows_of y.1.now))
+        (sym goes.0)
 
 pub body_within : (read : Result (CodeProcess × Bor (List Line)) ParseFault) (y : CodeProcess × Bor (List Line)) (n : ℕ)
     → GoesUpToColon read (Ok y) → IfOk read (λ x. length x.1.now < n) → length y.1.now ≤ n

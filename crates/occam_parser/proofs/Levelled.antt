@@ -1,13 +1,17 @@
 -- Processes by the levels that are left, as the program counts them.
-use Rattle.std.proofs.Common.{◌≡◌, ℕ, zero, suc, ◌+◌, ◌-◌, ◌≤◌, Bool, List, [], Option, Some, None, refl, sym, ap, arith, ◌∙◌}
+use Rattle.std.proofs.Common.{◌≡◌, ℕ, zero, suc, ◌+◌, ◌-◌, ◌≤◌, Bool, List, [], Option, Some, None, refl, sym, ap}
+use Rattle.std.proofs.Common.{arith, ◌∙◌}
 use Rattle.occam_parser.specs.declared.head.BlockKind.{BlockKind}
 use Rattle.occam_parser.specs.declared.head.BlockKind.TheVariants as block
 use Rattle.occam_parser.specs.Expressions.{Expression}
 use Rattle.occam_parser.specs.Reading.{◌>>=◌}
 use Rattle.occam_parser.specs.Lines.{Replicator, Guard, Head, Declaration, Acts, Opens}
 use Rattle.occam_parser.specs.LineReading.{whole_at, guard_at}
-use Rattle.occam_parser.specs.Blocks.{Row, Process, Does, Construct, Block, Components, Component, Plain, Chosen, Guarded}
-use Rattle.occam_parser.specs.BlockReading.{ReadsLines, first_row, Beginning, beginning_from, with_declarations, components_of, is_some, block_with, process_behind, process_with, choice_with, branch_with, plain, process_at, component_at, plain_at}
+use Rattle.occam_parser.specs.Blocks.{Row, Process, Does, Construct, Block, Components, Component, Plain, Chosen}
+use Rattle.occam_parser.specs.Blocks.{Guarded}
+use Rattle.occam_parser.specs.BlockReading.{ReadsLines, first_row, Beginning, beginning_from, with_declarations}
+use Rattle.occam_parser.specs.BlockReading.{components_of, is_some, block_with, process_behind, process_with}
+use Rattle.occam_parser.specs.BlockReading.{choice_with, branch_with, plain, process_at, component_at, plain_at}
 
 one_more : (level : ℕ) → level ≤ 64 → 65 - level ≡ suc (65 - (level + 1))
 one_more level low = omega arith
@@ -15,32 +19,46 @@ one_more level low = omega arith
 none_at : (n level : ℕ) (rows : List Row) → beginning_from level [] rows ≡ None → process_at n level rows ≡ None
 unfolding process_at process_with
 none_at zero level rows e = refl
-none_at (suc n) level rows e = ap (λ (o : Option (Beginning × List Row)). o >>= λ b. process_behind (component_at n (level + 1)) level b.0 b.1 b.0.start) e
+none_at (suc n) level rows e = ap (λ (o : Option (Beginning × List Row)). o >>= λ b. process_behind
+    (component_at n (level + 1)) level b.0 b.1 b.0.start) e
 
-pub process_none : (level : ℕ) (rows : List Row) → beginning_from level [] rows ≡ None → process_at (65 - level) level rows ≡ None
+pub process_none : (level : ℕ) (rows : List Row) → beginning_from level [] rows ≡ None
+    → process_at (65 - level) level rows ≡ None
 process_none level rows e = none_at (65 - level) level rows e
 
-found_at : (n level : ℕ) (rows rest : List Row) (b : Beginning) → beginning_from level [] rows ≡ Some (b, rest) → process_at (suc n) level rows ≡ process_behind (component_at n (level + 1)) level b rest b.start
+found_at : (n level : ℕ) (rows rest : List Row) (b : Beginning) → beginning_from level [] rows ≡ Some (b, rest)
+    → process_at (suc n) level rows ≡ process_behind (component_at n (level + 1)) level b rest b.start
 unfolding process_at process_with
-found_at n level rows rest b e = ap (λ (o : Option (Beginning × List Row)). o >>= λ c. process_behind (component_at n (level + 1)) level c.0 c.1 c.0.start) e
+found_at n level rows rest b e = ap (λ (o : Option (Beginning × List Row)). o >>= λ c. process_behind
+    (component_at n (level + 1)) level c.0 c.1 c.0.start) e
 
-pub process_is : (level : ℕ) (rows rest : List Row) (b : Beginning) → level ≤ 64 → beginning_from level [] rows ≡ Some (b, rest) → process_at (65 - level) level rows ≡ process_behind (component_at (65 - (level + 1)) (level + 1)) level b rest b.start
-process_is level rows rest b low e = ap (λ n. process_at n level rows) (one_more level low) ∙ found_at (65 - (level + 1)) level rows rest b e
+pub process_is : (level : ℕ) (rows rest : List Row) (b : Beginning) → level ≤ 64
+    → beginning_from level [] rows ≡ Some (b, rest)
+    → process_at (65 - level) level rows ≡ process_behind (component_at (65 - (level + 1)) (level + 1)) level b rest
+    b.start
+process_is level rows rest b low e = ap (λ n. process_at n level rows) (one_more level low) ∙ found_at
+    (65 - (level + 1)) level rows rest b e
 
 -- a block of a process
-pub block_found : (level : ℕ) (rows after rest : List Row) (ds : List Declaration) (line : ℕ) (kind : BlockKind) (r : Option Replicator) (c : Construct) → level ≤ 64
+pub block_found : (level : ℕ) (rows after rest : List Row) (ds : List Declaration) (line : ℕ) (kind : BlockKind)
+    (r : Option Replicator) (c : Construct) → level ≤ 64
     → beginning_from level [] rows ≡ Some (record { declarations = ds; line = line; start = Opens kind r }, after)
-    → block_with kind r (components_of (component_at (65 - (level + 1)) (level + 1) kind) (level + 1) (is_some r) after) ≡ Some (c, rest)
+    → block_with kind r (components_of (component_at (65 - (level + 1)) (level + 1) kind) (level + 1) (is_some r)
+        after) ≡ Some (c, rest)
     → process_at (65 - level) level rows ≡ Some (with_declarations ds (Does line c), rest)
 block_found level rows after rest ds line kind r c low b e =
-    process_is level rows after (record { declarations = ds; line = line; start = Opens kind r }) low b ∙ ap (λ (o : Option (Construct × List Row)). o >>= λ x. Some (with_declarations ds (Does line x.0), x.1)) e
+    process_is level rows after (record { declarations = ds; line = line; start = Opens kind r }) low b ∙ ap
+        (λ (o : Option (Construct × List Row)). o >>= λ x. Some (with_declarations ds (Does line x.0), x.1)) e
 
-pub block_lost : (level : ℕ) (rows after : List Row) (ds : List Declaration) (line : ℕ) (kind : BlockKind) (r : Option Replicator) → level ≤ 64
+pub block_lost : (level : ℕ) (rows after : List Row) (ds : List Declaration) (line : ℕ) (kind : BlockKind)
+    (r : Option Replicator) → level ≤ 64
     → beginning_from level [] rows ≡ Some (record { declarations = ds; line = line; start = Opens kind r }, after)
-    → block_with kind r (components_of (component_at (65 - (level + 1)) (level + 1) kind) (level + 1) (is_some r) after) ≡ None
+    → block_with kind r (components_of (component_at (65 - (level + 1)) (level + 1) kind) (level + 1) (is_some r)
+        after) ≡ None
     → process_at (65 - level) level rows ≡ None
 block_lost level rows after ds line kind r low b e =
-    process_is level rows after (record { declarations = ds; line = line; start = Opens kind r }) low b ∙ ap (λ (o : Option (Construct × List Row)). o >>= λ x. Some (with_declarations ds (Does line x.0), x.1)) e
+    process_is level rows after (record { declarations = ds; line = line; start = Opens kind r }) low b ∙ ap
+        (λ (o : Option (Construct × List Row)). o >>= λ x. Some (with_declarations ds (Does line x.0), x.1)) e
 
 -- ---- components
 
@@ -58,15 +76,20 @@ pub plain_none : (n level : ℕ) (rows : List Row) → process_at n level rows �
 unfolding plain_at
 plain_none n level rows e = ap plain e
 
-pub plain_found : (n level : ℕ) (rows rest : List Row) (p : Process) → process_at n level rows ≡ Some (p, rest) → plain_at n level rows ≡ Some (Plain p, rest)
+pub plain_found : (n level : ℕ) (rows rest : List Row) (p : Process) → process_at n level rows ≡ Some (p, rest)
+    → plain_at n level rows ≡ Some (Plain p, rest)
 unfolding plain_at
 plain_found n level rows rest p e = ap plain e
 
-pub block_found_of : (kind : BlockKind) (r : Option Replicator) (read : Option (Components × List Row)) (cs : Components) (rest : List Row) → read ≡ Some (cs, rest) → block_with kind r read ≡ Some (Block kind r cs, rest)
+pub block_found_of : (kind : BlockKind) (r : Option Replicator) (read : Option (Components × List Row))
+    (cs : Components) (rest : List Row) → read ≡ Some (cs, rest)
+    → block_with kind r read ≡ Some (Block kind r cs, rest)
 unfolding block_with
-block_found_of kind r read cs rest e = ap (λ (o : Option (Components × List Row)). o >>= λ x. Some (Block kind r x.0, x.1)) e
+block_found_of kind r read cs rest e = ap (λ (o : Option (Components × List Row)). o >>= λ x. Some
+    (Block kind r x.0, x.1)) e
 
-pub block_none_of : (kind : BlockKind) (r : Option Replicator) (read : Option (Components × List Row)) → read ≡ None → block_with kind r read ≡ None
+pub block_none_of : (kind : BlockKind) (r : Option Replicator) (read : Option (Components × List Row)) → read ≡ None
+    → block_with kind r read ≡ None
 unfolding block_with
 block_none_of kind r read e = ap (λ (o : Option (Components × List Row)). o >>= λ x. Some (Block kind r x.0, x.1)) e
 
@@ -75,77 +98,122 @@ block_none_of kind r read e = ap (λ (o : Option (Components × List Row)). o >>
 choice_first : (n level : ℕ) (rows : List Row) → first_row level rows ≡ None → component_at n level block.If rows ≡ None
 unfolding component_at choice_with
 choice_first zero level rows e = refl
-choice_first (suc n) level rows e = ap (λ (o : Option (Row × List Row)). o >>= λ r. whole_at r.0.terminals >>= λ condition. process_at n (level + 1) r.1 >>= λ p. Some (Chosen r.0.number condition p.0, p.1)) e
+choice_first (suc n) level rows e = ap (λ (o : Option (Row × List Row)). o >>= λ r. whole_at r.0.terminals >>=
+    λ condition. process_at n (level + 1) r.1 >>= λ p. Some (Chosen r.0.number condition p.0, p.1)) e
 
-pub choice_none : (level : ℕ) (rows : List Row) → first_row level rows ≡ None → component_at (65 - level) level block.If rows ≡ None
+pub choice_none : (level : ℕ) (rows : List Row) → first_row level rows ≡ None
+    → component_at (65 - level) level block.If rows ≡ None
 choice_none level rows e = choice_first (65 - level) level rows e
 
-choice_at : (n level : ℕ) (rows rest : List Row) (r : Row) → first_row level rows ≡ Some (r, rest) → component_at (suc n) level block.If rows ≡ (whole_at r.terminals >>= λ condition. process_at n (level + 1) rest >>= λ p. Some (Chosen r.number condition p.0, p.1))
+choice_at : (n level : ℕ) (rows rest : List Row) (r : Row) → first_row level rows ≡ Some (r, rest)
+    → component_at (suc n) level block.If rows
+    ≡ (whole_at r.terminals >>= λ condition. process_at n (level + 1) rest >>= λ p. Some
+    (Chosen r.number condition p.0, p.1))
 unfolding component_at choice_with
-choice_at n level rows rest r e = ap (λ (o : Option (Row × List Row)). o >>= λ q. whole_at q.0.terminals >>= λ condition. process_at n (level + 1) q.1 >>= λ p. Some (Chosen q.0.number condition p.0, p.1)) e
+choice_at n level rows rest r e = ap (λ (o : Option (Row × List Row)). o >>= λ q. whole_at q.0.terminals >>=
+    λ condition. process_at n (level + 1) q.1 >>= λ p. Some (Chosen q.0.number condition p.0, p.1)) e
 
 pub choice_is : (level : ℕ) (rows rest : List Row) (r : Row) → level ≤ 64 → first_row level rows ≡ Some (r, rest)
-    → component_at (65 - level) level block.If rows ≡ (whole_at r.terminals >>= λ condition. process_at (65 - (level + 1)) (level + 1) rest >>= λ p. Some (Chosen r.number condition p.0, p.1))
-choice_is level rows rest r low e = ap (λ n. component_at n level block.If rows) (one_more level low) ∙ choice_at (65 - (level + 1)) level rows rest r e
+    → component_at (65 - level) level block.If
+        rows ≡ (whole_at r.terminals >>= λ condition. process_at (65 - (level + 1)) (level + 1) rest >>= λ p. Some
+        (Chosen r.number condition p.0, p.1))
+choice_is level rows rest r low e = ap (λ n. component_at n level block.If rows) (one_more level low) ∙ choice_at
+    (65 - (level + 1)) level rows rest r e
 
-branch_first : (n level : ℕ) (rows : List Row) → first_row level rows ≡ None → component_at n level block.Alt rows ≡ None
+branch_first : (n level : ℕ) (rows : List Row) → first_row level rows ≡ None
+    → component_at n level block.Alt rows ≡ None
 unfolding component_at branch_with
 branch_first zero level rows e = refl
-branch_first (suc n) level rows e = ap (λ (o : Option (Row × List Row)). o >>= λ r. guard_at r.0.terminals >>= λ guard. process_at n (level + 1) r.1 >>= λ p. Some (Guarded r.0.number guard p.0, p.1)) e
+branch_first (suc n) level rows e = ap (λ (o : Option (Row × List Row)). o >>= λ r. guard_at r.0.terminals >>=
+    λ guard. process_at n (level + 1) r.1 >>= λ p. Some (Guarded r.0.number guard p.0, p.1)) e
 
-pub branch_none : (level : ℕ) (rows : List Row) → first_row level rows ≡ None → component_at (65 - level) level block.Alt rows ≡ None
+pub branch_none : (level : ℕ) (rows : List Row) → first_row level rows ≡ None
+    → component_at (65 - level) level block.Alt rows ≡ None
 branch_none level rows e = branch_first (65 - level) level rows e
 
-branch_at : (n level : ℕ) (rows rest : List Row) (r : Row) → first_row level rows ≡ Some (r, rest) → component_at (suc n) level block.Alt rows ≡ (guard_at r.terminals >>= λ guard. process_at n (level + 1) rest >>= λ p. Some (Guarded r.number guard p.0, p.1))
+branch_at : (n level : ℕ) (rows rest : List Row) (r : Row) → first_row level rows ≡ Some (r, rest)
+    → component_at (suc n) level block.Alt rows
+    ≡ (guard_at r.terminals >>= λ guard. process_at n (level + 1) rest >>= λ p. Some
+    (Guarded r.number guard p.0, p.1))
 unfolding component_at branch_with
-branch_at n level rows rest r e = ap (λ (o : Option (Row × List Row)). o >>= λ q. guard_at q.0.terminals >>= λ guard. process_at n (level + 1) q.1 >>= λ p. Some (Guarded q.0.number guard p.0, p.1)) e
+branch_at n level rows rest r e = ap (λ (o : Option (Row × List Row)). o >>= λ q. guard_at q.0.terminals >>= λ guard.
+    process_at n (level + 1) q.1 >>= λ p. Some (Guarded q.0.number guard p.0, p.1)) e
 
 pub branch_is : (level : ℕ) (rows rest : List Row) (r : Row) → level ≤ 64 → first_row level rows ≡ Some (r, rest)
-    → component_at (65 - level) level block.Alt rows ≡ (guard_at r.terminals >>= λ guard. process_at (65 - (level + 1)) (level + 1) rest >>= λ p. Some (Guarded r.number guard p.0, p.1))
-branch_is level rows rest r low e = ap (λ n. component_at n level block.Alt rows) (one_more level low) ∙ branch_at (65 - (level + 1)) level rows rest r e
+    → component_at (65 - level) level block.Alt
+        rows ≡ (guard_at r.terminals >>= λ guard. process_at (65 - (level + 1)) (level + 1) rest >>= λ p. Some
+        (Guarded r.number guard p.0, p.1))
+branch_is level rows rest r low e = ap (λ n. component_at n level block.Alt rows) (one_more level low) ∙ branch_at
+    (65 - (level + 1)) level rows rest r e
 
-pub choice_unread : (level : ℕ) (rows rest : List Row) (r : Row) → level ≤ 64 → first_row level rows ≡ Some (r, rest) → whole_at r.terminals ≡ None → component_at (65 - level) level block.If rows ≡ None
-choice_unread level rows rest r low e h = choice_is level rows rest r low e ∙ ap (λ (o : Option Expression). o >>= λ condition. process_at (65 - (level + 1)) (level + 1) rest >>= λ p. Some (Chosen r.number condition p.0, p.1)) h
+pub choice_unread : (level : ℕ) (rows rest : List Row) (r : Row) → level ≤ 64 → first_row level rows ≡ Some (r, rest)
+    → whole_at r.terminals ≡ None → component_at (65 - level) level block.If rows ≡ None
+choice_unread level rows rest r low e h = choice_is level rows rest r low e ∙ ap
+    (λ (o : Option Expression). o >>= λ condition. process_at (65 - (level + 1)) (level + 1) rest >>= λ p. Some
+    (Chosen r.number condition p.0, p.1)) h
 
-pub choice_empty : (level : ℕ) (rows rest : List Row) (r : Row) (x : Expression) → level ≤ 64 → first_row level rows ≡ Some (r, rest) → whole_at r.terminals ≡ Some x → process_at (65 - (level + 1)) (level + 1) rest ≡ None → component_at (65 - level) level block.If rows ≡ None
+pub choice_empty : (level : ℕ) (rows rest : List Row) (r : Row) (x : Expression) → level ≤ 64
+    → first_row level rows ≡ Some (r, rest) → whole_at r.terminals ≡ Some x
+    → process_at (65 - (level + 1)) (level + 1) rest ≡ None → component_at (65 - level) level block.If rows ≡ None
 choice_empty level rows rest r x low e h p =
-    choice_is level rows rest r low e ∙ ap (λ (o : Option Expression). o >>= λ condition. process_at (65 - (level + 1)) (level + 1) rest >>= λ p. Some (Chosen r.number condition p.0, p.1)) h
+    choice_is level rows rest r low e ∙ ap (λ (o : Option Expression). o >>= λ condition. process_at
+        (65 - (level + 1)) (level + 1) rest >>= λ p. Some (Chosen r.number condition p.0, p.1)) h
     ∙ ap (λ (o : Option (Process × List Row)). o >>= λ p. Some (Chosen r.number x p.0, p.1)) p
 
-pub choice_found : (level : ℕ) (rows rest after : List Row) (r : Row) (x : Expression) (q : Process) → level ≤ 64 → first_row level rows ≡ Some (r, rest) → whole_at r.terminals ≡ Some x → process_at (65 - (level + 1)) (level + 1) rest ≡ Some (q, after)
+pub choice_found : (level : ℕ) (rows rest after : List Row) (r : Row) (x : Expression) (q : Process) → level ≤ 64
+    → first_row level rows ≡ Some (r, rest) → whole_at r.terminals ≡ Some x
+    → process_at (65 - (level + 1)) (level + 1) rest ≡ Some (q, after)
     → component_at (65 - level) level block.If rows ≡ Some (Chosen r.number x q, after)
 choice_found level rows rest after r x q low e h p =
-    choice_is level rows rest r low e ∙ ap (λ (o : Option Expression). o >>= λ condition. process_at (65 - (level + 1)) (level + 1) rest >>= λ p. Some (Chosen r.number condition p.0, p.1)) h
+    choice_is level rows rest r low e ∙ ap (λ (o : Option Expression). o >>= λ condition. process_at
+        (65 - (level + 1)) (level + 1) rest >>= λ p. Some (Chosen r.number condition p.0, p.1)) h
     ∙ ap (λ (o : Option (Process × List Row)). o >>= λ p. Some (Chosen r.number x p.0, p.1)) p
 
-pub branch_unread : (level : ℕ) (rows rest : List Row) (r : Row) → level ≤ 64 → first_row level rows ≡ Some (r, rest) → guard_at r.terminals ≡ None → component_at (65 - level) level block.Alt rows ≡ None
-branch_unread level rows rest r low e h = branch_is level rows rest r low e ∙ ap (λ (o : Option Guard). o >>= λ guard. process_at (65 - (level + 1)) (level + 1) rest >>= λ p. Some (Guarded r.number guard p.0, p.1)) h
+pub branch_unread : (level : ℕ) (rows rest : List Row) (r : Row) → level ≤ 64 → first_row level rows ≡ Some (r, rest)
+    → guard_at r.terminals ≡ None → component_at (65 - level) level block.Alt rows ≡ None
+branch_unread level rows rest r low e h = branch_is level rows rest r low e ∙ ap
+    (λ (o : Option Guard). o >>= λ guard. process_at (65 - (level + 1)) (level + 1) rest >>= λ p. Some
+    (Guarded r.number guard p.0, p.1)) h
 
-pub branch_empty : (level : ℕ) (rows rest : List Row) (r : Row) (g : Guard) → level ≤ 64 → first_row level rows ≡ Some (r, rest) → guard_at r.terminals ≡ Some g → process_at (65 - (level + 1)) (level + 1) rest ≡ None → component_at (65 - level) level block.Alt rows ≡ None
+pub branch_empty : (level : ℕ) (rows rest : List Row) (r : Row) (g : Guard) → level ≤ 64
+    → first_row level rows ≡ Some (r, rest) → guard_at r.terminals ≡ Some g
+    → process_at (65 - (level + 1)) (level + 1) rest ≡ None → component_at (65 - level) level block.Alt rows ≡ None
 branch_empty level rows rest r g low e h p =
-    branch_is level rows rest r low e ∙ ap (λ (o : Option Guard). o >>= λ guard. process_at (65 - (level + 1)) (level + 1) rest >>= λ p. Some (Guarded r.number guard p.0, p.1)) h
+    branch_is level rows rest r low e ∙ ap (λ (o : Option Guard). o >>= λ guard. process_at (65 - (level + 1))
+        (level + 1) rest >>= λ p. Some (Guarded r.number guard p.0, p.1)) h
     ∙ ap (λ (o : Option (Process × List Row)). o >>= λ p. Some (Guarded r.number g p.0, p.1)) p
 
-pub branch_found : (level : ℕ) (rows rest after : List Row) (r : Row) (g : Guard) (q : Process) → level ≤ 64 → first_row level rows ≡ Some (r, rest) → guard_at r.terminals ≡ Some g → process_at (65 - (level + 1)) (level + 1) rest ≡ Some (q, after)
+pub branch_found : (level : ℕ) (rows rest after : List Row) (r : Row) (g : Guard) (q : Process) → level ≤ 64
+    → first_row level rows ≡ Some (r, rest) → guard_at r.terminals ≡ Some g
+    → process_at (65 - (level + 1)) (level + 1) rest ≡ Some (q, after)
     → component_at (65 - level) level block.Alt rows ≡ Some (Guarded r.number g q, after)
 branch_found level rows rest after r g q low e h p =
-    branch_is level rows rest r low e ∙ ap (λ (o : Option Guard). o >>= λ guard. process_at (65 - (level + 1)) (level + 1) rest >>= λ p. Some (Guarded r.number guard p.0, p.1)) h
+    branch_is level rows rest r low e ∙ ap (λ (o : Option Guard). o >>= λ guard. process_at (65 - (level + 1))
+        (level + 1) rest >>= λ p. Some (Guarded r.number guard p.0, p.1)) h
     ∙ ap (λ (o : Option (Process × List Row)). o >>= λ p. Some (Guarded r.number g p.0, p.1)) p
 
 -- ---- a block, by its kind
 
-pub kind_reads : (kind k : BlockKind) (item : ReadsLines Component) (level : ℕ) (single : Bool) (rows : List Row) → kind ≡ k → component_at (65 - level) level k ≡ item
+pub kind_reads : (kind k : BlockKind) (item : ReadsLines Component) (level : ℕ) (single : Bool) (rows : List Row)
+    → kind ≡ k → component_at (65 - level) level k ≡ item
     → components_of (component_at (65 - level) level kind) level single rows ≡ components_of item level single rows
-kind_reads kind k item level single rows same i = ap (λ (j : BlockKind). components_of (component_at (65 - level) level j) level single rows) same ∙ ap (λ (q : ReadsLines Component). components_of q level single rows) i
+kind_reads kind k item level single rows same i =
+    ap (λ (j : BlockKind). components_of (component_at (65 - level) level j) level single rows) same ∙ ap
+    (λ (q : ReadsLines Component). components_of q level single rows) i
 
-pub body_none : (kind : BlockKind) (item : ReadsLines Component) (level : ℕ) (r : Option Replicator) (single : Bool) (rows : List Row) → single ≡ is_some r
+pub body_none : (kind : BlockKind) (item : ReadsLines Component) (level : ℕ) (r : Option Replicator) (single : Bool)
+    (rows : List Row) → single ≡ is_some r
     → components_of item level single rows ≡ None → block_with kind r (components_of item level (is_some r) rows) ≡ None
-body_none kind item level r single rows s e = block_none_of kind r (components_of item level (is_some r) rows) (ap (λ (b : Bool). components_of item level b rows) (sym s) ∙ e)
+body_none kind item level r single rows s e =
+    block_none_of kind r (components_of item level (is_some r) rows)
+    (ap (λ (b : Bool). components_of item level b rows) (sym s) ∙ e)
 
 -- the construct that is made of a body
-pub body_found : (kind k : BlockKind) (item : ReadsLines Component) (level : ℕ) (r : Option Replicator) (single : Bool) (rows rest : List Row) (cs : Components) (c : Construct) → single ≡ is_some r
+pub body_found : (kind k : BlockKind) (item : ReadsLines Component) (level : ℕ) (r : Option Replicator)
+    (single : Bool) (rows rest : List Row) (cs : Components) (c : Construct) → single ≡ is_some r
     → components_of item level single rows ≡ Some (cs, rest) → c ≡ Block k r cs → k ≡ kind
     → block_with kind r (components_of item level (is_some r) rows) ≡ Some (c, rest)
 body_found kind k item level r single rows rest cs c s e made same =
-    block_found_of kind r (components_of item level (is_some r) rows) cs rest (ap (λ (b : Bool). components_of item level b rows) (sym s) ∙ e)
+    block_found_of kind r (components_of item level (is_some r) rows) cs rest
+        (ap (λ (b : Bool). components_of item level b rows) (sym s) ∙ e)
     ∙ ap (λ (d : Construct). Some (d, rest)) (sym (made ∙ ap (λ (j : BlockKind). Block j r cs) same))

@@ -1,5 +1,6 @@
 -- What is read of one line is written so, and fits.
-use Rattle.std.proofs.Common.{◌≡◌, ℕ, Bool, true, false, cond, List, [], ◌∷◌, ◌++◌, Option, Some, None, refl, sym, ap, subst, append_assoc, append-nil, ◌∙◌}
+use Rattle.std.proofs.Common.{◌≡◌, ℕ, Bool, true, false, cond, List, [], ◌∷◌, ◌++◌, Option, Some, None, refl, sym, ap}
+use Rattle.std.proofs.Common.{subst, append_assoc, append-nil, ◌∙◌}
 use Rattle.std.specs.List.{AllByRecursion}
 use Rattle.occam_parser.specs.declared.symbol.Mark as mark_type
 use Rattle.occam_parser.specs.declared.symbol.Mark.TheVariants as mark
@@ -14,8 +15,22 @@ use Rattle.occam_parser.specs.Terminals.{Terminal, Name, Integer, Character, Tex
 use Rattle.occam_parser.specs.Expressions.{Expression, written, type_word, Fits}
 use Rattle.occam_parser.specs.Reading.{Reads, ◌>>=◌, behind, up_to, expression_at, list_of}
 use Rattle.occam_parser.specs.Laws.{Sound}
-use Rattle.occam_parser.specs.Lines.{Place, Replicator, Value, Scalar, Table, Bytes, Constant, Names, Declaration, Constants, Variables, Channels, Action, Skip, Stop, Assign, Input, Output, Instance, Guard, Receives, Skips, Formal, ProcHead, Head, Declares, Acts, Opens, in_brackets, written_place, separated, written_name, size_of, written_value, written_constant, channel_words, written_names, written_declaration, written_action, written_replicator, block_word, written_head, written_guard, written_formal, written_proc_head, IsWhole, AreWhole, IsWholeIfAny, HasItem, FitsPlace, FitsValue, FitsConstant, FitsNames, FitsDeclaration, FitsAction, FitsReplicator, FitsHead, FitsGuard, FitsFormal, FitsProcHead}
-use Rattle.occam_parser.specs.LineReading.{ended, only, name_at, equals_at, bracketed_behind, bracketed_at, type_behind, type_at, shape_behind, shape_at, place_at, whole_at, whole_place, table_at, value_at, constant_at, declared_as, names_at, formal_named, formal_kind_of, formal_behind, formal_at, formals_behind, proc_head_at, actuals_behind, actuals_at, placed_action, instance_or_other, action_at, counted_at, replicator_at, block_at, declaration_at, marked_head, head_at, has_condition, input_at, skips_or_receives, conditioned_at, guard_at}
+use Rattle.occam_parser.specs.Lines.{Place, Replicator, Value, Scalar, Table, Bytes, Constant, Names, Declaration}
+use Rattle.occam_parser.specs.Lines.{Constants, Variables, Channels, Action, Skip, Stop, Assign, Input, Output}
+use Rattle.occam_parser.specs.Lines.{Instance, Guard, Receives, Skips, Formal, ProcHead, Head, Declares, Acts, Opens}
+use Rattle.occam_parser.specs.Lines.{in_brackets, written_place, separated, written_name, size_of, written_value}
+use Rattle.occam_parser.specs.Lines.{written_constant, channel_words, written_names, written_declaration}
+use Rattle.occam_parser.specs.Lines.{written_action, written_replicator, block_word, written_head, written_guard}
+use Rattle.occam_parser.specs.Lines.{written_formal, written_proc_head, IsWhole, AreWhole, IsWholeIfAny, HasItem}
+use Rattle.occam_parser.specs.Lines.{FitsPlace, FitsValue, FitsConstant, FitsNames, FitsDeclaration, FitsAction}
+use Rattle.occam_parser.specs.Lines.{FitsReplicator, FitsHead, FitsGuard, FitsFormal, FitsProcHead}
+use Rattle.occam_parser.specs.LineReading.{ended, only, name_at, equals_at, bracketed_behind, bracketed_at, type_behind}
+use Rattle.occam_parser.specs.LineReading.{type_at, shape_behind, shape_at, place_at, whole_at, whole_place, table_at}
+use Rattle.occam_parser.specs.LineReading.{value_at, constant_at, declared_as, names_at, formal_named, formal_kind_of}
+use Rattle.occam_parser.specs.LineReading.{formal_behind, formal_at, formals_behind, proc_head_at, actuals_behind}
+use Rattle.occam_parser.specs.LineReading.{actuals_at, placed_action, instance_or_other, action_at, counted_at}
+use Rattle.occam_parser.specs.LineReading.{replicator_at, block_at, declaration_at, marked_head, head_at, has_condition}
+use Rattle.occam_parser.specs.LineReading.{input_at, skips_or_receives, conditioned_at, guard_at}
 use Rattle.occam_parser.proofs.Options.{bind_some, at_some, chosen}
 use Rattle.occam_parser.proofs.Marks.{behind_is}
 use Rattle.occam_parser.proofs.Sound.{up_to_is, expression_sound}
@@ -27,10 +42,12 @@ pub only_is : {A : Type 0} (x : A) (ts : List Terminal) (y : A) → only x ts �
 only_is x [] y e = (refl, cc)
 only_is x (t ∷ ts) y e = absurd (cc)
 
-pub name_is : (ts : List Terminal) (name : List ℕ) (rest : List Terminal) → name_at ts ≡ Some (name, rest) → ts ≡ Name name ∷ rest
+pub name_is : (ts : List Terminal) (name : List ℕ) (rest : List Terminal) → name_at ts ≡ Some (name, rest)
+    → ts ≡ Name name ∷ rest
 unfolding name_at
 name_is [] name rest e = absurd (cc)
-name_is (Name text ∷ ts) name rest e = at_some (λ (x : List ℕ × List Terminal). Name text ∷ ts ≡ Name x.0 ∷ x.1) (text, ts) (name, rest) e refl
+name_is (Name text ∷ ts) name rest e = at_some (λ (x : List ℕ × List Terminal). Name text ∷ ts ≡ Name x.0 ∷ x.1)
+    (text, ts) (name, rest) e refl
 name_is (Integer value ∷ ts) name rest e = absurd (cc)
 name_is (Character byte ∷ ts) name rest e = absurd (cc)
 name_is (Text bytes ∷ ts) name rest e = absurd (cc)
@@ -50,49 +67,65 @@ equals_is (t ∷ ts) rest e = absurd (cc)
 whole_list : (ts rest : List Terminal) (w : List Terminal) → ts ≡ w ++ rest → rest ≡ [] → ts ≡ w
 whole_list ts rest w e n = e ∙ ap (λ us. w ++ us) n ∙ append-nil w
 
-bracketed_found : (ts : List Terminal) (o : Option (List Terminal)) (x : Option Expression × List Terminal) → behind mark.OpenBracket ts ≡ o → bracketed_behind ts o ≡ Some x → (ts ≡ in_brackets x.0 ++ x.1) × IsWholeIfAny x.0
-bracketed_found ts None x b e = at_some (λ (y : Option Expression × List Terminal). (ts ≡ in_brackets y.0 ++ y.1) × IsWholeIfAny y.0) (None, ts) x e (refl, tt)
+bracketed_found : (ts : List Terminal) (o : Option (List Terminal)) (x : Option Expression × List Terminal)
+    → behind mark.OpenBracket ts ≡ o → bracketed_behind ts o ≡ Some x
+    → (ts ≡ in_brackets x.0 ++ x.1) × IsWholeIfAny x.0
+bracketed_found ts None x b e = at_some (λ (y : Option Expression × List Terminal). (ts ≡ in_brackets y.0 ++ y.1) ×
+    IsWholeIfAny y.0) (None, ts) x e (refl, tt)
 bracketed_found ts (Some after) x b e =
     let y = bind_some (up_to mark.CloseBracket (expression_at 64 after)) _ x e in
-    let h = expression_sound 64 after y.0.0 (Mark mark.CloseBracket ∷ y.0.1) (up_to_is mark.CloseBracket (expression_at 64 after) y.0.0 y.0.1 y.1) in
+    let h = expression_sound 64 after y.0.0 (Mark mark.CloseBracket ∷ y.0.1)
+        (up_to_is mark.CloseBracket (expression_at 64 after) y.0.0 y.0.1 y.1) in
     let opened = behind_is mark.OpenBracket ts after b in
     let inside = h.0 ∙ sym (append_assoc (written y.0.0) (Mark mark.CloseBracket ∷ []) y.0.1) in
-    at_some (λ (z : Option Expression × List Terminal). (ts ≡ in_brackets z.0 ++ z.1) × IsWholeIfAny z.0) (Some y.0.0, y.0.1) x y.2 (opened ∙ ap (λ us. Mark mark.OpenBracket ∷ us) inside, h.1)
+    at_some (λ (z : Option Expression × List Terminal). (ts ≡ in_brackets z.0 ++ z.1) × IsWholeIfAny z.0)
+        (Some y.0.0, y.0.1) x y.2 (opened ∙ ap (λ us. Mark mark.OpenBracket ∷ us) inside, h.1)
 
 pub bracketed_sound : Sound in_brackets IsWholeIfAny bracketed_at
 unfolding bracketed_at
 bracketed_sound ts x rest e = bracketed_found ts (behind mark.OpenBracket ts) (x, rest) refl e
 
-type_found : (ts : List Terminal) (o : Option (List Terminal)) (x : ValueType × List Terminal) → behind mark.Int ts ≡ o → type_behind ts o ≡ Some x → ts ≡ type_word x.0 ∷ x.1
-type_found ts (Some rest) x b e = at_some (λ (y : ValueType × List Terminal). ts ≡ type_word y.0 ∷ y.1) (value_type.Int, rest) x e (behind_is mark.Int ts rest b)
+type_found : (ts : List Terminal) (o : Option (List Terminal)) (x : ValueType × List Terminal)
+    → behind mark.Int ts ≡ o → type_behind ts o ≡ Some x → ts ≡ type_word x.0 ∷ x.1
+type_found ts (Some rest) x b e = at_some (λ (y : ValueType × List Terminal). ts ≡ type_word y.0 ∷ y.1)
+    (value_type.Int, rest) x e (behind_is mark.Int ts rest b)
 type_found ts None x b e =
     let y = bind_some (behind mark.Byte ts) _ x e in
-    at_some (λ (z : ValueType × List Terminal). ts ≡ type_word z.0 ∷ z.1) (value_type.Byte, y.0) x y.2 (behind_is mark.Byte ts y.0 y.1)
+    at_some (λ (z : ValueType × List Terminal). ts ≡ type_word z.0 ∷ z.1) (value_type.Byte, y.0) x y.2
+        (behind_is mark.Byte ts y.0 y.1)
 
-pub type_is : (ts : List Terminal) (t : ValueType) (rest : List Terminal) → type_at ts ≡ Some (t, rest) → ts ≡ type_word t ∷ rest
+pub type_is : (ts : List Terminal) (t : ValueType) (rest : List Terminal) → type_at ts ≡ Some (t, rest)
+    → ts ≡ type_word t ∷ rest
 unfolding type_at
 type_is ts t rest e = type_found ts (behind mark.Int ts) (t, rest) refl e
 
-shape_found : (ts : List Terminal) (o : Option (List Terminal)) (x : (Bool × ValueType) × List Terminal) → behind mark.Chan ts ≡ o → shape_behind ts o ≡ Some x → ts ≡ channel_words x.0.0 ++ type_word x.0.1 ∷ x.1
+shape_found : (ts : List Terminal) (o : Option (List Terminal)) (x : (Bool × ValueType) × List Terminal)
+    → behind mark.Chan ts ≡ o → shape_behind ts o ≡ Some x → ts ≡ channel_words x.0.0 ++ type_word x.0.1 ∷ x.1
 shape_found ts (Some after) x b e =
     let r = bind_some (behind mark.Of after) _ x e in
     let y = bind_some (type_at r.0) _ x r.2 in
-    let words = behind_is mark.Chan ts after b ∙ ap (λ us. Mark mark.Chan ∷ us) (behind_is mark.Of after r.0 r.1 ∙ ap (λ us. Mark mark.Of ∷ us) (type_is r.0 y.0.0 y.0.1 y.1)) in
-    at_some (λ (z : (Bool × ValueType) × List Terminal). ts ≡ channel_words z.0.0 ++ type_word z.0.1 ∷ z.1) ((true, y.0.0), y.0.1) x y.2 words
+    let words = behind_is mark.Chan ts after b ∙ ap (λ us. Mark mark.Chan ∷ us)
+        (behind_is mark.Of after r.0 r.1 ∙ ap (λ us. Mark mark.Of ∷ us) (type_is r.0 y.0.0 y.0.1 y.1)) in
+    at_some (λ (z : (Bool × ValueType) × List Terminal). ts ≡ channel_words z.0.0 ++ type_word z.0.1 ∷ z.1)
+        ((true, y.0.0), y.0.1) x y.2 words
 shape_found ts None x b e =
     let y = bind_some (type_at ts) _ x e in
-    at_some (λ (z : (Bool × ValueType) × List Terminal). ts ≡ channel_words z.0.0 ++ type_word z.0.1 ∷ z.1) ((false, y.0.0), y.0.1) x y.2 (type_is ts y.0.0 y.0.1 y.1)
+    at_some (λ (z : (Bool × ValueType) × List Terminal). ts ≡ channel_words z.0.0 ++ type_word z.0.1 ∷ z.1)
+        ((false, y.0.0), y.0.1) x y.2 (type_is ts y.0.0 y.0.1 y.1)
 
-pub shape_is : (ts : List Terminal) (s : Bool × ValueType) (rest : List Terminal) → shape_at ts ≡ Some (s, rest) → ts ≡ channel_words s.0 ++ type_word s.1 ∷ rest
+pub shape_is : (ts : List Terminal) (s : Bool × ValueType) (rest : List Terminal) → shape_at ts ≡ Some (s, rest)
+    → ts ≡ channel_words s.0 ++ type_word s.1 ∷ rest
 unfolding shape_at
 shape_is ts s rest e = shape_found ts (behind mark.Chan ts) (s, rest) refl e
 
-pub place_sound : (name : List ℕ) (ts : List Terminal) (p : Place) (rest : List Terminal) → place_at name ts ≡ Some (p, rest) → (Name name ∷ ts ≡ written_place p ++ rest) × FitsPlace p
+pub place_sound : (name : List ℕ) (ts : List Terminal) (p : Place) (rest : List Terminal)
+    → place_at name ts ≡ Some (p, rest) → (Name name ∷ ts ≡ written_place p ++ rest) × FitsPlace p
 unfolding place_at
 place_sound name ts p rest e =
     let x = bind_some (bracketed_at ts) _ (p, rest) e in
     let h = bracketed_sound ts x.0.0 x.0.1 x.1 in
-    at_some (λ (y : Place × List Terminal). (Name name ∷ ts ≡ written_place y.0 ++ y.1) × FitsPlace y.0) (record { name = name; subscript = x.0.0 }, x.0.1) (p, rest) x.2 (ap (λ us. Name name ∷ us) h.0, h.1)
+    at_some (λ (y : Place × List Terminal). (Name name ∷ ts ≡ written_place y.0 ++ y.1) × FitsPlace y.0)
+        (record { name = name; subscript = x.0.0 }, x.0.1) (p, rest) x.2 (ap (λ us. Name name ∷ us) h.0, h.1)
 
 pub whole_sound : (ts : List Terminal) (e : Expression) → whole_at ts ≡ Some e → (ts ≡ written e) × IsWhole e
 unfolding whole_at
@@ -102,16 +135,20 @@ whole_sound ts e h =
     let o = only_is x.0.0 x.0.1 e x.2 in
     subst (λ y. (ts ≡ written y) × IsWhole y) o.1 (whole_list ts x.0.1 (written x.0.0) s.0 o.0, s.1)
 
-pub whole_place_sound : (ts : List Terminal) (p : Place) → whole_place ts ≡ Some p → (ts ≡ written_place p) × FitsPlace p
+pub whole_place_sound : (ts : List Terminal) (p : Place) → whole_place ts ≡ Some p
+    → (ts ≡ written_place p) × FitsPlace p
 unfolding whole_place
 whole_place_sound ts p e =
     let n = bind_some (name_at ts) _ p e in
     let x = bind_some (place_at n.0.0 n.0.1) _ p n.2 in
     let s = place_sound n.0.0 n.0.1 x.0.0 x.0.1 x.1 in
     let o = only_is x.0.0 x.0.1 p x.2 in
-    subst (λ q. (ts ≡ written_place q) × FitsPlace q) o.1 (whole_list ts x.0.1 (written_place x.0.0) (name_is ts n.0.0 n.0.1 n.1 ∙ s.0) o.0, s.1)
+    subst (λ q. (ts ≡ written_place q) × FitsPlace q) o.1
+        (whole_list ts x.0.1 (written_place x.0.0) (name_is ts n.0.0 n.0.1 n.1 ∙ s.0) o.0, s.1)
 
-expressions_sound : (ts : List Terminal) (xs : List Expression) (rest : List Terminal) → list_of (expression_at 64) ts ≡ Some (xs, rest) → (ts ≡ separated written xs ++ rest) × (HasItem xs × AreWhole xs)
+expressions_sound : (ts : List Terminal) (xs : List Expression) (rest : List Terminal)
+    → list_of (expression_at 64) ts ≡ Some (xs, rest)
+    → (ts ≡ separated written xs ++ rest) × (HasItem xs × AreWhole xs)
 expressions_sound ts xs rest e = list_sound written IsWhole (expression_at 64) (expression_sound 64) ts (xs, rest) e
 
 -- ---- constants and declarations
@@ -119,18 +156,23 @@ expressions_sound ts xs rest e = list_sound written IsWhole (expression_at 64) (
 abbrev pub IsValue : Option Expression → List Terminal → Value × List Terminal → Type 0
 IsValue size ts x = (ts ≡ written_value x.0 ++ x.1) × (IsWholeIfAny size → FitsValue x.0) × (size ≡ size_of x.0)
 
-table_sound : (size : Expression) (ts : List Terminal) (x : Value × List Terminal) → table_at size ts ≡ Some x → IsValue (Some size) ts x
+table_sound : (size : Expression) (ts : List Terminal) (x : Value × List Terminal) → table_at size ts ≡ Some x
+    → IsValue (Some size) ts x
 unfolding table_at
 table_sound size [] x e = absurd (cc)
-table_sound size (Text bytes ∷ ts) x e = at_some (IsValue (Some size) (Text bytes ∷ ts)) (Bytes size bytes, ts) x e (refl, (λ h. h), refl)
+table_sound size (Text bytes ∷ ts) x e = at_some (IsValue (Some size) (Text bytes ∷ ts)) (Bytes size bytes, ts) x e
+    (refl, (λ h. h), refl)
 table_sound size (Mark mark.OpenBracket ∷ ts) x e =
     let y = bind_some (up_to mark.CloseBracket (list_of (expression_at 64) ts)) _ x e in
-    let h = expressions_sound ts y.0.0 (Mark mark.CloseBracket ∷ y.0.1) (up_to_is mark.CloseBracket (list_of (expression_at 64) ts) y.0.0 y.0.1 y.1) in
+    let h = expressions_sound ts y.0.0 (Mark mark.CloseBracket ∷ y.0.1)
+        (up_to_is mark.CloseBracket (list_of (expression_at 64) ts) y.0.0 y.0.1 y.1) in
     let inside = h.0 ∙ sym (append_assoc (separated written y.0.0) (Mark mark.CloseBracket ∷ []) y.0.1) in
-    at_some (IsValue (Some size) (Mark mark.OpenBracket ∷ ts)) (Table size y.0.0, y.0.1) x y.2 (ap (λ us. Mark mark.OpenBracket ∷ us) inside, (λ w. (w, h.1.0, h.1.1)), refl)
+    at_some (IsValue (Some size) (Mark mark.OpenBracket ∷ ts)) (Table size y.0.0, y.0.1) x y.2
+        (ap (λ us. Mark mark.OpenBracket ∷ us) inside, (λ w. (w, h.1.0, h.1.1)), refl)
 table_sound size (t ∷ ts) x e = absurd (cc)
 
-value_sound : (size : Option Expression) (ts : List Terminal) (x : Value × List Terminal) → value_at size ts ≡ Some x → IsValue size ts x
+value_sound : (size : Option Expression) (ts : List Terminal) (x : Value × List Terminal) → value_at size ts ≡ Some x
+    → IsValue size ts x
 unfolding value_at
 value_sound None ts x e =
     let y = bind_some (expression_at 64 ts) _ x e in
@@ -138,7 +180,8 @@ value_sound None ts x e =
     at_some (IsValue None ts) (Scalar y.0.0, y.0.1) x y.2 (h.0, (λ w. h.1), refl)
 value_sound (Some size) ts x e = table_sound size ts x e
 
-pub constant_sound : (line : ℕ) (ts : List Terminal) (c : Constant) → constant_at line ts ≡ Some c → (ts ≡ written_constant c) × FitsConstant line c
+pub constant_sound : (line : ℕ) (ts : List Terminal) (c : Constant) → constant_at line ts ≡ Some c
+    → (ts ≡ written_constant c) × FitsConstant line c
 unfolding constant_at
 constant_sound line ts c e =
     let size = bind_some (bracketed_at ts) _ c e in
@@ -149,20 +192,27 @@ constant_sound line ts c e =
     let rest = bind_some (behind mark.Colon value.0.1) _ c value.2 in
     let s = bracketed_sound ts size.0.0 size.0.1 size.1 in
     let v = value_sound size.0.0 is.0 value.0 value.1 in
-    let o = only_is (record { line = line; value_type = type.0.0; name = name.0.0; value = value.0.0 }) rest.0 c rest.2 in
+    let o = only_is (record { line = line; value_type = type.0.0; name = name.0.0; value = value.0.0 }) rest.0 c
+        rest.2 in
     let colon = behind_is mark.Colon value.0.1 rest.0 rest.1 ∙ ap (λ us. Mark mark.Colon ∷ us) o.0 in
     let tail = v.0 ∙ ap (λ us. written_value value.0.0 ++ us) colon in
-    let behind_size = type_is size.0.1 type.0.0 type.0.1 type.1 ∙ ap (λ us. type_word type.0.0 ∷ us) (name_is type.0.1 name.0.0 name.0.1 name.1 ∙ ap (λ us. Name name.0.0 ∷ us) (behind_is mark.Is name.0.1 is.0 is.1 ∙ ap (λ us. Mark mark.Is ∷ us) tail)) in
+    let behind_size = type_is size.0.1 type.0.0 type.0.1 type.1 ∙ ap (λ us. type_word type.0.0 ∷ us)
+        (name_is type.0.1 name.0.0 name.0.1 name.1 ∙ ap (λ us. Name name.0.0 ∷ us)
+        (behind_is mark.Is name.0.1 is.0 is.1 ∙ ap (λ us. Mark mark.Is ∷ us) tail)) in
     let whole = s.0 ∙ ap (λ us. in_brackets size.0.0 ++ us) behind_size
-    ∙ ap (λ z. in_brackets z ++ (type_word type.0.0 ∷ Name name.0.0 ∷ Mark mark.Is ∷ (written_value value.0.0 ++ Mark mark.Colon ∷ []))) v.2
+    ∙ ap (λ z. in_brackets z ++ (type_word type.0.0 ∷ Name name.0.0 ∷ Mark mark.Is ∷
+        (written_value value.0.0 ++ Mark mark.Colon ∷ []))) v.2
     in
     subst (λ d. (ts ≡ written_constant d) × FitsConstant line d) o.1 (whole, (refl, v.1 s.1))
 
-declared_sound : (line : ℕ) (ts : List Terminal) (channel : Bool) (n : Names) → ts ≡ written_names channel n → FitsNames line n → (ts ≡ written_declaration (declared_as channel n)) × FitsDeclaration line (declared_as channel n)
+declared_sound : (line : ℕ) (ts : List Terminal) (channel : Bool) (n : Names) → ts ≡ written_names channel n
+    → FitsNames line n → (ts ≡ written_declaration (declared_as channel n)) × FitsDeclaration line
+    (declared_as channel n)
 declared_sound line ts true n e h = (e, h)
 declared_sound line ts false n e h = (e, h)
 
-pub names_sound : (line : ℕ) (ts : List Terminal) (d : Declaration) → names_at line ts ≡ Some d → (ts ≡ written_declaration d) × FitsDeclaration line d
+pub names_sound : (line : ℕ) (ts : List Terminal) (d : Declaration) → names_at line ts ≡ Some d
+    → (ts ≡ written_declaration d) × FitsDeclaration line d
 unfolding names_at
 names_sound line ts d e =
     let size = bind_some (bracketed_at ts) _ d e in
@@ -175,40 +225,57 @@ names_sound line ts d e =
     let o = only_is (declared_as shape.0.0.0 found) rest.0 d rest.2 in
     let colon = behind_is mark.Colon names.0.1 rest.0 rest.1 ∙ ap (λ us. Mark mark.Colon ∷ us) o.0 in
     let tail = n.0 ∙ ap (λ us. separated written_name names.0.0 ++ us) colon in
-    let whole = s.0 ∙ ap (λ us. in_brackets size.0.0 ++ us) (shape_is size.0.1 shape.0.0 shape.0.1 shape.1 ∙ ap (λ us. channel_words shape.0.0.0 ++ type_word shape.0.0.1 ∷ us) tail) in
-    subst (λ x. (ts ≡ written_declaration x) × FitsDeclaration line x) o.1 (declared_sound line ts shape.0.0.0 found whole (refl, s.1, n.1.0))
+    let whole = s.0 ∙ ap (λ us. in_brackets size.0.0 ++ us)
+        (shape_is size.0.1 shape.0.0 shape.0.1 shape.1 ∙ ap
+        (λ us. channel_words shape.0.0.0 ++ type_word shape.0.0.1 ∷ us) tail) in
+    subst (λ x. (ts ≡ written_declaration x) × FitsDeclaration line x) o.1
+        (declared_sound line ts shape.0.0.0 found whole (refl, s.1, n.1.0))
 
 -- ---- procedures
 
 abbrev pub IsFormal : List Terminal → Formal × List Terminal → Type 0
 IsFormal ts x = (ts ≡ written_formal x.0 ++ x.1) × FitsFormal x.0
 
-pub formal_words_join : (b w : List Terminal) (t n : Terminal) (rest : List Terminal) → b ++ (w ++ t ∷ n ∷ rest) ≡ (b ++ (w ++ t ∷ n ∷ [])) ++ rest
-formal_words_join b w t n rest = ap (λ us. b ++ us) (sym (append_assoc w (t ∷ n ∷ []) rest)) ∙ sym (append_assoc b (w ++ t ∷ n ∷ []) rest)
+pub formal_words_join : (b w : List Terminal) (t n : Terminal) (rest : List Terminal)
+    → b ++ (w ++ t ∷ n ∷ rest) ≡ (b ++ (w ++ t ∷ n ∷ [])) ++ rest
+formal_words_join b w t n rest = ap (λ us. b ++ us) (sym (append_assoc w (t ∷ n ∷ []) rest)) ∙ sym
+    (append_assoc b (w ++ t ∷ n ∷ []) rest)
 
-formal_variable : (channel : Bool) (size : Option Expression) (type : ValueType) (name : List ℕ) (ts rest : List Terminal) → ts ≡ (in_brackets size ++ (channel_words channel ++ type_word type ∷ Name name ∷ [])) ++ rest
-    → ts ≡ written_formal (record { kind = formal_kind_of channel; size = size; value_type = type; name = name }) ++ rest
+formal_variable : (channel : Bool) (size : Option Expression) (type : ValueType) (name : List ℕ)
+    (ts rest : List Terminal) → ts ≡ (in_brackets size ++ (channel_words channel ++ type_word type ∷ Name name ∷ []))
+    ++ rest
+    → ts ≡ written_formal (record { kind = formal_kind_of channel; size = size; value_type = type; name = name })
+        ++ rest
 formal_variable true size type name ts rest e = e
 formal_variable false size type name ts rest e = e
 
-formal_found : (ts : List Terminal) (o : Option (List Terminal)) (x : Formal × List Terminal) → behind mark.Val ts ≡ o → formal_behind ts o ≡ Some x → IsFormal ts x
+formal_found : (ts : List Terminal) (o : Option (List Terminal)) (x : Formal × List Terminal)
+    → behind mark.Val ts ≡ o → formal_behind ts o ≡ Some x → IsFormal ts x
 unfolding formal_named
 formal_found ts (Some after) x b e =
     let size = bind_some (bracketed_at after) _ x e in
     let type = bind_some (type_at size.0.1) _ x size.2 in
     let name = bind_some (name_at type.0.1) _ x type.2 in
     let s = bracketed_sound after size.0.0 size.0.1 size.1 in
-    let tail = type_is size.0.1 type.0.0 type.0.1 type.1 ∙ ap (λ us. type_word type.0.0 ∷ us) (name_is type.0.1 name.0.0 name.0.1 name.1) in
-    let inside = s.0 ∙ ap (λ us. in_brackets size.0.0 ++ us) tail ∙ formal_words_join (in_brackets size.0.0) [] (type_word type.0.0) (Name name.0.0) name.0.1 in
-    at_some (IsFormal ts) (record { kind = formal_kind.Value; size = size.0.0; value_type = type.0.0; name = name.0.0 }, name.0.1) x name.2 (behind_is mark.Val ts after b ∙ ap (λ us. Mark mark.Val ∷ us) inside, s.1)
+    let tail = type_is size.0.1 type.0.0 type.0.1 type.1 ∙ ap (λ us. type_word type.0.0 ∷ us)
+        (name_is type.0.1 name.0.0 name.0.1 name.1) in
+    let inside = s.0 ∙ ap (λ us. in_brackets size.0.0 ++ us) tail ∙ formal_words_join (in_brackets size.0.0) []
+        (type_word type.0.0) (Name name.0.0) name.0.1 in
+    at_some (IsFormal ts) (record { kind = formal_kind.Value; size = size.0.0; value_type = type.0.0; name =
+        name.0.0 }, name.0.1) x name.2 (behind_is mark.Val ts after b ∙ ap (λ us. Mark mark.Val ∷ us) inside, s.1)
 formal_found ts None x b e =
     let size = bind_some (bracketed_at ts) _ x e in
     let shape = bind_some (shape_at size.0.1) _ x size.2 in
     let name = bind_some (name_at shape.0.1) _ x shape.2 in
     let s = bracketed_sound ts size.0.0 size.0.1 size.1 in
-    let tail = shape_is size.0.1 shape.0.0 shape.0.1 shape.1 ∙ ap (λ us. channel_words shape.0.0.0 ++ type_word shape.0.0.1 ∷ us) (name_is shape.0.1 name.0.0 name.0.1 name.1) in
-    let inside = s.0 ∙ ap (λ us. in_brackets size.0.0 ++ us) tail ∙ formal_words_join (in_brackets size.0.0) (channel_words shape.0.0.0) (type_word shape.0.0.1) (Name name.0.0) name.0.1 in
-    at_some (IsFormal ts) (record { kind = formal_kind_of shape.0.0.0; size = size.0.0; value_type = shape.0.0.1; name = name.0.0 }, name.0.1) x name.2 (formal_variable shape.0.0.0 size.0.0 shape.0.0.1 name.0.0 ts name.0.1 inside, s.1)
+    let tail = shape_is size.0.1 shape.0.0 shape.0.1 shape.1 ∙ ap
+        (λ us. channel_words shape.0.0.0 ++ type_word shape.0.0.1 ∷ us) (name_is shape.0.1 name.0.0 name.0.1 name.1)
+        in
+    let inside = s.0 ∙ ap (λ us. in_brackets size.0.0 ++ us) tail ∙ formal_words_join (in_brackets size.0.0)
+        (channel_words shape.0.0.0) (type_word shape.0.0.1) (Name name.0.0) name.0.1 in
+    at_some (IsFormal ts) (record { kind = formal_kind_of shape.0.0.0; size = size.0.0; value_type =
+        shape.0.0.1; name = name.0.0 }, name.0.1) x name.2
+        (formal_variable shape.0.0.0 size.0.0 shape.0.0.1 name.0.0 ts name.0.1 inside, s.1)
 
 formal_sound : Sound written_formal FitsFormal formal_at
 unfolding formal_at
@@ -217,10 +284,12 @@ formal_sound ts f rest e = formal_found ts (behind mark.Val ts) (f, rest) refl e
 abbrev pub AreFormals : List Terminal → List Formal → Type 0
 AreFormals ts fs = (ts ≡ separated written_formal fs ++ Mark mark.CloseParenthesis ∷ []) × AllByRecursion FitsFormal fs
 
-formals_found : (ts : List Terminal) (o : Option (List Terminal)) (fs : List Formal) → behind mark.CloseParenthesis ts ≡ o → formals_behind ts o ≡ Some fs → AreFormals ts fs
+formals_found : (ts : List Terminal) (o : Option (List Terminal)) (fs : List Formal)
+    → behind mark.CloseParenthesis ts ≡ o → formals_behind ts o ≡ Some fs → AreFormals ts fs
 formals_found ts (Some rest) fs b e =
     let o = only_is [] rest fs e in
-    subst (AreFormals ts) o.1 (behind_is mark.CloseParenthesis ts rest b ∙ ap (λ us. Mark mark.CloseParenthesis ∷ us) o.0, tt)
+    subst (AreFormals ts) o.1 (behind_is mark.CloseParenthesis ts rest b ∙ ap (λ us. Mark mark.CloseParenthesis ∷ us)
+        o.0, tt)
 formals_found ts None fs b e =
     let x = bind_some (list_of formal_at ts) _ fs e in
     let rest = bind_some (behind mark.CloseParenthesis x.0.1) _ fs x.2 in
@@ -229,25 +298,30 @@ formals_found ts None fs b e =
     let close = behind_is mark.CloseParenthesis x.0.1 rest.0 rest.1 ∙ ap (λ us. Mark mark.CloseParenthesis ∷ us) o.0 in
     subst (AreFormals ts) o.1 (h.0 ∙ ap (λ us. separated written_formal x.0.0 ++ us) close, h.1.1)
 
-pub proc_head_sound : (ts : List Terminal) (h : ProcHead) → proc_head_at ts ≡ Some h → (ts ≡ written_proc_head h) × FitsProcHead h
+pub proc_head_sound : (ts : List Terminal) (h : ProcHead) → proc_head_at ts ≡ Some h
+    → (ts ≡ written_proc_head h) × FitsProcHead h
 unfolding proc_head_at
 proc_head_sound ts h e =
     let name = bind_some (name_at ts) _ h e in
     let opened = bind_some (behind mark.OpenParenthesis name.0.1) _ h name.2 in
     let formals = bind_some (formals_behind opened.0 (behind mark.CloseParenthesis opened.0)) _ h opened.2 in
     let f = formals_found opened.0 (behind mark.CloseParenthesis opened.0) formals.0 refl formals.1 in
-    let whole = name_is ts name.0.0 name.0.1 name.1 ∙ ap (λ us. Name name.0.0 ∷ us) (behind_is mark.OpenParenthesis name.0.1 opened.0 opened.1 ∙ ap (λ us. Mark mark.OpenParenthesis ∷ us) f.0) in
-    at_some (λ g. (ts ≡ written_proc_head g) × FitsProcHead g) (record { name = name.0.0; formals = formals.0 }) h formals.2 (whole, f.1)
+    let whole = name_is ts name.0.0 name.0.1 name.1 ∙ ap (λ us. Name name.0.0 ∷ us)
+        (behind_is mark.OpenParenthesis name.0.1 opened.0 opened.1 ∙ ap (λ us. Mark mark.OpenParenthesis ∷ us) f.0) in
+    at_some (λ g. (ts ≡ written_proc_head g) × FitsProcHead g) (record { name = name.0.0; formals = formals.0 }) h
+        formals.2 (whole, f.1)
 
 -- ---- actions
 
 abbrev pub AreActuals : List Terminal → List Expression → Type 0
 AreActuals ts xs = (ts ≡ separated written xs ++ Mark mark.CloseParenthesis ∷ []) × AreWhole xs
 
-actuals_found : (ts : List Terminal) (o : Option (List Terminal)) (xs : List Expression) → behind mark.CloseParenthesis ts ≡ o → actuals_behind ts o ≡ Some xs → AreActuals ts xs
+actuals_found : (ts : List Terminal) (o : Option (List Terminal)) (xs : List Expression)
+    → behind mark.CloseParenthesis ts ≡ o → actuals_behind ts o ≡ Some xs → AreActuals ts xs
 actuals_found ts (Some rest) xs b e =
     let o = only_is [] rest xs e in
-    subst (AreActuals ts) o.1 (behind_is mark.CloseParenthesis ts rest b ∙ ap (λ us. Mark mark.CloseParenthesis ∷ us) o.0, tt)
+    subst (AreActuals ts) o.1 (behind_is mark.CloseParenthesis ts rest b ∙ ap (λ us. Mark mark.CloseParenthesis ∷ us)
+        o.0, tt)
 actuals_found ts None xs b e =
     let x = bind_some (list_of (expression_at 64) ts) _ xs e in
     let rest = bind_some (behind mark.CloseParenthesis x.0.1) _ xs x.2 in
@@ -284,17 +358,21 @@ placed_sound whole (Mark mark.Output ∷ ts) place a w f e =
     (w ∙ ap (λ us. written_place place ++ Mark mark.Output ∷ us) h.0, (f, h.1))
 placed_sound whole (t ∷ ts) place a w f e = absurd (cc)
 
-instance_sound : (name : List ℕ) (ts : List Terminal) (o : Option (List Terminal)) (a : Action) → behind mark.OpenParenthesis ts ≡ o → instance_or_other name ts o ≡ Some a → IsAction (Name name ∷ ts) a
+instance_sound : (name : List ℕ) (ts : List Terminal) (o : Option (List Terminal)) (a : Action)
+    → behind mark.OpenParenthesis ts ≡ o → instance_or_other name ts o ≡ Some a → IsAction (Name name ∷ ts) a
 instance_sound name ts (Some rest) a b e =
     let xs = bind_some (actuals_at rest) _ a e in
     let h = actuals_sound rest xs.0 xs.1 in
-    at_some (IsAction (Name name ∷ ts)) (Instance name xs.0) a xs.2 (ap (λ us. Name name ∷ us) (behind_is mark.OpenParenthesis ts rest b ∙ ap (λ us. Mark mark.OpenParenthesis ∷ us) h.0), h.1)
+    at_some (IsAction (Name name ∷ ts)) (Instance name xs.0) a xs.2
+        (ap (λ us. Name name ∷ us) (behind_is mark.OpenParenthesis ts rest b ∙ ap
+        (λ us. Mark mark.OpenParenthesis ∷ us) h.0), h.1)
 instance_sound name ts None a b e =
     let p = bind_some (place_at name ts) _ a e in
     let h = place_sound name ts p.0.0 p.0.1 p.1 in
     placed_sound (Name name ∷ ts) p.0.1 p.0.0 a h.0 h.1 p.2
 
-pub action_sound : (name : List ℕ) (ts : List Terminal) (a : Action) → action_at name ts ≡ Some a → IsAction (Name name ∷ ts) a
+pub action_sound : (name : List ℕ) (ts : List Terminal) (a : Action) → action_at name ts ≡ Some a
+    → IsAction (Name name ∷ ts) a
 unfolding action_at
 action_sound name ts a e = instance_sound name ts (behind mark.OpenParenthesis ts) a refl e
 
@@ -339,7 +417,8 @@ replicator_sound (t ∷ ts) r e =
 abbrev pub IsHead : ℕ → List Terminal → Head → Type 0
 IsHead line ts h = (ts ≡ written_head h) × FitsHead line h
 
-block_sound : (line : ℕ) (kind : BlockKind) (ts : List Terminal) (h : Head) → block_at kind ts ≡ Some h → IsHead line (block_word kind ∷ ts) h
+block_sound : (line : ℕ) (kind : BlockKind) (ts : List Terminal) (h : Head) → block_at kind ts ≡ Some h
+    → IsHead line (block_word kind ∷ ts) h
 unfolding block_at
 block_sound line kind ts h e =
     let r = bind_some (replicator_at ts) _ h e in
@@ -352,12 +431,14 @@ declaration_sound line ts h e =
     let d = bind_some (names_at line ts) _ h e in
     at_some (IsHead line ts) (Declares d.0) h d.2 (names_sound line ts d.0 d.1)
 
-only_sound : (line : ℕ) (m : mark_type.Mark) (a : Action) (ts : List Terminal) (h : Head) → written_action a ≡ Mark m ∷ [] → FitsAction a → only (Acts a) ts ≡ Some h → IsHead line (Mark m ∷ ts) h
+only_sound : (line : ℕ) (m : mark_type.Mark) (a : Action) (ts : List Terminal) (h : Head)
+    → written_action a ≡ Mark m ∷ [] → FitsAction a → only (Acts a) ts ≡ Some h → IsHead line (Mark m ∷ ts) h
 only_sound line m a ts h w f e =
     let o = only_is (Acts a) ts h e in
     subst (IsHead line (Mark m ∷ ts)) o.1 (ap (λ us. Mark m ∷ us) o.0 ∙ sym w, f)
 
-marked_sound : (line : ℕ) (m : mark_type.Mark) (ts : List Terminal) (h : Head) → marked_head line (Mark m ∷ ts) m ts ≡ Some h → IsHead line (Mark m ∷ ts) h
+marked_sound : (line : ℕ) (m : mark_type.Mark) (ts : List Terminal) (h : Head)
+    → marked_head line (Mark m ∷ ts) m ts ≡ Some h → IsHead line (Mark m ∷ ts) h
 unfolding marked_head
 marked_sound line mark.Val ts h e =
     let c = bind_some (constant_at line ts) _ h e in
@@ -403,12 +484,15 @@ input_sound ts x e =
     let c = place_sound name.0.0 name.0.1 channel.0.0 channel.0.1 channel.1 in
     let t = whole_place_sound rest.0 target.0 target.1 in
     let tail = behind_is mark.Input channel.0.1 rest.0 rest.1 ∙ ap (λ us. Mark mark.Input ∷ us) t.0 in
-    at_some (IsInput ts) (channel.0.0, target.0) x target.2 (name_is ts name.0.0 name.0.1 name.1 ∙ c.0 ∙ ap (λ us. written_place channel.0.0 ++ us) tail, c.1, t.1)
+    at_some (IsInput ts) (channel.0.0, target.0) x target.2
+        (name_is ts name.0.0 name.0.1 name.1 ∙ c.0 ∙ ap (λ us. written_place channel.0.0 ++ us) tail, c.1, t.1)
 
 abbrev pub IsGuard : List Terminal → Guard → Type 0
 IsGuard ts g = (ts ≡ written_guard g) × FitsGuard g
 
-skips_sound : (whole ts : List Terminal) (condition : Expression) (o : Option (List Terminal)) (g : Guard) → whole ≡ written condition ++ Mark mark.Guard ∷ ts → IsWhole condition → behind mark.Skip ts ≡ o → skips_or_receives condition ts o ≡ Some g → IsGuard whole g
+skips_sound : (whole ts : List Terminal) (condition : Expression) (o : Option (List Terminal)) (g : Guard)
+    → whole ≡ written condition ++ Mark mark.Guard ∷ ts → IsWhole condition → behind mark.Skip ts ≡ o
+    → skips_or_receives condition ts o ≡ Some g → IsGuard whole g
 skips_sound whole ts condition (Some rest) g w f b e =
     let o = only_is (Skips condition) rest g e in
     let tail = behind_is mark.Skip ts rest b ∙ ap (λ us. Mark mark.Skip ∷ us) o.0 in
@@ -416,7 +500,9 @@ skips_sound whole ts condition (Some rest) g w f b e =
 skips_sound whole ts condition None g w f b e =
     let x = bind_some (input_at ts) _ g e in
     let h = input_sound ts x.0 x.1 in
-    let joined = ap (λ us. written condition ++ Mark mark.Guard ∷ us) h.0 ∙ sym (append_assoc (written condition) (Mark mark.Guard ∷ []) (written_place x.0.0 ++ Mark mark.Input ∷ written_place x.0.1)) in
+    let joined = ap (λ us. written condition ++ Mark mark.Guard ∷ us) h.0 ∙ sym
+        (append_assoc (written condition) (Mark mark.Guard ∷ [])
+        (written_place x.0.0 ++ Mark mark.Input ∷ written_place x.0.1)) in
     at_some (IsGuard whole) (Receives (Some condition) x.0.0 x.0.1) g x.2 (w ∙ joined, (f, h.1, h.2))
 
 conditioned_sound : (ts : List Terminal) (g : Guard) → conditioned_at ts ≡ Some g → IsGuard ts g
@@ -425,9 +511,11 @@ conditioned_sound ts g e =
     let c = bind_some (expression_at 64 ts) _ g e in
     let r = bind_some (behind mark.Guard c.0.1) _ g c.2 in
     let h = expression_sound 64 ts c.0.0 c.0.1 c.1 in
-    skips_sound ts r.0 c.0.0 (behind mark.Skip r.0) g (h.0 ∙ ap (λ us. written c.0.0 ++ us) (behind_is mark.Guard c.0.1 r.0 r.1)) h.1 refl r.2
+    skips_sound ts r.0 c.0.0 (behind mark.Skip r.0) g
+        (h.0 ∙ ap (λ us. written c.0.0 ++ us) (behind_is mark.Guard c.0.1 r.0 r.1)) h.1 refl r.2
 
-guard_found : (b : Bool) (ts : List Terminal) (g : Guard) → cond b (conditioned_at ts) (input_at ts >>= λ x. Some (Receives None x.0 x.1)) ≡ Some g → IsGuard ts g
+guard_found : (b : Bool) (ts : List Terminal) (g : Guard)
+    → cond b (conditioned_at ts) (input_at ts >>= λ x. Some (Receives None x.0 x.1)) ≡ Some g → IsGuard ts g
 guard_found true ts g e = conditioned_sound ts g e
 guard_found false ts g e =
     let x = bind_some (input_at ts) _ g e in

@@ -1,5 +1,6 @@
 -- Marks and operators at the front.
-use Rattle.std.proofs.Common.{◌≡◌, Bool, true, false, cond, List, [], ◌∷◌, Option, Some, None, refl, sym, ap, rules, ◌∙◌}
+use Rattle.std.proofs.Common.{◌≡◌, Bool, true, false, cond, List, [], ◌∷◌, Option, Some, None, refl, sym, ap, rules}
+use Rattle.std.proofs.Common.{◌∙◌}
 use denote.Enum.Bare.{same_true, true_same}
 use Rattle.occam_parser.specs.declared.symbol.Mark as mark_type
 use Rattle.occam_parser.specs.declared.symbol.Mark.TheVariants as mark
@@ -38,7 +39,8 @@ pub behind_other : (found wanted : mark_type.Mark) → is_mark found wanted ≡ 
 unfolding behind
 behind_other found wanted e rest = ap (λ b. cond b (Some rest) None) e
 
-pub behind_operator_is : (op : ChainOperator) (ts rest : List Terminal) → behind_operator op ts ≡ Some rest → ts ≡ Chain op ∷ rest
+pub behind_operator_is : (op : ChainOperator) (ts rest : List Terminal) → behind_operator op ts ≡ Some rest
+    → ts ≡ Chain op ∷ rest
 unfolding behind_operator
 behind_operator_is op [] rest e = absurd (cc)
 behind_operator_is op (Chain found ∷ ts) rest e =
@@ -52,11 +54,13 @@ behind_operator_is op (Text bytes ∷ ts) rest e = absurd (cc)
 behind_operator_is op (Pair operator ∷ ts) rest e = absurd (cc)
 behind_operator_is op (Mark m ∷ ts) rest e = absurd (cc)
 
-pub behind_operator_again : (op : ChainOperator) (rest : List Terminal) → behind_operator op (Chain op ∷ rest) ≡ Some rest
+pub behind_operator_again : (op : ChainOperator) (rest : List Terminal)
+    → behind_operator op (Chain op ∷ rest) ≡ Some rest
 unfolding behind_operator
 behind_operator_again op rest = ap (λ b. cond b (Some rest) None) (true_same chain_contract.the_type op op refl)
 
-pub prefix_is : (ts : List Terminal) (op : PrefixOperator) (rest : List Terminal) → prefix_at ts ≡ Some (op, rest) → ts ≡ prefix_sign op ∷ rest
+pub prefix_is : (ts : List Terminal) (op : PrefixOperator) (rest : List Terminal) → prefix_at ts ≡ Some (op, rest)
+    → ts ≡ prefix_sign op ∷ rest
 unfolding prefix_at
 prefix_is [] op rest e = absurd (cc)
 prefix_is (Name text ∷ ts) op rest e = absurd (cc)
@@ -64,10 +68,16 @@ prefix_is (Integer value ∷ ts) op rest e = absurd (cc)
 prefix_is (Character byte ∷ ts) op rest e = absurd (cc)
 prefix_is (Text bytes ∷ ts) op rest e = absurd (cc)
 prefix_is (Chain operator ∷ ts) op rest e = absurd (cc)
-prefix_is (Mark mark.BitNot ∷ ts) op rest e = at_some (λ (x : PrefixOperator × List Terminal). Mark mark.BitNot ∷ ts ≡ prefix_sign x.0 ∷ x.1) (prefix.BitNot, ts) (op, rest) e refl
-prefix_is (Mark mark.Not ∷ ts) op rest e = at_some (λ (x : PrefixOperator × List Terminal). Mark mark.Not ∷ ts ≡ prefix_sign x.0 ∷ x.1) (prefix.Not, ts) (op, rest) e refl
+prefix_is (Mark mark.BitNot ∷ ts) op rest e =
+    at_some (λ (x : PrefixOperator × List Terminal). Mark mark.BitNot ∷ ts ≡ prefix_sign x.0 ∷ x.1)
+    (prefix.BitNot, ts) (op, rest) e refl
+prefix_is (Mark mark.Not ∷ ts) op rest e = at_some
+    (λ (x : PrefixOperator × List Terminal). Mark mark.Not ∷ ts ≡ prefix_sign x.0 ∷ x.1) (prefix.Not, ts) (op, rest)
+    e refl
 prefix_is (Mark m ∷ ts) op rest e = absurd (cc)
-prefix_is (Pair pair.Subtract ∷ ts) op rest e = at_some (λ (x : PrefixOperator × List Terminal). Pair pair.Subtract ∷ ts ≡ prefix_sign x.0 ∷ x.1) (prefix.Negate, ts) (op, rest) e refl
+prefix_is (Pair pair.Subtract ∷ ts) op rest e =
+    at_some (λ (x : PrefixOperator × List Terminal). Pair pair.Subtract ∷ ts ≡ prefix_sign x.0 ∷ x.1)
+    (prefix.Negate, ts) (op, rest) e refl
 prefix_is (Pair pair.Divide ∷ ts) op rest e = absurd (cc)
 prefix_is (Pair pair.Remainder ∷ ts) op rest e = absurd (cc)
 prefix_is (Pair pair.Minus ∷ ts) op rest e = absurd (cc)

@@ -1,5 +1,6 @@
 -- How the program's lists are seen.
-use Rattle.std.proofs.Common.{◌≡◌, ℕ, ◌≤◌, Bool, true, false, cond, Option, Some, None, ◌+◌, List, [], ◌∷◌, ◌++◌, length, map, refl, sym, ap, arith, ◌∙◌, rules, Vec, Box, Global}
+use Rattle.std.proofs.Common.{◌≡◌, ℕ, ◌≤◌, Bool, true, false, cond, Option, Some, None, ◌+◌, List, [], ◌∷◌, ◌++◌}
+use Rattle.std.proofs.Common.{length, map, refl, sym, ap, arith, ◌∙◌, rules, Vec, Box, Global}
 use Rattle.std.proofs.lemmas.List.{length-map, map_push}
 use Rattle.occam_layout.specs.declared.token.Token.{Token}
 use Rattle.occam_parser.specs.declared.tree.ChainOperator.{ChainOperator}
@@ -15,19 +16,26 @@ use Rattle.occam_parser.specs.LineReading.{has_condition}
 use Rattle.occam_parser.specs.Views.{expression_of, term_of, with_others}
 
 pub no_more : (ts us : List Token) → length ts ≤ length us → length (terminals_of ts) ≤ length (terminals_of us)
-no_more ts us h = omega (arith, length-map ts (λ (t : Token). terminal_of t.kind), length-map us (λ (t : Token). terminal_of t.kind))
+no_more ts us h = omega (arith, length-map ts (λ (t : Token). terminal_of t.kind), length-map us
+    (λ (t : Token). terminal_of t.kind))
 
-others_push : (terms : Terms) (others : List Term) (x : Term) → with_others terms (others ++ x ∷ []) ≡ Then (with_others terms others) x
+others_push : (terms : Terms) (others : List Term) (x : Term)
+    → with_others terms (others ++ x ∷ []) ≡ Then (with_others terms others) x
 others_push terms [] x = refl
 others_push terms (y ∷ others) x = others_push (Then terms y) others x
 
-pub operands_push : (terms : Terms) (found pushed : List Operand) (x : Operand) → pushed ≡ found ++ x ∷ [] → with_others terms (map term_of pushed) ≡ Then (with_others terms (map term_of found)) (term_of x)
-operands_push terms found pushed x e = ap (λ xs. with_others terms (map term_of xs)) e ∙ ap (with_others terms) (map_push term_of found x) ∙ others_push terms (map term_of found) (term_of x)
+pub operands_push : (terms : Terms) (found pushed : List Operand) (x : Operand) → pushed ≡ found ++ x ∷ []
+    → with_others terms (map term_of pushed) ≡ Then (with_others terms (map term_of found)) (term_of x)
+operands_push terms found pushed x e = ap (λ xs. with_others terms (map term_of xs)) e ∙ ap (with_others terms)
+    (map_push term_of found x) ∙ others_push terms (map term_of found) (term_of x)
 
-pub view-Chain : (op : ChainOperator) (first : Operand) (others : Vec Operand Global) → expression_of (Chain op first others) ≡ Chained op (with_others (First (term_of first)) (map term_of others.items))
+pub view-Chain : (op : ChainOperator) (first : Operand) (others : Vec Operand Global)
+    → expression_of (Chain op first others) ≡ Chained op
+    (with_others (First (term_of first)) (map term_of others.items))
 view-Chain op first others = search (rules, the_lemmas)
 
-pub view-Converted : (to : ValueType) (operand : Box Operand Global) → term_of (Converted to operand) ≡ Conversion to (term_of operand.value)
+pub view-Converted : (to : ValueType) (operand : Box Operand Global)
+    → term_of (Converted to operand) ≡ Conversion to (term_of operand.value)
 view-Converted to operand = search (rules, the_lemmas)
 
 -- what is left to look through, behind a first token
@@ -39,6 +47,7 @@ abbrev pub left_len : Option (Symbol × Bor (List Token)) → ℕ
 left_len None = 0
 left_len (Some x) = length x.1.now + 1
 
-pub left_is : (ts : List Terminal) (o : Option (Symbol × Bor (List Token))) → MatchOption o (ts ≡ []) (λ x. ts ≡ seen_symbol x.0 ∷ terminals_of x.1.now) → has_condition ts ≡ has_left o
+pub left_is : (ts : List Terminal) (o : Option (Symbol × Bor (List Token)))
+    → MatchOption o (ts ≡ []) (λ x. ts ≡ seen_symbol x.0 ∷ terminals_of x.1.now) → has_condition ts ≡ has_left o
 left_is ts None h = ap has_condition h
 left_is ts (Some x) h = ap has_condition h

@@ -19,13 +19,16 @@ none_left : (lines : List Line) → length lines ≡ 0 → rows_left None ≡ ro
 none_left [] e = refl
 none_left (l ∷ lines) e = absurd (omega arith)
 
-pub left_is : (lines : List Line) (o : Option (Bor Line × Bor (List Line))) → MatchOption o (length lines ≡ 0) (λ p. IsFirstAndRest lines p.0.now p.1.now) → rows_left o ≡ rows_of lines
+pub left_is : (lines : List Line) (o : Option (Bor Line × Bor (List Line)))
+    → MatchOption o (length lines ≡ 0) (λ p. IsFirstAndRest lines p.0.now p.1.now) → rows_left o ≡ rows_of lines
 left_is lines None h = none_left lines h
 left_is lines (Some p) h = sym (ap rows_of h.0)
 
-pub left_len_is : (lines : List Line) (o : Option (Bor Line × Bor (List Line))) → MatchOption o (length lines ≡ 0) (λ p. IsFirstAndRest lines p.0.now p.1.now) → left_len o ≡ length lines
+pub left_len_is : (lines : List Line) (o : Option (Bor Line × Bor (List Line)))
+    → MatchOption o (length lines ≡ 0) (λ p. IsFirstAndRest lines p.0.now p.1.now) → left_len o ≡ length lines
 left_len_is lines None h = sym h
 left_len_is lines (Some p) h = h.1
 
-pub rows_no_more : (lines others : List Line) → length lines ≤ length others → length (rows_of lines) ≤ length (rows_of others)
+pub rows_no_more : (lines others : List Line) → length lines ≤ length others
+    → length (rows_of lines) ≤ length (rows_of others)
 rows_no_more lines others h = omega (arith, length-map lines row_of, length-map others row_of)

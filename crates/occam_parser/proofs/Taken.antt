@@ -1,5 +1,6 @@
 -- Components that the program reads into the body of a block, and a head beside what was read below it.
-use Rattle.std.proofs.Common.{◌≡◌, ◌⊎◌, inl, inr, ℕ, ◌+◌, ◌-◌, ◌<◌, Bool, true, List, [], ◌∷◌, ◌++◌, length, map, Option, Some, None, Result, Ok, Err, refl, sym, ap, subst, ◌∙◌}
+use Rattle.std.proofs.Common.{◌≡◌, ◌⊎◌, inl, inr, ℕ, ◌+◌, ◌-◌, ◌<◌, Bool, true, List, [], ◌∷◌, ◌++◌, length, map}
+use Rattle.std.proofs.Common.{Option, Some, None, Result, Ok, Err, refl, sym, ap, subst, ◌∙◌}
 use Rattle.std.specs.Prelude.{IfOk}
 use Rattle.std.specs.Borrow.{Bor}
 use Rattle.occam_layout.specs.declared.token.Line.{Line}
@@ -9,7 +10,8 @@ use Rattle.occam_parser.specs.declared.tree.Process.{Process as CodeProcess}
 use Rattle.occam_parser.specs.Reading.{◌>>=◌}
 use Rattle.occam_parser.specs.Told.{out_of_memory, Tells, Pushes, IsBeside, StandsAbove}
 use Rattle.occam_parser.specs.Blocks.{Row, rows_of, Component, Components, NoComponent, Further}
-use Rattle.occam_parser.specs.BlockReading.{ReadsLines, wants, count_of, further, components_of, process_at, component_at, plain_at}
+use Rattle.occam_parser.specs.BlockReading.{ReadsLines, wants, count_of, further, components_of, process_at}
+use Rattle.occam_parser.specs.BlockReading.{component_at, plain_at}
 use Rattle.occam_parser.specs.BlockViews.{all_of, process_of, plain_component}
 use Rattle.occam_parser.proofs.Answering.{passed_on}
 use Rattle.occam_parser.proofs.Turns.{ContinuesBlock, block_begins, block_goes_on, block_fails}
@@ -23,9 +25,11 @@ pub plain_tells : (n level : ℕ) (rows : List Row) (read : Result (CodeProcess 
     → Tells (λ x. (process_of x.0, rows_of x.1.now)) read (process_at n level rows)
     → Tells (λ x. (plain_component x.0, rows_of x.1.now)) read (plain_at n level rows)
 plain_tells n level rows (Ok x) told = plain_found n level rows (rows_of x.1.now) (process_of x.0) told
-plain_tells n level rows (Err e) told = passed_on e (process_at n level rows) (plain_at n level rows) (plain_none n level rows) told
+plain_tells n level rows (Err e) told = passed_on e (process_at n level rows) (plain_at n level rows)
+    (plain_none n level rows) told
 
-pub kind_tells : (k : BlockKind) (n level : ℕ) (rows : List Row) (read : Result (CodeProcess × Bor (List Line)) ParseFault)
+pub kind_tells : (k : BlockKind) (n level : ℕ) (rows : List Row)
+    (read : Result (CodeProcess × Bor (List Line)) ParseFault)
     → component_at n level k ≡ plain_at n level
     → Tells (λ x. (process_of x.0, rows_of x.1.now)) read (process_at n level rows)
     → Tells (λ x. (plain_component x.0, rows_of x.1.now)) read (component_at n level k rows)
@@ -40,7 +44,8 @@ pub pushed_tells : {A : Type 0} (f : A → Component) (read : Result (A × Bor (
     → Tells (λ rest. (all_of (map f new), rows_of rest.now)) answer (further (all_of (map f old)) got)
 pushed_tells f (Err e) old new (Err t) got pushes told =
     let same : e ≡ t = cc pushes in
-    let lost = passed_on e got (further (all_of (map f old)) got) (λ none. ap (further (all_of (map f old))) none) told in
+    let lost = passed_on e got (further (all_of (map f old)) got) (λ none. ap (further (all_of (map f old))) none)
+        told in
     subst (λ (u : ParseFault). (u ≡ out_of_memory) ⊎ (further (all_of (map f old)) got ≡ None)) same lost
 pushed_tells f (Err e) old new (Ok rest) got pushes told = absurd (cc pushes)
 pushed_tells f (Ok x) old new (Err t) got pushes told = inl pushes
@@ -112,7 +117,8 @@ turn_fails kind k level single goes start lines found same w true_is e c =
 
 -- ---- a head, beside what was read below it
 
-pub beside_lost : {A B Y : Type 0} (view : B → Y) (head : A) (read : Result B ParseFault) (t : ParseFault) (got : Option Y)
+pub beside_lost : {A B Y : Type 0} (view : B → Y) (head : A) (read : Result B ParseFault) (t : ParseFault)
+    (got : Option Y)
     → IsBeside head read (Err t) → Tells view read got → (t ≡ out_of_memory) ⊎ (got ≡ None)
 beside_lost view head (Err e) t got stands told =
     let same : e ≡ t = cc stands in
@@ -133,18 +139,29 @@ beside_head {A} {B} head h x (Ok y) stands = let same : (head, y) ≡ (h, x) = c
 
 -- ---- a head above what was read
 
-pub below_lost : {A B Y : Type 0} (view : B × Bor (List Line) → Y) (head : A) (read : Result (B × Bor (List Line)) ParseFault) (t : ParseFault) (got : Option Y) → StandsAbove head read (Err t) → Tells view read got → (t ≡ out_of_memory) ⊎ (got ≡ None)
-below_lost view head (Err e) t got stands told = let same : e ≡ t = cc stands in subst (λ (u : ParseFault). (u ≡ out_of_memory) ⊎ (got ≡ None)) same told
+pub below_lost : {A B Y : Type 0} (view : B × Bor (List Line) → Y) (head : A)
+    (read : Result (B × Bor (List Line)) ParseFault) (t : ParseFault) (got : Option Y)
+    → StandsAbove head read (Err t) → Tells view read got → (t ≡ out_of_memory) ⊎ (got ≡ None)
+below_lost view head (Err e) t got stands told = let same : e ≡ t =
+    cc stands in subst (λ (u : ParseFault). (u ≡ out_of_memory) ⊎ (got ≡ None)) same told
 below_lost view head (Ok x) t got stands told = absurd (cc stands)
 
-pub below_found : {A B Y : Type 0} (view : B × Bor (List Line) → Y) (head h : A) (x : B) (rest : Bor (List Line)) (read : Result (B × Bor (List Line)) ParseFault) (got : Option Y) → StandsAbove head read (Ok ((h, x), rest)) → Tells view read got → got ≡ Some (view (x, rest))
+pub below_found : {A B Y : Type 0} (view : B × Bor (List Line) → Y) (head h : A) (x : B) (rest : Bor (List Line))
+    (read : Result (B × Bor (List Line)) ParseFault) (got : Option Y) → StandsAbove head read (Ok ((h, x), rest))
+    → Tells view read got → got ≡ Some (view (x, rest))
 below_found view head h x rest (Err e) got stands told = absurd (cc stands)
-below_found {A} {B} view head h x rest (Ok y) got stands told = let same : ((head, y.0), y.1) ≡ ((h, x), rest) = cc stands in told ∙ ap (λ (z : (A × B) × Bor (List Line)). Some (view (z.0.1, z.1))) same
+below_found {A} {B} view head h x rest (Ok y) got stands told = let same : ((head, y.0), y.1) ≡ ((h, x), rest) =
+    cc stands in told ∙ ap (λ (z : (A × B) × Bor (List Line)). Some (view (z.0.1, z.1))) same
 
-pub below_head : {A B : Type 0} (head h : A) (x : B) (rest : Bor (List Line)) (read : Result (B × Bor (List Line)) ParseFault) → StandsAbove head read (Ok ((h, x), rest)) → head ≡ h
+pub below_head : {A B : Type 0} (head h : A) (x : B) (rest : Bor (List Line))
+    (read : Result (B × Bor (List Line)) ParseFault) → StandsAbove head read (Ok ((h, x), rest)) → head ≡ h
 below_head head h x rest (Err e) stands = absurd (cc stands)
-below_head {A} {B} head h x rest (Ok y) stands = let same : ((head, y.0), y.1) ≡ ((h, x), rest) = cc stands in ap (λ (z : (A × B) × Bor (List Line)). z.0.0) same
+below_head {A} {B} head h x rest (Ok y) stands = let same : ((head, y.0), y.1) ≡ ((h, x), rest) =
+    cc stands in ap (λ (z : (A × B) × Bor (List Line)). z.0.0) same
 
-pub below_keeps : {A B : Type 0} (P : B × Bor (List Line) → Type 0) (head h : A) (x : B) (rest : Bor (List Line)) (read : Result (B × Bor (List Line)) ParseFault) → StandsAbove head read (Ok ((h, x), rest)) → IfOk read P → P (x, rest)
+pub below_keeps : {A B : Type 0} (P : B × Bor (List Line) → Type 0) (head h : A) (x : B) (rest : Bor (List Line))
+    (read : Result (B × Bor (List Line)) ParseFault) → StandsAbove head read (Ok ((h, x), rest)) → IfOk read P
+    → P (x, rest)
 below_keeps P head h x rest (Err e) stands kept = absurd (cc stands)
-below_keeps {A} {B} P head h x rest (Ok y) stands kept = let same : ((head, y.0), y.1) ≡ ((h, x), rest) = cc stands in subst (λ (z : (A × B) × Bor (List Line)). P (z.0.1, z.1)) same kept
+below_keeps {A} {B} P head h x rest (Ok y) stands kept = let same : ((head, y.0), y.1) ≡ ((h, x), rest) =
+    cc stands in subst (λ (z : (A × B) × Bor (List Line)). P (z.0.1, z.1)) same kept

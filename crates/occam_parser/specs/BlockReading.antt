@@ -1,5 +1,6 @@
 -- Reading processes and programs line by line.
-use Rattle.std.specs.Prelude.{◌≡◌, ◌⊎◌, ℕ, zero, suc, ◌+◌, ◌-◌, Bool, true, false, not, ◌&&◌, List, [], ◌∷◌, ◌++◌, length, map, nat_lt, ◌==◌, if◌then◌else◌, Option, Some, None, Result, Ok, Err}
+use Rattle.std.specs.Prelude.{◌≡◌, ◌⊎◌, ℕ, zero, suc, ◌+◌, ◌-◌, Bool, true, false, not, ◌&&◌, List, [], ◌∷◌, ◌++◌}
+use Rattle.std.specs.Prelude.{length, map, nat_lt, ◌==◌, if◌then◌else◌, Option, Some, None, Result, Ok, Err}
 use Rattle.occam_parser.specs.declared.symbol.Mark.TheVariants as mark
 use Rattle.occam_parser.specs.declared.head.BlockKind.{BlockKind}
 use Rattle.occam_parser.specs.declared.head.BlockKind.TheVariants as block
@@ -8,7 +9,9 @@ use Rattle.occam_parser.specs.Expressions.{Expression}
 use Rattle.occam_parser.specs.Reading.{◌>>=◌, behind}
 use Rattle.occam_parser.specs.Lines.{Declaration, Replicator, Guard, Head, Declares, Acts, Opens}
 use Rattle.occam_parser.specs.LineReading.{ended, head_at, whole_at, guard_at, constant_at, proc_head_at}
-use Rattle.occam_parser.specs.Blocks.{Row, Process, Declared, Does, Construct, Act, Block, Components, NoComponent, Further, Component, Plain, Chosen, Guarded, Procedure, ProgramItem, GlobalConstant, GlobalProcedure}
+use Rattle.occam_parser.specs.Blocks.{Row, Process, Declared, Does, Construct, Act, Block, Components, NoComponent}
+use Rattle.occam_parser.specs.Blocks.{Further, Component, Plain, Chosen, Guarded, Procedure, ProgramItem}
+use Rattle.occam_parser.specs.Blocks.{GlobalConstant, GlobalProcedure}
 
 -- what is read from the first lines, and the lines behind, if it is there
 abbrev pub ReadsLines : Type 0 → Type 0
@@ -35,16 +38,19 @@ pub record Beginning : Type 0 where
   pub line : ℕ
   pub start : Head
 
-abbrev pub begun : List Declaration → ℕ → List Row → (List Declaration → Option (Beginning × List Row)) → Option Head → Option (Beginning × List Row)
+abbrev pub begun : List Declaration → ℕ → List Row → (List Declaration → Option (Beginning × List Row)) → Option Head
+    → Option (Beginning × List Row)
 begun found line rows more None = None
 begun found line rows more (Some (Declares d)) = more (found ++ d ∷ [])
 begun found line rows more (Some (Acts a)) = Some (record { declarations = found; line = line; start = Acts a }, rows)
-begun found line rows more (Some (Opens kind replicator)) = Some (record { declarations = found; line = line; start = Opens kind replicator }, rows)
+begun found line rows more (Some (Opens kind replicator)) =
+    Some (record { declarations = found; line = line; start = Opens kind replicator }, rows)
 
 unfoldable pub beginning_from : ℕ → List Declaration → ReadsLines Beginning
 beginning_from level found [] = None
 beginning_from level found (r ∷ rows) =
-    if is_at level r then begun found r.number rows (λ more. beginning_from level more rows) (head_at r.number r.terminals) else None
+    if is_at level r then begun found r.number rows (λ more. beginning_from level more rows)
+        (head_at r.number r.terminals) else None
 
 abbrev pub with_declarations : List Declaration → Process → Process
 with_declarations [] p = p
@@ -66,16 +72,19 @@ wants level single count rows =
 abbrev pub further : Components → Option (Component × List Row) → Option (Components × List Row)
 further found read = read >>= λ x. Some (Further found x.0, x.1)
 
-abbrev pub component_step : Option (Components × List Row) → Components → List Row → Option Bool → Option (Components × List Row)
+abbrev pub component_step : Option (Components × List Row) → Components → List Row → Option Bool
+    → Option (Components × List Row)
 component_step more found rows None = None
 component_step more found rows (Some false) = Some (found, rows)
 component_step more found rows (Some true) = more
 
 -- The number bounds the turns: the count of the lines is enough.
 unfoldable pub components_from : ReadsLines Component → ℕ → Bool → ℕ → Components → ReadsLines Components
-components_from item level single zero found rows = component_step None found rows (wants level single (count_of found) rows)
+components_from item level single zero found rows =
+    component_step None found rows (wants level single (count_of found) rows)
 components_from item level single (suc n) found rows =
-    component_step (item rows >>= λ x. components_from item level single n (Further found x.0) x.1) found rows (wants level single (count_of found) rows)
+    component_step (item rows >>= λ x. components_from item level single n (Further found x.0) x.1) found rows
+        (wants level single (count_of found) rows)
 
 unfoldable pub components_of : ReadsLines Component → ℕ → Bool → ReadsLines Components
 components_of item level single rows = components_from item level single (length rows) NoComponent rows
@@ -87,10 +96,12 @@ is_some None = false
 is_some (Some x) = true
 
 -- a block whose components are at a level
-unfoldable pub block_with : BlockKind → Option Replicator → Option (Components × List Row) → Option (Construct × List Row)
+unfoldable pub block_with : BlockKind → Option Replicator → Option (Components × List Row)
+    → Option (Construct × List Row)
 block_with kind replicator read = read >>= λ x. Some (Block kind replicator x.0, x.1)
 
-abbrev pub process_behind : (BlockKind → ReadsLines Component) → ℕ → Beginning → List Row → Head → Option (Process × List Row)
+abbrev pub process_behind : (BlockKind → ReadsLines Component) → ℕ → Beginning → List Row → Head
+    → Option (Process × List Row)
 process_behind component level b rows (Acts a) = Some (with_declarations b.declarations (Does b.line (Act a)), rows)
 process_behind component level b rows (Opens kind replicator) = do
   x ← block_with kind replicator (components_of (component kind) (level + 1) (is_some replicator) rows)
@@ -137,7 +148,8 @@ unfoldable mutual
 
   pub component_at : ℕ → ℕ → BlockKind → ReadsLines Component
   component_at zero level kind = no_lines
-  component_at (suc n) level kind = component_with (process_with (component_at n (level + 1)) level) (process_at n (level + 1)) level kind
+  component_at (suc n) level kind = component_with (process_with (component_at n (level + 1)) level)
+      (process_at n (level + 1)) level kind
 
 -- the same processes as components
 unfoldable pub plain_at : ℕ → ℕ → ReadsLines Component

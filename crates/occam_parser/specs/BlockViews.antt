@@ -16,8 +16,11 @@ use Rattle.occam_parser.specs.declared.tree.Program as program_type
 use Rattle.occam_parser.specs.declared.tree.Item as item_type
 use Rattle.occam_parser.specs.declared.tree.Item.TheVariants as item
 use Rattle.occam_parser.specs.Views.{expression_of}
-use Rattle.occam_parser.specs.LineViews.{declaration_of, action_of, replicator_of, guard_of, formal_of, constant_of, start_of}
-use Rattle.occam_parser.specs.Blocks.{Process, Declared, Does, Construct, Act, Block, Components, NoComponent, Further, Component, Plain, Chosen, Guarded, Procedure, ProgramItem, GlobalConstant, GlobalProcedure}
+use Rattle.occam_parser.specs.LineViews.{declaration_of, action_of, replicator_of, guard_of, formal_of, constant_of}
+use Rattle.occam_parser.specs.LineViews.{start_of}
+use Rattle.occam_parser.specs.Blocks.{Process, Declared, Does, Construct, Act, Block, Components, NoComponent, Further}
+use Rattle.occam_parser.specs.Blocks.{Component, Plain, Chosen, Guarded, Procedure, ProgramItem, GlobalConstant}
+use Rattle.occam_parser.specs.Blocks.{GlobalProcedure}
 use Rattle.occam_parser.specs.BlockReading.{Beginning, with_declarations}
 
 -- components from a list
@@ -30,10 +33,14 @@ process_step p = with_declarations (map declaration_of p.declarations.items) (Do
 
 abbrev pub construct_step : Construct-F Construct Component Component Process → Construct
 construct_step (Construct-F.Action a) = Act (action_of a)
-construct_step (Construct-F.Seq replicator components) = Block block.Seq (option_map replicator_of replicator) (all_of (map Plain components.items))
-construct_step (Construct-F.Par replicator components) = Block block.Par (option_map replicator_of replicator) (all_of (map Plain components.items))
-construct_step (Construct-F.If replicator choices) = Block block.If (option_map replicator_of replicator) (all_of choices.items)
-construct_step (Construct-F.Alt replicator branches) = Block block.Alt (option_map replicator_of replicator) (all_of branches.items)
+construct_step (Construct-F.Seq replicator components) =
+    Block block.Seq (option_map replicator_of replicator) (all_of (map Plain components.items))
+construct_step (Construct-F.Par replicator components) =
+    Block block.Par (option_map replicator_of replicator) (all_of (map Plain components.items))
+construct_step (Construct-F.If replicator choices) =
+    Block block.If (option_map replicator_of replicator) (all_of choices.items)
+construct_step (Construct-F.Alt replicator branches) =
+    Block block.Alt (option_map replicator_of replicator) (all_of branches.items)
 
 abbrev pub choice_step : Choice-F Construct Component Component Process → Component
 choice_step c = Chosen c.line (expression_of c.condition) c.process
@@ -54,14 +61,16 @@ abbrev pub branch_of : Branch → Component
 branch_of = fold-Branch Construct Component Component Process construct_step branch_step choice_step process_step
 
 abbrev pub procedure_of : proc_type.Proc → Procedure
-procedure_of p = record { line = p.line; head = record { name = p.name.now; formals = map formal_of p.formals.items }; body = process_of p.body }
+procedure_of p = record { line = p.line; head =
+    record { name = p.name.now; formals = map formal_of p.formals.items }; body = process_of p.body }
 
 abbrev pub item_of : item_type.Item → ProgramItem
 item_of (item.Constant c) = GlobalConstant (constant_of c)
 item_of (item.Proc p) = GlobalProcedure (procedure_of p)
 
 abbrev pub beginning_of : opening_type.Opening → Beginning
-beginning_of o = record { declarations = map declaration_of o.declarations.items; line = o.line; start = start_of o.start }
+beginning_of o = record { declarations = map declaration_of o.declarations.items; line = o.line; start =
+    start_of o.start }
 
 abbrev pub plain_component : CodeProcess → Component
 plain_component p = Plain (process_of p)

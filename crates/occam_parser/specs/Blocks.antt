@@ -7,7 +7,10 @@ use Rattle.occam_parser.specs.declared.head.BlockKind.{BlockKind}
 use Rattle.occam_parser.specs.declared.head.BlockKind.TheVariants as block
 use Rattle.occam_parser.specs.Terminals.{Terminal, Mark, terminals_of}
 use Rattle.occam_parser.specs.Expressions.{Expression, written}
-use Rattle.occam_parser.specs.Lines.{Constant, Constants, Variables, Channels, Declaration, Action, Replicator, Guard, ProcHead, written_constant, written_declaration, written_action, written_replicator, block_word, written_guard, written_proc_head, IsWhole, FitsConstant, FitsDeclaration, FitsAction, FitsReplicator, FitsGuard, FitsProcHead}
+use Rattle.occam_parser.specs.Lines.{Constant, Constants, Variables, Channels, Declaration, Action, Replicator, Guard}
+use Rattle.occam_parser.specs.Lines.{ProcHead, written_constant, written_declaration, written_action}
+use Rattle.occam_parser.specs.Lines.{written_replicator, block_word, written_guard, written_proc_head, IsWhole}
+use Rattle.occam_parser.specs.Lines.{FitsConstant, FitsDeclaration, FitsAction, FitsReplicator, FitsGuard, FitsProcHead}
 
 -- a line, apart from where its tokens stand
 pub record Row : Type 0 where
@@ -62,13 +65,15 @@ declaration_line (Channels n) = n.line
 
 abbrev mutual
   pub lines_of : Process → ℕ → List Row
-  lines_of (Declared d p) level = record { number = declaration_line d; level = level; terminals = written_declaration d } ∷ lines_of p level
+  lines_of (Declared d p) level = record { number = declaration_line d; level = level; terminals =
+      written_declaration d } ∷ lines_of p level
   lines_of (Does line c) level = lines_of_construct c line level
 
   pub lines_of_construct : Construct → ℕ → ℕ → List Row
   lines_of_construct (Act a) line level = record { number = line; level = level; terminals = written_action a } ∷ []
   lines_of_construct (Block kind replicator components) line level =
-      record { number = line; level = level; terminals = block_word kind ∷ written_replicator replicator } ∷ lines_of_components components (level + 1)
+      record { number = line; level = level; terminals = block_word kind ∷ written_replicator replicator } ∷
+          lines_of_components components (level + 1)
 
   pub lines_of_components : Components → ℕ → List Row
   lines_of_components NoComponent level = []
@@ -76,8 +81,10 @@ abbrev mutual
 
   pub lines_of_component : Component → ℕ → List Row
   lines_of_component (Plain p) level = lines_of p level
-  lines_of_component (Chosen line e p) level = record { number = line; level = level; terminals = written e } ∷ lines_of p (level + 1)
-  lines_of_component (Guarded line g p) level = record { number = line; level = level; terminals = written_guard g } ∷ lines_of p (level + 1)
+  lines_of_component (Chosen line e p) level =
+      record { number = line; level = level; terminals = written e } ∷ lines_of p (level + 1)
+  lines_of_component (Guarded line g p) level =
+      record { number = line; level = level; terminals = written_guard g } ∷ lines_of p (level + 1)
 
 -- ---- when they fit
 
@@ -107,7 +114,8 @@ abbrev mutual
 
   pub FitsConstruct : Construct → ℕ → Type 0
   FitsConstruct (Act a) level = FitsAction a
-  FitsConstruct (Block kind replicator cs) level = FitsReplicator replicator × HasRightCount replicator cs × FitComponents cs kind (level + 1)
+  FitsConstruct (Block kind replicator cs) level =
+      FitsReplicator replicator × HasRightCount replicator cs × FitComponents cs kind (level + 1)
 
   pub FitComponents : Components → BlockKind → ℕ → Type 0
   FitComponents NoComponent kind level = Unit {0}
@@ -133,6 +141,8 @@ constant_row c = record { number = c.line; level = 0; terminals = Mark mark.Val 
 -- these lines are this program
 abbrev pub IsProgram : List Row → List ProgramItem → Type 0
 IsProgram rows [] = rows ≡ []
-IsProgram rows (GlobalConstant c ∷ items) = (rest : List Row) × (rows ≡ constant_row c ∷ rest) × FitsConstant c.line c × IsProgram rest items
+IsProgram rows (GlobalConstant c ∷ items) = (rest : List Row) × (rows ≡ constant_row c ∷ rest) × FitsConstant c.line
+    c × IsProgram rest items
 IsProgram rows (GlobalProcedure p ∷ items) =
-    (number : ℕ) × (rest : List Row) × (rows ≡ proc_row p ∷ (lines_of p.body 1 ++ colon_row number ∷ rest)) × FitsProcHead p.head × FitsProcess p.body 1 × IsProgram rest items
+    (number : ℕ) × (rest : List Row) × (rows ≡ proc_row p ∷ (lines_of p.body 1 ++ colon_row number ∷ rest)) ×
+        FitsProcHead p.head × FitsProcess p.body 1 × IsProgram rest items

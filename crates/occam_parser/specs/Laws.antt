@@ -6,7 +6,8 @@ use Rattle.occam_parser.specs.Reading.{Reads, behind, begins_with_operator}
 
 -- what is read is written so, and fits
 abbrev pub Sound : {A : Type 0} → (A → List Terminal) → (A → Type 0) → Reads A → Type 0
-Sound {A} write fits p = (ts : List Terminal) (x : A) (rest : List Terminal) → p ts ≡ Some (x, rest) → (ts ≡ write x ++ rest) × fits x
+Sound {A} write fits p = (ts : List Terminal) (x : A) (rest : List Terminal) → p ts ≡ Some (x, rest)
+    → (ts ≡ write x ++ rest) × fits x
 
 -- nothing that would belong to an expression follows
 pub record Ends (rest : List Terminal) : Type 0 where

@@ -22,7 +22,9 @@ use Rattle.occam_parser.specs.declared.head.Start as start_type
 use Rattle.occam_parser.specs.declared.head.Start.TheVariants as start
 use Rattle.occam_parser.specs.Views.{expression_of}
 use Rattle.occam_parser.specs.Expressions.{Expression}
-use Rattle.occam_parser.specs.Lines.{Place, Replicator, Value, Scalar, Table, Bytes, Constant, Names, Declaration, Constants, Variables, Channels, Action, Skip, Stop, Assign, Input, Output, Instance, Guard, Receives, Skips, Formal, ProcHead, Head, Declares, Acts, Opens}
+use Rattle.occam_parser.specs.Lines.{Place, Replicator, Value, Scalar, Table, Bytes, Constant, Names, Declaration}
+use Rattle.occam_parser.specs.Lines.{Constants, Variables, Channels, Action, Skip, Stop, Assign, Input, Output}
+use Rattle.occam_parser.specs.Lines.{Instance, Guard, Receives, Skips, Formal, ProcHead, Head, Declares, Acts, Opens}
 
 abbrev pub spelling_of : Bor (List ℕ) → List ℕ
 spelling_of name = name.now
@@ -42,7 +44,8 @@ abbrev pub constant_of : constant_type.Constant → Constant
 constant_of c = record { line = c.line; value_type = c.value_type; name = c.name.now; value = value_of c.value }
 
 abbrev pub names_of : names_type.Names → Names
-names_of n = record { line = n.line; size = option_map expression_of n.size; value_type = n.value_type; names = map spelling_of n.names.items }
+names_of n = record { line = n.line; size = option_map expression_of n.size; value_type = n.value_type; names =
+    map spelling_of n.names.items }
 
 abbrev pub declaration_of : declaration_type.Declaration → Declaration
 declaration_of (declaration.Constant c) = Constants (constant_of c)
@@ -58,11 +61,13 @@ action_of (action.Output channel e) = Output (place_of channel) (expression_of e
 action_of (action.Instance name actuals) = Instance name.now (map expression_of actuals.items)
 
 abbrev pub guard_of : guard_type.Guard → Guard
-guard_of (guard.Input condition channel target) = Receives (option_map expression_of condition) (place_of channel) (place_of target)
+guard_of (guard.Input condition channel target) =
+    Receives (option_map expression_of condition) (place_of channel) (place_of target)
 guard_of (guard.Skip condition) = Skips (expression_of condition)
 
 abbrev pub formal_of : formal_type.Formal → Formal
-formal_of f = record { kind = f.kind; size = option_map expression_of f.size; value_type = f.value_type; name = f.name.now }
+formal_of f = record { kind = f.kind; size = option_map expression_of f.size; value_type = f.value_type; name =
+    f.name.now }
 
 abbrev pub proc_head_of : proc_head_type.ProcHead → ProcHead
 proc_head_of h = record { name = h.name.now; formals = map formal_of h.formals.items }

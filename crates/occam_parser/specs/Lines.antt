@@ -106,7 +106,8 @@ written_value (Bytes size bytes) = Text bytes ∷ []
 -- behind the word VAL
 abbrev pub written_constant : Constant → List Terminal
 written_constant c =
-    in_brackets (size_of c.value) ++ (type_word c.value_type ∷ Name c.name ∷ Mark mark.Is ∷ (written_value c.value ++ Mark mark.Colon ∷ []))
+    in_brackets (size_of c.value) ++ (type_word c.value_type ∷ Name c.name ∷ Mark mark.Is ∷
+        (written_value c.value ++ Mark mark.Colon ∷ []))
 
 -- the words before a type
 abbrev pub channel_words : Bool → List Terminal
@@ -115,7 +116,8 @@ channel_words true = Mark mark.Chan ∷ Mark mark.Of ∷ []
 
 abbrev pub written_names : Bool → Names → List Terminal
 written_names is_channel n =
-    in_brackets n.size ++ (channel_words is_channel ++ (type_word n.value_type ∷ (separated written_name n.names ++ Mark mark.Colon ∷ [])))
+    in_brackets n.size ++ (channel_words is_channel
+        ++ (type_word n.value_type ∷ (separated written_name n.names ++ Mark mark.Colon ∷ [])))
 
 abbrev pub written_declaration : Declaration → List Terminal
 written_declaration (Constants c) = Mark mark.Val ∷ written_constant c
@@ -128,7 +130,8 @@ written_action Stop = Mark mark.Stop ∷ []
 written_action (Assign target value) = written_place target ++ Mark mark.Assign ∷ written value
 written_action (Input channel target) = written_place channel ++ Mark mark.Input ∷ written_place target
 written_action (Output channel value) = written_place channel ++ Mark mark.Output ∷ written value
-written_action (Instance name actuals) = Name name ∷ Mark mark.OpenParenthesis ∷ separated written actuals ++ Mark mark.CloseParenthesis ∷ []
+written_action (Instance name actuals) = Name name ∷ Mark mark.OpenParenthesis ∷ separated written actuals ++ Mark
+    mark.CloseParenthesis ∷ []
 
 abbrev pub written_replicator : Option Replicator → List Terminal
 written_replicator None = []
@@ -150,7 +153,8 @@ written_condition None = []
 written_condition (Some e) = written e ++ Mark mark.Guard ∷ []
 
 abbrev pub written_guard : Guard → List Terminal
-written_guard (Receives condition channel target) = written_condition condition ++ (written_place channel ++ Mark mark.Input ∷ written_place target)
+written_guard (Receives condition channel target) =
+    written_condition condition ++ (written_place channel ++ Mark mark.Input ∷ written_place target)
 written_guard (Skips condition) = written condition ++ Mark mark.Guard ∷ Mark mark.Skip ∷ []
 
 -- the words before the size and the type, and those between
@@ -165,11 +169,13 @@ formal_words formal_kind.Variable = []
 formal_words formal_kind.Channel = Mark mark.Chan ∷ Mark mark.Of ∷ []
 
 abbrev pub written_formal : Formal → List Terminal
-written_formal f = value_word f.kind ++ (in_brackets f.size ++ (formal_words f.kind ++ type_word f.value_type ∷ Name f.name ∷ []))
+written_formal f = value_word f.kind ++ (in_brackets
+    f.size ++ (formal_words f.kind ++ type_word f.value_type ∷ Name f.name ∷ []))
 
 -- behind the word PROC
 abbrev pub written_proc_head : ProcHead → List Terminal
-written_proc_head h = Name h.name ∷ Mark mark.OpenParenthesis ∷ separated written_formal h.formals ++ Mark mark.CloseParenthesis ∷ []
+written_proc_head h = Name h.name ∷ Mark mark.OpenParenthesis ∷ separated written_formal h.formals ++ Mark
+    mark.CloseParenthesis ∷ []
 
 -- ---- when they fit: each expression has 64 levels at most, and a list that has to have an item has one
 

@@ -1,5 +1,6 @@
 -- Reading an expression from left to right, on lists.
-use Rattle.std.specs.Prelude.{◌≡◌, ℕ, zero, suc, Bool, true, false, List, [], ◌∷◌, ◌++◌, length, fold, map, if◌then◌else◌, Option, Some, None, option_map, Result, Ok, Err}
+use Rattle.std.specs.Prelude.{◌≡◌, ℕ, zero, suc, Bool, true, false, List, [], ◌∷◌, ◌++◌, length, fold, map}
+use Rattle.std.specs.Prelude.{if◌then◌else◌, Option, Some, None, option_map, Result, Ok, Err}
 use Rattle.std.specs.Borrow.{Bor}
 use denote.Enum.Bare.{sameb}
 use Rattle.occam_layout.specs.declared.token.Token.{Token}
@@ -16,7 +17,8 @@ use Rattle.occam_parser.specs.declared.tree.PairOperator.TheVariants as pair
 use Rattle.occam_parser.specs.declared.tree.ChainOperator.{ChainOperator}
 use Rattle.occam_parser.specs.contracts.tree.ChainOperator as chain_contract
 use Rattle.occam_parser.specs.Terminals.{Terminal, Name, Integer, Character, Text, Pair, Chain, Mark, terminals_of}
-use Rattle.occam_parser.specs.Expressions.{Expression, Alone, Prefixed, Paired, Chained, Terms, First, Then, Term, Number, Byte, Truth, MostPos, MostNeg, Named, Element, Bracketed, Converted}
+use Rattle.occam_parser.specs.Expressions.{Expression, Alone, Prefixed, Paired, Chained, Terms, First, Then, Term}
+use Rattle.occam_parser.specs.Expressions.{Number, Byte, Truth, MostPos, MostNeg, Named, Element, Bracketed, Converted}
 
 -- what is read from the front, and what is left, if it is there
 abbrev pub Reads : Type 0 → Type 0
@@ -95,7 +97,8 @@ up_to close read = do
   rest ← behind close x.1
   Some (x.0, rest)
 
-abbrev pub named_behind : List ℕ → List Terminal → Reads Expression → Option (List Terminal) → Option (Term × List Terminal)
+abbrev pub named_behind : List ℕ → List Terminal → Reads Expression → Option (List Terminal)
+    → Option (Term × List Terminal)
 named_behind name ts inner None = Some (Named name, ts)
 named_behind name ts inner (Some after) = do
   x ← up_to mark.CloseBracket (inner after)
@@ -137,7 +140,8 @@ term_with inner operand (Pair operator ∷ ts) = None
 term_with inner operand (Chain operator ∷ ts) = None
 
 -- one more operand where the operator comes next
-abbrev pub chain_step : Reads Term → (Terms → Reads Terms) → Terms → List Terminal → Option (List Terminal) → Option (Terms × List Terminal)
+abbrev pub chain_step : Reads Term → (Terms → Reads Terms) → Terms → List Terminal → Option (List Terminal)
+    → Option (Terms × List Terminal)
 chain_step operand more terms ts None = Some (terms, ts)
 chain_step operand more terms ts (Some after) = do
   x ← operand after
@@ -146,7 +150,8 @@ chain_step operand more terms ts (Some after) = do
 -- Further operands, each behind the operator. The number bounds the turns: the count of the terminals is enough.
 unfoldable pub chain_from : Reads Term → ChainOperator → ℕ → Terms → Reads Terms
 chain_from operand operator zero terms ts = Some (terms, ts)
-chain_from operand operator (suc n) terms ts = chain_step operand (chain_from operand operator n) terms ts (behind_operator operator ts)
+chain_from operand operator (suc n) terms ts =
+    chain_step operand (chain_from operand operator n) terms ts (behind_operator operator ts)
 
 -- a chain behind its first operand and the operator
 unfoldable pub chain : Reads Term → ChainOperator → Term → Reads Expression
@@ -164,7 +169,8 @@ after_first operand first (Pair operator ∷ ts) = do
 after_first operand first (Chain operator ∷ ts) = chain operand operator first ts
 after_first operand first (t ∷ ts) = Some (Alone first, t ∷ ts)
 
-abbrev pub one_behind : Reads Term → List Terminal → Option (PrefixOperator × List Terminal) → Option (Expression × List Terminal)
+abbrev pub one_behind : Reads Term → List Terminal → Option (PrefixOperator × List Terminal)
+    → Option (Expression × List Terminal)
 one_behind operand ts None = do
   x ← operand ts
   after_first operand x.0 x.1
@@ -207,7 +213,8 @@ expression_at levels = expression_with (term_at levels)
 -- ---- lists
 
 -- one more item where a comma comes next
-abbrev pub list_step : {A : Type 0} → Reads A → (List A → Reads (List A)) → List A → List Terminal → Option (List Terminal) → Option (List A × List Terminal)
+abbrev pub list_step : {A : Type 0} → Reads A → (List A → Reads (List A)) → List A → List Terminal
+    → Option (List Terminal) → Option (List A × List Terminal)
 list_step item more found ts None = Some (found, ts)
 list_step item more found ts (Some after) = do
   x ← item after

@@ -1,5 +1,6 @@
 -- How a fault of one line is told.
-use Rattle.std.specs.Prelude.{◌≡◌, ◌⊎◌, ℕ, ◌+◌, Bool, List, [], ◌∷◌, ◌++◌, length, ◌<◌, ◌≤◌, Option, Some, None, Result, Ok, Err}
+use Rattle.std.specs.Prelude.{◌≡◌, ◌⊎◌, ℕ, ◌+◌, Bool, List, [], ◌∷◌, ◌++◌, length, ◌<◌, ◌≤◌, Option, Some, None, Result}
+use Rattle.std.specs.Prelude.{Ok, Err}
 use Rattle.std.specs.Borrow.{Bor}
 use Rattle.occam_layout.specs.declared.token.Line.{Line}
 use Rattle.occam_layout.specs.declared.token.Token.{Token}
@@ -62,11 +63,13 @@ shaped_names_at ts = do
   rest ← behind mark.Colon names.1
   only (shape.0, names.0) rest
 
--- What was read, up to a mark: its fault, or that of a mark that is missing, or the same and the tokens behind the mark.
+-- What was read, up to a mark: its fault, or that of a mark that is missing, or the same and the tokens behind the
+-- mark.
 abbrev pub GoesUpTo : {A : Type 0} → Mark → (read answer : Result (A × Bor (List Token)) LineError) → Type 0
 GoesUpTo mark (Err e) answer = answer ≡ Err e
 GoesUpTo mark (Ok x) (Err e) = Fails e (behind mark (terminals_of x.1.now))
-GoesUpTo mark (Ok x) (Ok y) = (y.0 ≡ x.0) × (behind mark (terminals_of x.1.now) ≡ Some (terminals_of y.1.now)) × (length y.1.now < length x.1.now)
+GoesUpTo mark (Ok x) (Ok y) = (y.0 ≡ x.0) × (behind mark (terminals_of x.1.now) ≡ Some (terminals_of y.1.now)) ×
+    (length y.1.now < length x.1.now)
 
 -- what was read before, beside what was read next: the fault of that, or both
 abbrev pub IsBeside : {A B E : Type 0} → A → Result B E → Result (A × B) E → Type 0
@@ -93,7 +96,8 @@ Pushes (Ok x) old new (Err e) = e ≡ out_of_memory
 Pushes (Ok x) old new (Ok rest) = (new ≡ old ++ x.0 ∷ []) × (rest.now ≡ x.1.now)
 
 -- What a head has, beside what was read below it: the fault of that, or both, and the lines behind.
-abbrev pub StandsAbove : {A B : Type 0} → A → Result (B × Bor (List Line)) ParseFault → Result ((A × B) × Bor (List Line)) ParseFault → Type 0
+abbrev pub StandsAbove : {A B : Type 0} → A → Result (B × Bor (List Line)) ParseFault
+    → Result ((A × B) × Bor (List Line)) ParseFault → Type 0
 StandsAbove head (Err e) answer = answer ≡ Err e
 StandsAbove head (Ok x) answer = answer ≡ Ok ((head, x.0), x.1)
 

@@ -4,7 +4,8 @@ use Rattle.occam_parser.specs.declared.tree.Expr.{Expr}
 use Rattle.occam_parser.specs.declared.tree.Operand.{Operand}
 use Rattle.occam_parser.specs.declared.tree.Expr.TheOpen.{Expr-F, Operand-F}
 use Rattle.occam_parser.specs.declared.tree.Expr.TheFolds.{fold-Expr, fold-Operand}
-use Rattle.occam_parser.specs.Expressions.{Expression, Alone, Prefixed, Paired, Chained, Terms, First, Then, Term, Number, Byte, Truth, MostPos, MostNeg, Named, Element, Bracketed, Converted}
+use Rattle.occam_parser.specs.Expressions.{Expression, Alone, Prefixed, Paired, Chained, Terms, First, Then, Term}
+use Rattle.occam_parser.specs.Expressions.{Number, Byte, Truth, MostPos, MostNeg, Named, Element, Bracketed, Converted}
 
 -- further operands, behind those that were read
 abbrev pub with_others : Terms → List Term → Terms

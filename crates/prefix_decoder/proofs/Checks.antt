@@ -1,5 +1,6 @@
 -- How a test of the written spelling decides what is fetched.
-use Rattle.std.proofs.Common.{◌≡◌, ℕ, ◌-◌, Bool, true, false, cond, not, List, length, take, drop, Ok, Err, pos, refl, sym, min, ◌∙◌}
+use Rattle.std.proofs.Common.{◌≡◌, ℕ, ◌-◌, Bool, true, false, cond, not, List, length, take, drop, Ok, Err, pos, refl}
+use Rattle.std.proofs.Common.{sym, min, ◌∙◌}
 use Rattle.std.specs.Str.{bytes_eq}
 use Rattle.std.proofs.lemmas.List.{take_rest, drop_min}
 use Rattle.prefix_decoder.specs.declared.decoding.Instr.{Instr}

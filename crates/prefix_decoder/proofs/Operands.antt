@@ -1,8 +1,10 @@
 -- What one byte does to an operand register of 32 bits.
-use Rattle.std.proofs.Common.{◌≡◌, ℕ, ◌+◌, ◌*◌, ◌/◌, ◌^◌, ◌<◌, ℤ, pos, negsuc, ◌<ℤ◌, ◌≤ℤ◌, FitsSigned, w32, true, false, cond, eqb, refl, arith, rules}
+use Rattle.std.proofs.Common.{◌≡◌, ℕ, ◌+◌, ◌*◌, ◌/◌, ◌^◌, ◌<◌, ℤ, pos, negsuc, ◌<ℤ◌, ◌≤ℤ◌, FitsSigned, w32, true, false}
+use Rattle.std.proofs.Common.{cond, eqb, refl, arith, rules}
 use Rattle.std.proofs.lemmas.Int.{ints}
 use Rattle.prefix_decoder.specs.Functions.{nfix}
-use Rattle.prefix_decoder.specs.Operand.{low_nibble, without_low_nibble, complement, IsRegister, with_nibble, prefixed, negated, after_prefix}
+use Rattle.prefix_decoder.specs.Operand.{low_nibble, without_low_nibble, complement, IsRegister, with_nibble, prefixed}
+use Rattle.prefix_decoder.specs.Operand.{negated, after_prefix}
 
 -- the register at the start of an instruction
 pub IsRegister-zero : IsRegister (pos 0)

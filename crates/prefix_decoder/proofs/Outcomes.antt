@@ -1,5 +1,8 @@
 -- What can come of reading, in terms of the bytes: the three faults and the one instruction.
-use Rattle.std.proofs.Common.{◌≡◌, ◌↔◌, ◌⊎◌, ℕ, zero, suc, ◌+◌, ◌<◌, ◌≤◌, Bool, true, false, cond, eqb, List, [], ◌∷◌, ◌++◌, length, get_or, take, drop, Option, Some, None, Result, Ok, Err, ℤ, pos, FitsSigned, w32, refl, ap, arith, inl, inr, sym, subst, ◌∙◌, append_assoc, length-append, length-drop, length-take}
+use Rattle.std.proofs.Common.{◌≡◌, ◌↔◌, ◌⊎◌, ℕ, zero, suc, ◌+◌, ◌<◌, ◌≤◌, Bool, true, false, cond, eqb, List, [], ◌∷◌}
+use Rattle.std.proofs.Common.{◌++◌, length, get_or, take, drop, Option, Some, None, Result, Ok, Err, ℤ, pos, FitsSigned}
+use Rattle.std.proofs.Common.{w32, refl, ap, arith, inl, inr, sym, subst, ◌∙◌, append_assoc, length-append, length-drop}
+use Rattle.std.proofs.Common.{length-take}
 use Rattle.std.specs.Prelude.{All, IfOk}
 use Rattle.std.specs.Str.{bytes_eq}
 use Rattle.std.proofs.lemmas.Bool.{eqb-false, false_from_ne_true}
@@ -7,14 +10,18 @@ use Rattle.std.proofs.lemmas.List.{take_at, get_or-drop}
 use Rattle.std.proofs.lemmas.List.Elements.{All-nil, All-cons, All-head, All-tail, All-same}
 use Rattle.std.proofs.lemmas.Slice.Eq.{bytes_eq-Decides}
 use Rattle.prefix_decoder.specs.declared.function.Fun.{Fun}
-use Rattle.prefix_decoder.specs.declared.function.Fun.TheVariants.{Jump, LoadLocalPointer, LoadNonLocal, LoadConstant, LoadNonLocalPointer, LoadLocal, AddConstant, Call, ConditionalJump, AdjustWorkspace, EqualsConstant, StoreLocal, StoreNonLocal, Operate}
+use Rattle.prefix_decoder.specs.declared.function.Fun.TheVariants.{Jump, LoadLocalPointer, LoadNonLocal, LoadConstant}
+use Rattle.prefix_decoder.specs.declared.function.Fun.TheVariants.{LoadNonLocalPointer, LoadLocal, AddConstant, Call}
+use Rattle.prefix_decoder.specs.declared.function.Fun.TheVariants.{ConditionalJump, AdjustWorkspace, EqualsConstant}
+use Rattle.prefix_decoder.specs.declared.function.Fun.TheVariants.{StoreLocal, StoreNonLocal, Operate}
 use Rattle.prefix_decoder.specs.declared.decoding.Instr.{Instr}
 use Rattle.prefix_decoder.specs.declared.decoding.DecodeFault.{DecodeFault}
 use Rattle.prefix_decoder.specs.declared.decoding.DecodeFault.TheVariants.{EndOfCode, SecondSpelling, TooLong}
 use Rattle.prefix_decoder.specs.Functions.{pfix, nfix, fun_of, function_code, nibble, IsPrefix}
 use Rattle.prefix_decoder.specs.Operand.{IsRegister, with_nibble, after_prefix}
 use Rattle.prefix_decoder.specs.Spelling.{IsSpelling, spelling}
-use Rattle.prefix_decoder.specs.Fetching.{ended_or, read, checked, fetched, EndsTooSoon, IsTooLong, IsSecondSpelling, StandsAt}
+use Rattle.prefix_decoder.specs.Fetching.{ended_or, read, checked, fetched, EndsTooSoon, IsTooLong, IsSecondSpelling}
+use Rattle.prefix_decoder.specs.Fetching.{StandsAt}
 use Rattle.prefix_decoder.proofs.Operands.{IsRegister-zero, IsRegister-after, FitsSigned-with_nibble}
 use Rattle.prefix_decoder.proofs.Spellings.{IsSpelling-spelling, IsSpelling-same, not_empty, at_most_eight}
 use Rattle.prefix_decoder.proofs.Reading.{read-spelling}

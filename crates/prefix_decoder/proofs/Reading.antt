@@ -1,14 +1,20 @@
 -- What one more byte gives to what is read, and that a spelling is read as what it spells.
-use Rattle.std.proofs.Common.{◌≡◌, ℕ, zero, suc, ◌+◌, ◌-◌, ◌≤◌, List, [], ◌∷◌, ◌++◌, length, Option, Some, None, Result, Ok, ℤ, pos, FitsSigned, w32, refl, ap, arith, ◌∙◌, append_assoc, length-append}
+use Rattle.std.proofs.Common.{◌≡◌, ℕ, zero, suc, ◌+◌, ◌-◌, ◌≤◌, List, [], ◌∷◌, ◌++◌, length, Option, Some, None, Result}
+use Rattle.std.proofs.Common.{Ok, ℤ, pos, FitsSigned, w32, refl, ap, arith, ◌∙◌, append_assoc, length-append}
 use Rattle.prefix_decoder.specs.declared.function.Fun.{Fun}
-use Rattle.prefix_decoder.specs.declared.function.Fun.TheVariants.{Jump, LoadLocalPointer, LoadNonLocal, LoadConstant, LoadNonLocalPointer, LoadLocal, AddConstant, Call, ConditionalJump, AdjustWorkspace, EqualsConstant, StoreLocal, StoreNonLocal, Operate}
+use Rattle.prefix_decoder.specs.declared.function.Fun.TheVariants.{Jump, LoadLocalPointer, LoadNonLocal, LoadConstant}
+use Rattle.prefix_decoder.specs.declared.function.Fun.TheVariants.{LoadNonLocalPointer, LoadLocal, AddConstant, Call}
+use Rattle.prefix_decoder.specs.declared.function.Fun.TheVariants.{ConditionalJump, AdjustWorkspace, EqualsConstant}
+use Rattle.prefix_decoder.specs.declared.function.Fun.TheVariants.{StoreLocal, StoreNonLocal, Operate}
 use Rattle.prefix_decoder.specs.declared.decoding.Instr.{Instr}
 use Rattle.prefix_decoder.specs.declared.decoding.DecodeFault.{DecodeFault}
 use Rattle.prefix_decoder.specs.Functions.{pfix, nfix, code_of, fun_of, function_code, nibble}
-use Rattle.prefix_decoder.specs.Operand.{low_nibble, without_low_nibble, complement, with_nibble, prefixed, negated, after_prefix}
+use Rattle.prefix_decoder.specs.Operand.{low_nibble, without_low_nibble, complement, with_nibble, prefixed, negated}
+use Rattle.prefix_decoder.specs.Operand.{after_prefix}
 use Rattle.prefix_decoder.specs.Spelling.{byte_of, Spells, alone, above, below, IsSpelling}
 use Rattle.prefix_decoder.specs.Fetching.{ended_or, read}
-use Rattle.prefix_decoder.proofs.Operands.{low_nibble_below, FitsSigned-above, FitsSigned-complement, alone_is, above_is, below_is}
+use Rattle.prefix_decoder.proofs.Operands.{low_nibble_below, FitsSigned-above, FitsSigned-complement, alone_is}
+use Rattle.prefix_decoder.proofs.Operands.{above_is, below_is}
 use Rattle.prefix_decoder.proofs.Spellings.{IsSpelling-same, at_most_eight}
 
 -- ---- one byte

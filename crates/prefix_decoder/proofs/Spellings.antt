@@ -1,11 +1,14 @@
 -- Every operand of 32 bits has a spelling, and no second one; it is 1 to 8 bytes long.
-use Rattle.std.proofs.Common.{◌≡◌, ℕ, zero, suc, ◌+◌, ◌*◌, ◌/◌, ◌%◌, ◌^◌, ◌<◌, ◌≤◌, List, [], ◌∷◌, ◌++◌, length, ℤ, pos, negsuc, FitsSigned, w32, refl, ap, arith, inl, inr, ◌-◌, false, int_le, of_z, length-append}
+use Rattle.std.proofs.Common.{◌≡◌, ℕ, zero, suc, ◌+◌, ◌*◌, ◌/◌, ◌%◌, ◌^◌, ◌<◌, ◌≤◌, List, [], ◌∷◌, ◌++◌, length, ℤ, pos}
+use Rattle.std.proofs.Common.{negsuc, FitsSigned, w32, refl, ap, arith, inl, inr, ◌-◌, false, int_le, of_z}
+use Rattle.std.proofs.Common.{length-append}
 use Rattle.std.proofs.lemmas.Bool.{cases_lt, lt-ltb, le-ltb, leb-false}
 use Rattle.std.proofs.lemmas.Int.{ints}
 use Rattle.prefix_decoder.specs.declared.function.Fun.{Fun}
 use Rattle.prefix_decoder.specs.Functions.{pfix, nfix, code_of}
 use Rattle.prefix_decoder.specs.Operand.{without_low_nibble, complement}
-use Rattle.prefix_decoder.specs.Spelling.{byte_of, Spells, alone, above, below, IsSpelling, natural_spelling, code_spelling, spelling}
+use Rattle.prefix_decoder.specs.Spelling.{byte_of, Spells, alone, above, below, IsSpelling, natural_spelling}
+use Rattle.prefix_decoder.specs.Spelling.{code_spelling, spelling}
 
 -- numbers of one nibble and at most this many more are below it
 abbrev pub limit : ℕ → ℕ

@@ -7,20 +7,25 @@ use Rattle.tpm.specs.CommandLine.{Asked, line_of}
 use Rattle.tpm.specs.Texts.{status_of}
 use Rattle.tpm.specs.Acting.{Acts, Performs, malformed, uncertified, told, refused, unread, unwritten, starved}
 
-module _ {F : Type 0} (reads : F → List ℕ → Result (List ℕ) FileFault → F → Type 0) (words : List (List ℕ)) (asked : Asked)
+module _ {F : Type 0} (reads : F → List ℕ → Result (List ℕ) FileFault → F → Type 0) (words : List (List ℕ))
+    (asked : Asked)
     (before after : F) (out_before out_after : Option (List ℕ)) where
-  pub acts_told : line_of words ≡ Some asked → (u : Unit {0}) → Performs reads asked before after out_before out_after (Ok u)
+  pub acts_told : line_of words ≡ Some asked → (u : Unit {0})
+      → Performs reads asked before after out_before out_after (Ok u)
       → Acts reads words before after out_before out_after 0
   acts_told line u performed = told asked performed.0 line performed.1 performed.2 refl
 
   pub acts_failed : (failure : Failure) (status : ℕ) → status ≡ status_of failure → line_of words ≡ Some asked
-      → Performs reads asked before after out_before out_after (Err failure) → Acts reads words before after out_before out_after status
+      → Performs reads asked before after out_before out_after (Err failure)
+          → Acts reads words before after out_before out_after status
   acts_failed (failures.Malformed fault) status is line performed =
       let file = performed.0 in
-      refused asked line (record { bytes = file.bytes; read = file.read; holds = malformed fault file.holds }) performed.1 is
+      refused asked line (record { bytes = file.bytes; read = file.read; holds =
+          malformed fault file.holds }) performed.1 is
   acts_failed (failures.Uncertified refusal) status is line performed =
       let file = performed.0 in
-      refused asked line (record { bytes = file.bytes; read = file.read; holds = uncertified refusal file.holds }) performed.1 is
+      refused asked line (record { bytes = file.bytes; read = file.read; holds =
+          uncertified refusal file.holds }) performed.1 is
   acts_failed (failures.Unread path) status is line performed = unread asked line (performed.0).1 performed.1 is
   acts_failed failures.Unwritten status is line performed = unwritten asked performed.0 line performed.1 is
   acts_failed failures.Memory status is line performed = starved performed.1 is

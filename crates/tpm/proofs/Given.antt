@@ -1,20 +1,34 @@
 -- A line that the command takes asks for something: its subcommand is there, and has the path.
-use Rattle.std.proofs.Common.{◌≡◌, ℕ, zero, suc, ◌≤◌, ◌||◌, ◌&&◌, ◌==◌, Bool, true, false, cond, not, List, [], ◌∷◌, ◌++◌, length, find, Option, Some, None, is_some, option_map, option_and_then, slice_get, drop, fold, codes, refl, ap, subst, sym, ◌∙◌, arith, length-append}
+use Rattle.std.proofs.Common.{◌≡◌, ℕ, zero, suc, ◌≤◌, ◌||◌, ◌&&◌, ◌==◌, Bool, true, false, cond, not, List, [], ◌∷◌}
+use Rattle.std.proofs.Common.{◌++◌, length, find, Option, Some, None, is_some, option_map, option_and_then, slice_get}
+use Rattle.std.proofs.Common.{drop, fold, codes, refl, ap, subst, sym, ◌∙◌, arith, length-append}
 use Rattle.std.specs.Option.{option_map_or}
 use Rattle.std.specs.Str.{bytes_eq, chars}
 use Rattle.std.specs.Prelude.{encode_utf8}
 use Rattle.clap.specs.Lexer.{long_of, short_of}
 use Rattle.clap.specs.Kinds.{Kinds, or_else, check_kinds}
-use Rattle.clap.specs.Walk.{Text, Row, Rule, Held, Outcome, done, waits, plain, refused, Waiting, idle, option, positional, Step, next, trailing, subcommand, value, Walk, arg_by_id, arg_by_long, arg_by_short, arg_by_index, at_row, with_values, more_values, without, used_by_id, settled, settled_rows, reacted, pushed, option_met, long_met, short_met, bundle_step, bundle_met, attached_value, option_word, plain_word, after_flag, long_or_other, subcommand_met, subcommand_or_other, word_met, positional_held, is_pending, bundle, short_or_plain, walked_from, takes_several, to_positional, after_step, walked, walk, walk_from, nothing_held, first_of, finished}
-use Rattle.clap.specs.Simple.{Shape, built, built_leaf, inherited, on_top, marked_built, filled, filled_from, with_index, help_rule, entered, rows_at, names_of, argument_words}
+use Rattle.clap.specs.Walk.{Text, Row, Rule, Held, Outcome, done, waits, plain, refused, Waiting, idle, option}
+use Rattle.clap.specs.Walk.{positional, Step, next, trailing, subcommand, value, Walk, arg_by_id, arg_by_long}
+use Rattle.clap.specs.Walk.{arg_by_short, arg_by_index, at_row, with_values, more_values, without, used_by_id, settled}
+use Rattle.clap.specs.Walk.{settled_rows, reacted, pushed, option_met, long_met, short_met, bundle_step, bundle_met}
+use Rattle.clap.specs.Walk.{attached_value, option_word, plain_word, after_flag, long_or_other, subcommand_met}
+use Rattle.clap.specs.Walk.{subcommand_or_other, word_met, positional_held, is_pending, bundle, short_or_plain}
+use Rattle.clap.specs.Walk.{walked_from, takes_several, to_positional, after_step, walked, walk, walk_from}
+use Rattle.clap.specs.Walk.{nothing_held, first_of, finished}
+use Rattle.clap.specs.Simple.{Shape, built, built_leaf, inherited, on_top, marked_built, filled, filled_from}
+use Rattle.clap.specs.Simple.{with_index, help_rule, entered, rows_at, names_of, argument_words}
 use Rattle.clap.specs.Walk.{rows_after, answers_to, with_default, has_row}
 use Rattle.clap.specs.Facts.{explicit_source}
 use Rattle.clap.specs.Takes.{is_given}
 use Rattle.clap.specs.declared.builder.value_parser.Reading.{Reading}
 use Rattle.clap.specs.declared.parser.matches.ValueSource.{ValueSource}
 use Rattle.clap.specs.declared.parser.matches.ValueSource.TheVariants.{CommandLine}
-use Rattle.clap.specs.Faults.{fault_of, entered_fault, level_fault, check_fault, walk_fault, turn_fault, step_fault, word_fault, other_fault, flag_word_fault, positional_fault, use_fault, settle_fault, react_fault, option_fault, long_fault, short_fault, bundle_step_fault, flags_fault, bundle_fault, stray_fault, defaults_fault}
-use Rattle.tpm.specs.CommandLine.{Asked, verifies, runs, module_rule, subcommand_shape, tpm, named, entered_by, unless_faulty, line_of}
+use Rattle.clap.specs.Faults.{fault_of, entered_fault, level_fault, check_fault, walk_fault, turn_fault, step_fault}
+use Rattle.clap.specs.Faults.{word_fault, other_fault, flag_word_fault, positional_fault, use_fault, settle_fault}
+use Rattle.clap.specs.Faults.{react_fault, option_fault, long_fault, short_fault, bundle_step_fault, flags_fault}
+use Rattle.clap.specs.Faults.{bundle_fault, stray_fault, defaults_fault}
+use Rattle.tpm.specs.CommandLine.{Asked, verifies, runs, module_rule, subcommand_shape, tpm, named, entered_by}
+use Rattle.tpm.specs.CommandLine.{unless_faulty, line_of}
 
 -- ---- what both subcommands have
 
@@ -73,34 +87,43 @@ valued-cond : (b : Bool) (xs ys : List Row) → AllValued xs → AllValued ys �
 valued-cond true xs ys a b = a
 valued-cond false xs ys a b = b
 
-valued-at_row : (id : Text) (change : Row → List Row) (missing rows : List Row) → ((r : Row) → 1 ≤ length r.values → AllValued (change r)) → AllValued missing
+valued-at_row : (id : Text) (change : Row → List Row) (missing rows : List Row)
+    → ((r : Row) → 1 ≤ length r.values → AllValued (change r)) → AllValued missing
     → AllValued rows → AllValued (at_row id change missing rows)
 valued-at_row id change missing [] changes misses all = misses
 valued-at_row id change missing (r ∷ rs) changes misses all =
     valued-cond (bytes_eq r.id id) (change r ++ rs) (r ∷ at_row id change missing rs)
-    (valued-append (change r) rs (changes r all.0) all.1) (all.0, valued-at_row id change missing rs changes misses all.1)
+    (valued-append (change r) rs (changes r all.0) all.1)
+        (all.0, valued-at_row id change missing rs changes misses all.1)
 
 -- a use that adds at least one value
-valued-with_values : (id : Text) (how : Reading) (s : ValueSource) (v : Text) (vs : List Text) (rows : List Row) → AllValued rows
+valued-with_values : (id : Text) (how : Reading) (s : ValueSource) (v : Text) (vs : List Text) (rows : List Row)
+    → AllValued rows
     → AllValued (with_values id how s (v ∷ vs) rows)
 valued-with_values id how s v vs rows all =
-    valued-at_row id (more_values s (v ∷ vs)) (record { id = id; values = v ∷ vs; count = None; source = Some s; reading = how } ∷ []) rows
-    (λ r has. let more : 1 ≤ length (r.values ++ v ∷ vs) = rw length-append (omega arith) in (more, tt)) (omega arith, tt) all
+    valued-at_row id (more_values s (v ∷ vs))
+        (record { id = id; values = v ∷ vs; count = None; source = Some s; reading = how } ∷ []) rows
+    (λ r has. let more : 1 ≤ length (r.values ++ v ∷ vs) = rw length-append (omega arith) in (more, tt))
+        (omega arith, tt) all
 
 -- a use of an argument
-valued-used : (o : Option Rule) (again : Bool) (values : List Text) (rows : List Row) → IsOurs o → option_map_or (λ a. use_fault again a values rows) o [] ≡ []
+valued-used : (o : Option Rule) (again : Bool) (values : List Text) (rows : List Row) → IsOurs o
+    → option_map_or (λ a. use_fault again a values rows) o [] ≡ []
     → AllValued rows → AllValued (used_by_id o values rows)
 valued-used o again values rows no_rule fault all = all
 valued-used o again values rows the_flag fault all = all
 valued-used o again [] rows the_path fault all = absurd (cc)
 valued-used o again (v ∷ vs) rows the_path fault all =
-    valued-with_values (codes "MOD") _ CommandLine v vs (without (codes "MOD") rows) (valued-at_row (codes "MOD") (λ _. []) [] rows (λ r has. tt) tt all)
+    valued-with_values (codes "MOD") _ CommandLine v vs (without (codes "MOD") rows)
+        (valued-at_row (codes "MOD") (λ _. []) [] rows (λ r has. tt) tt all)
 
 -- the pending argument is used
-valued-settled : (again : Bool) (h : Held) → settle_fault rules again h ≡ [] → AllValued h.rows → AllValued (settled rules h).rows
+valued-settled : (again : Bool) (h : Held) → settle_fault rules again h ≡ [] → AllValued h.rows
+    → AllValued (settled rules h).rows
 valued-settled again h = go h.pending
   where
-    go : (p : Option (Text × List Text)) → option_map_or (λ q. option_map_or (λ a. use_fault again a q.1 h.rows) (arg_by_id rules q.0) []) p [] ≡ []
+    go : (p : Option (Text × List Text))
+        → option_map_or (λ q. option_map_or (λ a. use_fault again a q.1 h.rows) (arg_by_id rules q.0) []) p [] ≡ []
         → AllValued h.rows → AllValued (settled_rows rules p h.rows)
     go None fault all = all
     go (Some q) fault all = valued-used (arg_by_id rules q.0) again q.1 h.rows (by_id q.0) fault all
@@ -110,7 +133,8 @@ both_empty [] b e = (refl, e)
 both_empty (k ∷ ks) b e = absurd (cc)
 
 -- and then this one
-valued-reacted : (again : Bool) (a : Rule) (values : List Text) (h : Held) → IsOurs (Some a) → react_fault rules again a values h ≡ []
+valued-reacted : (again : Bool) (a : Rule) (values : List Text) (h : Held) → IsOurs (Some a)
+    → react_fault rules again a values h ≡ []
     → AllValued h.rows → AllValued (reacted rules a values h).rows
 valued-reacted again a values h ours fault all =
     let parts = both_empty (settle_fault rules again h) (use_fault again a values (settled rules h).rows) fault in
@@ -119,13 +143,15 @@ valued-reacted again a values h ours fault all =
 -- ---- words
 
 -- an option with or without a value attached
-valued-option : (again : Bool) (v : Option Text) (h : Held) → option_fault rules again path_rule v h ≡ [] → AllValued h.rows
+valued-option : (again : Bool) (v : Option Text) (h : Held) → option_fault rules again path_rule v h ≡ []
+    → AllValued h.rows
     → AllValued ((option_met rules path_rule v h).0).rows
 valued-option again None h fault all = valued-settled again h fault all
 valued-option again (Some v) h fault all = valued-reacted again path_rule (v ∷ []) h the_path fault all
 
 -- `--name`
-valued-long : (o : Option Rule) (again : Bool) (v : Option Text) (h : Held) → IsOurs o → long_fault rules again o v h ≡ [] → AllValued h.rows
+valued-long : (o : Option Rule) (again : Bool) (v : Option Text) (h : Held) → IsOurs o
+    → long_fault rules again o v h ≡ [] → AllValued h.rows
     → AllValued ((long_met rules o v h).0).rows
 valued-long o again v h no_rule fault all = all
 valued-long o again v h the_path fault all = valued-option again v h fault all
@@ -133,33 +159,46 @@ valued-long o again None h the_flag fault all = valued-reacted again flag_rule [
 valued-long o again (Some v) h the_flag fault all = all
 
 -- one letter of `-abc`
-valued-short : (o : Option Rule) (again : Bool) (rest : Text) (h : Held) (after : Held → Held × Outcome) (after_fault : Held → Kinds) → IsOurs o
-    → ((k : Held) → after_fault k ≡ [] → AllValued k.rows → AllValued ((after k).0).rows) → short_fault rules again o rest h after_fault ≡ [] → AllValued h.rows
+valued-short : (o : Option Rule) (again : Bool) (rest : Text) (h : Held) (after : Held → Held × Outcome)
+    (after_fault : Held → Kinds) → IsOurs o
+    → ((k : Held) → after_fault k ≡ [] → AllValued k.rows → AllValued ((after k).0).rows)
+        → short_fault rules again o rest h after_fault ≡ [] → AllValued h.rows
     → AllValued ((short_met rules o rest h after).0).rows
 valued-short o again rest h after after_fault no_rule later fault all = all
-valued-short o again rest h after after_fault the_path later fault all = valued-option again (attached_value rest) h fault all
+valued-short o again rest h after after_fault the_path later fault all =
+    valued-option again (attached_value rest) h fault all
 valued-short o again rest h after after_fault the_flag later fault all =
-    let parts = both_empty (react_fault rules again flag_rule [] h) (after_fault (reacted rules flag_rule [] h)) fault in
+    let parts =
+        both_empty (react_fault rules again flag_rule [] h) (after_fault (reacted rules flag_rule [] h)) fault in
     later (reacted rules flag_rule [] h) parts.1 (valued-reacted again flag_rule [] h the_flag parts.0 all)
 
-valued-letter : (o : Option ℕ) (again : Bool) (flags : Text) (skip : ℕ) (so_far : Outcome) (h : Held) (after : Text → ℕ → Outcome → Held → Held × Outcome)
-    (after_fault : Text → ℕ → Held → Kinds) → ((t : Text) (n : ℕ) (s : Outcome) (k : Held) → after_fault t n k ≡ [] → AllValued k.rows → AllValued ((after t n s k).0).rows)
-    → bundle_step_fault rules again o flags skip h after_fault ≡ [] → AllValued h.rows → AllValued ((bundle_step rules o flags skip so_far h after).0).rows
+valued-letter : (o : Option ℕ) (again : Bool) (flags : Text) (skip : ℕ) (so_far : Outcome) (h : Held)
+    (after : Text → ℕ → Outcome → Held → Held × Outcome)
+    (after_fault : Text → ℕ → Held → Kinds)
+        → ((t : Text) (n : ℕ) (s : Outcome) (k : Held) → after_fault t n k ≡ [] → AllValued k.rows
+        → AllValued ((after t n s k).0).rows)
+    → bundle_step_fault rules again o flags skip h after_fault ≡ [] → AllValued h.rows
+        → AllValued ((bundle_step rules o flags skip so_far h after).0).rows
 valued-letter None again flags skip so_far h after after_fault later fault all = all
 valued-letter (Some x) again flags zero so_far h after after_fault later fault all =
     let rest = drop (length (encode_utf8 x)) flags in
-    valued-short (arg_by_short rules x) again rest h (after rest 0 done) (after_fault rest 0) (by_short x) (later rest 0 done) fault all
-valued-letter (Some x) again flags (suc skip) so_far h after after_fault later fault all = later _ skip so_far h fault all
+    valued-short (arg_by_short rules x) again rest h (after rest 0 done) (after_fault rest 0) (by_short x)
+        (later rest 0 done) fault all
+valued-letter (Some x) again flags (suc skip) so_far h after after_fault later fault all =
+    later _ skip so_far h fault all
 
-valued-bundle : (again : Bool) (k : ℕ) (flags : Text) (skip : ℕ) (so_far : Outcome) (h : Held) → flags_fault rules again k flags skip h ≡ [] → AllValued h.rows
+valued-bundle : (again : Bool) (k : ℕ) (flags : Text) (skip : ℕ) (so_far : Outcome) (h : Held)
+    → flags_fault rules again k flags skip h ≡ [] → AllValued h.rows
     → AllValued ((bundle_met rules k flags skip so_far h).0).rows
 unfolding bundle_met flags_fault
 valued-bundle again zero flags skip so_far h fault all = all
 valued-bundle again (suc k) flags skip so_far h fault all =
-    valued-letter (slice_get (chars flags) 0) again flags skip so_far h (bundle_met rules k) (flags_fault rules again k) (valued-bundle again k) fault all
+    valued-letter (slice_get (chars flags) 0) again flags skip so_far h (bundle_met rules k) (flags_fault rules again k)
+        (valued-bundle again k) fault all
 
 -- a word that is no flag
-valued-plain : (waiting : Waiting) (word : Text) (h : Held) → AllValued h.rows → AllValued ((plain_word rules waiting word h).0).rows
+valued-plain : (waiting : Waiting) (word : Text) (h : Held) → AllValued h.rows
+    → AllValued ((plain_word rules waiting word h).0).rows
 valued-plain idle word h all = all
 valued-plain positional word h all = all
 valued-plain (option id) word h all = go (arg_by_id rules id)
@@ -168,24 +207,28 @@ valued-plain (option id) word h all = go (arg_by_id rules id)
     go None = all
     go (Some a) = all
 
-valued-after_flag : (waiting : Waiting) (word : Text) (h : Held) (outcome : Outcome) → AllValued h.rows → AllValued ((after_flag rules waiting word h outcome).0).rows
+valued-after_flag : (waiting : Waiting) (word : Text) (h : Held) (outcome : Outcome) → AllValued h.rows
+    → AllValued ((after_flag rules waiting word h outcome).0).rows
 valued-after_flag waiting word h done all = all
 valued-after_flag waiting word h (waits id) all = all
 valued-after_flag waiting word h plain all = valued-plain waiting word h all
 valued-after_flag waiting word h refused all = valued-plain waiting word h all
 
-valued-other : (again : Bool) (o : Option (Text × Option Text)) (waiting : Waiting) (word : Text) (h : Held) → flag_word_fault rules again o word h ≡ []
+valued-other : (again : Bool) (o : Option (Text × Option Text)) (waiting : Waiting) (word : Text) (h : Held)
+    → flag_word_fault rules again o word h ≡ []
     → AllValued h.rows → AllValued ((long_or_other rules waiting word o h).0).rows
 valued-other again (Some p) waiting word h fault all =
     let met = long_met rules (arg_by_long rules p.0) p.1 h in
     valued-after_flag waiting word met.0 met.1 (valued-long (arg_by_long rules p.0) again p.1 h (by_long p.0) fault all)
 valued-other again None waiting word h fault all = go (short_of word) fault
   where
-    go : (s : Option Text) → option_map_or (λ flags. bundle_fault rules again flags h) s [] ≡ [] → AllValued ((short_or_plain rules waiting word s h).0).rows
+    go : (s : Option Text) → option_map_or (λ flags. bundle_fault rules again flags h) s [] ≡ []
+        → AllValued ((short_or_plain rules waiting word s h).0).rows
     go None f = valued-plain waiting word h all
     go (Some flags) f =
         let met = bundle rules flags h in
-        valued-after_flag waiting word met.0 met.1 (valued-bundle again (length flags) flags h.skip plain (record h { skip = 0 }) f all)
+        valued-after_flag waiting word met.0 met.1
+            (valued-bundle again (length flags) flags h.skip plain (record h { skip = 0 }) f all)
 
 -- ---- the walk
 
@@ -198,60 +241,74 @@ no_subcommand idle word = refl
 no_subcommand (option id) word = refl
 no_subcommand positional word = refl
 
-valued-word : (name : Text) (is_trailing : Bool) (waiting : Waiting) (position : ℕ) (word : Text) (h : Held) → word_fault (leaf name) [] is_trailing waiting word h ≡ []
+valued-word : (name : Text) (is_trailing : Bool) (waiting : Waiting) (position : ℕ) (word : Text) (h : Held)
+    → word_fault (leaf name) [] is_trailing waiting word h ≡ []
     → AllValued h.rows → AllValued ((word_met rules [] is_trailing waiting position word h).0).rows
 valued-word name true waiting position word h fault all = all
-valued-word name false waiting position word h fault all = go (subcommand_met [] waiting word) (no_subcommand waiting word) fault
+valued-word name false waiting position word h fault all =
+    go (subcommand_met [] waiting word) (no_subcommand waiting word) fault
   where
     dashes : (b : Bool) → cond b [] (flag_word_fault rules false (long_of word) word h) ≡ []
         → AllValued ((cond b (h, trailing position) (long_or_other rules waiting word (long_of word) h)).0).rows
     dashes true f = all
     dashes false f = valued-other false (long_of word) waiting word h f all
 
-    go : (o : Option Text) → o ≡ None → other_fault (leaf name) o word h ≡ [] → AllValued ((subcommand_or_other rules o waiting position word h).0).rows
+    go : (o : Option Text) → o ≡ None → other_fault (leaf name) o word h ≡ []
+        → AllValued ((subcommand_or_other rules o waiting position word h).0).rows
     go None is f = dashes (bytes_eq word (45 ∷ 45 ∷ [])) f
     go (Some found) is f = absurd (cc)
 
 -- the word goes to a positional
-valued-positional : (again : Bool) (a : Rule) (word : Text) (h : Held) → positional_fault rules again a h ≡ [] → AllValued h.rows
+valued-positional : (again : Bool) (a : Rule) (word : Text) (h : Held) → positional_fault rules again a h ≡ []
+    → AllValued h.rows
     → AllValued (positional_held rules a word h).rows
 valued-positional again a word h = go (is_pending a h.pending && takes_several a)
   where
-    go : (b : Bool) → cond b [] (settle_fault rules again h) ≡ [] → AllValued h.rows → AllValued (pushed a.id word (cond b h (settled rules h))).rows
+    go : (b : Bool) → cond b [] (settle_fault rules again h) ≡ [] → AllValued h.rows
+        → AllValued (pushed a.id word (cond b h (settled rules h))).rows
     go true fault all = all
     go false fault all = valued-settled again h fault all
 
-valued-step : (name word : Text) (w : Walk) (h : Held) (step : Step) → step_fault (leaf name) w.position h step ≡ [] → AllValued h.rows
+valued-step : (name word : Text) (w : Walk) (h : Held) (step : Step) → step_fault (leaf name) w.position h step ≡ []
+    → AllValued h.rows
     → AllValued (after_step rules word w h step).held.rows
 valued-step name word w h (next waiting) fault all = all
 valued-step name word w h (trailing position) fault all = all
 valued-step name word w h (subcommand found) fault all = all
 valued-step name word w h value fault all = go (arg_by_index rules w.position) fault
   where
-    go : (o : Option Rule) → option_map_or (λ a. positional_fault rules false a h) o (stray_fault (leaf name)) ≡ [] → AllValued (to_positional rules o word w h).held.rows
+    go : (o : Option Rule) → option_map_or (λ a. positional_fault rules false a h) o (stray_fault (leaf name)) ≡ []
+        → AllValued (to_positional rules o word w h).held.rows
     go None f = all
     go (Some a) f = valued-positional false a word h f all
 
-valued-turn : (name word : Text) (w : Walk) → turn_fault (leaf name) [] w word ≡ [] → AllValued w.held.rows → AllValued (walked rules [] w word).held.rows
+valued-turn : (name word : Text) (w : Walk) → turn_fault (leaf name) [] w word ≡ [] → AllValued w.held.rows
+    → AllValued (walked rules [] w word).held.rows
 unfolding walked
 valued-turn name word w fault all = go w.stopped fault
   where
     met : Held × Step
     met = word_met rules [] w.is_trailing w.waiting w.position word w.held
 
-    go : (o : Option (Text × List Text)) → cond (is_some o) [] (or_else (word_fault (leaf name) [] w.is_trailing w.waiting word w.held) (step_fault (leaf name) w.position met.0 met.1)) ≡ []
+    go : (o : Option (Text × List Text))
+        → cond (is_some o) [] (or_else (word_fault (leaf name) [] w.is_trailing w.waiting word w.held)
+        (step_fault (leaf name) w.position met.0 met.1)) ≡ []
         → AllValued (walked_from rules [] o w word).held.rows
     go (Some p) f = all
     go None f =
-        let parts = both_empty (word_fault (leaf name) [] w.is_trailing w.waiting word w.held) (step_fault (leaf name) w.position met.0 met.1) f in
-        valued-step name word w met.0 met.1 parts.1 (valued-word name w.is_trailing w.waiting w.position word w.held parts.0 all)
+        let parts = both_empty (word_fault (leaf name) [] w.is_trailing w.waiting word w.held)
+            (step_fault (leaf name) w.position met.0 met.1) f in
+        valued-step name word w met.0 met.1 parts.1
+            (valued-word name w.is_trailing w.waiting w.position word w.held parts.0 all)
 
-valued-walk : (name : Text) (words : List Text) (w : Walk) → walk_fault (leaf name) [] w words ≡ [] → AllValued w.held.rows
+valued-walk : (name : Text) (words : List Text) (w : Walk) → walk_fault (leaf name) [] w words ≡ []
+    → AllValued w.held.rows
     → AllValued (fold (walked rules []) w words).held.rows
 unfolding walk_fault
 valued-walk name [] w fault all = all
 valued-walk name (word ∷ words) w fault all =
-    let parts = both_empty (turn_fault (leaf name) [] w word) (walk_fault (leaf name) [] (walked rules [] w word) words) fault in
+    let parts = both_empty (turn_fault (leaf name) [] w word)
+        (walk_fault (leaf name) [] (walked rules [] w word) words) fault in
     valued-walk name words (walked rules [] w word) parts.1 (valued-turn name word w parts.0 all)
 
 -- neither argument has a default
@@ -261,18 +318,22 @@ no_default false rows = refl
 
 no_defaults : (rows : List Row) → fold with_default rows rules ≡ rows
 no_defaults rows =
-    ap (λ (xs : List Row). with_default xs flag_rule) (no_default (has_row path_rule.id rows) rows) ∙ no_default (has_row flag_rule.id rows) rows
+    ap (λ (xs : List Row). with_default xs flag_rule) (no_default (has_row path_rule.id rows) rows)
+        ∙ no_default (has_row flag_rule.id rows) rows
 
 -- ---- what is given
 
 -- what is given has a value
-given_value : (id : Text) (rows : List Row) → AllValued rows → is_given id rows ≡ true → (text : Text) × (first_of id rows ≡ Some text)
+given_value : (id : Text) (rows : List Row) → AllValued rows → is_given id rows ≡ true
+    → (text : Text) × (first_of id rows ≡ Some text)
 given_value id [] all is = absurd (cc)
 given_value id (r ∷ rs) all is = go (bytes_eq r.id id) (given_value id rs all.1) r.values all.0 is
   where
-    go : (b : Bool) → (is_given id rs ≡ true → (text : Text) × (first_of id rs ≡ Some text)) → (values : List Text) → 1 ≤ length values
+    go : (b : Bool) → (is_given id rs ≡ true → (text : Text) × (first_of id rs ≡ Some text)) → (values : List Text)
+        → 1 ≤ length values
         → option_map_or (λ x. explicit_source x.source) (cond b (Some r) (find (λ x. bytes_eq x.id id) rs)) false ≡ true
-        → (text : Text) × (option_and_then (λ (x : Row). slice_get x.values 0) (cond b (Some (record r { values = values })) (find (λ x. bytes_eq x.id id) rs)) ≡ Some text)
+        → (text : Text) × (option_and_then (λ (x : Row). slice_get x.values 0)
+            (cond b (Some (record r { values = values })) (find (λ x. bytes_eq x.id id) rs)) ≡ Some text)
     go true later [] has e = absurd (omega arith)
     go true later (v ∷ vs) has e = (v, refl)
     go false later values has e = later e
@@ -291,21 +352,28 @@ path_given name words fault =
     let last = both_empty (defaults_fault (settled rules end).rows rules) _ inner.1 in
     let all = valued-settled false end inner.0 (valued-walk name words (walk_from nothing_held) outer.0 tt) in
     let valued : AllValued (finished rules end) = subst AllValued (sym (no_defaults (settled rules end).rows)) all in
-    given_value (codes "MOD") (finished rules end) valued (is_there (is_given (codes "MOD") (finished rules end)) last.1)
+    given_value (codes "MOD") (finished rules end) valued
+        (is_there (is_given (codes "MOD") (finished rules end)) last.1)
 
 -- ---- the whole line
 
-entered_given : (stop : Option (Text × List Text)) → entered_fault (built tpm) stop ≡ [] → is_some (entered (built tpm) stop) ≡ true
+entered_given : (stop : Option (Text × List Text)) → entered_fault (built tpm) stop ≡ []
+    → is_some (entered (built tpm) stop) ≡ true
     → (asked : Asked) × (option_and_then entered_by (entered (built tpm) stop) ≡ Some asked)
 entered_given None fault is = absurd (cc)
 entered_given (Some p) fault is = go (answers_to p.0 (codes "verify", [])) (answers_to p.0 (codes "run", [])) fault is
   where
     go : (b c : Bool)
-        → option_map_or (λ s. level_fault s [] nothing_held p.1 false []) (cond b (Some (leaf (codes "verify"))) (cond c (Some (leaf (codes "run"))) None)) [] ≡ []
-        → is_some (option_map (λ s. rows_at s p.1) (cond b (Some (leaf (codes "verify"))) (cond c (Some (leaf (codes "run"))) None))) ≡ true
-        → (asked : Asked) × (option_and_then entered_by (option_map (λ s. rows_at s p.1) (cond b (Some (leaf (codes "verify"))) (cond c (Some (leaf (codes "run"))) None))) ≡ Some asked)
-    go true c f e = let path = path_given (codes "verify") p.1 f in (verifies path.0, ap (option_and_then (named (codes "verify"))) path.1)
-    go false true f e = let path = path_given (codes "run") p.1 f in (runs path.0, ap (option_and_then (named (codes "run"))) path.1)
+        → option_map_or (λ s. level_fault s [] nothing_held p.1 false [])
+            (cond b (Some (leaf (codes "verify"))) (cond c (Some (leaf (codes "run"))) None)) [] ≡ []
+        → is_some (option_map (λ s. rows_at s p.1) (cond b (Some (leaf (codes "verify")))
+            (cond c (Some (leaf (codes "run"))) None))) ≡ true
+        → (asked : Asked) × (option_and_then entered_by (option_map (λ s. rows_at s p.1)
+            (cond b (Some (leaf (codes "verify"))) (cond c (Some (leaf (codes "run"))) None))) ≡ Some asked)
+    go true c f e = let path =
+        path_given (codes "verify") p.1 f in (verifies path.0, ap (option_and_then (named (codes "verify"))) path.1)
+    go false true f e = let path =
+        path_given (codes "run") p.1 f in (runs path.0, ap (option_and_then (named (codes "run"))) path.1)
     go false false f e = absurd (cc)
 
 -- a subcommand that is not missed is there
@@ -322,5 +390,7 @@ given words fault =
     let inner = both_empty (entered_fault a end.stopped) _ outer.1 in
     let settling = both_empty (settle_fault a.top.rules a.top.args_override_self end.held) _ inner.1 in
     let last = both_empty (defaults_fault (settled a.top.rules end.held).rows a.top.rules) _ settling.1 in
-    let asked = entered_given end.stopped inner.0 (is_entered (finished a.top.rules end.held) (is_some (entered a end.stopped)) last.1) in
-    (asked.0, ap (λ (kinds : Kinds). unless_faulty kinds (option_and_then entered_by (entered a end.stopped))) fault ∙ asked.1)
+    let asked = entered_given end.stopped inner.0 (is_entered (finished a.top.rules end.held)
+        (is_some (entered a end.stopped)) last.1) in
+    (asked.0, ap (λ (kinds : Kinds). unless_faulty kinds (option_and_then entered_by (entered a end.stopped))) fault
+        ∙ asked.1)

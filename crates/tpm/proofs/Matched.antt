@@ -1,5 +1,6 @@
 -- From what the parser's getters tell to what the words ask for.
-use Rattle.std.proofs.Common.{◌≡◌, List, [], ◌∷◌, true, Option, Some, None, option_map, option_and_then, IsSome, inl, inr, refl, ap, ap₂, sym, ◌∙◌, codes}
+use Rattle.std.proofs.Common.{◌≡◌, List, [], ◌∷◌, true, Option, Some, None, option_map, option_and_then, IsSome, inl}
+use Rattle.std.proofs.Common.{inr, refl, ap, ap₂, sym, ◌∙◌, codes}
 use Rattle.std.specs.Prelude.{Box}
 use Rattle.std.specs.Box.{box_value}
 use Rattle.clap.specs.Walk.{Text, Row, first_of}
@@ -23,13 +24,16 @@ same_inside x y e = cc
 
 -- a subcommand's name and rows, told apart, are told together
 pub entered_is : {Z : Type 0} (s : Option (Box SubCommand Z)) (name : Text) (rows : List Row)
-    → Some name ≡ option_map (λ b. (out-SubCommand (box_value b)).name.now) s → Some rows ≡ option_map (λ p. p.1) (subcommand_rows s)
+    → Some name ≡ option_map (λ b. (out-SubCommand (box_value b)).name.now) s
+        → Some rows ≡ option_map (λ p. p.1) (subcommand_rows s)
     → subcommand_rows s ≡ Some (name, rows)
 entered_is None name rows a b = absurd (cc)
-entered_is (Some box) name rows a b = ap₂ (λ (x : Text) (y : List Row). Some (x, y)) (sym (same_inside _ _ a)) (sym (same_inside _ _ b))
+entered_is (Some box) name rows a b =
+    ap₂ (λ (x : Text) (y : List Row). Some (x, y)) (sym (same_inside _ _ a)) (sym (same_inside _ _ b))
 
 -- what is asked for by a subcommand with this name, these rows and this path
-pub asks_by : (found : Option (Text × List Row)) (name : Text) (rows : List Row) (path : Option Text) → found ≡ Some (name, rows) → path ≡ first_of (codes "MOD") rows
+pub asks_by : (found : Option (Text × List Row)) (name : Text) (rows : List Row) (path : Option Text)
+    → found ≡ Some (name, rows) → path ≡ first_of (codes "MOD") rows
     → option_and_then (named name) path ≡ option_and_then entered_by found
 asks_by found name rows path is read = ap (option_and_then (named name)) read ∙ sym (ap (option_and_then entered_by) is)
 
@@ -41,16 +45,19 @@ some_kind k [] asked among = absurd among
 some_kind k (x ∷ xs) asked among = refl
 
 -- an error of the parser, as a fault of the line
-pub misused : (words : List Text) (error : Error) (fault : LineFault) → HasKind (fault_of tpm words) error → FaultOf error fault → IsFaultAt words fault
+pub misused : (words : List Text) (error : Error) (fault : LineFault) → HasKind (fault_of tpm words) error
+    → FaultOf error fault → IsFaultAt words fault
 misused words error faults.Memory has of = tt
 misused words error (faults.Usage shown) (inl starved) of = absurd (of.1 starved)
 misused words error (faults.Usage shown) (inr among) of = some_kind (kind_of error) (fault_of tpm words) _ among
 
 -- what the words ask for, where the parser took them
-pub line_is : (words : List Text) (found : Option (Text × List Row)) (asked : Option Asked) → fault_of tpm words ≡ [] → found ≡ subcommand_of tpm words
+pub line_is : (words : List Text) (found : Option (Text × List Row)) (asked : Option Asked) → fault_of tpm words ≡ []
+    → found ≡ subcommand_of tpm words
     → asked ≡ option_and_then entered_by found → line_of words ≡ asked
 line_is words found asked none is by =
-    ap (λ (kinds : Kinds). unless_faulty kinds (option_and_then entered_by (subcommand_of tpm words))) none ∙ sym (ap (option_and_then entered_by) is) ∙ sym by
+    ap (λ (kinds : Kinds). unless_faulty kinds (option_and_then entered_by (subcommand_of tpm words))) none
+        ∙ sym (ap (option_and_then entered_by) is) ∙ sym by
 
 pub tpm_is_simple : is_simple tpm ≡ true
 tpm_is_simple = refl
@@ -59,7 +66,8 @@ pub tpm_is_free : is_simple_and_free tpm ≡ true
 tpm_is_free = refl
 
 -- what the parser took asks for something
-pub some_asked : (words : List Text) (asked : Option Line) → fault_of tpm words ≡ [] → line_of words ≡ option_map asked_of asked → IsSome asked
+pub some_asked : (words : List Text) (asked : Option Line) → fault_of tpm words ≡ []
+    → line_of words ≡ option_map asked_of asked → IsSome asked
 some_asked words None none is = let found = given words none in absurd (nothing (sym is ∙ found.1))
   where
     nothing : {x : Asked} → None ≡ Some x → ⊥

@@ -1,5 +1,7 @@
 -- What a plain Step can do, and what runs of them come to.
-use Rattle.std.proofs.Common.{◌≡◌, ◌≢◌, ℕ, zero, suc, ◌+◌, ◌-◌, ◌<◌, ◌≤◌, nat_le, Bool, true, false, List, [], ◌∷◌, ◌++◌, Option, Some, None, is_some, Ok, Err, slice_get, replicate, refl, ap, sym, subst, ◌∙◌, arith, cond, not, length, nat_lt, ◌==◌, ℤ, inl, inr}
+use Rattle.std.proofs.Common.{◌≡◌, ◌≢◌, ℕ, zero, suc, ◌+◌, ◌-◌, ◌<◌, ◌≤◌, nat_le, Bool, true, false, List, [], ◌∷◌}
+use Rattle.std.proofs.Common.{◌++◌, Option, Some, None, is_some, Ok, Err, slice_get, replicate, refl, ap, sym, subst}
+use Rattle.std.proofs.Common.{◌∙◌, arith, cond, not, length, nat_lt, ◌==◌, ℤ, inl, inr}
 use Rattle.std.proofs.lemmas.Bool.{leb-true}
 use Rattle.std.proofs.lemmas.List.{length-set, replicate_more}
 use Rattle.std.proofs.lemmas.Option.{slice_get_cases}
@@ -21,7 +23,9 @@ use Rattle.machine_state.specs.Instructions.{has_body}
 use Rattle.machine_state.specs.LocalStep.{local_step}
 use Rattle.machine_state.proofs.Bodied.{IsLocal, it_goes, it_jumps, it_stops, it_fails, local_steps_are_local}
 use Rattle.machine_state.specs.Moves.{counted, finished_where, put, leave, picked, dispatch}
-use Rattle.machine_state.specs.Happens.{Effect, ran, idle, answered, Here, Turn, turn, turn_by, happens, run_from, failed, site_of, settled, prefix_turn, byte_turn, task_turn, step_turn, most_executed}
+use Rattle.machine_state.specs.Happens.{Effect, ran, idle, answered, Here, Turn, turn, turn_by, happens, run_from}
+use Rattle.machine_state.specs.Happens.{failed, site_of, settled, prefix_turn, byte_turn, task_turn, step_turn}
+use Rattle.machine_state.specs.Happens.{most_executed}
 use Rattle.machine.specs.Asking.{Execution, is_running}
 use Rattle.machine.specs.Lending.{shown}
 use Rattle.verifier.specs.Headline.{AreEvents, IsWell, RunsWell}
@@ -54,7 +58,7 @@ alone_stopped : (p pick : ℕ) (task : Task) (memory : Memory) (finishes : Bool)
 unfolding dispatch
 alone_stopped p pick task memory finishes w alone =
     let over : picked pick (record { running = None; ready = w.queue.ready }) ≡ record { running = None; ready = [] } =
-        ap (λ (ready : List ℕ). picked pick (record { running = None; ready = ready })) alone.none_ready in
+    ap (λ (ready : List ℕ). picked pick (record { running = None; ready = ready })) alone.none_ready in
     record {
       none_ready = ap (λ (q : Queue). q.ready) over;
       there = λ q is. absurd (nobody (sym (ap (λ (x : Queue). x.running) over) ∙ is));
@@ -79,7 +83,7 @@ steps_prefix : (h : Here) (operand : ℤ) (w : World) → Steps w (prefix_turn h
 steps_prefix h operand w =
     let later : Task = record h.from { registers = record h.from.registers { at = h.next; operand = operand } } in
     elim (nat_lt h.next (length h.contents.code)) as (λ b. Steps w
-        (cond b (answered ran (counted (put h.process later w.memory w))) (failed h OutsideCode w))) [
+    (cond b (answered ran (counted (put h.process later w.memory w))) (failed h OutsideCode w))) [
       | true ↦ runs _ refl (alone_put h.process later w.memory w)
       | false ↦ faults _ _ refl
     ]
@@ -101,9 +105,10 @@ steps_byte m p task byte w =
 
 steps_task : (m : Contents) (p : ℕ) (task : Task) (w : World) → Steps w (task_turn has_body (at_here m p task) false w)
 steps_task m p task w =
-    elim (slice_get m.code task.registers.at) as (λ o. Steps w (elim o
-        [ None ↦ failed (at_here m p task) OutsideCode w
-        | Some byte ↦ byte_turn has_body (at_here m p task) byte false w ])) [
+    elim (slice_get m.code task.registers.at) as (λ o. Steps w (elim o [
+      | None ↦ failed (at_here m p task) OutsideCode w
+      | Some byte ↦ byte_turn has_body (at_here m p task) byte false w
+    ])) [
       | None ↦ faults _ _ refl
       | Some byte ↦ steps_byte m p task byte w
     ]
@@ -113,8 +118,11 @@ process_there : (w : World) (p : ℕ) → w.queue.running ≡ Some p → slice_g
     → w.queue.running ≡ None
 process_there w p running absent alone =
     let inside = alone.there p running in
-    elim (slice_get_cases w.tasks p).1 [ inl found ↦ absurd (nobody (sym absent ∙ found.2)) | inr past ↦ absurd
-        (omega (arith, past.0)) ]
+    elim (slice_get_cases w.tasks p).1 [
+      | inl found ↦ absurd (nobody (sym absent ∙ found.2))
+      | inr past ↦ absurd
+          (omega (arith, past.0))
+    ]
   where
     nobody : {x : Task} → None ≡ Some x → ⊥
     nobody e = cc
@@ -122,16 +130,19 @@ process_there w p running absent alone =
 steps_process : (m : Contents) (p : ℕ) (w : World) (over : Bool) (o : Option Task) → w.queue.running ≡ Some p
     → nat_le most_executed w.counters.executed ≡ over → slice_get w.tasks p ≡ o
     → Steps w (cond over (answered idle w) (elim o
-        [ None ↦ answered idle w | Some task ↦ task_turn has_body (at_here m p task) false w ]))
+    [ None ↦ answered idle w | Some task ↦ task_turn has_body (at_here m p task) false w ]))
 steps_process m p w true o running most here =
     idles (λ alone small. let above = leb-true most_executed w.counters.executed most in absurd (omega arith))
 steps_process m p w false None running most here = idles (λ alone small. process_there w p running here alone)
 steps_process m p w false (Some task) running most here = steps_task m p task w
 
 steps_running : (m : Contents) (w : World) (o : Option ℕ) → w.queue.running ≡ o
-    → Steps w (elim o [ None ↦ answered idle w | Some p ↦ cond (nat_le most_executed w.counters.executed)
-        (answered idle w) (elim (slice_get w.tasks p)
-        [ None ↦ answered idle w | Some task ↦ task_turn has_body (at_here m p task) false w ]) ])
+    → Steps w (elim o [
+      | None ↦ answered idle w
+      | Some p ↦ cond (nat_le most_executed w.counters.executed)
+          (answered idle w) (elim (slice_get w.tasks p)
+          [ None ↦ answered idle w | Some task ↦ task_turn has_body (at_here m p task) false w ])
+    ])
 steps_running m w None running = idles (λ alone small. running)
 steps_running m w (Some p) running = steps_process m p w (nat_le most_executed w.counters.executed)
     (slice_get w.tasks p) running refl refl
@@ -254,8 +265,11 @@ none_at m machine well at = let here = well_at m at.count well in ap (λ (w : Wo
 pub none_next : (m : Contents) (machine : Execution) → RunsWell m → IsAt m machine
     → (happens machine.contents machine.world plain_step).fault ≡ None
 none_next m machine well at =
-    let later : Execution = record { contents = machine.contents; world =
-        happens machine.contents machine.world plain_step } in
+    let later : Execution = record {
+      contents = machine.contents;
+      world =
+          happens machine.contents machine.world plain_step;
+    } in
     none_at m later well (at_next m machine later at refl refl)
 
 -- what is not, is
@@ -284,7 +298,7 @@ pub idle_ends : (m : Contents) (machine later : Execution) → machine.contents 
 idle_ends m machine later at stepped alone small told =
     ap is_running (idle_count m machine later at stepped told)
     ∙ ap is_some (nobody_runs machine.world (turn machine.contents machine.world plain_step)
-        (steps machine.contents machine.world) told alone small)
+    (steps machine.contents machine.world) told alone small)
 
 -- ---- the root alone
 
@@ -299,7 +313,7 @@ pub alone_next : (machine later : Execution) → later.world ≡ happens machine
     → (happens machine.contents machine.world plain_step).fault ≡ None → IsAlone machine.world → IsAlone later.world
 alone_next machine later stepped none alone =
     subst IsAlone (sym stepped) (alone_world machine.world (turn machine.contents machine.world plain_step)
-        (steps machine.contents machine.world) none alone)
+    (steps machine.contents machine.world) none alone)
 
 -- no run of a module that keeps the format comes near the greatest count
 pub small : (m : Contents) (machine : Execution) → Keeps m → RunsWell m → IsAt m machine

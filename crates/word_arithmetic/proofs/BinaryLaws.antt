@@ -1,12 +1,16 @@
 -- The result of an operation of two words is a word, and it lies in the range of the results.
-use Rattle.std.proofs.Common.{zero, suc, ◌*◌, ◌+◌, ◌-◌, ◌^◌, Bool, true, false, subst, Option, Some, None, IfSome, IsSomeAnd, ℤ, pos, negsuc, ◌+ℤ◌, ◌-ℤ◌, ◌*ℤ◌, int_div, int_rem, int_lt, is_some, FitsSigned, arith}
+use Rattle.std.proofs.Common.{zero, suc, ◌*◌, ◌+◌, ◌-◌, ◌^◌, Bool, true, false, subst, Option, Some, None, IfSome}
+use Rattle.std.proofs.Common.{IsSomeAnd, ℤ, pos, negsuc, ◌+ℤ◌, ◌-ℤ◌, ◌*ℤ◌, int_div, int_rem, int_lt, is_some}
+use Rattle.std.proofs.Common.{FitsSigned, arith}
 use Rattle.std.specs.Int.{w32, cast_unsigned}
 use Rattle.std.specs.Ordering.{int_eq}
 use Rattle.std.proofs.lemmas.Int.{ints}
 use Rattle.std.proofs.lemmas.Bool.{cond_both}
 use Rattle.std.proofs.Math.Nat.{mod-le}
-use Rattle.word_arithmetic.specs.Word.{is_word, checked, checked_quotient, checked_remainder, word_sum, word_difference, word_product, word_and, word_or, word_xor, truth}
-use Rattle.word_arithmetic.specs.Range.{Ends, InRange, BoundsResults, IsRange, IsWordIn, Holds, truths, word_sum_range, word_difference_range, word_product_range, and_range, or_range, xor_range}
+use Rattle.word_arithmetic.specs.Word.{is_word, checked, checked_quotient, checked_remainder, word_sum, word_difference}
+use Rattle.word_arithmetic.specs.Word.{word_product, word_and, word_or, word_xor, truth}
+use Rattle.word_arithmetic.specs.Range.{Ends, InRange, BoundsResults, IsRange, IsWordIn, Holds, truths, word_sum_range}
+use Rattle.word_arithmetic.specs.Range.{word_difference_range, word_product_range, and_range, or_range, xor_range}
 use Rattle.word_arithmetic.specs.Binary.{computed, result_range, BinaryGivesWords, BinaryHolds, BinaryFails}
 use Rattle.word_arithmetic.specs.declared.binary.Binary.{Binary}
 use Rattle.word_arithmetic.specs.declared.binary.Binary.TheVariants as binary

@@ -1,5 +1,7 @@
 -- Bits and shifts of words that aren't negative.
-use Rattle.std.proofs.Common.{◌≡◌, ℕ, suc, ◌+◌, ◌-◌, ◌*◌, ◌/◌, ◌%◌, ◌^◌, ◌<◌, ◌≤◌, inl, inr, true, ◌&&◌, cond, ap, refl, sym, subst, ◌∙◌, arith, ℤ, pos, negsuc, ◌*ℤ◌, ◌-ℤ◌, ◌≤ℤ◌, FitsSigned, bit_and, bit_or, bit_xor, unsigned_abs, mod-eq_of_lt, pow_mono, pow_pos, Some, None, unwrap_or, int_lt}
+use Rattle.std.proofs.Common.{◌≡◌, ℕ, suc, ◌+◌, ◌-◌, ◌*◌, ◌/◌, ◌%◌, ◌^◌, ◌<◌, ◌≤◌, inl, inr, true, ◌&&◌, cond, ap, refl}
+use Rattle.std.proofs.Common.{sym, subst, ◌∙◌, arith, ℤ, pos, negsuc, ◌*ℤ◌, ◌-ℤ◌, ◌≤ℤ◌, FitsSigned, bit_and, bit_or}
+use Rattle.std.proofs.Common.{bit_xor, unsigned_abs, mod-eq_of_lt, pow_mono, pow_pos, Some, None, unwrap_or, int_lt}
 use Rattle.std.specs.Int.{w32, cast_signed, cast_unsigned, int_min, int_max, leading_zeros}
 use Rattle.std.proofs.lemmas.Int.{ints, clamps, to_z_pos}
 use Rattle.std.proofs.lemmas.Nat.{and_le_l, and_le_r, or_lt, xor_lt, leading_length, shr_le, mul-le, mod_below}
@@ -7,7 +9,9 @@ use Rattle.std.proofs.lemmas.Bool.{cond_both, le-ltb, cases_lt}
 use Rattle.std.proofs.lemmas.Bool.Decides.{Decides-int_eq}
 use mir.Val.{sel}
 use Rattle.word_arithmetic.specs.Word.{is_word, word_and, word_or, word_xor, word_not, shifted_left, shifted_right}
-use Rattle.word_arithmetic.specs.Range.{Ends, InRange, IsRange, Holds, is_constant, is_not_negative, constant, full, zero_to, fitting, bits_range, all_ones, and_range, or_range, xor_range, not_range, shift_left_range, shift_right_range}
+use Rattle.word_arithmetic.specs.Range.{Ends, InRange, IsRange, Holds, is_constant, is_not_negative, constant, full}
+use Rattle.word_arithmetic.specs.Range.{zero_to, fitting, bits_range, all_ones, and_range, or_range, xor_range}
+use Rattle.word_arithmetic.specs.Range.{not_range, shift_left_range, shift_right_range}
 use Rattle.word_arithmetic.proofs.WordLaws.{is_word_out}
 use Rattle.word_arithmetic.proofs.EndsLaws.{member_fits, and_out}
 use Rattle.word_arithmetic.proofs.ModularLaws.{in_full}

@@ -1,5 +1,6 @@
 -- The corners of two ranges bound what is monotone in each operand; so they bound products and quotients.
-use Rattle.std.proofs.Common.{ℕ, suc, ◌+◌, ◌≤◌, ◌⊎◌, inl, inr, refl, sym, subst, arith, ℤ, pos, negsuc, ◌*ℤ◌, ◌≤ℤ◌, int_lt, mul-le-mul_left}
+use Rattle.std.proofs.Common.{ℕ, suc, ◌+◌, ◌≤◌, ◌⊎◌, inl, inr, refl, sym, subst, arith, ℤ, pos, negsuc, ◌*ℤ◌, ◌≤ℤ◌}
+use Rattle.std.proofs.Common.{int_lt, mul-le-mul_left}
 use Rattle.std.specs.Int.{int_min, int_max}
 use Rattle.std.proofs.Math.IntN.{*ℤ_comm}
 use Rattle.std.proofs.lemmas.Bool.{cases_cond}

@@ -1,5 +1,6 @@
 -- Laws on ends and the tests on them.
-use Rattle.std.proofs.Common.{T, int_le, int_lt, ◌<ℤ◌, to_z, of_z, ◌≡◌, ◌⊎◌, inl, inr, Bool, true, false, ◌&&◌, cond, Option, Some, None, unwrap_or, refl, sym, ap, ◌∙◌, subst, arith, ℤ, ◌≤ℤ◌, FitsSigned}
+use Rattle.std.proofs.Common.{T, int_le, int_lt, ◌<ℤ◌, to_z, of_z, ◌≡◌, ◌⊎◌, inl, inr, Bool, true, false, ◌&&◌, cond}
+use Rattle.std.proofs.Common.{Option, Some, None, unwrap_or, refl, sym, ap, ◌∙◌, subst, arith, ℤ, ◌≤ℤ◌, FitsSigned}
 use Rattle.std.specs.Int.{Width, w32}
 use Rattle.std.specs.Option.{option_map}
 use Rattle.std.proofs.lemmas.Int.{ints, clamps, to_z-of_z}
@@ -7,7 +8,8 @@ use Rattle.std.proofs.lemmas.Bool.{and_from}
 use Rattle.word_arithmetic.specs.declared.ranges.Range.{Range}
 use Rattle.word_arithmetic.specs.Word.{is_word}
 use Rattle.word_arithmetic.proofs.WordLaws.{is_word_out, is_word_in, some_out, then_some}
-use Rattle.word_arithmetic.specs.Range.{Ends, ends_of, InRange, IsRange, IsWithin, Holds, WordsInOrderAreRanges, MembersLieBetween, fitting, hull, in_range, range_between}
+use Rattle.word_arithmetic.specs.Range.{Ends, ends_of, InRange, IsRange, IsWithin, Holds, WordsInOrderAreRanges}
+use Rattle.word_arithmetic.specs.Range.{MembersLieBetween, fitting, hull, in_range, range_between}
 
 -- ---- what is said of a range that may not be there
 

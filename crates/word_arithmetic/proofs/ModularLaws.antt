@@ -1,9 +1,12 @@
 -- Modulo 2^32 a result that fits a word is exact, and each result is some word.
-use Rattle.std.proofs.Common.{◌≡◌, Bool, true, false, cond, refl, sym, subst, ◌∙◌, arith, Option, Some, None, IsSomeAnd, unwrap_or, ℤ, ◌+ℤ◌, ◌-ℤ◌, ◌*ℤ◌, FitsSigned}
+use Rattle.std.proofs.Common.{◌≡◌, Bool, true, false, cond, refl, sym, subst, ◌∙◌, arith, Option, Some, None, IsSomeAnd}
+use Rattle.std.proofs.Common.{unwrap_or, ℤ, ◌+ℤ◌, ◌-ℤ◌, ◌*ℤ◌, FitsSigned}
 use Rattle.std.specs.Int.{w32, int_wrap}
-use Rattle.std.proofs.lemmas.Int.{ints, int_wrap_fits, SFits-int_wrap, wrapping_add_is, wrapping_sub_is, wrapping_mul_is}
+use Rattle.std.proofs.lemmas.Int.{ints, int_wrap_fits, SFits-int_wrap, wrapping_add_is, wrapping_sub_is}
+use Rattle.std.proofs.lemmas.Int.{wrapping_mul_is}
 use Rattle.word_arithmetic.specs.Word.{is_word, checked, word_sum, word_difference, word_product}
-use Rattle.word_arithmetic.specs.Range.{Ends, InRange, IsRange, Holds, BoundsResults, full, sum_range, difference_range, product_range, word_sum_range, word_difference_range, word_product_range}
+use Rattle.word_arithmetic.specs.Range.{Ends, InRange, IsRange, Holds, BoundsResults, full, sum_range, difference_range}
+use Rattle.word_arithmetic.specs.Range.{product_range, word_sum_range, word_difference_range, word_product_range}
 use Rattle.word_arithmetic.proofs.WordLaws.{is_word_out}
 use Rattle.word_arithmetic.proofs.EndsLaws.{member_fits}
 use Rattle.word_arithmetic.proofs.SumLaws.{sum_exact, difference_exact}

@@ -1,14 +1,17 @@
 -- What is left of a range inside and outside another, and by a comparison.
-use Rattle.std.proofs.Common.{◌≡◌, ◌↔◌, ◌⊎◌, inl, inr, Bool, true, false, not, cond, refl, sym, subst, ap, ◌∙◌, arith, IsTrue, ℤ, pos, ◌+ℤ◌, ◌-ℤ◌, ◌≤ℤ◌, ◌<ℤ◌, int_le, int_lt, FitsSigned, to_z, of_z}
+use Rattle.std.proofs.Common.{◌≡◌, ◌↔◌, ◌⊎◌, inl, inr, Bool, true, false, not, cond, refl, sym, subst, ap, ◌∙◌, arith}
+use Rattle.std.proofs.Common.{IsTrue, ℤ, pos, ◌+ℤ◌, ◌-ℤ◌, ◌≤ℤ◌, ◌<ℤ◌, int_le, int_lt, FitsSigned, to_z, of_z}
 use Rattle.std.specs.Int.{w32, int_min, int_max}
 use Rattle.std.specs.Ordering.{int_eq}
 use Rattle.std.proofs.lemmas.Int.{ints, clamps, by_lt_z, to_z-of_z}
 use Rattle.std.proofs.lemmas.Bool.{cond_both, not-true, both_ways}
 use Rattle.std.proofs.lemmas.Bool.Decides.{Decides-int_eq}
 use Rattle.word_arithmetic.specs.declared.compare.Comparison.{Comparison}
-use Rattle.word_arithmetic.specs.declared.compare.Comparison.TheVariants.{Equal, NotEqual, Less, LessOrEqual, Greater, GreaterOrEqual}
+use Rattle.word_arithmetic.specs.declared.compare.Comparison.TheVariants.{Equal, NotEqual, Less, LessOrEqual, Greater}
+use Rattle.word_arithmetic.specs.declared.compare.Comparison.TheVariants.{GreaterOrEqual}
 use Rattle.word_arithmetic.specs.Comparison.{compares}
-use Rattle.word_arithmetic.specs.Range.{Ends, InRange, IsRange, IsLeft, Narrows, in_range, inside, outside, at_least, at_most, constant, narrowed}
+use Rattle.word_arithmetic.specs.Range.{Ends, InRange, IsRange, IsLeft, Narrows, in_range, inside, outside, at_least}
+use Rattle.word_arithmetic.specs.Range.{at_most, constant, narrowed}
 use Rattle.word_arithmetic.proofs.EndsLaws.{in_range_out, not_in_range, fits_between, lo_in, hi_in, le_test, lt_test}
 
 -- ---- ranges with the same members are one

@@ -1,5 +1,6 @@
 -- Quotients lie within the corners, where no divisor is 0.
-use Rattle.std.proofs.Common.{◌≡◌, ◌≢◌, ℕ, zero, suc, ◌/◌, ◌<◌, ◌≤◌, ◌⊎◌, inl, inr, false, refl, sym, arith, None, ℤ, pos, negsuc, ◌≤ℤ◌, ◌<ℤ◌, int_div, int_le, mul-le-mul_left, div-mul-le_self}
+use Rattle.std.proofs.Common.{◌≡◌, ◌≢◌, ℕ, zero, suc, ◌/◌, ◌<◌, ◌≤◌, ◌⊎◌, inl, inr, false, refl, sym, arith, None, ℤ}
+use Rattle.std.proofs.Common.{pos, negsuc, ◌≤ℤ◌, ◌<ℤ◌, int_div, int_le, mul-le-mul_left, div-mul-le_self}
 use Rattle.std.proofs.lemmas.Int.{ints}
 use Rattle.std.proofs.lemmas.Bool.{cond_both}
 use Rattle.std.proofs.lemmas.Nat.{le-div}

@@ -1,12 +1,17 @@
 -- A remainder has the sign of the dividend, is no larger than it, and is smaller than the divisor.
-use Rattle.std.proofs.Common.{◌≡◌, ◌≢◌, ℕ, zero, suc, ◌/◌, ◌%◌, ◌<◌, ◌≤◌, inl, inr, ⊎_elim, Bool, true, false, ◌&&◌, ◌||◌, cond, ap, refl, sym, subst, ◌∙◌, arith, Option, Some, None, IsSomeAnd, is_some, ℤ, pos, negsuc, ◌-ℤ◌, ◌≤ℤ◌, int_div, int_rem, int_le, unsigned_abs, FitsSigned, div-le_self, max}
+use Rattle.std.proofs.Common.{◌≡◌, ◌≢◌, ℕ, zero, suc, ◌/◌, ◌%◌, ◌<◌, ◌≤◌, inl, inr, ⊎_elim, Bool, true, false, ◌&&◌}
+use Rattle.std.proofs.Common.{◌||◌, cond, ap, refl, sym, subst, ◌∙◌, arith, Option, Some, None, IsSomeAnd, is_some, ℤ}
+use Rattle.std.proofs.Common.{pos, negsuc, ◌-ℤ◌, ◌≤ℤ◌, int_div, int_rem, int_le, unsigned_abs, FitsSigned, div-le_self}
+use Rattle.std.proofs.Common.{max}
 use Rattle.std.specs.Int.{w32, int_min, int_max}
 use Rattle.std.proofs.lemmas.Int.{ints, clamps}
 use Rattle.std.proofs.lemmas.Bool.{or_cases, both_ways, cond_both}
 use Rattle.std.proofs.lemmas.Nat.{mod_below}
 use Rattle.std.proofs.Math.Nat.{mod-le}
 use Rattle.word_arithmetic.specs.Word.{checked_remainder, least_word}
-use Rattle.word_arithmetic.specs.Range.{Ends, InRange, IsRange, BoundsResults, in_range, can_fail_to_divide, greatest_size, lowest_remainder, highest_remainder, remainder_ends, remainder_range}
+use Rattle.word_arithmetic.specs.Range.{Ends, InRange, IsRange, BoundsResults, in_range, can_fail_to_divide}
+use Rattle.word_arithmetic.specs.Range.{greatest_size, lowest_remainder, highest_remainder, remainder_ends}
+use Rattle.word_arithmetic.specs.Range.{remainder_range}
 use Rattle.word_arithmetic.proofs.WordLaws.{checked_fits}
 use Rattle.word_arithmetic.proofs.EndsLaws.{lo_in, and_failed, and_out, fits_between, in_range_in, in_range_out}
 use Rattle.word_arithmetic.proofs.QuotientLaws.{divided_by_more, not_zero, quotient_is}

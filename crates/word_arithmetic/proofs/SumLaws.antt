@@ -1,10 +1,12 @@
 -- The range of the sums, and that of the differences, is exact.
-use Rattle.std.proofs.Common.{◌≡◌, inl, inr, Option, Some, None, arith, ℤ, ◌+ℤ◌, ◌-ℤ◌, ap, ◌∙◌, refl, sym, subst, ◌≤ℤ◌, ◌&&◌, IsSomeAnd, FitsSigned}
+use Rattle.std.proofs.Common.{◌≡◌, inl, inr, Option, Some, None, arith, ℤ, ◌+ℤ◌, ◌-ℤ◌, ap, ◌∙◌, refl, sym, subst, ◌≤ℤ◌}
+use Rattle.std.proofs.Common.{◌&&◌, IsSomeAnd, FitsSigned}
 use Rattle.std.specs.Int.{w32}
 use Rattle.std.proofs.lemmas.Int.{ints}
 use Rattle.std.proofs.lemmas.Bool.{cond_both}
 use Rattle.word_arithmetic.specs.Word.{is_word, checked, checked_sum, checked_difference}
-use Rattle.word_arithmetic.specs.Range.{Ends, InRange, Holds, HoldsChecked, Reaches, BoundsResults, BoundsExactly, fitting, sum_range, difference_range}
+use Rattle.word_arithmetic.specs.Range.{Ends, InRange, Holds, HoldsChecked, Reaches, BoundsResults, BoundsExactly}
+use Rattle.word_arithmetic.specs.Range.{fitting, sum_range, difference_range}
 use Rattle.word_arithmetic.proofs.WordLaws.{is_word_out, checked_fits, not_checked}
 use Rattle.word_arithmetic.proofs.EndsLaws.{and_out, and_failed, fits_between, lo_in, hi_in}
 

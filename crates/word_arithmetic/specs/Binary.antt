@@ -3,8 +3,12 @@
 use Rattle.std.specs.Prelude.{◌≡◌, Option, Some, None, IfSome, ℤ, int_lt, FitsSigned}
 use Rattle.std.specs.Int.{w32}
 use Rattle.std.specs.Ordering.{int_eq}
-use Rattle.word_arithmetic.specs.Word.{checked_sum, checked_difference, checked_product, checked_quotient, checked_remainder, word_sum, word_difference, word_product, word_and, word_or, word_xor, truth}
-use Rattle.word_arithmetic.specs.Range.{Ends, IsRange, HoldsWords, Reaches, truths, sum_range, difference_range, product_range, quotient_range, remainder_range, word_sum_range, word_difference_range, word_product_range, and_range, or_range, xor_range}
+use Rattle.word_arithmetic.specs.Word.{checked_sum, checked_difference, checked_product, checked_quotient}
+use Rattle.word_arithmetic.specs.Word.{checked_remainder, word_sum, word_difference, word_product, word_and, word_or}
+use Rattle.word_arithmetic.specs.Word.{word_xor, truth}
+use Rattle.word_arithmetic.specs.Range.{Ends, IsRange, HoldsWords, Reaches, truths, sum_range, difference_range}
+use Rattle.word_arithmetic.specs.Range.{product_range, quotient_range, remainder_range, word_sum_range}
+use Rattle.word_arithmetic.specs.Range.{word_difference_range, word_product_range, and_range, or_range, xor_range}
 use Rattle.word_arithmetic.specs.declared.binary.Binary.{Binary}
 use Rattle.word_arithmetic.specs.declared.binary.Binary.TheVariants as binary
 

@@ -1,11 +1,14 @@
 -- Ranges of words, and the range of the results of each operation: the rules by which the certificate's checker
 -- and the compiler bound numbers. The rules are our own choice; they are exact where the ends decide.
-use Rattle.std.specs.Prelude.{◌≡◌, ℕ, ◌-◌, ◌^◌, max, ◌&&◌, ◌||◌, Bool, Option, Some, None, if◌then◌else◌, IfSome, IfNone, IsSomeAnd, unwrap_or, ◌↔◌, ℤ, pos, negsuc, ◌+ℤ◌, ◌-ℤ◌, ◌*ℤ◌, ◌≤ℤ◌, int_le, int_div, unsigned_abs, FitsSigned}
+use Rattle.std.specs.Prelude.{◌≡◌, ℕ, ◌-◌, ◌^◌, max, ◌&&◌, ◌||◌, Bool, Option, Some, None, if◌then◌else◌, IfSome}
+use Rattle.std.specs.Prelude.{IfNone, IsSomeAnd, unwrap_or, ◌↔◌, ℤ, pos, negsuc, ◌+ℤ◌, ◌-ℤ◌, ◌*ℤ◌, ◌≤ℤ◌, int_le}
+use Rattle.std.specs.Prelude.{int_div, unsigned_abs, FitsSigned}
 use Rattle.std.specs.Int.{w32, cast_signed, cast_unsigned, int_min, int_max, leading_zeros}
 use Rattle.std.specs.Ordering.{int_eq}
 use Rattle.word_arithmetic.specs.Word.{is_word, least_word, greatest_word, word_and, word_or, word_xor, word_not}
 use Rattle.word_arithmetic.specs.declared.compare.Comparison.{Comparison}
-use Rattle.word_arithmetic.specs.declared.compare.Comparison.TheVariants.{Equal, NotEqual, Less, LessOrEqual, Greater, GreaterOrEqual}
+use Rattle.word_arithmetic.specs.declared.compare.Comparison.TheVariants.{Equal, NotEqual, Less, LessOrEqual, Greater}
+use Rattle.word_arithmetic.specs.declared.compare.Comparison.TheVariants.{GreaterOrEqual}
 use Rattle.word_arithmetic.specs.declared.ranges.Range.{Range}
 
 -- the two ends of a range, which both belong to it

@@ -1,8 +1,10 @@
 -- What the T414 computes on words. A word has 32 bits and stands here for its signed value; "unsigned" says
 -- where it is read as a number from 0 to 2^32 - 1. From the T414 compiler writer's guide, but for what is
 -- marked as our own choice.
-use Rattle.std.specs.Prelude.{◌≡◌, ◌↔◌, IsTrue, FitsSigned, ◌≤ℤ◌, ℕ, zero, ◌/◌, ◌^◌, Bool, Option, Some, None, if◌then◌else◌, nat_lt, ℤ, pos, negsuc, ◌+ℤ◌, ◌-ℤ◌, ◌*ℤ◌, int_div, int_rem, is_some}
-use Rattle.std.specs.Int.{w32, cast_signed, cast_unsigned, int_wrapping_add, int_wrapping_sub, int_wrapping_mul, int_bit_and, int_bit_or, int_bit_xor, int_bit_not, int_shl}
+use Rattle.std.specs.Prelude.{◌≡◌, ◌↔◌, IsTrue, FitsSigned, ◌≤ℤ◌, ℕ, zero, ◌/◌, ◌^◌, Bool, Option, Some, None}
+use Rattle.std.specs.Prelude.{if◌then◌else◌, nat_lt, ℤ, pos, negsuc, ◌+ℤ◌, ◌-ℤ◌, ◌*ℤ◌, int_div, int_rem, is_some}
+use Rattle.std.specs.Int.{w32, cast_signed, cast_unsigned, int_wrapping_add, int_wrapping_sub, int_wrapping_mul}
+use Rattle.std.specs.Int.{int_bit_and, int_bit_or, int_bit_xor, int_bit_not, int_shl}
 
 -- MostNeg, and the greatest word
 abbrev pub least_word : ℤ

@@ -9,7 +9,8 @@ invariant-loop-rest l = record {
   few : l.number ≤ 32769;
   within : l.offset ≤ 1048577;
   offset : 0 < length l.rest → l.offset + length l.rest ≤ 1048576;
-  so_far : with_front (map row_of l.lines.items) (rows_at l.number l.offset l.deepest (lines_of l.rest)) ≡ rows_at 1 0 0 (lines_of l.source);
+  so_far : with_front (map row_of l.lines.items) (rows_at l.number l.offset l.deepest (lines_of l.rest)) ≡ rows_at 1
+      0 0 (lines_of l.source);
 }
 
 abbrev pub decreases-loop-rest : goal.decreases-loop-rest

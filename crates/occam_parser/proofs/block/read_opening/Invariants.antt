@@ -9,7 +9,8 @@ invariant-loop-declarations l = record {
   low : l.level ≤ 64;
   at : is_at l.level (row_of l.line) ≡ true;
   within : length l.rest < length l.lines;
-  reads : beginning_from l.level [] (rows_of l.lines) ≡ beginning_from l.level (map declaration_of l.declarations.items) (row_of l.line ∷ rows_of l.rest);
+  reads : beginning_from l.level [] (rows_of l.lines) ≡ beginning_from l.level
+      (map declaration_of l.declarations.items) (row_of l.line ∷ rows_of l.rest);
 }
 
 abbrev pub decreases-loop-declarations : goal.decreases-loop-declarations

@@ -17,7 +17,9 @@ pub loop-after-init : goal.loop-after-init
 loop-after-init c = record {
   within = omega (arith, c.in_ok-first.ensures.within);
   reads =
-      let begun = list_begins name_at (terminals_of c.args.tokens.now) (terminals_of c.in_ok-first.rest.now) (spelling_of c.in_ok-first.first) c.in_ok-first.ensures.found (no_more c.in_ok-first.rest.now c.args.tokens.now (omega (arith, c.in_ok-first.ensures.within))) in
+      let begun = list_begins name_at (terminals_of c.args.tokens.now) (terminals_of c.in_ok-first.rest.now)
+          (spelling_of c.in_ok-first.first) c.in_ok-first.ensures.found
+          (no_more c.in_ok-first.rest.now c.args.tokens.now (omega (arith, c.in_ok-first.ensures.within))) in
       rw (c.in_ok-push.ensures.items, c.new-found.ensures.items) begun;
 }
 
@@ -25,14 +27,18 @@ pub returns-in_err-next-clause-found : goal.returns-in_err-next-clause-found
 returns-in_err-next-clause-found c =
     let p = err_from_is_err_and c.from_residual-in_err-next.result c.from_residual-in_err-next.ensures.1 in
     rw (p.1, p.2)
-    (list_fails name_at (terminals_of c.args.tokens.now) (terminals_of c.loop-after.rest.now) (terminals_of c.in-Some.after.now) _ (sym c.in-Some.ensures.behind) c.in_err-next.ensures.found c.loop-after.invariant.reads)
+    (list_fails name_at (terminals_of c.args.tokens.now) (terminals_of c.loop-after.rest.now)
+        (terminals_of c.in-Some.after.now) _ (sym c.in-Some.ensures.behind) c.in_err-next.ensures.found
+        c.loop-after.invariant.reads)
 
 pub loop-after-preserved : goal.loop-after-preserved
 loop-after-preserved c = record {
   within = omega (arith, c.in_ok-next.ensures.within, c.in-Some.ensures.shorter);
   reads =
       let going =
-      list_goes_on name_at (terminals_of c.args.tokens.now) (terminals_of c.loop-after.rest.now) (terminals_of c.in-Some.after.now) (terminals_of c.in_ok-next.behind.now) (map spelling_of c.loop-after.found.items) (spelling_of c.in_ok-next.next)
+      list_goes_on name_at (terminals_of c.args.tokens.now) (terminals_of c.loop-after.rest.now)
+          (terminals_of c.in-Some.after.now) (terminals_of c.in_ok-next.behind.now)
+          (map spelling_of c.loop-after.found.items) (spelling_of c.in_ok-next.next)
       (sym c.in-Some.ensures.behind)
       c.in_ok-next.ensures.found
       (no_more c.in_ok-next.behind.now c.in-Some.after.now (omega (arith, c.in_ok-next.ensures.within)))
@@ -42,4 +48,5 @@ loop-after-preserved c = record {
 }
 
 pub returns-clause-found : goal.returns-clause-found
-returns-clause-found c = list_ends name_at (terminals_of c.args.tokens.now) (terminals_of c.loop-after.rest.now) _ (sym c.in_default.ensures.behind) c.loop-after.invariant.reads
+returns-clause-found c = list_ends name_at (terminals_of c.args.tokens.now) (terminals_of c.loop-after.rest.now) _
+    (sym c.in_default.ensures.behind) c.loop-after.invariant.reads

@@ -34,7 +34,8 @@ abbrev pub invariant-chain-loop-after : goal.invariant-chain-loop-after
 invariant-chain-loop-after l = record {
   within : length l.rest ≤ length l.tokens;
   same : l.first ≡ l.fn.first;
-  reads : Chains (term_at l.levels) l.operator (term_of l.fn.first) (terminals_of l.tokens) (with_others (First (term_of l.fn.first)) (map term_of l.others.items)) (terminals_of l.rest);
+  reads : Chains (term_at l.levels) l.operator (term_of l.fn.first) (terminals_of l.tokens)
+      (with_others (First (term_of l.fn.first)) (map term_of l.others.items)) (terminals_of l.rest);
 }
 
 abbrev pub decreases-chain-loop-after : goal.decreases-chain-loop-after

@@ -23,7 +23,8 @@ returns-in_err-rest c =
     let reads = rw c.in-Some-next.is at l.invariant in
     let p = err_from_is_err_and c.from_residual.result c.from_residual.ensures.1 in
     rw (p.1, p.2)
-    (passed_on _ _ _ (λ none. program_fails (rows_of c.args.lines.now) (map item_of l.found.items) first after none reads)
+    (passed_on _ _ _ (λ none. program_fails (rows_of c.args.lines.now) (map item_of l.found.items) first after none
+        reads)
     (pushed_lost (λ x. (item_of x.0, rows_of x.1.now)) c.item.result l.found.items c.push.new.found.items _ _
     c.in_err-rest.ensures c.item.ensures.found))
 
@@ -35,7 +36,8 @@ loop-next-preserved c =
     let after = rows_of c.in-Some-next.after.now in
     let items = map item_of l.found.items in
     let reads = rw c.in-Some-next.is at l.invariant in
-    let left = left_is c.in_ok-rest.rest.now c.split_first-next-in-Some-next.result c.split_first-next-in-Some-next.ensures.cases in
+    let left = left_is c.in_ok-rest.rest.now c.split_first-next-in-Some-next.result
+        c.split_first-next-in-Some-next.ensures.cases in
     let x =
     pushed_found item_of c.item.result l.found.items c.push.new.found.items c.in_ok-rest.rest
     (length c.in-Some-next.after.now) _ c.in_ok-rest.ensures c.item.ensures.found c.item.ensures.within
@@ -48,7 +50,8 @@ loop-next-preserved c =
 pub loop-next-smaller : goal.loop-next-smaller
 loop-next-smaller c =
     let l = c.loop-next in
-    let left = left_len_is c.in_ok-rest.rest.now c.split_first-next-in-Some-next.result c.split_first-next-in-Some-next.ensures.cases in
+    let left = left_len_is c.in_ok-rest.rest.now c.split_first-next-in-Some-next.result
+        c.split_first-next-in-Some-next.ensures.cases in
     let x =
     pushed_found item_of c.item.result l.found.items c.push.new.found.items c.in_ok-rest.rest
     (length c.in-Some-next.after.now) _ c.in_ok-rest.ensures c.item.ensures.found c.item.ensures.within

@@ -1,5 +1,6 @@
 use Rattle.std.proofs.Common.{arith}
-use Rattle.prefix_decoder.proofs.Outcomes.{fetched-found, fetched-only, fetched-end, fetched-second, fetched-long, IfOk-from, StandsAt-length}
+use Rattle.prefix_decoder.proofs.Outcomes.{fetched-found, fetched-only, fetched-end, fetched-second, fetched-long}
+use Rattle.prefix_decoder.proofs.Outcomes.{IfOk-from, StandsAt-length}
 use Rattle.prefix_decoder.proofs.decoding.fetch.Goals as goal
 
 pub returns-clause-found : goal.returns-clause-found

@@ -2,8 +2,10 @@ use Rattle.tpm.proofs.Acts.{acts_told, acts_failed}
 use Rattle.tpm.proofs.acting.act.Goals as goal
 
 pub returns-in-Ok-perform : goal.returns-in-Ok-perform
-returns-in-Ok-perform g c = acts_told g.F.Files.reads _ _ _ _ _ _ c.in-Ok.ensures.asked c.in-Ok-perform.field-0 c.in-Ok-perform.ensures
+returns-in-Ok-perform g c =
+    acts_told g.F.Files.reads _ _ _ _ _ _ c.in-Ok.ensures.asked c.in-Ok-perform.field-0 c.in-Ok-perform.ensures
 
 pub returns-in-Err-perform : goal.returns-in-Err-perform
 returns-in-Err-perform g c =
-    acts_failed g.F.Files.reads _ _ _ _ _ _ c.in-Err-perform.failure c.fail.result c.fail.ensures c.in-Ok.ensures.asked c.in-Err-perform.ensures
+    acts_failed g.F.Files.reads _ _ _ _ _ _ c.in-Err-perform.failure c.fail.result c.fail.ensures c.in-Ok.ensures.asked
+        c.in-Err-perform.ensures

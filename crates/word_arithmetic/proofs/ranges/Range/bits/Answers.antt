@@ -1,6 +1,7 @@
 use Rattle.std.proofs.Common.{◌≡◌, Bool, true, false, cond, refl, rules, w32, sym, ◌∙◌, ap, ◌&&◌, ℤ}
 use Rattle.std.proofs.lemmas.Int.{to_z-of_z}
-use Rattle.word_arithmetic.specs.Range.{Ends, ends_of, constant, full, zero_to, bits_range, is_constant, is_not_negative}
+use Rattle.word_arithmetic.specs.Range.{Ends, ends_of, constant, full, zero_to, bits_range, is_constant}
+use Rattle.word_arithmetic.specs.Range.{is_not_negative}
 use Rattle.word_arithmetic.proofs.ranges.Range.bits.Goals as goal
 
 -- the range, by the answers of both tests
