@@ -49,6 +49,7 @@ impl<'a> Cursor<'a> {
         self.rest.is_empty()
     }
 
+    /// Whether there is a failure.
     pub(crate) fn has_failed(&self) -> bool
         ensures { result ≡ is_some self.now.failure }
     {
