@@ -205,7 +205,8 @@ rows_ready bytes fits {h} {t} p q =
     (g.inside (omega arith), limits_keep h.0 t.0.0 f.keeps g.from, g.from.rows)
 
 -- the same of a cursor that went over the header and the tables
-pub rows_taken : (bytes : List ℕ) → IsBytes bytes → (front behind last : Cursor) {h : Header} {t : Contents × ℕ} → front.rest.now ≡ bytes → front.size ≡ length bytes
+pub rows_taken : (bytes : List ℕ) → IsBytes bytes → (front behind last : Cursor) {h : Header} {t : Contents × ℕ}
+    → front.rest.now ≡ bytes → front.size ≡ length bytes
     → Takes (λ size. header_at) front h behind → Takes (λ size. tables_at size h) behind t last → last.failure ≡ None
     → (t.1 + length (flat_map label_bytes t.0.labels) + length (flat_map par_bytes t.0.pars) ≤ length bytes) × LimitsKeep t.0 × RowsKeep t.0
 rows_taken bytes fits front behind last {h} {t} at_front whole head rows still =

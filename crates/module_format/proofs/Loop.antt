@@ -57,16 +57,20 @@ module _ {A S : Type 0} (item : S → List ℕ → Read A) (next : S → A → S
       sym so_far ∙ one
 
   -- an item that a cursor read
-  pub taken : (old : Option ReadError) (low : S) (bytes : List ℕ) (x : A) (new : Option ReadError) (left : List ℕ) → old ≡ None → new ≡ None → TookAfter (item low) old bytes x new left → item low bytes ≡ Ok (x, left)
+  pub taken : (old : Option ReadError) (low : S) (bytes : List ℕ) (x : A) (new : Option ReadError) (left : List ℕ)
+      → old ≡ None → new ≡ None → TookAfter (item low) old bytes x new left → item low bytes ≡ Ok (x, left)
   taken None low bytes x None left unfailed still took = took
   taken None low bytes x (Some e) left unfailed still took = grind (arith, still)
   taken (Some e) low bytes x new left unfailed still took = grind (arith, unfailed)
 
   -- an item at which it failed
-  pub stops : (old new : Option ReadError) (front : List A) (count i : ℕ) (low : S) (bytes : List ℕ) (x : A) (left : List ℕ) (xs : List A) (total : Read (List A)) → i < count → old ≡ None → is_some new ≡ true
-      → TookAfter (item low) old bytes x new left → with_front front (list_at item next (count - i) low bytes) ≡ total → Took total xs new left
+  pub stops : (old new : Option ReadError) (front : List A) (count i : ℕ) (low : S) (bytes : List ℕ) (x : A)
+      (left : List ℕ) (xs : List A) (total : Read (List A)) → i < count → old ≡ None → is_some new ≡ true
+      → TookAfter (item low) old bytes x new left → with_front front (list_at item next (count - i) low bytes) ≡ total
+      → Took total xs new left
   stops None None front count i low bytes x left xs total lt unfailed failed took so_far = grind (arith, failed)
-  stops None (Some e) front count i low bytes x left xs total lt unfailed failed took so_far = ends e front count i low bytes total lt took so_far
+  stops None (Some e) front count i low bytes x left xs total lt unfailed failed took so_far =
+      ends e front count i low bytes total lt took so_far
   stops (Some e) new front count i low bytes x left xs total lt unfailed failed took so_far = grind (arith, unfailed)
 
 -- the item at an index, at the front of what is left

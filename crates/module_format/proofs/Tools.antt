@@ -58,8 +58,10 @@ pub record Spelled {A : Type 0} (bytes : List ℕ) (spelling : A → List ℕ) (
   pub keeps : P x.0
 
 -- a field with a test of its own
-pub tested_takes : {A : Type 0} {bytes : List ℕ} {spelling : A → List ℕ} {P Q : A → Type 0} (read : Read A) (test : A → Bool) (kind : FormatFaultKind) (at : ℕ)
-    → Has read (Spelled bytes spelling P) → ((x : A) → P x → test x ≡ true → Q x) → Has (tested read test kind at) (Spelled bytes spelling Q)
+pub tested_takes : {A : Type 0} {bytes : List ℕ} {spelling : A → List ℕ} {P Q : A → Type 0}
+    (read : Read A) (test : A → Bool) (kind : FormatFaultKind) (at : ℕ)
+    → Has read (Spelled bytes spelling P) → ((x : A) → P x → test x ≡ true → Q x)
+    → Has (tested read test kind at) (Spelled bytes spelling Q)
 unfolding tested
 tested_takes (Ok x) test kind at h kept =
     let g = h.given in

@@ -1,6 +1,6 @@
 -- Reading a whole file.
-use Rattle.std.specs.Prelude.{ℕ, ◌+◌, nat_eq, ◌==◌, Bool, false, if◌then◌else◌, List, [], ◌∷◌, length, drop, Result, Ok, Err}
-use Rattle.std.specs.List.{starts_with}
+use Rattle.std.specs.Prelude.{ℕ, ◌+◌, ◌^◌, ◌<◌, nat_eq, ◌==◌, Bool, false, if◌then◌else◌, List, [], ◌∷◌, length, drop, Result, Ok, Err}
+use Rattle.std.specs.List.{starts_with, flat_map}
 use Rattle.module_format.specs.declared.fault.FormatFault.{FormatFault}
 use Rattle.module_format.specs.declared.fault.FormatFaultKind.TheVariants as faults
 use Rattle.module_format.specs.declared.tables.Version.{Version}
@@ -11,8 +11,8 @@ use Rattle.module_format.specs.declared.reading.header.Sizes.{Sizes}
 use Rattle.module_format.specs.declared.reading.header.RowCounts.{RowCounts}
 use Rattle.module_format.specs.declared.reading.header.Header.{Header}
 use Rattle.module_format.specs.Contents.{Procedure, Label, Par, Contents}
-use Rattle.module_format.specs.Spelling.{magic_one, magic_two}
-use Rattle.module_format.specs.Keeping.{max_code}
+use Rattle.module_format.specs.Spelling.{magic_one, magic_two, label_bytes, par_bytes}
+use Rattle.module_format.specs.Keeping.{max_code, LimitsKeep, RowsKeep}
 use Rattle.module_format.specs.Reading.{◌>>=◌, Read, fault, place, limited_at, positive_at, at_most_at, bytes_at}
 use Rattle.module_format.specs.ReadingRows.{procedure_rows_at, label_rows_at, table_rows_at}
 use Rattle.module_format.specs.ReadingPars.{par_rows_at}
@@ -117,6 +117,12 @@ tables_at size h rest = do
   pars ← par_rows_at size (1 + length procedures.0) h.sizes.code_len h.counts.pars labels.1
   tables ← table_rows_at size constants.0 h.counts.table_rows pars.1
   Ok ((contents_from h code.0 constants.0 procedures.0 labels.0 pars.0 tables.0, place size procedures.1), tables.1)
+
+-- Contents whose label rows begin at `at` can be looked at again.
+pub record IsReady (at : ℕ) (c : Contents) : Type 0 where
+  pub fits : at + length (flat_map label_bytes c.labels) + length (flat_map par_bytes c.pars) < 2 ^ 64
+  pub limits : LimitsKeep c
+  pub rows : RowsKeep c
 
 -- what a file says, or its first fault
 unfoldable pub read_contents : List ℕ → Result Contents FormatFault

@@ -40,7 +40,8 @@ words_at size low rest = do
 
 -- words that are read, none of them one that is written
 unfoldable pub read_words_at : ℕ → List Interval → ℤ → List ℕ → Read Interval
-read_words_at size writes low rest = tested (words_at size low rest) (λ i. not (list_any (meet i) writes)) faults.Order (place size rest)
+read_words_at size writes low rest =
+    tested (words_at size low rest) (λ i. not (list_any (meet i) writes)) faults.Order (place size rest)
 
 -- ---- parameters and ends
 
@@ -68,7 +69,8 @@ end_number_at size before kind rest =
 unfoldable pub end_element_at : ℕ → EndKey → ℕ → ℤ → List ℕ → Read ℕ
 end_element_at size before kind number rest =
     let same = (kind == before.kind) && (int_le number before.number && int_le before.number number) in
-    let known = tested (number_at size 4 rest) (λ element. (kind == END_PARAMETER) || (element == 0)) faults.Range (place size rest) in
+    let is_known = λ (element : ℕ). (kind == END_PARAMETER) || (element == 0) in
+    let known = tested (number_at size 4 rest) is_known faults.Range (place size rest) in
     tested known (λ element. not (same && nat_lt element before.element)) faults.Order (place size rest)
 
 -- the direction of an end, by which it is above the end before where all other fields are the same
@@ -130,7 +132,8 @@ branch_at size code_len before rest = do
 
 -- a context of which there are so many
 unfoldable pub context_number_at : ℕ → ℕ → List ℕ → Read ℕ
-context_number_at size count rest = tested (number_at size 2 rest) (λ context. nat_lt context count) faults.Range (place size rest)
+context_number_at size count rest =
+    tested (number_at size 2 rest) (λ context. nat_lt context count) faults.Range (place size rest)
 
 -- a number of branches, at least 1
 unfoldable pub branch_count_at : ℕ → List ℕ → Read ℕ

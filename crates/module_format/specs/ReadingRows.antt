@@ -38,7 +38,8 @@ unfoldable pub step_at : ℕ → ℤ → ℤ → List ℕ → Read Step
 step_at size lo hi rest = do
   step ← byte_at size rest
   if step.0 == 1 then Ok (steps.Byte, step.1)
-      else (if (step.0 == 4) && is_stepped lo && is_stepped hi then Ok (steps.Word, step.1) else Err (fault faults.Range (place size rest)))
+      else (if (step.0 == 4) && is_stepped lo && is_stepped hi then Ok (steps.Word, step.1)
+      else Err (fault faults.Range (place size rest)))
 
 unfoldable pub pointer_at : ℕ → List ℕ → Read Fact
 pointer_at size rest = do
@@ -81,7 +82,8 @@ unfoldable pub word_at : ℕ → ℕ → ℕ → List ℕ → Read Fact
 word_at size code_len span rest = do
   tag ← byte_at size rest
   if (tag.0 == TAG_LOOP) && (span == 2) then loop_at size tag.1
-      else (if (tag.0 == TAG_RETURN_ADDRESS) && (span == 1) then Ok (facts.ReturnAddress, tag.1) else fact_at size code_len (place size rest) tag.0 tag.1)
+      else (if (tag.0 == TAG_RETURN_ADDRESS) && (span == 1) then Ok (facts.ReturnAddress, tag.1)
+      else fact_at size code_len (place size rest) tag.0 tag.1)
 
 -- ---- entries and label rows
 
@@ -198,7 +200,8 @@ kind_at size version rest = do
 -- the word of a parameter: below word `hi`, and behind the parameter before, in word `low`
 unfoldable pub parameter_word_at : ℕ → ℤ → ℕ → List ℕ → Read ℕ
 parameter_word_at size hi low rest =
-    let inside = tested (number_at size 2 rest) (λ word. nat_le 1 word && int_lt (pos word) hi) faults.Range (place size rest) in
+    let is_inside = λ (word : ℕ). nat_le 1 word && int_lt (pos word) hi in
+    let inside = tested (number_at size 2 rest) is_inside faults.Range (place size rest) in
     tested inside (nat_lt low) faults.Order (place size rest)
 
 unfoldable pub parameter_at : ℕ → Version → ℤ → ℕ → List ℕ → Read Parameter
@@ -256,7 +259,8 @@ is_within lo hi word = int_le lo word && int_le word hi
 
 -- the words of the constants from byte `start` up to byte `end` lie in a range
 abbrev pub words_lie_in : List ℕ → ℕ → ℕ → ℤ × ℤ → Bool
-words_lie_in constants start end range = list_all (is_within range.0 range.1) (words_of (take (end - start) (drop start constants)))
+words_lie_in constants start end range =
+    list_all (is_within range.0 range.1) (words_of (take (end - start) (drop start constants)))
 
 unfoldable pub table_row_at : ℕ → List ℕ → ℕ → List ℕ → Read TableRow
 table_row_at size constants low rest = do

@@ -1,10 +1,11 @@
 -- What a cursor did that keeps its first failure.
 use Rattle.std.specs.Prelude.{◌≡◌, ⊤, ℕ, Bool, true, false, List, Option, Some, None, Result, Ok, Err}
+use Rattle.module_format.specs.declared.fault.FormatFault.{FormatFault}
 use Rattle.module_format.specs.declared.fault.FormatFaultKind.{FormatFaultKind}
 use Rattle.module_format.specs.declared.fault.ReadError.{ReadError}
 use Rattle.module_format.specs.declared.fault.ReadError.TheVariants as errors
 use Rattle.module_format.specs.declared.reading.cursor.Cursor.{Cursor}
-use Rattle.module_format.specs.Reading.{Read, Fails, fault}
+use Rattle.module_format.specs.Reading.{Read, Fails, Gives, fault}
 
 -- A cursor without a failure took what a reader on lists gives; or it keeps a failure: the fault that the reader on
 -- lists gives, or that memory ran out.
@@ -13,7 +14,8 @@ Took read x None rest = read ≡ Ok (x, rest)
 Took read x (Some e) rest = Fails e read
 
 -- the same of a cursor that may have failed before: then it keeps that failure
-abbrev pub TookAfter : {A : Type 0} → (List ℕ → Read A) → Option ReadError → List ℕ → A → Option ReadError → List ℕ → Type 0
+abbrev pub TookAfter : {A : Type 0} → (List ℕ → Read A) → Option ReadError → List ℕ
+    → A → Option ReadError → List ℕ → Type 0
 TookAfter reader (Some e) rest x failure left = failure ≡ Some e
 TookAfter reader None rest x failure left = Took (reader rest) x failure left
 
@@ -45,6 +47,11 @@ failure_after None false kind at = Some (errors.Fault (fault kind at))
 abbrev pub memory_after : Option ReadError → Option ReadError
 memory_after (Some e) = Some e
 memory_after None = Some errors.Memory
+
+-- what is returned once a cursor went over a file: its failure, or what is still looked at gives
+abbrev pub Concludes : {X Y : Type 0} → (X → Y) → Option ReadError → Result X ReadError → Result Y FormatFault → Type 0
+Concludes view (Some e) result looked = result ≡ Err e
+Concludes view None result looked = Gives view result looked
 
 -- the failure of a cursor with this outcome
 abbrev pub failure_of : Result ⊤ ReadError → Option ReadError

@@ -175,7 +175,8 @@ impl Reader for ParameterNumbers {
 
 /// So many intervals that are written.
 fn read_writes(alloc: Global, count: u16, from: &mut Cursor<'_>) -> SmallVec<Interval, 2>
-    ensures takes { Takes (λ size. list_at (words_at size) behind_interval count least_word) from.old result.items from.new }
+    ensures takes { Takes (λ size. list_at (words_at size) behind_interval count least_word)
+        from.old result.items from.new }
     ensures rise { from.new.failure ≡ None → InOrder IntervalKeeps behind_interval least_word result.items }
 {
     let mut reader = Writes { low: LEAST_WORD };
@@ -192,7 +193,8 @@ fn read_reads(
     from: &mut Cursor<'_>,
 ) -> SmallVec<Interval, 2>
     requires { from.old.failure ≡ None → InOrder IntervalKeeps behind_interval least_word writes.now }
-    ensures { Takes (λ size. list_at (read_words_at size writes.now) behind_interval count least_word) from.old result.items from.new }
+    ensures { Takes (λ size. list_at (read_words_at size writes.now) behind_interval count least_word)
+        from.old result.items from.new }
 {
     let mut reads = SmallVec::new(alloc);
     if from.has_failed() {
@@ -256,7 +258,8 @@ impl Branches {
     /// The entry of the next branch.
     #[tactic(auto, unfolding(crate::specs::ReadingPars::branch_entry_at, crate::specs::Reading::tested))]
     fn entry(&self, from: &mut Cursor<'_>) -> u32
-        ensures { Takes (λ size. branch_entry_at size self.now.code_len (record { low = self.now.low; entries = self.now.taken.entries.items })) from.old result from.new }
+        ensures { Takes (λ size. branch_entry_at size self.now.code_len
+            (record { low = self.now.low; entries = self.now.taken.entries.items })) from.old result from.new }
     {
         let at = from.place();
         let entry = from.in_code(self.code_len);
@@ -316,7 +319,8 @@ impl Branches {
     /// Adds the entry of a branch to those that are taken.
     fn take(&mut self, entry: u32, from: &mut Cursor<'_>)
         ensures memory { MayRunOut from.old from.new }
-        ensures taken { from.new.failure ≡ None → (self.new.low ≡ 0) × (self.new.taken.entries.items ≡ self.old.taken.entries.items ++ entry ∷ []) }
+        ensures taken { from.new.failure ≡ None
+            → (self.new.low ≡ 0) × (self.new.taken.entries.items ≡ self.old.taken.entries.items ++ entry ∷ []) }
         ensures same { self.new.code_len ≡ self.old.code_len }
     {
         if from.has_failed() {
@@ -331,8 +335,10 @@ impl Branches {
     /// So many branches. Behind which entry the next row's first one stands is the caller's to set.
     pub fn branches(&mut self, count: u16, from: &mut Cursor<'_>) -> Vec<BranchRow>
         ensures takes { Takes (λ size. list_at (branch_at size self.old.code_len) behind_branch count
-            (record { low = self.old.low; entries = self.old.taken.entries.items })) from.old (map branch_of result.items) from.new }
-        ensures taken { from.new.failure ≡ None → self.new.taken.entries.items ≡ self.old.taken.entries.items ++ entries_of (map branch_of result.items) }
+            (record { low = self.old.low; entries = self.old.taken.entries.items }))
+            from.old (map branch_of result.items) from.new }
+        ensures taken { from.new.failure ≡ None
+            → self.new.taken.entries.items ≡ self.old.taken.entries.items ++ entries_of (map branch_of result.items) }
         ensures same { self.new.code_len ≡ self.old.code_len }
     {
         let mut branches = Vec::new(self.alloc);

@@ -50,6 +50,7 @@ impl<'a> Cursor<'a> {
         self.rest.is_empty()
     }
 
+    /// Whether there is a failure.
     pub(crate) fn has_failed(&self) -> bool
         ensures { result ≡ is_some self.now.failure }
     {
@@ -98,9 +99,11 @@ impl<'a> Cursor<'a> {
 
     /// Goes over so many bytes, and returns what was left before them.
     fn advance(&mut self, len: usize) -> Option<&'a [u8]>
-        ensures advanced { IfSome result (λ ahead. (self.old.failure ≡ None) × (self.new.failure ≡ None) × (len ≤ length self.old.rest.now)
+        ensures advanced { IfSome result (λ ahead. (self.old.failure ≡ None) × (self.new.failure ≡ None)
+            × (len ≤ length self.old.rest.now)
             × (ahead.now ≡ self.old.rest.now) × (self.new.rest.now ≡ drop len self.old.rest.now)) }
-        ensures failed { result ≡ None → (self.new.failure ≡ failure_after self.old.failure false Truncated self.old.size)
+        ensures failed { result ≡ None
+            → (self.new.failure ≡ failure_after self.old.failure false Truncated self.old.size)
             × (self.old.failure ≡ None → length self.old.rest.now < len) }
         ensures same { self.new.size ≡ self.old.size }
     {
@@ -118,9 +121,11 @@ impl<'a> Cursor<'a> {
 
     /// Goes over the bytes of a text, if it is there.
     pub(crate) fn skip(&mut self, text: &[u8]) -> bool
-        ensures skipped { result ≡ true → (self.old.failure ≡ None) × (self.new.failure ≡ None) × (starts_with nat_eq self.old.rest.now text.now ≡ true)
+        ensures skipped { result ≡ true → (self.old.failure ≡ None) × (self.new.failure ≡ None)
+            × (starts_with nat_eq self.old.rest.now text.now ≡ true)
             × (self.new.rest.now ≡ drop (length text.now) self.old.rest.now) }
-        ensures not_there { result ≡ false → (self.new.failure ≡ self.old.failure) × (self.new.rest.now ≡ self.old.rest.now)
+        ensures not_there { result ≡ false
+            → (self.new.failure ≡ self.old.failure) × (self.new.rest.now ≡ self.old.rest.now)
             × (self.old.failure ≡ None → starts_with nat_eq self.old.rest.now text.now ≡ false) }
         ensures same { self.new.size ≡ self.old.size }
     {

@@ -1,12 +1,12 @@
 //! The whole file.
 
-ghost use Rattle.std.specs.Prelude.{◌≡◌, IfOk};
+ghost use Rattle.std.specs.Prelude.{◌≡◌, None, IfOk};
 ghost use Rattle.module_format.specs.Contents.{contents_of};
 ghost use Rattle.module_format.specs.Contexts.{branch_count};
 ghost use Rattle.module_format.specs.Places.{ArePlaces};
 ghost use Rattle.module_format.specs.Reading.{Gives};
-ghost use Rattle.module_format.specs.ReadingFile.{tables_at, ended_at, read_contents};
-ghost use Rattle.module_format.specs.Taking.{Takes};
+ghost use Rattle.module_format.specs.ReadingFile.{IsReady, tables_at, ended_at, read_contents};
+ghost use Rattle.module_format.specs.Taking.{Takes, Concludes};
 
 use crate::contexts::Contexts;
 use crate::fault::{FormatFault, FormatFaultKind, ReadError};
@@ -59,8 +59,33 @@ fn read_tables<'a>(alloc: Global, header: &Header, from: &mut Cursor<'a>) -> (Ta
     (tables, rows)
 }
 
+/// The places of the branches of tables that a cursor read, whose label rows begin at offset `rows`, if it
+/// did not fail, what the rows name is there and nothing is left.
+#[tactic(auto, unfolding(crate::specs::ReadingFile::ended_at, crate::specs::Reading::and_then))]
+fn conclude(
+    alloc: Global,
+    tables: &Tables,
+    rows: usize,
+    from: &Cursor<'_>,
+) -> Result<Vec<Place>, ReadError>
+    requires { from.now.failure ≡ None → IsReady rows (contents_of tables.now) }
+    ensures gives { Concludes (λ _. contents_of tables.now) from.now.failure result
+        (ended_at from.now.size rows (contents_of tables.now) from.now.rest.now) }
+    ensures places { IfOk result (λ places.
+        ArePlaces (contents_of tables.now) (branch_count (contents_of tables.now).pars) places.items) }
+{
+    from.outcome()?;
+    let places = places_of(alloc, tables)?;
+    late_rows(&Contexts::of_places(tables, &places), rows)?;
+    if !from.is_at_end() {
+        let left_over = FormatFault::new(FormatFaultKind::LeftOver, from.place());
+        return Err(ReadError::Fault(left_over));
+    }
+    Ok(places)
+}
+
 /// The tables that the bytes spell, all of the bytes, with the places of the branches.
-#[tactic(auto, unfolding(crate::specs::ReadingFile::read_contents, crate::specs::ReadingFile::ended_at, crate::specs::Reading::and_then))]
+#[tactic(auto, unfolding(crate::specs::ReadingFile::read_contents, crate::specs::Reading::and_then))]
 pub fn tables_of(alloc: Global, bytes: &[u8]) -> Result<(Tables<'_>, Vec<Place>), ReadError>
     ensures gives { Gives (λ x. contents_of x.0) result (read_contents bytes.now) }
     ensures places { IfOk result (λ x. ArePlaces (contents_of x.0) (branch_count (contents_of x.0).pars) x.1.items) }
@@ -68,11 +93,6 @@ pub fn tables_of(alloc: Global, bytes: &[u8]) -> Result<(Tables<'_>, Vec<Place>)
     let mut from = Cursor::new(bytes);
     let header = read_header(&mut from);
     let (tables, rows) = read_tables(alloc, &header, &mut from);
-    from.outcome()?;
-    let places = places_of(alloc, &tables)?;
-    late_rows(&Contexts::of_places(&tables, &places), rows)?;
-    if !from.is_at_end() {
-        return Err(ReadError::Fault(FormatFault::new(FormatFaultKind::LeftOver, from.place())));
-    }
+    let places = conclude(alloc, &tables, rows, &from)?;
     Ok((tables, places))
 }

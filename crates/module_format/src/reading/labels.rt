@@ -24,7 +24,8 @@ fn read_label_offset(
     from: &mut Cursor<'_>,
 ) -> u32
     requires { EntriesRise procedures.now }
-    ensures { Takes (λ size. label_offset_at size code_len (map procedure_of procedures.now) low) from.old result from.new }
+    ensures { Takes (λ size. label_offset_at size code_len (map procedure_of procedures.now) low)
+        from.old result from.new }
 {
     let at = from.place();
     let offset = from.in_code(code_len);
@@ -92,7 +93,8 @@ pub fn read_label_rows(
     from: &mut Cursor<'_>,
 ) -> Vec<LabelRow>
     requires { from.old.failure ≡ None → EntriesRise procedures.now }
-    ensures { Takes (λ size. label_rows_at size code_len (map procedure_of procedures.now) count) from.old (map label_of result.items) from.new }
+    ensures { Takes (λ size. label_rows_at size code_len (map procedure_of procedures.now) count)
+        from.old (map label_of result.items) from.new }
 {
     let mut labels = Vec::new(alloc);
     if from.has_failed() {

@@ -73,8 +73,10 @@ pub(crate) fn fill<R: Reader, L: Items<R::Item>>(
     from: &mut Cursor<'_>,
 )
     requires { L.items items.old ≡ [] }
-    ensures takes { Takes (λ size. list_at (R.reads (R.fixed reader.old) size) R.behind count (R.state reader.old)) from.old (map R.view (L.items items.new)) from.new }
-    ensures last { from.new.failure ≡ None → R.state reader.new ≡ behind_all R.behind (R.state reader.old) (map R.view (L.items items.new)) }
+    ensures takes { Takes (λ size. list_at (R.reads (R.fixed reader.old) size) R.behind count (R.state reader.old))
+        from.old (map R.view (L.items items.new)) from.new }
+    ensures last { from.new.failure ≡ None
+        → R.state reader.new ≡ behind_all R.behind (R.state reader.old) (map R.view (L.items items.new)) }
     ensures same { R.fixed reader.new ≡ R.fixed reader.old }
 {
     if from.has_failed() {

@@ -290,7 +290,8 @@ pub fn read_procedure_rows(
     count: u32,
     from: &mut Cursor<'_>,
 ) -> Vec<ProcedureRow>
-    ensures takes { Takes (λ size. procedure_rows_at size version code_len count) from.old (map procedure_of result.items) from.new }
+    ensures takes { Takes (λ size. procedure_rows_at size version code_len count)
+        from.old (map procedure_of result.items) from.new }
     ensures rise { from.new.failure ≡ None → EntriesRise result.items }
 {
     let mut reader = Procedures {
