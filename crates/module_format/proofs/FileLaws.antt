@@ -1,6 +1,7 @@
 -- The laws of reading a file: what is read is the file of what it says, and the file of contents that
 -- keep the rules is read.
-use Rattle.std.proofs.Common.{◌≡◌, ℕ, ◌+◌, ◌*◌, ◌<◌, ◌≤◌, ◌^◌, Bool, eqb, List, [], ◌++◌, length, Result, Ok, Err, refl, sym, ap, ◌∙◌, append_assoc, arith}
+use Rattle.std.proofs.Common.{◌≡◌, ℕ, ◌+◌, ◌*◌, ◌<◌, ◌≤◌, ◌^◌, Bool, eqb, List, [], ◌++◌, length, Result, Ok, Err, refl}
+use Rattle.std.proofs.Common.{sym, ap, ◌∙◌, append_assoc, arith}
 use Rattle.std.specs.Prelude.{None}
 use Rattle.std.specs.List.{flat_map}
 use Rattle.std.proofs.lemmas.Bool.{eqb-true}
@@ -20,8 +21,10 @@ use Rattle.module_format.specs.Order.{IsBytes}
 use Rattle.module_format.specs.Contents.{Contents}
 use Rattle.module_format.specs.Contexts.{branch_count, first_branch, HasFewContexts}
 use Rattle.module_format.specs.Pars.{ParKeeps, behind_par, no_branches}
-use Rattle.module_format.specs.Keeping.{VersionKeeps, SizesKeep, BoundsKeep, LimitsKeep, RowsKeep, NamesAreThere, Keeps, Format}
-use Rattle.module_format.specs.Spelling.{procedure_bytes, label_bytes, par_bytes, table_row_bytes, header_bytes, rows_bytes, file_of}
+use Rattle.module_format.specs.Keeping.{VersionKeeps, SizesKeep, BoundsKeep, LimitsKeep, RowsKeep, NamesAreThere, Keeps}
+use Rattle.module_format.specs.Keeping.{Format}
+use Rattle.module_format.specs.Spelling.{procedure_bytes, label_bytes, par_bytes, table_row_bytes, header_bytes}
+use Rattle.module_format.specs.Spelling.{rows_bytes, file_of}
 use Rattle.module_format.specs.declared.reading.cursor.Cursor.{Cursor}
 use Rattle.module_format.specs.Reading.{Fails, fault, out_of_memory, fault_of, place}
 use Rattle.module_format.specs.Taking.{Takes}
@@ -32,14 +35,17 @@ use Rattle.module_format.proofs.Tools.{Has, has_ok, has_then, has_if, has_at, st
 use Rattle.module_format.proofs.OrderLaws.{each}
 use Rattle.module_format.proofs.FieldLaws.{bytes_take, bytes_again}
 use Rattle.module_format.proofs.RowLaws.{labels_take, labels_again}
-use Rattle.module_format.proofs.ProcedureLaws.{procedures_take, procedures_again, tables_take as table_rows_take, tables_again as table_rows_again}
+use Rattle.module_format.proofs.ProcedureLaws.{procedures_take, procedures_again, tables_take as table_rows_take}
+use Rattle.module_format.proofs.ProcedureLaws.{tables_again as table_rows_again}
 use Rattle.module_format.proofs.ParLaws.{pars_take, pars_again}
 use Rattle.module_format.proofs.LateLaws.{late_fits, late_passes}
-use Rattle.module_format.proofs.HeaderLaws.{sizes_bytes, max_code_small, FlagFits, head_bytes, HeaderFits, header_takes, header_again}
+use Rattle.module_format.proofs.HeaderLaws.{sizes_bytes, max_code_small, FlagFits, head_bytes, HeaderFits, header_takes}
+use Rattle.module_format.proofs.HeaderLaws.{header_again}
 
 -- ---- the end
 
-ended_takes : (size at : ℕ) (c : Contents) (rest : List ℕ) {Q : Contents → Type 0} → (NamesAreThere c → rest ≡ [] → Q c) → Has (ended_at size at c rest) Q
+ended_takes : (size at : ℕ) (c : Contents) (rest : List ℕ) {Q : Contents → Type 0} → (NamesAreThere c → rest ≡ [] → Q c)
+    → Has (ended_at size at c rest) Q
 unfolding ended_at
 ended_takes size at c rest h =
     has_then _ _ (late_fits at c) (λ u there.
@@ -69,10 +75,12 @@ pub record IsFrom (h : Header) (c : Contents) : Type 0 where
 pub record IsTables (size : ℕ) (h : Header) (bytes : List ℕ) (t : (Contents × ℕ) × List ℕ) : Type 0 where
   pub parts : bytes ≡ (t.0.0.code ++ t.0.0.constants ++ rows_bytes t.0.0) ++ t.1
   pub from : IsFrom h t.0.0
-  pub inside : length bytes ≤ size → t.0.1 + length (flat_map label_bytes t.0.0.labels) + length (flat_map par_bytes t.0.0.pars) ≤ size
+  pub inside : length bytes ≤ size → t.0.1 + length (flat_map label_bytes t.0.0.labels) + length
+      (flat_map par_bytes t.0.0.pars) ≤ size
 
 -- where the label rows begin, and all that stands in front of them, behind them and between
-rows_inside : (size : ℕ) (bytes front labels pars behind rest last : List ℕ) → bytes ≡ front ++ behind → behind ≡ labels ++ rest → rest ≡ pars ++ last
+rows_inside : (size : ℕ) (bytes front labels pars behind rest last : List ℕ) → bytes ≡ front ++ behind
+    → behind ≡ labels ++ rest → rest ≡ pars ++ last
     → length bytes ≤ size → place size behind + length labels + length pars ≤ size
 rows_inside size bytes front labels pars behind rest last p q r fits =
     let whole : length bytes ≡ length front + length behind = ap length p ∙ length-append front behind in
@@ -80,7 +88,8 @@ rows_inside size bytes front labels pars behind rest last p q r fits =
     let less : length rest ≡ length pars + length last = ap length r ∙ length-append pars last in
     omega arith
 
-pub tables_take : (size : ℕ) (h : Header) (bytes : List ℕ) → IsBytes bytes → Has (tables_at size h bytes) (IsTables size h bytes)
+pub tables_take : (size : ℕ) (h : Header) (bytes : List ℕ) → IsBytes bytes
+    → Has (tables_at size h bytes) (IsTables size h bytes)
 unfolding tables_at rows_bytes
 tables_take size h bytes fits =
     has_then _ _ (bytes_take size h.sizes.code_len bytes fits) (λ x0 h0.
@@ -117,7 +126,8 @@ tables_take size h bytes fits =
     let j3 = join (x0.0 ++ x1.0 ++ procedures) labels x3.1 j2 h3.parts in
     let j4 = join (x0.0 ++ x1.0 ++ procedures ++ labels) pars x4.1 j3 h4.parts in
     let j5 = join (x0.0 ++ x1.0 ++ procedures ++ labels ++ pars) table_rows x5.1 j4 h5.parts in
-    let regrouped : x0.0 ++ x1.0 ++ procedures ++ labels ++ pars ++ table_rows ≡ x0.0 ++ x1.0 ++ rows_bytes c = simp append_assoc in
+    let regrouped : x0.0 ++ x1.0 ++ procedures ++ labels ++ pars ++ table_rows ≡ x0.0 ++ x1.0 ++ rows_bytes c =
+        simp append_assoc in
     let parts : bytes ≡ (x0.0 ++ x1.0 ++ rows_bytes c) ++ x5.1 = j5 ∙ ap (λ (t : List ℕ). t ++ x5.1) regrouped in
     has_ok ((c, place size x2.1), x5.1) (record {
       parts = parts;
@@ -129,17 +139,21 @@ tables_take size h bytes fits =
 
 pub few_contexts : (c : Contents) → LimitsKeep c → RowsKeep c → HasFewContexts c
 few_contexts c l r =
-    let few = each (ParKeeps (first_branch c) (length c.code)) behind_par (λ row. length row.branches ≤ MAX_BRANCHES) (λ low row h. h.branch_limit) no_branches c.pars r.pars in
-    let most : branch_count c.pars ≤ length c.pars * MAX_BRANCHES = sum_by-le (λ row. length row.branches) MAX_BRANCHES c.pars (All-from_recursion _ c.pars few) in
+    let few = each (ParKeeps (first_branch c) (length c.code)) behind_par (λ row. length row.branches ≤ MAX_BRANCHES)
+        (λ low row h. h.branch_limit) no_branches c.pars r.pars in
+    let most : branch_count c.pars ≤ length c.pars * MAX_BRANCHES =
+        sum_by-le (λ row. length row.branches) MAX_BRANCHES c.pars (All-from_recursion _ c.pars few) in
     omega (arith, most, l.procedures, l.pars)
 
 -- ---- what is read is the file of what it says
 
-version_keeps : (version : Version) (flag : Bool) (rows : List TableRow) {count : ℕ} → length rows ≡ count → FlagFits version flag count → VersionKeeps version flag rows
+version_keeps : (version : Version) (flag : Bool) (rows : List TableRow) {count : ℕ} → length rows ≡ count
+    → FlagFits version flag count → VersionKeeps version flag rows
 version_keeps versions.One flag rows e h = (h.0, nil_from_length rows (e ∙ h.1))
 version_keeps versions.Two flag rows e h = tt
 
-flag_fits : (version : Version) (flag : Bool) (rows : List TableRow) → VersionKeeps version flag rows → FlagFits version flag (length rows)
+flag_fits : (version : Version) (flag : Bool) (rows : List TableRow) → VersionKeeps version flag rows
+    → FlagFits version flag (length rows)
 flag_fits versions.One flag rows h = (h.0, ap length h.1)
 flag_fits versions.Two flag rows h = tt
 
@@ -183,9 +197,12 @@ module _ (h : Header) (c : Contents) (f : HeaderFits h) (e : IsFrom h c) where
 
   all_keeps : NamesAreThere c → Keeps c
   all_keeps there =
-      let flag : c.has_long_operations ≡ h.counts.has_long_operations = ap (λ (d : Contents). d.has_long_operations) e.made in
+      let flag : c.has_long_operations ≡ h.counts.has_long_operations =
+          ap (λ (d : Contents). d.has_long_operations) e.made in
       record {
-        version = rw (version_is, flag) (version_keeps h.version h.counts.has_long_operations c.table_rows e.table_rows f.counts.flag);
+        version =
+            rw (version_is, flag)
+            (version_keeps h.version h.counts.has_long_operations c.table_rows e.table_rows f.counts.flag);
         sizes = sizes_keep;
         bounds = bounds_keep;
         limits = limits_keep;
@@ -196,22 +213,27 @@ module _ (h : Header) (c : Contents) (f : HeaderFits h) (e : IsFrom h c) where
       }
 
 -- rows that were read lie in the file, are few and keep their rules
-pub rows_ready : (bytes : List ℕ) → IsBytes bytes → {h : Header × List ℕ} {t : (Contents × ℕ) × List ℕ} → header_at bytes ≡ Ok h → tables_at (length bytes) h.0 h.1 ≡ Ok t
-    → (t.0.1 + length (flat_map label_bytes t.0.0.labels) + length (flat_map par_bytes t.0.0.pars) ≤ length bytes) × LimitsKeep t.0.0 × RowsKeep t.0.0
+pub rows_ready : (bytes : List ℕ) → IsBytes bytes → {h : Header × List ℕ} {t : (Contents × ℕ) × List ℕ}
+    → header_at bytes ≡ Ok h → tables_at (length bytes) h.0 h.1 ≡ Ok t
+    → (t.0.1 + length (flat_map label_bytes t.0.0.labels) + length (flat_map par_bytes t.0.0.pars) ≤ length bytes)
+        × LimitsKeep t.0.0 × RowsKeep t.0.0
 rows_ready bytes fits {h} {t} p q =
     let f = has_at (header_at bytes) h (header_takes bytes fits) p in
     let g = has_at (tables_at (length bytes) h.0 h.1) t (tables_take (length bytes) h.0 h.1 f.rest_fits) q in
-    let whole : length bytes ≡ length (head_bytes h.0) + length h.1 = ap length f.parts ∙ length-append (head_bytes h.0) h.1 in
+    let whole : length bytes ≡ length (head_bytes h.0) + length h.1 =
+        ap length f.parts ∙ length-append (head_bytes h.0) h.1 in
     (g.inside (omega arith), limits_keep h.0 t.0.0 f.keeps g.from, g.from.rows)
 
 -- the same of a cursor that went over the header and the tables
 pub rows_taken : (bytes : List ℕ) → IsBytes bytes → (front behind last : Cursor) {h : Header} {t : Contents × ℕ}
     → front.rest.now ≡ bytes → front.size ≡ length bytes
     → Takes (λ size. header_at) front h behind → Takes (λ size. tables_at size h) behind t last → last.failure ≡ None
-    → (t.1 + length (flat_map label_bytes t.0.labels) + length (flat_map par_bytes t.0.pars) ≤ length bytes) × LimitsKeep t.0 × RowsKeep t.0
+    → (t.1 + length (flat_map label_bytes t.0.labels) + length (flat_map par_bytes t.0.pars) ≤ length bytes)
+        × LimitsKeep t.0 × RowsKeep t.0
 rows_taken bytes fits front behind last {h} {t} at_front whole head rows still =
     let took = rw (head.same, whole) at rows.took in
-    let g = took_ok (tables_at (length bytes) h) behind.failure behind.rest.now t last.failure last.rest.now still took in
+    let g = took_ok
+        (tables_at (length bytes) h) behind.failure behind.rest.now t last.failure last.rest.now still took in
     let took_first = rw at_front at head.took in
     let f = took_ok header_at front.failure bytes h behind.failure behind.rest.now g.0 took_first in
     rows_ready bytes fits f.1 g.1
@@ -220,24 +242,29 @@ rows_taken bytes fits front behind last {h} {t} at_front whole head rows still =
 header_of : Contents → Header
 header_of c = record {
   version = c.version;
-  sizes = record { code_len = length c.code; const_len = length c.constants; data_words = c.data_words; base = c.base; budget = c.budget; finish = c.finish };
+  sizes = record { code_len = length c.code; const_len = length c.constants; data_words = c.data_words; base = c.base;
+      budget = c.budget; finish = c.finish };
   lengths = c.lengths;
-  counts = record { procedures = length c.procedures; labels = length c.labels; pars = length c.pars; has_long_operations = c.has_long_operations; table_rows = length c.table_rows };
+  counts = record { procedures = length c.procedures; labels = length c.labels; pars = length c.pars;
+      has_long_operations = c.has_long_operations; table_rows = length c.table_rows };
 }
 
 -- a header with these lengths
 with_lengths : Header → ℕ → ℕ → ℕ → ℕ → ℕ → ℕ → Header
 with_lengths h code constants procedures labels pars table_rows = record {
   version = h.version;
-  sizes = record { code_len = code; const_len = constants; data_words = h.sizes.data_words; base = h.sizes.base; budget = h.sizes.budget; finish = h.sizes.finish };
+  sizes = record { code_len = code; const_len = constants; data_words = h.sizes.data_words; base = h.sizes.base;
+      budget = h.sizes.budget; finish = h.sizes.finish };
   lengths = h.lengths;
-  counts = record { procedures = procedures; labels = labels; pars = pars; has_long_operations = h.counts.has_long_operations; table_rows = table_rows };
+  counts = record { procedures = procedures; labels = labels; pars = pars;
+      has_long_operations = h.counts.has_long_operations; table_rows = table_rows };
 }
 
 header_is : (h : Header) (c : Contents) → IsFrom h c → header_of c ≡ h
 unfolding header_of with_lengths
 header_is h c e =
-    let same : with_lengths h (length c.code) (length c.constants) (length c.procedures) (length c.labels) (length c.pars) (length c.table_rows) ≡ h =
+    let same : with_lengths h (length c.code) (length c.constants) (length c.procedures) (length c.labels)
+        (length c.pars) (length c.table_rows) ≡ h =
     rw (e.code, e.constants, e.procedures, e.labels, e.pars, e.table_rows) refl in
     ap header_of e.made ∙ same
 
@@ -255,8 +282,10 @@ read_finds bytes fits =
     ended_takes size t.0.1 c t.1 (λ there none.
     let body = c.code ++ c.constants ++ rows_bytes c in
     let j1 : bytes ≡ (head_bytes h.0 ++ body) ++ t.1 = join (head_bytes h.0) body t.1 f.parts g.parts in
-    let j2 : bytes ≡ head_bytes h.0 ++ body = j1 ∙ ap (λ (r : List ℕ). (head_bytes h.0 ++ body) ++ r) none ∙ append-nil (head_bytes h.0 ++ body) in
-    let spelled : bytes ≡ file_of c = j2 ∙ ap (λ (x : Header). head_bytes x ++ body) (sym (header_is h.0 c g.from)) ∙ sym (file_regrouped c) in
+    let j2 : bytes ≡ head_bytes h.0 ++ body =
+        j1 ∙ ap (λ (r : List ℕ). (head_bytes h.0 ++ body) ++ r) none ∙ append-nil (head_bytes h.0 ++ body) in
+    let spelled : bytes ≡ file_of c =
+        j2 ∙ ap (λ (x : Header). head_bytes x ++ body) (sym (header_is h.0 c g.from)) ∙ sym (file_regrouped c) in
     let whole : Format bytes c = record { spelled = spelled; keeps = all_keeps h.0 c f.keeps g.from there } in
     whole)))
 
@@ -269,13 +298,17 @@ header_fits c k =
     let g = k.bounds in
     let l = k.limits in
     record {
-      sizes = record { has_code = h.has_code; code_limit = h.code_limit; constants_limit = h.constants_limit; has_data = h.has_data; data_limit = h.data_limit; base = h.base; budget = g.budget; finish = g.finish };
+      sizes = record { has_code = h.has_code; code_limit = h.code_limit; constants_limit = h.constants_limit;
+          has_data = h.has_data; data_limit = h.data_limit; base = h.base; budget = g.budget; finish = g.finish };
       lengths = record { eight = g.eight; limit = g.lengths };
-      counts = record { procedures = l.procedures; labels = l.labels; pars = l.pars; table_rows = l.table_rows; flag = flag_fits c.version c.has_long_operations c.table_rows k.version };
+      counts = record { procedures = l.procedures; labels = l.labels; pars = l.pars; table_rows = l.table_rows;
+          flag = flag_fits c.version c.has_long_operations c.table_rows k.version };
     }
 
 read_body : (size : ℕ) (c : Contents) → Keeps c
-    → tables_at size (header_of c) (c.code ++ c.constants ++ rows_bytes c) ≡ Ok ((c, place size (flat_map label_bytes c.labels ++ (flat_map par_bytes c.pars ++ flat_map table_row_bytes c.table_rows))), [])
+    → tables_at size (header_of c) (c.code ++ c.constants ++ rows_bytes c)
+        ≡ Ok ((c, place size (flat_map label_bytes c.labels ++
+        (flat_map par_bytes c.pars ++ flat_map table_row_bytes c.table_rows))), [])
 unfolding tables_at header_of rows_bytes
 read_body size c k =
     let code_len = length c.code in
@@ -288,7 +321,8 @@ read_body size c k =
     let small : code_len < 2 ^ 32 = let a = k.sizes.code_limit in omega (arith, max_code_small c.version) in
     let constants_small : length c.constants < 2 ^ 32 = let a = k.sizes.constants_limit in omega arith in
     let table_rows : table_rows_at size c.constants (length c.table_rows) t4 ≡ Ok (c.table_rows, []) =
-    ap (table_rows_at size c.constants (length c.table_rows)) (sym (append-nil t4)) ∙ table_rows_again size c.constants constants_small c.table_rows [] k.rows.table_rows in
+    ap (table_rows_at size c.constants (length c.table_rows)) (sym (append-nil t4))
+        ∙ table_rows_again size c.constants constants_small c.table_rows [] k.rows.table_rows in
     ap (tables_at size (header_of c)) regrouped
     ∙ step _ (bytes_again size c.code t0)
     (step _ (bytes_again size c.constants t1)
@@ -326,6 +360,7 @@ not_refused bytes c f g e =
     cc
 
 -- a reader of what spells contents fails for want of memory alone
-pub only_memory : (bytes : List ℕ) (c : Contents) (e : ReadError) → Format bytes c → Fails e (read_contents bytes) → fault_of e ≡ out_of_memory
+pub only_memory : (bytes : List ℕ) (c : Contents) (e : ReadError) → Format bytes c → Fails e (read_contents bytes)
+    → fault_of e ≡ out_of_memory
 only_memory bytes c errors.Memory g h = refl
 only_memory bytes c (errors.Fault f) g h = absurd (not_refused bytes c f g h)

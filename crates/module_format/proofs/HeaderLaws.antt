@@ -1,12 +1,14 @@
 -- The laws of the header.
-use Rattle.std.proofs.Common.{◌≡◌, ℕ, zero, suc, ◌^◌, ◌<◌, ◌≤◌, Bool, true, false, cond, eqb, List, [], ◌∷◌, ◌++◌, length, drop, Ok, Err, refl, ap, ◌∙◌, append_assoc, arith}
+use Rattle.std.proofs.Common.{◌≡◌, ℕ, zero, suc, ◌^◌, ◌<◌, ◌≤◌, Bool, true, false, cond, eqb, List, [], ◌∷◌, ◌++◌}
+use Rattle.std.proofs.Common.{length, drop, Ok, Err, refl, ap, ◌∙◌, append_assoc, arith}
 use Rattle.std.specs.Prelude.{⊤, nat_eq}
 use Rattle.std.specs.List.{flat_map, starts_with, AllByRecursion}
 use Rattle.std.proofs.lemmas.Bool.Decides.{Decides-eqb}
 use Rattle.std.proofs.lemmas.List.{append-nil}
 use Rattle.std.proofs.lemmas.Slice.Eq.{starts_is}
 use Rattle.module_format.specs.declared.fault.FormatFaultKind.TheVariants as faults
-use Rattle.module_format.specs.declared.limits.TheConstants.{MAX_CONSTANTS, MAX_DATA_WORDS, MAX_BUDGET, MAX_MESSAGE, MAX_PROCEDURES, MAX_LABELS, MAX_PARS, MAX_TABLES}
+use Rattle.module_format.specs.declared.limits.TheConstants.{MAX_CONSTANTS, MAX_DATA_WORDS, MAX_BUDGET, MAX_MESSAGE}
+use Rattle.module_format.specs.declared.limits.TheConstants.{MAX_PROCEDURES, MAX_LABELS, MAX_PARS, MAX_TABLES}
 use Rattle.module_format.specs.declared.tables.Version.{Version}
 use Rattle.module_format.specs.declared.tables.Version.TheVariants as versions
 use Rattle.module_format.specs.declared.reading.header.Sizes.{Sizes}
@@ -16,21 +18,27 @@ use Rattle.module_format.specs.Order.{IsBytes}
 use Rattle.module_format.specs.Keeping.{max_code}
 use Rattle.module_format.specs.Spelling.{u32_bytes, u64_bytes, magic_one, magic_two, magic_of, flag_bytes}
 use Rattle.module_format.specs.Reading.{fault}
-use Rattle.module_format.specs.ReadingFile.{magic_at, sizes_at, four_lengths_at, lengths_at, flag_at, extension_at, counts_at, header_at}
+use Rattle.module_format.specs.ReadingFile.{magic_at, sizes_at, four_lengths_at, lengths_at, flag_at, extension_at}
+use Rattle.module_format.specs.ReadingFile.{counts_at, header_at}
 use Rattle.module_format.proofs.Tools.{Has, has_ok, has_then, has_if, has_cond, step, Spelled, join}
-use Rattle.module_format.proofs.FieldLaws.{IsBytes-drop, wide32, wide64, limited_takes, limited_again, positive_takes, positive_again, at_most_takes, at_most_again}
+use Rattle.module_format.proofs.FieldLaws.{IsBytes-drop, wide32, wide64, limited_takes, limited_again, positive_takes}
+use Rattle.module_format.proofs.FieldLaws.{positive_again, at_most_takes, at_most_again}
 
 -- ---- the magic
 
 magic_takes : (bytes : List ℕ) → IsBytes bytes → Has (magic_at bytes) (Spelled bytes magic_of (λ _. ⊤))
 unfolding magic_at
 magic_takes bytes fits =
-    has_cond (starts_with nat_eq bytes magic_one) (Ok (versions.One, drop 4 bytes)) (cond (starts_with nat_eq bytes magic_two) (Ok (versions.Two, drop 4 bytes)) (Err (fault faults.Magic 0)))
+    has_cond (starts_with nat_eq bytes magic_one) (Ok (versions.One, drop 4 bytes))
+        (cond (starts_with nat_eq bytes magic_two) (Ok (versions.Two, drop 4 bytes)) (Err (fault faults.Magic 0)))
     (λ begins.
-    let parts : bytes ≡ magic_one ++ drop 4 bytes = (starts_is Decides-eqb bytes magic_one (starts_with nat_eq bytes magic_one) refl).0 begins in
+    let parts : bytes ≡ magic_one ++ drop 4 bytes =
+        (starts_is Decides-eqb bytes magic_one (starts_with nat_eq bytes magic_one) refl).0 begins in
     has_ok (versions.One, drop 4 bytes) (record { parts = parts; rest_fits = IsBytes-drop 4 bytes fits; keeps = tt }))
-    (λ _. has_if (starts_with nat_eq bytes magic_two) (fault faults.Magic 0) (Ok (versions.Two, drop 4 bytes)) (λ begins.
-    let parts : bytes ≡ magic_two ++ drop 4 bytes = (starts_is Decides-eqb bytes magic_two (starts_with nat_eq bytes magic_two) refl).0 begins in
+    (λ _. has_if (starts_with nat_eq bytes magic_two) (fault faults.Magic 0) (Ok (versions.Two, drop 4 bytes))
+        (λ begins.
+    let parts : bytes ≡ magic_two ++ drop 4 bytes =
+        (starts_is Decides-eqb bytes magic_two (starts_with nat_eq bytes magic_two) refl).0 begins in
     has_ok (versions.Two, drop 4 bytes) (record { parts = parts; rest_fits = IsBytes-drop 4 bytes fits; keeps = tt })))
 
 magic_again : (version : Version) (rest : List ℕ) → magic_at (magic_of version ++ rest) ≡ Ok (version, rest)
@@ -41,7 +49,8 @@ magic_again versions.Two rest = refl
 -- ---- sizes
 
 unfoldable pub sizes_bytes : Sizes → List ℕ
-sizes_bytes s = u32_bytes s.code_len ++ u32_bytes s.const_len ++ u32_bytes s.data_words ++ u32_bytes s.base ++ u64_bytes s.budget ++ u32_bytes s.finish
+sizes_bytes s = u32_bytes s.code_len ++ u32_bytes s.const_len ++ u32_bytes s.data_words ++ u32_bytes s.base
+    ++ u64_bytes s.budget ++ u32_bytes s.finish
 
 -- the header's first rules
 pub record SizesFit (version : Version) (s : Sizes) : Type 0 where
@@ -59,7 +68,8 @@ max_code_small versions.One = omega arith
 max_code_small versions.Two = omega arith
 
 module _ (size : ℕ) (version : Version) where
-  sizes_take : (bytes : List ℕ) → IsBytes bytes → Has (sizes_at size version bytes) (Spelled bytes sizes_bytes (SizesFit version))
+  sizes_take : (bytes : List ℕ) → IsBytes bytes
+      → Has (sizes_at size version bytes) (Spelled bytes sizes_bytes (SizesFit version))
   unfolding sizes_at sizes_bytes
   sizes_take bytes fits =
       has_then _ _ (positive_takes size (max_code version) bytes fits) (λ x0 h0.
@@ -68,17 +78,23 @@ module _ (size : ℕ) (version : Version) where
       has_then _ _ (at_most_takes size x2.0 x2.1 h2.rest_fits) (λ x3 h3.
       has_then _ _ (limited_takes size 8 u64_bytes (2 ^ 64) wide64 MAX_BUDGET x3.1 h3.rest_fits) (λ x4 h4.
       has_then _ _ (at_most_takes size x0.0 x4.1 h4.rest_fits) (λ x5 h5.
-      let made : Sizes = record { code_len = x0.0; const_len = x1.0; data_words = x2.0; base = x3.0; budget = x4.0; finish = x5.0 } in
+      let made : Sizes =
+          record { code_len = x0.0; const_len = x1.0; data_words = x2.0; base = x3.0; budget = x4.0; finish = x5.0 } in
       let kept : SizesFit version made =
-      record { has_code = h0.keeps.0; code_limit = h0.keeps.1; constants_limit = h1.keeps.1; has_data = h2.keeps.0; data_limit = h2.keeps.1; base = h3.keeps.1; budget = h4.keeps.1; finish = h5.keeps.1 } in
+      record { has_code = h0.keeps.0; code_limit = h0.keeps.1; constants_limit = h1.keeps.1; has_data = h2.keeps.0;
+          data_limit = h2.keeps.1; base = h3.keeps.1; budget = h4.keeps.1; finish = h5.keeps.1 } in
       let j1 = join (u32_bytes x0.0) (u32_bytes x1.0) x1.1 h0.parts h1.parts in
       let j2 = join (u32_bytes x0.0 ++ u32_bytes x1.0) (u32_bytes x2.0) x2.1 j1 h2.parts in
       let j3 = join (u32_bytes x0.0 ++ u32_bytes x1.0 ++ u32_bytes x2.0) (u32_bytes x3.0) x3.1 j2 h3.parts in
-      let j4 = join (u32_bytes x0.0 ++ u32_bytes x1.0 ++ u32_bytes x2.0 ++ u32_bytes x3.0) (u64_bytes x4.0) x4.1 j3 h4.parts in
-      let parts : bytes ≡ sizes_bytes made ++ x5.1 = join (u32_bytes x0.0 ++ u32_bytes x1.0 ++ u32_bytes x2.0 ++ u32_bytes x3.0 ++ u64_bytes x4.0) (u32_bytes x5.0) x5.1 j4 h5.parts in
+      let j4 = join (u32_bytes x0.0 ++ u32_bytes x1.0 ++ u32_bytes x2.0 ++ u32_bytes x3.0)
+          (u64_bytes x4.0) x4.1 j3 h4.parts in
+      let parts : bytes ≡ sizes_bytes made ++ x5.1 =
+          join (u32_bytes x0.0 ++ u32_bytes x1.0 ++ u32_bytes x2.0 ++ u32_bytes x3.0 ++ u64_bytes x4.0)
+          (u32_bytes x5.0) x5.1 j4 h5.parts in
       has_ok (made, x5.1) (record { parts = parts; rest_fits = h5.rest_fits; keeps = kept })))))))
 
-  sizes_again : (s : Sizes) (rest : List ℕ) → SizesFit version s → sizes_at size version (sizes_bytes s ++ rest) ≡ Ok (s, rest)
+  sizes_again : (s : Sizes) (rest : List ℕ) → SizesFit version s
+      → sizes_at size version (sizes_bytes s ++ rest) ≡ Ok (s, rest)
   unfolding sizes_at sizes_bytes
   sizes_again s rest h =
       let t5 = u32_bytes s.finish ++ rest in
@@ -120,15 +136,20 @@ module _ (size : ℕ) where
       let j1 = join (u32_bytes x0.0) (u32_bytes x1.0) x1.1 h0.parts h1.parts in
       let j2 = join (u32_bytes x0.0 ++ u32_bytes x1.0) (u32_bytes x2.0) x2.1 j1 h2.parts in
       let parts = join (u32_bytes x0.0 ++ u32_bytes x1.0 ++ u32_bytes x2.0) (u32_bytes x3.0) x3.1 j2 h3.parts in
-      has_ok ((x0.0, x1.0, x2.0, x3.0), x3.1) (record { parts = parts; rest_fits = h3.rest_fits; keeps = (h0.keeps.1, h1.keeps.1, h2.keeps.1, h3.keeps.1) })))))
+      has_ok ((x0.0, x1.0, x2.0, x3.0), x3.1)
+          (record { parts = parts; rest_fits = h3.rest_fits;
+          keeps = (h0.keeps.1, h1.keeps.1, h2.keeps.1, h3.keeps.1) })))))
 
   four_again : (a b c d : ℕ) (rest : List ℕ)
       → a ≤ MAX_MESSAGE → b ≤ MAX_MESSAGE → c ≤ MAX_MESSAGE → d ≤ MAX_MESSAGE
-      → four_lengths_at size (u32_bytes a ++ (u32_bytes b ++ (u32_bytes c ++ (u32_bytes d ++ rest)))) ≡ Ok ((a, b, c, d), rest)
+      → four_lengths_at size (u32_bytes a ++ (u32_bytes b ++ (u32_bytes c ++ (u32_bytes d ++ rest))))
+          ≡ Ok ((a, b, c, d), rest)
   unfolding four_lengths_at
   four_again a b c d rest ha hb hc hd =
-      step _ (limited_again size 4 u32_bytes (2 ^ 32) wide32 MAX_MESSAGE a (u32_bytes b ++ (u32_bytes c ++ (u32_bytes d ++ rest))) (omega arith) ha)
-      (step _ (limited_again size 4 u32_bytes (2 ^ 32) wide32 MAX_MESSAGE b (u32_bytes c ++ (u32_bytes d ++ rest)) (omega arith) hb)
+      step _ (limited_again size 4 u32_bytes (2 ^ 32) wide32 MAX_MESSAGE a
+          (u32_bytes b ++ (u32_bytes c ++ (u32_bytes d ++ rest))) (omega arith) ha)
+      (step _ (limited_again size 4 u32_bytes (2 ^ 32) wide32 MAX_MESSAGE b (u32_bytes c ++ (u32_bytes d ++ rest))
+          (omega arith) hb)
       (step _ (limited_again size 4 u32_bytes (2 ^ 32) wide32 MAX_MESSAGE c (u32_bytes d ++ rest) (omega arith) hc)
       (step _ (limited_again size 4 u32_bytes (2 ^ 32) wide32 MAX_MESSAGE d rest (omega arith) hd) refl)))
 
@@ -141,29 +162,37 @@ abbrev eight_of : ℕ × ℕ × ℕ × ℕ → ℕ × ℕ × ℕ × ℕ → List
 eight_of p q = p.0 ∷ p.1 ∷ p.2 ∷ p.3 ∷ q.0 ∷ q.1 ∷ q.2 ∷ q.3 ∷ []
 
 module _ (size : ℕ) where
-  lengths_take : (bytes : List ℕ) → IsBytes bytes → Has (lengths_at size bytes) (Spelled bytes (flat_map u32_bytes) AreLengths)
+  lengths_take : (bytes : List ℕ) → IsBytes bytes
+      → Has (lengths_at size bytes) (Spelled bytes (flat_map u32_bytes) AreLengths)
   unfolding lengths_at IsFour
   lengths_take bytes fits =
       has_then _ _ (four_takes size bytes fits) (λ p h.
       has_then _ _ (four_takes size p.1 h.rest_fits) (λ q g.
-      let all : AreLengths (eight_of p.0 q.0) = record { eight = refl; limit = (h.keeps.0, (h.keeps.1, (h.keeps.2, (h.keeps.3, (g.keeps.0, (g.keeps.1, (g.keeps.2, (g.keeps.3, tt)))))))) } in
-      let regrouped : four_bytes p.0 ++ four_bytes q.0 ≡ flat_map u32_bytes (eight_of p.0 q.0) = simp (append_assoc, append-nil) in
-      let parts : bytes ≡ flat_map u32_bytes (eight_of p.0 q.0) ++ q.1 = join (four_bytes p.0) (four_bytes q.0) q.1 h.parts g.parts ∙ ap (λ (t : List ℕ). t ++ q.1) regrouped in
+      let all : AreLengths (eight_of p.0 q.0) =
+          record { eight = refl; limit = (h.keeps.0, (h.keeps.1,
+          (h.keeps.2, (h.keeps.3, (g.keeps.0, (g.keeps.1, (g.keeps.2, (g.keeps.3, tt)))))))) } in
+      let regrouped : four_bytes p.0 ++ four_bytes q.0 ≡ flat_map u32_bytes (eight_of p.0 q.0) =
+          simp (append_assoc, append-nil) in
+      let parts : bytes ≡ flat_map u32_bytes (eight_of p.0 q.0) ++ q.1 =
+          join (four_bytes p.0) (four_bytes q.0) q.1 h.parts g.parts ∙ ap (λ (t : List ℕ). t ++ q.1) regrouped in
       has_ok (eight_of p.0 q.0, q.1) (record { parts = parts; rest_fits = g.rest_fits; keeps = all })))
 
   eight_again : (a b c d e f g h : ℕ) (rest : List ℕ)
       → AreLengths (a ∷ b ∷ c ∷ d ∷ e ∷ f ∷ g ∷ h ∷ [])
-      → lengths_at size (flat_map u32_bytes (a ∷ b ∷ c ∷ d ∷ e ∷ f ∷ g ∷ h ∷ []) ++ rest) ≡ Ok (a ∷ b ∷ c ∷ d ∷ e ∷ f ∷ g ∷ h ∷ [], rest)
+      → lengths_at size (flat_map u32_bytes (a ∷ b ∷ c ∷ d ∷ e ∷ f ∷ g ∷ h ∷ []) ++ rest)
+          ≡ Ok (a ∷ b ∷ c ∷ d ∷ e ∷ f ∷ g ∷ h ∷ [], rest)
   unfolding lengths_at
   eight_again a b c d e f g h rest k =
       let t2 = u32_bytes e ++ (u32_bytes f ++ (u32_bytes g ++ (u32_bytes h ++ rest))) in
-      let regrouped : flat_map u32_bytes (a ∷ b ∷ c ∷ d ∷ e ∷ f ∷ g ∷ h ∷ []) ++ rest ≡ u32_bytes a ++ (u32_bytes b ++ (u32_bytes c ++ (u32_bytes d ++ t2))) = simp (append_assoc, append-nil) in
+      let regrouped : flat_map u32_bytes (a ∷ b ∷ c ∷ d ∷ e ∷ f ∷ g ∷ h ∷ []) ++ rest ≡ u32_bytes a
+          ++ (u32_bytes b ++ (u32_bytes c ++ (u32_bytes d ++ t2))) = simp (append_assoc, append-nil) in
       let l = k.limit in
       ap (lengths_at size) regrouped
       ∙ step _ (four_again size a b c d t2 l.0 l.1.0 l.1.1.0 l.1.1.1.0)
       (step _ (four_again size e f g h rest l.1.1.1.1.0 l.1.1.1.1.1.0 l.1.1.1.1.1.1.0 l.1.1.1.1.1.1.1.0) refl)
 
-  lengths_again : (lengths rest : List ℕ) → AreLengths lengths → lengths_at size (flat_map u32_bytes lengths ++ rest) ≡ Ok (lengths, rest)
+  lengths_again : (lengths rest : List ℕ) → AreLengths lengths
+      → lengths_at size (flat_map u32_bytes lengths ++ rest) ≡ Ok (lengths, rest)
   lengths_again [] rest k = absurd (let e = k.eight in omega arith)
   lengths_again (a ∷ []) rest k = absurd (let e = k.eight in omega arith)
   lengths_again (a ∷ b ∷ []) rest k = absurd (let e = k.eight in omega arith)
@@ -200,7 +229,8 @@ record ExtensionFits (version : Version) (e : Bool × ℕ) : Type 0 where
   limit : e.1 ≤ MAX_TABLES
 
 module _ (size : ℕ) where
-  flag_takes : (bytes : List ℕ) → IsBytes bytes → Has (flag_at size bytes) (Spelled bytes (λ b. u32_bytes (cond b 1 0)) (λ _. ⊤))
+  flag_takes : (bytes : List ℕ) → IsBytes bytes
+      → Has (flag_at size bytes) (Spelled bytes (λ b. u32_bytes (cond b 1 0)) (λ _. ⊤))
   unfolding flag_at
   flag_takes bytes fits =
       has_then _ _ (at_most_takes size 1 bytes fits) (λ n h.
@@ -213,27 +243,34 @@ module _ (size : ℕ) where
       let small : cond b 1 0 ≤ 1 = flag_small b in
       step _ (at_most_again size 1 (cond b 1 0) rest (omega arith) small) (rw (flag_is b) refl)
 
-  extension_takes : (version : Version) (bytes : List ℕ) → IsBytes bytes → Has (extension_at size version bytes) (Spelled bytes (λ e. flag_bytes version e.0 e.1) (ExtensionFits version))
+  extension_takes : (version : Version) (bytes : List ℕ) → IsBytes bytes
+      → Has (extension_at size version bytes) (Spelled bytes (λ e. flag_bytes version e.0 e.1) (ExtensionFits version))
   unfolding extension_at
-  extension_takes versions.One bytes fits = has_ok ((false, 0), bytes) (record { parts = refl; rest_fits = fits; keeps = record { flag = (refl, refl); limit = omega arith } })
+  extension_takes versions.One bytes fits =
+      has_ok ((false, 0), bytes) (record { parts = refl; rest_fits = fits; keeps =
+      record { flag = (refl, refl); limit = omega arith } })
   extension_takes versions.Two bytes fits =
       has_then _ _ (flag_takes bytes fits) (λ flag h.
       has_then _ _ (limited_takes size 4 u32_bytes (2 ^ 32) wide32 MAX_TABLES flag.1 h.rest_fits) (λ count g.
       let parts = join (u32_bytes (cond flag.0 1 0)) (u32_bytes count.0) count.1 h.parts g.parts in
-      has_ok ((flag.0, count.0), count.1) (record { parts = parts; rest_fits = g.rest_fits; keeps = record { flag = tt; limit = g.keeps.1 } })))
+      has_ok ((flag.0, count.0), count.1)
+          (record { parts = parts; rest_fits = g.rest_fits; keeps = record { flag = tt; limit = g.keeps.1 } })))
 
-  extension_again : (version : Version) (flag : Bool) (count : ℕ) (rest : List ℕ) → FlagFits version flag count → count ≤ MAX_TABLES
+  extension_again : (version : Version) (flag : Bool) (count : ℕ) (rest : List ℕ) → FlagFits version flag count
+      → count ≤ MAX_TABLES
       → extension_at size version (flag_bytes version flag count ++ rest) ≡ Ok ((flag, count), rest)
   unfolding extension_at
   extension_again versions.One flag count rest h limit = rw (h.0, h.1) refl
   extension_again versions.Two flag count rest h limit =
-      let regrouped : flag_bytes versions.Two flag count ++ rest ≡ u32_bytes (cond flag 1 0) ++ (u32_bytes count ++ rest) = append_assoc (u32_bytes (cond flag 1 0)) (u32_bytes count) rest in
+      let regrouped : flag_bytes versions.Two flag count ++ rest ≡ u32_bytes (cond flag 1 0)
+          ++ (u32_bytes count ++ rest) = append_assoc (u32_bytes (cond flag 1 0)) (u32_bytes count) rest in
       ap (extension_at size versions.Two) regrouped
       ∙ step _ (flag_again flag (u32_bytes count ++ rest))
       (step _ (limited_again size 4 u32_bytes (2 ^ 32) wide32 MAX_TABLES count rest (omega arith) limit) refl)
 
 abbrev pub counts_bytes : Version → RowCounts → List ℕ
-counts_bytes version n = u32_bytes n.procedures ++ u32_bytes n.labels ++ u32_bytes n.pars ++ flag_bytes version n.has_long_operations n.table_rows
+counts_bytes version n = u32_bytes n.procedures ++ u32_bytes n.labels ++ u32_bytes n.pars
+    ++ flag_bytes version n.has_long_operations n.table_rows
 
 pub record CountsFit (version : Version) (n : RowCounts) : Type 0 where
   pub procedures : n.procedures ≤ MAX_PROCEDURES
@@ -243,21 +280,28 @@ pub record CountsFit (version : Version) (n : RowCounts) : Type 0 where
   pub flag : FlagFits version n.has_long_operations n.table_rows
 
 module _ (size : ℕ) (version : Version) where
-  counts_take : (bytes : List ℕ) → IsBytes bytes → Has (counts_at size version bytes) (Spelled bytes (counts_bytes version) (CountsFit version))
+  counts_take : (bytes : List ℕ) → IsBytes bytes
+      → Has (counts_at size version bytes) (Spelled bytes (counts_bytes version) (CountsFit version))
   unfolding counts_at
   counts_take bytes fits =
       has_then _ _ (limited_takes size 4 u32_bytes (2 ^ 32) wide32 MAX_PROCEDURES bytes fits) (λ x0 h0.
       has_then _ _ (limited_takes size 4 u32_bytes (2 ^ 32) wide32 MAX_LABELS x0.1 h0.rest_fits) (λ x1 h1.
       has_then _ _ (limited_takes size 4 u32_bytes (2 ^ 32) wide32 MAX_PARS x1.1 h1.rest_fits) (λ x2 h2.
       has_then _ _ (extension_takes size version x2.1 h2.rest_fits) (λ x3 h3.
-      let made : RowCounts = record { procedures = x0.0; labels = x1.0; pars = x2.0; has_long_operations = x3.0.0; table_rows = x3.0.1 } in
-      let kept : CountsFit version made = record { procedures = h0.keeps.1; labels = h1.keeps.1; pars = h2.keeps.1; table_rows = h3.keeps.limit; flag = h3.keeps.flag } in
+      let made : RowCounts =
+          record { procedures = x0.0; labels = x1.0; pars = x2.0; has_long_operations = x3.0.0; table_rows = x3.0.1 } in
+      let kept : CountsFit version made =
+          record { procedures = h0.keeps.1; labels = h1.keeps.1; pars = h2.keeps.1; table_rows = h3.keeps.limit;
+          flag = h3.keeps.flag } in
       let j1 = join (u32_bytes x0.0) (u32_bytes x1.0) x1.1 h0.parts h1.parts in
       let j2 = join (u32_bytes x0.0 ++ u32_bytes x1.0) (u32_bytes x2.0) x2.1 j1 h2.parts in
-      let parts : bytes ≡ counts_bytes version made ++ x3.1 = join (u32_bytes x0.0 ++ u32_bytes x1.0 ++ u32_bytes x2.0) (flag_bytes version x3.0.0 x3.0.1) x3.1 j2 h3.parts in
+      let parts : bytes ≡ counts_bytes version made ++ x3.1 =
+          join (u32_bytes x0.0 ++ u32_bytes x1.0 ++ u32_bytes x2.0)
+          (flag_bytes version x3.0.0 x3.0.1) x3.1 j2 h3.parts in
       has_ok (made, x3.1) (record { parts = parts; rest_fits = h3.rest_fits; keeps = kept })))))
 
-  counts_again : (n : RowCounts) (rest : List ℕ) → CountsFit version n → counts_at size version (counts_bytes version n ++ rest) ≡ Ok (n, rest)
+  counts_again : (n : RowCounts) (rest : List ℕ) → CountsFit version n
+      → counts_at size version (counts_bytes version n ++ rest) ≡ Ok (n, rest)
   unfolding counts_at
   counts_again n rest h =
       let t3 = flag_bytes version n.has_long_operations n.table_rows ++ rest in
@@ -276,7 +320,8 @@ module _ (size : ℕ) (version : Version) where
 -- ---- the whole header
 
 unfoldable pub head_bytes : Header → List ℕ
-head_bytes h = magic_of h.version ++ sizes_bytes h.sizes ++ flat_map u32_bytes h.lengths ++ counts_bytes h.version h.counts
+head_bytes h =
+    magic_of h.version ++ sizes_bytes h.sizes ++ flat_map u32_bytes h.lengths ++ counts_bytes h.version h.counts
 
 pub record HeaderFits (h : Header) : Type 0 where
   pub sizes : SizesFit h.version h.sizes
@@ -295,7 +340,8 @@ header_takes bytes fits =
     let kept : HeaderFits made = record { sizes = h1.keeps; lengths = h2.keeps; counts = h3.keeps } in
     let j1 = join (magic_of x0.0) (sizes_bytes x1.0) x1.1 h0.parts h1.parts in
     let j2 = join (magic_of x0.0 ++ sizes_bytes x1.0) (flat_map u32_bytes x2.0) x2.1 j1 h2.parts in
-    let parts : bytes ≡ head_bytes made ++ x3.1 = join (magic_of x0.0 ++ sizes_bytes x1.0 ++ flat_map u32_bytes x2.0) (counts_bytes x0.0 x3.0) x3.1 j2 h3.parts in
+    let parts : bytes ≡ head_bytes made ++ x3.1 =
+        join (magic_of x0.0 ++ sizes_bytes x1.0 ++ flat_map u32_bytes x2.0) (counts_bytes x0.0 x3.0) x3.1 j2 h3.parts in
     has_ok (made, x3.1) (record { parts = parts; rest_fits = h3.rest_fits; keeps = kept })))))
 
 pub header_again : (h : Header) (rest : List ℕ) → HeaderFits h → header_at (head_bytes h ++ rest) ≡ Ok (h, rest)

@@ -1,5 +1,6 @@
 -- Intervals that rise: which of them can have a word of another.
-use Rattle.std.proofs.Common.{◌≡◌, ℕ, zero, suc, ◌<◌, ◌≤◌, ℤ, ◌≤ℤ◌, Bool, true, false, List, [], ◌∷◌, length, get_or, refl, sym, arith, inl, inr}
+use Rattle.std.proofs.Common.{◌≡◌, ℕ, zero, suc, ◌<◌, ◌≤◌, ℤ, ◌≤ℤ◌, Bool, true, false, List, [], ◌∷◌, length, get_or}
+use Rattle.std.proofs.Common.{refl, sym, arith, inl, inr}
 use Rattle.std.specs.Prelude.{◌<ℤ◌, int_lt, int_le}
 use Rattle.std.specs.List.{list_any}
 use Rattle.std.proofs.lemmas.Bool.{cases_lt}
@@ -18,7 +19,8 @@ intervals_prop low [] = Unit-prop
 intervals_prop low (i ∷ is) = ×_prop (hlevel props) (intervals_prop (behind_interval low i) is)
 
 module _ (d : Interval) where
-  from_low : (low : ℤ) (ws : List Interval) (k : ℕ) → InOrder IntervalKeeps behind_interval low ws → k < length ws → low ≤ℤ (get_or ws k d).lo
+  from_low : (low : ℤ) (ws : List Interval) (k : ℕ) → InOrder IntervalKeeps behind_interval low ws → k < length ws
+      → low ≤ℤ (get_or ws k d).lo
   from_low low [] k h lt = absurd (omega arith)
   from_low low (w ∷ ws) zero h lt = h.0.apart
   from_low low (w ∷ ws) (suc k) h lt =
@@ -27,30 +29,35 @@ module _ (d : Interval) where
       let c = from_low w.hi ws k h.1 (omega arith) in
       grind (arith, ints)
 
-  some_at : (low : ℤ) (ws : List Interval) (k : ℕ) → InOrder IntervalKeeps behind_interval low ws → k < length ws → (get_or ws k d).lo <ℤ (get_or ws k d).hi
+  some_at : (low : ℤ) (ws : List Interval) (k : ℕ) → InOrder IntervalKeeps behind_interval low ws → k < length ws
+      → (get_or ws k d).lo <ℤ (get_or ws k d).hi
   some_at low [] k h lt = absurd (omega arith)
   some_at low (w ∷ ws) zero h lt = h.0.some
   some_at low (w ∷ ws) (suc k) h lt = some_at w.hi ws k h.1 (omega arith)
 
-  rise_at : (low : ℤ) (ws : List Interval) (j k : ℕ) → InOrder IntervalKeeps behind_interval low ws → j < k → k < length ws → (get_or ws j d).hi ≤ℤ (get_or ws k d).lo
+  rise_at : (low : ℤ) (ws : List Interval) (j k : ℕ) → InOrder IntervalKeeps behind_interval low ws → j < k
+      → k < length ws → (get_or ws j d).hi ≤ℤ (get_or ws k d).lo
   rise_at low [] j k h lt inside = absurd (omega arith)
   rise_at low (w ∷ ws) j zero h lt inside = absurd (omega arith)
   rise_at low (w ∷ ws) zero (suc k) h lt inside = from_low w.hi ws k h.1 (omega arith)
   rise_at low (w ∷ ws) (suc j) (suc k) h lt inside = rise_at w.hi ws j k h.1 (omega arith) (omega arith)
 
   -- one that has a word is found
-  pub found : (test : Interval → Bool) (ws : List Interval) (k : ℕ) → k < length ws → test (get_or ws k d) ≡ true → list_any test ws ≡ true
+  pub found : (test : Interval → Bool) (ws : List Interval) (k : ℕ) → k < length ws → test (get_or ws k d) ≡ true
+      → list_any test ws ≡ true
   found test [] k lt e = absurd (omega arith)
   found test (w ∷ ws) zero lt e = rw e refl
   found test (w ∷ ws) (suc k) lt e = rw (found test ws k (omega arith) e) (or-true (test w))
 
-  not_found : (test : Interval → Bool) (ws : List Interval) → ((k : ℕ) → k < length ws → test (get_or ws k d) ≡ false) → list_any test ws ≡ false
+  not_found : (test : Interval → Bool) (ws : List Interval) → ((k : ℕ) → k < length ws → test (get_or ws k d) ≡ false)
+      → list_any test ws ≡ false
   not_found test [] h = refl
   not_found test (w ∷ ws) h = rw (h 0 (omega arith)) (not_found test ws (λ k lt. h (suc k) (omega arith)))
 
   -- Where the first `n` intervals end at `i` or before it and the others don't, the one behind them tells.
   module _ (i : Interval) where
-    pub parted : (low : ℤ) (ws : List Interval) → InOrder IntervalKeeps behind_interval low ws → (j k : ℕ) → j ≤ k → k < length ws → int_le (get_or ws k d).hi i.lo ≡ true → int_le (get_or ws j d).hi i.lo ≡ true
+    pub parted : (low : ℤ) (ws : List Interval) → InOrder IntervalKeeps behind_interval low ws → (j k : ℕ) → j ≤ k
+        → k < length ws → int_le (get_or ws k d).hi i.lo ≡ true → int_le (get_or ws j d).hi i.lo ≡ true
     parted low ws h j k le inside e = elim (cases_lt j k) [
       | inl lt ↦
           let a = rise_at low ws j k h lt inside in
@@ -66,7 +73,8 @@ module _ (d : Interval) where
     passed : (w : Interval) → int_le w.hi i.lo ≡ true → meet i w ≡ false
     passed w e = rw (int_le-lt i.lo w.hi (int_le-true w.hi i.lo e)) refl
 
-    pub one_tells : (low : ℤ) (ws : List Interval) (n : ℕ) → InOrder IntervalKeeps behind_interval low ws → n < length ws
+    pub one_tells : (low : ℤ) (ws : List Interval) (n : ℕ) → InOrder IntervalKeeps behind_interval low ws
+        → n < length ws
         → ((k : ℕ) → k < n → int_le (get_or ws k d).hi i.lo ≡ true) → int_le (get_or ws n d).hi i.lo ≡ false
         → int_lt (get_or ws n d).lo i.hi ≡ list_any (meet i) ws
     one_tells low ws n h inside before here =
@@ -91,5 +99,6 @@ module _ (d : Interval) where
           ]))
         ] refl
 
-    pub none_tells : (ws : List Interval) → ((k : ℕ) → k < length ws → int_le (get_or ws k d).hi i.lo ≡ true) → false ≡ list_any (meet i) ws
+    pub none_tells : (ws : List Interval) → ((k : ℕ) → k < length ws → int_le (get_or ws k d).hi i.lo ≡ true)
+        → false ≡ list_any (meet i) ws
     none_tells ws before = sym (not_found (meet i) ws (λ k lt. passed (get_or ws k d) (before k lt)))

@@ -1,5 +1,6 @@
 -- Testing whether tables keep the rules.
-use Rattle.std.proofs.Common.{◌≡◌, ℕ, ◌<◌, ◌≤◌, length, drop, Bool, true, false, ◌↔◌, List, [], ◌∷◌, refl, sym, arith, eqb, ◌+◌, ◌^◌, Result, Ok, Err}
+use Rattle.std.proofs.Common.{◌≡◌, ℕ, ◌<◌, ◌≤◌, length, drop, Bool, true, false, ◌↔◌, List, [], ◌∷◌, refl, sym, arith}
+use Rattle.std.proofs.Common.{eqb, ◌+◌, ◌^◌, Result, Ok, Err}
 use Rattle.std.specs.Prelude.{IsTrue, not, is_ok}
 use Rattle.std.specs.List.{list_any, flat_map}
 use Rattle.module_format.specs.Contents.{Procedure, Contents}
@@ -18,15 +19,18 @@ use Rattle.module_format.proofs.Sizes.{labels_small, pars_small}
 use Rattle.module_format.proofs.WritingLaws.{labels_writable, pars_writable}
 use Rattle.module_format.proofs.RowLaws.{no_entry, none_begins}
 
-pub offset_is : (code_len : ℕ) (procedures : List Procedure) (low offset : ℕ) (b : Bool) → low < offset → offset < code_len → b ≡ list_any (λ p. eqb p.entry offset) procedures
+pub offset_is : (code_len : ℕ) (procedures : List Procedure) (low offset : ℕ) (b : Bool) → low < offset
+    → offset < code_len → b ≡ list_any (λ p. eqb p.entry offset) procedures
     → IsTrue (not b) ↔ IsLabelOffset code_len procedures low offset
-offset_is code_len procedures low offset true rises inside e = (λ t. absurd cc, λ h. absurd (let n = none_begins procedures offset h.no_entry in cc))
+offset_is code_len procedures low offset true rises inside e =
+    (λ t. absurd cc, λ h. absurd (let n = none_begins procedures offset h.no_entry in cc))
 offset_is code_len procedures low offset false rises inside e =
     (λ _. record { rises = rises; in_code = inside; no_entry = no_entry procedures offset (sym e) }, λ _. refl)
 
 -- ---- the words of the constants
 
-pub words_step : (bytes : List ℕ) → 4 ≤ length bytes → words_of bytes ≡ cast_signed w32 (little_number 4 bytes) ∷ words_of (drop 4 bytes)
+pub words_step : (bytes : List ℕ) → 4 ≤ length bytes
+    → words_of bytes ≡ cast_signed w32 (little_number 4 bytes) ∷ words_of (drop 4 bytes)
 words_step [] h = absurd (omega arith)
 words_step (a ∷ []) h = absurd (omega arith)
 words_step (a ∷ b ∷ []) h = absurd (omega arith)
@@ -42,11 +46,14 @@ words_end (a ∷ b ∷ c ∷ d ∷ more) h = absurd (omega arith)
 
 -- ---- what rows name
 
-pub names_is : {X : Type 0} (r : Result X FormatFault) (c : Contents) (at : ℕ) → Tells r (late_at at c) → IsTrue (is_ok r) ↔ NamesAreThere c
+pub names_is : {X : Type 0} (r : Result X FormatFault) (c : Contents) (at : ℕ) → Tells r (late_at at c)
+    → IsTrue (is_ok r) ↔ NamesAreThere c
 names_is (Ok x) c at told = (λ _. has_at (late_at at c) tt (late_fits at c) told, λ _. refl)
 names_is (Err f) c at told = (λ e. absurd cc, λ h. absurd (let p = late_passes at c h in cc))
 
 -- the bytes of rows that keep their rules fit in memory
-pub rows_in_memory : (c : Contents) → LimitsKeep c → RowsKeep c → 0 + length (flat_map label_bytes c.labels) + length (flat_map par_bytes c.pars) < 2 ^ 64
+pub rows_in_memory : (c : Contents) → LimitsKeep c → RowsKeep c
+    → 0 + length (flat_map label_bytes c.labels) + length (flat_map par_bytes c.pars) < 2 ^ 64
 rows_in_memory c limits rows =
-    omega (arith, limits.labels, limits.pars, labels_small c.labels (labels_writable c rows), pars_small c.pars (pars_writable c rows))
+    omega (arith, limits.labels, limits.pars, labels_small c.labels (labels_writable c rows),
+        pars_small c.pars (pars_writable c rows))

@@ -14,10 +14,13 @@ use Rattle.module_format.specs.declared.contexts.Context.{Context}
 use Rattle.module_format.specs.Contents.{Label, Branch, Par, Contents}
 use Rattle.module_format.specs.Contexts.{context_at, parameters_at}
 use Rattle.module_format.specs.Facts.{end_of}
-use Rattle.module_format.specs.Keeping.{FactFits, EntryFits, RowFits, LabelFits, is_region, names, names_end, BranchFits, ParFits, NamesAreThere}
-use Rattle.module_format.specs.Spelling.{u16_bytes, fact_bytes, entry_bytes, label_bytes, channel_bytes, interval_bytes, end_bytes, branch_bytes, par_bytes}
+use Rattle.module_format.specs.Keeping.{FactFits, EntryFits, RowFits, LabelFits, is_region, names, names_end}
+use Rattle.module_format.specs.Keeping.{BranchFits, ParFits, NamesAreThere}
+use Rattle.module_format.specs.Spelling.{u16_bytes, fact_bytes, entry_bytes, label_bytes, channel_bytes, interval_bytes}
+use Rattle.module_format.specs.Spelling.{end_bytes, branch_bytes, par_bytes}
 use Rattle.module_format.specs.Reading.{fault}
-use Rattle.module_format.specs.Late.{passes, late_fact, late_entry, late_list, late_row, late_in, late_label, late_parameter, late_end, late_branch, late_par, late_at}
+use Rattle.module_format.specs.Late.{passes, late_fact, late_entry, late_list, late_row, late_in, late_label}
+use Rattle.module_format.specs.Late.{late_parameter, late_end, late_branch, late_par, late_at}
 use Rattle.module_format.proofs.Tools.{Has, has_ok, has_err, has_then, has_unless, has_if, has_weaker, step}
 use Rattle.module_format.proofs.FieldLaws.{int_lt-false, int_le-lt}
 
@@ -25,7 +28,8 @@ fact_fits : (parameters at : ℕ) (f : Fact) → Has (late_fact parameters at f)
 unfolding late_fact
 fact_fits parameters at facts.Unknown = has_ok tt tt
 fact_fits parameters at (facts.Number lo hi) = has_ok tt tt
-fact_fits parameters at (facts.Pointer region lo hi s) = has_if (ltb region (2 + parameters)) (fault faults.Range (at + 1)) passes (λ there. has_ok tt (ltb-true _ _ there))
+fact_fits parameters at (facts.Pointer region lo hi s) =
+    has_if (ltb region (2 + parameters)) (fault faults.Range (at + 1)) passes (λ there. has_ok tt (ltb-true _ _ there))
 fact_fits parameters at (facts.CodeAddress offset) = has_ok tt tt
 fact_fits parameters at (facts.Loop base count weight) = has_ok tt tt
 fact_fits parameters at facts.ReturnAddress = has_ok tt tt
@@ -42,24 +46,32 @@ fact_passes parameters at facts.ReturnAddress h = refl
 entry_fits : (context : Context) (at : ℕ) (e : Entry) → Has (late_entry context at e) (λ _. EntryFits context e)
 unfolding late_entry
 entry_fits context at e =
-    has_unless (int_lt e.word context.lo) (fault faults.Range at) (cond (int_lt context.hi (end_of e)) (Err (fault faults.Range at)) (late_fact context.parameters (at + 8) e.fact)) (λ low.
-    has_unless (int_lt context.hi (end_of e)) (fault faults.Range at) (late_fact context.parameters (at + 8) e.fact) (λ high.
+    has_unless (int_lt e.word context.lo) (fault faults.Range at)
+        (cond (int_lt context.hi (end_of e)) (Err (fault faults.Range at))
+        (late_fact context.parameters (at + 8) e.fact)) (λ low.
+    has_unless (int_lt context.hi (end_of e)) (fault faults.Range at) (late_fact context.parameters (at + 8) e.fact)
+        (λ high.
     has_weaker (late_fact context.parameters (at + 8) e.fact) (fact_fits context.parameters (at + 8) e.fact) (λ u h.
     record { low = int_lt-false _ _ low; high = int_lt-false _ _ high; fact = h })))
 
 entry_passes : (context : Context) (at : ℕ) (e : Entry) → EntryFits context e → late_entry context at e ≡ passes
 unfolding late_entry
-entry_passes context at e h = rw (int_le-lt _ _ h.low, int_le-lt _ _ h.high) (fact_passes context.parameters (at + 8) e.fact h.fact)
+entry_passes context at e h =
+    rw (int_le-lt _ _ h.low, int_le-lt _ _ h.high) (fact_passes context.parameters (at + 8) e.fact h.fact)
 
 -- ---- lists
 
 module _ {A : Type 0} (item : ℕ → A → Result ⊤ FormatFault) (spelled : A → List ℕ) (Fits : A → Type 0) where
-  list_fits : ((at : ℕ) (x : A) → Has (item at x) (λ _. Fits x)) → (at : ℕ) (xs : List A) → Has (late_list item spelled at xs) (λ _. AllByRecursion Fits xs)
+  list_fits : ((at : ℕ) (x : A) → Has (item at x) (λ _. Fits x)) → (at : ℕ) (xs : List A)
+      → Has (late_list item spelled at xs) (λ _. AllByRecursion Fits xs)
   unfolding late_list
   list_fits one at [] = has_ok tt tt
-  list_fits one at (x ∷ xs) = has_then _ _ (one at x) (λ u h. has_weaker (late_list item spelled (at + length (spelled x)) xs) (list_fits one (at + length (spelled x)) xs) (λ v g. (h, g)))
+  list_fits one at (x ∷ xs) = has_then _ _ (one at x) (λ u h. has_weaker
+      (late_list item spelled (at + length (spelled x)) xs) (list_fits one (at + length (spelled x)) xs)
+      (λ v g. (h, g)))
 
-  list_passes : ((at : ℕ) (x : A) → Fits x → item at x ≡ passes) → (at : ℕ) (xs : List A) → AllByRecursion Fits xs → late_list item spelled at xs ≡ passes
+  list_passes : ((at : ℕ) (x : A) → Fits x → item at x ≡ passes) → (at : ℕ) (xs : List A) → AllByRecursion Fits xs
+      → late_list item spelled at xs ≡ passes
   unfolding late_list
   list_passes one at [] h = refl
   list_passes one at (x ∷ xs) h = step _ (one at x h.0) (list_passes one (at + length (spelled x)) xs h.1)
@@ -76,13 +88,16 @@ row_fits context at row =
     has_then _ _ (fact_fits context.parameters at_a row.stack.a) (λ u a.
     has_then _ _ (fact_fits context.parameters at_b row.stack.b) (λ v b.
     has_then _ _ (fact_fits context.parameters at_c row.stack.c) (λ w c.
-    has_weaker (late_list (late_entry context) entry_bytes at_es row.entries) (list_fits (late_entry context) entry_bytes (EntryFits context) (entry_fits context) at_es row.entries) (λ x es.
+    has_weaker (late_list (late_entry context) entry_bytes at_es row.entries)
+        (list_fits (late_entry context) entry_bytes (EntryFits context) (entry_fits context) at_es row.entries) (λ x es.
     record { a = a; b = b; c = c; entries = es }))))
 
 row_passes : (context : Context) (at : ℕ) (row : Label) → RowFits row context → late_row context at row ≡ passes
 unfolding late_row
 row_passes context at row h =
-    step _ (fact_passes context.parameters _ row.stack.a h.a) (step _ (fact_passes context.parameters _ row.stack.b h.b) (step _ (fact_passes context.parameters _ row.stack.c h.c)
+    step _ (fact_passes context.parameters _ row.stack.a h.a)
+        (step _ (fact_passes context.parameters _ row.stack.b h.b)
+        (step _ (fact_passes context.parameters _ row.stack.c h.c)
     (list_passes (late_entry context) entry_bytes (EntryFits context) (entry_passes context) _ row.entries h.entries)))
 
 in_fits : (o : Option Context) (at : ℕ) (row : Label) → Has (late_in o at row) (λ _. MatchOption o ⊥ (RowFits row))
@@ -103,34 +118,49 @@ label_passes c at row h = in_passes (context_at c row.context) at row h
 
 -- ---- PAR rows
 
-parameter_fits : (parameters : List Parameter) (at j : ℕ) → Has (late_parameter parameters at j) (λ _. IsTrue (names is_region parameters j))
+parameter_fits : (parameters : List Parameter) (at j : ℕ)
+    → Has (late_parameter parameters at j) (λ _. IsTrue (names is_region parameters j))
 unfolding late_parameter
-parameter_fits parameters at j = has_if (names is_region parameters j) (fault faults.Range at) passes (λ there. has_ok tt there)
+parameter_fits parameters at j =
+    has_if (names is_region parameters j) (fault faults.Range at) passes (λ there. has_ok tt there)
 
-parameter_passes : (parameters : List Parameter) (at j : ℕ) → IsTrue (names is_region parameters j) → late_parameter parameters at j ≡ passes
+parameter_passes : (parameters : List Parameter) (at j : ℕ) → IsTrue (names is_region parameters j)
+    → late_parameter parameters at j ≡ passes
 unfolding late_parameter
 parameter_passes parameters at j there = rw there refl
 
-end_fits : (parameters : List Parameter) (at : ℕ) (e : EndRow) → Has (late_end parameters at e) (λ _. IsTrue (names_end parameters e.kind))
+end_fits : (parameters : List Parameter) (at : ℕ) (e : EndRow)
+    → Has (late_end parameters at e) (λ _. IsTrue (names_end parameters e.kind))
 unfolding late_end
-end_fits parameters at e = has_if (names_end parameters e.kind) (fault faults.Range (at + 1)) passes (λ there. has_ok tt there)
+end_fits parameters at e =
+    has_if (names_end parameters e.kind) (fault faults.Range (at + 1)) passes (λ there. has_ok tt there)
 
-end_passes : (parameters : List Parameter) (at : ℕ) (e : EndRow) → IsTrue (names_end parameters e.kind) → late_end parameters at e ≡ passes
+end_passes : (parameters : List Parameter) (at : ℕ) (e : EndRow) → IsTrue (names_end parameters e.kind)
+    → late_end parameters at e ≡ passes
 unfolding late_end
 end_passes parameters at e there = rw there refl
 
 module _ (parameters : List Parameter) where
-  numbers_fit : (at : ℕ) (js : List ℕ) → Has (late_list (late_parameter parameters) u16_bytes at js) (λ _. AllByRecursion (λ j. IsTrue (names is_region parameters j)) js)
-  numbers_fit at js = list_fits (late_parameter parameters) u16_bytes (λ j. IsTrue (names is_region parameters j)) (parameter_fits parameters) at js
+  numbers_fit : (at : ℕ) (js : List ℕ) → Has (late_list (late_parameter parameters) u16_bytes at js)
+      (λ _. AllByRecursion (λ j. IsTrue (names is_region parameters j)) js)
+  numbers_fit at js = list_fits (late_parameter parameters) u16_bytes (λ j. IsTrue (names is_region parameters j))
+      (parameter_fits parameters) at js
 
-  numbers_pass : (at : ℕ) (js : List ℕ) → AllByRecursion (λ j. IsTrue (names is_region parameters j)) js → late_list (late_parameter parameters) u16_bytes at js ≡ passes
-  numbers_pass at js h = list_passes (late_parameter parameters) u16_bytes (λ j. IsTrue (names is_region parameters j)) (parameter_passes parameters) at js h
+  numbers_pass : (at : ℕ) (js : List ℕ) → AllByRecursion (λ j. IsTrue (names is_region parameters j)) js
+      → late_list (late_parameter parameters) u16_bytes at js ≡ passes
+  numbers_pass at js h = list_passes (late_parameter parameters) u16_bytes (λ j. IsTrue (names is_region parameters j))
+      (parameter_passes parameters) at js h
 
-  ends_fit : (at : ℕ) (es : List EndRow) → Has (late_list (late_end parameters) end_bytes at es) (λ _. AllByRecursion (λ (e : EndRow). IsTrue (names_end parameters e.kind)) es)
-  ends_fit at es = list_fits (late_end parameters) end_bytes (λ e. IsTrue (names_end parameters e.kind)) (end_fits parameters) at es
+  ends_fit : (at : ℕ) (es : List EndRow)
+      → Has (late_list (late_end parameters) end_bytes at es)
+      (λ _. AllByRecursion (λ (e : EndRow). IsTrue (names_end parameters e.kind)) es)
+  ends_fit at es =
+      list_fits (late_end parameters) end_bytes (λ e. IsTrue (names_end parameters e.kind)) (end_fits parameters) at es
 
-  ends_pass : (at : ℕ) (es : List EndRow) → AllByRecursion (λ (e : EndRow). IsTrue (names_end parameters e.kind)) es → late_list (late_end parameters) end_bytes at es ≡ passes
-  ends_pass at es h = list_passes (late_end parameters) end_bytes (λ e. IsTrue (names_end parameters e.kind)) (end_passes parameters) at es h
+  ends_pass : (at : ℕ) (es : List EndRow) → AllByRecursion (λ (e : EndRow). IsTrue (names_end parameters e.kind)) es
+      → late_list (late_end parameters) end_bytes at es ≡ passes
+  ends_pass at es h = list_passes (late_end parameters) end_bytes (λ e. IsTrue (names_end parameters e.kind))
+      (end_passes parameters) at es h
 
   branch_fits : (at : ℕ) (b : Branch) → Has (late_branch parameters at b) (λ _. BranchFits parameters b)
   unfolding late_branch
@@ -145,19 +175,22 @@ module _ (parameters : List Parameter) where
 
   branch_passes : (at : ℕ) (b : Branch) → BranchFits parameters b → late_branch parameters at b ≡ passes
   unfolding late_branch
-  branch_passes at b h = step _ (numbers_pass _ b.written_parameters h.written) (step _ (numbers_pass _ b.read_parameters h.read) (ends_pass _ b.ends h.ends))
+  branch_passes at b h = step _ (numbers_pass _ b.written_parameters h.written)
+      (step _ (numbers_pass _ b.read_parameters h.read) (ends_pass _ b.ends h.ends))
 
 par_fits : (c : Contents) (at : ℕ) (row : Par) → Has (late_par c at row) (λ _. ParFits c row)
 unfolding late_par
 par_fits c at row =
     let parameters = parameters_at c row.context in
-    list_fits (late_branch parameters) branch_bytes (BranchFits parameters) (branch_fits parameters) (at + 18 + length (flat_map channel_bytes row.channels)) row.branches
+    list_fits (late_branch parameters) branch_bytes (BranchFits parameters) (branch_fits parameters)
+        (at + 18 + length (flat_map channel_bytes row.channels)) row.branches
 
 par_passes : (c : Contents) (at : ℕ) (row : Par) → ParFits c row → late_par c at row ≡ passes
 unfolding late_par
 par_passes c at row h =
     let parameters = parameters_at c row.context in
-    list_passes (late_branch parameters) branch_bytes (BranchFits parameters) (branch_passes parameters) (at + 18 + length (flat_map channel_bytes row.channels)) row.branches h
+    list_passes (late_branch parameters) branch_bytes (BranchFits parameters) (branch_passes parameters)
+        (at + 18 + length (flat_map channel_bytes row.channels)) row.branches h
 
 -- ---- both
 
@@ -166,7 +199,8 @@ unfolding late_at
 late_fits at c =
     let at_pars = at + length (flat_map label_bytes c.labels) in
     has_then _ _ (list_fits (late_label c) label_bytes (LabelFits c) (label_fits c) at c.labels) (λ u labels.
-    has_weaker (late_list (late_par c) par_bytes at_pars c.pars) (list_fits (late_par c) par_bytes (ParFits c) (par_fits c) at_pars c.pars) (λ v pars.
+    has_weaker (late_list (late_par c) par_bytes at_pars c.pars)
+        (list_fits (late_par c) par_bytes (ParFits c) (par_fits c) at_pars c.pars) (λ v pars.
     record { labels = labels; pars = pars }))
 
 pub late_passes : (at : ℕ) (c : Contents) → NamesAreThere c → late_at at c ≡ passes

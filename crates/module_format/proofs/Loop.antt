@@ -1,5 +1,6 @@
 -- Reading items one after the other, as a loop does.
-use Rattle.std.proofs.Common.{◌≡◌, ℕ, suc, ◌-◌, ◌+◌, ◌≤◌, ◌<◌, List, [], ◌∷◌, ◌++◌, length, drop, Result, Ok, Err, refl, sym, ap, ◌∙◌, append_assoc, arith, get_or, add-one, drop-cons, map, subst}
+use Rattle.std.proofs.Common.{◌≡◌, ℕ, suc, ◌-◌, ◌+◌, ◌≤◌, ◌<◌, List, [], ◌∷◌, ◌++◌, length, drop, Result, Ok, Err, refl}
+use Rattle.std.proofs.Common.{sym, ap, ◌∙◌, append_assoc, arith, get_or, add-one, drop-cons, map, subst}
 use Rattle.std.specs.Prelude.{⊤, IfOk, true, Option, Some, None, is_some}
 use Rattle.std.specs.List.{flat_map}
 use Rattle.std.proofs.lemmas.List.{append-nil, drop_all, length-append, length-map, get_or-map}
@@ -15,7 +16,8 @@ use Rattle.module_format.specs.Late.{late_list}
 abbrev pub with_front : {A : Type 0} → List A → Read (List A) → Read (List A)
 with_front front read = read >>= λ x. Ok (front ++ x.0, x.1)
 
-regroup : {A : Type 0} (front : List A) (x : A) (read : Read (List A)) → with_front front (read >>= λ y. Ok (x ∷ y.0, y.1)) ≡ with_front (front ++ x ∷ []) read
+regroup : {A : Type 0} (front : List A) (x : A) (read : Read (List A))
+    → with_front front (read >>= λ y. Ok (x ∷ y.0, y.1)) ≡ with_front (front ++ x ∷ []) read
 unfolding and_then
 regroup {A} front x (Ok y) = ap (λ (xs : List A). Ok (xs, y.1)) (simp append_assoc)
 regroup front x (Err f) = refl
@@ -27,20 +29,26 @@ with_nothing (Ok x) = refl
 with_nothing (Err f) = refl
 
 module _ {A S : Type 0} (item : S → List ℕ → Read A) (next : S → A → S) where
-  pub begins : (count : ℕ) (low : S) (bytes : List ℕ) → with_front [] (list_at item next (count - 0) low bytes) ≡ list_at item next count low bytes
+  pub begins : (count : ℕ) (low : S) (bytes : List ℕ)
+      → with_front [] (list_at item next (count - 0) low bytes) ≡ list_at item next count low bytes
   begins count low bytes =
       let k : count - 0 ≡ count = omega arith in
       rw k (with_nothing (list_at item next count low bytes))
 
-  pub goes_on : (front : List A) (count i : ℕ) (low : S) (bytes : List ℕ) (x : A) (after : List ℕ) (total : Read (List A)) → i < count → item low bytes ≡ Ok (x, after)
-      → with_front front (list_at item next (count - i) low bytes) ≡ total → with_front (front ++ x ∷ []) (list_at item next (count - (i + 1)) (next low x) after) ≡ total
+  pub goes_on : (front : List A) (count i : ℕ) (low : S) (bytes : List ℕ) (x : A) (after : List ℕ)
+      (total : Read (List A)) → i < count → item low bytes ≡ Ok (x, after)
+      → with_front front (list_at item next (count - i) low bytes) ≡ total
+          → with_front (front ++ x ∷ []) (list_at item next (count - (i + 1)) (next low x) after) ≡ total
   unfolding list_at and_then
   goes_on front count i low bytes x after total lt h so_far =
       let k : count - i ≡ suc (count - (i + 1)) = omega arith in
-      let one : with_front front (list_at item next (count - i) low bytes) ≡ with_front (front ++ x ∷ []) (list_at item next (count - (i + 1)) (next low x) after) = rw (k, h) (regroup front x (list_at item next (count - (i + 1)) (next low x) after)) in
+      let one : with_front front (list_at item next (count - i) low bytes)
+          ≡ with_front (front ++ x ∷ []) (list_at item next (count - (i + 1)) (next low x) after) =
+          rw (k, h) (regroup front x (list_at item next (count - (i + 1)) (next low x) after)) in
       sym one ∙ so_far
 
-  pub ends : (e : ReadError) (front : List A) (count i : ℕ) (low : S) (bytes : List ℕ) (total : Read (List A)) → i < count → Fails e (item low bytes)
+  pub ends : (e : ReadError) (front : List A) (count i : ℕ) (low : S) (bytes : List ℕ) (total : Read (List A))
+      → i < count → Fails e (item low bytes)
       → with_front front (list_at item next (count - i) low bytes) ≡ total → Fails e total
   unfolding list_at and_then
   ends errors.Memory front count i low bytes total lt h so_far = tt
@@ -49,11 +57,13 @@ module _ {A S : Type 0} (item : S → List ℕ → Read A) (next : S → A → S
       let one : with_front front (list_at item next (count - i) low bytes) ≡ Err f = rw (k, h) refl in
       sym so_far ∙ one
 
-  pub is_done : (front : List A) (count i : ℕ) (low : S) (bytes : List ℕ) (total : Read (List A)) → count ≤ i → with_front front (list_at item next (count - i) low bytes) ≡ total → total ≡ Ok (front, bytes)
+  pub is_done : (front : List A) (count i : ℕ) (low : S) (bytes : List ℕ) (total : Read (List A)) → count ≤ i
+      → with_front front (list_at item next (count - i) low bytes) ≡ total → total ≡ Ok (front, bytes)
   unfolding list_at and_then
   is_done front count i low bytes total le so_far =
       let k : count - i ≡ 0 = omega arith in
-      let one : with_front front (list_at item next (count - i) low bytes) ≡ Ok (front, bytes) = rw k (ap (λ (xs : List A). Ok (xs, bytes)) (append-nil front)) in
+      let one : with_front front (list_at item next (count - i) low bytes) ≡ Ok (front, bytes) =
+          rw k (ap (λ (xs : List A). Ok (xs, bytes)) (append-nil front)) in
       sym so_far ∙ one
 
   -- an item that a cursor read
@@ -83,31 +93,38 @@ pub loop_item_at : {A : Type 0} (xs : List A) (i : ℕ) (x : A) → i < length x
 loop_item_at xs i x lt is = item_at xs i x lt ∙ ap (λ y. y ∷ drop (i + 1) xs) (sym is)
 
 -- the same where the items are seen by f
-pub mapped_item_at : {A B : Type 0} (f : A → B) (xs ys : List A) (i : ℕ) (x : A) → ys ≡ xs → i < length ys → x ≡ get_or ys i x → drop i (map f xs) ≡ f x ∷ drop (i + 1) (map f xs)
+pub mapped_item_at : {A B : Type 0} (f : A → B) (xs ys : List A) (i : ℕ) (x : A) → ys ≡ xs → i < length ys
+    → x ≡ get_or ys i x → drop i (map f xs) ≡ f x ∷ drop (i + 1) (map f xs)
 mapped_item_at {A = A} f xs ys i x same lt is =
     let there : i < length xs = subst (λ (zs : List A). i < length zs) same lt in
     let x_is : get_or xs i x ≡ x = sym (is ∙ ap (λ (zs : List A). get_or zs i x) same) in
     let long : i < length (map f xs) = rw length-map there in
-    item_at (map f xs) i (f x) long ∙ ap (λ y. y ∷ drop (i + 1) (map f xs)) (get_or-map f xs i x (f x) there ∙ ap f x_is)
+    item_at (map f xs) i (f x) long ∙ ap (λ y. y ∷ drop (i + 1) (map f xs))
+        (get_or-map f xs i x (f x) there ∙ ap f x_is)
 
 -- ---- looking at items one after the other, once all are read
 
 module _ {A : Type 0} (item : ℕ → A → Result ⊤ FormatFault) (spelled : A → List ℕ) where
-  pub late_goes_on : (xs : List A) (i at : ℕ) (x : A) (u : ⊤) (total : Result ⊤ FormatFault) → drop i xs ≡ x ∷ drop (i + 1) xs → item at x ≡ Ok u
-      → late_list item spelled at (drop i xs) ≡ total → late_list item spelled (at + length (spelled x)) (drop (i + 1) xs) ≡ total
+  pub late_goes_on : (xs : List A) (i at : ℕ) (x : A) (u : ⊤) (total : Result ⊤ FormatFault)
+      → drop i xs ≡ x ∷ drop (i + 1) xs → item at x ≡ Ok u
+      → late_list item spelled at (drop i xs) ≡ total
+          → late_list item spelled (at + length (spelled x)) (drop (i + 1) xs) ≡ total
   unfolding late_list and_then
   late_goes_on xs i at x u total e h so_far =
-      let one : late_list item spelled at (drop i xs) ≡ late_list item spelled (at + length (spelled x)) (drop (i + 1) xs) = rw (e, h) refl in
+      let one : late_list item spelled at (drop i xs)
+          ≡ late_list item spelled (at + length (spelled x)) (drop (i + 1) xs) = rw (e, h) refl in
       sym one ∙ so_far
 
-  pub late_ends : (f : FormatFault) (xs : List A) (i at : ℕ) (x : A) (total : Result ⊤ FormatFault) → drop i xs ≡ x ∷ drop (i + 1) xs → item at x ≡ Err f
+  pub late_ends : (f : FormatFault) (xs : List A) (i at : ℕ) (x : A) (total : Result ⊤ FormatFault)
+      → drop i xs ≡ x ∷ drop (i + 1) xs → item at x ≡ Err f
       → late_list item spelled at (drop i xs) ≡ total → total ≡ Err f
   unfolding late_list and_then
   late_ends f xs i at x total d h so_far =
       let one : late_list item spelled at (drop i xs) ≡ Err f = rw (d, h) refl in
       sym so_far ∙ one
 
-  pub late_is_done : (xs : List A) (i at : ℕ) (total : Result ⊤ FormatFault) → length xs ≤ i → late_list item spelled at (drop i xs) ≡ total → total ≡ Ok tt
+  pub late_is_done : (xs : List A) (i at : ℕ) (total : Result ⊤ FormatFault) → length xs ≤ i
+      → late_list item spelled at (drop i xs) ≡ total → total ≡ Ok tt
   unfolding late_list
   late_is_done xs i at total le so_far =
       let one : late_list item spelled at (drop i xs) ≡ Ok tt = rw (drop_all i xs le) refl in
@@ -125,11 +142,13 @@ ok_weaker (Ok x) h f = f x h
 ok_weaker (Err e) h f = tt
 
 -- a look that found a fault, as the first step of a longer one
-pub tells_err : {look : Result ⊤ FormatFault} (f : FormatFault) (k : ⊤ → Result ⊤ FormatFault) → look ≡ Err f → and_then look k ≡ Err f
+pub tells_err : {look : Result ⊤ FormatFault} (f : FormatFault) (k : ⊤ → Result ⊤ FormatFault) → look ≡ Err f
+    → and_then look k ≡ Err f
 unfolding and_then
 tells_err f k e = rw e refl
 
 -- a look that is another one
-pub tells_same : {X : Type 0} {look other : Result ⊤ FormatFault} (r : Result X FormatFault) → look ≡ other → Tells r look → Tells r other
+pub tells_same : {X : Type 0} {look other : Result ⊤ FormatFault} (r : Result X FormatFault) → look ≡ other
+    → Tells r look → Tells r other
 tells_same (Ok x) e h = rw (← e) h
 tells_same (Err f) e h = rw (← e) h

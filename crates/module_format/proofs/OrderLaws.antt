@@ -1,5 +1,6 @@
 -- Testing whether items keep their rules, one after the other.
-use Rattle.std.proofs.Common.{◌≡◌, ℕ, ◌+◌, ◌≤◌, Bool, true, false, ◌↔◌, List, [], ◌∷◌, ◌++◌, length, drop, map, refl, sym, ap, subst, ◌∙◌, append_assoc}
+use Rattle.std.proofs.Common.{◌≡◌, ℕ, ◌+◌, ◌≤◌, Bool, true, false, ◌↔◌, List, [], ◌∷◌, ◌++◌, length, drop, map, refl}
+use Rattle.std.proofs.Common.{sym, ap, subst, ◌∙◌, append_assoc}
 use Rattle.std.specs.Prelude.{IsTrue}
 use Rattle.std.specs.List.{AllByRecursion}
 use Rattle.std.proofs.lemmas.List.{drop_all}
@@ -24,7 +25,8 @@ module _ {A S : Type 0} (Keeps : S → A → Type 0) (next : S → A → S) (Who
       broken (split.0 h).0
 
   -- no item is left
-  pub order_is_done : (xs : List A) (i : ℕ) (low : S) → length xs ≤ i → Whole ↔ InOrder Keeps next low (drop i xs) → Whole
+  pub order_is_done : (xs : List A) (i : ℕ) (low : S) → length xs ≤ i → Whole ↔ InOrder Keeps next low (drop i xs)
+      → Whole
   order_is_done xs i low past same =
       (subst (λ (ys : List A). Whole ↔ InOrder Keeps next low ys) (drop_all i xs past) same).1 tt
 
@@ -43,12 +45,14 @@ pub always : {P : Type 0} → P → IsTrue true ↔ P
 always h = (λ _. h, λ _. refl)
 
 -- what each item keeps wherever it stands
-pub each : {A S : Type 0} (K : S → A → Type 0) (next : S → A → S) (P : A → Type 0) → ((low : S) (x : A) → K low x → P x) → (low : S) (xs : List A) → InOrder K next low xs → AllByRecursion P xs
+pub each : {A S : Type 0} (K : S → A → Type 0) (next : S → A → S) (P : A → Type 0) → ((low : S) (x : A) → K low x → P x)
+    → (low : S) (xs : List A) → InOrder K next low xs → AllByRecursion P xs
 each K next P one low [] h = tt
 each K next P one low (x ∷ xs) h = (one low x h.0, each K next P one (next low x) xs h.1)
 
 -- what all leave, and then one more
-pub behind_last : {A S : Type 0} (next : S → A → S) (low : S) (xs : List A) (x : A) → behind_all next low (xs ++ x ∷ []) ≡ next (behind_all next low xs) x
+pub behind_last : {A S : Type 0} (next : S → A → S) (low : S) (xs : List A) (x : A)
+    → behind_all next low (xs ++ x ∷ []) ≡ next (behind_all next low xs) x
 behind_last next low [] x = refl
 behind_last next low (y ∷ xs) x = behind_last next (next low y) xs x
 
@@ -65,6 +69,8 @@ module _ {A B S : Type 0} (K : S → B → Type 0) (next : S → B → S) (f : A
   kept_seen b low xs h = subst (λ (P : Type 0). IsTrue b ↔ P) (seen low xs) h
 
 -- the entries that branches leave
-pub behind_branches : (before : Before) (bs : List Branch) → (behind_all behind_branch before bs).entries ≡ before.entries ++ entries_of bs
+pub behind_branches : (before : Before) (bs : List Branch)
+    → (behind_all behind_branch before bs).entries ≡ before.entries ++ entries_of bs
 behind_branches before [] = sym (append-nil before.entries)
-behind_branches before (b ∷ bs) = behind_branches (behind_branch before b) bs ∙ append_assoc before.entries (b.entry ∷ []) (entries_of bs)
+behind_branches before (b ∷ bs) =
+    behind_branches (behind_branch before b) bs ∙ append_assoc before.entries (b.entry ∷ []) (entries_of bs)

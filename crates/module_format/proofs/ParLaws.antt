@@ -6,12 +6,16 @@ use Rattle.module_format.specs.declared.limits.TheConstants.{MAX_BRANCHES, MAX_M
 use Rattle.module_format.specs.declared.rows.ChannelRow.{ChannelRow}
 use Rattle.module_format.specs.Contents.{Par}
 use Rattle.module_format.specs.Order.{IsBytes, InOrder, least_word}
-use Rattle.module_format.specs.Pars.{ChannelKeeps, behind_channel, Before, BranchKeeps, behind_branch, ParKeeps, behind_par, no_branches}
+use Rattle.module_format.specs.Pars.{ChannelKeeps, behind_channel, Before, BranchKeeps, behind_branch, ParKeeps}
+use Rattle.module_format.specs.Pars.{behind_par, no_branches}
 use Rattle.module_format.specs.Spelling.{u16_bytes, u32_bytes, i32_bytes, channel_bytes, branch_bytes, par_bytes}
 use Rattle.module_format.specs.Reading.{list_at}
-use Rattle.module_format.specs.ReadingPars.{channel_at, branch_at, context_number_at, branch_count_at, par_row_at, par_rows_at}
-use Rattle.module_format.proofs.Tools.{Has, has_ok, has_then, step, Spelled, join, tested_takes, tested_again, list_takes, list_again}
-use Rattle.module_format.proofs.FieldLaws.{wide16, limited_takes, limited_again, positive_takes, positive_again, in_code_takes, in_code_again, int_takes, int_again, u16_takes, u16_again}
+use Rattle.module_format.specs.ReadingPars.{channel_at, branch_at, context_number_at, branch_count_at, par_row_at}
+use Rattle.module_format.specs.ReadingPars.{par_rows_at}
+use Rattle.module_format.proofs.Tools.{Has, has_ok, has_then, step, Spelled, join, tested_takes, tested_again}
+use Rattle.module_format.proofs.Tools.{list_takes, list_again}
+use Rattle.module_format.proofs.FieldLaws.{wide16, limited_takes, limited_again, positive_takes, positive_again}
+use Rattle.module_format.proofs.FieldLaws.{in_code_takes, in_code_again, int_takes, int_again, u16_takes, u16_again}
 use Rattle.module_format.proofs.BranchLaws.{branch_takes, branch_again}
 use Rattle.module_format.proofs.RowLaws.{first_word_takes, first_word_again}
 pub use Rattle.module_format.proofs.BranchLaws.{writes_take}
@@ -19,17 +23,21 @@ pub use Rattle.module_format.proofs.BranchLaws.{writes_take}
 -- ---- channels
 
 module _ (size : ℕ) where
-  channel_takes : (low : ℤ) (bytes : List ℕ) → IsBytes bytes → Has (channel_at size low bytes) (Spelled bytes channel_bytes (ChannelKeeps low))
+  channel_takes : (low : ℤ) (bytes : List ℕ) → IsBytes bytes
+      → Has (channel_at size low bytes) (Spelled bytes channel_bytes (ChannelKeeps low))
   unfolding channel_at channel_bytes
   channel_takes low bytes fits =
       has_then _ _ (first_word_takes size low bytes fits) (λ word h.
       has_then _ _ (positive_takes size MAX_MESSAGE word.1 h.rest_fits) (λ len g.
       let made : ChannelRow = record { word = word.0; length = len.0 } in
-      let kept : ChannelKeeps low made = record { word_fits = h.keeps.0; rises = h.keeps.1; has_length = g.keeps.0; limit = g.keeps.1 } in
-      let parts : bytes ≡ channel_bytes made ++ len.1 = join (i32_bytes word.0) (u32_bytes len.0) len.1 h.parts g.parts in
+      let kept : ChannelKeeps low made =
+          record { word_fits = h.keeps.0; rises = h.keeps.1; has_length = g.keeps.0; limit = g.keeps.1 } in
+      let parts : bytes ≡ channel_bytes made ++ len.1 =
+          join (i32_bytes word.0) (u32_bytes len.0) len.1 h.parts g.parts in
       has_ok (made, len.1) (record { parts = parts; rest_fits = g.rest_fits; keeps = kept })))
 
-  channel_again : (low : ℤ) (c : ChannelRow) (rest : List ℕ) → ChannelKeeps low c → channel_at size low (channel_bytes c ++ rest) ≡ Ok (c, rest)
+  channel_again : (low : ℤ) (c : ChannelRow) (rest : List ℕ) → ChannelKeeps low c
+      → channel_at size low (channel_bytes c ++ rest) ≡ Ok (c, rest)
   unfolding channel_at channel_bytes
   channel_again low c rest h =
       let small : c.length < 2 ^ 32 = let most = h.limit in omega arith in
@@ -37,39 +45,59 @@ module _ (size : ℕ) where
       ∙ step _ (first_word_again size low c.word (u32_bytes c.length ++ rest) h.word_fits h.rises)
       (step _ (positive_again size MAX_MESSAGE c.length rest small h.has_length h.limit) refl)
 
-  channels_take : (count : ℕ) (bytes : List ℕ) → IsBytes bytes → Has (list_at (channel_at size) behind_channel count least_word bytes) (Spelled bytes (flat_map channel_bytes) (λ cs. (length cs ≡ count) × InOrder ChannelKeeps behind_channel least_word cs))
-  channels_take count bytes fits = list_takes (channel_at size) behind_channel channel_bytes ChannelKeeps channel_takes count least_word bytes fits
+  channels_take : (count : ℕ) (bytes : List ℕ) → IsBytes bytes
+      → Has (list_at (channel_at size) behind_channel count least_word bytes)
+      (Spelled bytes (flat_map channel_bytes)
+      (λ cs. (length cs ≡ count) × InOrder ChannelKeeps behind_channel least_word cs))
+  channels_take count bytes fits =
+      list_takes (channel_at size) behind_channel channel_bytes ChannelKeeps channel_takes count least_word bytes fits
 
-  channels_again : (cs : List ChannelRow) (rest : List ℕ) → InOrder ChannelKeeps behind_channel least_word cs → list_at (channel_at size) behind_channel (length cs) least_word (flat_map channel_bytes cs ++ rest) ≡ Ok (cs, rest)
-  channels_again cs rest h = list_again (channel_at size) behind_channel channel_bytes ChannelKeeps channel_again cs least_word rest h
+  channels_again : (cs : List ChannelRow) (rest : List ℕ) → InOrder ChannelKeeps behind_channel least_word cs
+      → list_at (channel_at size) behind_channel (length cs) least_word (flat_map channel_bytes cs ++ rest)
+      ≡ Ok (cs, rest)
+  channels_again cs rest h =
+      list_again (channel_at size) behind_channel channel_bytes ChannelKeeps channel_again cs least_word rest h
 
   -- ---- the fields of a row
 
-  context_number_takes : (count : ℕ) (bytes : List ℕ) → IsBytes bytes → Has (context_number_at size count bytes) (Spelled bytes u16_bytes (λ n. (n < 2 ^ 16) × (n < count)))
+  context_number_takes : (count : ℕ) (bytes : List ℕ) → IsBytes bytes
+      → Has (context_number_at size count bytes) (Spelled bytes u16_bytes (λ n. (n < 2 ^ 16) × (n < count)))
   unfolding context_number_at
-  context_number_takes count bytes fits = tested_takes _ _ _ _ (u16_takes size bytes fits) (λ n below known. (below, ltb-true _ _ known))
+  context_number_takes count bytes fits =
+      tested_takes _ _ _ _ (u16_takes size bytes fits) (λ n below known. (below, ltb-true _ _ known))
 
-  context_number_again : (count n : ℕ) (rest : List ℕ) → n < 2 ^ 16 → n < count → context_number_at size count (u16_bytes n ++ rest) ≡ Ok (n, rest)
+  context_number_again : (count n : ℕ) (rest : List ℕ) → n < 2 ^ 16 → n < count
+      → context_number_at size count (u16_bytes n ++ rest) ≡ Ok (n, rest)
   unfolding context_number_at
   context_number_again count n rest fits known = tested_again _ _ _ _ (u16_again size n rest fits) (lt-ltb _ _ known)
 
-  branch_count_takes : (bytes : List ℕ) → IsBytes bytes → Has (branch_count_at size bytes) (Spelled bytes u16_bytes (λ n. (1 ≤ n) × (n ≤ MAX_BRANCHES)))
+  branch_count_takes : (bytes : List ℕ) → IsBytes bytes
+      → Has (branch_count_at size bytes) (Spelled bytes u16_bytes (λ n. (1 ≤ n) × (n ≤ MAX_BRANCHES)))
   unfolding branch_count_at
-  branch_count_takes bytes fits = tested_takes _ _ _ _ (limited_takes size 2 u16_bytes (2 ^ 16) wide16 MAX_BRANCHES bytes fits) (λ n h some. (leb-true _ _ some, h.1))
+  branch_count_takes bytes fits = tested_takes _ _ _ _ (limited_takes size 2 u16_bytes
+      (2 ^ 16) wide16 MAX_BRANCHES bytes fits) (λ n h some. (leb-true _ _ some, h.1))
 
-  branch_count_again : (n : ℕ) (rest : List ℕ) → 1 ≤ n → n ≤ MAX_BRANCHES → branch_count_at size (u16_bytes n ++ rest) ≡ Ok (n, rest)
+  branch_count_again : (n : ℕ) (rest : List ℕ) → 1 ≤ n → n ≤ MAX_BRANCHES
+      → branch_count_at size (u16_bytes n ++ rest) ≡ Ok (n, rest)
   unfolding branch_count_at
   branch_count_again n rest some most =
       let fits : n < 2 ^ 16 = omega arith in
-      tested_again _ _ _ _ (limited_again size 2 u16_bytes (2 ^ 16) wide16 MAX_BRANCHES n rest fits most) (le-leb _ _ some)
+      tested_again _ _ _ _ (limited_again size 2 u16_bytes (2 ^ 16) wide16 MAX_BRANCHES n rest fits most)
+          (le-leb _ _ some)
 
 -- ---- rows
 
 module _ (size own code_len : ℕ) where
-  branches_take : (before : Before) (count : ℕ) (bytes : List ℕ) → IsBytes bytes → Has (list_at (branch_at size code_len) behind_branch count before bytes) (Spelled bytes (flat_map branch_bytes) (λ bs. (length bs ≡ count) × InOrder (BranchKeeps code_len) behind_branch before bs))
-  branches_take before count bytes fits = list_takes (branch_at size code_len) behind_branch branch_bytes (BranchKeeps code_len) (branch_takes size code_len) count before bytes fits
+  branches_take : (before : Before) (count : ℕ) (bytes : List ℕ) → IsBytes bytes
+      → Has (list_at (branch_at size code_len) behind_branch count before bytes)
+      (Spelled bytes (flat_map branch_bytes)
+      (λ bs. (length bs ≡ count) × InOrder (BranchKeeps code_len) behind_branch before bs))
+  branches_take before count bytes fits =
+      list_takes (branch_at size code_len) behind_branch branch_bytes (BranchKeeps code_len)
+      (branch_takes size code_len) count before bytes fits
 
-  par_takes : (before : Before) (bytes : List ℕ) → IsBytes bytes → Has (par_row_at size own code_len before bytes) (Spelled bytes par_bytes (ParKeeps own code_len before))
+  par_takes : (before : Before) (bytes : List ℕ) → IsBytes bytes
+      → Has (par_row_at size own code_len before bytes) (Spelled bytes par_bytes (ParKeeps own code_len before))
   unfolding par_row_at par_bytes
   par_takes before bytes fits =
       has_then _ _ (context_number_takes size (own + length before.entries) bytes fits) (λ context h0.
@@ -80,7 +108,9 @@ module _ (size own code_len : ℕ) where
       has_then _ _ (branch_count_takes size channel_count.1 h4.rest_fits) (λ branch_count h5.
       has_then _ _ (channels_take size channel_count.0 branch_count.1 h5.rest_fits) (λ channels h6.
       has_then _ _ (branches_take before branch_count.0 channels.1 h6.rest_fits) (λ branches h7.
-      let made : Par = record { context = context.0; depth = depth.0; block = block.0; successor = successor.0; channels = channels.0; branches = branches.0 } in
+      let made : Par =
+          record { context = context.0; depth = depth.0; block = block.0; successor = successor.0;
+          channels = channels.0; branches = branches.0 } in
       let kept : ParKeeps own code_len before made = record {
         context_fits = h0.keeps.0;
         context = h0.keeps.1;
@@ -101,17 +131,20 @@ module _ (size own code_len : ℕ) where
       let p5 = p4 ++ u16_bytes (length branches.0) in
       let p6 = p5 ++ flat_map channel_bytes channels.0 in
       let channels_counted : successor.1 ≡ u16_bytes (length channels.0) ++ channel_count.1 = rw h6.keeps.0 h4.parts in
-      let branches_counted : channel_count.1 ≡ u16_bytes (length branches.0) ++ branch_count.1 = rw h7.keeps.0 h5.parts in
+      let branches_counted : channel_count.1 ≡ u16_bytes (length branches.0) ++ branch_count.1 =
+          rw h7.keeps.0 h5.parts in
       let j1 = join (u16_bytes context.0) (i32_bytes depth.0) depth.1 h0.parts h1.parts in
       let j2 = join p1 (i32_bytes block.0) block.1 j1 h2.parts in
       let j3 = join p2 (u32_bytes successor.0) successor.1 j2 h3.parts in
       let j4 = join p3 (u16_bytes (length channels.0)) channel_count.1 j3 channels_counted in
       let j5 = join p4 (u16_bytes (length branches.0)) branch_count.1 j4 branches_counted in
       let j6 = join p5 (flat_map channel_bytes channels.0) channels.1 j5 h6.parts in
-      let parts : bytes ≡ par_bytes made ++ branches.1 = join p6 (flat_map branch_bytes branches.0) branches.1 j6 h7.parts in
+      let parts : bytes ≡ par_bytes made ++ branches.1 =
+          join p6 (flat_map branch_bytes branches.0) branches.1 j6 h7.parts in
       has_ok (made, branches.1) (record { parts = parts; rest_fits = h7.rest_fits; keeps = kept })))))))))
 
-  par_again : code_len < 2 ^ 32 → (before : Before) (row : Par) (rest : List ℕ) → ParKeeps own code_len before row → par_row_at size own code_len before (par_bytes row ++ rest) ≡ Ok (row, rest)
+  par_again : code_len < 2 ^ 32 → (before : Before) (row : Par) (rest : List ℕ) → ParKeeps own code_len before row
+      → par_row_at size own code_len before (par_bytes row ++ rest) ≡ Ok (row, rest)
   unfolding par_row_at par_bytes
   par_again small before row rest h =
       let tail7 = flat_map branch_bytes row.branches ++ rest in
@@ -131,12 +164,20 @@ module _ (size own code_len : ℕ) where
       (step _ (u16_again size (length row.channels) tail5 h.channel_count)
       (step _ (branch_count_again size (length row.branches) tail6 h.has_branch h.branch_limit)
       (step _ (channels_again size row.channels tail7 h.channels)
-      (step _ (list_again (branch_at size code_len) behind_branch branch_bytes (BranchKeeps code_len) (branch_again size code_len small) row.branches before rest h.branches) refl)))))))
+      (step _ (list_again (branch_at size code_len) behind_branch branch_bytes (BranchKeeps code_len)
+          (branch_again size code_len small) row.branches before rest h.branches) refl)))))))
 
-  pub pars_take : (count : ℕ) (bytes : List ℕ) → IsBytes bytes → Has (par_rows_at size own code_len count bytes) (Spelled bytes (flat_map par_bytes) (λ rows. (length rows ≡ count) × InOrder (ParKeeps own code_len) behind_par no_branches rows))
+  pub pars_take : (count : ℕ) (bytes : List ℕ) → IsBytes bytes
+      → Has (par_rows_at size own code_len count bytes)
+      (Spelled bytes (flat_map par_bytes)
+      (λ rows. (length rows ≡ count) × InOrder (ParKeeps own code_len) behind_par no_branches rows))
   unfolding par_rows_at
-  pars_take count bytes fits = list_takes (par_row_at size own code_len) behind_par par_bytes (ParKeeps own code_len) par_takes count no_branches bytes fits
+  pars_take count bytes fits = list_takes (par_row_at size own code_len) behind_par par_bytes
+      (ParKeeps own code_len) par_takes count no_branches bytes fits
 
-  pub pars_again : code_len < 2 ^ 32 → (rows : List Par) (rest : List ℕ) → InOrder (ParKeeps own code_len) behind_par no_branches rows → par_rows_at size own code_len (length rows) (flat_map par_bytes rows ++ rest) ≡ Ok (rows, rest)
+  pub pars_again : code_len < 2 ^ 32 → (rows : List Par) (rest : List ℕ)
+      → InOrder (ParKeeps own code_len) behind_par no_branches rows
+      → par_rows_at size own code_len (length rows) (flat_map par_bytes rows ++ rest) ≡ Ok (rows, rest)
   unfolding par_rows_at
-  pars_again small rows rest h = list_again (par_row_at size own code_len) behind_par par_bytes (ParKeeps own code_len) (par_again small) rows no_branches rest h
+  pars_again small rows rest h = list_again (par_row_at size own code_len) behind_par par_bytes (ParKeeps own code_len)
+      (par_again small) rows no_branches rest h

@@ -1,5 +1,7 @@
 -- The laws of parameters, procedure rows and table rows.
-use Rattle.std.proofs.Common.{◌≡◌, ℕ, ◌-◌, ◌^◌, ◌<◌, ◌≤◌, ℤ, pos, negsuc, ◌≤ℤ◌, ◌<ℤ◌, true, ◌&&◌, cond, ltb, eqb, List, [], ◌∷◌, ◌++◌, length, take, drop, Ok, Err, refl, ap, ◌∙◌, append_assoc, arith, FitsSigned}
+use Rattle.std.proofs.Common.{◌≡◌, ℕ, ◌-◌, ◌^◌, ◌<◌, ◌≤◌, ℤ, pos, negsuc, ◌≤ℤ◌, ◌<ℤ◌, true, ◌&&◌, cond, ltb, eqb, List}
+use Rattle.std.proofs.Common.{[], ◌∷◌, ◌++◌, length, take, drop, Ok, Err, refl, ap, ◌∙◌, append_assoc, arith}
+use Rattle.std.proofs.Common.{FitsSigned}
 use Rattle.std.specs.Prelude.{IsTrue, nat_le, int_lt, int_le}
 use Rattle.std.specs.Int.{w32}
 use Rattle.std.specs.List.{flat_map, list_all, AllByRecursion}
@@ -16,12 +18,23 @@ use Rattle.module_format.specs.declared.tables.Version.{Version}
 use Rattle.module_format.specs.declared.tables.Version.TheVariants as versions
 use Rattle.module_format.specs.Contents.{Procedure}
 use Rattle.module_format.specs.Order.{IsBytes, InOrder, IsInterval, least_word, greatest_word, is_multiple_of_four}
-use Rattle.module_format.specs.Procedures.{RangeKeeps, IsRegion, AreChannels, KindKeeps, ParameterKeeps, behind_parameter, ProcedureKeeps, behind_procedure, words_of, IsWithin, TableKeeps, behind_table}
-use Rattle.module_format.specs.Spelling.{u16_bytes, u32_bytes, u64_bytes, i32_bytes, range_bytes, kind_bytes, parameter_bytes, procedure_bytes, table_row_bytes}
+use Rattle.module_format.specs.Procedures.{RangeKeeps, IsRegion, AreChannels, KindKeeps, ParameterKeeps}
+use Rattle.module_format.specs.Procedures.{behind_parameter, ProcedureKeeps, behind_procedure, words_of, IsWithin}
+use Rattle.module_format.specs.Procedures.{TableKeeps, behind_table}
+use Rattle.module_format.specs.Spelling.{u16_bytes, u32_bytes, u64_bytes, i32_bytes, range_bytes, kind_bytes}
+use Rattle.module_format.specs.Spelling.{parameter_bytes, procedure_bytes, table_row_bytes}
 use Rattle.module_format.specs.Reading.{and_then, fault, place, byte_at, interval_at, list_at}
-use Rattle.module_format.specs.ReadingRows.{words_range_at, region_size_at, region_at, ends_at, channels_at, value_at, kind_at, parameter_word_at, parameter_at, parameters_at, frame_start_at, frame_end_at, rising_at, procedure_row_at, procedure_rows_at, table_start_at, table_end_at, is_within, table_row_at, table_rows_at}
-use Rattle.module_format.proofs.Tools.{Has, has_ok, has_err, has_then, has_if, has_cond, has_weaker, step, Spelled, join, tested_takes, tested_again, list_takes, list_again}
-use Rattle.module_format.proofs.FieldLaws.{IsBytes-rest, wide16, wide64, number_takes, number_again, limited_takes, limited_again, u32_takes, u32_again, positive_takes, positive_again, in_code_takes, in_code_again, int_takes, int_again, interval_takes, interval_again, byte_takes, int_le-true, int_le-le, int_lt-true, int_lt-holds}
+use Rattle.module_format.specs.ReadingRows.{words_range_at, region_size_at, region_at, ends_at, channels_at, value_at}
+use Rattle.module_format.specs.ReadingRows.{kind_at, parameter_word_at, parameter_at, parameters_at, frame_start_at}
+use Rattle.module_format.specs.ReadingRows.{frame_end_at, rising_at, procedure_row_at, procedure_rows_at}
+use Rattle.module_format.specs.ReadingRows.{table_start_at, table_end_at, is_within, table_row_at, table_rows_at}
+use Rattle.module_format.proofs.Tools.{Has, has_ok, has_err, has_then, has_if, has_cond, has_weaker, step, Spelled}
+use Rattle.module_format.proofs.Tools.{join, tested_takes, tested_again, list_takes, list_again}
+use Rattle.module_format.proofs.FieldLaws.{IsBytes-rest, wide16, wide64, number_takes, number_again, limited_takes}
+use Rattle.module_format.proofs.FieldLaws.{limited_again, u32_takes, u32_again, positive_takes, positive_again}
+use Rattle.module_format.proofs.FieldLaws.{in_code_takes, in_code_again, int_takes, int_again, interval_takes}
+use Rattle.module_format.proofs.FieldLaws.{interval_again, byte_takes, int_le-true, int_le-le, int_lt-true}
+use Rattle.module_format.proofs.FieldLaws.{int_lt-holds}
 use Rattle.module_format.proofs.RowLaws.{tagged, span_takes, span_again}
 
 -- tests
@@ -29,38 +42,50 @@ use Rattle.module_format.proofs.RowLaws.{tagged, span_takes, span_again}
 -- ---- kinds of parameters
 
 module _ (size : ℕ) where
-  words_range_takes : (version : Version) (bytes : List ℕ) → IsBytes bytes → Has (words_range_at size version bytes) (Spelled bytes (λ r. range_bytes version r.0 r.1) (λ r. RangeKeeps version r.0 r.1))
+  words_range_takes : (version : Version) (bytes : List ℕ) → IsBytes bytes
+      → Has (words_range_at size version bytes)
+      (Spelled bytes (λ r. range_bytes version r.0 r.1) (λ r. RangeKeeps version r.0 r.1))
   unfolding words_range_at
-  words_range_takes versions.One bytes fits = has_ok ((least_word, greatest_word), bytes) (record { parts = refl; rest_fits = fits; keeps = (refl, refl) })
+  words_range_takes versions.One bytes fits =
+      has_ok ((least_word, greatest_word), bytes) (record { parts = refl; rest_fits = fits; keeps = (refl, refl) })
   words_range_takes versions.Two bytes fits = interval_takes size bytes fits
 
-  words_range_again : (version : Version) (lo hi : ℤ) (rest : List ℕ) → RangeKeeps version lo hi → words_range_at size version (range_bytes version lo hi ++ rest) ≡ Ok ((lo, hi), rest)
+  words_range_again : (version : Version) (lo hi : ℤ) (rest : List ℕ) → RangeKeeps version lo hi
+      → words_range_at size version (range_bytes version lo hi ++ rest) ≡ Ok ((lo, hi), rest)
   unfolding words_range_at
   words_range_again versions.One lo hi rest h = rw (h.0, h.1) refl
-  words_range_again versions.Two lo hi rest h = ap (interval_at size) (append_assoc (i32_bytes lo) (i32_bytes hi) rest) ∙ interval_again size lo hi rest h
+  words_range_again versions.Two lo hi rest h =
+      ap (interval_at size) (append_assoc (i32_bytes lo) (i32_bytes hi) rest) ∙ interval_again size lo hi rest h
 
   -- so many bytes that are words
-  region_size_takes : (bytes : List ℕ) → IsBytes bytes → Has (region_size_at size bytes) (Spelled bytes u32_bytes (λ n. (n < 2 ^ 32) × (4 ≤ n) × IsTrue (is_multiple_of_four n)))
+  region_size_takes : (bytes : List ℕ) → IsBytes bytes
+      → Has (region_size_at size bytes)
+      (Spelled bytes u32_bytes (λ n. (n < 2 ^ 32) × (4 ≤ n) × IsTrue (is_multiple_of_four n)))
   unfolding region_size_at
   region_size_takes bytes fits =
       tested_takes _ _ _ _ (u32_takes size bytes fits) (λ n below whole.
       let both = and_parts (nat_le 4 n) (is_multiple_of_four n) whole in
       (below, leb-true _ _ both.0, both.1))
 
-  region_size_again : (n : ℕ) (rest : List ℕ) → n < 2 ^ 32 → 4 ≤ n → IsTrue (is_multiple_of_four n) → region_size_at size (u32_bytes n ++ rest) ≡ Ok (n, rest)
+  region_size_again : (n : ℕ) (rest : List ℕ) → n < 2 ^ 32 → 4 ≤ n → IsTrue (is_multiple_of_four n)
+      → region_size_at size (u32_bytes n ++ rest) ≡ Ok (n, rest)
   unfolding region_size_at
-  region_size_again n rest lt some words = tested_again _ _ _ _ (u32_again size n rest lt) (rw (le-leb _ _ some, words) refl)
+  region_size_again n rest lt some words =
+      tested_again _ _ _ _ (u32_again size n rest lt) (rw (le-leb _ _ some, words) refl)
 
   -- a region, whose kind has tag n
   region_takes : (version : Version) (kind : ℕ → ℤ → ℤ → ParameterKind) (tag n : ℕ) (bytes : List ℕ)
-      → ((bytes : ℕ) (lo hi : ℤ) → kind_bytes version (kind bytes lo hi) ≡ n ∷ (u32_bytes bytes ++ range_bytes version lo hi))
+      → ((bytes : ℕ) (lo hi : ℤ) → kind_bytes version (kind bytes lo hi) ≡ n ∷
+          (u32_bytes bytes ++ range_bytes version lo hi))
       → ((bytes : ℕ) (lo hi : ℤ) → IsRegion version bytes lo hi → KindKeeps version (kind bytes lo hi))
-      → IsBytes bytes → tag ≡ n → Has (region_at size version kind bytes) (Spelled (tag ∷ bytes) (kind_bytes version) (KindKeeps version))
+      → IsBytes bytes → tag ≡ n → Has (region_at size version kind bytes)
+          (Spelled (tag ∷ bytes) (kind_bytes version) (KindKeeps version))
   unfolding region_at
   region_takes version kind tag n bytes spelled kept fits e =
       has_then _ _ (region_size_takes bytes fits) (λ region h.
       has_then _ _ (words_range_takes version region.1 h.rest_fits) (λ range g.
-      let whole : IsRegion version region.0 range.0.0 range.0.1 = record { size_fits = h.keeps.0; some = h.keeps.1; words = h.keeps.2; range = g.keeps } in
+      let whole : IsRegion version region.0 range.0.0 range.0.1 =
+          record { size_fits = h.keeps.0; some = h.keeps.1; words = h.keeps.2; range = g.keeps } in
       let both = join (u32_bytes region.0) (range_bytes version range.0.0 range.0.1) range.1 h.parts g.parts in
       has_ok (kind region.0 range.0.0 range.0.1, range.1) (record {
         parts = rw (spelled region.0 range.0.0 range.0.1) (tagged tag n e both);
@@ -68,17 +93,21 @@ module _ (size : ℕ) where
         keeps = kept region.0 range.0.0 range.0.1 whole;
       })))
 
-  region_again : (version : Version) (kind : ℕ → ℤ → ℤ → ParameterKind) (n : ℕ) (lo hi : ℤ) (rest : List ℕ) → IsRegion version n lo hi → region_at size version kind ((u32_bytes n ++ range_bytes version lo hi) ++ rest) ≡ Ok (kind n lo hi, rest)
+  region_again : (version : Version) (kind : ℕ → ℤ → ℤ → ParameterKind) (n : ℕ) (lo hi : ℤ) (rest : List ℕ)
+      → IsRegion version n lo hi → region_at size version kind ((u32_bytes n ++ range_bytes version lo hi) ++ rest) ≡ Ok
+      (kind n lo hi, rest)
   unfolding region_at
   region_again version kind n lo hi rest h =
       ap (region_at size version kind) (append_assoc (u32_bytes n) (range_bytes version lo hi) rest)
       ∙ step _ (region_size_again n (range_bytes version lo hi ++ rest) h.size_fits h.some h.words)
       (step _ (words_range_again version lo hi rest h.range) refl)
 
-  ends_take : (bytes : List ℕ) → IsBytes bytes → Has (ends_at size bytes) (Spelled bytes (λ ends. ends.0 ∷ []) (λ ends. (1 ≤ ends.0) × (ends.0 ≤ 3)))
+  ends_take : (bytes : List ℕ) → IsBytes bytes
+      → Has (ends_at size bytes) (Spelled bytes (λ ends. ends.0 ∷ []) (λ ends. (1 ≤ ends.0) × (ends.0 ≤ 3)))
   unfolding ends_at
   ends_take bytes fits =
-      let read = tested_takes {Q = λ bits. (1 ≤ bits) × (bits ≤ 3)} _ _ _ _ (byte_takes size bytes fits) (λ bits below some.
+      let read =
+          tested_takes {Q = λ bits. (1 ≤ bits) × (bits ≤ 3)} _ _ _ _ (byte_takes size bytes fits) (λ bits below some.
       let both = and_parts (nat_le 1 bits) (nat_le bits 3) some in
       (leb-true _ _ both.0, leb-true _ _ both.1)) in
       has_then _ _ read (λ bits h.
@@ -88,38 +117,50 @@ module _ (size : ℕ) where
   unfolding ends_at byte_at
   ends_again ends rest some few = step _ (tested_again _ _ _ _ refl (rw (le-leb _ _ some, le-leb _ _ few) refl)) refl
 
-  channels_take : (version : Version) (tag : ℕ) (bytes : List ℕ) → IsBytes bytes → tag ≡ 3 → Has (channels_at size bytes) (Spelled (tag ∷ bytes) (kind_bytes version) (KindKeeps version))
+  channels_take : (version : Version) (tag : ℕ) (bytes : List ℕ) → IsBytes bytes → tag ≡ 3
+      → Has (channels_at size bytes) (Spelled (tag ∷ bytes) (kind_bytes version) (KindKeeps version))
   unfolding channels_at
   channels_take version tag bytes fits e =
       has_then _ _ (span_takes size bytes fits) (λ count h.
       has_then _ _ (positive_takes size MAX_MESSAGE count.1 h.rest_fits) (λ len g.
       has_then _ _ (ends_take len.1 g.rest_fits) (λ ends k.
-      let kept : AreChannels count.0 len.0 ends.0.0 = record { count_fits = h.keeps.0; some = h.keeps.1; has_length = g.keeps.0; limit = g.keeps.1; has_end = k.keeps.0; no_more = k.keeps.1 } in
+      let kept : AreChannels count.0 len.0 ends.0.0 =
+          record { count_fits = h.keeps.0; some = h.keeps.1; has_length = g.keeps.0; limit = g.keeps.1;
+          has_end = k.keeps.0; no_more = k.keeps.1 } in
       let front = join (u32_bytes count.0) (u32_bytes len.0) len.1 h.parts g.parts in
       let whole = join (u32_bytes count.0 ++ u32_bytes len.0) (ends.0.0 ∷ []) ends.1 front k.parts in
-      has_ok (kinds.Channels count.0 len.0 ends.0, ends.1) (record { parts = tagged tag 3 e whole; rest_fits = k.rest_fits; keeps = kept }))))
+      has_ok (kinds.Channels count.0 len.0 ends.0, ends.1)
+          (record { parts = tagged tag 3 e whole; rest_fits = k.rest_fits; keeps = kept }))))
 
-  channels_again : (count len : ℕ) (ends : Ends) (rest : List ℕ) → AreChannels count len ends.0 → channels_at size ((u32_bytes count ++ u32_bytes len ++ ends.0 ∷ []) ++ rest) ≡ Ok (kinds.Channels count len ends, rest)
+  channels_again : (count len : ℕ) (ends : Ends) (rest : List ℕ) → AreChannels count len ends.0
+      → channels_at size ((u32_bytes count ++ u32_bytes len ++ ends.0 ∷ []) ++ rest)
+      ≡ Ok (kinds.Channels count len ends, rest)
   unfolding channels_at
   channels_again count len ends rest h =
-      let regrouped : (u32_bytes count ++ u32_bytes len ++ ends.0 ∷ []) ++ rest ≡ u32_bytes count ++ (u32_bytes len ++ (ends.0 ∷ rest)) = simp append_assoc in
+      let regrouped : (u32_bytes count ++ u32_bytes len ++ ends.0 ∷ []) ++ rest ≡ u32_bytes count
+          ++ (u32_bytes len ++ (ends.0 ∷ rest)) = simp append_assoc in
       let lt : len < 2 ^ 32 = let limit = h.limit in omega arith in
       ap (channels_at size) regrouped
       ∙ step _ (span_again size count (u32_bytes len ++ (ends.0 ∷ rest)) h.count_fits h.some)
       (step _ (positive_again size MAX_MESSAGE len (ends.0 ∷ rest) lt h.has_length h.limit)
       (step _ (ends_again ends rest h.has_end h.no_more) refl))
 
-  value_takes : (version : Version) (tag : ℕ) (bytes : List ℕ) → IsBytes bytes → tag ≡ 0 → Has (value_at size bytes) (Spelled (tag ∷ bytes) (kind_bytes version) (KindKeeps version))
+  value_takes : (version : Version) (tag : ℕ) (bytes : List ℕ) → IsBytes bytes → tag ≡ 0
+      → Has (value_at size bytes) (Spelled (tag ∷ bytes) (kind_bytes version) (KindKeeps version))
   unfolding value_at
   value_takes version tag bytes fits e =
       has_then _ _ (interval_takes size bytes fits) (λ range h.
-      has_ok (kinds.Value range.0.0 range.0.1, range.1) (record { parts = tagged tag 0 e h.parts; rest_fits = h.rest_fits; keeps = h.keeps }))
+      has_ok (kinds.Value range.0.0 range.0.1, range.1)
+          (record { parts = tagged tag 0 e h.parts; rest_fits = h.rest_fits; keeps = h.keeps }))
 
-  value_again : (lo hi : ℤ) (rest : List ℕ) → IsInterval lo hi → value_at size ((i32_bytes lo ++ i32_bytes hi) ++ rest) ≡ Ok (kinds.Value lo hi, rest)
+  value_again : (lo hi : ℤ) (rest : List ℕ) → IsInterval lo hi
+      → value_at size ((i32_bytes lo ++ i32_bytes hi) ++ rest) ≡ Ok (kinds.Value lo hi, rest)
   unfolding value_at
-  value_again lo hi rest h = ap (value_at size) (append_assoc (i32_bytes lo) (i32_bytes hi) rest) ∙ step _ (interval_again size lo hi rest h) refl
+  value_again lo hi rest h = ap (value_at size) (append_assoc (i32_bytes lo) (i32_bytes hi) rest) ∙ step _
+      (interval_again size lo hi rest h) refl
 
-  kind_takes : (version : Version) (bytes : List ℕ) → IsBytes bytes → Has (kind_at size version bytes) (Spelled bytes (kind_bytes version) (KindKeeps version))
+  kind_takes : (version : Version) (bytes : List ℕ) → IsBytes bytes
+      → Has (kind_at size version bytes) (Spelled bytes (kind_bytes version) (KindKeeps version))
   unfolding kind_at byte_at and_then
   kind_takes version [] fits = has_err (fault faults.Truncated size)
   kind_takes version (tag ∷ bytes) fits =
@@ -127,14 +168,21 @@ module _ (size : ℕ) where
       let wrong = fault faults.Range (place size (tag ∷ bytes)) in
       let written = region_at size version kinds.WrittenRegion bytes in
       let read = region_at size version kinds.ReadRegion bytes in
-      has_cond (eqb tag 0) (value_at size bytes) (cond (eqb tag 1) read (cond (eqb tag 2) written (cond (eqb tag 3) (channels_at size bytes) (Err wrong)))) (λ none. value_takes version tag bytes behind (eqb-true _ _ none)) (λ _.
-      has_cond (eqb tag 1) read (cond (eqb tag 2) written (cond (eqb tag 3) (channels_at size bytes) (Err wrong))) (λ one.
-      region_takes version kinds.ReadRegion tag 1 bytes (λ n lo hi. refl) (λ n lo hi h. h) behind (eqb-true _ _ one)) (λ _.
+      has_cond (eqb tag 0) (value_at size bytes)
+          (cond (eqb tag 1) read (cond (eqb tag 2) written (cond (eqb tag 3) (channels_at size bytes) (Err wrong))))
+          (λ none. value_takes version tag bytes behind (eqb-true _ _ none)) (λ _.
+      has_cond (eqb tag 1) read (cond (eqb tag 2) written (cond (eqb tag 3) (channels_at size bytes) (Err wrong)))
+          (λ one.
+      region_takes version kinds.ReadRegion tag 1 bytes (λ n lo hi. refl) (λ n lo hi h. h) behind (eqb-true _ _ one))
+          (λ _.
       has_cond (eqb tag 2) written (cond (eqb tag 3) (channels_at size bytes) (Err wrong)) (λ two.
-      region_takes version kinds.WrittenRegion tag 2 bytes (λ n lo hi. refl) (λ n lo hi h. h) behind (eqb-true _ _ two)) (λ _.
-      has_if (eqb tag 3) wrong (channels_at size bytes) (λ three. channels_take version tag bytes behind (eqb-true _ _ three)))))
+      region_takes version kinds.WrittenRegion tag 2 bytes (λ n lo hi. refl) (λ n lo hi h. h) behind (eqb-true _ _ two))
+          (λ _.
+      has_if (eqb tag 3) wrong (channels_at size bytes)
+          (λ three. channels_take version tag bytes behind (eqb-true _ _ three)))))
 
-  kind_again : (version : Version) (kind : ParameterKind) (rest : List ℕ) → KindKeeps version kind → kind_at size version (kind_bytes version kind ++ rest) ≡ Ok (kind, rest)
+  kind_again : (version : Version) (kind : ParameterKind) (rest : List ℕ) → KindKeeps version kind
+      → kind_at size version (kind_bytes version kind ++ rest) ≡ Ok (kind, rest)
   unfolding kind_at byte_at and_then
   kind_again version (kinds.Value lo hi) rest h = value_again lo hi rest h
   kind_again version (kinds.ReadRegion n lo hi) rest h = region_again version kinds.ReadRegion n lo hi rest h
@@ -144,90 +192,122 @@ module _ (size : ℕ) where
 -- ---- parameters
 
 module _ (size : ℕ) (version : Version) (hi : ℤ) where
-  parameter_word_takes : (low : ℕ) (bytes : List ℕ) → IsBytes bytes → Has (parameter_word_at size hi low bytes) (Spelled bytes u16_bytes (λ word. (low < word) × (pos word <ℤ hi)))
+  parameter_word_takes : (low : ℕ) (bytes : List ℕ) → IsBytes bytes
+      → Has (parameter_word_at size hi low bytes) (Spelled bytes u16_bytes (λ word. (low < word) × (pos word <ℤ hi)))
   unfolding parameter_word_at
   parameter_word_takes low bytes fits =
-      let inside = tested_takes {Q = λ word. pos word <ℤ hi} _ _ _ _ (number_takes size 2 u16_bytes (2 ^ 16) wide16 bytes fits) (λ word below both.
+      let inside = tested_takes {Q = λ word. pos word <ℤ hi} _ _ _ _
+          (number_takes size 2 u16_bytes (2 ^ 16) wide16 bytes fits) (λ word below both.
       int_lt-true _ _ (and_parts (nat_le 1 word) (int_lt (pos word) hi) both).1) in
       tested_takes _ _ _ _ inside (λ word below rises. (ltb-true _ _ rises, below))
 
-  parameter_takes : (low : ℕ) (bytes : List ℕ) → IsBytes bytes → Has (parameter_at size version hi low bytes) (Spelled bytes (parameter_bytes version) (ParameterKeeps version hi low))
+  parameter_takes : (low : ℕ) (bytes : List ℕ) → IsBytes bytes
+      → Has (parameter_at size version hi low bytes)
+      (Spelled bytes (parameter_bytes version) (ParameterKeeps version hi low))
   unfolding parameter_at parameter_bytes
   parameter_takes low bytes fits =
       has_then _ _ (parameter_word_takes low bytes fits) (λ word h.
       has_then _ _ (kind_takes size version word.1 h.rest_fits) (λ kind g.
       let made : Parameter = record { word = word.0; kind = kind.0 } in
-      let kept : ParameterKeeps version hi low made = record { rises = h.keeps.0; inside = h.keeps.1; kind = g.keeps } in
-      has_ok (made, kind.1) (record { parts = join (u16_bytes word.0) (kind_bytes version kind.0) kind.1 h.parts g.parts; rest_fits = g.rest_fits; keeps = kept })))
+      let kept : ParameterKeeps version hi low made =
+          record { rises = h.keeps.0; inside = h.keeps.1; kind = g.keeps } in
+      has_ok (made, kind.1) (record { parts = join (u16_bytes word.0)
+          (kind_bytes version kind.0) kind.1 h.parts g.parts; rest_fits = g.rest_fits; keeps = kept })))
 
-  parameters_take : (bytes : List ℕ) → IsBytes bytes → Has (parameters_at size version hi bytes) (Spelled bytes (λ ps. u16_bytes (length ps) ++ flat_map (parameter_bytes version) ps) (λ ps. (length ps ≤ MAX_PARAMETERS) × InOrder (ParameterKeeps version hi) behind_parameter 0 ps))
+  parameters_take : (bytes : List ℕ) → IsBytes bytes
+      → Has (parameters_at size version hi bytes)
+      (Spelled bytes (λ ps. u16_bytes (length ps) ++ flat_map (parameter_bytes version) ps)
+      (λ ps. (length ps ≤ MAX_PARAMETERS) × InOrder (ParameterKeeps version hi) behind_parameter 0 ps))
   unfolding parameters_at
   parameters_take bytes fits =
       has_then _ _ (limited_takes size 2 u16_bytes (2 ^ 16) wide16 MAX_PARAMETERS bytes fits) (λ count h.
-      has_weaker (list_at (parameter_at size version hi) behind_parameter count.0 0 count.1) (list_takes (parameter_at size version hi) behind_parameter (parameter_bytes version) (ParameterKeeps version hi) parameter_takes count.0 0 count.1 h.rest_fits) (λ ps g.
-      let parts : bytes ≡ (u16_bytes (length ps.0) ++ flat_map (parameter_bytes version) ps.0) ++ ps.1 = join (u16_bytes (length ps.0)) (flat_map (parameter_bytes version) ps.0) ps.1 (rw g.keeps.0 h.parts) g.parts in
+      has_weaker (list_at (parameter_at size version hi) behind_parameter count.0 0 count.1)
+          (list_takes (parameter_at size version hi) behind_parameter (parameter_bytes version)
+          (ParameterKeeps version hi) parameter_takes count.0 0 count.1 h.rest_fits) (λ ps g.
+      let parts : bytes ≡ (u16_bytes (length ps.0) ++ flat_map (parameter_bytes version) ps.0) ++ ps.1 =
+          join (u16_bytes (length ps.0)) (flat_map (parameter_bytes version) ps.0) ps.1
+          (rw g.keeps.0 h.parts) g.parts in
       record { parts = parts; rest_fits = g.rest_fits; keeps = (rw g.keeps.0 h.keeps.1, g.keeps.1) }))
 
   module _ (low_hi : hi ≤ℤ pos 16384) where
-    parameter_word_again : (low word : ℕ) (rest : List ℕ) → low < word → pos word <ℤ hi → parameter_word_at size hi low (u16_bytes word ++ rest) ≡ Ok (word, rest)
+    parameter_word_again : (low word : ℕ) (rest : List ℕ) → low < word → pos word <ℤ hi
+        → parameter_word_at size hi low (u16_bytes word ++ rest) ≡ Ok (word, rest)
     unfolding parameter_word_at
     parameter_word_again low word rest rises inside =
         let some : 1 ≤ word = omega arith in
         let fits : word < 2 ^ 16 = omega (arith, ints) in
-        let within = tested_again _ _ _ _ (number_again size 2 u16_bytes (2 ^ 16) wide16 word rest fits) (rw (le-leb _ _ some, int_lt-holds _ _ inside) refl) in
+        let within = tested_again _ _ _ _ (number_again size 2 u16_bytes (2 ^ 16) wide16 word rest fits)
+            (rw (le-leb _ _ some, int_lt-holds _ _ inside) refl) in
         tested_again _ _ _ _ within (lt-ltb _ _ rises)
 
-    parameter_again : (low : ℕ) (p : Parameter) (rest : List ℕ) → ParameterKeeps version hi low p → parameter_at size version hi low (parameter_bytes version p ++ rest) ≡ Ok (p, rest)
+    parameter_again : (low : ℕ) (p : Parameter) (rest : List ℕ) → ParameterKeeps version hi low p
+        → parameter_at size version hi low (parameter_bytes version p ++ rest) ≡ Ok (p, rest)
     unfolding parameter_at parameter_bytes
     parameter_again low p rest h =
         ap (parameter_at size version hi low) (append_assoc (u16_bytes p.word) (kind_bytes version p.kind) rest)
         ∙ step _ (parameter_word_again low p.word (kind_bytes version p.kind ++ rest) h.rises h.inside)
         (step _ (kind_again size version p.kind rest h.kind) refl)
 
-    parameters_again : (ps : List Parameter) (rest : List ℕ) → length ps ≤ MAX_PARAMETERS → InOrder (ParameterKeeps version hi) behind_parameter 0 ps → parameters_at size version hi (u16_bytes (length ps) ++ (flat_map (parameter_bytes version) ps ++ rest)) ≡ Ok (ps, rest)
+    parameters_again : (ps : List Parameter) (rest : List ℕ) → length ps ≤ MAX_PARAMETERS
+        → InOrder (ParameterKeeps version hi) behind_parameter 0 ps
+        → parameters_at size version hi (u16_bytes (length ps) ++ (flat_map (parameter_bytes version) ps ++ rest))
+        ≡ Ok (ps, rest)
     unfolding parameters_at
     parameters_again ps rest few h =
         let lt : length ps < 2 ^ 16 = omega arith in
-        step _ (limited_again size 2 u16_bytes (2 ^ 16) wide16 MAX_PARAMETERS (length ps) (flat_map (parameter_bytes version) ps ++ rest) lt few)
-        (list_again (parameter_at size version hi) behind_parameter (parameter_bytes version) (ParameterKeeps version hi) parameter_again ps 0 rest h)
+        step _ (limited_again size 2 u16_bytes (2 ^ 16) wide16 MAX_PARAMETERS (length ps)
+            (flat_map (parameter_bytes version) ps ++ rest) lt few)
+        (list_again (parameter_at size version hi) behind_parameter (parameter_bytes version)
+            (ParameterKeeps version hi) parameter_again ps 0 rest h)
 
 -- ---- procedure rows
 
 module _ (size : ℕ) where
-  frame_start_takes : (bytes : List ℕ) → IsBytes bytes → Has (frame_start_at size bytes) (Spelled bytes i32_bytes (λ lo. (negsuc 16383 ≤ℤ lo) × (lo ≤ℤ pos 0)))
+  frame_start_takes : (bytes : List ℕ) → IsBytes bytes
+      → Has (frame_start_at size bytes) (Spelled bytes i32_bytes (λ lo. (negsuc 16383 ≤ℤ lo) × (lo ≤ℤ pos 0)))
   unfolding frame_start_at
   frame_start_takes bytes fits =
       tested_takes _ _ _ _ (int_takes size bytes fits) (λ lo fits inside.
       let both = and_parts (int_le (negsuc 16383) lo) (int_le lo (pos 0)) inside in
       (int_le-true _ _ both.0, int_le-true _ _ both.1))
 
-  frame_start_again : (lo : ℤ) (rest : List ℕ) → FitsSigned w32 lo → negsuc 16383 ≤ℤ lo → lo ≤ℤ pos 0 → frame_start_at size (i32_bytes lo ++ rest) ≡ Ok (lo, rest)
+  frame_start_again : (lo : ℤ) (rest : List ℕ) → FitsSigned w32 lo → negsuc 16383 ≤ℤ lo → lo ≤ℤ pos 0
+      → frame_start_at size (i32_bytes lo ++ rest) ≡ Ok (lo, rest)
   unfolding frame_start_at
-  frame_start_again lo rest fits above below = tested_again _ _ _ _ (int_again size lo rest fits) (rw (int_le-le _ _ above, int_le-le _ _ below) refl)
+  frame_start_again lo rest fits above below =
+      tested_again _ _ _ _ (int_again size lo rest fits) (rw (int_le-le _ _ above, int_le-le _ _ below) refl)
 
-  frame_end_takes : (bytes : List ℕ) → IsBytes bytes → Has (frame_end_at size bytes) (Spelled bytes i32_bytes (λ hi. (pos 4 ≤ℤ hi) × (hi ≤ℤ pos 16384)))
+  frame_end_takes : (bytes : List ℕ) → IsBytes bytes
+      → Has (frame_end_at size bytes) (Spelled bytes i32_bytes (λ hi. (pos 4 ≤ℤ hi) × (hi ≤ℤ pos 16384)))
   unfolding frame_end_at
   frame_end_takes bytes fits =
       tested_takes _ _ _ _ (int_takes size bytes fits) (λ hi fits inside.
       let both = and_parts (int_le (pos 4) hi) (int_le hi (pos 16384)) inside in
       (int_le-true _ _ both.0, int_le-true _ _ both.1))
 
-  frame_end_again : (hi : ℤ) (rest : List ℕ) → FitsSigned w32 hi → pos 4 ≤ℤ hi → hi ≤ℤ pos 16384 → frame_end_at size (i32_bytes hi ++ rest) ≡ Ok (hi, rest)
+  frame_end_again : (hi : ℤ) (rest : List ℕ) → FitsSigned w32 hi → pos 4 ≤ℤ hi → hi ≤ℤ pos 16384
+      → frame_end_at size (i32_bytes hi ++ rest) ≡ Ok (hi, rest)
   unfolding frame_end_at
-  frame_end_again hi rest fits above below = tested_again _ _ _ _ (int_again size hi rest fits) (rw (int_le-le _ _ above, int_le-le _ _ below) refl)
+  frame_end_again hi rest fits above below =
+      tested_again _ _ _ _ (int_again size hi rest fits) (rw (int_le-le _ _ above, int_le-le _ _ below) refl)
 
-  rising_takes : (code_len low : ℕ) (bytes : List ℕ) → IsBytes bytes → Has (rising_at size code_len low bytes) (Spelled bytes u32_bytes (λ n. (low < n) × (n < code_len)))
+  rising_takes : (code_len low : ℕ) (bytes : List ℕ) → IsBytes bytes
+      → Has (rising_at size code_len low bytes) (Spelled bytes u32_bytes (λ n. (low < n) × (n < code_len)))
   unfolding rising_at
-  rising_takes code_len low bytes fits = tested_takes _ _ _ _ (in_code_takes size code_len bytes fits) (λ n h rises. (ltb-true _ _ rises, h.1))
+  rising_takes code_len low bytes fits =
+      tested_takes _ _ _ _ (in_code_takes size code_len bytes fits) (λ n h rises. (ltb-true _ _ rises, h.1))
 
-  rising_again : (code_len low n : ℕ) (rest : List ℕ) → n < 2 ^ 32 → low < n → n < code_len → rising_at size code_len low (u32_bytes n ++ rest) ≡ Ok (n, rest)
+  rising_again : (code_len low n : ℕ) (rest : List ℕ) → n < 2 ^ 32 → low < n → n < code_len
+      → rising_at size code_len low (u32_bytes n ++ rest) ≡ Ok (n, rest)
   unfolding rising_at
   rising_again code_len low n rest fits rises inside =
       let some : 1 ≤ n = omega arith in
       tested_again _ _ _ _ (in_code_again size code_len n rest fits some inside) (lt-ltb _ _ rises)
 
 module _ (size : ℕ) (version : Version) (code_len : ℕ) where
-  procedure_takes : (low : ℕ) (bytes : List ℕ) → IsBytes bytes → Has (procedure_row_at size version code_len low bytes) (Spelled bytes (procedure_bytes version) (ProcedureKeeps version code_len low))
+  procedure_takes : (low : ℕ) (bytes : List ℕ) → IsBytes bytes
+      → Has (procedure_row_at size version code_len low bytes)
+      (Spelled bytes (procedure_bytes version) (ProcedureKeeps version code_len low))
   unfolding procedure_row_at procedure_bytes
   procedure_takes low bytes fits =
       has_then _ _ (rising_takes size code_len low bytes fits) (λ entry h0.
@@ -257,12 +337,17 @@ module _ (size : ℕ) (version : Version) (code_len : ℕ) where
       let parts : bytes ≡ procedure_bytes version made ++ ps.1 = j4 ∙ ap (λ (t : List ℕ). t ++ ps.1) regrouped in
       has_ok (made, ps.1) (record { parts = parts; rest_fits = h4.rest_fits; keeps = kept }))))))
 
-  pub procedures_take : (count : ℕ) (bytes : List ℕ) → IsBytes bytes → Has (procedure_rows_at size version code_len count bytes) (Spelled bytes (flat_map (procedure_bytes version)) (λ rows. (length rows ≡ count) × InOrder (ProcedureKeeps version code_len) behind_procedure 0 rows))
+  pub procedures_take : (count : ℕ) (bytes : List ℕ) → IsBytes bytes
+      → Has (procedure_rows_at size version code_len count bytes)
+      (Spelled bytes (flat_map (procedure_bytes version))
+      (λ rows. (length rows ≡ count) × InOrder (ProcedureKeeps version code_len) behind_procedure 0 rows))
   unfolding procedure_rows_at
-  procedures_take count bytes fits = list_takes (procedure_row_at size version code_len) behind_procedure (procedure_bytes version) (ProcedureKeeps version code_len) procedure_takes count 0 bytes fits
+  procedures_take count bytes fits = list_takes (procedure_row_at size version code_len) behind_procedure
+      (procedure_bytes version) (ProcedureKeeps version code_len) procedure_takes count 0 bytes fits
 
   module _ (small : code_len < 2 ^ 32) where
-    procedure_again : (low : ℕ) (row : Procedure) (rest : List ℕ) → ProcedureKeeps version code_len low row → procedure_row_at size version code_len low (procedure_bytes version row ++ rest) ≡ Ok (row, rest)
+    procedure_again : (low : ℕ) (row : Procedure) (rest : List ℕ) → ProcedureKeeps version code_len low row
+        → procedure_row_at size version code_len low (procedure_bytes version row ++ rest) ≡ Ok (row, rest)
     unfolding procedure_row_at procedure_bytes
     procedure_again low row rest h =
         let tail4 = u16_bytes (length row.parameters) ++ (flat_map (parameter_bytes version) row.parameters ++ rest) in
@@ -280,36 +365,48 @@ module _ (size : ℕ) (version : Version) (code_len : ℕ) where
         (step _ (number_again size 8 u64_bytes (2 ^ 64) wide64 row.number tail4 h.number_fits)
         (step _ (parameters_again size version row.hi h.hi_high row.parameters rest h.few h.parameters) refl))))
 
-    pub procedures_again : (rows : List Procedure) (rest : List ℕ) → InOrder (ProcedureKeeps version code_len) behind_procedure 0 rows → procedure_rows_at size version code_len (length rows) (flat_map (procedure_bytes version) rows ++ rest) ≡ Ok (rows, rest)
+    pub procedures_again : (rows : List Procedure) (rest : List ℕ)
+        → InOrder (ProcedureKeeps version code_len) behind_procedure 0 rows
+        → procedure_rows_at size version code_len (length rows) (flat_map (procedure_bytes version) rows ++ rest)
+        ≡ Ok (rows, rest)
     unfolding procedure_rows_at
-    procedures_again rows rest h = list_again (procedure_row_at size version code_len) behind_procedure (procedure_bytes version) (ProcedureKeeps version code_len) procedure_again rows 0 rest h
+    procedures_again rows rest h = list_again (procedure_row_at size version code_len) behind_procedure
+        (procedure_bytes version) (ProcedureKeeps version code_len) procedure_again rows 0 rest h
 
 -- ---- table rows
 
 -- words that all lie from lo to hi
-pub all_within : (lo hi : ℤ) (words : List ℤ) → list_all (is_within lo hi) words ≡ true → AllByRecursion (IsWithin lo hi) words
+pub all_within : (lo hi : ℤ) (words : List ℤ) → list_all (is_within lo hi) words ≡ true
+    → AllByRecursion (IsWithin lo hi) words
 all_within lo hi [] e = tt
 all_within lo hi (word ∷ words) e =
     let both = and_parts (is_within lo hi word) (list_all (is_within lo hi) words) e in
     let ends = and_parts (int_le lo word) (int_le word hi) both.0 in
     (record { low = int_le-true _ _ ends.0; high = int_le-true _ _ ends.1 }, all_within lo hi words both.1)
 
-pub within_all : (lo hi : ℤ) (words : List ℤ) → AllByRecursion (IsWithin lo hi) words → list_all (is_within lo hi) words ≡ true
+pub within_all : (lo hi : ℤ) (words : List ℤ) → AllByRecursion (IsWithin lo hi) words
+    → list_all (is_within lo hi) words ≡ true
 within_all lo hi [] h = refl
 within_all lo hi (word ∷ words) h = rw (int_le-le _ _ h.0.low, int_le-le _ _ h.0.high) (within_all lo hi words h.1)
 
 module _ (size : ℕ) where
-  table_start_takes : (low : ℕ) (bytes : List ℕ) → IsBytes bytes → Has (table_start_at size low bytes) (Spelled bytes u32_bytes (λ n. IsTrue (is_multiple_of_four n) × (low ≤ n)))
+  table_start_takes : (low : ℕ) (bytes : List ℕ) → IsBytes bytes
+      → Has (table_start_at size low bytes) (Spelled bytes u32_bytes (λ n. IsTrue (is_multiple_of_four n) × (low ≤ n)))
   unfolding table_start_at
   table_start_takes low bytes fits =
-      let aligned = tested_takes {Q = λ n. IsTrue (is_multiple_of_four n)} _ _ _ _ (u32_takes size bytes fits) (λ n below aligned. aligned) in
+      let aligned = tested_takes {Q = λ n. IsTrue (is_multiple_of_four n)} _ _ _ _ (u32_takes size bytes fits)
+          (λ n below aligned. aligned) in
       tested_takes _ _ _ _ aligned (λ n aligned apart. (aligned, leb-true _ _ apart))
 
-  table_start_again : (low n : ℕ) (rest : List ℕ) → n < 2 ^ 32 → IsTrue (is_multiple_of_four n) → low ≤ n → table_start_at size low (u32_bytes n ++ rest) ≡ Ok (n, rest)
+  table_start_again : (low n : ℕ) (rest : List ℕ) → n < 2 ^ 32 → IsTrue (is_multiple_of_four n) → low ≤ n
+      → table_start_at size low (u32_bytes n ++ rest) ≡ Ok (n, rest)
   unfolding table_start_at
-  table_start_again low n rest fits aligned apart = tested_again _ _ _ _ (tested_again _ _ _ _ (u32_again size n rest fits) aligned) (le-leb _ _ apart)
+  table_start_again low n rest fits aligned apart =
+      tested_again _ _ _ _ (tested_again _ _ _ _ (u32_again size n rest fits) aligned) (le-leb _ _ apart)
 
-  table_end_takes : (const_len start : ℕ) (bytes : List ℕ) → IsBytes bytes → Has (table_end_at size const_len start bytes) (Spelled bytes u32_bytes (λ n. IsTrue (is_multiple_of_four n) × (start < n) × (n ≤ const_len)))
+  table_end_takes : (const_len start : ℕ) (bytes : List ℕ) → IsBytes bytes
+      → Has (table_end_at size const_len start bytes)
+      (Spelled bytes u32_bytes (λ n. IsTrue (is_multiple_of_four n) × (start < n) × (n ≤ const_len)))
   unfolding table_end_at
   table_end_takes const_len start bytes fits =
       tested_takes _ _ _ _ (u32_takes size bytes fits) (λ n below all.
@@ -317,18 +414,22 @@ module _ (size : ℕ) where
       let first = and_parts (is_multiple_of_four n) (ltb start n) both.0 in
       (first.0, ltb-true _ _ first.1, leb-true _ _ both.1))
 
-  table_end_again : (const_len start n : ℕ) (rest : List ℕ) → n < 2 ^ 32 → IsTrue (is_multiple_of_four n) → start < n → n ≤ const_len → table_end_at size const_len start (u32_bytes n ++ rest) ≡ Ok (n, rest)
+  table_end_again : (const_len start n : ℕ) (rest : List ℕ) → n < 2 ^ 32 → IsTrue (is_multiple_of_four n) → start < n
+      → n ≤ const_len → table_end_at size const_len start (u32_bytes n ++ rest) ≡ Ok (n, rest)
   unfolding table_end_at
-  table_end_again const_len start n rest fits aligned ordered inside = tested_again _ _ _ _ (u32_again size n rest fits) (rw (aligned, lt-ltb _ _ ordered, le-leb _ _ inside) refl)
+  table_end_again const_len start n rest fits aligned ordered inside =
+      tested_again _ _ _ _ (u32_again size n rest fits) (rw (aligned, lt-ltb _ _ ordered, le-leb _ _ inside) refl)
 
 module _ (size : ℕ) (constants : List ℕ) where
-  table_takes : (low : ℕ) (bytes : List ℕ) → IsBytes bytes → Has (table_row_at size constants low bytes) (Spelled bytes table_row_bytes (TableKeeps constants low))
+  table_takes : (low : ℕ) (bytes : List ℕ) → IsBytes bytes
+      → Has (table_row_at size constants low bytes) (Spelled bytes table_row_bytes (TableKeeps constants low))
   unfolding table_row_at table_row_bytes
   table_takes low bytes fits =
       has_then _ _ (table_start_takes size low bytes fits) (λ start h0.
       has_then _ _ (table_end_takes size (length constants) start.0 start.1 h0.rest_fits) (λ end h1.
       let words = words_of (take (end.0 - start.0) (drop start.0 constants)) in
-      let read = tested_takes {Q = λ r. IsInterval r.0 r.1 × AllByRecursion (IsWithin r.0 r.1) words} _ _ _ _ (interval_takes size end.1 h1.rest_fits) (λ r ordered within. (ordered, all_within r.0 r.1 words within)) in
+      let read = tested_takes {Q = λ r. IsInterval r.0 r.1 × AllByRecursion (IsWithin r.0 r.1) words} _ _ _ _
+          (interval_takes size end.1 h1.rest_fits) (λ r ordered within. (ordered, all_within r.0 r.1 words within)) in
       has_then _ _ read (λ range h2.
       let made : TableRow = record { start = start.0; end = end.0; lo = range.0.0; hi = range.0.1 } in
       let kept : TableKeeps constants low made = record {
@@ -341,17 +442,24 @@ module _ (size : ℕ) (constants : List ℕ) where
         words = h2.keeps.1;
       } in
       let front = join (u32_bytes start.0) (u32_bytes end.0) end.1 h0.parts h1.parts in
-      let whole = join (u32_bytes start.0 ++ u32_bytes end.0) (i32_bytes range.0.0 ++ i32_bytes range.0.1) range.1 front h2.parts in
-      let regrouped : (u32_bytes start.0 ++ u32_bytes end.0) ++ (i32_bytes range.0.0 ++ i32_bytes range.0.1) ≡ table_row_bytes made = simp append_assoc in
+      let whole = join (u32_bytes start.0 ++ u32_bytes end.0)
+          (i32_bytes range.0.0 ++ i32_bytes range.0.1) range.1 front h2.parts in
+      let regrouped : (u32_bytes start.0 ++ u32_bytes end.0) ++ (i32_bytes range.0.0 ++ i32_bytes range.0.1)
+          ≡ table_row_bytes made = simp append_assoc in
       let parts : bytes ≡ table_row_bytes made ++ range.1 = whole ∙ ap (λ (t : List ℕ). t ++ range.1) regrouped in
       has_ok (made, range.1) (record { parts = parts; rest_fits = h2.rest_fits; keeps = kept }))))
 
-  pub tables_take : (count : ℕ) (bytes : List ℕ) → IsBytes bytes → Has (table_rows_at size constants count bytes) (Spelled bytes (flat_map table_row_bytes) (λ rows. (length rows ≡ count) × InOrder (TableKeeps constants) behind_table 0 rows))
+  pub tables_take : (count : ℕ) (bytes : List ℕ) → IsBytes bytes
+      → Has (table_rows_at size constants count bytes)
+      (Spelled bytes (flat_map table_row_bytes)
+      (λ rows. (length rows ≡ count) × InOrder (TableKeeps constants) behind_table 0 rows))
   unfolding table_rows_at
-  tables_take count bytes fits = list_takes (table_row_at size constants) behind_table table_row_bytes (TableKeeps constants) table_takes count 0 bytes fits
+  tables_take count bytes fits = list_takes (table_row_at size constants) behind_table table_row_bytes
+      (TableKeeps constants) table_takes count 0 bytes fits
 
   module _ (small : length constants < 2 ^ 32) where
-    table_again : (low : ℕ) (row : TableRow) (rest : List ℕ) → TableKeeps constants low row → table_row_at size constants low (table_row_bytes row ++ rest) ≡ Ok (row, rest)
+    table_again : (low : ℕ) (row : TableRow) (rest : List ℕ) → TableKeeps constants low row
+        → table_row_at size constants low (table_row_bytes row ++ rest) ≡ Ok (row, rest)
     unfolding table_row_at table_row_bytes
     table_again low row rest h =
         let tail2 = i32_bytes row.lo ++ (i32_bytes row.hi ++ rest) in
@@ -361,9 +469,14 @@ module _ (size : ℕ) (constants : List ℕ) where
         let start_fits : row.start < 2 ^ 32 = let ordered = h.ordered in omega arith in
         ap (table_row_at size constants low) regrouped
         ∙ step _ (table_start_again size low row.start tail1 start_fits h.start_aligned h.apart)
-        (step _ (table_end_again size (length constants) row.start row.end tail2 end_fits h.end_aligned h.ordered h.inside)
-        (step _ (tested_again _ _ _ _ (interval_again size row.lo row.hi rest h.range) (within_all row.lo row.hi (words_of (take (row.end - row.start) (drop row.start constants))) h.words)) refl))
+        (step _ (table_end_again size
+            (length constants) row.start row.end tail2 end_fits h.end_aligned h.ordered h.inside)
+        (step _ (tested_again _ _ _ _ (interval_again size row.lo row.hi rest h.range)
+            (within_all row.lo row.hi (words_of (take (row.end - row.start)
+            (drop row.start constants))) h.words)) refl))
 
-    pub tables_again : (rows : List TableRow) (rest : List ℕ) → InOrder (TableKeeps constants) behind_table 0 rows → table_rows_at size constants (length rows) (flat_map table_row_bytes rows ++ rest) ≡ Ok (rows, rest)
+    pub tables_again : (rows : List TableRow) (rest : List ℕ) → InOrder (TableKeeps constants) behind_table 0 rows
+        → table_rows_at size constants (length rows) (flat_map table_row_bytes rows ++ rest) ≡ Ok (rows, rest)
     unfolding table_rows_at
-    tables_again rows rest h = list_again (table_row_at size constants) behind_table table_row_bytes (TableKeeps constants) table_again rows 0 rest h
+    tables_again rows rest h = list_again (table_row_at size constants) behind_table table_row_bytes
+        (TableKeeps constants) table_again rows 0 rest h

@@ -8,11 +8,13 @@ use Rattle.module_format.proofs.Tools.{Has, has_at}
 
 -- what a cursor took that had not failed
 pub took_after : {A : Type 0} (reader : List ℕ → Read A) (old : Option ReadError) (bytes : List ℕ) (x : A)
-    (new : Option ReadError) (left : List ℕ) → old ≡ None → Took (reader bytes) x new left → TookAfter reader old bytes x new left
+    (new : Option ReadError) (left : List ℕ) → old ≡ None → Took (reader bytes) x new left
+        → TookAfter reader old bytes x new left
 took_after reader None bytes x new left unfailed took = took
 took_after reader (Some e) bytes x new left unfailed took = grind (arith, unfailed)
 
-pub took_all : {A : Type 0} {read : Read A} (x : A) (new : Option ReadError) (left : List ℕ) → new ≡ None → read ≡ Ok (x, left)
+pub took_all : {A : Type 0} {read : Read A} (x : A) (new : Option ReadError) (left : List ℕ) → new ≡ None
+    → read ≡ Ok (x, left)
     → Took read x new left
 took_all x None left unfailed e = e
 took_all x (Some e) left unfailed h = grind (arith, unfailed)
@@ -26,7 +28,8 @@ took_ok reader None bytes x (Some e) left still took = grind (arith, still)
 took_ok reader (Some e) bytes x new left still took = grind (arith, still, took)
 
 -- what is known of all that a reader gives, where the cursor didn't fail
-pub took_has : {A : Type 0} {Q : A × List ℕ → Type 0} (reader : List ℕ → Read A) (old : Option ReadError) (bytes : List ℕ) (x : A)
+pub took_has : {A : Type 0} {Q : A × List ℕ → Type 0} (reader : List ℕ → Read A) (old : Option ReadError)
+    (bytes : List ℕ) (x : A)
     (new : Option ReadError) (left : List ℕ) → new ≡ None → TookAfter reader old bytes x new left
     → Has (reader bytes) Q → Q (x, left)
 took_has reader None bytes x None left still took has = has_at (reader bytes) (x, left) has took

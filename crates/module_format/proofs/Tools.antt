@@ -1,5 +1,6 @@
 -- What a reader takes and what it reads again: the tools, for any kind of value.
-use Rattle.std.proofs.Common.{◌≡◌, ℕ, zero, suc, Bool, true, false, cond, List, [], ◌∷◌, ◌++◌, length, Result, Ok, Err, refl, sym, ap, subst, ◌∙◌, append_assoc}
+use Rattle.std.proofs.Common.{◌≡◌, ℕ, zero, suc, Bool, true, false, cond, List, [], ◌∷◌, ◌++◌, length, Result, Ok, Err}
+use Rattle.std.proofs.Common.{refl, sym, ap, subst, ◌∙◌, append_assoc}
 use Rattle.std.specs.Prelude.{IfOk}
 use Rattle.std.specs.List.{flat_map}
 use Rattle.std.proofs.lemmas.List.Concat.{flat_map-cons}
@@ -19,23 +20,27 @@ pub has_err : {A : Type 0} {Q : A → Type 0} (f : FormatFault) → Has {A = A} 
 has_err f = record { given = tt }
 
 -- step by step
-pub has_then : {A B : Type 0} {Q : A → Type 0} {R : B → Type 0} (r : Result A FormatFault) (k : A → Result B FormatFault) → Has r Q → ((x : A) → Q x → Has (k x) R) → Has (and_then r k) R
+pub has_then : {A B : Type 0} {Q : A → Type 0} {R : B → Type 0} (r : Result A FormatFault)
+    (k : A → Result B FormatFault) → Has r Q → ((x : A) → Q x → Has (k x) R) → Has (and_then r k) R
 unfolding and_then
 has_then (Ok x) k h next = next x h.given
 has_then (Err f) k h next = has_err f
 
 -- behind a test that refuses
-pub has_unless : {A : Type 0} {Q : A → Type 0} (b : Bool) (f : FormatFault) (r : Result A FormatFault) → (b ≡ false → Has r Q) → Has (cond b (Err f) r) Q
+pub has_unless : {A : Type 0} {Q : A → Type 0} (b : Bool) (f : FormatFault) (r : Result A FormatFault)
+    → (b ≡ false → Has r Q) → Has (cond b (Err f) r) Q
 has_unless true f r h = has_err f
 has_unless false f r h = h refl
 
 -- behind a test that lets pass
-pub has_if : {A : Type 0} {Q : A → Type 0} (b : Bool) (f : FormatFault) (r : Result A FormatFault) → (b ≡ true → Has r Q) → Has (cond b r (Err f)) Q
+pub has_if : {A : Type 0} {Q : A → Type 0} (b : Bool) (f : FormatFault) (r : Result A FormatFault)
+    → (b ≡ true → Has r Q) → Has (cond b r (Err f)) Q
 has_if true f r h = h refl
 has_if false f r h = has_err f
 
 -- behind a choice
-pub has_cond : {A : Type 0} {Q : A → Type 0} (b : Bool) (r s : Result A FormatFault) → (b ≡ true → Has r Q) → (b ≡ false → Has s Q) → Has (cond b r s) Q
+pub has_cond : {A : Type 0} {Q : A → Type 0} (b : Bool) (r s : Result A FormatFault) → (b ≡ true → Has r Q)
+    → (b ≡ false → Has s Q) → Has (cond b r s) Q
 has_cond true r s h g = h refl
 has_cond false r s h g = g refl
 
@@ -47,12 +52,14 @@ pub has_at : {A : Type 0} {Q : A → Type 0} (r : Result A FormatFault) (x : A) 
 has_at {A = A} {Q = Q} r x h e = (subst (λ (s : Result A FormatFault). Has s Q) e h).given
 
 -- a step whose value is known
-pub step : {A B : Type 0} {r : Result A FormatFault} {x : A} {y : Result B FormatFault} (k : A → Result B FormatFault) → r ≡ Ok x → k x ≡ y → and_then r k ≡ y
+pub step : {A B : Type 0} {r : Result A FormatFault} {x : A} {y : Result B FormatFault} (k : A → Result B FormatFault)
+    → r ≡ Ok x → k x ≡ y → and_then r k ≡ y
 unfolding and_then
 step k e f = rw e f
 
 -- what a reader took from the front: the bytes of a value that keeps P
-pub record Spelled {A : Type 0} (bytes : List ℕ) (spelling : A → List ℕ) (P : A → Type 0) (x : A × List ℕ) : Type 0 where
+pub record Spelled {A : Type 0} (bytes : List ℕ) (spelling : A → List ℕ) (P : A → Type 0)
+    (x : A × List ℕ) : Type 0 where
   pub parts : bytes ≡ spelling x.0 ++ x.1
   pub rest_fits : IsBytes x.1
   pub keeps : P x.0
@@ -69,7 +76,8 @@ tested_takes (Ok x) test kind at h kept =
     has_ok x (record { parts = g.parts; rest_fits = g.rest_fits; keeps = kept x.0 g.keeps passed }))
 tested_takes (Err f) test kind at h kept = has_err f
 
-pub tested_again : {A : Type 0} {x : A} {rest : List ℕ} (read : Read A) (test : A → Bool) (kind : FormatFaultKind) (at : ℕ)
+pub tested_again : {A : Type 0} {x : A} {rest : List ℕ} (read : Read A) (test : A → Bool) (kind : FormatFaultKind)
+    (at : ℕ)
     → read ≡ Ok (x, rest) → test x ≡ true → tested read test kind at ≡ Ok (x, rest)
 unfolding tested
 tested_again read test kind at e passed = rw (e, passed) refl
@@ -78,15 +86,22 @@ tested_again read test kind at e passed = rw (e, passed) refl
 pub join : (a b s : List ℕ) {bytes r : List ℕ} → bytes ≡ a ++ r → r ≡ b ++ s → bytes ≡ (a ++ b) ++ s
 join a b s p q = p ∙ ap (λ (t : List ℕ). a ++ t) q ∙ sym (append_assoc a b s)
 
-module _ {A S : Type 0} (item : S → List ℕ → Read A) (next : S → A → S) (spelling : A → List ℕ) (Keeps : S → A → Type 0) where
+module _ {A S : Type 0} (item : S → List ℕ → Read A) (next : S → A → S) (spelling : A → List ℕ)
+    (Keeps : S → A → Type 0) where
   -- a list of what an item's reader takes
-  pub list_takes : ((low : S) (bytes : List ℕ) → IsBytes bytes → Has (item low bytes) (Spelled bytes spelling (Keeps low)))
-      → (n : ℕ) (low : S) (bytes : List ℕ) → IsBytes bytes → Has (list_at item next n low bytes) (Spelled bytes (flat_map spelling) (λ xs. (length xs ≡ n) × InOrder Keeps next low xs))
+  pub list_takes : ((low : S) (bytes : List ℕ) → IsBytes bytes → Has (item low bytes)
+      (Spelled bytes spelling (Keeps low)))
+      → (n : ℕ) (low : S) (bytes : List ℕ) → IsBytes bytes
+          → Has (list_at item next n low bytes)
+          (Spelled bytes (flat_map spelling) (λ xs. (length xs ≡ n) × InOrder Keeps next low xs))
   unfolding list_at
-  list_takes one zero low bytes fits = has_ok ([], bytes) (record { parts = refl; rest_fits = fits; keeps = (refl, tt) })
+  list_takes one zero low bytes fits =
+      has_ok ([], bytes) (record { parts = refl; rest_fits = fits; keeps = (refl, tt) })
   list_takes one (suc n) low bytes fits =
-      has_then (item low bytes) (λ first. list_at item next n (next low first.0) first.1 >>= λ others. Ok (first.0 ∷ others.0, others.1)) (one low bytes fits) (λ first h.
-      has_then (list_at item next n (next low first.0) first.1) (λ others. Ok (first.0 ∷ others.0, others.1)) (list_takes one n (next low first.0) first.1 h.rest_fits) (λ others g.
+      has_then (item low bytes) (λ first. list_at item next n (next low first.0) first.1 >>= λ others. Ok
+          (first.0 ∷ others.0, others.1)) (one low bytes fits) (λ first h.
+      has_then (list_at item next n (next low first.0) first.1) (λ others. Ok (first.0 ∷ others.0, others.1))
+          (list_takes one n (next low first.0) first.1 h.rest_fits) (λ others g.
       has_ok (first.0 ∷ others.0, others.1) (record {
         parts = rw flat_map-cons (join (spelling first.0) (flat_map spelling others.0) others.1 h.parts g.parts);
         rest_fits = g.rest_fits;
@@ -95,9 +110,14 @@ module _ {A S : Type 0} (item : S → List ℕ → Read A) (next : S → A → S
 
   -- and read again
   pub list_again : ((low : S) (x : A) (rest : List ℕ) → Keeps low x → item low (spelling x ++ rest) ≡ Ok (x, rest))
-      → (xs : List A) (low : S) (rest : List ℕ) → InOrder Keeps next low xs → list_at item next (length xs) low (flat_map spelling xs ++ rest) ≡ Ok (xs, rest)
+      → (xs : List A) (low : S) (rest : List ℕ) → InOrder Keeps next low xs
+          → list_at item next (length xs) low (flat_map spelling xs ++ rest) ≡ Ok (xs, rest)
   unfolding list_at
   list_again one [] low rest h = refl
   list_again one (x ∷ xs) low rest h =
-      let regrouped : flat_map spelling (x ∷ xs) ++ rest ≡ spelling x ++ (flat_map spelling xs ++ rest) = ap (λ (t : List ℕ). t ++ rest) (flat_map-cons spelling x xs) ∙ append_assoc (spelling x) (flat_map spelling xs) rest in
-      ap (list_at item next (suc (length xs)) low) regrouped ∙ step _ (one low x (flat_map spelling xs ++ rest) h.0) (step _ (list_again one xs (next low x) rest h.1) refl)
+      let regrouped : flat_map spelling (x ∷ xs) ++ rest ≡ spelling x ++ (flat_map spelling xs ++ rest) =
+          ap (λ (t : List ℕ). t ++ rest) (flat_map-cons spelling x xs)
+          ∙ append_assoc (spelling x) (flat_map spelling xs) rest in
+      ap (list_at item next (suc (length xs)) low) regrouped
+          ∙ step _ (one low x (flat_map spelling xs ++ rest) h.0)
+          (step _ (list_again one xs (next low x) rest h.1) refl)

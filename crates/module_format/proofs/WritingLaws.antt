@@ -14,19 +14,22 @@ use Rattle.module_format.proofs.OrderLaws.{each}
 
 -- one piece written behind another
 pub grows : (before p q : List ℕ) {started half done : Bool} {between after : List ℕ}
-    → (half ≡ false → (started ≡ false) × (between ≡ before ++ p)) → (done ≡ false → (half ≡ false) × (after ≡ between ++ q))
+    → (half ≡ false → (started ≡ false) × (between ≡ before ++ p))
+        → (done ≡ false → (half ≡ false) × (after ≡ between ++ q))
     → done ≡ false → (started ≡ false) × (after ≡ before ++ (p ++ q))
 grows before p q e f = λ ok.
     let second = f ok in
     let first = e second.0 in
     (first.0, rw (second.1, first.1) (append_assoc before p q))
 
-unmapped : {A B : Type 0} (view : A → B) (Fits : B → Type 0) (xs : List A) → AllByRecursion Fits (map view xs) → AllByRecursion (λ x. Fits (view x)) xs
+unmapped : {A B : Type 0} (view : A → B) (Fits : B → Type 0) (xs : List A) → AllByRecursion Fits (map view xs)
+    → AllByRecursion (λ x. Fits (view x)) xs
 unmapped view Fits [] h = tt
 unmapped view Fits (x ∷ xs) h = (h.0, unmapped view Fits xs h.1)
 
 -- the item at an index fits where all do
-pub item_fits : {A B : Type 0} (view : A → B) (Fits : B → Type 0) (xs : List A) → AllByRecursion Fits (map view xs) → All (λ x. Fits (view x)) xs
+pub item_fits : {A B : Type 0} (view : A → B) (Fits : B → Type 0) (xs : List A) → AllByRecursion Fits (map view xs)
+    → All (λ x. Fits (view x)) xs
 item_fits view Fits xs h = All-from_recursion (λ x. Fits (view x)) xs (unmapped view Fits xs h)
 
 -- ---- rows that keep their rules can be written
@@ -35,21 +38,29 @@ pub nothing_asked : {A : Type 0} (xs : List A) → AllByRecursion (λ (x : A). �
 nothing_asked [] = tt
 nothing_asked (x ∷ xs) = (tt, nothing_asked xs)
 
-pub procedures_writable : (c : Contents) → RowsKeep c → AllByRecursion (λ (row : Procedure). length row.parameters < 2 ^ 16) c.procedures
+pub procedures_writable : (c : Contents) → RowsKeep c
+    → AllByRecursion (λ (row : Procedure). length row.parameters < 2 ^ 16) c.procedures
 procedures_writable c k =
-    each (ProcedureKeeps c.version (length c.code)) behind_procedure (λ row. length row.parameters < 2 ^ 16) (λ low row h. omega (arith, h.few)) 0 c.procedures k.procedures
+    each (ProcedureKeeps c.version (length c.code)) behind_procedure (λ row. length row.parameters < 2 ^ 16)
+        (λ low row h. omega (arith, h.few)) 0 c.procedures k.procedures
 
-pub labels_writable : (c : Contents) → RowsKeep c → AllByRecursion (λ (row : Label). length row.entries < 2 ^ 16) c.labels
-labels_writable c k = each (LabelKeeps (length c.code) c.procedures) behind_label (λ row. length row.entries < 2 ^ 16) (λ low row h. h.facts.count_fits) 0 c.labels k.labels
+pub labels_writable : (c : Contents) → RowsKeep c
+    → AllByRecursion (λ (row : Label). length row.entries < 2 ^ 16) c.labels
+labels_writable c k = each (LabelKeeps (length c.code) c.procedures) behind_label (λ row. length row.entries < 2 ^ 16)
+    (λ low row h. h.facts.count_fits) 0 c.labels k.labels
 
 branch_writable : (code_len : ℕ) (before : Before) (b : Branch) → BranchKeeps code_len before b → BranchIsWritable b
 branch_writable code_len before b h =
     let g = h.gifts in
-    record { writes = g.write_count; reads = g.read_count; written_parameters = g.written_count; read_parameters = g.read_parameter_count; ends = g.end_count }
+    record { writes = g.write_count; reads = g.read_count; written_parameters = g.written_count;
+        read_parameters = g.read_parameter_count; ends = g.end_count }
 
 par_writable : (own code_len : ℕ) (before : Before) (row : Par) → ParKeeps own code_len before row → ParIsWritable row
 par_writable own code_len before row h =
-    record { channels = h.channel_count; branch_count = omega (arith, h.branch_limit); branches = each (BranchKeeps code_len) behind_branch BranchIsWritable (branch_writable code_len) before row.branches h.branches }
+    record { channels = h.channel_count; branch_count = omega (arith, h.branch_limit);
+        branches = each (BranchKeeps code_len) behind_branch BranchIsWritable
+        (branch_writable code_len) before row.branches h.branches }
 
 pub pars_writable : (c : Contents) → RowsKeep c → AllByRecursion ParIsWritable c.pars
-pars_writable c k = each (ParKeeps (first_branch c) (length c.code)) behind_par ParIsWritable (par_writable (first_branch c) (length c.code)) no_branches c.pars k.pars
+pars_writable c k = each (ParKeeps (first_branch c) (length c.code)) behind_par ParIsWritable
+    (par_writable (first_branch c) (length c.code)) no_branches c.pars k.pars

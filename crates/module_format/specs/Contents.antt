@@ -70,7 +70,8 @@ pub record Contents : Type 0 where
 
 -- the rows without where their lists lie in memory
 abbrev pub procedure_of : ProcedureRow → Procedure
-procedure_of row = record { entry = row.entry; lo = row.lo; hi = row.hi; number = row.number; parameters = row.parameters.items }
+procedure_of row =
+    record { entry = row.entry; lo = row.lo; hi = row.hi; number = row.number; parameters = row.parameters.items }
 
 abbrev pub label_of : LabelRow → Label
 label_of row = record {

@@ -1,7 +1,8 @@
 -- The contexts of a module, by number: 0 the root, then the procedures in the order of their rows, then
 -- the branches, PAR row by PAR row. A branch belongs to the root or procedure of its PAR's context, and
 -- uses the same frame words.
-use Rattle.std.specs.Prelude.{ℕ, ◌+◌, ◌^◌, ◌<◌, ◌-◌, ◌==◌, pos, neg_ℤ, ◌-ℤ◌, nat_lt, if◌then◌else◌, List, [], ◌∷◌, length, sum_by, slice_get, Option, Some, None, option_map}
+use Rattle.std.specs.Prelude.{ℕ, ◌+◌, ◌^◌, ◌<◌, ◌-◌, ◌==◌, pos, neg_ℤ, ◌-ℤ◌, nat_lt, if◌then◌else◌, List, [], ◌∷◌}
+use Rattle.std.specs.Prelude.{length, sum_by, slice_get, Option, Some, None, option_map}
 use Rattle.module_format.specs.declared.contexts.Context.{Context}
 use Rattle.module_format.specs.declared.rows.Parameter.{Parameter}
 use Rattle.module_format.specs.Contents.{Procedure, Par, Contents}

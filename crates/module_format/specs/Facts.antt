@@ -1,5 +1,6 @@
 -- The rules of facts, entries and label rows, each by itself.
-use Rattle.std.specs.Prelude.{◌≡◌, ◌≢◌, ⊤, ℕ, ◌^◌, ◌<◌, ◌≤◌, nat_le, ℤ, pos, ◌+ℤ◌, ◌≤ℤ◌, int_le, FitsSigned, Bool, ◌&&◌, IsTrue, List, length}
+use Rattle.std.specs.Prelude.{◌≡◌, ◌≢◌, ⊤, ℕ, ◌^◌, ◌<◌, ◌≤◌, nat_le, ℤ, pos, ◌+ℤ◌, ◌≤ℤ◌, int_le, FitsSigned, Bool, ◌&&◌}
+use Rattle.std.specs.Prelude.{IsTrue, List, length}
 use Rattle.std.specs.List.{AllByRecursion}
 use Rattle.std.specs.Int.{w32}
 use Rattle.module_format.specs.declared.fact.Fact.{Fact}
@@ -22,7 +23,8 @@ pub record IsPointer (region : ℕ) (lo hi : ℤ) (step : Step) : Type 0 where
 
 -- a loop whose index begins at `base` may have so many turns: the number and the last index are words
 abbrev pub is_loop_length : ℤ → ℕ → Bool
-is_loop_length base count = nat_le 1 count && int_le (pos count) greatest_word && int_le (base +ℤ pos count) (pos 2147483648)
+is_loop_length base count =
+    nat_le 1 count && int_le (pos count) greatest_word && int_le (base +ℤ pos count) (pos 2147483648)
 
 -- A loop of `count` turns, whose index begins at `base`: its last index is a word.
 pub record IsLoop (base : ℤ) (count weight : ℕ) : Type 0 where

@@ -1,5 +1,6 @@
 -- The rules of the format, on what a file says, and which contents a file has.
-use Rattle.std.specs.Prelude.{◌≡◌, ⊤, ℕ, ◌+◌, ◌<◌, ◌≤◌, pos, negsuc, ◌≤ℤ◌, Bool, true, false, nat_lt, IsTrue, List, [], length, slice_get, Some, None, MatchOption}
+use Rattle.std.specs.Prelude.{◌≡◌, ⊤, ℕ, ◌+◌, ◌<◌, ◌≤◌, pos, negsuc, ◌≤ℤ◌, Bool, true, false, nat_lt, IsTrue, List, []}
+use Rattle.std.specs.Prelude.{length, slice_get, Some, None, MatchOption}
 use Rattle.std.specs.List.{AllByRecursion}
 use Rattle.module_format.specs.declared.fact.Fact.{Fact}
 use Rattle.module_format.specs.declared.fact.Fact.TheVariants as facts
@@ -13,7 +14,9 @@ use Rattle.module_format.specs.declared.rows.EndRow.{EndRow}
 use Rattle.module_format.specs.declared.rows.TableRow.{TableRow}
 use Rattle.module_format.specs.declared.tables.Version.{Version}
 use Rattle.module_format.specs.declared.tables.Version.TheVariants as versions
-use Rattle.module_format.specs.declared.limits.TheConstants.{MAX_CODE, MAX_LONG_CODE, MAX_CONSTANTS, MAX_DATA_WORDS, MAX_BUDGET, MAX_MESSAGE, MAX_PROCEDURES, MAX_LABELS, MAX_PARS, MAX_TABLES}
+use Rattle.module_format.specs.declared.limits.TheConstants.{MAX_CODE, MAX_LONG_CODE, MAX_CONSTANTS, MAX_DATA_WORDS}
+use Rattle.module_format.specs.declared.limits.TheConstants.{MAX_BUDGET, MAX_MESSAGE, MAX_PROCEDURES, MAX_LABELS}
+use Rattle.module_format.specs.declared.limits.TheConstants.{MAX_PARS, MAX_TABLES}
 use Rattle.module_format.specs.Order.{IsBytes, InOrder}
 use Rattle.module_format.specs.Contents.{Label, Branch, Par, Contents}
 use Rattle.module_format.specs.Facts.{LabelKeeps, behind_label, end_of}

@@ -1,7 +1,10 @@
 -- What is looked at once all rows are read, in the order of the file: whether what the rows name is there.
-use Rattle.std.specs.Prelude.{⊤, ℕ, ◌+◌, int_lt, nat_lt, if◌then◌else◌, List, [], ◌∷◌, length, Option, Some, None, Result, Ok, Err}
+use Rattle.std.specs.Prelude.{⊤, ℕ, ◌+◌, int_lt, nat_lt, if◌then◌else◌, List, [], ◌∷◌, length, Option, Some, None}
+use Rattle.std.specs.Prelude.{Result, Ok, Err}
 use Rattle.std.specs.List.{flat_map}
-use Rattle.module_format.specs.declared.row_sizes.TheConstants.{TAG_SIZE, COUNT_SIZE, ENTRY_HEAD_SIZE, LABEL_OFFSET_SIZE, LABEL_HEAD_SIZE, PAR_HEAD_SIZE, BRANCH_HEAD_SIZE}
+use Rattle.module_format.specs.declared.row_sizes.TheConstants.{TAG_SIZE, COUNT_SIZE, ENTRY_HEAD_SIZE}
+use Rattle.module_format.specs.declared.row_sizes.TheConstants.{LABEL_OFFSET_SIZE, LABEL_HEAD_SIZE, PAR_HEAD_SIZE}
+use Rattle.module_format.specs.declared.row_sizes.TheConstants.{BRANCH_HEAD_SIZE}
 use Rattle.module_format.specs.declared.fault.FormatFault.{FormatFault}
 use Rattle.module_format.specs.declared.fault.FormatFaultKind.TheVariants as faults
 use Rattle.module_format.specs.declared.fact.Fact.{Fact}
@@ -11,7 +14,8 @@ use Rattle.module_format.specs.declared.rows.EndRow.{EndRow}
 use Rattle.module_format.specs.declared.rows.Parameter.{Parameter}
 use Rattle.module_format.specs.declared.contexts.Context.{Context}
 use Rattle.module_format.specs.Contents.{Label, Branch, Par, Contents}
-use Rattle.module_format.specs.Spelling.{u16_bytes, fact_bytes, entry_bytes, label_bytes, channel_bytes, interval_bytes, end_bytes, branch_bytes, par_bytes}
+use Rattle.module_format.specs.Spelling.{u16_bytes, fact_bytes, entry_bytes, label_bytes, channel_bytes, interval_bytes}
+use Rattle.module_format.specs.Spelling.{end_bytes, branch_bytes, par_bytes}
 use Rattle.module_format.specs.Contexts.{context_at, parameters_at}
 use Rattle.module_format.specs.Facts.{end_of}
 use Rattle.module_format.specs.Keeping.{is_region, names, names_end}
@@ -21,7 +25,8 @@ abbrev pub passes : Result ⊤ FormatFault
 passes = Ok tt
 
 -- each item in turn, where `at` is the place of the first and spelled gives the bytes of one
-unfoldable pub late_list : {A : Type 0} → (ℕ → A → Result ⊤ FormatFault) → (A → List ℕ) → ℕ → List A → Result ⊤ FormatFault
+unfoldable pub late_list : {A : Type 0} → (ℕ → A → Result ⊤ FormatFault) → (A → List ℕ) → ℕ → List A
+    → Result ⊤ FormatFault
 late_list item spelled at [] = passes
 late_list item spelled at (x ∷ xs) = do
   _ ← item at x
@@ -33,7 +38,8 @@ late_list item spelled at (x ∷ xs) = do
 unfoldable pub late_fact : ℕ → ℕ → Fact → Result ⊤ FormatFault
 late_fact parameters at facts.Unknown = passes
 late_fact parameters at (facts.Number lo hi) = passes
-late_fact parameters at (facts.Pointer region lo hi step) = if nat_lt region (2 + parameters) then passes else Err (fault faults.Range (at + TAG_SIZE))
+late_fact parameters at (facts.Pointer region lo hi step) =
+    if nat_lt region (2 + parameters) then passes else Err (fault faults.Range (at + TAG_SIZE))
 late_fact parameters at (facts.CodeAddress offset) = passes
 late_fact parameters at (facts.Loop base count weight) = passes
 late_fact parameters at facts.ReturnAddress = passes
@@ -42,7 +48,8 @@ late_fact parameters at facts.ReturnAddress = passes
 unfoldable pub late_entry : Context → ℕ → Entry → Result ⊤ FormatFault
 late_entry context at e =
     if int_lt e.word context.lo then Err (fault faults.Range at)
-    else (if int_lt context.hi (end_of e) then Err (fault faults.Range at) else late_fact context.parameters (at + ENTRY_HEAD_SIZE) e.fact)
+    else (if int_lt context.hi (end_of e) then Err (fault faults.Range at) else late_fact context.parameters
+        (at + ENTRY_HEAD_SIZE) e.fact)
 
 -- what a label row says is there in its context; the facts stand 18 bytes behind the row's place, and
 -- the entries behind them and their number
@@ -74,10 +81,12 @@ late_parameter parameters at j = if names is_region parameters j then passes els
 unfoldable pub late_end : List Parameter → ℕ → EndRow → Result ⊤ FormatFault
 late_end parameters at e = if names_end parameters e.kind then passes else Err (fault faults.Range (at + TAG_SIZE))
 
--- what a branch is given is there; its intervals stand 18 bytes behind its place, and the parameters and ends behind them
+-- what a branch is given is there; its intervals stand 18 bytes behind its place, and the parameters and ends behind
+-- them
 unfoldable pub late_branch : List Parameter → ℕ → Branch → Result ⊤ FormatFault
 late_branch parameters at b =
-    let at_written = at + BRANCH_HEAD_SIZE + length (flat_map interval_bytes b.writes) + length (flat_map interval_bytes b.reads) in
+    let at_written =
+        at + BRANCH_HEAD_SIZE + length (flat_map interval_bytes b.writes) + length (flat_map interval_bytes b.reads) in
     let at_read = at_written + length (flat_map u16_bytes b.written_parameters) in do
       _ ← late_list (late_parameter parameters) u16_bytes at_written b.written_parameters
       _ ← late_list (late_parameter parameters) u16_bytes at_read b.read_parameters
@@ -86,7 +95,8 @@ late_branch parameters at b =
 -- the branches of a row stand 18 bytes behind its place and behind its channels
 unfoldable pub late_par : Contents → ℕ → Par → Result ⊤ FormatFault
 late_par c at row =
-    late_list (late_branch (parameters_at c row.context)) branch_bytes (at + PAR_HEAD_SIZE + length (flat_map channel_bytes row.channels)) row.branches
+    late_list (late_branch (parameters_at c row.context)) branch_bytes
+        (at + PAR_HEAD_SIZE + length (flat_map channel_bytes row.channels)) row.branches
 
 -- ---- both, where the label rows begin at `at` and the PAR rows stand behind them
 unfoldable pub late_at : ℕ → Contents → Result ⊤ FormatFault

@@ -1,5 +1,6 @@
 -- Lists whose items keep rules one after the other, and the numbers of a word.
-use Rattle.std.specs.Prelude.{⊤, ℕ, ◌<◌, ◌%◌, ◌==◌, ℤ, negsuc, pos, ◌≤ℤ◌, FitsSigned, unsigned_abs, Bool, List, [], ◌∷◌, slice_index}
+use Rattle.std.specs.Prelude.{⊤, ℕ, ◌<◌, ◌%◌, ◌==◌, ℤ, negsuc, pos, ◌≤ℤ◌, FitsSigned, unsigned_abs, Bool, List, [], ◌∷◌}
+use Rattle.std.specs.Prelude.{slice_index}
 use Rattle.std.specs.Int.{w32}
 
 -- numbers below 256

@@ -1,5 +1,6 @@
 -- The rules of PAR rows, each by itself.
-use Rattle.std.specs.Prelude.{◌≡◌, ◌+◌, ◌^◌, ◌<◌, ◌≤◌, ℕ, nat_lt, ◌==◌, ◌&&◌, ◌||◌, false, ℤ, pos, ◌+ℤ◌, int_lt, int_le, ◌≤ℤ◌, ◌<ℤ◌, FitsSigned, Bool, IsTrue, List, [], ◌∷◌, ◌++◌, map, length}
+use Rattle.std.specs.Prelude.{◌≡◌, ◌+◌, ◌^◌, ◌<◌, ◌≤◌, ℕ, nat_lt, ◌==◌, ◌&&◌, ◌||◌, false, ℤ, pos, ◌+ℤ◌, int_lt, int_le}
+use Rattle.std.specs.Prelude.{◌≤ℤ◌, ◌<ℤ◌, FitsSigned, Bool, IsTrue, List, [], ◌∷◌, ◌++◌, map, length}
 use Rattle.std.specs.List.{AllByRecursion, list_any, flat_map}
 use Rattle.std.specs.Int.{w32}
 use Rattle.module_format.specs.declared.rows.ChannelRow.{ChannelRow}
@@ -79,7 +80,9 @@ direction_number directions.Out = 2
 
 -- the four fields by which ends rise
 abbrev pub key_of : EndRow → EndKey
-key_of e = record { kind = kind_of e.kind; number = number_of e.kind; element = element_of e.kind; direction = direction_number e.direction }
+key_of e =
+    record { kind = kind_of e.kind; number = number_of e.kind; element = element_of e.kind;
+    direction = direction_number e.direction }
 
 -- below every end
 abbrev pub first_key : EndKey

@@ -1,5 +1,6 @@
 -- Where the rows of branches stand, in the order of their contexts.
-use Rattle.std.specs.Prelude.{◌≡◌, ℕ, ◌+◌, ◌<◌, ◌≤◌, nat_lt, if◌then◌else◌, List, map, length, take, slice_get, slice_index_or, Option, Some, None, MatchOption}
+use Rattle.std.specs.Prelude.{◌≡◌, ℕ, ◌+◌, ◌<◌, ◌≤◌, nat_lt, if◌then◌else◌, List, map, length, take, slice_get}
+use Rattle.std.specs.Prelude.{slice_index_or, Option, Some, None, MatchOption}
 use Rattle.std.specs.List.{flat_map}
 use Rattle.module_format.specs.declared.places.Place.{Place}
 use Rattle.module_format.specs.declared.row_owners.RowOwner.{RowOwner}

@@ -1,5 +1,6 @@
 -- The rules of procedure rows and table rows, each by itself.
-use Rattle.std.specs.Prelude.{◌≡◌, ◌^◌, ◌<◌, ◌≤◌, ℕ, nat_le, ℤ, pos, negsuc, ◌≤ℤ◌, ◌<ℤ◌, int_le, ◌-◌, Bool, ◌&&◌, IsTrue, List, [], ◌∷◌, length, take, drop}
+use Rattle.std.specs.Prelude.{◌≡◌, ◌^◌, ◌<◌, ◌≤◌, ℕ, nat_le, ℤ, pos, negsuc, ◌≤ℤ◌, ◌<ℤ◌, int_le, ◌-◌, Bool, ◌&&◌}
+use Rattle.std.specs.Prelude.{IsTrue, List, [], ◌∷◌, length, take, drop}
 use Rattle.std.specs.List.{AllByRecursion}
 use Rattle.std.specs.Int.{w32, cast_signed}
 use Rattle.byteorder.specs.Endian.{little_number}

@@ -1,7 +1,8 @@
 -- Reading a file from its front, with the first fault that is met. A reader takes the bytes that are
 -- left and gives a value and the bytes behind it; `size` is the length of the whole file, so that the
 -- place of what is left is known.
-use Rattle.std.specs.Prelude.{◌≡◌, ⊤, ℕ, zero, suc, ◌-◌, ℤ, int_le, nat_lt, nat_le, Bool, ◌&&◌, if◌then◌else◌, List, [], ◌∷◌, length, take, drop, Result, Ok, Err}
+use Rattle.std.specs.Prelude.{◌≡◌, ⊤, ℕ, zero, suc, ◌-◌, ℤ, int_le, nat_lt, nat_le, Bool, ◌&&◌, if◌then◌else◌, List, []}
+use Rattle.std.specs.Prelude.{◌∷◌, length, take, drop, Result, Ok, Err}
 use Rattle.std.specs.Int.{w32, cast_signed}
 use Rattle.byteorder.specs.Endian.{little_number}
 use Rattle.module_format.specs.declared.fault.FormatFault.{FormatFault}

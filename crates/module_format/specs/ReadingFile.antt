@@ -1,12 +1,14 @@
 -- Reading a whole file.
-use Rattle.std.specs.Prelude.{ℕ, ◌+◌, ◌^◌, ◌<◌, nat_eq, ◌==◌, Bool, false, if◌then◌else◌, List, [], ◌∷◌, length, drop, Result, Ok, Err}
+use Rattle.std.specs.Prelude.{ℕ, ◌+◌, ◌^◌, ◌<◌, nat_eq, ◌==◌, Bool, false, if◌then◌else◌, List, [], ◌∷◌, length, drop}
+use Rattle.std.specs.Prelude.{Result, Ok, Err}
 use Rattle.std.specs.List.{starts_with, flat_map}
 use Rattle.module_format.specs.declared.fault.FormatFault.{FormatFault}
 use Rattle.module_format.specs.declared.fault.FormatFaultKind.TheVariants as faults
 use Rattle.module_format.specs.declared.tables.Version.{Version}
 use Rattle.module_format.specs.declared.tables.Version.TheVariants as versions
 use Rattle.module_format.specs.declared.rows.TableRow.{TableRow}
-use Rattle.module_format.specs.declared.limits.TheConstants.{MAX_CONSTANTS, MAX_DATA_WORDS, MAX_BUDGET, MAX_MESSAGE, MAX_PROCEDURES, MAX_LABELS, MAX_PARS, MAX_TABLES}
+use Rattle.module_format.specs.declared.limits.TheConstants.{MAX_CONSTANTS, MAX_DATA_WORDS, MAX_BUDGET, MAX_MESSAGE}
+use Rattle.module_format.specs.declared.limits.TheConstants.{MAX_PROCEDURES, MAX_LABELS, MAX_PARS, MAX_TABLES}
 use Rattle.module_format.specs.declared.reading.header.Sizes.{Sizes}
 use Rattle.module_format.specs.declared.reading.header.RowCounts.{RowCounts}
 use Rattle.module_format.specs.declared.reading.header.Header.{Header}
@@ -33,7 +35,8 @@ sizes_at size version rest = do
   base ← at_most_at size data_words.0 data_words.1
   budget ← limited_at size 8 MAX_BUDGET base.1
   finish ← at_most_at size code_len.0 budget.1
-  Ok (record { code_len = code_len.0; const_len = const_len.0; data_words = data_words.0; base = base.0; budget = budget.0; finish = finish.0 }, finish.1)
+  Ok (record { code_len = code_len.0; const_len = const_len.0; data_words = data_words.0; base = base.0;
+      budget = budget.0; finish = finish.0 }, finish.1)
 
 -- the message lengths of four links
 unfoldable pub four_lengths_at : ℕ → List ℕ → Read (ℕ × ℕ × ℕ × ℕ)
@@ -71,7 +74,8 @@ counts_at size version rest = do
   labels ← limited_at size 4 MAX_LABELS procedures.1
   pars ← limited_at size 4 MAX_PARS labels.1
   more ← extension_at size version pars.1
-  Ok (record { procedures = procedures.0; labels = labels.0; pars = pars.0; has_long_operations = more.0.0; table_rows = more.0.1 }, more.1)
+  Ok (record { procedures = procedures.0; labels = labels.0; pars = pars.0; has_long_operations = more.0.0;
+      table_rows = more.0.1 }, more.1)
 
 -- ---- the file
 

@@ -1,5 +1,6 @@
 -- Reading PAR rows.
-use Rattle.std.specs.Prelude.{ℕ, zero, suc, ◌+◌, ℤ, pos, int_lt, int_le, nat_lt, nat_le, ◌==◌, ◌&&◌, ◌||◌, not, Bool, if◌then◌else◌, List, length, unsigned_abs, Ok}
+use Rattle.std.specs.Prelude.{ℕ, zero, suc, ◌+◌, ℤ, pos, int_lt, int_le, nat_lt, nat_le, ◌==◌, ◌&&◌, ◌||◌, not, Bool}
+use Rattle.std.specs.Prelude.{if◌then◌else◌, List, length, unsigned_abs, Ok}
 use Rattle.std.specs.List.{list_any}
 use Rattle.module_format.specs.declared.tags.TheConstants.{END_PARAMETER, END_LINK, DIRECTION_IN, DIRECTION_OUT}
 use Rattle.module_format.specs.declared.fault.FormatFaultKind.TheVariants as faults
@@ -15,8 +16,10 @@ use Rattle.module_format.specs.declared.reading.branches.BranchCounts.{BranchCou
 use Rattle.module_format.specs.declared.limits.TheConstants.{MAX_BRANCHES, MAX_MESSAGE}
 use Rattle.module_format.specs.Order.{least_word}
 use Rattle.module_format.specs.Contents.{Branch, Par}
-use Rattle.module_format.specs.Pars.{behind_channel, behind_interval, meet, behind_number, first_key, behind_end, Before, behind_branch, behind_par, no_branches}
-use Rattle.module_format.specs.Reading.{◌>>=◌, Read, tested, place, number_at, int_at, limited_at, positive_at, byte_at, in_code_at, list_at}
+use Rattle.module_format.specs.Pars.{behind_channel, behind_interval, meet, behind_number, first_key, behind_end}
+use Rattle.module_format.specs.Pars.{Before, behind_branch, behind_par, no_branches}
+use Rattle.module_format.specs.Reading.{◌>>=◌, Read, tested, place, number_at, int_at, limited_at, positive_at, byte_at}
+use Rattle.module_format.specs.Reading.{in_code_at, list_at}
 use Rattle.module_format.specs.ReadingRows.{first_word_at}
 
 -- ---- channels and intervals
@@ -114,7 +117,8 @@ branch_counts_at size rest = do
   written ← number_at size 2 reads.1
   read ← number_at size 2 written.1
   ends ← number_at size 2 read.1
-  Ok (record { writes = writes.0; reads = reads.0; written_parameters = written.0; read_parameters = read.0; ends = ends.0 }, ends.1)
+  Ok (record { writes = writes.0; reads = reads.0; written_parameters = written.0; read_parameters = read.0;
+      ends = ends.0 }, ends.1)
 
 unfoldable pub branch_at : ℕ → ℕ → Before → List ℕ → Read Branch
 branch_at size code_len before rest = do
@@ -126,7 +130,8 @@ branch_at size code_len before rest = do
   written ← list_at (parameter_number_at size) behind_number counts.0.written_parameters 0 reads.1
   read ← list_at (parameter_number_at size) behind_number counts.0.read_parameters 0 written.1
   ends ← list_at (end_at size) behind_end counts.0.ends first_key read.1
-  Ok (record { entry = entry.0; workspace = workspace.0; writes = writes.0; reads = reads.0; written_parameters = written.0; read_parameters = read.0; ends = ends.0 }, ends.1)
+  Ok (record { entry = entry.0; workspace = workspace.0; writes = writes.0; reads = reads.0;
+      written_parameters = written.0; read_parameters = read.0; ends = ends.0 }, ends.1)
 
 -- ---- rows
 
@@ -149,7 +154,8 @@ par_row_at size own code_len before rest = do
   branch_count ← branch_count_at size channel_count.1
   channels ← list_at (channel_at size) behind_channel channel_count.0 least_word branch_count.1
   branches ← list_at (branch_at size code_len) behind_branch branch_count.0 before channels.1
-  Ok (record { context = context.0; depth = depth.0; block = block.0; successor = successor.0; channels = channels.0; branches = branches.0 }, branches.1)
+  Ok (record { context = context.0; depth = depth.0; block = block.0; successor = successor.0; channels = channels.0;
+      branches = branches.0 }, branches.1)
 
 unfoldable pub par_rows_at : ℕ → ℕ → ℕ → ℕ → List ℕ → Read (List Par)
 par_rows_at size own code_len count rest = list_at (par_row_at size own code_len) behind_par count no_branches rest

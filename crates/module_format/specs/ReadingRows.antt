@@ -1,8 +1,11 @@
 -- Reading facts, procedure rows, label rows and table rows.
-use Rattle.std.specs.Prelude.{ℕ, ◌-◌, ℤ, pos, int_lt, int_le, nat_lt, nat_le, Bool, ◌==◌, ◌&&◌, not, if◌then◌else◌, List, length, take, drop, Ok, Err}
+use Rattle.std.specs.Prelude.{ℕ, ◌-◌, ℤ, pos, int_lt, int_le, nat_lt, nat_le, Bool, ◌==◌, ◌&&◌, not, if◌then◌else◌}
+use Rattle.std.specs.Prelude.{List, length, take, drop, Ok, Err}
 use Rattle.std.specs.List.{list_any, list_all}
-use Rattle.module_format.specs.declared.tags.TheConstants.{TAG_UNKNOWN, TAG_NUMBER, TAG_POINTER, TAG_CODE_ADDRESS, TAG_LOOP, TAG_RETURN_ADDRESS}
-use Rattle.module_format.specs.declared.tags.TheConstants.{KIND_VALUE, KIND_READ_REGION, KIND_WRITTEN_REGION, KIND_CHANNELS}
+use Rattle.module_format.specs.declared.tags.TheConstants.{TAG_UNKNOWN, TAG_NUMBER, TAG_POINTER, TAG_CODE_ADDRESS}
+use Rattle.module_format.specs.declared.tags.TheConstants.{TAG_LOOP, TAG_RETURN_ADDRESS}
+use Rattle.module_format.specs.declared.tags.TheConstants.{KIND_VALUE, KIND_READ_REGION, KIND_WRITTEN_REGION}
+use Rattle.module_format.specs.declared.tags.TheConstants.{KIND_CHANNELS}
 use Rattle.module_format.specs.declared.fault.FormatFaultKind.TheVariants as faults
 use Rattle.module_format.specs.declared.fact.Fact.{Fact}
 use Rattle.module_format.specs.declared.fact.Fact.TheVariants as facts
@@ -23,8 +26,10 @@ use Rattle.module_format.specs.declared.limits.TheConstants.{MAX_PARAMETERS, MAX
 use Rattle.module_format.specs.Order.{least_word, greatest_word, is_multiple_of_four, is_stepped}
 use Rattle.module_format.specs.Contents.{Procedure, Label}
 use Rattle.module_format.specs.Facts.{is_loop_length, behind_entry, behind_label}
-use Rattle.module_format.specs.Procedures.{is_region_size, are_ends, is_frame_start, is_frame_end, behind_parameter, behind_procedure, words_of, behind_table}
-use Rattle.module_format.specs.Reading.{◌>>=◌, Read, tested, fault, place, number_at, int_at, limited_at, positive_at, at_most_at, byte_at, in_code_at, interval_at, list_at}
+use Rattle.module_format.specs.Procedures.{is_region_size, are_ends, is_frame_start, is_frame_end, behind_parameter}
+use Rattle.module_format.specs.Procedures.{behind_procedure, words_of, behind_table}
+use Rattle.module_format.specs.Reading.{◌>>=◌, Read, tested, fault, place, number_at, int_at, limited_at, positive_at}
+use Rattle.module_format.specs.Reading.{at_most_at, byte_at, in_code_at, interval_at, list_at}
 
 -- ---- facts
 

@@ -3,9 +3,12 @@
 use Rattle.std.specs.Prelude.{ℕ, ℤ, pos, Bool, if◌then◌else◌, List, [], ◌∷◌, ◌++◌, length}
 use Rattle.std.specs.List.{flat_map}
 use Rattle.std.specs.Int.{w16, w32, w64, to_le_bytes, cast_unsigned}
-use Rattle.module_format.specs.declared.tags.TheConstants.{TAG_UNKNOWN, TAG_NUMBER, TAG_POINTER, TAG_CODE_ADDRESS, TAG_LOOP, TAG_RETURN_ADDRESS}
-use Rattle.module_format.specs.declared.tags.TheConstants.{KIND_VALUE, KIND_READ_REGION, KIND_WRITTEN_REGION, KIND_CHANNELS}
-use Rattle.module_format.specs.declared.tags.TheConstants.{END_FRAME_WORD, END_PARAMETER, END_LINK, DIRECTION_IN, DIRECTION_OUT}
+use Rattle.module_format.specs.declared.tags.TheConstants.{TAG_UNKNOWN, TAG_NUMBER, TAG_POINTER, TAG_CODE_ADDRESS}
+use Rattle.module_format.specs.declared.tags.TheConstants.{TAG_LOOP, TAG_RETURN_ADDRESS}
+use Rattle.module_format.specs.declared.tags.TheConstants.{KIND_VALUE, KIND_READ_REGION, KIND_WRITTEN_REGION}
+use Rattle.module_format.specs.declared.tags.TheConstants.{KIND_CHANNELS}
+use Rattle.module_format.specs.declared.tags.TheConstants.{END_FRAME_WORD, END_PARAMETER, END_LINK, DIRECTION_IN}
+use Rattle.module_format.specs.declared.tags.TheConstants.{DIRECTION_OUT}
 use Rattle.module_format.specs.declared.fact.Step.{Step}
 use Rattle.module_format.specs.declared.fact.Step.TheVariants as steps
 use Rattle.module_format.specs.declared.fact.Fact.{Fact}
@@ -48,7 +51,8 @@ step_size steps.Word = 4
 unfoldable pub fact_bytes : Fact → List ℕ
 fact_bytes facts.Unknown = TAG_UNKNOWN ∷ []
 fact_bytes (facts.Number lo hi) = TAG_NUMBER ∷ (i32_bytes lo ++ i32_bytes hi)
-fact_bytes (facts.Pointer region lo hi step) = TAG_POINTER ∷ (u16_bytes region ++ i32_bytes lo ++ i32_bytes hi ++ step_size step ∷ [])
+fact_bytes (facts.Pointer region lo hi step) =
+    TAG_POINTER ∷ (u16_bytes region ++ i32_bytes lo ++ i32_bytes hi ++ step_size step ∷ [])
 fact_bytes (facts.CodeAddress offset) = TAG_CODE_ADDRESS ∷ u32_bytes offset
 fact_bytes (facts.Loop base count weight) = TAG_LOOP ∷ (i32_bytes base ++ u32_bytes count ++ u64_bytes weight)
 fact_bytes facts.ReturnAddress = TAG_RETURN_ADDRESS ∷ []
@@ -110,13 +114,15 @@ unfoldable pub branch_head : Branch → List ℕ
 branch_head row =
     u32_bytes row.entry ++ i32_bytes row.workspace
     ++ u16_bytes (length row.writes) ++ u16_bytes (length row.reads)
-    ++ u16_bytes (length row.written_parameters) ++ u16_bytes (length row.read_parameters) ++ u16_bytes (length row.ends)
+    ++ u16_bytes (length row.written_parameters) ++ u16_bytes (length row.read_parameters)
+        ++ u16_bytes (length row.ends)
 
 unfoldable pub branch_bytes : Branch → List ℕ
 branch_bytes row =
     branch_head row
     ++ flat_map interval_bytes row.writes ++ flat_map interval_bytes row.reads
-    ++ flat_map u16_bytes row.written_parameters ++ flat_map u16_bytes row.read_parameters ++ flat_map end_bytes row.ends
+    ++ flat_map u16_bytes row.written_parameters ++ flat_map u16_bytes row.read_parameters
+        ++ flat_map end_bytes row.ends
 
 unfoldable pub par_bytes : Par → List ℕ
 par_bytes row =

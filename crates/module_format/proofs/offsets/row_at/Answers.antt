@@ -10,7 +10,8 @@ returns g c =
     let rows = c.args.rows.now in
     let at = c.args.offset in
     let n = c.partition_point-index.result in
-    let point = IsPartitionPoint-from_clause (λ r. ltb (place r) at) rows n c.partition_point-index.ensures.partitioned (IsPartitionedBy-ltb place rows at c.requires) (λ a r f' k. search rules) in
+    let point = IsPartitionPoint-from_clause (λ r. ltb (place r) at) rows n c.partition_point-index.ensures.partitioned
+        (IsPartitionedBy-ltb place rows at c.requires) (λ a r f' k. search rules) in
     record {
       inside = ltb-true n _ (sym c.in_ok-row.ensures.lookup.0);
       is = c.in_ok-row.ensures.lookup.1;
@@ -24,7 +25,8 @@ returns-in_err-row g c =
     let rows = c.args.rows.now in
     let at = c.args.offset in
     let n = c.partition_point-index.result in
-    let point = IsPartitionPoint-from_clause (λ r. ltb (place r) at) rows n c.partition_point-index.ensures.partitioned (IsPartitionedBy-ltb place rows at c.requires) (λ a r f' k. search rules) in
+    let point = IsPartitionPoint-from_clause (λ r. ltb (place r) at) rows n c.partition_point-index.ensures.partitioned
+        (IsPartitionedBy-ltb place rows at c.requires) (λ a r f' k. search rules) in
     let past : length rows ≤ n = ltb-false n _ (sym c.in_err-row.ensures.lookup.0) in
     rw c.from_residual.ensures (none_past place rows at n point past)
 
@@ -34,6 +36,8 @@ returns-then-place-offset g c =
     let rows = c.args.rows.now in
     let at = c.args.offset in
     let n = c.partition_point-index.result in
-    let point = IsPartitionPoint-from_clause (λ r. ltb (place r) at) rows n c.partition_point-index.ensures.partitioned (IsPartitionedBy-ltb place rows at c.requires) (λ a r f' k. search rules) in
+    let point = IsPartitionPoint-from_clause (λ r. ltb (place r) at) rows n c.partition_point-index.ensures.partitioned
+        (IsPartitionedBy-ltb place rows at c.requires) (λ a r f' k. search rules) in
     let inside : n < length rows = ltb-true n _ (sym c.in_ok-row.ensures.lookup.0) in
-    none_here place rows at n point c.in_ok-row.row.now c.requires inside (sym c.in_ok-row.ensures.lookup.1) (λ e. c.if-place-offset.true (c.place.ensures ∙ e))
+    none_here place rows at n point c.in_ok-row.row.now c.requires inside (sym c.in_ok-row.ensures.lookup.1)
+        (λ e. c.if-place-offset.true (c.place.ensures ∙ e))

@@ -7,11 +7,14 @@ use Rattle.module_format.proofs.FileLaws.{read_finds, one_contents, only_memory}
 use Rattle.module_format.proofs.reading.read.Goals as goal
 
 pub returns-clause-found : goal.returns-clause-found
-returns-clause-found c = has_at _ _ (read_finds c.args.bytes.now (λ i. omega (arith, c.type_inv.bytes i))) c.in_ok-tables.ensures.gives
+returns-clause-found c =
+    has_at _ _ (read_finds c.args.bytes.now (λ i. omega (arith, c.type_inv.bytes i))) c.in_ok-tables.ensures.gives
 
 pub returns-clause-only : goal.returns-clause-only
 returns-clause-only c = λ d f.
-    one_contents c.args.bytes.now (contents_of c.in_ok-tables.tables) d (has_at _ _ (read_finds c.args.bytes.now (λ i. omega (arith, c.type_inv.bytes i))) c.in_ok-tables.ensures.gives) f
+    one_contents c.args.bytes.now (contents_of c.in_ok-tables.tables) d
+        (has_at _ _ (read_finds c.args.bytes.now (λ i. omega
+        (arith, c.type_inv.bytes i))) c.in_ok-tables.ensures.gives) f
 
 pub returns-in_err-tables-clause-only : goal.returns-in_err-tables-clause-only
 returns-in_err-tables-clause-only c = λ d f.
@@ -20,5 +23,6 @@ returns-in_err-tables-clause-only c = λ d f.
 
 pub returns-in_err-tables-clause-refused : goal.returns-in_err-tables-clause-refused
 returns-in_err-tables-clause-refused c =
-    let told : (d : Contents) → Format c.args.bytes.now d → fault_of c.in_err-tables.field-0.0 ≡ out_of_memory = λ d f. only_memory c.args.bytes.now d c.in_err-tables.field-0.0 f c.in_err-tables.ensures.gives in
+    let told : (d : Contents) → Format c.args.bytes.now d → fault_of c.in_err-tables.field-0.0 ≡ out_of_memory =
+        λ d f. only_memory c.args.bytes.now d c.in_err-tables.field-0.0 f c.in_err-tables.ensures.gives in
     search (rules, told)

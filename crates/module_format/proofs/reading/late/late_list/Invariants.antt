@@ -8,6 +8,7 @@ invariant-loop-item g l =
     let T = g.T.Late in
     let xs = map T.view l.items in
     record {
-      rest : late_list (T.looked l.context) T.spelled l.at (drop l.item-index xs) ≡ late_list (T.looked l.context) T.spelled l.start xs;
+      rest : late_list (T.looked l.context) T.spelled l.at (drop l.item-index xs)
+          ≡ late_list (T.looked l.context) T.spelled l.start xs;
       place : l.at + length (flat_map T.spelled (drop l.item-index xs)) ≡ l.start + length (flat_map T.spelled xs);
     }

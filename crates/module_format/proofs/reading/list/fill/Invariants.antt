@@ -14,6 +14,7 @@ invariant-loop g l =
       size : l.from.size ≡ l.fn.from.size;
       unfailed : l.from.failure ≡ None;
       fixed : R.fixed l.reader ≡ R.fixed l.fn.reader;
-      gives : with_front read (list_at item R.behind (l.count - l.counter) (R.state l.reader) l.from.rest.now) ≡ list_at item R.behind l.count (R.state l.fn.reader) l.fn.from.rest.now;
+      gives : with_front read (list_at item R.behind (l.count - l.counter) (R.state l.reader) l.from.rest.now)
+          ≡ list_at item R.behind l.count (R.state l.fn.reader) l.fn.from.rest.now;
       last : R.state l.reader ≡ behind_all R.behind (R.state l.fn.reader) read;
     }

@@ -8,4 +8,5 @@ abbrev pub decreases-loop-rest : goal.decreases-loop-rest
 decreases-loop-rest l = length l.rest
 
 abbrev pub invariant-loop-rest : goal.invariant-loop-rest
-invariant-loop-rest l = list_all (is_within l.lo l.hi) (words_of l.rest) ≡ list_all (is_within l.lo l.hi) (words_of l.bytes)
+invariant-loop-rest l =
+    list_all (is_within l.lo l.hi) (words_of l.rest) ≡ list_all (is_within l.lo l.hi) (words_of l.bytes)

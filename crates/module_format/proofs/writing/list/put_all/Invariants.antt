@@ -4,4 +4,5 @@ use Rattle.module_format.specs.Writable.{Writes}
 use Rattle.module_format.proofs.writing.list.put_all.Given as goal
 
 abbrev pub invariant-loop-item : goal.invariant-loop-item
-invariant-loop-item g l = Writes l.fn.out (flat_map (g.T.Row.spelled l.version) (map g.T.Row.view (take l.item-index l.items))) l.out
+invariant-loop-item g l =
+    Writes l.fn.out (flat_map (g.T.Row.spelled l.version) (map g.T.Row.view (take l.item-index l.items))) l.out

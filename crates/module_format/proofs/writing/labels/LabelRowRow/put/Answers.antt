@@ -2,7 +2,8 @@ use Rattle.std.proofs.Common.{◌≡◌, ◌++◌, length, FitsSigned, rules, ar
 use Rattle.std.proofs.lemmas.Int.{to_z-of_z}
 use Rattle.std.specs.List.{flat_map}
 use Rattle.std.proofs.lemmas.List.{map-id}
-use Rattle.module_format.specs.Spelling.{u16_bytes, u32_bytes, u64_bytes, i32_bytes, fact_bytes, entry_bytes, label_bytes}
+use Rattle.module_format.specs.Spelling.{u16_bytes, u32_bytes, u64_bytes, i32_bytes, fact_bytes, entry_bytes}
+use Rattle.module_format.specs.Spelling.{label_bytes}
 use Rattle.module_format.proofs.WritingLaws.{grows}
 use Rattle.module_format.proofs.writing.labels.LabelRowRow.put.Goals as goal
 
@@ -29,4 +30,5 @@ returns c =
     let e7 = grows old p6 (fact_bytes row.stack.c) e6 c.put_fact-3.ensures in
     let len : vec_len row.entries ≡ length row.entries.items = omega (arith, row.entries.ok.0) in
     let e8 = grows old p7 (u16_bytes (length row.entries.items)) e7 (rw (c.len.ensures, len) at c.u16-2.ensures) in
-    grows old p8 (flat_map entry_bytes row.entries.items) e8 (rw (c.deref.ensures.value, map-id row.entries.items) at c.put_all.ensures)
+    grows old p8 (flat_map entry_bytes row.entries.items) e8
+        (rw (c.deref.ensures.value, map-id row.entries.items) at c.put_all.ensures)

@@ -25,4 +25,5 @@ returns c =
     let e4 = grows old p3 (u64_bytes row.number) e3 c.u64.ensures in
     let len : vec_len row.parameters ≡ length row.parameters.items = omega (arith, row.parameters.ok.0) in
     let e5 = grows old p4 (u16_bytes (length row.parameters.items)) e4 (rw (c.len.ensures, len) at c.u16.ensures) in
-    grows old p5 (flat_map (parameter_bytes c.args.version) row.parameters.items) e5 (rw (c.deref.ensures.value, map-id row.parameters.items) at c.put_all.ensures)
+    grows old p5 (flat_map (parameter_bytes c.args.version) row.parameters.items) e5
+        (rw (c.deref.ensures.value, map-id row.parameters.items) at c.put_all.ensures)
