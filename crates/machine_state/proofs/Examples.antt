@@ -35,17 +35,34 @@ unfolding turn_by step_by step_of instruction_of op_of instruction_step operatio
     goes_on leads_to lands_at followed_by_code holds aligned channel counts copied all_places runs less
     parameters_at context_at place_of local_address word_at with_word may_write_word may_read_word dispatch
 several = (
-  (record { no_fault = refl; count = refl; finished = refl; nobody_runs = refl }, record
-      { no_fault = refl; count = refl; finished = refl; nobody_runs = refl }),
+  (
+    record { no_fault = refl; count = refl; finished = refl; nobody_runs = refl },
+    record
+        { no_fault = refl; count = refl; finished = refl; nobody_runs = refl },
+  ),
   (refl, refl),
-  (record { no_fault = refl; count = refl; nobody_runs = refl }, record
-      { no_fault = refl; count = refl; nobody_runs = refl }, record
-      { no_fault = refl; count = refl; finished = refl; nobody_runs = refl }),
-  (record { no_fault = refl; count = refl; finished = refl; nobody_runs = refl }, record
-      { no_fault = refl; count = refl; finished = refl; nobody_runs = refl }, refl, refl),
-  (record { no_fault = refl; count = refl; nobody_runs = refl }, record
-      { no_fault = refl; count = refl; finished = refl; nobody_runs = refl }, record
-      { no_fault = refl; count = refl; nobody_runs = refl }, refl),
+  (
+    record { no_fault = refl; count = refl; nobody_runs = refl },
+    record
+        { no_fault = refl; count = refl; nobody_runs = refl },
+    record
+        { no_fault = refl; count = refl; finished = refl; nobody_runs = refl },
+  ),
+  (
+    record { no_fault = refl; count = refl; finished = refl; nobody_runs = refl },
+    record
+        { no_fault = refl; count = refl; finished = refl; nobody_runs = refl },
+    refl,
+    refl,
+  ),
+  (
+    record { no_fault = refl; count = refl; nobody_runs = refl },
+    record
+        { no_fault = refl; count = refl; finished = refl; nobody_runs = refl },
+    record
+        { no_fault = refl; count = refl; nobody_runs = refl },
+    refl,
+  ),
 )
 
 pub ruleset small_modules = (one_process, several)

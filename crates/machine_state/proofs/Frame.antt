@@ -94,8 +94,8 @@ copy_is_own h from source to zero memory own = changes_nothing h memory
 copy_is_own h from source to (suc n) memory own =
     let both = and_true _ _ own in
     changes_more h memory (with_byte memory to (byte_at from source)) _
-        (byte_is_own h memory to (byte_at from source) both.0)
-        (copy_is_own h from (source + 1) (to + 1) n (with_byte memory to (byte_at from source)) both.1)
+    (byte_is_own h memory to (byte_at from source) both.0)
+    (copy_is_own h from (source + 1) (to + 1) n (with_byte memory to (byte_at from source)) both.1)
 
 module _ (s : Site) (old : Memory) where
   abbrev Leaves : Outcome → Type 0
@@ -245,7 +245,7 @@ module _ (s : Site) (l : Local) where
 
   three_used : (k : ℤ → ℤ → ℤ → Outcome) → ((a b c : ℤ) → LeavesAll (k a b c))
       → LeavesAll (step.uses l.registers.stack.a (λ a. step.uses l.registers.stack.b (λ b.
-          step.uses l.registers.stack.c (λ c. k a b c))))
+      step.uses l.registers.stack.c (λ c. k a b c))))
   three_used k h = two_used _ (λ a b. uses_leaves s l.memory l.registers.stack.c _ (λ c. h a b c))
 
   exchanges_leave : (direction : Direction) (k : Exchange → Local → Outcome)
@@ -280,7 +280,7 @@ module _ (s : Site) (l : Local) where
 
           second : (b : Bool) → ChangesOwn s.holding l.memory
               (cond b (with_word counted (place_of block)
-                  (Some (step.word_of ((step.address index + 1) % 2 ^ 32)))) counted)
+              (Some (step.word_of ((step.address index + 1) % 2 ^ 32)))) counted)
           second true = changes_more s.holding l.memory counted _ first (write_is_own s.holding counted _ _ one)
           second false = first
 
@@ -289,8 +289,8 @@ module _ (s : Site) (l : Local) where
       three_used _ (λ a b c. counts_leaves s l.memory 0 65536 a _ (λ n.
       holds_leaves s l.memory _ _ _ (λ own.
       goes_on_leaves s l.memory _
-          (copy_is_own s.holding l.memory (place_of (step.address c)) (place_of (step.address b)) n l.memory
-              (and_true _ _ (and_true _ _ own).0).1))))
+      (copy_is_own s.holding l.memory (place_of (step.address c)) (place_of (step.address b)) n l.memory
+      (and_true _ _ (and_true _ _ own).0).1))))
 
   operation_leaves : (op : Op) → LeavesAll (step.operation_step s op l)
   unfolding step.operation_step
@@ -382,7 +382,7 @@ module _ (s : Site) (l : Local) where
       leads_to_leaves s l.memory _ _ changes))
   instruction_leaves instructions.ConditionalJump e = alone_leaves s l.memory s.mode _ (one_used _ (λ a.
       on_test s l.memory (step.address a == 0) _ _ (λ zero. lands_at_leaves s l.memory _ _ same)
-          (goes_on_leaves s l.memory _ same)))
+      (goes_on_leaves s l.memory _ same)))
   instruction_leaves instructions.AdjustWorkspace e =
       alone_leaves s l.memory s.mode _ (goes_on_leaves s l.memory _ same)
   instruction_leaves instructions.Call e = alone_leaves s l.memory s.mode _

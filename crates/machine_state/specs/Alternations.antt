@@ -70,7 +70,7 @@ abbrev pub source_enabled : Here → Local → World → Source → Turn
 source_enabled h l w source =
     if is_some source.enabled then failed h AlternationOrder w
     else followed h (answered ran (counted (source.with_enabled (Some h.process)
-        (in_mode h (ready_or h.from.mode source.is_ready) l w)))) w
+    (in_mode h (ready_or h.from.mode source.is_ready) l w)))) w
 
 abbrev pub channel_enabled : Here → Bool → ℕ → Local → World → Turn
 channel_enabled h guard address l w =
@@ -84,8 +84,11 @@ abbrev pub waited_in : Here → Mode → Local → World → World
 waited_in h (Enabling true) l w = counted (in_mode h (Disabling None) l w)
 waited_in h _ l w =
     counted (dispatch h.pick (leave (put h.process
-    (record h.from { registers = between h.next l.registers; mode = Disabling None;
-        condition = Alternating }) l.memory w)))
+    (record h.from {
+      registers = between h.next l.registers;
+      mode = Disabling None;
+      condition = Alternating;
+    }) l.memory w)))
 
 abbrev pub waited : Here → Local → World → Turn
 waited h l w = answered ran (waited_in h h.from.mode l w)
@@ -134,5 +137,5 @@ alternation_ended h to l w =
     if has_enabled w h.process then failed h AlternationOrder w
     else if nat_lt to (length h.contents.code)
     then answered ran (counted (put h.process
-        (record h.from { registers = between to l.registers; mode = Plain }) l.memory w))
+    (record h.from { registers = between to l.registers; mode = Plain }) l.memory w))
     else failed h OutsideCode w

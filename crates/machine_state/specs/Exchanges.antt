@@ -122,7 +122,7 @@ abbrev pub sent_outside : Here → ℕ → Exchange → Local → World → Turn
 sent_outside h k e l w =
     if link_length h.contents k == e.length
     then followed h (answered (emitted (link_of k) (bytes_at l.memory (place_of e.address) e.length))
-        (left h (with_output k (record { waiting = Some h.process }) (waiting h (OnLink e 0) l w)))) w
+    (left h (with_output k (record { waiting = Some h.process }) (waiting h (OnLink e 0) l w)))) w
     else failed h UnequalLengths w
 
 -- ---- in and out

@@ -100,7 +100,7 @@ holding_of m n share = record {
   writes = runs (writes_place share) 0 n;
   reads = runs (λ place. not (writes_place share place)
       && (reads_place share place || (nat_lt place (constants_start m + length m.constants) && not
-          (nat_lt place (constants_start m))))) 0 n;
+      (nat_lt place (constants_start m))))) 0 n;
   ends = share.ends;
 }
 
@@ -242,7 +242,7 @@ abbrev pub share_is_there : ℕ → Plan → ℕ → Branch → Bool
 share_is_there n plan workspace b =
     let share = share_by plan b in
     list_all (word_passes (λ place. may_write plan.rest place && writes_place share place))
-        (scheduling_places workspace)
+    (scheduling_places workspace)
     && list_all (is_within n (may_write plan.rest)) share.writes
     && list_all (is_within n (may_read plan.rest)) share.reads
 
@@ -250,10 +250,13 @@ share_is_there n plan workspace b =
 abbrev pub words_are_held : Holding → Plan → Bool
 words_are_held h plan =
     list_all (λ a. may_write_word h (place_of a))
-        (block_addresses plan.base plan.par ++ channel_addresses plan.base plan.par)
-    && list_all (λ named. elim named [ None ↦ true | Some word ↦ may_read_word h
-        (place_of (frame_address plan.base word)) ])
-        (named_from plan.par 0 plan.parameters)
+    (block_addresses plan.base plan.par ++ channel_addresses plan.base plan.par)
+    && list_all (λ named. elim named [
+      | None ↦ true
+      | Some word ↦ may_read_word h
+          (place_of (frame_address plan.base word))
+    ])
+    (named_from plan.par 0 plan.parameters)
 
 abbrev pub word_is_defined : Memory → ℕ → Bool
 word_is_defined memory a = is_some (word_at memory (place_of a))
@@ -261,9 +264,12 @@ word_is_defined memory a = is_some (word_at memory (place_of a))
 abbrev pub words_are_defined : Memory → Plan → Bool
 words_are_defined memory plan =
     list_all (word_is_defined memory) (block_addresses plan.base plan.par ++ channel_addresses plan.base plan.par)
-    && list_all (λ named. elim named [ None ↦ true | Some word ↦ word_is_defined memory
-        (frame_address plan.base word) ])
-        (named_from plan.par 0 plan.parameters)
+    && list_all (λ named. elim named [
+      | None ↦ true
+      | Some word ↦ word_is_defined memory
+          (frame_address plan.base word)
+    ])
+    (named_from plan.par 0 plan.parameters)
 
 abbrev pub is_word : Memory → ℕ → ℤ → Bool
 is_word memory a v =
@@ -325,7 +331,7 @@ abbrev pub with_channels : ℕ → ℕ → List ChannelRow → List (Option Chan
 with_channels p base [] cells = cells
 with_channels p base (c ∷ rows) cells =
     with_channels p base rows (slice_set cells (cell_of (frame_address base c.word))
-        (Some (record { opener = p; length = c.length; waiting = None; enabled = None })))
+    (Some (record { opener = p; length = c.length; waiting = None; enabled = None })))
 
 -- the join once this branch is started
 abbrev pub join_after : ℕ → Plan → Found → ℕ → Join
@@ -347,20 +353,27 @@ started h plan found workspace l w =
     let n = length w.memory in
     let new = length w.tasks in
     let there = put h.process (record h.from { registers = between h.next l.registers; mode = Starting })
-        (without_words (scheduling_addresses workspace) l.memory) w in
+    (without_words (scheduling_addresses workspace) l.memory) w in
     let given = on_role h.process (λ role. record role { opened = Some (join_after n plan found new) }) there in
     enqueue new (record given {
       tasks = given.tasks ++ new_task found.branch workspace ∷ [];
-      roles = given.roles ++ record { own = holding_of h.contents n (share_by plan found.branch); opener =
-          Some h.process; opened = None } ∷ [];
+      roles = given.roles ++ record {
+        own = holding_of h.contents n (share_by plan found.branch);
+        opener =
+            Some h.process;
+        opened = None;
+      } ∷ [];
     })
 
 -- at the first start the words of the block and the channels are taken away, and there are the channels
 abbrev pub opened : Here → Plan → Local → World → Local × World
-opened h plan l w =
-    (record l { memory = without_words (block_addresses plan.base plan.par
-        ++ channel_addresses plan.base plan.par) l.memory },
-     record w { channels = with_channels h.process plan.base plan.par.channels w.channels })
+opened h plan l w = (
+  record l {
+    memory = without_words (block_addresses plan.base plan.par
+        ++ channel_addresses plan.base plan.par) l.memory;
+  },
+  record w { channels = with_channels h.process plan.base plan.par.channels w.channels },
+)
 
 abbrev pub start_or_fail : Here → List (Bool × FaultKind) → World → World → Turn
 start_or_fail h tests after w = elim (first_fault tests) [
@@ -374,13 +387,13 @@ first_start h found workspace l w =
     let plan = first_plan h.contents h.process h.from.registers.workspace holding w.memory found in
     let there = opened h plan l w in
     start_or_fail h (first_faults h.contents w.memory holding plan found workspace)
-        (started h plan found workspace there.0 there.1) w
+    (started h plan found workspace there.0 there.1) w
 
 abbrev pub later_start : Here → Join → Found → ℕ → Local → World → Turn
 later_start h join found workspace l w =
     if found.row == join.row
     then (let plan = later_plan h.contents join found.par in
-        start_or_fail h (later_faults (length w.memory) plan found workspace) (started h plan found workspace l w) w)
+    start_or_fail h (later_faults (length w.memory) plan found workspace) (started h plan found workspace l w) w)
     else start_or_fail h (no_row_faults join.rest workspace) w w
 
 abbrev pub opened_by : World → ℕ → Option Join

@@ -104,24 +104,24 @@ pair_row word = record {
   successor = 25;
   channels = [];
   branches =
-    record {
-      entry = 17;
-      workspace = negsuc 5;
-      writes = record { lo = negsuc 8; hi = negsuc 5 } ∷ record { lo = pos 2; hi = pos 3 } ∷ [];
-      reads = [];
-      written_parameters = [];
-      read_parameters = [];
-      ends = [];
-    }
-    ∷ record {
-      entry = 21;
-      workspace = negsuc 8;
-      writes = record { lo = negsuc 11; hi = negsuc 8 } ∷ record { lo = pos word; hi = pos (word + 1) } ∷ [];
-      reads = [];
-      written_parameters = [];
-      read_parameters = [];
-      ends = [];
-    } ∷ [];
+      record {
+        entry = 17;
+        workspace = negsuc 5;
+        writes = record { lo = negsuc 8; hi = negsuc 5 } ∷ record { lo = pos 2; hi = pos 3 } ∷ [];
+        reads = [];
+        written_parameters = [];
+        read_parameters = [];
+        ends = [];
+      }
+      ∷ record {
+        entry = 21;
+        workspace = negsuc 8;
+        writes = record { lo = negsuc 11; hi = negsuc 8 } ∷ record { lo = pos word; hi = pos (word + 1) } ∷ [];
+        reads = [];
+        written_parameters = [];
+        read_parameters = [];
+        ends = [];
+      } ∷ [];
 }
 
 abbrev pub pair_code : List ℕ
@@ -147,8 +147,8 @@ abbrev pub echo : Contents
 echo = record
     (of_code (0x40 ∷ 0xd1 ∷ 0x11 ∷ 0x24 ∷ 0xf2 ∷ 0x54 ∷ 0x41 ∷ 0xf7 ∷ 0x11 ∷ 0x24 ∷ 0xf2 ∷ 0x41 ∷ 0xfb ∷ 0x21 ∷ 0xf5 ∷
     []) 15) {
-  lengths = 1 ∷ 0 ∷ 0 ∷ 0 ∷ 1 ∷ 0 ∷ 0 ∷ 0 ∷ [];
-}
+      lengths = 1 ∷ 0 ∷ 0 ∷ 0 ∷ 1 ∷ 0 ∷ 0 ∷ 0 ∷ [];
+    }
 
 abbrev pub EchoWaits : Type 0
 EchoWaits =
@@ -165,24 +165,24 @@ channel_row = record {
   successor = 34;
   channels = record { word = pos 2; length = 4 } ∷ [];
   branches =
-    record {
-      entry = 20;
-      workspace = negsuc 5;
-      writes = record { lo = negsuc 8; hi = negsuc 5 } ∷ record { lo = pos 4; hi = pos 5 } ∷ [];
-      reads = [];
-      written_parameters = [];
-      read_parameters = [];
-      ends = record { kind = FrameWord (pos 2); direction = Out } ∷ [];
-    }
-    ∷ record {
-      entry = 28;
-      workspace = negsuc 8;
-      writes = record { lo = negsuc 11; hi = negsuc 8 } ∷ record { lo = pos 3; hi = pos 4 } ∷ [];
-      reads = [];
-      written_parameters = [];
-      read_parameters = [];
-      ends = record { kind = FrameWord (pos 2); direction = In } ∷ [];
-    } ∷ [];
+      record {
+        entry = 20;
+        workspace = negsuc 5;
+        writes = record { lo = negsuc 8; hi = negsuc 5 } ∷ record { lo = pos 4; hi = pos 5 } ∷ [];
+        reads = [];
+        written_parameters = [];
+        read_parameters = [];
+        ends = record { kind = FrameWord (pos 2); direction = Out } ∷ [];
+      }
+      ∷ record {
+        entry = 28;
+        workspace = negsuc 8;
+        writes = record { lo = negsuc 11; hi = negsuc 8 } ∷ record { lo = pos 3; hi = pos 4 } ∷ [];
+        reads = [];
+        written_parameters = [];
+        read_parameters = [];
+        ends = record { kind = FrameWord (pos 2); direction = In } ∷ [];
+      } ∷ [];
 }
 
 abbrev pub channel_code : List ℕ

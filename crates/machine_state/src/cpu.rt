@@ -87,7 +87,9 @@ impl<S> Cpu<S> {
     {
         match self.mode {
             Mode::Plain | Mode::Starting => Ok(()),
-            Mode::Enabling { .. } | Mode::Disabling { .. } => Err(self.fault(FaultKind::AlternationOrder)),
+            Mode::Enabling { .. } | Mode::Disabling { .. } => Err(self.fault(
+                FaultKind::AlternationOrder,
+            )),
         }
     }
 

@@ -55,7 +55,7 @@ module _ (size : ℕ) where
       has_then _ _ (interval_end_takes lo.0 lo.1 h.rest_fits) (λ hi g.
       let made : Interval = record { lo = lo.0; hi = hi.0 } in
       let kept : IntervalKeeps low made =
-          record { lo_fits = h.keeps.0; hi_fits = g.keeps.0; apart = h.keeps.1; some = g.keeps.1 } in
+      record { lo_fits = h.keeps.0; hi_fits = g.keeps.0; apart = h.keeps.1; some = g.keeps.1 } in
       let parts : bytes ≡ interval_bytes made ++ hi.1 = join (i32_bytes lo.0) (i32_bytes hi.0) hi.1 h.parts g.parts in
       has_ok (made, hi.1) (record { parts = parts; rest_fits = g.rest_fits; keeps = kept })))
 
@@ -86,7 +86,7 @@ module _ (size : ℕ) where
     unfolding read_words_at
     read_words_take low bytes fits =
         tested_takes _ _ _ _ (words_take low bytes fits)
-            (λ i kept apart. record { interval = kept; apart = none_pass (meet i) writes (not-true _ apart) })
+        (λ i kept apart. record { interval = kept; apart = none_pass (meet i) writes (not-true _ apart) })
 
     read_words_again : (low : ℤ) (i : Interval) (rest : List ℕ) → ReadKeeps writes low i
         → read_words_at size writes low (interval_bytes i ++ rest) ≡ Ok (i, rest)
@@ -171,17 +171,22 @@ module _ (size : ℕ) where
       has_then _ _ (u16_takes size written.1 h2.rest_fits) (λ read h3.
       has_then _ _ (u16_takes size read.1 h3.rest_fits) (λ ends h4.
       let made : BranchCounts =
-          record { writes = writes.0; reads = reads.0; written_parameters = written.0; read_parameters = read.0;
-          ends = ends.0 } in
+      record {
+        writes = writes.0;
+        reads = reads.0;
+        written_parameters = written.0;
+        read_parameters = read.0;
+        ends = ends.0;
+      } in
       let kept : CountsFit made =
-          record { writes = h0.keeps; reads = h1.keeps; written = h2.keeps; read = h3.keeps; ends = h4.keeps } in
+      record { writes = h0.keeps; reads = h1.keeps; written = h2.keeps; read = h3.keeps; ends = h4.keeps } in
       let two = u16_bytes writes.0 ++ u16_bytes reads.0 in
       let three = two ++ u16_bytes written.0 in
       let j1 = join (u16_bytes writes.0) (u16_bytes reads.0) reads.1 h0.parts h1.parts in
       let j2 = join two (u16_bytes written.0) written.1 j1 h2.parts in
       let j3 = join three (u16_bytes read.0) read.1 j2 h3.parts in
       let parts : bytes ≡ counts_bytes made ++ ends.1 =
-          join (three ++ u16_bytes read.0) (u16_bytes ends.0) ends.1 j3 h4.parts in
+      join (three ++ u16_bytes read.0) (u16_bytes ends.0) ends.1 j3 h4.parts in
       has_ok (made, ends.1) (record { parts = parts; rest_fits = h4.rest_fits; keeps = kept }))))))
 
   branch_counts_again : (c : BranchCounts) (rest : List ℕ) → CountsFit c
@@ -206,7 +211,7 @@ module _ (size code_len : ℕ) where
   unfolding branch_entry_at
   branch_entry_takes before bytes fits =
       let risen = tested_takes {Q = λ n. (n < code_len) × (before.low < n)} _ _ _ _
-          (in_code_takes size code_len bytes fits) (λ n h rises. (h.1, ltb-true _ _ rises)) in
+      (in_code_takes size code_len bytes fits) (λ n h rises. (h.1, ltb-true _ _ rises)) in
       tested_takes _ _ _ _ risen (λ n h differs. record { in_code = h.0; rises = h.1; differs = not-true _ differs })
 
   branch_entry_again : (before : Before) (n : ℕ) (rest : List ℕ) → n < 2 ^ 32 → IsBranchEntry code_len before n
@@ -215,7 +220,7 @@ module _ (size code_len : ℕ) where
   branch_entry_again before n rest fits h =
       let some : 1 ≤ n = let r = h.rises in omega arith in
       tested_again _ _ _ _ (tested_again _ _ _ _ (in_code_again size code_len n rest fits some h.in_code)
-          (lt-ltb _ _ h.rises)) (rw h.differs refl)
+      (lt-ltb _ _ h.rises)) (rw h.differs refl)
 
   pub branch_takes : (before : Before) (bytes : List ℕ) → IsBytes bytes
       → Has (branch_at size code_len before bytes) (Spelled bytes branch_bytes (BranchKeeps code_len before))
@@ -230,11 +235,23 @@ module _ (size code_len : ℕ) where
       has_then _ _ (numbers_take size counts.0.read_parameters written.1 h5.rest_fits) (λ read h6.
       has_then _ _ (ends_take size counts.0.ends read.1 h6.rest_fits) (λ ends h7.
       let made : Branch =
-          record { entry = entry.0; workspace = workspace.0; writes = writes.0; reads = reads.0;
-          written_parameters = written.0; read_parameters = read.0; ends = ends.0 } in
+      record {
+        entry = entry.0;
+        workspace = workspace.0;
+        writes = writes.0;
+        reads = reads.0;
+        written_parameters = written.0;
+        read_parameters = read.0;
+        ends = ends.0;
+      } in
       let counted : AreCounts counts.0 made =
-          record { writes = h3.keeps.0; reads = h4.keeps.0; written = h5.keeps.0; read = h6.keeps.0;
-          ends = h7.keeps.0 } in
+      record {
+        writes = h3.keeps.0;
+        reads = h4.keeps.0;
+        written = h5.keeps.0;
+        read = h6.keeps.0;
+        ends = h7.keeps.0;
+      } in
       let f = h2.keeps in
       let gifts : GiftsKeep made = record {
         write_count = rw h3.keeps.0 f.writes;
@@ -260,8 +277,12 @@ module _ (size code_len : ℕ) where
       let j5 = join p4 (flat_map u16_bytes written.0) written.1 j4 h5.parts in
       let j6 = join p5 (flat_map u16_bytes read.0) read.1 j5 h6.parts in
       let parts : bytes ≡ branch_bytes made ++ ends.1 = join p6 (flat_map end_bytes ends.0) ends.1 j6 h7.parts in
-      has_ok (made, ends.1) (record { parts = parts; rest_fits = h7.rest_fits; keeps =
-          record { entry = h0.keeps; workspace_fits = h1.keeps; gifts = gifts } })))))))))
+      has_ok (made, ends.1) (record {
+        parts = parts;
+        rest_fits = h7.rest_fits;
+        keeps =
+            record { entry = h0.keeps; workspace_fits = h1.keeps; gifts = gifts };
+      })))))))))
 
   pub branch_again : code_len < 2 ^ 32 → (before : Before) (b : Branch) (rest : List ℕ) → BranchKeeps code_len before b
       → branch_at size code_len before (branch_bytes b ++ rest) ≡ Ok (b, rest)
@@ -269,13 +290,23 @@ module _ (size code_len : ℕ) where
   branch_again small before b rest h =
       let g = h.gifts in
       let counts : BranchCounts =
-          record { writes = length b.writes; reads = length b.reads; written_parameters = length b.written_parameters;
-          read_parameters = length b.read_parameters; ends = length b.ends } in
+      record {
+        writes = length b.writes;
+        reads = length b.reads;
+        written_parameters = length b.written_parameters;
+        read_parameters = length b.read_parameters;
+        ends = length b.ends;
+      } in
       let counted : AreCounts counts b =
-          record { writes = refl; reads = refl; written = refl; read = refl; ends = refl } in
+      record { writes = refl; reads = refl; written = refl; read = refl; ends = refl } in
       let count_fits : CountsFit counts =
-          record { writes = g.write_count; reads = g.read_count; written = g.written_count;
-          read = g.read_parameter_count; ends = g.end_count } in
+      record {
+        writes = g.write_count;
+        reads = g.read_count;
+        written = g.written_count;
+        read = g.read_parameter_count;
+        ends = g.end_count;
+      } in
       let tail7 = flat_map end_bytes b.ends ++ rest in
       let tail6 = flat_map u16_bytes b.read_parameters ++ tail7 in
       let tail5 = flat_map u16_bytes b.written_parameters ++ tail6 in
@@ -284,7 +315,7 @@ module _ (size code_len : ℕ) where
       let tail2 = counts_bytes counts ++ tail3 in
       let tail1 = i32_bytes b.workspace ++ tail2 in
       let regrouped : branch_bytes b ++ rest ≡ u32_bytes b.entry ++ tail1 =
-          rw (head_is counts b counted) (simp append_assoc) in
+      rw (head_is counts b counted) (simp append_assoc) in
       let fits : b.entry < 2 ^ 32 = let inside = h.entry.in_code in omega arith in
       ap (branch_at size code_len before) regrouped
       ∙ step _ (branch_entry_again before b.entry tail1 fits h.entry)

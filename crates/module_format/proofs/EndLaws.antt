@@ -31,7 +31,7 @@ rises_from : (x y : EndKey) → leb x.kind y.kind ≡ true
     → (eqb y.kind x.kind && int_lt y.number x.number) ≡ false
     → (eqb y.kind x.kind && (int_le y.number x.number && int_le x.number y.number) && ltb y.element x.element) ≡ false
     → (eqb y.kind x.kind && (int_le y.number x.number && int_le x.number y.number) && eqb y.element x.element
-        && leb y.direction x.direction) ≡ false
+    && leb y.direction x.direction) ≡ false
     → is_below x y ≡ true
 rises_from x y kind number element direction = grind (arith, nat_tests, ints)
 
@@ -81,14 +81,22 @@ end_kind_made : (kind : ℕ) (number : ℤ) (element : ℕ) → kind ≤ 2 → F
     → is_number_of kind number ≡ true → (eqb kind 1 || eqb element 0) ≡ true
     → IsMade kind number element (end_kind kind number element)
 end_kind_made zero number element least fits small numbered h =
-    record { kind_same = refl; number_same = refl; element_same = sym (no_element 0 element (omega arith) h);
-        keeps = fits }
+    record {
+      kind_same = refl;
+      number_same = refl;
+      element_same = sym (no_element 0 element (omega arith) h);
+      keeps = fits;
+    }
 end_kind_made (suc zero) number element least fits small numbered h =
     record { kind_same = refl; number_same = refl; element_same = refl; keeps = (fits, small) }
 end_kind_made (suc (suc zero)) number element least fits small numbered h =
     let link = link_below 2 number (omega arith) numbered in
-    record { kind_same = refl; number_same = sym link.0; element_same = sym (no_element 2 element (omega arith) h);
-        keeps = link.1 }
+    record {
+      kind_same = refl;
+      number_same = sym link.0;
+      element_same = sym (no_element 2 element (omega arith) h);
+      keeps = link.1;
+    }
 end_kind_made (suc (suc (suc kind))) number element least fits small numbered h = absurd (omega arith)
 
 -- the bytes of four fields
@@ -123,8 +131,14 @@ end_kind_kept (ends.FrameWord word) h =
     record { kind_least = omega arith; number_fits = h; element_fits = omega arith; numbered = refl; element_is = refl }
 end_kind_kept (ends.Parameter number element) h =
     record { kind_least = omega arith; number_fits = h.0; element_fits = h.1; numbered = refl; element_is = refl }
-end_kind_kept (ends.Link link) h = record { kind_least = omega arith; number_fits = omega (arith, ints); element_fits =
-    omega arith; numbered = grind (arith, nat_tests, ints); element_is = refl }
+end_kind_kept (ends.Link link) h = record {
+  kind_least = omega arith;
+  number_fits = omega (arith, ints);
+  element_fits =
+      omega arith;
+  numbered = grind (arith, nat_tests, ints);
+  element_is = refl;
+}
 
 -- the fields of an end make that end
 end_kind_same : (k : EndKind) → end_kind (kind_of k) (number_of k) (element_of k) ≡ k
@@ -148,7 +162,7 @@ module _ (size : ℕ) (before : EndKey) where
   unfolding end_kind_at
   end_kind_takes bytes fits =
       let known =
-          tested_takes {Q = λ k. k ≤ 2} _ _ _ _ (byte_takes size bytes fits) (λ k below least. leb-true _ _ least) in
+      tested_takes {Q = λ k. k ≤ 2} _ _ _ _ (byte_takes size bytes fits) (λ k below least. leb-true _ _ least) in
       tested_takes _ _ _ _ known (λ k least rises. (least, rises))
 
   end_kind_again : (k : ℕ) (rest : List ℕ) → k ≤ 2 → leb before.kind k ≡ true
@@ -164,7 +178,7 @@ module _ (size : ℕ) (before : EndKey) where
     unfolding end_number_at
     end_number_takes bytes fits =
         let known = tested_takes {Q = λ n. FitsSigned w32 n × (is_number_of kind n ≡ true)} _ _ _ _
-            (int_takes size bytes fits) (λ n fits numbered. (fits, numbered)) in
+        (int_takes size bytes fits) (λ n fits numbered. (fits, numbered)) in
         tested_takes _ _ _ _ known (λ n h rises. (h.0, h.1, not-true _ rises))
 
     end_number_again : (n : ℤ) (rest : List ℕ) → FitsSigned w32 n → is_number_of kind n ≡ true
@@ -186,7 +200,7 @@ module _ (size : ℕ) (before : EndKey) where
       unfolding end_element_at element_falls
       end_element_takes bytes fits =
           let known = tested_takes {Q = λ n. (n < 2 ^ 32) × ((eqb kind 1 || eqb n 0) ≡ true)} _ _ _ _
-              (u32_takes size bytes fits) (λ n below some. (below, some)) in
+          (u32_takes size bytes fits) (λ n below some. (below, some)) in
           tested_takes _ _ _ _ known (λ n h rises. (h.0, h.1, not-true _ rises))
 
       end_element_again : (n : ℕ) (rest : List ℕ) → n < 2 ^ 32 → (eqb kind 1 || eqb n 0) ≡ true
@@ -208,7 +222,7 @@ module _ (size : ℕ) (before : EndKey) where
         unfolding end_direction_at direction_falls
         end_direction_takes bytes fits =
             let known = tested_takes {Q = λ d. (eqb d 1 || eqb d 2) ≡ true} _ _ _ _ (byte_takes size bytes fits)
-                (λ d below known. known) in
+            (λ d below known. known) in
             tested_takes _ _ _ _ known (λ d known rises. (known, not-true _ rises))
 
         end_direction_again : (d : ℕ) (rest : List ℕ) → (eqb d 1 || eqb d 2) ≡ true → direction_falls d ≡ false
@@ -249,8 +263,11 @@ module _ (kind : ℕ) (number : ℤ) (element direction : ℕ)
       → EndKeeps before (made_end kind number element direction)
   unfolding made_end
   made_keeps before rises =
-      record { kind = made.keeps; rises = subst (λ (key : EndKey). IsTrue (is_below before key))
-      (sym made_has_key) rises }
+      record {
+        kind = made.keeps;
+        rises = subst (λ (key : EndKey). IsTrue (is_below before key))
+            (sym made_has_key) rises;
+      }
 
 made_again : (e : EndRow) → made_end (kind_of e.kind) (number_of e.kind) (element_of e.kind)
     (direction_number e.direction) ≡ e
@@ -269,17 +286,20 @@ module _ (size : ℕ) where
       has_then _ _ (end_direction_takes size before kind.0 number.0 element.0 element.1 k.rest_fits) (λ direction d.
       let made = end_kind_made kind.0 number.0 element.0 h.keeps.0 g.keeps.0 k.keeps.0 g.keeps.1 k.keeps.1 in
       let rises =
-          rises_from before (made_key kind.0 number.0 element.0 direction.0) h.keeps.1 g.keeps.2 k.keeps.2 d.keeps.1 in
+      rises_from before (made_key kind.0 number.0 element.0 direction.0) h.keeps.1 g.keeps.2 k.keeps.2 d.keeps.1 in
       let front = join (kind.0 ∷ []) (i32_bytes number.0) number.1 h.parts g.parts in
       let middle = join ((kind.0 ∷ []) ++ i32_bytes number.0) (u32_bytes element.0) element.1 front k.parts in
       let whole = join ((kind.0 ∷ []) ++ i32_bytes number.0 ++ u32_bytes element.0)
-          (direction.0 ∷ []) direction.1 middle d.parts in
+      (direction.0 ∷ []) direction.1 middle d.parts in
       let parts : bytes ≡ end_bytes (made_end kind.0 number.0 element.0 direction.0) ++ direction.1 =
-          whole ∙ ap (λ (t : List ℕ). t ++ direction.1)
-          (sym (made_is_spelled kind.0 number.0 element.0 direction.0 made d.keeps.0)) in
+      whole ∙ ap (λ (t : List ℕ). t ++ direction.1)
+      (sym (made_is_spelled kind.0 number.0 element.0 direction.0 made d.keeps.0)) in
       has_ok (made_end kind.0 number.0 element.0 direction.0, direction.1)
-          (record { parts = parts; rest_fits = d.rest_fits;
-          keeps = made_keeps kind.0 number.0 element.0 direction.0 made d.keeps.0 before rises })))))
+      (record {
+        parts = parts;
+        rest_fits = d.rest_fits;
+        keeps = made_keeps kind.0 number.0 element.0 direction.0 made d.keeps.0 before rises;
+      })))))
 
   pub end_again : (before : EndKey) (e : EndRow) (rest : List ℕ) → EndKeeps before e
       → end_at size before (end_bytes e ++ rest) ≡ Ok (e, rest)
@@ -299,9 +319,9 @@ module _ (size : ℕ) where
       ∙ step _ (end_kind_again size before kind tail0 k.kind_least (kind_rises before y h.rises))
       (step _ (end_number_again size before kind number tail1 k.number_fits k.numbered (number_rises before y h.rises))
       (step _ (end_element_again size before kind number element tail2 k.element_fits k.element_is
-          (element_rises before y h.rises))
+      (element_rises before y h.rises))
       (step _ (end_direction_again size before kind number element direction rest (direction_tested e.direction)
-          (direction_rises before y h.rises))
+      (direction_rises before y h.rises))
       (ap (λ (x : EndRow). Ok (x, rest)) (made_again e)))))
 
   pub ends_take : (count : ℕ) (bytes : List ℕ) → IsBytes bytes

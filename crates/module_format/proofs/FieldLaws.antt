@@ -83,8 +83,12 @@ unfolding u32_bytes
 wide32 = record {
   len = λ x. refl;
   back = λ bytes long fits. le_bytes_4 (take 4 bytes) _ (omega (arith, length-take 4 bytes)) (IsBytes-take 4 bytes fits)
-      (rw (get_or-take 4 bytes 0 0 (omega arith), get_or-take 4 bytes 1 0 (omega arith),
-          get_or-take 4 bytes 2 0 (omega arith), get_or-take 4 bytes 3 0 (omega arith)) (omega arith));
+      (rw (
+        get_or-take 4 bytes 0 0 (omega arith),
+        get_or-take 4 bytes 1 0 (omega arith),
+        get_or-take 4 bytes 2 0 (omega arith),
+        get_or-take 4 bytes 3 0 (omega arith),
+      ) (omega arith));
   again = λ x rest lt. little_number-reads_back 4 x rest lt;
   below = λ bytes fits. omega (arith, fits 0, fits 1, fits 2, fits 3);
 }
@@ -114,9 +118,9 @@ module _ (size n : ℕ) (spelling : ℕ → List ℕ) (max : ℕ) (wide : IsWide
   unfolding number_at
   number_takes bytes fits =
       has_unless (ltb (length bytes) n) (fault faults.Truncated size) (Ok (little_number n bytes, drop n bytes))
-          (λ long.
+      (λ long.
       let parts : bytes ≡ spelling (little_number n bytes) ++ drop n bytes =
-          rw (wide.back bytes (ltb-false _ _ long) fits) (sym (take-append-drop n bytes)) in
+      rw (wide.back bytes (ltb-false _ _ long) fits) (sym (take-append-drop n bytes)) in
       has_ok (little_number n bytes, drop n bytes) (record {
         parts = parts;
         rest_fits = IsBytes-drop n bytes fits;
@@ -128,7 +132,7 @@ module _ (size n : ℕ) (spelling : ℕ → List ℕ) (max : ℕ) (wide : IsWide
   number_again x rest lt =
       let len = wide.len x in
       let long : ltb (length (spelling x ++ rest)) n ≡ false =
-          le-ltb _ _ (omega (arith, length-append (spelling x) rest)) in
+      le-ltb _ _ (omega (arith, length-append (spelling x) rest)) in
       rw (long, wide.again x rest lt, drop_at (spelling x) rest n len) refl
 
   pub limited_takes : (limit : ℕ) (bytes : List ℕ) → IsBytes bytes
@@ -236,7 +240,7 @@ module _ (size : ℕ) where
   unfolding interval_at hi_at
   interval_again lo hi rest h =
       step _ (int_again lo (i32_bytes hi ++ rest) h.lo_fits)
-          (step _ (tested_again _ _ _ _ (int_again hi rest h.hi_fits) (int_le-le _ _ h.ordered)) refl)
+      (step _ (tested_again _ _ _ _ (int_again hi rest h.hi_fits) (int_le-le _ _ h.ordered)) refl)
 
 -- ---- runs of bytes
 
@@ -249,8 +253,11 @@ module _ (size : ℕ) where
       has_ok (take n bytes, drop n bytes) (record {
         parts = sym (take-append-drop n bytes);
         rest_fits = IsBytes-drop n bytes fits;
-        keeps = (let enough : n ≤ length bytes = ltb-false _ _ long in
-            omega (arith, length-take n bytes), IsBytes-take n bytes fits);
+        keeps = (
+          let enough : n ≤ length bytes = ltb-false _ _ long in
+              omega (arith, length-take n bytes),
+          IsBytes-take n bytes fits,
+        );
       }))
 
   pub bytes_again : (run rest : List ℕ) → bytes_at size (length run) (run ++ rest) ≡ Ok (run, rest)

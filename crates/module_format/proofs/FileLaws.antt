@@ -127,7 +127,7 @@ tables_take size h bytes fits =
     let j4 = join (x0.0 ++ x1.0 ++ procedures ++ labels) pars x4.1 j3 h4.parts in
     let j5 = join (x0.0 ++ x1.0 ++ procedures ++ labels ++ pars) table_rows x5.1 j4 h5.parts in
     let regrouped : x0.0 ++ x1.0 ++ procedures ++ labels ++ pars ++ table_rows ≡ x0.0 ++ x1.0 ++ rows_bytes c =
-        simp append_assoc in
+    simp append_assoc in
     let parts : bytes ≡ (x0.0 ++ x1.0 ++ rows_bytes c) ++ x5.1 = j5 ∙ ap (λ (t : List ℕ). t ++ x5.1) regrouped in
     has_ok ((c, place size x2.1), x5.1) (record {
       parts = parts;
@@ -140,9 +140,9 @@ tables_take size h bytes fits =
 pub few_contexts : (c : Contents) → LimitsKeep c → RowsKeep c → HasFewContexts c
 few_contexts c l r =
     let few = each (ParKeeps (first_branch c) (length c.code)) behind_par (λ row. length row.branches ≤ MAX_BRANCHES)
-        (λ low row h. h.branch_limit) no_branches c.pars r.pars in
+    (λ low row h. h.branch_limit) no_branches c.pars r.pars in
     let most : branch_count c.pars ≤ length c.pars * MAX_BRANCHES =
-        sum_by-le (λ row. length row.branches) MAX_BRANCHES c.pars (All-from_recursion _ c.pars few) in
+    sum_by-le (λ row. length row.branches) MAX_BRANCHES c.pars (All-from_recursion _ c.pars few) in
     omega (arith, most, l.procedures, l.pars)
 
 -- ---- what is read is the file of what it says
@@ -198,7 +198,7 @@ module _ (h : Header) (c : Contents) (f : HeaderFits h) (e : IsFrom h c) where
   all_keeps : NamesAreThere c → Keeps c
   all_keeps there =
       let flag : c.has_long_operations ≡ h.counts.has_long_operations =
-          ap (λ (d : Contents). d.has_long_operations) e.made in
+      ap (λ (d : Contents). d.has_long_operations) e.made in
       record {
         version =
             rw (version_is, flag)
@@ -216,12 +216,12 @@ module _ (h : Header) (c : Contents) (f : HeaderFits h) (e : IsFrom h c) where
 pub rows_ready : (bytes : List ℕ) → IsBytes bytes → {h : Header × List ℕ} {t : (Contents × ℕ) × List ℕ}
     → header_at bytes ≡ Ok h → tables_at (length bytes) h.0 h.1 ≡ Ok t
     → (t.0.1 + length (flat_map label_bytes t.0.0.labels) + length (flat_map par_bytes t.0.0.pars) ≤ length bytes)
-        × LimitsKeep t.0.0 × RowsKeep t.0.0
+    × LimitsKeep t.0.0 × RowsKeep t.0.0
 rows_ready bytes fits {h} {t} p q =
     let f = has_at (header_at bytes) h (header_takes bytes fits) p in
     let g = has_at (tables_at (length bytes) h.0 h.1) t (tables_take (length bytes) h.0 h.1 f.rest_fits) q in
     let whole : length bytes ≡ length (head_bytes h.0) + length h.1 =
-        ap length f.parts ∙ length-append (head_bytes h.0) h.1 in
+    ap length f.parts ∙ length-append (head_bytes h.0) h.1 in
     (g.inside (omega arith), limits_keep h.0 t.0.0 f.keeps g.from, g.from.rows)
 
 -- the same of a cursor that went over the header and the tables
@@ -229,11 +229,11 @@ pub rows_taken : (bytes : List ℕ) → IsBytes bytes → (front behind last : C
     → front.rest.now ≡ bytes → front.size ≡ length bytes
     → Takes (λ size. header_at) front h behind → Takes (λ size. tables_at size h) behind t last → last.failure ≡ None
     → (t.1 + length (flat_map label_bytes t.0.labels) + length (flat_map par_bytes t.0.pars) ≤ length bytes)
-        × LimitsKeep t.0 × RowsKeep t.0
+    × LimitsKeep t.0 × RowsKeep t.0
 rows_taken bytes fits front behind last {h} {t} at_front whole head rows still =
     let took = rw (head.same, whole) at rows.took in
     let g = took_ok
-        (tables_at (length bytes) h) behind.failure behind.rest.now t last.failure last.rest.now still took in
+    (tables_at (length bytes) h) behind.failure behind.rest.now t last.failure last.rest.now still took in
     let took_first = rw at_front at head.took in
     let f = took_ok header_at front.failure bytes h behind.failure behind.rest.now g.0 took_first in
     rows_ready bytes fits f.1 g.1
@@ -242,29 +242,51 @@ rows_taken bytes fits front behind last {h} {t} at_front whole head rows still =
 header_of : Contents → Header
 header_of c = record {
   version = c.version;
-  sizes = record { code_len = length c.code; const_len = length c.constants; data_words = c.data_words; base = c.base;
-      budget = c.budget; finish = c.finish };
+  sizes = record {
+    code_len = length c.code;
+    const_len = length c.constants;
+    data_words = c.data_words;
+    base = c.base;
+    budget = c.budget;
+    finish = c.finish;
+  };
   lengths = c.lengths;
-  counts = record { procedures = length c.procedures; labels = length c.labels; pars = length c.pars;
-      has_long_operations = c.has_long_operations; table_rows = length c.table_rows };
+  counts = record {
+    procedures = length c.procedures;
+    labels = length c.labels;
+    pars = length c.pars;
+    has_long_operations = c.has_long_operations;
+    table_rows = length c.table_rows;
+  };
 }
 
 -- a header with these lengths
 with_lengths : Header → ℕ → ℕ → ℕ → ℕ → ℕ → ℕ → Header
 with_lengths h code constants procedures labels pars table_rows = record {
   version = h.version;
-  sizes = record { code_len = code; const_len = constants; data_words = h.sizes.data_words; base = h.sizes.base;
-      budget = h.sizes.budget; finish = h.sizes.finish };
+  sizes = record {
+    code_len = code;
+    const_len = constants;
+    data_words = h.sizes.data_words;
+    base = h.sizes.base;
+    budget = h.sizes.budget;
+    finish = h.sizes.finish;
+  };
   lengths = h.lengths;
-  counts = record { procedures = procedures; labels = labels; pars = pars;
-      has_long_operations = h.counts.has_long_operations; table_rows = table_rows };
+  counts = record {
+    procedures = procedures;
+    labels = labels;
+    pars = pars;
+    has_long_operations = h.counts.has_long_operations;
+    table_rows = table_rows;
+  };
 }
 
 header_is : (h : Header) (c : Contents) → IsFrom h c → header_of c ≡ h
 unfolding header_of with_lengths
 header_is h c e =
     let same : with_lengths h (length c.code) (length c.constants) (length c.procedures) (length c.labels)
-        (length c.pars) (length c.table_rows) ≡ h =
+    (length c.pars) (length c.table_rows) ≡ h =
     rw (e.code, e.constants, e.procedures, e.labels, e.pars, e.table_rows) refl in
     ap header_of e.made ∙ same
 
@@ -283,9 +305,9 @@ read_finds bytes fits =
     let body = c.code ++ c.constants ++ rows_bytes c in
     let j1 : bytes ≡ (head_bytes h.0 ++ body) ++ t.1 = join (head_bytes h.0) body t.1 f.parts g.parts in
     let j2 : bytes ≡ head_bytes h.0 ++ body =
-        j1 ∙ ap (λ (r : List ℕ). (head_bytes h.0 ++ body) ++ r) none ∙ append-nil (head_bytes h.0 ++ body) in
+    j1 ∙ ap (λ (r : List ℕ). (head_bytes h.0 ++ body) ++ r) none ∙ append-nil (head_bytes h.0 ++ body) in
     let spelled : bytes ≡ file_of c =
-        j2 ∙ ap (λ (x : Header). head_bytes x ++ body) (sym (header_is h.0 c g.from)) ∙ sym (file_regrouped c) in
+    j2 ∙ ap (λ (x : Header). head_bytes x ++ body) (sym (header_is h.0 c g.from)) ∙ sym (file_regrouped c) in
     let whole : Format bytes c = record { spelled = spelled; keeps = all_keeps h.0 c f.keeps g.from there } in
     whole)))
 
@@ -298,17 +320,36 @@ header_fits c k =
     let g = k.bounds in
     let l = k.limits in
     record {
-      sizes = record { has_code = h.has_code; code_limit = h.code_limit; constants_limit = h.constants_limit;
-          has_data = h.has_data; data_limit = h.data_limit; base = h.base; budget = g.budget; finish = g.finish };
+      sizes = record {
+        has_code = h.has_code;
+        code_limit = h.code_limit;
+        constants_limit = h.constants_limit;
+        has_data = h.has_data;
+        data_limit = h.data_limit;
+        base = h.base;
+        budget = g.budget;
+        finish = g.finish;
+      };
       lengths = record { eight = g.eight; limit = g.lengths };
-      counts = record { procedures = l.procedures; labels = l.labels; pars = l.pars; table_rows = l.table_rows;
-          flag = flag_fits c.version c.has_long_operations c.table_rows k.version };
+      counts = record {
+        procedures = l.procedures;
+        labels = l.labels;
+        pars = l.pars;
+        table_rows = l.table_rows;
+        flag = flag_fits c.version c.has_long_operations c.table_rows k.version;
+      };
     }
 
 read_body : (size : ℕ) (c : Contents) → Keeps c
     → tables_at size (header_of c) (c.code ++ c.constants ++ rows_bytes c)
-        ≡ Ok ((c, place size (flat_map label_bytes c.labels ++
-        (flat_map par_bytes c.pars ++ flat_map table_row_bytes c.table_rows))), [])
+    ≡ Ok (
+      (
+        c,
+        place size (flat_map label_bytes c.labels ++
+            (flat_map par_bytes c.pars ++ flat_map table_row_bytes c.table_rows)),
+      ),
+      [],
+    )
 unfolding tables_at header_of rows_bytes
 read_body size c k =
     let code_len = length c.code in
@@ -322,7 +363,7 @@ read_body size c k =
     let constants_small : length c.constants < 2 ^ 32 = let a = k.sizes.constants_limit in omega arith in
     let table_rows : table_rows_at size c.constants (length c.table_rows) t4 ≡ Ok (c.table_rows, []) =
     ap (table_rows_at size c.constants (length c.table_rows)) (sym (append-nil t4))
-        ∙ table_rows_again size c.constants constants_small c.table_rows [] k.rows.table_rows in
+    ∙ table_rows_again size c.constants constants_small c.table_rows [] k.rows.table_rows in
     ap (tables_at size (header_of c)) regrouped
     ∙ step _ (bytes_again size c.code t0)
     (step _ (bytes_again size c.constants t1)

@@ -30,15 +30,15 @@ magic_takes : (bytes : List ℕ) → IsBytes bytes → Has (magic_at bytes) (Spe
 unfolding magic_at
 magic_takes bytes fits =
     has_cond (starts_with nat_eq bytes magic_one) (Ok (versions.One, drop 4 bytes))
-        (cond (starts_with nat_eq bytes magic_two) (Ok (versions.Two, drop 4 bytes)) (Err (fault faults.Magic 0)))
+    (cond (starts_with nat_eq bytes magic_two) (Ok (versions.Two, drop 4 bytes)) (Err (fault faults.Magic 0)))
     (λ begins.
     let parts : bytes ≡ magic_one ++ drop 4 bytes =
-        (starts_is Decides-eqb bytes magic_one (starts_with nat_eq bytes magic_one) refl).0 begins in
+    (starts_is Decides-eqb bytes magic_one (starts_with nat_eq bytes magic_one) refl).0 begins in
     has_ok (versions.One, drop 4 bytes) (record { parts = parts; rest_fits = IsBytes-drop 4 bytes fits; keeps = tt }))
     (λ _. has_if (starts_with nat_eq bytes magic_two) (fault faults.Magic 0) (Ok (versions.Two, drop 4 bytes))
-        (λ begins.
+    (λ begins.
     let parts : bytes ≡ magic_two ++ drop 4 bytes =
-        (starts_is Decides-eqb bytes magic_two (starts_with nat_eq bytes magic_two) refl).0 begins in
+    (starts_is Decides-eqb bytes magic_two (starts_with nat_eq bytes magic_two) refl).0 begins in
     has_ok (versions.Two, drop 4 bytes) (record { parts = parts; rest_fits = IsBytes-drop 4 bytes fits; keeps = tt })))
 
 magic_again : (version : Version) (rest : List ℕ) → magic_at (magic_of version ++ rest) ≡ Ok (version, rest)
@@ -79,18 +79,26 @@ module _ (size : ℕ) (version : Version) where
       has_then _ _ (limited_takes size 8 u64_bytes (2 ^ 64) wide64 MAX_BUDGET x3.1 h3.rest_fits) (λ x4 h4.
       has_then _ _ (at_most_takes size x0.0 x4.1 h4.rest_fits) (λ x5 h5.
       let made : Sizes =
-          record { code_len = x0.0; const_len = x1.0; data_words = x2.0; base = x3.0; budget = x4.0; finish = x5.0 } in
+      record { code_len = x0.0; const_len = x1.0; data_words = x2.0; base = x3.0; budget = x4.0; finish = x5.0 } in
       let kept : SizesFit version made =
-      record { has_code = h0.keeps.0; code_limit = h0.keeps.1; constants_limit = h1.keeps.1; has_data = h2.keeps.0;
-          data_limit = h2.keeps.1; base = h3.keeps.1; budget = h4.keeps.1; finish = h5.keeps.1 } in
+      record {
+        has_code = h0.keeps.0;
+        code_limit = h0.keeps.1;
+        constants_limit = h1.keeps.1;
+        has_data = h2.keeps.0;
+        data_limit = h2.keeps.1;
+        base = h3.keeps.1;
+        budget = h4.keeps.1;
+        finish = h5.keeps.1;
+      } in
       let j1 = join (u32_bytes x0.0) (u32_bytes x1.0) x1.1 h0.parts h1.parts in
       let j2 = join (u32_bytes x0.0 ++ u32_bytes x1.0) (u32_bytes x2.0) x2.1 j1 h2.parts in
       let j3 = join (u32_bytes x0.0 ++ u32_bytes x1.0 ++ u32_bytes x2.0) (u32_bytes x3.0) x3.1 j2 h3.parts in
       let j4 = join (u32_bytes x0.0 ++ u32_bytes x1.0 ++ u32_bytes x2.0 ++ u32_bytes x3.0)
-          (u64_bytes x4.0) x4.1 j3 h4.parts in
+      (u64_bytes x4.0) x4.1 j3 h4.parts in
       let parts : bytes ≡ sizes_bytes made ++ x5.1 =
-          join (u32_bytes x0.0 ++ u32_bytes x1.0 ++ u32_bytes x2.0 ++ u32_bytes x3.0 ++ u64_bytes x4.0)
-          (u32_bytes x5.0) x5.1 j4 h5.parts in
+      join (u32_bytes x0.0 ++ u32_bytes x1.0 ++ u32_bytes x2.0 ++ u32_bytes x3.0 ++ u64_bytes x4.0)
+      (u32_bytes x5.0) x5.1 j4 h5.parts in
       has_ok (made, x5.1) (record { parts = parts; rest_fits = h5.rest_fits; keeps = kept })))))))
 
   sizes_again : (s : Sizes) (rest : List ℕ) → SizesFit version s
@@ -137,19 +145,22 @@ module _ (size : ℕ) where
       let j2 = join (u32_bytes x0.0 ++ u32_bytes x1.0) (u32_bytes x2.0) x2.1 j1 h2.parts in
       let parts = join (u32_bytes x0.0 ++ u32_bytes x1.0 ++ u32_bytes x2.0) (u32_bytes x3.0) x3.1 j2 h3.parts in
       has_ok ((x0.0, x1.0, x2.0, x3.0), x3.1)
-          (record { parts = parts; rest_fits = h3.rest_fits;
-          keeps = (h0.keeps.1, h1.keeps.1, h2.keeps.1, h3.keeps.1) })))))
+      (record {
+        parts = parts;
+        rest_fits = h3.rest_fits;
+        keeps = (h0.keeps.1, h1.keeps.1, h2.keeps.1, h3.keeps.1);
+      })))))
 
   four_again : (a b c d : ℕ) (rest : List ℕ)
       → a ≤ MAX_MESSAGE → b ≤ MAX_MESSAGE → c ≤ MAX_MESSAGE → d ≤ MAX_MESSAGE
       → four_lengths_at size (u32_bytes a ++ (u32_bytes b ++ (u32_bytes c ++ (u32_bytes d ++ rest))))
-          ≡ Ok ((a, b, c, d), rest)
+      ≡ Ok ((a, b, c, d), rest)
   unfolding four_lengths_at
   four_again a b c d rest ha hb hc hd =
       step _ (limited_again size 4 u32_bytes (2 ^ 32) wide32 MAX_MESSAGE a
-          (u32_bytes b ++ (u32_bytes c ++ (u32_bytes d ++ rest))) (omega arith) ha)
+      (u32_bytes b ++ (u32_bytes c ++ (u32_bytes d ++ rest))) (omega arith) ha)
       (step _ (limited_again size 4 u32_bytes (2 ^ 32) wide32 MAX_MESSAGE b (u32_bytes c ++ (u32_bytes d ++ rest))
-          (omega arith) hb)
+      (omega arith) hb)
       (step _ (limited_again size 4 u32_bytes (2 ^ 32) wide32 MAX_MESSAGE c (u32_bytes d ++ rest) (omega arith) hc)
       (step _ (limited_again size 4 u32_bytes (2 ^ 32) wide32 MAX_MESSAGE d rest (omega arith) hd) refl)))
 
@@ -169,23 +180,31 @@ module _ (size : ℕ) where
       has_then _ _ (four_takes size bytes fits) (λ p h.
       has_then _ _ (four_takes size p.1 h.rest_fits) (λ q g.
       let all : AreLengths (eight_of p.0 q.0) =
-          record { eight = refl; limit = (h.keeps.0, (h.keeps.1,
-          (h.keeps.2, (h.keeps.3, (g.keeps.0, (g.keeps.1, (g.keeps.2, (g.keeps.3, tt)))))))) } in
+      record {
+        eight = refl;
+        limit = (
+          h.keeps.0,
+          (
+            h.keeps.1,
+            (h.keeps.2, (h.keeps.3, (g.keeps.0, (g.keeps.1, (g.keeps.2, (g.keeps.3, tt)))))),
+          ),
+        );
+      } in
       let regrouped : four_bytes p.0 ++ four_bytes q.0 ≡ flat_map u32_bytes (eight_of p.0 q.0) =
-          simp (append_assoc, append-nil) in
+      simp (append_assoc, append-nil) in
       let parts : bytes ≡ flat_map u32_bytes (eight_of p.0 q.0) ++ q.1 =
-          join (four_bytes p.0) (four_bytes q.0) q.1 h.parts g.parts ∙ ap (λ (t : List ℕ). t ++ q.1) regrouped in
+      join (four_bytes p.0) (four_bytes q.0) q.1 h.parts g.parts ∙ ap (λ (t : List ℕ). t ++ q.1) regrouped in
       has_ok (eight_of p.0 q.0, q.1) (record { parts = parts; rest_fits = g.rest_fits; keeps = all })))
 
   eight_again : (a b c d e f g h : ℕ) (rest : List ℕ)
       → AreLengths (a ∷ b ∷ c ∷ d ∷ e ∷ f ∷ g ∷ h ∷ [])
       → lengths_at size (flat_map u32_bytes (a ∷ b ∷ c ∷ d ∷ e ∷ f ∷ g ∷ h ∷ []) ++ rest)
-          ≡ Ok (a ∷ b ∷ c ∷ d ∷ e ∷ f ∷ g ∷ h ∷ [], rest)
+      ≡ Ok (a ∷ b ∷ c ∷ d ∷ e ∷ f ∷ g ∷ h ∷ [], rest)
   unfolding lengths_at
   eight_again a b c d e f g h rest k =
       let t2 = u32_bytes e ++ (u32_bytes f ++ (u32_bytes g ++ (u32_bytes h ++ rest))) in
       let regrouped : flat_map u32_bytes (a ∷ b ∷ c ∷ d ∷ e ∷ f ∷ g ∷ h ∷ []) ++ rest ≡ u32_bytes a
-          ++ (u32_bytes b ++ (u32_bytes c ++ (u32_bytes d ++ t2))) = simp (append_assoc, append-nil) in
+      ++ (u32_bytes b ++ (u32_bytes c ++ (u32_bytes d ++ t2))) = simp (append_assoc, append-nil) in
       let l = k.limit in
       ap (lengths_at size) regrouped
       ∙ step _ (four_again size a b c d t2 l.0 l.1.0 l.1.1.0 l.1.1.1.0)
@@ -247,14 +266,18 @@ module _ (size : ℕ) where
       → Has (extension_at size version bytes) (Spelled bytes (λ e. flag_bytes version e.0 e.1) (ExtensionFits version))
   unfolding extension_at
   extension_takes versions.One bytes fits =
-      has_ok ((false, 0), bytes) (record { parts = refl; rest_fits = fits; keeps =
-      record { flag = (refl, refl); limit = omega arith } })
+      has_ok ((false, 0), bytes) (record {
+        parts = refl;
+        rest_fits = fits;
+        keeps =
+            record { flag = (refl, refl); limit = omega arith };
+      })
   extension_takes versions.Two bytes fits =
       has_then _ _ (flag_takes bytes fits) (λ flag h.
       has_then _ _ (limited_takes size 4 u32_bytes (2 ^ 32) wide32 MAX_TABLES flag.1 h.rest_fits) (λ count g.
       let parts = join (u32_bytes (cond flag.0 1 0)) (u32_bytes count.0) count.1 h.parts g.parts in
       has_ok ((flag.0, count.0), count.1)
-          (record { parts = parts; rest_fits = g.rest_fits; keeps = record { flag = tt; limit = g.keeps.1 } })))
+      (record { parts = parts; rest_fits = g.rest_fits; keeps = record { flag = tt; limit = g.keeps.1 } })))
 
   extension_again : (version : Version) (flag : Bool) (count : ℕ) (rest : List ℕ) → FlagFits version flag count
       → count ≤ MAX_TABLES
@@ -263,7 +286,7 @@ module _ (size : ℕ) where
   extension_again versions.One flag count rest h limit = rw (h.0, h.1) refl
   extension_again versions.Two flag count rest h limit =
       let regrouped : flag_bytes versions.Two flag count ++ rest ≡ u32_bytes (cond flag 1 0)
-          ++ (u32_bytes count ++ rest) = append_assoc (u32_bytes (cond flag 1 0)) (u32_bytes count) rest in
+      ++ (u32_bytes count ++ rest) = append_assoc (u32_bytes (cond flag 1 0)) (u32_bytes count) rest in
       ap (extension_at size versions.Two) regrouped
       ∙ step _ (flag_again flag (u32_bytes count ++ rest))
       (step _ (limited_again size 4 u32_bytes (2 ^ 32) wide32 MAX_TABLES count rest (omega arith) limit) refl)
@@ -289,15 +312,20 @@ module _ (size : ℕ) (version : Version) where
       has_then _ _ (limited_takes size 4 u32_bytes (2 ^ 32) wide32 MAX_PARS x1.1 h1.rest_fits) (λ x2 h2.
       has_then _ _ (extension_takes size version x2.1 h2.rest_fits) (λ x3 h3.
       let made : RowCounts =
-          record { procedures = x0.0; labels = x1.0; pars = x2.0; has_long_operations = x3.0.0; table_rows = x3.0.1 } in
+      record { procedures = x0.0; labels = x1.0; pars = x2.0; has_long_operations = x3.0.0; table_rows = x3.0.1 } in
       let kept : CountsFit version made =
-          record { procedures = h0.keeps.1; labels = h1.keeps.1; pars = h2.keeps.1; table_rows = h3.keeps.limit;
-          flag = h3.keeps.flag } in
+      record {
+        procedures = h0.keeps.1;
+        labels = h1.keeps.1;
+        pars = h2.keeps.1;
+        table_rows = h3.keeps.limit;
+        flag = h3.keeps.flag;
+      } in
       let j1 = join (u32_bytes x0.0) (u32_bytes x1.0) x1.1 h0.parts h1.parts in
       let j2 = join (u32_bytes x0.0 ++ u32_bytes x1.0) (u32_bytes x2.0) x2.1 j1 h2.parts in
       let parts : bytes ≡ counts_bytes version made ++ x3.1 =
-          join (u32_bytes x0.0 ++ u32_bytes x1.0 ++ u32_bytes x2.0)
-          (flag_bytes version x3.0.0 x3.0.1) x3.1 j2 h3.parts in
+      join (u32_bytes x0.0 ++ u32_bytes x1.0 ++ u32_bytes x2.0)
+      (flag_bytes version x3.0.0 x3.0.1) x3.1 j2 h3.parts in
       has_ok (made, x3.1) (record { parts = parts; rest_fits = h3.rest_fits; keeps = kept })))))
 
   counts_again : (n : RowCounts) (rest : List ℕ) → CountsFit version n
@@ -341,7 +369,7 @@ header_takes bytes fits =
     let j1 = join (magic_of x0.0) (sizes_bytes x1.0) x1.1 h0.parts h1.parts in
     let j2 = join (magic_of x0.0 ++ sizes_bytes x1.0) (flat_map u32_bytes x2.0) x2.1 j1 h2.parts in
     let parts : bytes ≡ head_bytes made ++ x3.1 =
-        join (magic_of x0.0 ++ sizes_bytes x1.0 ++ flat_map u32_bytes x2.0) (counts_bytes x0.0 x3.0) x3.1 j2 h3.parts in
+    join (magic_of x0.0 ++ sizes_bytes x1.0 ++ flat_map u32_bytes x2.0) (counts_bytes x0.0 x3.0) x3.1 j2 h3.parts in
     has_ok (made, x3.1) (record { parts = parts; rest_fits = h3.rest_fits; keeps = kept })))))
 
 pub header_again : (h : Header) (rest : List ℕ) → HeaderFits h → header_at (head_bytes h ++ rest) ≡ Ok (h, rest)

@@ -55,5 +55,10 @@ names_is (Err f) c at told = (λ e. absurd cc, λ h. absurd (let p = late_passes
 pub rows_in_memory : (c : Contents) → LimitsKeep c → RowsKeep c
     → 0 + length (flat_map label_bytes c.labels) + length (flat_map par_bytes c.pars) < 2 ^ 64
 rows_in_memory c limits rows =
-    omega (arith, limits.labels, limits.pars, labels_small c.labels (labels_writable c rows),
-        pars_small c.pars (pars_writable c rows))
+    omega (
+      arith,
+      limits.labels,
+      limits.pars,
+      labels_small c.labels (labels_writable c rows),
+      pars_small c.pars (pars_writable c rows),
+    )

@@ -47,10 +47,10 @@ entry_fits : (context : Context) (at : ℕ) (e : Entry) → Has (late_entry cont
 unfolding late_entry
 entry_fits context at e =
     has_unless (int_lt e.word context.lo) (fault faults.Range at)
-        (cond (int_lt context.hi (end_of e)) (Err (fault faults.Range at))
-        (late_fact context.parameters (at + 8) e.fact)) (λ low.
+    (cond (int_lt context.hi (end_of e)) (Err (fault faults.Range at))
+    (late_fact context.parameters (at + 8) e.fact)) (λ low.
     has_unless (int_lt context.hi (end_of e)) (fault faults.Range at) (late_fact context.parameters (at + 8) e.fact)
-        (λ high.
+    (λ high.
     has_weaker (late_fact context.parameters (at + 8) e.fact) (fact_fits context.parameters (at + 8) e.fact) (λ u h.
     record { low = int_lt-false _ _ low; high = int_lt-false _ _ high; fact = h })))
 
@@ -89,15 +89,15 @@ row_fits context at row =
     has_then _ _ (fact_fits context.parameters at_b row.stack.b) (λ v b.
     has_then _ _ (fact_fits context.parameters at_c row.stack.c) (λ w c.
     has_weaker (late_list (late_entry context) entry_bytes at_es row.entries)
-        (list_fits (late_entry context) entry_bytes (EntryFits context) (entry_fits context) at_es row.entries) (λ x es.
+    (list_fits (late_entry context) entry_bytes (EntryFits context) (entry_fits context) at_es row.entries) (λ x es.
     record { a = a; b = b; c = c; entries = es }))))
 
 row_passes : (context : Context) (at : ℕ) (row : Label) → RowFits row context → late_row context at row ≡ passes
 unfolding late_row
 row_passes context at row h =
     step _ (fact_passes context.parameters _ row.stack.a h.a)
-        (step _ (fact_passes context.parameters _ row.stack.b h.b)
-        (step _ (fact_passes context.parameters _ row.stack.c h.c)
+    (step _ (fact_passes context.parameters _ row.stack.b h.b)
+    (step _ (fact_passes context.parameters _ row.stack.c h.c)
     (list_passes (late_entry context) entry_bytes (EntryFits context) (entry_passes context) _ row.entries h.entries)))
 
 in_fits : (o : Option Context) (at : ℕ) (row : Label) → Has (late_in o at row) (λ _. MatchOption o ⊥ (RowFits row))
@@ -183,14 +183,14 @@ unfolding late_par
 par_fits c at row =
     let parameters = parameters_at c row.context in
     list_fits (late_branch parameters) branch_bytes (BranchFits parameters) (branch_fits parameters)
-        (at + 18 + length (flat_map channel_bytes row.channels)) row.branches
+    (at + 18 + length (flat_map channel_bytes row.channels)) row.branches
 
 par_passes : (c : Contents) (at : ℕ) (row : Par) → ParFits c row → late_par c at row ≡ passes
 unfolding late_par
 par_passes c at row h =
     let parameters = parameters_at c row.context in
     list_passes (late_branch parameters) branch_bytes (BranchFits parameters) (branch_passes parameters)
-        (at + 18 + length (flat_map channel_bytes row.channels)) row.branches h
+    (at + 18 + length (flat_map channel_bytes row.channels)) row.branches h
 
 -- ---- both
 
@@ -200,7 +200,7 @@ late_fits at c =
     let at_pars = at + length (flat_map label_bytes c.labels) in
     has_then _ _ (list_fits (late_label c) label_bytes (LabelFits c) (label_fits c) at c.labels) (λ u labels.
     has_weaker (late_list (late_par c) par_bytes at_pars c.pars)
-        (list_fits (late_par c) par_bytes (ParFits c) (par_fits c) at_pars c.pars) (λ v pars.
+    (list_fits (late_par c) par_bytes (ParFits c) (par_fits c) at_pars c.pars) (λ v pars.
     record { labels = labels; pars = pars }))
 
 pub late_passes : (at : ℕ) (c : Contents) → NamesAreThere c → late_at at c ≡ passes

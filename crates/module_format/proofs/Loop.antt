@@ -38,13 +38,13 @@ module _ {A S : Type 0} (item : S → List ℕ → Read A) (next : S → A → S
   pub goes_on : (front : List A) (count i : ℕ) (low : S) (bytes : List ℕ) (x : A) (after : List ℕ)
       (total : Read (List A)) → i < count → item low bytes ≡ Ok (x, after)
       → with_front front (list_at item next (count - i) low bytes) ≡ total
-          → with_front (front ++ x ∷ []) (list_at item next (count - (i + 1)) (next low x) after) ≡ total
+      → with_front (front ++ x ∷ []) (list_at item next (count - (i + 1)) (next low x) after) ≡ total
   unfolding list_at and_then
   goes_on front count i low bytes x after total lt h so_far =
       let k : count - i ≡ suc (count - (i + 1)) = omega arith in
       let one : with_front front (list_at item next (count - i) low bytes)
-          ≡ with_front (front ++ x ∷ []) (list_at item next (count - (i + 1)) (next low x) after) =
-          rw (k, h) (regroup front x (list_at item next (count - (i + 1)) (next low x) after)) in
+      ≡ with_front (front ++ x ∷ []) (list_at item next (count - (i + 1)) (next low x) after) =
+      rw (k, h) (regroup front x (list_at item next (count - (i + 1)) (next low x) after)) in
       sym one ∙ so_far
 
   pub ends : (e : ReadError) (front : List A) (count i : ℕ) (low : S) (bytes : List ℕ) (total : Read (List A))
@@ -63,7 +63,7 @@ module _ {A S : Type 0} (item : S → List ℕ → Read A) (next : S → A → S
   is_done front count i low bytes total le so_far =
       let k : count - i ≡ 0 = omega arith in
       let one : with_front front (list_at item next (count - i) low bytes) ≡ Ok (front, bytes) =
-          rw k (ap (λ (xs : List A). Ok (xs, bytes)) (append-nil front)) in
+      rw k (ap (λ (xs : List A). Ok (xs, bytes)) (append-nil front)) in
       sym so_far ∙ one
 
   -- an item that a cursor read
@@ -100,7 +100,7 @@ mapped_item_at {A = A} f xs ys i x same lt is =
     let x_is : get_or xs i x ≡ x = sym (is ∙ ap (λ (zs : List A). get_or zs i x) same) in
     let long : i < length (map f xs) = rw length-map there in
     item_at (map f xs) i (f x) long ∙ ap (λ y. y ∷ drop (i + 1) (map f xs))
-        (get_or-map f xs i x (f x) there ∙ ap f x_is)
+    (get_or-map f xs i x (f x) there ∙ ap f x_is)
 
 -- ---- looking at items one after the other, once all are read
 
@@ -108,11 +108,11 @@ module _ {A : Type 0} (item : ℕ → A → Result ⊤ FormatFault) (spelled : A
   pub late_goes_on : (xs : List A) (i at : ℕ) (x : A) (u : ⊤) (total : Result ⊤ FormatFault)
       → drop i xs ≡ x ∷ drop (i + 1) xs → item at x ≡ Ok u
       → late_list item spelled at (drop i xs) ≡ total
-          → late_list item spelled (at + length (spelled x)) (drop (i + 1) xs) ≡ total
+      → late_list item spelled (at + length (spelled x)) (drop (i + 1) xs) ≡ total
   unfolding late_list and_then
   late_goes_on xs i at x u total e h so_far =
       let one : late_list item spelled at (drop i xs)
-          ≡ late_list item spelled (at + length (spelled x)) (drop (i + 1) xs) = rw (e, h) refl in
+      ≡ late_list item spelled (at + length (spelled x)) (drop (i + 1) xs) = rw (e, h) refl in
       sym one ∙ so_far
 
   pub late_ends : (f : FormatFault) (xs : List A) (i at : ℕ) (x : A) (total : Result ⊤ FormatFault)

@@ -53,7 +53,7 @@ module _ {X : Type 0} (offset : X → ℕ) where
           let more = up n k x ge lt in
           let same : get_or xs k d ≡ get_or xs k x = get_or_default xs k d x lt in
           λ e. differs (let is : offset (get_or xs n x) ≡ offset x = ap offset here in let as_x : offset (get_or xs k d)
-              ≡ offset (get_or xs k x) = ap offset same in absurd (omega arith))
+          ≡ offset (get_or xs k x) = ap offset same in absurd (omega arith))
     ]
 
 -- ---- procedure rows

@@ -31,9 +31,9 @@ module _ (size : ℕ) where
       has_then _ _ (positive_takes size MAX_MESSAGE word.1 h.rest_fits) (λ len g.
       let made : ChannelRow = record { word = word.0; length = len.0 } in
       let kept : ChannelKeeps low made =
-          record { word_fits = h.keeps.0; rises = h.keeps.1; has_length = g.keeps.0; limit = g.keeps.1 } in
+      record { word_fits = h.keeps.0; rises = h.keeps.1; has_length = g.keeps.0; limit = g.keeps.1 } in
       let parts : bytes ≡ channel_bytes made ++ len.1 =
-          join (i32_bytes word.0) (u32_bytes len.0) len.1 h.parts g.parts in
+      join (i32_bytes word.0) (u32_bytes len.0) len.1 h.parts g.parts in
       has_ok (made, len.1) (record { parts = parts; rest_fits = g.rest_fits; keeps = kept })))
 
   channel_again : (low : ℤ) (c : ChannelRow) (rest : List ℕ) → ChannelKeeps low c
@@ -83,7 +83,7 @@ module _ (size : ℕ) where
   branch_count_again n rest some most =
       let fits : n < 2 ^ 16 = omega arith in
       tested_again _ _ _ _ (limited_again size 2 u16_bytes (2 ^ 16) wide16 MAX_BRANCHES n rest fits most)
-          (le-leb _ _ some)
+      (le-leb _ _ some)
 
 -- ---- rows
 
@@ -109,8 +109,14 @@ module _ (size own code_len : ℕ) where
       has_then _ _ (channels_take size channel_count.0 branch_count.1 h5.rest_fits) (λ channels h6.
       has_then _ _ (branches_take before branch_count.0 channels.1 h6.rest_fits) (λ branches h7.
       let made : Par =
-          record { context = context.0; depth = depth.0; block = block.0; successor = successor.0;
-          channels = channels.0; branches = branches.0 } in
+      record {
+        context = context.0;
+        depth = depth.0;
+        block = block.0;
+        successor = successor.0;
+        channels = channels.0;
+        branches = branches.0;
+      } in
       let kept : ParKeeps own code_len before made = record {
         context_fits = h0.keeps.0;
         context = h0.keeps.1;
@@ -132,7 +138,7 @@ module _ (size own code_len : ℕ) where
       let p6 = p5 ++ flat_map channel_bytes channels.0 in
       let channels_counted : successor.1 ≡ u16_bytes (length channels.0) ++ channel_count.1 = rw h6.keeps.0 h4.parts in
       let branches_counted : channel_count.1 ≡ u16_bytes (length branches.0) ++ branch_count.1 =
-          rw h7.keeps.0 h5.parts in
+      rw h7.keeps.0 h5.parts in
       let j1 = join (u16_bytes context.0) (i32_bytes depth.0) depth.1 h0.parts h1.parts in
       let j2 = join p1 (i32_bytes block.0) block.1 j1 h2.parts in
       let j3 = join p2 (u32_bytes successor.0) successor.1 j2 h3.parts in
@@ -140,7 +146,7 @@ module _ (size own code_len : ℕ) where
       let j5 = join p4 (u16_bytes (length branches.0)) branch_count.1 j4 branches_counted in
       let j6 = join p5 (flat_map channel_bytes channels.0) channels.1 j5 h6.parts in
       let parts : bytes ≡ par_bytes made ++ branches.1 =
-          join p6 (flat_map branch_bytes branches.0) branches.1 j6 h7.parts in
+      join p6 (flat_map branch_bytes branches.0) branches.1 j6 h7.parts in
       has_ok (made, branches.1) (record { parts = parts; rest_fits = h7.rest_fits; keeps = kept })))))))))
 
   par_again : code_len < 2 ^ 32 → (before : Before) (row : Par) (rest : List ℕ) → ParKeeps own code_len before row
@@ -165,7 +171,7 @@ module _ (size own code_len : ℕ) where
       (step _ (branch_count_again size (length row.branches) tail6 h.has_branch h.branch_limit)
       (step _ (channels_again size row.channels tail7 h.channels)
       (step _ (list_again (branch_at size code_len) behind_branch branch_bytes (BranchKeeps code_len)
-          (branch_again size code_len small) row.branches before rest h.branches) refl)))))))
+      (branch_again size code_len small) row.branches before rest h.branches) refl)))))))
 
   pub pars_take : (count : ℕ) (bytes : List ℕ) → IsBytes bytes
       → Has (par_rows_at size own code_len count bytes)

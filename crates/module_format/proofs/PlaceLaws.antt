@@ -37,13 +37,16 @@ owner_of_branch first (r ∷ rows) zero b row is inside before =
     let long : length r.branches ≡ length row.branches = ap (λ (x : Par). length x.branches) same in
     let lower : first + (0 + b) < first + length r.branches = omega arith in
     let context : r.context ≡ row.context = ap (λ (x : Par). x.context) same in
-    rw (owner_below (first + length r.branches) rows (first + (0 + b)) lower,
-        owner_below (first + length r.branches) rows row.context (omega arith),
-        le-ltb (first + (0 + b)) first (omega arith), lt-ltb row.context first known) context
+    rw (
+      owner_below (first + length r.branches) rows (first + (0 + b)) lower,
+      owner_below (first + length r.branches) rows row.context (omega arith),
+      le-ltb (first + (0 + b)) first (omega arith),
+      lt-ltb row.context first known,
+    ) context
 owner_of_branch first (r ∷ rows) (suc k) b row is inside before =
     let count = count_cons r (take k rows) in
     let place : first + (branch_count (take (suc k) (r ∷ rows)) + b)
-        ≡ (first + length r.branches) + (branch_count (take k rows) + b) = omega arith in
+    ≡ (first + length r.branches) + (branch_count (take k rows) + b) = omega arith in
     let known : row.context < (first + length r.branches) + branch_count (take k rows) = omega arith in
     let within = owner_of_branch (first + length r.branches) rows k b row is inside known in
     ap (owner first (r ∷ rows)) place ∙ ap (λ (n : ℕ). cond (ltb n first) n r.context) within
@@ -62,7 +65,7 @@ context_before own code_len before (r ∷ rows) (suc k) row keeps is =
     let later = context_before own code_len (behind_par before r) rows k row keeps.1 is in
     let count = count_cons r (take k rows) in
     let longer : length (before.entries ++ entries_of r.branches) ≡ length before.entries + length r.branches =
-        simp (length-append, length-map) in
+    simp (length-append, length-map) in
     omega arith
 
 -- ---- rows
@@ -88,19 +91,19 @@ branch_stands (r ∷ rows) zero b row x is here =
     let paired : Branch → Par × Branch = λ y. (r, y) in
     let in_row : slice_get r.branches b ≡ Some x = ap (λ (q : Par). slice_get q.branches b) same ∙ here in
     let found : slice_get (map paired r.branches) b ≡ Some (row, x) =
-        slice_get-map paired r.branches b ∙ ap (option_map paired) in_row ∙ ap (λ (q : Par). Some (q, x)) same in
+    slice_get-map paired r.branches b ∙ ap (option_map paired) in_row ∙ ap (λ (q : Par). Some (q, x)) same in
     let place : 0 + b ≡ b = omega arith in
     ap (slice_get (branches_of (r ∷ rows))) place
-        ∙ slice_get_left (map paired r.branches) (branches_of rows) b (row, x) found
+    ∙ slice_get_left (map paired r.branches) (branches_of rows) b (row, x) found
 branch_stands (r ∷ rows) (suc k) b row x is here =
     let count = count_cons r (take k rows) in
     let place : branch_count (take (suc k) (r ∷ rows)) + b ≡ length r.branches + (branch_count (take k rows) + b) =
-        omega arith in
+    omega arith in
     let paired : Branch → Par × Branch = λ y. (r, y) in
     let long : length r.branches ≡ length (map paired r.branches) = sym (length-map r.branches paired) in
     ap (slice_get (branches_of (r ∷ rows))) place
     ∙ slice_get_right (map paired r.branches) (branches_of rows) (length r.branches)
-        (branch_count (take k rows) + b) long
+    (branch_count (take k rows) + b) long
     ∙ branch_stands rows k b row x is here
 
 -- an item that is there
@@ -121,7 +124,7 @@ pub more_places : (c : Contents) (k b : ℕ) (row : Par) (places : List Place) (
     → slice_get c.pars k ≡ Some row → b < length row.branches
     → place.par ≡ k → place.branch ≡ b → place.owner ≡ owner (first_branch c) c.pars row.context
     → ArePlaces c (branch_count (take k c.pars) + b) places
-        → ArePlaces c (branch_count (take k c.pars) + (b + 1)) (places ++ place ∷ [])
+    → ArePlaces c (branch_count (take k c.pars) + (b + 1)) (places ++ place ∷ [])
 more_places c k b row places place keeps is inside par branch owns h =
     let before = context_before (first_branch c) (length c.code) no_branches c.pars k row keeps.pars is in
     let known : row.context < first_branch c + branch_count (take k c.pars) = omega (arith, before) in
@@ -141,7 +144,7 @@ more_places c k b row places place keeps is inside par branch owns h =
             let last : i ≡ branch_count (take k c.pars) + b = omega arith in
             let at_end : i ≡ length places = omega arith in
             rw at_end (subst (λ (p : Place). IsPlace c (length places) p)
-                (sym (get_or_push places place d (length places) refl)) (rw count here))
+            (sym (get_or_push places place d (length places) refl)) (rw count here))
       ];
     }
 
@@ -159,8 +162,8 @@ count_more (r ∷ rows) (suc k) row is =
     let others = count_cons r (take (k + 1) rows) in
     let next : suc k + 1 ≡ suc (k + 1) = omega arith in
     ap (λ (n : ℕ). branch_count (take n (r ∷ rows))) next
-        ∙ (let sum : branch_count (r ∷ take (k + 1) rows)
-        ≡ branch_count (r ∷ take k rows) + length row.branches = omega arith in sum)
+    ∙ (let sum : branch_count (r ∷ take (k + 1) rows)
+    ≡ branch_count (r ∷ take k rows) + length row.branches = omega arith in sum)
 
 -- an item at an index, as its view is found
 pub item_there : {A B : Type 0} (f : A → B) (xs : List A) (i : ℕ) (x : A) → i < length xs → x ≡ get_or xs i x

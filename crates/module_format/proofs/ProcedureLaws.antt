@@ -76,16 +76,16 @@ module _ (size : ℕ) where
   -- a region, whose kind has tag n
   region_takes : (version : Version) (kind : ℕ → ℤ → ℤ → ParameterKind) (tag n : ℕ) (bytes : List ℕ)
       → ((bytes : ℕ) (lo hi : ℤ) → kind_bytes version (kind bytes lo hi) ≡ n ∷
-          (u32_bytes bytes ++ range_bytes version lo hi))
+      (u32_bytes bytes ++ range_bytes version lo hi))
       → ((bytes : ℕ) (lo hi : ℤ) → IsRegion version bytes lo hi → KindKeeps version (kind bytes lo hi))
       → IsBytes bytes → tag ≡ n → Has (region_at size version kind bytes)
-          (Spelled (tag ∷ bytes) (kind_bytes version) (KindKeeps version))
+      (Spelled (tag ∷ bytes) (kind_bytes version) (KindKeeps version))
   unfolding region_at
   region_takes version kind tag n bytes spelled kept fits e =
       has_then _ _ (region_size_takes bytes fits) (λ region h.
       has_then _ _ (words_range_takes version region.1 h.rest_fits) (λ range g.
       let whole : IsRegion version region.0 range.0.0 range.0.1 =
-          record { size_fits = h.keeps.0; some = h.keeps.1; words = h.keeps.2; range = g.keeps } in
+      record { size_fits = h.keeps.0; some = h.keeps.1; words = h.keeps.2; range = g.keeps } in
       let both = join (u32_bytes region.0) (range_bytes version range.0.0 range.0.1) range.1 h.parts g.parts in
       has_ok (kind region.0 range.0.0 range.0.1, range.1) (record {
         parts = rw (spelled region.0 range.0.0 range.0.1) (tagged tag n e both);
@@ -107,7 +107,7 @@ module _ (size : ℕ) where
   unfolding ends_at
   ends_take bytes fits =
       let read =
-          tested_takes {Q = λ bits. (1 ≤ bits) × (bits ≤ 3)} _ _ _ _ (byte_takes size bytes fits) (λ bits below some.
+      tested_takes {Q = λ bits. (1 ≤ bits) × (bits ≤ 3)} _ _ _ _ (byte_takes size bytes fits) (λ bits below some.
       let both = and_parts (nat_le 1 bits) (nat_le bits 3) some in
       (leb-true _ _ both.0, leb-true _ _ both.1)) in
       has_then _ _ read (λ bits h.
@@ -125,12 +125,18 @@ module _ (size : ℕ) where
       has_then _ _ (positive_takes size MAX_MESSAGE count.1 h.rest_fits) (λ len g.
       has_then _ _ (ends_take len.1 g.rest_fits) (λ ends k.
       let kept : AreChannels count.0 len.0 ends.0.0 =
-          record { count_fits = h.keeps.0; some = h.keeps.1; has_length = g.keeps.0; limit = g.keeps.1;
-          has_end = k.keeps.0; no_more = k.keeps.1 } in
+      record {
+        count_fits = h.keeps.0;
+        some = h.keeps.1;
+        has_length = g.keeps.0;
+        limit = g.keeps.1;
+        has_end = k.keeps.0;
+        no_more = k.keeps.1;
+      } in
       let front = join (u32_bytes count.0) (u32_bytes len.0) len.1 h.parts g.parts in
       let whole = join (u32_bytes count.0 ++ u32_bytes len.0) (ends.0.0 ∷ []) ends.1 front k.parts in
       has_ok (kinds.Channels count.0 len.0 ends.0, ends.1)
-          (record { parts = tagged tag 3 e whole; rest_fits = k.rest_fits; keeps = kept }))))
+      (record { parts = tagged tag 3 e whole; rest_fits = k.rest_fits; keeps = kept }))))
 
   channels_again : (count len : ℕ) (ends : Ends) (rest : List ℕ) → AreChannels count len ends.0
       → channels_at size ((u32_bytes count ++ u32_bytes len ++ ends.0 ∷ []) ++ rest)
@@ -138,7 +144,7 @@ module _ (size : ℕ) where
   unfolding channels_at
   channels_again count len ends rest h =
       let regrouped : (u32_bytes count ++ u32_bytes len ++ ends.0 ∷ []) ++ rest ≡ u32_bytes count
-          ++ (u32_bytes len ++ (ends.0 ∷ rest)) = simp append_assoc in
+      ++ (u32_bytes len ++ (ends.0 ∷ rest)) = simp append_assoc in
       let lt : len < 2 ^ 32 = let limit = h.limit in omega arith in
       ap (channels_at size) regrouped
       ∙ step _ (span_again size count (u32_bytes len ++ (ends.0 ∷ rest)) h.count_fits h.some)
@@ -151,7 +157,7 @@ module _ (size : ℕ) where
   value_takes version tag bytes fits e =
       has_then _ _ (interval_takes size bytes fits) (λ range h.
       has_ok (kinds.Value range.0.0 range.0.1, range.1)
-          (record { parts = tagged tag 0 e h.parts; rest_fits = h.rest_fits; keeps = h.keeps }))
+      (record { parts = tagged tag 0 e h.parts; rest_fits = h.rest_fits; keeps = h.keeps }))
 
   value_again : (lo hi : ℤ) (rest : List ℕ) → IsInterval lo hi
       → value_at size ((i32_bytes lo ++ i32_bytes hi) ++ rest) ≡ Ok (kinds.Value lo hi, rest)
@@ -169,17 +175,17 @@ module _ (size : ℕ) where
       let written = region_at size version kinds.WrittenRegion bytes in
       let read = region_at size version kinds.ReadRegion bytes in
       has_cond (eqb tag 0) (value_at size bytes)
-          (cond (eqb tag 1) read (cond (eqb tag 2) written (cond (eqb tag 3) (channels_at size bytes) (Err wrong))))
-          (λ none. value_takes version tag bytes behind (eqb-true _ _ none)) (λ _.
+      (cond (eqb tag 1) read (cond (eqb tag 2) written (cond (eqb tag 3) (channels_at size bytes) (Err wrong))))
+      (λ none. value_takes version tag bytes behind (eqb-true _ _ none)) (λ _.
       has_cond (eqb tag 1) read (cond (eqb tag 2) written (cond (eqb tag 3) (channels_at size bytes) (Err wrong)))
-          (λ one.
+      (λ one.
       region_takes version kinds.ReadRegion tag 1 bytes (λ n lo hi. refl) (λ n lo hi h. h) behind (eqb-true _ _ one))
-          (λ _.
+      (λ _.
       has_cond (eqb tag 2) written (cond (eqb tag 3) (channels_at size bytes) (Err wrong)) (λ two.
       region_takes version kinds.WrittenRegion tag 2 bytes (λ n lo hi. refl) (λ n lo hi h. h) behind (eqb-true _ _ two))
-          (λ _.
+      (λ _.
       has_if (eqb tag 3) wrong (channels_at size bytes)
-          (λ three. channels_take version tag bytes behind (eqb-true _ _ three)))))
+      (λ three. channels_take version tag bytes behind (eqb-true _ _ three)))))
 
   kind_again : (version : Version) (kind : ParameterKind) (rest : List ℕ) → KindKeeps version kind
       → kind_at size version (kind_bytes version kind ++ rest) ≡ Ok (kind, rest)
@@ -197,7 +203,7 @@ module _ (size : ℕ) (version : Version) (hi : ℤ) where
   unfolding parameter_word_at
   parameter_word_takes low bytes fits =
       let inside = tested_takes {Q = λ word. pos word <ℤ hi} _ _ _ _
-          (number_takes size 2 u16_bytes (2 ^ 16) wide16 bytes fits) (λ word below both.
+      (number_takes size 2 u16_bytes (2 ^ 16) wide16 bytes fits) (λ word below both.
       int_lt-true _ _ (and_parts (nat_le 1 word) (int_lt (pos word) hi) both).1) in
       tested_takes _ _ _ _ inside (λ word below rises. (ltb-true _ _ rises, below))
 
@@ -210,9 +216,13 @@ module _ (size : ℕ) (version : Version) (hi : ℤ) where
       has_then _ _ (kind_takes size version word.1 h.rest_fits) (λ kind g.
       let made : Parameter = record { word = word.0; kind = kind.0 } in
       let kept : ParameterKeeps version hi low made =
-          record { rises = h.keeps.0; inside = h.keeps.1; kind = g.keeps } in
-      has_ok (made, kind.1) (record { parts = join (u16_bytes word.0)
-          (kind_bytes version kind.0) kind.1 h.parts g.parts; rest_fits = g.rest_fits; keeps = kept })))
+      record { rises = h.keeps.0; inside = h.keeps.1; kind = g.keeps } in
+      has_ok (made, kind.1) (record {
+        parts = join (u16_bytes word.0)
+            (kind_bytes version kind.0) kind.1 h.parts g.parts;
+        rest_fits = g.rest_fits;
+        keeps = kept;
+      })))
 
   parameters_take : (bytes : List ℕ) → IsBytes bytes
       → Has (parameters_at size version hi bytes)
@@ -222,11 +232,11 @@ module _ (size : ℕ) (version : Version) (hi : ℤ) where
   parameters_take bytes fits =
       has_then _ _ (limited_takes size 2 u16_bytes (2 ^ 16) wide16 MAX_PARAMETERS bytes fits) (λ count h.
       has_weaker (list_at (parameter_at size version hi) behind_parameter count.0 0 count.1)
-          (list_takes (parameter_at size version hi) behind_parameter (parameter_bytes version)
-          (ParameterKeeps version hi) parameter_takes count.0 0 count.1 h.rest_fits) (λ ps g.
+      (list_takes (parameter_at size version hi) behind_parameter (parameter_bytes version)
+      (ParameterKeeps version hi) parameter_takes count.0 0 count.1 h.rest_fits) (λ ps g.
       let parts : bytes ≡ (u16_bytes (length ps.0) ++ flat_map (parameter_bytes version) ps.0) ++ ps.1 =
-          join (u16_bytes (length ps.0)) (flat_map (parameter_bytes version) ps.0) ps.1
-          (rw g.keeps.0 h.parts) g.parts in
+      join (u16_bytes (length ps.0)) (flat_map (parameter_bytes version) ps.0) ps.1
+      (rw g.keeps.0 h.parts) g.parts in
       record { parts = parts; rest_fits = g.rest_fits; keeps = (rw g.keeps.0 h.keeps.1, g.keeps.1) }))
 
   module _ (low_hi : hi ≤ℤ pos 16384) where
@@ -237,7 +247,7 @@ module _ (size : ℕ) (version : Version) (hi : ℤ) where
         let some : 1 ≤ word = omega arith in
         let fits : word < 2 ^ 16 = omega (arith, ints) in
         let within = tested_again _ _ _ _ (number_again size 2 u16_bytes (2 ^ 16) wide16 word rest fits)
-            (rw (le-leb _ _ some, int_lt-holds _ _ inside) refl) in
+        (rw (le-leb _ _ some, int_lt-holds _ _ inside) refl) in
         tested_again _ _ _ _ within (lt-ltb _ _ rises)
 
     parameter_again : (low : ℕ) (p : Parameter) (rest : List ℕ) → ParameterKeeps version hi low p
@@ -256,9 +266,9 @@ module _ (size : ℕ) (version : Version) (hi : ℤ) where
     parameters_again ps rest few h =
         let lt : length ps < 2 ^ 16 = omega arith in
         step _ (limited_again size 2 u16_bytes (2 ^ 16) wide16 MAX_PARAMETERS (length ps)
-            (flat_map (parameter_bytes version) ps ++ rest) lt few)
+        (flat_map (parameter_bytes version) ps ++ rest) lt few)
         (list_again (parameter_at size version hi) behind_parameter (parameter_bytes version)
-            (ParameterKeeps version hi) parameter_again ps 0 rest h)
+        (ParameterKeeps version hi) parameter_again ps 0 rest h)
 
 -- ---- procedure rows
 
@@ -395,7 +405,7 @@ module _ (size : ℕ) where
   unfolding table_start_at
   table_start_takes low bytes fits =
       let aligned = tested_takes {Q = λ n. IsTrue (is_multiple_of_four n)} _ _ _ _ (u32_takes size bytes fits)
-          (λ n below aligned. aligned) in
+      (λ n below aligned. aligned) in
       tested_takes _ _ _ _ aligned (λ n aligned apart. (aligned, leb-true _ _ apart))
 
   table_start_again : (low n : ℕ) (rest : List ℕ) → n < 2 ^ 32 → IsTrue (is_multiple_of_four n) → low ≤ n
@@ -429,7 +439,7 @@ module _ (size : ℕ) (constants : List ℕ) where
       has_then _ _ (table_end_takes size (length constants) start.0 start.1 h0.rest_fits) (λ end h1.
       let words = words_of (take (end.0 - start.0) (drop start.0 constants)) in
       let read = tested_takes {Q = λ r. IsInterval r.0 r.1 × AllByRecursion (IsWithin r.0 r.1) words} _ _ _ _
-          (interval_takes size end.1 h1.rest_fits) (λ r ordered within. (ordered, all_within r.0 r.1 words within)) in
+      (interval_takes size end.1 h1.rest_fits) (λ r ordered within. (ordered, all_within r.0 r.1 words within)) in
       has_then _ _ read (λ range h2.
       let made : TableRow = record { start = start.0; end = end.0; lo = range.0.0; hi = range.0.1 } in
       let kept : TableKeeps constants low made = record {
@@ -443,9 +453,9 @@ module _ (size : ℕ) (constants : List ℕ) where
       } in
       let front = join (u32_bytes start.0) (u32_bytes end.0) end.1 h0.parts h1.parts in
       let whole = join (u32_bytes start.0 ++ u32_bytes end.0)
-          (i32_bytes range.0.0 ++ i32_bytes range.0.1) range.1 front h2.parts in
+      (i32_bytes range.0.0 ++ i32_bytes range.0.1) range.1 front h2.parts in
       let regrouped : (u32_bytes start.0 ++ u32_bytes end.0) ++ (i32_bytes range.0.0 ++ i32_bytes range.0.1)
-          ≡ table_row_bytes made = simp append_assoc in
+      ≡ table_row_bytes made = simp append_assoc in
       let parts : bytes ≡ table_row_bytes made ++ range.1 = whole ∙ ap (λ (t : List ℕ). t ++ range.1) regrouped in
       has_ok (made, range.1) (record { parts = parts; rest_fits = h2.rest_fits; keeps = kept }))))
 
@@ -470,10 +480,10 @@ module _ (size : ℕ) (constants : List ℕ) where
         ap (table_row_at size constants low) regrouped
         ∙ step _ (table_start_again size low row.start tail1 start_fits h.start_aligned h.apart)
         (step _ (table_end_again size
-            (length constants) row.start row.end tail2 end_fits h.end_aligned h.ordered h.inside)
+        (length constants) row.start row.end tail2 end_fits h.end_aligned h.ordered h.inside)
         (step _ (tested_again _ _ _ _ (interval_again size row.lo row.hi rest h.range)
-            (within_all row.lo row.hi (words_of (take (row.end - row.start)
-            (drop row.start constants))) h.words)) refl))
+        (within_all row.lo row.hi (words_of (take (row.end - row.start)
+        (drop row.start constants))) h.words)) refl))
 
     pub tables_again : (rows : List TableRow) (rest : List ℕ) → InOrder (TableKeeps constants) behind_table 0 rows
         → table_rows_at size constants (length rows) (flat_map table_row_bytes rows ++ rest) ≡ Ok (rows, rest)

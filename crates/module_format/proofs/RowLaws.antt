@@ -56,17 +56,21 @@ module _ (size : ℕ) where
   step_takes lo hi bytes fits =
       has_then _ _ (byte_takes size bytes fits) (λ s h.
       has_cond (eqb s.0 1) (Ok (steps.Byte, s.1))
-          (cond (eqb s.0 4 && is_stepped lo && is_stepped hi) (Ok (steps.Word, s.1))
-          (Err (fault faults.Range (place size bytes)))) (λ one.
+      (cond (eqb s.0 4 && is_stepped lo && is_stepped hi) (Ok (steps.Word, s.1))
+      (Err (fault faults.Range (place size bytes)))) (λ one.
       let e : s.0 ≡ 1 = eqb-true _ _ one in
       has_ok (steps.Byte, s.1) (record { parts = rw (← e) h.parts; rest_fits = h.rest_fits; keeps = tt })) (λ other.
       has_if (eqb s.0 4 && is_stepped lo && is_stepped hi) (fault faults.Range (place size bytes))
-          (Ok (steps.Word, s.1)) (λ all.
+      (Ok (steps.Word, s.1)) (λ all.
       let both = and_parts (eqb s.0 4 && is_stepped lo) (is_stepped hi) all in
       let first = and_parts (eqb s.0 4) (is_stepped lo) both.0 in
       let e : s.0 ≡ 4 = eqb-true _ _ first.0 in
-      has_ok (steps.Word, s.1) (record { parts = rw (← e) h.parts; rest_fits = h.rest_fits; keeps =
-          (first.1, both.1) }))))
+      has_ok (steps.Word, s.1) (record {
+        parts = rw (← e) h.parts;
+        rest_fits = h.rest_fits;
+        keeps =
+            (first.1, both.1);
+      }))))
 
   step_again : (lo hi : ℤ) (s : Step) (rest : List ℕ) → IsStepped s lo hi
       → step_at size lo hi (step_size s ∷ rest) ≡ Ok (s, rest)
@@ -79,7 +83,7 @@ module _ (size : ℕ) where
   unfolding range_at
   range_again lo hi rest h =
       ap (range_at size) (append_assoc (i32_bytes lo) (i32_bytes hi) rest)
-          ∙ step _ (interval_again size lo hi rest h) refl
+      ∙ step _ (interval_again size lo hi rest h) refl
 
   pointer_again : (region : ℕ) (lo hi : ℤ) (s : Step) (rest : List ℕ) → IsPointer region lo hi s
       → pointer_at size ((u16_bytes region ++ i32_bytes lo ++ i32_bytes hi ++ step_size s ∷ []) ++ rest)
@@ -87,10 +91,10 @@ module _ (size : ℕ) where
   unfolding pointer_at
   pointer_again region lo hi s rest h =
       let regrouped : (u16_bytes region ++ i32_bytes lo ++ i32_bytes hi ++ step_size s ∷ []) ++ rest ≡ u16_bytes region
-          ++ (i32_bytes lo ++ (i32_bytes hi ++ (step_size s ∷ rest))) = simp append_assoc in
+      ++ (i32_bytes lo ++ (i32_bytes hi ++ (step_size s ∷ rest))) = simp append_assoc in
       ap (pointer_at size) regrouped
       ∙ step _ (number_again size 2 u16_bytes (2 ^ 16) wide16 region
-          (i32_bytes lo ++ (i32_bytes hi ++ (step_size s ∷ rest))) h.region_fits)
+      (i32_bytes lo ++ (i32_bytes hi ++ (step_size s ∷ rest))) h.region_fits)
       (step _ (interval_again size lo hi (step_size s ∷ rest) h.interval)
       (step _ (step_again lo hi s rest h.stepped) refl))
 
@@ -108,7 +112,7 @@ module _ (size : ℕ) where
   count_again base n rest some limit last =
       let lt : n < 2 ^ 32 = omega (arith, ints) in
       tested_again _ _ _ _ (u32_again size n rest lt)
-          (rw (le-leb _ _ some, int_le-le _ _ limit, int_le-le _ _ last) refl)
+      (rw (le-leb _ _ some, int_le-le _ _ limit, int_le-le _ _ last) refl)
 
   loop_again : (base : ℤ) (count weight : ℕ) (rest : List ℕ) → IsLoop base count weight
       → loop_at size ((i32_bytes base ++ u32_bytes count ++ u64_bytes weight) ++ rest)
@@ -116,7 +120,7 @@ module _ (size : ℕ) where
   unfolding loop_at
   loop_again base count weight rest h =
       let regrouped : (i32_bytes base ++ u32_bytes count ++ u64_bytes weight) ++ rest ≡ i32_bytes base
-          ++ (u32_bytes count ++ (u64_bytes weight ++ rest)) = simp append_assoc in
+      ++ (u32_bytes count ++ (u64_bytes weight ++ rest)) = simp append_assoc in
       ap (loop_at size) regrouped
       ∙ step _ (int_again size base (u32_bytes count ++ (u64_bytes weight ++ rest)) h.base_fits)
       (step _ (count_again base count (u64_bytes weight ++ rest) h.some h.limit h.last)
@@ -142,12 +146,12 @@ module _ (size code_len : ℕ) where
       has_then _ _ (interval_takes size region.1 h.rest_fits) (λ range g.
       has_then _ _ (step_takes size range.0.0 range.0.1 range.1 g.rest_fits) (λ s k.
       let kept : IsPointer region.0 range.0.0 range.0.1 s.0 =
-          record { region_fits = h.keeps; interval = g.keeps; stepped = k.keeps } in
+      record { region_fits = h.keeps; interval = g.keeps; stepped = k.keeps } in
       let both = i32_bytes range.0.0 ++ i32_bytes range.0.1 in
       let front = join (u16_bytes region.0) both range.1 h.parts g.parts in
       let whole = join (u16_bytes region.0 ++ both) (step_size s.0 ∷ []) s.1 front k.parts in
       let regrouped : (u16_bytes region.0 ++ both) ++ step_size s.0 ∷ [] ≡ u16_bytes region.0 ++ i32_bytes range.0.0
-          ++ i32_bytes range.0.1 ++ step_size s.0 ∷ [] = simp append_assoc in
+      ++ i32_bytes range.0.1 ++ step_size s.0 ∷ [] = simp append_assoc in
       has_ok (facts.Pointer region.0 range.0.0 range.0.1 s.0, s.1) (record {
         parts = tagged tag 2 e (whole ∙ ap (λ (t : List ℕ). t ++ s.1) regrouped);
         rest_fits = k.rest_fits;
@@ -171,13 +175,13 @@ module _ (size code_len : ℕ) where
   fact_takes at tag bytes fits =
       let wrong = fault faults.Range at in
       has_cond (eqb tag 1) (range_at size bytes)
-          (cond (eqb tag 2) (pointer_at size bytes)
-          (cond (eqb tag 3) (code_address_at size code_len bytes) (Err wrong)))
-          (λ one. range_takes tag bytes fits (eqb-true _ _ one)) (λ _.
+      (cond (eqb tag 2) (pointer_at size bytes)
+      (cond (eqb tag 3) (code_address_at size code_len bytes) (Err wrong)))
+      (λ one. range_takes tag bytes fits (eqb-true _ _ one)) (λ _.
       has_cond (eqb tag 2) (pointer_at size bytes) (cond (eqb tag 3) (code_address_at size code_len bytes) (Err wrong))
-          (λ two. pointer_takes tag bytes fits (eqb-true _ _ two)) (λ _.
+      (λ two. pointer_takes tag bytes fits (eqb-true _ _ two)) (λ _.
       has_if (eqb tag 3) wrong (code_address_at size code_len bytes)
-          (λ three. code_address_takes tag bytes fits (eqb-true _ _ three))))
+      (λ three. code_address_takes tag bytes fits (eqb-true _ _ three))))
 
   register_takes : (bytes : List ℕ) → IsBytes bytes
       → Has (register_at size code_len bytes) (Spelled bytes fact_bytes (RegisterKeeps code_len))
@@ -190,7 +194,7 @@ module _ (size code_len : ℕ) where
       let parts : tag ∷ bytes ≡ fact_bytes facts.Unknown ++ bytes = ap (λ (t : ℕ). t ∷ bytes) (eqb-true _ _ none) in
       has_ok (facts.Unknown, bytes) (record { parts = parts; rest_fits = behind; keeps = tt })) (λ some.
       has_weaker other (fact_takes (place size (tag ∷ bytes)) tag bytes behind)
-          (λ x h. record { parts = h.parts; rest_fits = h.rest_fits; keeps = h.keeps.register }))
+      (λ x h. record { parts = h.parts; rest_fits = h.rest_fits; keeps = h.keeps.register }))
 
   loop_takes : (tag span : ℕ) (bytes : List ℕ) → IsBytes bytes → tag ≡ 4 → span ≡ 2
       → Has (loop_at size bytes) (Spelled (tag ∷ bytes) fact_bytes (WordKeeps code_len span))
@@ -200,8 +204,13 @@ module _ (size code_len : ℕ) where
       has_then _ _ (count_takes size base.0 base.1 h.rest_fits) (λ count g.
       has_then _ _ (number_takes size 8 u64_bytes (2 ^ 64) wide64 count.1 g.rest_fits) (λ weight k.
       let kept : IsLoop base.0 count.0 weight.0 =
-          record { base_fits = h.keeps; some = g.keeps.0; limit = g.keeps.1; last = g.keeps.2;
-          weight_fits = k.keeps } in
+      record {
+        base_fits = h.keeps;
+        some = g.keeps.0;
+        limit = g.keeps.1;
+        last = g.keeps.2;
+        weight_fits = k.keeps;
+      } in
       let front = join (i32_bytes base.0) (u32_bytes count.0) count.1 h.parts g.parts in
       has_ok (facts.Loop base.0 count.0 weight.0, weight.1) (record {
         parts = tagged tag 4 e (join (i32_bytes base.0 ++ u32_bytes count.0)
@@ -218,17 +227,17 @@ module _ (size code_len : ℕ) where
       let behind = IsBytes-rest tag bytes fits in
       let other = fact_at size code_len (place size (tag ∷ bytes)) tag bytes in
       has_cond (eqb tag 4 && eqb span 2) (loop_at size bytes)
-          (cond (eqb tag 5 && eqb span 1) (Ok (facts.ReturnAddress, bytes)) other) (λ turns.
+      (cond (eqb tag 5 && eqb span 1) (Ok (facts.ReturnAddress, bytes)) other) (λ turns.
       let both = and_parts (eqb tag 4) (eqb span 2) turns in
       loop_takes tag span bytes behind (eqb-true _ _ both.0) (eqb-true _ _ both.1)) (λ _.
       has_cond (eqb tag 5 && eqb span 1) (Ok (facts.ReturnAddress, bytes)) other (λ returns.
       let both = and_parts (eqb tag 5) (eqb span 1) returns in
       let parts : tag ∷ bytes ≡ fact_bytes facts.ReturnAddress ++ bytes =
-          ap (λ (t : ℕ). t ∷ bytes) (eqb-true _ _ both.0) in
+      ap (λ (t : ℕ). t ∷ bytes) (eqb-true _ _ both.0) in
       has_ok (facts.ReturnAddress, bytes) (record { parts = parts; rest_fits = behind; keeps = eqb-true _ _ both.1 }))
-          (λ _.
+      (λ _.
       has_weaker other (fact_takes (place size (tag ∷ bytes)) tag bytes behind)
-          (λ x h. record { parts = h.parts; rest_fits = h.rest_fits; keeps = h.keeps.word span })))
+      (λ x h. record { parts = h.parts; rest_fits = h.rest_fits; keeps = h.keeps.word span })))
 
 module _ (size code_len : ℕ) (small : code_len < 2 ^ 32) where
   code_address_again : (offset : ℕ) (rest : List ℕ) → offset ≤ code_len
@@ -292,11 +301,16 @@ module _ (size code_len : ℕ) where
       has_then _ _ (word_takes size code_len span.0 span.1 g.rest_fits) (λ fact k.
       let made : Entry = record { word = word.0; span = span.0; fact = fact.0 } in
       let kept : EntryKeeps code_len low made =
-          record { word_fits = h.keeps.0; apart = h.keeps.1; span_fits = g.keeps.0; spans = g.keeps.1;
-          fact = k.keeps } in
+      record {
+        word_fits = h.keeps.0;
+        apart = h.keeps.1;
+        span_fits = g.keeps.0;
+        spans = g.keeps.1;
+        fact = k.keeps;
+      } in
       let front = join (i32_bytes word.0) (u32_bytes span.0) span.1 h.parts g.parts in
       let parts : bytes ≡ entry_bytes made ++ fact.1 =
-          join (i32_bytes word.0 ++ u32_bytes span.0) (fact_bytes fact.0) fact.1 front k.parts in
+      join (i32_bytes word.0 ++ u32_bytes span.0) (fact_bytes fact.0) fact.1 front k.parts in
       has_ok (made, fact.1) (record { parts = parts; rest_fits = k.rest_fits; keeps = kept }))))
 
   entries_take : (bytes : List ℕ) → IsBytes bytes
@@ -307,10 +321,10 @@ module _ (size code_len : ℕ) where
   entries_take bytes fits =
       has_then _ _ (number_takes size 2 u16_bytes (2 ^ 16) wide16 bytes fits) (λ count h.
       has_weaker (list_at (entry_at size code_len) behind_entry count.0 least_word count.1)
-          (list_takes (entry_at size code_len) behind_entry entry_bytes
-          (EntryKeeps code_len) entry_takes count.0 least_word count.1 h.rest_fits) (λ es g.
+      (list_takes (entry_at size code_len) behind_entry entry_bytes
+      (EntryKeeps code_len) entry_takes count.0 least_word count.1 h.rest_fits) (λ es g.
       let parts : bytes ≡ (u16_bytes (length es.0) ++ flat_map entry_bytes es.0) ++ es.1 =
-          join (u16_bytes (length es.0)) (flat_map entry_bytes es.0) es.1 (rw g.keeps.0 h.parts) g.parts in
+      join (u16_bytes (length es.0)) (flat_map entry_bytes es.0) es.1 (rw g.keeps.0 h.parts) g.parts in
       record { parts = parts; rest_fits = g.rest_fits; keeps = (rw g.keeps.0 h.keeps, g.keeps.1) }))
 
 module _ (size code_len : ℕ) (small : code_len < 2 ^ 32) where
@@ -319,7 +333,7 @@ module _ (size code_len : ℕ) (small : code_len < 2 ^ 32) where
   unfolding entry_at entry_bytes
   entry_again low e rest h =
       let regrouped : (i32_bytes e.word ++ u32_bytes e.span ++ fact_bytes e.fact) ++ rest ≡ i32_bytes e.word
-          ++ (u32_bytes e.span ++ (fact_bytes e.fact ++ rest)) = simp append_assoc in
+      ++ (u32_bytes e.span ++ (fact_bytes e.fact ++ rest)) = simp append_assoc in
       ap (entry_at size code_len low) regrouped
       ∙ step _ (first_word_again size low e.word (u32_bytes e.span ++ (fact_bytes e.fact ++ rest)) h.word_fits h.apart)
       (step _ (span_again size e.span (fact_bytes e.fact ++ rest) h.span_fits h.spans)
@@ -332,7 +346,7 @@ module _ (size code_len : ℕ) (small : code_len < 2 ^ 32) where
   entries_again es rest lt h =
       step _ (number_again size 2 u16_bytes (2 ^ 16) wide16 (length es) (flat_map entry_bytes es ++ rest) lt)
       (list_again (entry_at size code_len) behind_entry entry_bytes
-          (EntryKeeps code_len) entry_again es least_word rest h)
+      (EntryKeeps code_len) entry_again es least_word rest h)
 
 -- ---- label rows
 
@@ -342,7 +356,7 @@ pub no_entry : (procedures : List Procedure) (offset : ℕ) → list_any (λ p. 
 no_entry [] offset e = tt
 no_entry (p ∷ ps) offset e =
     elim (eqb p.entry offset) as (λ b. eqb p.entry offset ≡ b → (b || list_any (λ q. eqb q.entry offset) ps) ≡ false
-        → AllByRecursion (λ q. q.entry ≢ offset) (p ∷ ps)) [
+    → AllByRecursion (λ q. q.entry ≢ offset) (p ∷ ps)) [
       | true ↦ λ h g. absurd cc
       | false ↦ λ h g. (eqb-false _ _ h, no_entry ps offset g)
     ] refl e
@@ -359,7 +373,7 @@ module _ (size code_len : ℕ) (procedures : List Procedure) where
   unfolding label_offset_at
   label_offset_takes low bytes fits =
       let free = tested_takes {Q = λ n. (n < code_len) × AllByRecursion (λ p. p.entry ≢ n) procedures} _ _ _ _
-          (in_code_takes size code_len bytes fits) (λ n h free. (h.1, no_entry procedures n (not-true _ free))) in
+      (in_code_takes size code_len bytes fits) (λ n h free. (h.1, no_entry procedures n (not-true _ free))) in
       tested_takes _ _ _ _ free (λ n h rises. record { rises = ltb-true _ _ rises; in_code = h.0; no_entry = h.1 })
 
   label_offset_again : (low n : ℕ) (rest : List ℕ) → n < 2 ^ 32 → IsLabelOffset code_len procedures low n
@@ -368,12 +382,12 @@ module _ (size code_len : ℕ) (procedures : List Procedure) where
   label_offset_again low n rest fits h =
       let some : 1 ≤ n = let r = h.rises in omega arith in
       let free = tested_again _ _ _ _ (in_code_again size code_len n rest fits some h.in_code)
-          (rw (none_begins procedures n h.no_entry) refl) in
+      (rw (none_begins procedures n h.no_entry) refl) in
       tested_again _ _ _ _ free (lt-ltb _ _ h.rises)
 
   registers_take : (bytes : List ℕ) → IsBytes bytes
       → Has (registers_at size code_len bytes)
-          (Spelled bytes (λ (s : Stack Fact). fact_bytes s.a ++ fact_bytes s.b ++ fact_bytes s.c)
+      (Spelled bytes (λ (s : Stack Fact). fact_bytes s.a ++ fact_bytes s.b ++ fact_bytes s.c)
       (λ s. RegisterKeeps code_len s.a × RegisterKeeps code_len s.b × RegisterKeeps code_len s.c))
   unfolding registers_at
   registers_take bytes fits =
@@ -382,7 +396,7 @@ module _ (size code_len : ℕ) (procedures : List Procedure) where
       has_then _ _ (register_takes size code_len b.1 g.rest_fits) (λ c k.
       let front = join (fact_bytes a.0) (fact_bytes b.0) b.1 h.parts g.parts in
       let parts : bytes ≡ (fact_bytes a.0 ++ fact_bytes b.0 ++ fact_bytes c.0) ++ c.1 =
-          join (fact_bytes a.0 ++ fact_bytes b.0) (fact_bytes c.0) c.1 front k.parts in
+      join (fact_bytes a.0 ++ fact_bytes b.0) (fact_bytes c.0) c.1 front k.parts in
       let stack : Stack Fact = record { a = a.0; b = b.0; c = c.0 } in
       has_ok (stack, c.1) (record { parts = parts; rest_fits = k.rest_fits; keeps = (h.keeps, g.keeps, k.keeps) }))))
 
@@ -410,13 +424,18 @@ module _ (size code_len : ℕ) (procedures : List Procedure) where
         context_fits = h1.keeps;
         depth_fits = h2.keeps;
         number_fits = h3.keeps;
-        facts = record { a = h4.keeps.0; b = h4.keeps.1; c = h4.keeps.2; count_fits = h5.keeps.0;
-            entries = h5.keeps.1 };
+        facts = record {
+          a = h4.keeps.0;
+          b = h4.keeps.1;
+          c = h4.keeps.2;
+          count_fits = h5.keeps.0;
+          entries = h5.keeps.1;
+        };
       } in
       let j1 = join (u32_bytes offset.0) (u16_bytes context.0) context.1 h0.parts h1.parts in
       let j2 = join (u32_bytes offset.0 ++ u16_bytes context.0) (i32_bytes depth.0) depth.1 j1 h2.parts in
       let j3 = join (u32_bytes offset.0 ++ u16_bytes context.0 ++ i32_bytes depth.0)
-          (u64_bytes number.0) number.1 j2 h3.parts in
+      (u64_bytes number.0) number.1 j2 h3.parts in
       let front = u32_bytes offset.0 ++ u16_bytes context.0 ++ i32_bytes depth.0 ++ u64_bytes number.0 in
       let facts3 = fact_bytes r.0.a ++ fact_bytes r.0.b ++ fact_bytes r.0.c in
       let last = u16_bytes (length es.0) ++ flat_map entry_bytes es.0 in

@@ -115,12 +115,24 @@ all_small spelled P most one (x ∷ xs) h =
 
 entries_small : (es : List Entry) → length (flat_map entry_bytes es) ≤ 25 * length es
 entries_small [] = omega arith
-entries_small (e ∷ es) = omega (arith, length-append (entry_bytes e) (flat_map entry_bytes es), (entry_size e).0,
-    fact_small e.fact, entries_small es)
+entries_small (e ∷ es) = omega (
+  arith,
+  length-append (entry_bytes e) (flat_map entry_bytes es),
+  (entry_size e).0,
+  fact_small e.fact,
+  entries_small es,
+)
 
 label_small : (row : Label) → length row.entries < 2 ^ 16 → length (label_bytes row) ≤ 1638471
-label_small row h = omega (arith, label_size row, fact_small row.stack.a, fact_small row.stack.b,
-    fact_small row.stack.c, entries_small row.entries, h)
+label_small row h = omega (
+  arith,
+  label_size row,
+  fact_small row.stack.a,
+  fact_small row.stack.b,
+  fact_small row.stack.c,
+  entries_small row.entries,
+  h,
+)
 
 pub labels_small : (rows : List Label) → AllByRecursion (λ (row : Label). length row.entries < 2 ^ 16) rows
     → length (flat_map label_bytes rows) ≤ 1638471 * length rows
@@ -131,15 +143,31 @@ ends_size es = all_sizes end_bytes 10 end_size es
 
 branch_small : (b : Branch) → BranchIsWritable b → length (branch_bytes b) ≤ 1966068
 branch_small b h =
-    omega (arith, branch_size b, intervals_size b.writes, intervals_size b.reads, numbers_size b.written_parameters,
-        numbers_size b.read_parameters, ends_size b.ends, h.writes, h.reads, h.written_parameters, h.read_parameters,
-        h.ends)
+    omega (
+      arith,
+      branch_size b,
+      intervals_size b.writes,
+      intervals_size b.reads,
+      numbers_size b.written_parameters,
+      numbers_size b.read_parameters,
+      ends_size b.ends,
+      h.writes,
+      h.reads,
+      h.written_parameters,
+      h.read_parameters,
+      h.ends,
+    )
 
 par_small : (row : Par) → ParIsWritable row → length (par_bytes row) ≤ 128846266380 + 524298
 par_small row h =
-    omega (arith, par_size row, channels_size row.channels,
-        all_small branch_bytes BranchIsWritable 1966068 branch_small row.branches h.branches, h.channels,
-        h.branch_count)
+    omega (
+      arith,
+      par_size row,
+      channels_size row.channels,
+      all_small branch_bytes BranchIsWritable 1966068 branch_small row.branches h.branches,
+      h.channels,
+      h.branch_count,
+    )
 
 pub pars_small : (rows : List Par) → AllByRecursion ParIsWritable rows
     → length (flat_map par_bytes rows) ≤ (128846266380 + 524298) * length rows

@@ -9,7 +9,7 @@ use Rattle.module_format.proofs.Tools.{Has, has_at}
 -- what a cursor took that had not failed
 pub took_after : {A : Type 0} (reader : List ℕ → Read A) (old : Option ReadError) (bytes : List ℕ) (x : A)
     (new : Option ReadError) (left : List ℕ) → old ≡ None → Took (reader bytes) x new left
-        → TookAfter reader old bytes x new left
+    → TookAfter reader old bytes x new left
 took_after reader None bytes x new left unfailed took = took
 took_after reader (Some e) bytes x new left unfailed took = grind (arith, unfailed)
 

@@ -92,16 +92,16 @@ module _ {A S : Type 0} (item : S → List ℕ → Read A) (next : S → A → S
   pub list_takes : ((low : S) (bytes : List ℕ) → IsBytes bytes → Has (item low bytes)
       (Spelled bytes spelling (Keeps low)))
       → (n : ℕ) (low : S) (bytes : List ℕ) → IsBytes bytes
-          → Has (list_at item next n low bytes)
-          (Spelled bytes (flat_map spelling) (λ xs. (length xs ≡ n) × InOrder Keeps next low xs))
+      → Has (list_at item next n low bytes)
+      (Spelled bytes (flat_map spelling) (λ xs. (length xs ≡ n) × InOrder Keeps next low xs))
   unfolding list_at
   list_takes one zero low bytes fits =
       has_ok ([], bytes) (record { parts = refl; rest_fits = fits; keeps = (refl, tt) })
   list_takes one (suc n) low bytes fits =
       has_then (item low bytes) (λ first. list_at item next n (next low first.0) first.1 >>= λ others. Ok
-          (first.0 ∷ others.0, others.1)) (one low bytes fits) (λ first h.
+      (first.0 ∷ others.0, others.1)) (one low bytes fits) (λ first h.
       has_then (list_at item next n (next low first.0) first.1) (λ others. Ok (first.0 ∷ others.0, others.1))
-          (list_takes one n (next low first.0) first.1 h.rest_fits) (λ others g.
+      (list_takes one n (next low first.0) first.1 h.rest_fits) (λ others g.
       has_ok (first.0 ∷ others.0, others.1) (record {
         parts = rw flat_map-cons (join (spelling first.0) (flat_map spelling others.0) others.1 h.parts g.parts);
         rest_fits = g.rest_fits;
@@ -111,13 +111,13 @@ module _ {A S : Type 0} (item : S → List ℕ → Read A) (next : S → A → S
   -- and read again
   pub list_again : ((low : S) (x : A) (rest : List ℕ) → Keeps low x → item low (spelling x ++ rest) ≡ Ok (x, rest))
       → (xs : List A) (low : S) (rest : List ℕ) → InOrder Keeps next low xs
-          → list_at item next (length xs) low (flat_map spelling xs ++ rest) ≡ Ok (xs, rest)
+      → list_at item next (length xs) low (flat_map spelling xs ++ rest) ≡ Ok (xs, rest)
   unfolding list_at
   list_again one [] low rest h = refl
   list_again one (x ∷ xs) low rest h =
       let regrouped : flat_map spelling (x ∷ xs) ++ rest ≡ spelling x ++ (flat_map spelling xs ++ rest) =
-          ap (λ (t : List ℕ). t ++ rest) (flat_map-cons spelling x xs)
-          ∙ append_assoc (spelling x) (flat_map spelling xs) rest in
+      ap (λ (t : List ℕ). t ++ rest) (flat_map-cons spelling x xs)
+      ∙ append_assoc (spelling x) (flat_map spelling xs) rest in
       ap (list_at item next (suc (length xs)) low) regrouped
-          ∙ step _ (one low x (flat_map spelling xs ++ rest) h.0)
-          (step _ (list_again one xs (next low x) rest h.1) refl)
+      ∙ step _ (one low x (flat_map spelling xs ++ rest) h.0)
+      (step _ (list_again one xs (next low x) rest h.1) refl)

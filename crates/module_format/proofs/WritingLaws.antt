@@ -15,7 +15,7 @@ use Rattle.module_format.proofs.OrderLaws.{each}
 -- one piece written behind another
 pub grows : (before p q : List ℕ) {started half done : Bool} {between after : List ℕ}
     → (half ≡ false → (started ≡ false) × (between ≡ before ++ p))
-        → (done ≡ false → (half ≡ false) × (after ≡ between ++ q))
+    → (done ≡ false → (half ≡ false) × (after ≡ between ++ q))
     → done ≡ false → (started ≡ false) × (after ≡ before ++ (p ++ q))
 grows before p q e f = λ ok.
     let second = f ok in
@@ -42,7 +42,7 @@ pub procedures_writable : (c : Contents) → RowsKeep c
     → AllByRecursion (λ (row : Procedure). length row.parameters < 2 ^ 16) c.procedures
 procedures_writable c k =
     each (ProcedureKeeps c.version (length c.code)) behind_procedure (λ row. length row.parameters < 2 ^ 16)
-        (λ low row h. omega (arith, h.few)) 0 c.procedures k.procedures
+    (λ low row h. omega (arith, h.few)) 0 c.procedures k.procedures
 
 pub labels_writable : (c : Contents) → RowsKeep c
     → AllByRecursion (λ (row : Label). length row.entries < 2 ^ 16) c.labels
@@ -52,14 +52,22 @@ labels_writable c k = each (LabelKeeps (length c.code) c.procedures) behind_labe
 branch_writable : (code_len : ℕ) (before : Before) (b : Branch) → BranchKeeps code_len before b → BranchIsWritable b
 branch_writable code_len before b h =
     let g = h.gifts in
-    record { writes = g.write_count; reads = g.read_count; written_parameters = g.written_count;
-        read_parameters = g.read_parameter_count; ends = g.end_count }
+    record {
+      writes = g.write_count;
+      reads = g.read_count;
+      written_parameters = g.written_count;
+      read_parameters = g.read_parameter_count;
+      ends = g.end_count;
+    }
 
 par_writable : (own code_len : ℕ) (before : Before) (row : Par) → ParKeeps own code_len before row → ParIsWritable row
 par_writable own code_len before row h =
-    record { channels = h.channel_count; branch_count = omega (arith, h.branch_limit);
-        branches = each (BranchKeeps code_len) behind_branch BranchIsWritable
-        (branch_writable code_len) before row.branches h.branches }
+    record {
+      channels = h.channel_count;
+      branch_count = omega (arith, h.branch_limit);
+      branches = each (BranchKeeps code_len) behind_branch BranchIsWritable
+          (branch_writable code_len) before row.branches h.branches;
+    }
 
 pub pars_writable : (c : Contents) → RowsKeep c → AllByRecursion ParIsWritable c.pars
 pars_writable c k = each (ParKeeps (first_branch c) (length c.code)) behind_par ParIsWritable

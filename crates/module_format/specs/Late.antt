@@ -49,7 +49,7 @@ unfoldable pub late_entry : Context → ℕ → Entry → Result ⊤ FormatFault
 late_entry context at e =
     if int_lt e.word context.lo then Err (fault faults.Range at)
     else (if int_lt context.hi (end_of e) then Err (fault faults.Range at) else late_fact context.parameters
-        (at + ENTRY_HEAD_SIZE) e.fact)
+    (at + ENTRY_HEAD_SIZE) e.fact)
 
 -- what a label row says is there in its context; the facts stand 18 bytes behind the row's place, and
 -- the entries behind them and their number
@@ -86,7 +86,7 @@ late_end parameters at e = if names_end parameters e.kind then passes else Err (
 unfoldable pub late_branch : List Parameter → ℕ → Branch → Result ⊤ FormatFault
 late_branch parameters at b =
     let at_written =
-        at + BRANCH_HEAD_SIZE + length (flat_map interval_bytes b.writes) + length (flat_map interval_bytes b.reads) in
+    at + BRANCH_HEAD_SIZE + length (flat_map interval_bytes b.writes) + length (flat_map interval_bytes b.reads) in
     let at_read = at_written + length (flat_map u16_bytes b.written_parameters) in do
       _ ← late_list (late_parameter parameters) u16_bytes at_written b.written_parameters
       _ ← late_list (late_parameter parameters) u16_bytes at_read b.read_parameters
@@ -96,7 +96,7 @@ late_branch parameters at b =
 unfoldable pub late_par : Contents → ℕ → Par → Result ⊤ FormatFault
 late_par c at row =
     late_list (late_branch (parameters_at c row.context)) branch_bytes
-        (at + PAR_HEAD_SIZE + length (flat_map channel_bytes row.channels)) row.branches
+    (at + PAR_HEAD_SIZE + length (flat_map channel_bytes row.channels)) row.branches
 
 -- ---- both, where the label rows begin at `at` and the PAR rows stand behind them
 unfoldable pub late_at : ℕ → Contents → Result ⊤ FormatFault

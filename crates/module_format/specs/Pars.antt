@@ -81,8 +81,12 @@ direction_number directions.Out = 2
 -- the four fields by which ends rise
 abbrev pub key_of : EndRow → EndKey
 key_of e =
-    record { kind = kind_of e.kind; number = number_of e.kind; element = element_of e.kind;
-    direction = direction_number e.direction }
+    record {
+      kind = kind_of e.kind;
+      number = number_of e.kind;
+      element = element_of e.kind;
+      direction = direction_number e.direction;
+    }
 
 -- below every end
 abbrev pub first_key : EndKey

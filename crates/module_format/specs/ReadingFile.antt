@@ -35,8 +35,17 @@ sizes_at size version rest = do
   base ← at_most_at size data_words.0 data_words.1
   budget ← limited_at size 8 MAX_BUDGET base.1
   finish ← at_most_at size code_len.0 budget.1
-  Ok (record { code_len = code_len.0; const_len = const_len.0; data_words = data_words.0; base = base.0;
-      budget = budget.0; finish = finish.0 }, finish.1)
+  Ok (
+    record {
+      code_len = code_len.0;
+      const_len = const_len.0;
+      data_words = data_words.0;
+      base = base.0;
+      budget = budget.0;
+      finish = finish.0;
+    },
+    finish.1,
+  )
 
 -- the message lengths of four links
 unfoldable pub four_lengths_at : ℕ → List ℕ → Read (ℕ × ℕ × ℕ × ℕ)
@@ -74,8 +83,16 @@ counts_at size version rest = do
   labels ← limited_at size 4 MAX_LABELS procedures.1
   pars ← limited_at size 4 MAX_PARS labels.1
   more ← extension_at size version pars.1
-  Ok (record { procedures = procedures.0; labels = labels.0; pars = pars.0; has_long_operations = more.0.0;
-      table_rows = more.0.1 }, more.1)
+  Ok (
+    record {
+      procedures = procedures.0;
+      labels = labels.0;
+      pars = pars.0;
+      has_long_operations = more.0.0;
+      table_rows = more.0.1;
+    },
+    more.1,
+  )
 
 -- ---- the file
 

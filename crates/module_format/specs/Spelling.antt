@@ -115,14 +115,14 @@ branch_head row =
     u32_bytes row.entry ++ i32_bytes row.workspace
     ++ u16_bytes (length row.writes) ++ u16_bytes (length row.reads)
     ++ u16_bytes (length row.written_parameters) ++ u16_bytes (length row.read_parameters)
-        ++ u16_bytes (length row.ends)
+    ++ u16_bytes (length row.ends)
 
 unfoldable pub branch_bytes : Branch → List ℕ
 branch_bytes row =
     branch_head row
     ++ flat_map interval_bytes row.writes ++ flat_map interval_bytes row.reads
     ++ flat_map u16_bytes row.written_parameters ++ flat_map u16_bytes row.read_parameters
-        ++ flat_map end_bytes row.ends
+    ++ flat_map end_bytes row.ends
 
 unfoldable pub par_bytes : Par → List ℕ
 par_bytes row =

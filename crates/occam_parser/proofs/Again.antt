@@ -47,7 +47,7 @@ pub up_to_again : {A : Type 0} (close : mark_type.Mark) (read : Option (A × Lis
 unfolding up_to
 up_to_again {A} close read x rest e =
     ap (λ (o : Option (A × List Terminal)). o >>= λ y. behind close y.1 >>= λ us. Some (y.0, us)) e ∙ ap
-        (λ o. o >>= λ us. Some (x, us)) (behind_again close rest)
+    (λ o. o >>= λ us. Some (x, us)) (behind_again close rest)
 
 named_alone : (inner : Reads Expression) (name : List ℕ) (ts : List Terminal) → behind mark.OpenBracket ts ≡ None
     → named inner name ts ≡ Some (Named name, ts)
@@ -60,7 +60,7 @@ named_element : (inner : Reads Expression) (name : List ℕ) (ts rest : List Ter
 unfolding named
 named_element inner name ts rest e h =
     ap (named_behind name (Mark mark.OpenBracket ∷ ts) inner) (behind_again mark.OpenBracket ts) ∙ ap
-        (λ o. o >>= λ x. Some (Element name x.0, x.1)) (up_to_again mark.CloseBracket (inner ts) e rest h)
+    (λ o. o >>= λ x. Some (Element name x.0, x.1)) (up_to_again mark.CloseBracket (inner ts) e rest h)
 
 bracketed_again : (inner : Reads Expression) (operand : Reads Term) (ts rest : List Terminal) (e : Expression)
     → inner ts ≡ Some (e, Mark mark.CloseParenthesis ∷ rest)
@@ -150,15 +150,15 @@ alone_again : (p : Reads Term) (ts rest : List Terminal) (t : Term) → prefix_a
 unfolding expression_with one_operator
 alone_again p ts rest t n h b =
     ends_well (one_operator p ts) (Alone t) rest
-        (ap (one_behind p ts) n ∙ ap (λ o. o >>= λ x. after_first p x.0 x.1) h ∙ after_alone p t rest b) b
+    (ap (one_behind p ts) n ∙ ap (λ o. o >>= λ x. after_first p x.0 x.1) h ∙ after_alone p t rest b) b
 
 prefixed_again : (p : Reads Term) (op : PrefixOperator) (ts rest : List Terminal) (t : Term) → p ts ≡ Some (t, rest)
     → begins_with_operator rest ≡ false → expression_with p (prefix_sign op ∷ ts) ≡ Some (Prefixed op t, rest)
 unfolding expression_with one_operator
 prefixed_again p op ts rest t h b =
     ends_well (one_operator p (prefix_sign op ∷ ts)) (Prefixed op t) rest
-        (ap (one_behind p (prefix_sign op ∷ ts)) (prefix_again op ts) ∙ ap
-        (λ o. o >>= λ x. Some (Prefixed op x.0, x.1)) h) b
+    (ap (one_behind p (prefix_sign op ∷ ts)) (prefix_again op ts) ∙ ap
+    (λ o. o >>= λ x. Some (Prefixed op x.0, x.1)) h) b
 
 after_pair : (p : Reads Term) (op : PairOperator) (a b : Term) (ts rest : List Terminal) → p ts ≡ Some (b, rest)
     → after_first p a (Pair op ∷ ts) ≡ Some (Paired op a b, rest)
@@ -171,7 +171,7 @@ paired_again : (p : Reads Term) (op : PairOperator) (ts us rest : List Terminal)
 unfolding expression_with one_operator
 paired_again p op ts us rest a b n h k e =
     ends_well (one_operator p ts) (Paired op a b) rest
-        (ap (one_behind p ts) n ∙ ap (λ o. o >>= λ x. after_first p x.0 x.1) h ∙ after_pair p op a b us rest k) e
+    (ap (one_behind p ts) n ∙ ap (λ o. o >>= λ x. after_first p x.0 x.1) h ∙ after_pair p op a b us rest k) e
 
 -- How the reading of a chain goes on when these operands were read, and rest is left.
 pub record ReadSo (p : Reads Term) (op : ChainOperator) (ts : List Terminal) (terms : Terms) (rest : List Terminal)
@@ -207,20 +207,31 @@ chain_again : (p : Reads Term) (op : ChainOperator) (ts : List Terminal) (terms 
 unfolding expression_with one_operator chain
 chain_again p op ts terms rest r b =
     let found = ap (λ (o : Option (Term × List Terminal)). o >>= λ x. chain_from p op (length r.more)
-        (Then (First r.first) x.0) x.1 >>= λ y. Some (Chained op y.0, y.1)) r.reads_second in
+    (Then (First r.first) x.0) x.1 >>= λ y. Some (Chained op y.0, y.1)) r.reads_second in
     let done = ap (λ (o : Option (Terms × List Terminal)). o >>= λ y. Some (Chained op y.0, y.1))
-        (r.goes_on ∙ chain_no_turn p op r.turns terms rest (no_operator_none op rest b)) in
+    (r.goes_on ∙ chain_no_turn p op r.turns terms rest (no_operator_none op rest b)) in
     ends_well (one_operator p ts) (Chained op terms) rest
     (ap (one_behind p ts) r.plain ∙ ap (λ (o : Option (Term × List Terminal)). o >>= λ x. after_first p x.0 x.1)
-        r.reads_first ∙ after_chain p op r.first r.more ∙ found ∙ done)
+    r.reads_first ∙ after_chain p op r.first r.more ∙ found ∙ done)
     b
 
 chain_first : (p : Reads Term) (op : ChainOperator) (ts us rest : List Terminal) (a b : Term) → prefix_at ts ≡ None
     → p ts ≡ Some (a, Chain op ∷ us) → p us ≡ Some (b, rest) → length rest ≤ length us
     → ReadSo p op ts (Then (First a) b) rest
 chain_first p op ts us rest a b n h k l =
-    record { first = a; more = us; second = b; behind_second = rest; turns = length us; plain = n; reads_first =
-        h; reads_second = k; goes_on = refl; enough = l }
+    record {
+      first = a;
+      more = us;
+      second = b;
+      behind_second = rest;
+      turns = length us;
+      plain = n;
+      reads_first =
+          h;
+      reads_second = k;
+      goes_on = refl;
+      enough = l;
+    }
 
 chain_more : (p : Reads Term) (op : ChainOperator) (ts us rest : List Terminal) (terms : Terms) (b : Term)
     → ReadSo p op ts terms (Chain op ∷ us) → p us ≡ Some (b, rest) → length rest ≤ length us
@@ -260,7 +271,7 @@ mutual
   expression_again (Paired op a b) n rest fits ends =
       ap (expression_with (term_at n)) (append_assoc (written_term a) (Pair op ∷ written_term b) rest)
       ∙ paired_again (term_at n) op (written_term a ++ Pair op ∷ (written_term b ++ rest)) (written_term b ++ rest)
-          rest a b (no_prefix a (Pair op ∷ (written_term b ++ rest)))
+      rest a b (no_prefix a (Pair op ∷ (written_term b ++ rest)))
       (term_again a n (Pair op ∷ (written_term b ++ rest)) fits.0 (no_subscript_pair op (written_term b ++ rest)))
       (term_again b n rest fits.1 ends.no_subscript)
       ends.no_operator
@@ -275,17 +286,17 @@ mutual
   terms_again (Then (First a) b) op n rest is fits e =
       let us = written_term b ++ rest in
       subst (λ ts. ReadSo (term_at n) op ts (Then (First a) b) rest)
-          (sym (append_assoc (written_term a) (Chain op ∷ written_term b) rest))
+      (sym (append_assoc (written_term a) (Chain op ∷ written_term b) rest))
       (chain_first (term_at n) op (written_term a ++ Chain op ∷ us) us rest a b (no_prefix a (Chain op ∷ us))
-          (term_again a n (Chain op ∷ us) fits.0 (no_subscript_chain op us)) (term_again b n rest fits.1 e)
-          (tail_le (written_term b) rest))
+      (term_again a n (Chain op ∷ us) fits.0 (no_subscript_chain op us)) (term_again b n rest fits.1 e)
+      (tail_le (written_term b) rest))
   terms_again (Then (Then ts c) b) op n rest is fits e =
       let us = written_term b ++ rest in
       subst (λ vs. ReadSo (term_at n) op vs (Then (Then ts c) b) rest)
-          (sym (append_assoc (written_terms op (Then ts c)) (Chain op ∷ written_term b) rest))
+      (sym (append_assoc (written_terms op (Then ts c)) (Chain op ∷ written_term b) rest))
       (chain_more (term_at n) op (written_terms op (Then ts c) ++ Chain op ∷ us) us rest (Then ts c) b
-          (terms_again (Then ts c) op n (Chain op ∷ us) tt fits.0 (no_subscript_chain op us))
-          (term_again b n rest fits.1 e) (tail_le (written_term b) rest))
+      (terms_again (Then ts c) op n (Chain op ∷ us) tt fits.0 (no_subscript_chain op us))
+      (term_again b n rest fits.1 e) (tail_le (written_term b) rest))
 
   term_again : (t : Term) (n : ℕ) (rest : List Terminal) → FitsTerm t n → behind mark.OpenBracket rest ≡ None
       → term_at n (written_term t ++ rest) ≡ Some (t, rest)
@@ -298,19 +309,19 @@ mutual
   term_again (Element name x) n rest fits e =
       let ts = written x ++ Mark mark.CloseBracket ∷ rest in
       ap (λ us. term_at n (Name name ∷ Mark mark.OpenBracket ∷ us))
-          (append_assoc (written x) (Mark mark.CloseBracket ∷ []) rest)
+      (append_assoc (written x) (Mark mark.CloseBracket ∷ []) rest)
       ∙ (term_name n (Mark mark.OpenBracket ∷ ts) name
       ∙ named_element (inner_at n) name ts rest x
-          (inner_is n ts fits.0 ∙ expression_again x (pred n) (Mark mark.CloseBracket ∷ rest) fits.1
-          (ends_bracket rest)))
+      (inner_is n ts fits.0 ∙ expression_again x (pred n) (Mark mark.CloseBracket ∷ rest) fits.1
+      (ends_bracket rest)))
   term_again (Bracketed x) n rest fits e =
       let ts = written x ++ Mark mark.CloseParenthesis ∷ rest in
       ap (λ us. term_at n (Mark mark.OpenParenthesis ∷ us))
-          (append_assoc (written x) (Mark mark.CloseParenthesis ∷ []) rest)
+      (append_assoc (written x) (Mark mark.CloseParenthesis ∷ []) rest)
       ∙ (term_mark n ts mark.OpenParenthesis
       ∙ bracketed_again (inner_at n) (operand_within n) ts rest x
-          (inner_is n ts fits.0 ∙ expression_again x (pred n) (Mark mark.CloseParenthesis ∷ rest) fits.1
-          (ends_parenthesis rest)))
+      (inner_is n ts fits.0 ∙ expression_again x (pred n) (Mark mark.CloseParenthesis ∷ rest) fits.1
+      (ends_parenthesis rest)))
   term_again (Converted to t) n rest fits e =
       converted_is n (written_term t ++ rest) to ∙ converted_again (operand_within n) to (written_term t ++ rest)
-          rest t (operand_is n (written_term t ++ rest) fits.0 ∙ term_again t (pred n) rest fits.1 e)
+      rest t (operand_is n (written_term t ++ rest) fits.0 ∙ term_again t (pred n) rest fits.1 e)

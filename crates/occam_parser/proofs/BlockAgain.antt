@@ -46,11 +46,11 @@ stops_at_end level k h = refl
 beginning_row : (level : ℕ) (found : List Declaration) (r : Row) (rows : List Row) (h : Head) → r.level ≡ level
     → level ≤ 64 → head_at r.number r.terminals ≡ Some h
     → beginning_from level found (r ∷ rows) ≡ begun found r.number rows (λ more. beginning_from level more rows)
-        (Some h)
+    (Some h)
 unfolding beginning_from
 beginning_row level found r rows h e low is =
     ap (λ b. cond b (begun found r.number rows (λ more. beginning_from level more rows)
-        (head_at r.number r.terminals)) None) (at_again level r e low)
+    (head_at r.number r.terminals)) None) (at_again level r e low)
     ∙ ap (begun found r.number rows (λ more. beginning_from level more rows)) is
 
 with_one_more : (found : List Declaration) (d : Declaration) (p : Process)
@@ -74,8 +74,12 @@ record Starts (level : ℕ) (rows rest : List Row) : Type 0 where
   some : length rest < length (rows ++ rest)
 
 starts_row : (level : ℕ) (r : Row) (rows rest : List Row) → r.level ≡ level → Starts level (r ∷ rows) rest
-starts_row level r rows rest e = record { here = eq-eqb r.level level e; stops =
-    stops_at_row level r (rows ++ rest) e; some = omega (arith, length-append rows rest) }
+starts_row level r rows rest e = record {
+  here = eq-eqb r.level level e;
+  stops =
+      stops_at_row level r (rows ++ rest) e;
+  some = omega (arith, length-append rows rest);
+}
 
 starts_process : (p : Process) (level : ℕ) (rest : List Row) → Starts level (lines_of p level) rest
 starts_process (Declared d p) level rest = starts_row level
@@ -100,13 +104,13 @@ block_again : (item : ReadsLines Component) (kind : BlockKind) (r : Option Repli
     (rest : List Row) → HasRightCount r cs → begins_at level rest ≡ false
     → ContinuesBlock item level (is_some r) (lines_of_components cs level ++ rest) cs rest
     → block_with kind r (components_of item level (is_some r) (lines_of_components cs level ++ rest)) ≡ Some
-        (Block kind r cs, rest)
+    (Block kind r cs, rest)
 unfolding block_with
 block_again item kind r cs level rest right stops c =
     let over = wants_no_more level (is_some r) (count_of cs) rest stops
-        (λ e. let one = single_count r cs right e in omega arith) in
+    (λ e. let one = single_count r cs right e in omega arith) in
     ap (λ (o : Option (Components × List Row)). o >>= λ x. Some (Block kind r x.0, x.1))
-        (block_ends item level (is_some r) (lines_of_components cs level ++ rest) cs rest over c)
+    (block_ends item level (is_some r) (lines_of_components cs level ++ rest) cs rest over c)
 
 fits_low : (p : Process) (level : ℕ) → FitsProcess p level → level ≤ 64
 fits_low (Declared d p) level fits = fits.0
@@ -131,33 +135,33 @@ plain_of m level block.Alt p rows rest is e = absurd is
 choice_again : (m level line : ℕ) (e : Expression) (p : Process) (rows rest : List Row) → level ≤ 64 → IsWhole e
     → process_at m (level + 1) rows ≡ Some (p, rest)
     → component_at (suc m) level block.If (record { number = line; level = level; terminals = written e } ∷ rows)
-        ≡ Some (Chosen line e p, rest)
+    ≡ Some (Chosen line e p, rest)
 unfolding component_at choice_with
 choice_again m level line e p rows rest low fits h =
     let r : Row = record { number = line; level = level; terminals = written e } in
     ap (λ (o : Option (Row × List Row)). o >>= λ r. whole_at r.0.terminals >>= λ condition. process_at m (level + 1)
-        r.1 >>= λ p. Some (Chosen r.0.number condition p.0, p.1)) (first_row_again level r rows refl low)
+    r.1 >>= λ p. Some (Chosen r.0.number condition p.0, p.1)) (first_row_again level r rows refl low)
     ∙ ap (λ (o : Option Expression). o >>= λ condition. process_at m (level + 1) rows >>= λ p. Some
-        (Chosen line condition p.0, p.1)) (whole_line_again e fits)
+    (Chosen line condition p.0, p.1)) (whole_line_again e fits)
     ∙ ap (λ (o : Option (Process × List Row)). o >>= λ p. Some (Chosen line e p.0, p.1)) h
 
 branch_again : (m level line : ℕ) (g : Guard) (p : Process) (rows rest : List Row) → level ≤ 64 → FitsGuard g
     → process_at m (level + 1) rows ≡ Some (p, rest)
     → component_at (suc m) level block.Alt (record { number = line; level = level; terminals = written_guard g } ∷
-        rows) ≡ Some (Guarded line g p, rest)
+    rows) ≡ Some (Guarded line g p, rest)
 unfolding component_at branch_with
 branch_again m level line g p rows rest low fits h =
     let r : Row = record { number = line; level = level; terminals = written_guard g } in
     ap (λ (o : Option (Row × List Row)). o >>= λ r. guard_at r.0.terminals >>= λ guard. process_at m (level + 1) r.1
-        >>= λ p. Some (Guarded r.0.number guard p.0, p.1)) (first_row_again level r rows refl low)
+    >>= λ p. Some (Guarded r.0.number guard p.0, p.1)) (first_row_again level r rows refl low)
     ∙ ap (λ (o : Option Guard). o >>= λ guard. process_at m (level + 1) rows >>= λ p. Some
-        (Guarded line guard p.0, p.1)) (guard_again g fits)
+    (Guarded line guard p.0, p.1)) (guard_again g fits)
     ∙ ap (λ (o : Option (Process × List Row)). o >>= λ p. Some (Guarded line g p.0, p.1)) h
 
 chosen_of : (kind : BlockKind) (m level line : ℕ) (e : Expression) (p : Process) (rows rest : List Row)
     → IsOf kind (Chosen line e p) → level ≤ 64 → IsWhole e → process_at m (level + 1) rows ≡ Some (p, rest)
     → component_at (suc m) level kind (record { number = line; level = level; terminals = written e } ∷ rows) ≡ Some
-        (Chosen line e p, rest)
+    (Chosen line e p, rest)
 chosen_of block.Seq m level line e p rows rest is low fits h = absurd is
 chosen_of block.Par m level line e p rows rest is low fits h = absurd is
 chosen_of block.If m level line e p rows rest is low fits h = choice_again m level line e p rows rest low fits h
@@ -166,7 +170,7 @@ chosen_of block.Alt m level line e p rows rest is low fits h = absurd is
 guarded_of : (kind : BlockKind) (m level line : ℕ) (g : Guard) (p : Process) (rows rest : List Row)
     → IsOf kind (Guarded line g p) → level ≤ 64 → FitsGuard g → process_at m (level + 1) rows ≡ Some (p, rest)
     → component_at (suc m) level kind (record { number = line; level = level; terminals = written_guard g } ∷ rows)
-        ≡ Some (Guarded line g p, rest)
+    ≡ Some (Guarded line g p, rest)
 guarded_of block.Seq m level line g p rows rest is low fits h = absurd is
 guarded_of block.Par m level line g p rows rest is low fits h = absurd is
 guarded_of block.If m level line g p rows rest is low fits h = absurd is
@@ -180,41 +184,57 @@ left (suc m) level e low = (m, refl, omega arith)
 acts_again : (component : BlockKind → ReadsLines Component) (level : ℕ) (found : List Declaration) (line : ℕ)
     (a : Action) (rest : List Row) → level ≤ 64 → FitsAction a
     → (beginning_from level found (record { number = line; level = level; terminals = written_action a } ∷ rest) >>=
-        λ b. process_behind component level b.0 b.1 b.0.start) ≡ Some
-        (with_declarations found (Does line (Act a)), rest)
+    λ b. process_behind component level b.0 b.1 b.0.start) ≡ Some
+    (with_declarations found (Does line (Act a)), rest)
 acts_again component level found line a rest low fits =
     ap (λ (o : Option (Beginning × List Row)). o >>= λ b. process_behind component level b.0 b.1 b.0.start)
-        (beginning_row level found (record { number = line; level = level; terminals = written_action a }) rest
-        (Acts a) refl low (head_again line (Acts a) fits))
+    (beginning_row level found (record { number = line; level = level; terminals = written_action a }) rest
+    (Acts a) refl low (head_again line (Acts a) fits))
 
 opens_again : (component : BlockKind → ReadsLines Component) (level : ℕ) (found : List Declaration) (line : ℕ)
     (kind : BlockKind) (r : Option Replicator) (cs : Components) (rows rest : List Row) → level ≤ 64
     → FitsReplicator r
     → block_with kind r (components_of (component kind) (level + 1) (is_some r) rows) ≡ Some (Block kind r cs, rest)
-    → (beginning_from level found (record { number = line; level = level; terminals =
-        block_word kind ∷ written_replicator r } ∷ rows) >>= λ b. process_behind component level b.0 b.1 b.0.start)
-        ≡ Some (with_declarations found (Does line (Block kind r cs)), rest)
+    → (beginning_from level found (record {
+      number = line;
+      level = level;
+      terminals =
+          block_word kind ∷ written_replicator r;
+    } ∷ rows) >>= λ b. process_behind component level b.0 b.1 b.0.start)
+    ≡ Some (with_declarations found (Does line (Block kind r cs)), rest)
 opens_again component level found line kind r cs rows rest low fits h =
     ap (λ (o : Option (Beginning × List Row)). o >>= λ b. process_behind component level b.0 b.1 b.0.start)
-        (beginning_row level found (record { number = line; level = level; terminals =
-        block_word kind ∷ written_replicator r }) rows (Opens kind r) refl low (head_again line (Opens kind r) fits))
+    (beginning_row level found (record {
+      number = line;
+      level = level;
+      terminals =
+          block_word kind ∷ written_replicator r;
+    }) rows (Opens kind r) refl low (head_again line (Opens kind r) fits))
     ∙ ap (λ (o : Option (Construct × List Row)). o >>= λ x. Some (with_declarations found (Does line x.0), x.1)) h
 
 declares_again : (component : BlockKind → ReadsLines Component) (level : ℕ) (found : List Declaration)
     (d : Declaration) (rows : List Row) → level ≤ 64 → FitsDeclaration (declaration_line d) d
-    → (beginning_from level found (record { number = declaration_line d; level = level; terminals =
-        written_declaration d } ∷ rows) >>= λ b. process_behind component level b.0 b.1 b.0.start)
+    → (beginning_from level found (record {
+      number = declaration_line d;
+      level = level;
+      terminals =
+          written_declaration d;
+    } ∷ rows) >>= λ b. process_behind component level b.0 b.1 b.0.start)
     ≡ (beginning_from level (found ++ d ∷ []) rows >>= λ b. process_behind component level b.0 b.1 b.0.start)
 declares_again component level found d rows low fits =
     ap (λ (o : Option (Beginning × List Row)). o >>= λ b. process_behind component level b.0 b.1 b.0.start)
-        (beginning_row level found (record { number = declaration_line d; level = level; terminals =
-        written_declaration d }) rows (Declares d) refl low (head_again (declaration_line d) (Declares d) fits))
+    (beginning_row level found (record {
+      number = declaration_line d;
+      level = level;
+      terminals =
+          written_declaration d;
+    }) rows (Declares d) refl low (head_again (declaration_line d) (Declares d) fits))
 
 mutual
   process_reads : (p : Process) (m level : ℕ) (found : List Declaration) (rest : List Row) → m + (level + 1) ≡ 65
       → FitsProcess p level → Stops level rest
       → (beginning_from level found (lines_of p level ++ rest) >>= λ b. process_behind (component_at m (level + 1))
-          level b.0 b.1 b.0.start) ≡ Some (with_declarations found p, rest)
+      level b.0 b.1 b.0.start) ≡ Some (with_declarations found p, rest)
   process_reads (Declared d p) m level found rest e fits stops =
       declares_again (component_at m (level + 1)) level found d (lines_of p level ++ rest) fits.0 fits.1
       ∙ process_reads p m level (found ++ d ∷ []) rest e fits.2 stops
@@ -225,15 +245,15 @@ mutual
   construct_reads : (c : Construct) (line m level : ℕ) (found : List Declaration) (rest : List Row)
       → m + (level + 1) ≡ 65 → level ≤ 64 → FitsConstruct c level → Stops level rest
       → (beginning_from level found (lines_of_construct c line level ++ rest) >>= λ b. process_behind
-          (component_at m (level + 1)) level b.0 b.1 b.0.start) ≡ Some (with_declarations found (Does line c), rest)
+      (component_at m (level + 1)) level b.0 b.1 b.0.start) ≡ Some (with_declarations found (Does line c), rest)
   construct_reads (Act a) line m level found rest e low fits stops =
       acts_again (component_at m (level + 1)) level found line a rest low fits
   construct_reads (Block kind r cs) line m level found rest e low fits stops =
       opens_again (component_at m (level + 1)) level found line kind r cs
-          (lines_of_components cs (level + 1) ++ rest) rest low fits.0
+      (lines_of_components cs (level + 1) ++ rest) rest low fits.0
       (block_again (component_at m (level + 1) kind) kind r cs (level + 1) rest fits.1 (stops (level + 1) (omega arith))
       (components_read cs kind (is_some r) m (level + 1) rest e fits.2 (stops_deeper level rest stops)
-          (λ t. let one = single_count r cs fits.1 t in omega arith)))
+      (λ t. let one = single_count r cs fits.1 t in omega arith)))
 
   components_read : (cs : Components) (kind : BlockKind) (single : Bool) (m level : ℕ) (rest : List Row)
       → m + level ≡ 65 → FitComponents cs kind level → Stops level rest → (single ≡ true → count_of cs ≤ 1)
@@ -244,9 +264,9 @@ mutual
       let start = starts_component c level rest in
       let rows = lines_of_component c level ++ rest in
       let before = components_read cs kind single m level rows e fits.0 start.stops
-          (λ t. let few = few t in omega arith) in
+      (λ t. let few = few t in omega arith) in
       subst (λ us. ContinuesBlock (component_at m level kind) level single us (Further cs c) rest)
-          (sym (append_assoc (lines_of_components cs level) (lines_of_component c level) rest))
+      (sym (append_assoc (lines_of_components cs level) (lines_of_component c level) rest))
       (block_goes_on (component_at m level kind) level single (lines_of_components cs level ++ rows) cs rows rest c
       (wants_more level single (count_of cs) rows start.here (λ t. let few = few t in omega arith))
       (component_reads c kind m level rest e fits.1 fits.2 stops)
@@ -260,24 +280,24 @@ mutual
       let n = left m level e (fits_low p level fits) in
       ap (λ k. component_at k level kind (lines_of p level ++ rest)) n.1
       ∙ plain_of n.0 level kind p (lines_of p level ++ rest) rest is
-          (process_one n.0 level p (lines_of p level ++ rest) rest (process_reads p n.0 level [] rest n.2 fits stops))
+      (process_one n.0 level p (lines_of p level ++ rest) rest (process_reads p n.0 level [] rest n.2 fits stops))
   component_reads (Chosen line x p) kind m level rest e is fits stops =
       let n = left m level e fits.0 in
       let k = left n.0 (level + 1) n.2 (fits_low p (level + 1) fits.2) in
       let inner = ap (λ j. process_at j (level + 1) (lines_of p (level + 1) ++ rest)) k.1 ∙ process_one k.0
-          (level + 1) p (lines_of p (level + 1) ++ rest) rest
-          (process_reads p k.0 (level + 1) [] rest k.2 fits.2 (stops_deeper level rest stops)) in
+      (level + 1) p (lines_of p (level + 1) ++ rest) rest
+      (process_reads p k.0 (level + 1) [] rest k.2 fits.2 (stops_deeper level rest stops)) in
       ap (λ j. component_at j level kind (record { number = line; level = level; terminals = written x } ∷
-          (lines_of p (level + 1) ++ rest))) n.1
+      (lines_of p (level + 1) ++ rest))) n.1
       ∙ chosen_of kind n.0 level line x p (lines_of p (level + 1) ++ rest) rest is fits.0 fits.1 inner
   component_reads (Guarded line g p) kind m level rest e is fits stops =
       let n = left m level e fits.0 in
       let k = left n.0 (level + 1) n.2 (fits_low p (level + 1) fits.2) in
       let inner = ap (λ j. process_at j (level + 1) (lines_of p (level + 1) ++ rest)) k.1 ∙ process_one k.0
-          (level + 1) p (lines_of p (level + 1) ++ rest) rest
-          (process_reads p k.0 (level + 1) [] rest k.2 fits.2 (stops_deeper level rest stops)) in
+      (level + 1) p (lines_of p (level + 1) ++ rest) rest
+      (process_reads p k.0 (level + 1) [] rest k.2 fits.2 (stops_deeper level rest stops)) in
       ap (λ j. component_at j level kind (record { number = line; level = level; terminals = written_guard g } ∷
-          (lines_of p (level + 1) ++ rest))) n.1
+      (lines_of p (level + 1) ++ rest))) n.1
       ∙ guarded_of kind n.0 level line g p (lines_of p (level + 1) ++ rest) rest is fits.0 fits.1 inner
 
 pub process_again : (p : Process) (n level : ℕ) (rest : List Row) → n + level ≡ 65 → FitsProcess p level
@@ -285,4 +305,4 @@ pub process_again : (p : Process) (n level : ℕ) (rest : List Row) → n + leve
 process_again p n level rest e fits stops =
     let k = left n level e (fits_low p level fits) in
     ap (λ j. process_at j level (lines_of p level ++ rest)) k.1 ∙ process_one k.0 level p (lines_of p level ++ rest)
-        rest (process_reads p k.0 level [] rest k.2 fits stops)
+    rest (process_reads p k.0 level [] rest k.2 fits stops)

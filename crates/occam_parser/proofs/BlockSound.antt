@@ -35,8 +35,12 @@ row_eq r level ts e f = ap (λ (l : ℕ). record { number = r.number; level = l;
 
 abbrev pub declared_rows : ℕ → List Declaration → List Row
 declared_rows level [] = []
-declared_rows level (d ∷ ds) = record { number = declaration_line d; level = level; terminals =
-    written_declaration d } ∷ declared_rows level ds
+declared_rows level (d ∷ ds) = record {
+  number = declaration_line d;
+  level = level;
+  terminals =
+      written_declaration d;
+} ∷ declared_rows level ds
 
 abbrev pub AllDeclared : List Declaration → Type 0
 AllDeclared = AllByRecursion (λ d. FitsDeclaration (declaration_line d) d)
@@ -77,7 +81,7 @@ begins_here level found r rows h x a e s =
     let at = at_is level r a in
     let sound = head_sound r.number r.terminals h e in
     let made : Begins level found (r ∷ rows) (record { declarations = found; line = r.number; start = h }, rows) =
-        record {
+    record {
       declared = [];
       all = sym (append-nil found);
       whole = ap (λ q. q ∷ rows) (row_eq r level (written_head h) at.0 sound.0);
@@ -95,7 +99,7 @@ begins_later level found r rows d x a e b =
     let sound = head_sound r.number r.terminals (Declares d) e in
     let line = declared_at r.number d sound.1 in
     let first = row_eq r level (written_declaration d) at.0 sound.0 ∙ ap
-        (λ (n : ℕ). record { number = n; level = level; terminals = written_declaration d }) line.0 in
+    (λ (n : ℕ). record { number = n; level = level; terminals = written_declaration d }) line.0 in
     record {
       declared = d ∷ b.declared;
       all = b.all ∙ append_assoc found (d ∷ []) b.declared;
@@ -110,7 +114,7 @@ begun_sound : (level : ℕ) (found : List Declaration) (r : Row) (rows : List Ro
     (more : List Declaration → Option (Beginning × List Row))
     → ((ds : List Declaration) (y : Beginning × List Row) → more ds ≡ Some y → Begins level ds rows y)
     → (o : Option Head) (x : Beginning × List Row) → is_at level r ≡ true → head_at r.number r.terminals ≡ o
-        → begun found r.number rows more o ≡ Some x
+    → begun found r.number rows more o ≡ Some x
     → Begins level found (r ∷ rows) x
 begun_sound level found r rows more m None x a h e = absurd (cc)
 begun_sound level found r rows more m (Some (Declares d)) x a h e =
@@ -123,7 +127,7 @@ begins_if : (b : Bool) (level : ℕ) (found : List Declaration) (r : Row) (rows 
     (more : List Declaration → Option (Beginning × List Row))
     → ((ds : List Declaration) (y : Beginning × List Row) → more ds ≡ Some y → Begins level ds rows y)
     → (x : Beginning × List Row) → is_at level r ≡ b
-        → cond b (begun found r.number rows more (head_at r.number r.terminals)) None ≡ Some x
+    → cond b (begun found r.number rows more (head_at r.number r.terminals)) None ≡ Some x
     → Begins level found (r ∷ rows) x
 begins_if true level found r rows more m x a e =
     begun_sound level found r rows more m (head_at r.number r.terminals) x a refl e
@@ -141,7 +145,7 @@ beginning_sound level (r ∷ rows) found x e = begins_if (is_at level r) level f
 abbrev pub SoundComponent : BlockKind → ℕ → ReadsLines Component → Type 0
 SoundComponent kind level item =
     (rows : List Row) (x : Component) (rest : List Row) → item rows ≡ Some (x, rest)
-        → (rows ≡ lines_of_component x level ++ rest) × IsOf kind x × FitsComponent x level
+    → (rows ≡ lines_of_component x level ++ rest) × IsOf kind x × FitsComponent x level
 
 -- what the components of a block were read from
 pub record AreRead (kind : BlockKind) (level : ℕ) (single : Bool) (whole : List Row) (x : Components × List Row)
@@ -158,15 +162,19 @@ step_sound : (item : ReadsLines Component) (kind : BlockKind) (level : ℕ) (sin
     (more : Option (Components × List Row)) (found : Components) (rows : List Row) (o : Option Bool)
     (x : Components × List Row) → Found kind level single found
     → ((x : Components × List Row) → more ≡ Some x → wants level single (count_of found) rows ≡ Some true
-        → AreRead kind level single (lines_of_components found level ++ rows) x)
+    → AreRead kind level single (lines_of_components found level ++ rows) x)
     → wants level single (count_of found) rows ≡ o → component_step more found rows o ≡ Some x
     → AreRead kind level single (lines_of_components found level ++ rows) x
 step_sound item kind level single more found rows None x f m w e = absurd (cc)
 step_sound item kind level single more found rows (Some true) x f m w e = m x e w
 step_sound item kind level single more found rows (Some false) x f m w e =
     at_some (AreRead kind level single (lines_of_components found level ++ rows)) (found, rows) x e
-    (record { are = refl; fit = f.fit; one = λ s. let some =
-        wants_one level single (count_of found) rows w s in let few = f.few s in omega arith })
+    (record {
+      are = refl;
+      fit = f.fit;
+      one = λ s. let some =
+          wants_one level single (count_of found) rows w s in let few = f.few s in omega arith;
+    })
 
 components_sound : (item : ReadsLines Component) (kind : BlockKind) (level : ℕ) (single : Bool)
     → SoundComponent kind level item → (n : ℕ) (found : Components) (rows : List Row) (x : Components × List Row)
@@ -178,16 +186,19 @@ components_sound item kind level single s zero found rows x f e =
     (λ y h w. absurd (cc)) refl e
 components_sound item kind level single s (suc n) found rows x f e =
     step_sound item kind level single (item rows >>= λ y. components_from item level single n (Further found y.0)
-        y.1) found rows (wants level single (count_of found) rows) x f
+    y.1) found rows (wants level single (count_of found) rows) x f
     (λ y h w.
     let c = bind_some (item rows) _ y h in
     let is = s rows c.0.0 c.0.1 c.1 in
     let next : Found kind level single (Further found c.0.0) =
-        record { fit = (f.fit, is.1, is.2); few = λ t. let none =
-        wants_first level single (count_of found) rows w t in omega arith } in
+    record {
+      fit = (f.fit, is.1, is.2);
+      few = λ t. let none =
+          wants_first level single (count_of found) rows w t in omega arith;
+    } in
     let rest = components_sound item kind level single s n (Further found c.0.0) c.0.1 y next c.2 in
     let whole = ap (λ us. lines_of_components found level ++ us) is.0 ∙ sym
-        (append_assoc (lines_of_components found level) (lines_of_component c.0.0 level) c.0.1) in
+    (append_assoc (lines_of_components found level) (lines_of_component c.0.0 level) c.0.1) in
     record { are = whole ∙ rest.are; fit = rest.fit; one = rest.one })
     refl
     e
@@ -233,22 +244,26 @@ behind_sound : (component : BlockKind → ReadsLines Component) (level : ℕ)
     → IsProcessOf level rows x
 unfolding block_with
 behind_sound component level s ds line (Acts a) after rows x low all fits whole e =
-    at_some (IsProcessOf level rows) (with_declarations ds (Does line (Act a)), after) x e
-        (whole ∙ joined ds (Does line (Act a)) level after, with_fits ds (Does line (Act a)) level low all
-        (low, fits))
+    at_some (IsProcessOf level rows) (with_declarations ds (Does line (Act a)), after) x e (
+      whole ∙ joined ds (Does line (Act a)) level after,
+      with_fits ds (Does line (Act a)) level low all
+          (low, fits),
+    )
 behind_sound component level s ds line (Opens kind replicator) after rows x low all fits whole e =
     let c = bind_some (components_of (component kind) (level + 1) (is_some replicator) after >>= λ y. Some
-        (Block kind replicator y.0, y.1)) _ x e in
+    (Block kind replicator y.0, y.1)) _ x e in
     let y = bind_some (components_of (component kind) (level + 1) (is_some replicator) after) _ c.0 c.1 in
     let read = block_read (component kind) kind (level + 1) (is_some replicator) after y.0 (s kind) y.1 in
     let construct = Block kind replicator y.0.0 in
     let body = ap (λ us. declared_rows level ds ++ record
-        { number = line; level = level; terminals = written_head (Opens kind replicator) } ∷ us) read.are in
+    { number = line; level = level; terminals = written_head (Opens kind replicator) } ∷ us) read.are in
     at_some (IsProcessOf level rows) (with_declarations ds (Does line construct), y.0.1) x
-        (ap (λ (o : Option (Construct × List Row)). o >>= λ z. Some (with_declarations ds (Does line z.0), z.1))
-        y.2 ∙ c.2)
-    (whole ∙ body ∙ joined ds (Does line construct) level y.0.1, with_fits ds (Does line construct) level low all
-        (low, (fits, right_count replicator y.0.0 read.one, read.fit)))
+    (ap (λ (o : Option (Construct × List Row)). o >>= λ z. Some (with_declarations ds (Does line z.0), z.1))
+    y.2 ∙ c.2) (
+      whole ∙ body ∙ joined ds (Does line construct) level y.0.1,
+      with_fits ds (Does line construct) level low all
+          (low, (fits, right_count replicator y.0.0 read.one, read.fit)),
+    )
 behind_sound component level s ds line (Declares d) after rows x low all fits whole e = absurd (cc)
 
 process_with_sound : (component : BlockKind → ReadsLines Component) (level : ℕ)
@@ -261,9 +276,9 @@ process_with_sound component level s rows x rest e =
     let same : b.0.0.declarations ≡ begins.declared = begins.all in
     let fits : AllDeclared b.0.0.declarations = subst AllDeclared (sym same) begins.fits in
     let whole = begins.whole ∙ ap (λ ds. declared_rows level ds ++ record
-        { number = b.0.0.line; level = level; terminals = written_head b.0.0.start } ∷ b.0.1) (sym same) in
+    { number = b.0.0.line; level = level; terminals = written_head b.0.0.start } ∷ b.0.1) (sym same) in
     behind_sound component level s b.0.0.declarations b.0.0.line b.0.0.start b.0.1 rows (x, rest) begins.low fits
-        begins.start whole b.2
+    begins.start whole b.2
 
 choice_sound : (p : ReadsLines Process) (level : ℕ) → SoundProcess (level + 1) p
     → SoundComponent block.If level (choice_with p level)
@@ -278,9 +293,9 @@ choice_sound p level s rows x rest e =
     let h = s r.0.1 y.0.0 y.0.1 y.1 in
     let row = row_eq r.0.0 level (written c.0) at.0 w.0 in
     let whole = first.0 ∙ ap (λ q. q ∷ r.0.1) row ∙ ap
-        (λ us. record { number = r.0.0.number; level = level; terminals = written c.0 } ∷ us) h.0 in
+    (λ us. record { number = r.0.0.number; level = level; terminals = written c.0 } ∷ us) h.0 in
     at_some (λ (z : Component × List Row). (rows ≡ lines_of_component z.0 level ++ z.1) × IsOf block.If z.0 ×
-        FitsComponent z.0 level) (Chosen r.0.0.number c.0 y.0.0, y.0.1) (x, rest) y.2 (whole, tt, (at.1, w.1, h.1))
+    FitsComponent z.0 level) (Chosen r.0.0.number c.0 y.0.0, y.0.1) (x, rest) y.2 (whole, tt, (at.1, w.1, h.1))
 
 branch_sound : (p : ReadsLines Process) (level : ℕ) → SoundProcess (level + 1) p
     → SoundComponent block.Alt level (branch_with p level)
@@ -295,9 +310,9 @@ branch_sound p level s rows x rest e =
     let h = s r.0.1 y.0.0 y.0.1 y.1 in
     let row = row_eq r.0.0 level (written_guard c.0) at.0 w.0 in
     let whole = first.0 ∙ ap (λ q. q ∷ r.0.1) row ∙ ap
-        (λ us. record { number = r.0.0.number; level = level; terminals = written_guard c.0 } ∷ us) h.0 in
+    (λ us. record { number = r.0.0.number; level = level; terminals = written_guard c.0 } ∷ us) h.0 in
     at_some (λ (z : Component × List Row). (rows ≡ lines_of_component z.0 level ++ z.1) × IsOf block.Alt z.0 ×
-        FitsComponent z.0 level) (Guarded r.0.0.number c.0 y.0.0, y.0.1) (x, rest) y.2 (whole, tt, (at.1, w.1, h.1))
+    FitsComponent z.0 level) (Guarded r.0.0.number c.0 y.0.0, y.0.1) (x, rest) y.2 (whole, tt, (at.1, w.1, h.1))
 
 plain_sound : (kind : BlockKind) (level : ℕ) (p : ReadsLines Process) → ((q : Process) → IsOf kind (Plain q))
     → SoundProcess level p → SoundComponent kind level (λ rows. plain (p rows))
@@ -305,7 +320,7 @@ plain_sound kind level p is s rows x rest e =
     let y = bind_some (p rows) _ (x, rest) e in
     let h = s rows y.0.0 y.0.1 y.1 in
     at_some (λ (z : Component × List Row). (rows ≡ lines_of_component z.0 level ++ z.1) × IsOf kind z.0 ×
-        FitsComponent z.0 level) (Plain y.0.0, y.0.1) (x, rest) y.2 (h.0, is y.0.0, h.1)
+    FitsComponent z.0 level) (Plain y.0.0, y.0.1) (x, rest) y.2 (h.0, is y.0.0, h.1)
 
 component_with_sound : (p q : ReadsLines Process) (level : ℕ) → SoundProcess level p → SoundProcess (level + 1) q
     → (kind : BlockKind) → SoundComponent kind level (component_with p q level kind)
@@ -326,5 +341,5 @@ mutual
   component_sound zero level kind rows x rest e = absurd (cc)
   component_sound (suc n) level kind rows x rest e =
       component_with_sound (process_with (component_at n (level + 1)) level) (process_at n (level + 1)) level
-          (process_with_sound (component_at n (level + 1)) level (component_sound n (level + 1)))
-          (process_sound n (level + 1)) kind rows x rest e
+      (process_with_sound (component_at n (level + 1)) level (component_sound n (level + 1)))
+      (process_sound n (level + 1)) kind rows x rest e

@@ -17,11 +17,11 @@ pub seen_up_to : {A Y : Type 0} (view : A → Y) (m : Mark) (read answer : Resul
 seen_up_to view m (Err e) (Err f) parsed given u =
     let same : e ≡ f = cc u in
     subst (λ (d : LineError). Fails d (up_to m parsed)) same
-        (fails_on e parsed (up_to m parsed) (up_to_none m parsed) given)
+    (fails_on e parsed (up_to m parsed) (up_to_none m parsed) given)
 seen_up_to view m (Err e) (Ok y) parsed given u = absurd (cc u)
 seen_up_to view m (Ok x) (Err f) parsed given u =
     fails_on f (behind m (terminals_of x.1.now)) (up_to m parsed)
     (λ none. up_to_fails m parsed (view x.0) (terminals_of x.1.now) given none) u
 seen_up_to view m (Ok x) (Ok y) parsed given u =
     up_to_found m parsed (view x.0) (terminals_of x.1.now) (terminals_of y.1.now) given u.1 ∙ ap
-        (λ z. Some (view z, terminals_of y.1.now)) (sym u.0)
+    (λ z. Some (view z, terminals_of y.1.now)) (sym u.0)

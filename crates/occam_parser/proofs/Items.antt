@@ -51,13 +51,13 @@ body_lost line head (Ok x) t got (inr none) told =
 
 pub body_found : (line : ℕ) (head : ProcHead) (read : Result (CodeProcess × Bor (List Line)) ParseFault)
     (y : CodeProcess × Bor (List Line)) (got : Option (Process × List Row)) → GoesUpToColon read (Ok y)
-        → TellsBody read got
+    → TellsBody read got
     → with_body line head got ≡ Some (record { line = line; head = head; body = process_of y.0 }, rows_of y.1.now)
 body_found line head (Err e) y got goes told = absurd (cc goes)
 body_found line head (Ok x) y got goes told =
     ap (with_body line head) told ∙ ap (with_colon line head (process_of x.0)) goes.1
     ∙ ap (λ (p : CodeProcess). Some (record { line = line; head = head; body = process_of p }, rows_of y.1.now))
-        (sym goes.0)
+    (sym goes.0)
 
 pub body_within : (read : Result (CodeProcess × Bor (List Line)) ParseFault) (y : CodeProcess × Bor (List Line)) (n : ℕ)
     → GoesUpToColon read (Ok y) → IfOk read (λ x. length x.1.now < n) → length y.1.now ≤ n

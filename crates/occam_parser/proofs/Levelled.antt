@@ -44,21 +44,21 @@ pub block_found : (level : ℕ) (rows after rest : List Row) (ds : List Declarat
     (r : Option Replicator) (c : Construct) → level ≤ 64
     → beginning_from level [] rows ≡ Some (record { declarations = ds; line = line; start = Opens kind r }, after)
     → block_with kind r (components_of (component_at (65 - (level + 1)) (level + 1) kind) (level + 1) (is_some r)
-        after) ≡ Some (c, rest)
+    after) ≡ Some (c, rest)
     → process_at (65 - level) level rows ≡ Some (with_declarations ds (Does line c), rest)
 block_found level rows after rest ds line kind r c low b e =
     process_is level rows after (record { declarations = ds; line = line; start = Opens kind r }) low b ∙ ap
-        (λ (o : Option (Construct × List Row)). o >>= λ x. Some (with_declarations ds (Does line x.0), x.1)) e
+    (λ (o : Option (Construct × List Row)). o >>= λ x. Some (with_declarations ds (Does line x.0), x.1)) e
 
 pub block_lost : (level : ℕ) (rows after : List Row) (ds : List Declaration) (line : ℕ) (kind : BlockKind)
     (r : Option Replicator) → level ≤ 64
     → beginning_from level [] rows ≡ Some (record { declarations = ds; line = line; start = Opens kind r }, after)
     → block_with kind r (components_of (component_at (65 - (level + 1)) (level + 1) kind) (level + 1) (is_some r)
-        after) ≡ None
+    after) ≡ None
     → process_at (65 - level) level rows ≡ None
 block_lost level rows after ds line kind r low b e =
     process_is level rows after (record { declarations = ds; line = line; start = Opens kind r }) low b ∙ ap
-        (λ (o : Option (Construct × List Row)). o >>= λ x. Some (with_declarations ds (Does line x.0), x.1)) e
+    (λ (o : Option (Construct × List Row)). o >>= λ x. Some (with_declarations ds (Does line x.0), x.1)) e
 
 -- ---- components
 
@@ -115,8 +115,8 @@ choice_at n level rows rest r e = ap (λ (o : Option (Row × List Row)). o >>= �
 
 pub choice_is : (level : ℕ) (rows rest : List Row) (r : Row) → level ≤ 64 → first_row level rows ≡ Some (r, rest)
     → component_at (65 - level) level block.If
-        rows ≡ (whole_at r.terminals >>= λ condition. process_at (65 - (level + 1)) (level + 1) rest >>= λ p. Some
-        (Chosen r.number condition p.0, p.1))
+    rows ≡ (whole_at r.terminals >>= λ condition. process_at (65 - (level + 1)) (level + 1) rest >>= λ p. Some
+    (Chosen r.number condition p.0, p.1))
 choice_is level rows rest r low e = ap (λ n. component_at n level block.If rows) (one_more level low) ∙ choice_at
     (65 - (level + 1)) level rows rest r e
 
@@ -141,8 +141,8 @@ branch_at n level rows rest r e = ap (λ (o : Option (Row × List Row)). o >>= �
 
 pub branch_is : (level : ℕ) (rows rest : List Row) (r : Row) → level ≤ 64 → first_row level rows ≡ Some (r, rest)
     → component_at (65 - level) level block.Alt
-        rows ≡ (guard_at r.terminals >>= λ guard. process_at (65 - (level + 1)) (level + 1) rest >>= λ p. Some
-        (Guarded r.number guard p.0, p.1))
+    rows ≡ (guard_at r.terminals >>= λ guard. process_at (65 - (level + 1)) (level + 1) rest >>= λ p. Some
+    (Guarded r.number guard p.0, p.1))
 branch_is level rows rest r low e = ap (λ n. component_at n level block.Alt rows) (one_more level low) ∙ branch_at
     (65 - (level + 1)) level rows rest r e
 
@@ -157,7 +157,7 @@ pub choice_empty : (level : ℕ) (rows rest : List Row) (r : Row) (x : Expressio
     → process_at (65 - (level + 1)) (level + 1) rest ≡ None → component_at (65 - level) level block.If rows ≡ None
 choice_empty level rows rest r x low e h p =
     choice_is level rows rest r low e ∙ ap (λ (o : Option Expression). o >>= λ condition. process_at
-        (65 - (level + 1)) (level + 1) rest >>= λ p. Some (Chosen r.number condition p.0, p.1)) h
+    (65 - (level + 1)) (level + 1) rest >>= λ p. Some (Chosen r.number condition p.0, p.1)) h
     ∙ ap (λ (o : Option (Process × List Row)). o >>= λ p. Some (Chosen r.number x p.0, p.1)) p
 
 pub choice_found : (level : ℕ) (rows rest after : List Row) (r : Row) (x : Expression) (q : Process) → level ≤ 64
@@ -166,7 +166,7 @@ pub choice_found : (level : ℕ) (rows rest after : List Row) (r : Row) (x : Exp
     → component_at (65 - level) level block.If rows ≡ Some (Chosen r.number x q, after)
 choice_found level rows rest after r x q low e h p =
     choice_is level rows rest r low e ∙ ap (λ (o : Option Expression). o >>= λ condition. process_at
-        (65 - (level + 1)) (level + 1) rest >>= λ p. Some (Chosen r.number condition p.0, p.1)) h
+    (65 - (level + 1)) (level + 1) rest >>= λ p. Some (Chosen r.number condition p.0, p.1)) h
     ∙ ap (λ (o : Option (Process × List Row)). o >>= λ p. Some (Chosen r.number x p.0, p.1)) p
 
 pub branch_unread : (level : ℕ) (rows rest : List Row) (r : Row) → level ≤ 64 → first_row level rows ≡ Some (r, rest)
@@ -180,7 +180,7 @@ pub branch_empty : (level : ℕ) (rows rest : List Row) (r : Row) (g : Guard) �
     → process_at (65 - (level + 1)) (level + 1) rest ≡ None → component_at (65 - level) level block.Alt rows ≡ None
 branch_empty level rows rest r g low e h p =
     branch_is level rows rest r low e ∙ ap (λ (o : Option Guard). o >>= λ guard. process_at (65 - (level + 1))
-        (level + 1) rest >>= λ p. Some (Guarded r.number guard p.0, p.1)) h
+    (level + 1) rest >>= λ p. Some (Guarded r.number guard p.0, p.1)) h
     ∙ ap (λ (o : Option (Process × List Row)). o >>= λ p. Some (Guarded r.number g p.0, p.1)) p
 
 pub branch_found : (level : ℕ) (rows rest after : List Row) (r : Row) (g : Guard) (q : Process) → level ≤ 64
@@ -189,7 +189,7 @@ pub branch_found : (level : ℕ) (rows rest after : List Row) (r : Row) (g : Gua
     → component_at (65 - level) level block.Alt rows ≡ Some (Guarded r.number g q, after)
 branch_found level rows rest after r g q low e h p =
     branch_is level rows rest r low e ∙ ap (λ (o : Option Guard). o >>= λ guard. process_at (65 - (level + 1))
-        (level + 1) rest >>= λ p. Some (Guarded r.number guard p.0, p.1)) h
+    (level + 1) rest >>= λ p. Some (Guarded r.number guard p.0, p.1)) h
     ∙ ap (λ (o : Option (Process × List Row)). o >>= λ p. Some (Guarded r.number g p.0, p.1)) p
 
 -- ---- a block, by its kind
@@ -215,5 +215,5 @@ pub body_found : (kind k : BlockKind) (item : ReadsLines Component) (level : ℕ
     → block_with kind r (components_of item level (is_some r) rows) ≡ Some (c, rest)
 body_found kind k item level r single rows rest cs c s e made same =
     block_found_of kind r (components_of item level (is_some r) rows) cs rest
-        (ap (λ (b : Bool). components_of item level b rows) (sym s) ∙ e)
+    (ap (λ (b : Bool). components_of item level b rows) (sym s) ∙ e)
     ∙ ap (λ (d : Construct). Some (d, rest)) (sym (made ∙ ap (λ (j : BlockKind). Block j r cs) same))

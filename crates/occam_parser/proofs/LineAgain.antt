@@ -81,10 +81,10 @@ bracketed_again None rest fits e = ap (bracketed_behind rest) e
 bracketed_again (Some x) rest fits e =
     let ts = (written x ++ Mark mark.CloseBracket ∷ []) ++ rest in
     let read = ap (expression_at 64) (append_assoc (written x) (Mark mark.CloseBracket ∷ []) rest)
-        ∙ expression_before x mark.CloseBracket rest refl fits in
+    ∙ expression_before x mark.CloseBracket rest refl fits in
     ap (bracketed_behind (Mark mark.OpenBracket ∷ ts)) (behind_again mark.OpenBracket ts)
     ∙ ap (λ (o : Option (Expression × List Terminal)). o >>= λ y. Some (Some y.0, y.1))
-        (up_to_again mark.CloseBracket (expression_at 64 ts) x rest read)
+    (up_to_again mark.CloseBracket (expression_at 64 ts) x rest read)
 
 no_bracket_type : (t : ValueType) (rest : List Terminal) → behind mark.OpenBracket (type_word t ∷ rest) ≡ None
 unfolding behind
@@ -113,13 +113,13 @@ shape_again : (channel : Bool) (t : ValueType) (rest : List Terminal)
 unfolding shape_at
 shape_again true t rest =
     ap (shape_behind (Mark mark.Chan ∷ Mark mark.Of ∷ type_word t ∷ rest))
-        (behind_again mark.Chan (Mark mark.Of ∷ type_word t ∷ rest))
+    (behind_again mark.Chan (Mark mark.Of ∷ type_word t ∷ rest))
     ∙ ap (λ (o : Option (List Terminal)). o >>= λ us. type_at us >>= λ x. Some ((true, x.0), x.1))
-        (behind_again mark.Of (type_word t ∷ rest))
+    (behind_again mark.Of (type_word t ∷ rest))
     ∙ ap (λ (o : Option (ValueType × List Terminal)). o >>= λ x. Some ((true, x.0), x.1)) (type_again t rest)
 shape_again false t rest =
     ap (shape_behind (type_word t ∷ rest)) (no_channel t rest) ∙ ap
-        (λ (o : Option (ValueType × List Terminal)). o >>= λ x. Some ((false, x.0), x.1)) (type_again t rest)
+    (λ (o : Option (ValueType × List Terminal)). o >>= λ x. Some ((false, x.0), x.1)) (type_again t rest)
 
 place_again : (p : Place) (rest : List Terminal) → FitsPlace p → behind mark.OpenBracket rest ≡ None
     → place_at p.name (in_brackets p.subscript ++ rest) ≡ Some (p, rest)
@@ -139,9 +139,9 @@ whole_place_again : (p : Place) → FitsPlace p → whole_place (written_place p
 unfolding whole_place
 whole_place_again p fits =
     ap (λ (o : Option (List ℕ × List Terminal)). o >>= λ name. place_at name.0 name.1 >>= λ x. only x.0 x.1)
-        (name_again p.name (in_brackets p.subscript))
+    (name_again p.name (in_brackets p.subscript))
     ∙ ap (λ (o : Option (Place × List Terminal)). o >>= λ x. only x.0 x.1)
-        (ap (place_at p.name) (sym (append-nil (in_brackets p.subscript))) ∙ place_again p [] fits no_bracket_nothing)
+    (ap (place_at p.name) (sym (append-nil (in_brackets p.subscript))) ∙ place_again p [] fits no_bracket_nothing)
 
 expressions_again : (xs : List Expression) (m : mark_type.Mark) (rest : List Terminal) → HasItem xs → AreWhole xs
     → is_mark m mark.Comma ≡ false → EndsBy m
@@ -161,10 +161,10 @@ value_again (Table size items) rest fits =
     let more = Mark mark.Colon ∷ rest in
     let ts = (separated written items ++ Mark mark.CloseBracket ∷ []) ++ more in
     let read = ap (list_of (expression_at 64))
-        (append_assoc (separated written items) (Mark mark.CloseBracket ∷ []) more) ∙ expressions_again items
-        mark.CloseBracket more fits.1 fits.2 refl refl in
+    (append_assoc (separated written items) (Mark mark.CloseBracket ∷ []) more) ∙ expressions_again items
+    mark.CloseBracket more fits.1 fits.2 refl refl in
     ap (λ (o : Option (List Expression × List Terminal)). o >>= λ x. Some (Table size x.0, x.1))
-        (up_to_again mark.CloseBracket (list_of (expression_at 64) ts) items more read)
+    (up_to_again mark.CloseBracket (list_of (expression_at 64) ts) items more read)
 value_again (Bytes size bytes) rest fits = refl
 
 size_fits : (v : Value) → FitsValue v → IsWholeIfAny (size_of v)
@@ -180,24 +180,24 @@ constant_again line c fits =
     let t2 = Name c.name ∷ t3 in
     let t1 = type_word c.value_type ∷ t2 in
     let last = λ (type : ValueType) (name : List ℕ) (value : Value) (us : List Terminal). behind mark.Colon us >>=
-        λ rest. only (record { line = line; value_type = type; name = name; value = value }) rest in
+    λ rest. only (record { line = line; value_type = type; name = name; value = value }) rest in
     let f4 = λ (o : Option (Value × List Terminal)). o >>= λ value. last c.value_type c.name value.0 value.1 in
     let f3 = λ (o : Option (List Terminal)). o >>= λ is. f4 (value_at (size_of c.value) is) in
     let f2 = λ (o : Option (List ℕ × List Terminal)). o >>= λ name. behind mark.Is name.1 >>= λ is. value_at
-        (size_of c.value) is >>= λ value. last c.value_type name.0 value.0 value.1 in
+    (size_of c.value) is >>= λ value. last c.value_type name.0 value.0 value.1 in
     let f1 = λ (o : Option (ValueType × List Terminal)). o >>= λ type. name_at type.1 >>= λ name. behind mark.Is
-        name.1 >>= λ is. value_at (size_of c.value) is >>= λ value. last type.0 name.0 value.0 value.1 in
+    name.1 >>= λ is. value_at (size_of c.value) is >>= λ value. last type.0 name.0 value.0 value.1 in
     let f0 = λ (o : Option (Option Expression × List Terminal)). o >>= λ size. type_at size.1 >>= λ type. name_at
-        type.1 >>= λ name. behind mark.Is name.1 >>= λ is. value_at size.0 is >>= λ value. last type.0 name.0 value.0
-        value.1 in
+    type.1 >>= λ name. behind mark.Is name.1 >>= λ is. value_at size.0 is >>= λ value. last type.0 name.0 value.0
+    value.1 in
     ap f0 (bracketed_again (size_of c.value) t1 (size_fits c.value fits.1) (no_bracket_type c.value_type t2))
     ∙ ap f1 (type_again c.value_type t2)
     ∙ ap f2 (name_again c.name t3)
     ∙ ap f3 (behind_again mark.Is t4)
     ∙ ap f4 (value_again c.value [] fits.1)
     ∙ ap (λ (o : Option (List Terminal)). o >>= λ rest. only
-        (record { line = line; value_type = c.value_type; name = c.name; value = c.value }) rest)
-        (behind_again mark.Colon [])
+    (record { line = line; value_type = c.value_type; name = c.name; value = c.value }) rest)
+    (behind_again mark.Colon [])
     ∙ ap (λ n. Some (record { line = n; value_type = c.value_type; name = c.name; value = c.value })) (sym fits.0)
 
 all_names : (names : List (List ℕ)) → AllByRecursion (λ (name : List ℕ). Unit {0}) names
@@ -208,8 +208,8 @@ list_of_names_again : (names : List (List ℕ)) (rest : List Terminal) → HasIt
     → list_of name_at (separated written_name names ++ Mark mark.Colon ∷ rest) ≡ Some (names, Mark mark.Colon ∷ rest)
 list_of_names_again names rest has =
     list_again written_name (λ (name : List ℕ). Unit {0}) (λ (us : List Terminal). Unit {0}) name_at
-        (λ name us fits ends. name_again name us) (λ us. tt) names (Mark mark.Colon ∷ rest) has (all_names names)
-        (behind_other mark.Colon mark.Comma refl rest) tt
+    (λ name us fits ends. name_again name us) (λ us. tt) names (Mark mark.Colon ∷ rest) has (all_names names)
+    (behind_other mark.Colon mark.Comma refl rest) tt
 
 pub names_again : (line : ℕ) (channel : Bool) (n : Names) → FitsNames line n
     → names_at line (written_names channel n) ≡ Some (declared_as channel n)
@@ -218,22 +218,22 @@ names_again line channel n fits =
     let t2 = separated written_name n.names ++ Mark mark.Colon ∷ [] in
     let t1 = channel_words channel ++ type_word n.value_type ∷ t2 in
     let made = λ (size : Option Expression) (shape : Bool × ValueType) (names : List (List ℕ)) (us : List Terminal).
-        behind mark.Colon us >>= λ rest. only
-        (declared_as shape.0 (record { line = line; size = size; value_type = shape.1; names = names })) rest in
+    behind mark.Colon us >>= λ rest. only
+    (declared_as shape.0 (record { line = line; size = size; value_type = shape.1; names = names })) rest in
     let f2 = λ (o : Option (List (List ℕ) × List Terminal)). o >>= λ names. made n.size (channel, n.value_type)
-        names.0 names.1 in
+    names.0 names.1 in
     let f1 = λ (o : Option ((Bool × ValueType) × List Terminal)). o >>= λ shape. list_of name_at shape.1 >>= λ names.
-        made n.size shape.0 names.0 names.1 in
+    made n.size shape.0 names.0 names.1 in
     let f0 = λ (o : Option (Option Expression × List Terminal)). o >>= λ size. shape_at size.1 >>= λ shape. list_of
-        name_at shape.1 >>= λ names. made size.0 shape.0 names.0 names.1 in
+    name_at shape.1 >>= λ names. made size.0 shape.0 names.0 names.1 in
     ap f0 (bracketed_again n.size t1 fits.1 (no_bracket_shape channel n.value_type t2))
     ∙ ap f1 (shape_again channel n.value_type t2)
     ∙ ap f2 (list_of_names_again n.names [] fits.2)
     ∙ ap (λ (o : Option (List Terminal)). o >>= λ rest. only
-        (declared_as channel (record { line = line; size = n.size; value_type = n.value_type; names = n.names }))
-        rest) (behind_again mark.Colon [])
+    (declared_as channel (record { line = line; size = n.size; value_type = n.value_type; names = n.names }))
+    rest) (behind_again mark.Colon [])
     ∙ ap (λ m. Some (declared_as channel (record
-        { line = m; size = n.size; value_type = n.value_type; names = n.names }))) (sym fits.0)
+    { line = m; size = n.size; value_type = n.value_type; names = n.names }))) (sym fits.0)
 
 -- ---- procedures
 
@@ -256,42 +256,42 @@ formal_named_again kind size t name rest = ap
 variable_again : (channel : Bool) (size : Option Expression) (t : ValueType) (name : List ℕ) (rest : List Terminal)
     → IsWholeIfAny size
     → formal_at ((in_brackets size ++ (channel_words channel ++ type_word t ∷ Name name ∷ [])) ++ rest) ≡ Some
-        (record { kind = formal_kind_of channel; size = size; value_type = t; name = name }, rest)
+    (record { kind = formal_kind_of channel; size = size; value_type = t; name = name }, rest)
 unfolding formal_at
 variable_again channel size t name rest fits =
     let t1 = Name name ∷ rest in
     let ts = in_brackets size ++ (channel_words channel ++ type_word t ∷ t1) in
     let f0 = λ (o : Option (Option Expression × List Terminal)). o >>= λ size. shape_at size.1 >>= λ shape.
-        formal_named (formal_kind_of shape.0.0) size.0 shape.0.1 shape.1 in
+    formal_named (formal_kind_of shape.0.0) size.0 shape.0.1 shape.1 in
     ap (λ us. formal_behind us (behind mark.Val us))
-        (sym (formal_words_join (in_brackets size) (channel_words channel) (type_word t) (Name name) rest))
+    (sym (formal_words_join (in_brackets size) (channel_words channel) (type_word t) (Name name) rest))
     ∙ ap (formal_behind ts) (no_val_bracketed size channel t t1)
     ∙ ap f0 (bracketed_again size (channel_words channel ++ type_word t ∷ t1) fits (no_bracket_shape channel t t1))
     ∙ ap (λ (o : Option ((Bool × ValueType) × List Terminal)). o >>= λ shape. formal_named (formal_kind_of shape.0.0)
-        size shape.0.1 shape.1) (shape_again channel t t1)
+    size shape.0.1 shape.1) (shape_again channel t t1)
     ∙ formal_named_again (formal_kind_of channel) size t name rest
 
 value_formal_again : (size : Option Expression) (t : ValueType) (name : List ℕ) (rest : List Terminal)
     → IsWholeIfAny size
     → formal_at (Mark mark.Val ∷ ((in_brackets size ++ type_word t ∷ Name name ∷ []) ++ rest)) ≡ Some
-        (record { kind = formal_kind.Value; size = size; value_type = t; name = name }, rest)
+    (record { kind = formal_kind.Value; size = size; value_type = t; name = name }, rest)
 unfolding formal_at
 value_formal_again size t name rest fits =
     let t1 = Name name ∷ rest in
     let us = (in_brackets size ++ type_word t ∷ Name name ∷ []) ++ rest in
     let f0 = λ (o : Option (Option Expression × List Terminal)). o >>= λ size. type_at size.1 >>= λ type.
-        formal_named formal_kind.Value size.0 type.0 type.1 in
+    formal_named formal_kind.Value size.0 type.0 type.1 in
     ap (formal_behind (Mark mark.Val ∷ us)) (behind_again mark.Val us)
     ∙ ap (λ vs. f0 (bracketed_at vs)) (sym (formal_words_join (in_brackets size) [] (type_word t) (Name name) rest))
     ∙ ap f0 (bracketed_again size (type_word t ∷ t1) fits (no_bracket_type t t1))
     ∙ ap (λ (o : Option (ValueType × List Terminal)). o >>= λ type. formal_named formal_kind.Value size type.0
-        type.1) (type_again t t1)
+    type.1) (type_again t t1)
     ∙ formal_named_again formal_kind.Value size t name rest
 
 formal_of_kind_again : (kind : FormalKind) (size : Option Expression) (t : ValueType) (name : List ℕ)
     (rest : List Terminal) → IsWholeIfAny size
     → formal_at (written_formal (record { kind = kind; size = size; value_type = t; name = name }) ++ rest) ≡ Some
-        (record { kind = kind; size = size; value_type = t; name = name }, rest)
+    (record { kind = kind; size = size; value_type = t; name = name }, rest)
 formal_of_kind_again formal_kind.Value size t name rest fits = value_formal_again size t name rest fits
 formal_of_kind_again formal_kind.Variable size t name rest fits = variable_again false size t name rest fits
 formal_of_kind_again formal_kind.Channel size t name rest fits = variable_again true size t name rest fits
@@ -318,13 +318,13 @@ formals_again (f ∷ fs) all =
     let close = Mark mark.CloseParenthesis ∷ [] in
     let ts = separated written_formal (f ∷ fs) ++ close in
     let none = ap (behind mark.CloseParenthesis)
-        (append_assoc (written_formal f) (after_commas written_formal fs) close) ∙ no_close_formal f.kind f.size
-        f.value_type f.name (after_commas written_formal fs ++ close) in
+    (append_assoc (written_formal f) (after_commas written_formal fs) close) ∙ no_close_formal f.kind f.size
+    f.value_type f.name (after_commas written_formal fs ++ close) in
     let read = list_again written_formal FitsFormal (λ (us : List Terminal). Unit {0}) formal_at formal_again
-        (λ us. tt) (f ∷ fs) close tt all (behind_other mark.CloseParenthesis mark.Comma refl []) tt in
+    (λ us. tt) (f ∷ fs) close tt all (behind_other mark.CloseParenthesis mark.Comma refl []) tt in
     ap (formals_behind ts) none
     ∙ ap (λ (o : Option (List Formal × List Terminal)). o >>= λ x. behind mark.CloseParenthesis x.1 >>= λ rest. only
-        x.0 rest) read
+    x.0 rest) read
     ∙ ap (λ (o : Option (List Terminal)). o >>= λ rest. only (f ∷ fs) rest) (behind_again mark.CloseParenthesis [])
 
 pub proc_head_again : (h : ProcHead) → FitsProcHead h → proc_head_at (written_proc_head h) ≡ Some h
@@ -332,14 +332,14 @@ unfolding proc_head_at
 proc_head_again h fits =
     let ts = separated written_formal h.formals ++ Mark mark.CloseParenthesis ∷ [] in
     let f1 = λ (o : Option (List Terminal)). o >>= λ opened. formals_behind opened
-        (behind mark.CloseParenthesis opened) >>= λ formals. Some (record { name = h.name; formals = formals }) in
+    (behind mark.CloseParenthesis opened) >>= λ formals. Some (record { name = h.name; formals = formals }) in
     let f0 = λ (o : Option (List ℕ × List Terminal)). o >>= λ name. behind mark.OpenParenthesis name.1 >>= λ opened.
-        formals_behind opened (behind mark.CloseParenthesis opened) >>= λ formals. Some
-        (record { name = name.0; formals = formals }) in
+    formals_behind opened (behind mark.CloseParenthesis opened) >>= λ formals. Some
+    (record { name = name.0; formals = formals }) in
     ap f0 (name_again h.name (Mark mark.OpenParenthesis ∷ ts))
     ∙ ap f1 (behind_again mark.OpenParenthesis ts)
     ∙ ap (λ (o : Option (List Formal)). o >>= λ formals. Some (record { name = h.name; formals = formals }))
-        (formals_again h.formals fits)
+    (formals_again h.formals fits)
 
 -- ---- actions
 
@@ -386,10 +386,10 @@ actuals_again (x ∷ xs) all =
     let close = Mark mark.CloseParenthesis ∷ [] in
     let ts = separated written (x ∷ xs) ++ close in
     let none = ap (behind mark.CloseParenthesis)
-        (append_assoc (written x) (after_commas written xs) close) ∙ no_close x (after_commas written xs ++ close) in
+    (append_assoc (written x) (after_commas written xs) close) ∙ no_close x (after_commas written xs ++ close) in
     ap (actuals_behind ts) none
     ∙ ap (λ (o : Option (List Expression × List Terminal)). o >>= λ y. behind mark.CloseParenthesis y.1 >>= λ rest.
-        only y.0 rest) (expressions_again (x ∷ xs) mark.CloseParenthesis [] tt all refl refl)
+    only y.0 rest) (expressions_again (x ∷ xs) mark.CloseParenthesis [] tt all refl refl)
     ∙ ap (λ (o : Option (List Terminal)). o >>= λ rest. only (x ∷ xs) rest) (behind_again mark.CloseParenthesis [])
 
 no_open : (o : Option Expression) (m : mark_type.Mark) (rest : List Terminal)
@@ -435,7 +435,7 @@ unfolding action_at
 instance_again name xs all =
     let ts = separated written xs ++ Mark mark.CloseParenthesis ∷ [] in
     ap (instance_or_other name (Mark mark.OpenParenthesis ∷ ts)) (behind_again mark.OpenParenthesis ts) ∙ ap
-        (λ (o : Option (List Expression)). o >>= λ actuals. Some (Instance name actuals)) (actuals_again xs all)
+    (λ (o : Option (List Expression)). o >>= λ actuals. Some (Instance name actuals)) (actuals_again xs all)
 
 -- ---- heads
 
@@ -461,9 +461,9 @@ replicator_again (Some r) fits =
     let t1 = written r.base ++ Mark mark.For ∷ written r.count in
     let last : Option Replicator → Option (Option Replicator) = λ o. o >>= λ q. Some (Some q) in
     let f1 : List ℕ → Option (List Terminal) → Option (Option Replicator) =
-        λ name o. o >>= λ equal. last (counted_at name equal) in
+    λ name o. o >>= λ equal. last (counted_at name equal) in
     ap (λ (o : Option (List ℕ × List Terminal)). o >>= λ name. f1 name.0 (equals_at name.1))
-        (name_again r.name (Pair pair.Equal ∷ t1))
+    (name_again r.name (Pair pair.Equal ∷ t1))
     ∙ ap (f1 r.name) (equals_again t1)
     ∙ ap last (counted_again r fits)
 
@@ -495,7 +495,7 @@ names_head_again : (line : ℕ) (channel : Bool) (n : Names) → FitsNames line 
 unfolding declaration_at
 names_head_again line channel n fits =
     declares_names line n.size channel n.value_type (separated written_name n.names ++ Mark mark.Colon ∷ []) ∙ ap
-        (λ (o : Option Declaration). o >>= λ names. Some (Declares names)) (names_again line channel n fits)
+    (λ (o : Option Declaration). o >>= λ names. Some (Declares names)) (names_again line channel n fits)
 
 constant_head_again : (line : ℕ) (c : Constant) → FitsConstant line c
     → head_at line (Mark mark.Val ∷ written_constant c) ≡ Some (Declares (Constants c))
@@ -547,7 +547,7 @@ mutual
   no_guard (Prefixed prefix.Not t) rest = no_guard_term t rest
   no_guard (Paired op a b) rest =
       ap has_condition (append_assoc (written_term a) (Pair op ∷ written_term b) rest) ∙ no_guard_term a
-          (Pair op ∷ (written_term b ++ rest)) ∙ no_guard_term b rest
+      (Pair op ∷ (written_term b ++ rest)) ∙ no_guard_term b rest
   no_guard (Chained op ts) rest = no_guard_terms ts op rest
 
   no_guard_terms : (ts : Terms) (op : ChainOperator) (rest : List Terminal)
@@ -555,7 +555,7 @@ mutual
   no_guard_terms (First t) op rest = no_guard_term t rest
   no_guard_terms (Then ts t) op rest =
       ap has_condition (append_assoc (written_terms op ts) (Chain op ∷ written_term t) rest) ∙ no_guard_terms ts op
-          (Chain op ∷ (written_term t ++ rest)) ∙ no_guard_term t rest
+      (Chain op ∷ (written_term t ++ rest)) ∙ no_guard_term t rest
 
   no_guard_term : (t : Term) (rest : List Terminal) → has_condition (written_term t ++ rest) ≡ has_condition rest
   no_guard_term (Number value) rest = refl
@@ -582,7 +582,7 @@ no_guard_brackets (Some e) rest = ap has_condition
 no_guard_input : (p q : Place) → has_condition (written_place p ++ Mark mark.Input ∷ written_place q) ≡ false
 no_guard_input p q =
     no_guard_brackets p.subscript (Mark mark.Input ∷ written_place q)
-        ∙ (ap has_condition (sym (append-nil (in_brackets q.subscript))) ∙ no_guard_brackets q.subscript [])
+    ∙ (ap has_condition (sym (append-nil (in_brackets q.subscript))) ∙ no_guard_brackets q.subscript [])
 
 input_again : (p q : Place) → FitsPlace p → FitsPlace q
     → input_at (written_place p ++ Mark mark.Input ∷ written_place q) ≡ Some (p, q)
@@ -590,13 +590,13 @@ unfolding input_at
 input_again p q f w =
     let t1 = Mark mark.Input ∷ written_place q in
     ap (λ (o : Option (List ℕ × List Terminal)). o >>= λ name. place_at name.0 name.1 >>= λ channel. behind
-        mark.Input channel.1 >>= λ rest. whole_place rest >>= λ target. Some (channel.0, target))
-        (name_again p.name (in_brackets p.subscript ++ t1))
+    mark.Input channel.1 >>= λ rest. whole_place rest >>= λ target. Some (channel.0, target))
+    (name_again p.name (in_brackets p.subscript ++ t1))
     ∙ ap (λ (o : Option (Place × List Terminal)). o >>= λ channel. behind mark.Input channel.1 >>= λ rest.
-        whole_place rest >>= λ target. Some (channel.0, target))
-        (place_again p t1 f (behind_other mark.Input mark.OpenBracket refl (written_place q)))
+    whole_place rest >>= λ target. Some (channel.0, target))
+    (place_again p t1 f (behind_other mark.Input mark.OpenBracket refl (written_place q)))
     ∙ ap (λ (o : Option (List Terminal)). o >>= λ rest. whole_place rest >>= λ target. Some (p, target))
-        (behind_again mark.Input (written_place q))
+    (behind_again mark.Input (written_place q))
     ∙ ap (λ (o : Option Place). o >>= λ target. Some (p, target)) (whole_place_again q w)
 
 skip_name : (name : List ℕ) (rest : List Terminal) → behind mark.Skip (Name name ∷ rest) ≡ None
@@ -614,22 +614,22 @@ unfolding conditioned_at
 conditioned_again e ts g fits h =
     guard_is (written e ++ Mark mark.Guard ∷ ts) true (no_guard e (Mark mark.Guard ∷ ts))
     ∙ ap (λ (o : Option (Expression × List Terminal)). o >>= λ condition. behind mark.Guard condition.1 >>= λ rest.
-        skips_or_receives condition.0 rest (behind mark.Skip rest)) (expression_before e mark.Guard ts refl fits)
+    skips_or_receives condition.0 rest (behind mark.Skip rest)) (expression_before e mark.Guard ts refl fits)
     ∙ ap (λ (o : Option (List Terminal)). o >>= λ rest. skips_or_receives e rest (behind mark.Skip rest))
-        (behind_again mark.Guard ts)
+    (behind_again mark.Guard ts)
     ∙ h
 
 pub guard_again : (g : Guard) → FitsGuard g → guard_at (written_guard g) ≡ Some g
 guard_again (Receives None p q) fits =
     let ts = written_place p ++ Mark mark.Input ∷ written_place q in
     guard_is ts false (no_guard_input p q) ∙ ap
-        (λ (o : Option (Place × Place)). o >>= λ x. Some (Receives None x.0 x.1)) (input_again p q fits.1 fits.2)
+    (λ (o : Option (Place × Place)). o >>= λ x. Some (Receives None x.0 x.1)) (input_again p q fits.1 fits.2)
 guard_again (Receives (Some e) p q) fits =
     let ts = written_place p ++ Mark mark.Input ∷ written_place q in
     ap guard_at (append_assoc (written e) (Mark mark.Guard ∷ []) ts)
     ∙ conditioned_again e ts (Receives (Some e) p q) fits.0
     (ap (skips_or_receives e ts) (skip_name p.name (in_brackets p.subscript ++ Mark mark.Input ∷ written_place q))
-        ∙ ap (λ (o : Option (Place × Place)). o >>= λ x. Some (Receives (Some e) x.0 x.1))
-        (input_again p q fits.1 fits.2))
+    ∙ ap (λ (o : Option (Place × Place)). o >>= λ x. Some (Receives (Some e) x.0 x.1))
+    (input_again p q fits.1 fits.2))
 guard_again (Skips e) fits = conditioned_again e (Mark mark.Skip ∷ []) (Skips e) fits
     (ap (skips_or_receives e (Mark mark.Skip ∷ [])) (behind_again mark.Skip []))

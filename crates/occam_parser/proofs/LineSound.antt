@@ -75,11 +75,11 @@ bracketed_found ts None x b e = at_some (λ (y : Option Expression × List Termi
 bracketed_found ts (Some after) x b e =
     let y = bind_some (up_to mark.CloseBracket (expression_at 64 after)) _ x e in
     let h = expression_sound 64 after y.0.0 (Mark mark.CloseBracket ∷ y.0.1)
-        (up_to_is mark.CloseBracket (expression_at 64 after) y.0.0 y.0.1 y.1) in
+    (up_to_is mark.CloseBracket (expression_at 64 after) y.0.0 y.0.1 y.1) in
     let opened = behind_is mark.OpenBracket ts after b in
     let inside = h.0 ∙ sym (append_assoc (written y.0.0) (Mark mark.CloseBracket ∷ []) y.0.1) in
     at_some (λ (z : Option Expression × List Terminal). (ts ≡ in_brackets z.0 ++ z.1) × IsWholeIfAny z.0)
-        (Some y.0.0, y.0.1) x y.2 (opened ∙ ap (λ us. Mark mark.OpenBracket ∷ us) inside, h.1)
+    (Some y.0.0, y.0.1) x y.2 (opened ∙ ap (λ us. Mark mark.OpenBracket ∷ us) inside, h.1)
 
 pub bracketed_sound : Sound in_brackets IsWholeIfAny bracketed_at
 unfolding bracketed_at
@@ -92,7 +92,7 @@ type_found ts (Some rest) x b e = at_some (λ (y : ValueType × List Terminal). 
 type_found ts None x b e =
     let y = bind_some (behind mark.Byte ts) _ x e in
     at_some (λ (z : ValueType × List Terminal). ts ≡ type_word z.0 ∷ z.1) (value_type.Byte, y.0) x y.2
-        (behind_is mark.Byte ts y.0 y.1)
+    (behind_is mark.Byte ts y.0 y.1)
 
 pub type_is : (ts : List Terminal) (t : ValueType) (rest : List Terminal) → type_at ts ≡ Some (t, rest)
     → ts ≡ type_word t ∷ rest
@@ -105,13 +105,13 @@ shape_found ts (Some after) x b e =
     let r = bind_some (behind mark.Of after) _ x e in
     let y = bind_some (type_at r.0) _ x r.2 in
     let words = behind_is mark.Chan ts after b ∙ ap (λ us. Mark mark.Chan ∷ us)
-        (behind_is mark.Of after r.0 r.1 ∙ ap (λ us. Mark mark.Of ∷ us) (type_is r.0 y.0.0 y.0.1 y.1)) in
+    (behind_is mark.Of after r.0 r.1 ∙ ap (λ us. Mark mark.Of ∷ us) (type_is r.0 y.0.0 y.0.1 y.1)) in
     at_some (λ (z : (Bool × ValueType) × List Terminal). ts ≡ channel_words z.0.0 ++ type_word z.0.1 ∷ z.1)
-        ((true, y.0.0), y.0.1) x y.2 words
+    ((true, y.0.0), y.0.1) x y.2 words
 shape_found ts None x b e =
     let y = bind_some (type_at ts) _ x e in
     at_some (λ (z : (Bool × ValueType) × List Terminal). ts ≡ channel_words z.0.0 ++ type_word z.0.1 ∷ z.1)
-        ((false, y.0.0), y.0.1) x y.2 (type_is ts y.0.0 y.0.1 y.1)
+    ((false, y.0.0), y.0.1) x y.2 (type_is ts y.0.0 y.0.1 y.1)
 
 pub shape_is : (ts : List Terminal) (s : Bool × ValueType) (rest : List Terminal) → shape_at ts ≡ Some (s, rest)
     → ts ≡ channel_words s.0 ++ type_word s.1 ∷ rest
@@ -125,7 +125,7 @@ place_sound name ts p rest e =
     let x = bind_some (bracketed_at ts) _ (p, rest) e in
     let h = bracketed_sound ts x.0.0 x.0.1 x.1 in
     at_some (λ (y : Place × List Terminal). (Name name ∷ ts ≡ written_place y.0 ++ y.1) × FitsPlace y.0)
-        (record { name = name; subscript = x.0.0 }, x.0.1) (p, rest) x.2 (ap (λ us. Name name ∷ us) h.0, h.1)
+    (record { name = name; subscript = x.0.0 }, x.0.1) (p, rest) x.2 (ap (λ us. Name name ∷ us) h.0, h.1)
 
 pub whole_sound : (ts : List Terminal) (e : Expression) → whole_at ts ≡ Some e → (ts ≡ written e) × IsWhole e
 unfolding whole_at
@@ -144,7 +144,7 @@ whole_place_sound ts p e =
     let s = place_sound n.0.0 n.0.1 x.0.0 x.0.1 x.1 in
     let o = only_is x.0.0 x.0.1 p x.2 in
     subst (λ q. (ts ≡ written_place q) × FitsPlace q) o.1
-        (whole_list ts x.0.1 (written_place x.0.0) (name_is ts n.0.0 n.0.1 n.1 ∙ s.0) o.0, s.1)
+    (whole_list ts x.0.1 (written_place x.0.0) (name_is ts n.0.0 n.0.1 n.1 ∙ s.0) o.0, s.1)
 
 expressions_sound : (ts : List Terminal) (xs : List Expression) (rest : List Terminal)
     → list_of (expression_at 64) ts ≡ Some (xs, rest)
@@ -165,10 +165,10 @@ table_sound size (Text bytes ∷ ts) x e = at_some (IsValue (Some size) (Text by
 table_sound size (Mark mark.OpenBracket ∷ ts) x e =
     let y = bind_some (up_to mark.CloseBracket (list_of (expression_at 64) ts)) _ x e in
     let h = expressions_sound ts y.0.0 (Mark mark.CloseBracket ∷ y.0.1)
-        (up_to_is mark.CloseBracket (list_of (expression_at 64) ts) y.0.0 y.0.1 y.1) in
+    (up_to_is mark.CloseBracket (list_of (expression_at 64) ts) y.0.0 y.0.1 y.1) in
     let inside = h.0 ∙ sym (append_assoc (separated written y.0.0) (Mark mark.CloseBracket ∷ []) y.0.1) in
     at_some (IsValue (Some size) (Mark mark.OpenBracket ∷ ts)) (Table size y.0.0, y.0.1) x y.2
-        (ap (λ us. Mark mark.OpenBracket ∷ us) inside, (λ w. (w, h.1.0, h.1.1)), refl)
+    (ap (λ us. Mark mark.OpenBracket ∷ us) inside, (λ w. (w, h.1.0, h.1.1)), refl)
 table_sound size (t ∷ ts) x e = absurd (cc)
 
 value_sound : (size : Option Expression) (ts : List Terminal) (x : Value × List Terminal) → value_at size ts ≡ Some x
@@ -193,15 +193,15 @@ constant_sound line ts c e =
     let s = bracketed_sound ts size.0.0 size.0.1 size.1 in
     let v = value_sound size.0.0 is.0 value.0 value.1 in
     let o = only_is (record { line = line; value_type = type.0.0; name = name.0.0; value = value.0.0 }) rest.0 c
-        rest.2 in
+    rest.2 in
     let colon = behind_is mark.Colon value.0.1 rest.0 rest.1 ∙ ap (λ us. Mark mark.Colon ∷ us) o.0 in
     let tail = v.0 ∙ ap (λ us. written_value value.0.0 ++ us) colon in
     let behind_size = type_is size.0.1 type.0.0 type.0.1 type.1 ∙ ap (λ us. type_word type.0.0 ∷ us)
-        (name_is type.0.1 name.0.0 name.0.1 name.1 ∙ ap (λ us. Name name.0.0 ∷ us)
-        (behind_is mark.Is name.0.1 is.0 is.1 ∙ ap (λ us. Mark mark.Is ∷ us) tail)) in
+    (name_is type.0.1 name.0.0 name.0.1 name.1 ∙ ap (λ us. Name name.0.0 ∷ us)
+    (behind_is mark.Is name.0.1 is.0 is.1 ∙ ap (λ us. Mark mark.Is ∷ us) tail)) in
     let whole = s.0 ∙ ap (λ us. in_brackets size.0.0 ++ us) behind_size
     ∙ ap (λ z. in_brackets z ++ (type_word type.0.0 ∷ Name name.0.0 ∷ Mark mark.Is ∷
-        (written_value value.0.0 ++ Mark mark.Colon ∷ []))) v.2
+    (written_value value.0.0 ++ Mark mark.Colon ∷ []))) v.2
     in
     subst (λ d. (ts ≡ written_constant d) × FitsConstant line d) o.1 (whole, (refl, v.1 s.1))
 
@@ -226,10 +226,10 @@ names_sound line ts d e =
     let colon = behind_is mark.Colon names.0.1 rest.0 rest.1 ∙ ap (λ us. Mark mark.Colon ∷ us) o.0 in
     let tail = n.0 ∙ ap (λ us. separated written_name names.0.0 ++ us) colon in
     let whole = s.0 ∙ ap (λ us. in_brackets size.0.0 ++ us)
-        (shape_is size.0.1 shape.0.0 shape.0.1 shape.1 ∙ ap
-        (λ us. channel_words shape.0.0.0 ++ type_word shape.0.0.1 ∷ us) tail) in
+    (shape_is size.0.1 shape.0.0 shape.0.1 shape.1 ∙ ap
+    (λ us. channel_words shape.0.0.0 ++ type_word shape.0.0.1 ∷ us) tail) in
     subst (λ x. (ts ≡ written_declaration x) × FitsDeclaration line x) o.1
-        (declared_sound line ts shape.0.0.0 found whole (refl, s.1, n.1.0))
+    (declared_sound line ts shape.0.0.0 found whole (refl, s.1, n.1.0))
 
 -- ---- procedures
 
@@ -245,7 +245,7 @@ formal_variable : (channel : Bool) (size : Option Expression) (type : ValueType)
     (ts rest : List Terminal) → ts ≡ (in_brackets size ++ (channel_words channel ++ type_word type ∷ Name name ∷ []))
     ++ rest
     → ts ≡ written_formal (record { kind = formal_kind_of channel; size = size; value_type = type; name = name })
-        ++ rest
+    ++ rest
 formal_variable true size type name ts rest e = e
 formal_variable false size type name ts rest e = e
 
@@ -258,24 +258,40 @@ formal_found ts (Some after) x b e =
     let name = bind_some (name_at type.0.1) _ x type.2 in
     let s = bracketed_sound after size.0.0 size.0.1 size.1 in
     let tail = type_is size.0.1 type.0.0 type.0.1 type.1 ∙ ap (λ us. type_word type.0.0 ∷ us)
-        (name_is type.0.1 name.0.0 name.0.1 name.1) in
+    (name_is type.0.1 name.0.0 name.0.1 name.1) in
     let inside = s.0 ∙ ap (λ us. in_brackets size.0.0 ++ us) tail ∙ formal_words_join (in_brackets size.0.0) []
-        (type_word type.0.0) (Name name.0.0) name.0.1 in
-    at_some (IsFormal ts) (record { kind = formal_kind.Value; size = size.0.0; value_type = type.0.0; name =
-        name.0.0 }, name.0.1) x name.2 (behind_is mark.Val ts after b ∙ ap (λ us. Mark mark.Val ∷ us) inside, s.1)
+    (type_word type.0.0) (Name name.0.0) name.0.1 in
+    at_some (IsFormal ts) (
+      record {
+        kind = formal_kind.Value;
+        size = size.0.0;
+        value_type = type.0.0;
+        name =
+            name.0.0;
+      },
+      name.0.1,
+    ) x name.2 (behind_is mark.Val ts after b ∙ ap (λ us. Mark mark.Val ∷ us) inside, s.1)
 formal_found ts None x b e =
     let size = bind_some (bracketed_at ts) _ x e in
     let shape = bind_some (shape_at size.0.1) _ x size.2 in
     let name = bind_some (name_at shape.0.1) _ x shape.2 in
     let s = bracketed_sound ts size.0.0 size.0.1 size.1 in
     let tail = shape_is size.0.1 shape.0.0 shape.0.1 shape.1 ∙ ap
-        (λ us. channel_words shape.0.0.0 ++ type_word shape.0.0.1 ∷ us) (name_is shape.0.1 name.0.0 name.0.1 name.1)
-        in
+    (λ us. channel_words shape.0.0.0 ++ type_word shape.0.0.1 ∷ us) (name_is shape.0.1 name.0.0 name.0.1 name.1)
+    in
     let inside = s.0 ∙ ap (λ us. in_brackets size.0.0 ++ us) tail ∙ formal_words_join (in_brackets size.0.0)
-        (channel_words shape.0.0.0) (type_word shape.0.0.1) (Name name.0.0) name.0.1 in
-    at_some (IsFormal ts) (record { kind = formal_kind_of shape.0.0.0; size = size.0.0; value_type =
-        shape.0.0.1; name = name.0.0 }, name.0.1) x name.2
-        (formal_variable shape.0.0.0 size.0.0 shape.0.0.1 name.0.0 ts name.0.1 inside, s.1)
+    (channel_words shape.0.0.0) (type_word shape.0.0.1) (Name name.0.0) name.0.1 in
+    at_some (IsFormal ts) (
+      record {
+        kind = formal_kind_of shape.0.0.0;
+        size = size.0.0;
+        value_type =
+            shape.0.0.1;
+        name = name.0.0;
+      },
+      name.0.1,
+    ) x name.2
+    (formal_variable shape.0.0.0 size.0.0 shape.0.0.1 name.0.0 ts name.0.1 inside, s.1)
 
 formal_sound : Sound written_formal FitsFormal formal_at
 unfolding formal_at
@@ -288,8 +304,11 @@ formals_found : (ts : List Terminal) (o : Option (List Terminal)) (fs : List For
     → behind mark.CloseParenthesis ts ≡ o → formals_behind ts o ≡ Some fs → AreFormals ts fs
 formals_found ts (Some rest) fs b e =
     let o = only_is [] rest fs e in
-    subst (AreFormals ts) o.1 (behind_is mark.CloseParenthesis ts rest b ∙ ap (λ us. Mark mark.CloseParenthesis ∷ us)
-        o.0, tt)
+    subst (AreFormals ts) o.1 (
+      behind_is mark.CloseParenthesis ts rest b ∙ ap (λ us. Mark mark.CloseParenthesis ∷ us)
+          o.0,
+      tt,
+    )
 formals_found ts None fs b e =
     let x = bind_some (list_of formal_at ts) _ fs e in
     let rest = bind_some (behind mark.CloseParenthesis x.0.1) _ fs x.2 in
@@ -307,9 +326,9 @@ proc_head_sound ts h e =
     let formals = bind_some (formals_behind opened.0 (behind mark.CloseParenthesis opened.0)) _ h opened.2 in
     let f = formals_found opened.0 (behind mark.CloseParenthesis opened.0) formals.0 refl formals.1 in
     let whole = name_is ts name.0.0 name.0.1 name.1 ∙ ap (λ us. Name name.0.0 ∷ us)
-        (behind_is mark.OpenParenthesis name.0.1 opened.0 opened.1 ∙ ap (λ us. Mark mark.OpenParenthesis ∷ us) f.0) in
+    (behind_is mark.OpenParenthesis name.0.1 opened.0 opened.1 ∙ ap (λ us. Mark mark.OpenParenthesis ∷ us) f.0) in
     at_some (λ g. (ts ≡ written_proc_head g) × FitsProcHead g) (record { name = name.0.0; formals = formals.0 }) h
-        formals.2 (whole, f.1)
+    formals.2 (whole, f.1)
 
 -- ---- actions
 
@@ -320,8 +339,11 @@ actuals_found : (ts : List Terminal) (o : Option (List Terminal)) (xs : List Exp
     → behind mark.CloseParenthesis ts ≡ o → actuals_behind ts o ≡ Some xs → AreActuals ts xs
 actuals_found ts (Some rest) xs b e =
     let o = only_is [] rest xs e in
-    subst (AreActuals ts) o.1 (behind_is mark.CloseParenthesis ts rest b ∙ ap (λ us. Mark mark.CloseParenthesis ∷ us)
-        o.0, tt)
+    subst (AreActuals ts) o.1 (
+      behind_is mark.CloseParenthesis ts rest b ∙ ap (λ us. Mark mark.CloseParenthesis ∷ us)
+          o.0,
+      tt,
+    )
 actuals_found ts None xs b e =
     let x = bind_some (list_of (expression_at 64) ts) _ xs e in
     let rest = bind_some (behind mark.CloseParenthesis x.0.1) _ xs x.2 in
@@ -363,9 +385,11 @@ instance_sound : (name : List ℕ) (ts : List Terminal) (o : Option (List Termin
 instance_sound name ts (Some rest) a b e =
     let xs = bind_some (actuals_at rest) _ a e in
     let h = actuals_sound rest xs.0 xs.1 in
-    at_some (IsAction (Name name ∷ ts)) (Instance name xs.0) a xs.2
-        (ap (λ us. Name name ∷ us) (behind_is mark.OpenParenthesis ts rest b ∙ ap
-        (λ us. Mark mark.OpenParenthesis ∷ us) h.0), h.1)
+    at_some (IsAction (Name name ∷ ts)) (Instance name xs.0) a xs.2 (
+      ap (λ us. Name name ∷ us) (behind_is mark.OpenParenthesis ts rest b ∙ ap
+          (λ us. Mark mark.OpenParenthesis ∷ us) h.0),
+      h.1,
+    )
 instance_sound name ts None a b e =
     let p = bind_some (place_at name ts) _ a e in
     let h = place_sound name ts p.0.0 p.0.1 p.1 in
@@ -485,7 +509,7 @@ input_sound ts x e =
     let t = whole_place_sound rest.0 target.0 target.1 in
     let tail = behind_is mark.Input channel.0.1 rest.0 rest.1 ∙ ap (λ us. Mark mark.Input ∷ us) t.0 in
     at_some (IsInput ts) (channel.0.0, target.0) x target.2
-        (name_is ts name.0.0 name.0.1 name.1 ∙ c.0 ∙ ap (λ us. written_place channel.0.0 ++ us) tail, c.1, t.1)
+    (name_is ts name.0.0 name.0.1 name.1 ∙ c.0 ∙ ap (λ us. written_place channel.0.0 ++ us) tail, c.1, t.1)
 
 abbrev pub IsGuard : List Terminal → Guard → Type 0
 IsGuard ts g = (ts ≡ written_guard g) × FitsGuard g
@@ -501,8 +525,8 @@ skips_sound whole ts condition None g w f b e =
     let x = bind_some (input_at ts) _ g e in
     let h = input_sound ts x.0 x.1 in
     let joined = ap (λ us. written condition ++ Mark mark.Guard ∷ us) h.0 ∙ sym
-        (append_assoc (written condition) (Mark mark.Guard ∷ [])
-        (written_place x.0.0 ++ Mark mark.Input ∷ written_place x.0.1)) in
+    (append_assoc (written condition) (Mark mark.Guard ∷ [])
+    (written_place x.0.0 ++ Mark mark.Input ∷ written_place x.0.1)) in
     at_some (IsGuard whole) (Receives (Some condition) x.0.0 x.0.1) g x.2 (w ∙ joined, (f, h.1, h.2))
 
 conditioned_sound : (ts : List Terminal) (g : Guard) → conditioned_at ts ≡ Some g → IsGuard ts g
@@ -512,7 +536,7 @@ conditioned_sound ts g e =
     let r = bind_some (behind mark.Guard c.0.1) _ g c.2 in
     let h = expression_sound 64 ts c.0.0 c.0.1 c.1 in
     skips_sound ts r.0 c.0.0 (behind mark.Skip r.0) g
-        (h.0 ∙ ap (λ us. written c.0.0 ++ us) (behind_is mark.Guard c.0.1 r.0 r.1)) h.1 refl r.2
+    (h.0 ∙ ap (λ us. written c.0.0 ++ us) (behind_is mark.Guard c.0.1 r.0 r.1)) h.1 refl r.2
 
 guard_found : (b : Bool) (ts : List Terminal) (g : Guard)
     → cond b (conditioned_at ts) (input_at ts >>= λ x. Some (Receives None x.0 x.1)) ≡ Some g → IsGuard ts g

@@ -20,9 +20,9 @@ IsMore {A} write fits found ts y = (more : List A) × (y.0 ≡ found ++ more) ×
 step_sound : {A : Type 0} (write : A → List Terminal) (fits : A → Type 0) (item : Reads A) → Sound write fits item
     → (more : List A → Reads (List A))
     → ((us : List A) (vs : List Terminal) (y : List A × List Terminal) → more us vs ≡ Some y
-        → IsMore write fits us vs y)
+    → IsMore write fits us vs y)
     → (found : List A) (ts : List Terminal) (o : Option (List Terminal)) (x : List A × List Terminal)
-        → behind mark.Comma ts ≡ o → list_step item more found ts o ≡ Some x → IsMore write fits found ts x
+    → behind mark.Comma ts ≡ o → list_step item more found ts o ≡ Some x → IsMore write fits found ts x
 step_sound write fits item s more m found ts None x b e =
     at_some (IsMore write fits found ts) (found, ts) x e ([], sym (append-nil found), refl, tt)
 step_sound write fits item s more m found ts (Some after) x b e =
@@ -31,8 +31,8 @@ step_sound write fits item s more m found ts (Some after) x b e =
     let sign = behind_is mark.Comma ts after b in
     let rest = m (found ++ y.0.0 ∷ []) y.0.1 x y.2 in
     let whole = sign ∙ ap (λ us. Mark mark.Comma ∷ us)
-        (h.0 ∙ ap (λ us. write y.0.0 ++ us) rest.2 ∙ sym
-        (append_assoc (write y.0.0) (after_commas write rest.0) x.1)) in
+    (h.0 ∙ ap (λ us. write y.0.0 ++ us) rest.2 ∙ sym
+    (append_assoc (write y.0.0) (after_commas write rest.0) x.1)) in
     (y.0.0 ∷ rest.0, rest.1 ∙ append_assoc found (y.0.0 ∷ []) rest.0, whole, (h.1, rest.3))
 
 from_sound : {A : Type 0} (write : A → List Terminal) (fits : A → Type 0) (item : Reads A) → Sound write fits item
@@ -61,7 +61,7 @@ list_sound {A} write fits item s ts x e =
     let h = s ts y.0.0 y.0.1 y.1 in
     let more = from_sound write fits item s (length ts) (y.0.0 ∷ []) y.0.1 x y.2 in
     let whole = h.0 ∙ ap (λ us. write y.0.0 ++ us) more.2 ∙ sym
-        (append_assoc (write y.0.0) (after_commas write more.0) x.1) in
+    (append_assoc (write y.0.0) (after_commas write more.0) x.1) in
     let found : IsList write fits ts (y.0.0 ∷ more.0, x.1) = (whole, (tt, (h.1, more.3))) in
     let same : x.0 ≡ y.0.0 ∷ more.0 = more.1 in
     at_list write fits ts (y.0.0 ∷ more.0) x.0 x.1 (sym same) found
@@ -80,7 +80,7 @@ ends_here write ends comma (x ∷ xs) rest e = comma ((write x ++ after_commas w
 from_again : {A : Type 0} (write : A → List Terminal) (fits : A → Type 0) (ends : List Terminal → Type 0)
     (item : Reads A) → Again write fits ends item → ((us : List Terminal) → ends (Mark mark.Comma ∷ us))
     → (xs found : List A) (n : ℕ) (rest : List Terminal) → AllByRecursion fits xs → behind mark.Comma rest ≡ None
-        → ends rest → length (after_commas write xs ++ rest) ≤ n
+    → ends rest → length (after_commas write xs ++ rest) ≤ n
     → list_from item n found (after_commas write xs ++ rest) ≡ Some (found ++ xs, rest)
 from_again write fits ends item again comma [] found n rest all none e enough =
     no_turn item n found rest none ∙ ap (λ ys. Some (ys, rest)) (sym (append-nil found))
@@ -92,13 +92,13 @@ from_again write fits ends item again comma (x ∷ xs) found n rest all none e e
     let read = ap item same ∙ again x tail all.0 (ends_here write ends comma xs rest e) in
     let less : length tail ≤ t.0 = omega (arith, t.1, ap length same, length-append (write x) tail) in
     t.2 ∙ ap (λ o. o >>= λ y. list_from item t.0 (found ++ y.0 ∷ []) y.1) read ∙ from_again write fits ends item
-        again comma xs (found ++ x ∷ []) t.0 rest all.1 none e less ∙ ap (λ ys. Some (ys, rest))
-        (append_assoc found (x ∷ []) xs)
+    again comma xs (found ++ x ∷ []) t.0 rest all.1 none e less ∙ ap (λ ys. Some (ys, rest))
+    (append_assoc found (x ∷ []) xs)
 
 pub list_again : {A : Type 0} (write : A → List Terminal) (fits : A → Type 0) (ends : List Terminal → Type 0)
     (item : Reads A) → Again write fits ends item → ((us : List Terminal) → ends (Mark mark.Comma ∷ us))
     → (xs : List A) (rest : List Terminal) → HasItem xs → AllByRecursion fits xs → behind mark.Comma rest ≡ None
-        → ends rest
+    → ends rest
     → list_of item (separated write xs ++ rest) ≡ Some (xs, rest)
 unfolding list_of
 list_again write fits ends item again comma [] rest has all none e = absurd has
@@ -109,4 +109,4 @@ list_again write fits ends item again comma (x ∷ xs) rest has all none e =
     let read = ap item same ∙ again x tail all.0 (ends_here write ends comma xs rest e) in
     let less : length tail ≤ length whole = omega (arith, ap length same, length-append (write x) tail) in
     ap (λ o. o >>= λ y. list_from item (length whole) (y.0 ∷ []) y.1) read ∙ from_again write fits ends item again
-        comma xs (x ∷ []) (length whole) rest all.1 none e less
+    comma xs (x ∷ []) (length whole) rest all.1 none e less

@@ -20,8 +20,12 @@ pub list_begins : {A : Type 0} (item : Reads A) (start rest : List Terminal) (x 
     → length rest ≤ length start → Continues item start (x ∷ []) rest
 unfolding list_of
 list_begins item start rest x e within =
-    record { turns = length start; enough = within; so_far =
-        ap (λ o. o >>= λ y. list_from item (length start) (y.0 ∷ []) y.1) e }
+    record {
+      turns = length start;
+      enough = within;
+      so_far =
+          ap (λ o. o >>= λ y. list_from item (length start) (y.0 ∷ []) y.1) e;
+    }
 
 pub list_stops : {A : Type 0} (item : Reads A) (start : List Terminal) → item start ≡ None → list_of item start ≡ None
 unfolding list_of
@@ -44,8 +48,12 @@ pub list_goes_on : {A : Type 0} (item : Reads A) (start ts after rest : List Ter
     → Continues item start (found ++ x ∷ []) rest
 list_goes_on item start ts after rest found x e f within c =
     let t = turn item c.turns found ts after e c.enough in
-    record { turns = t.0; enough = omega (arith, t.1); so_far =
-        c.so_far ∙ t.2 ∙ ap (λ o. o >>= λ y. list_from item t.0 (found ++ y.0 ∷ []) y.1) f }
+    record {
+      turns = t.0;
+      enough = omega (arith, t.1);
+      so_far =
+          c.so_far ∙ t.2 ∙ ap (λ o. o >>= λ y. list_from item t.0 (found ++ y.0 ∷ []) y.1) f;
+    }
 
 pub list_fails : {A : Type 0} (item : Reads A) (start ts after : List Terminal) (found : List A)
     → behind mark.Comma ts ≡ Some after → item after ≡ None → Continues item start found ts
@@ -95,7 +103,7 @@ chain_stops operand op first start e = ap (λ o. o >>= λ y. chain_from operand 
 pub chain_turn : (operand : Reads Term) (op : ChainOperator) (n : ℕ) (terms : Terms) (ts after : List Terminal)
     → behind_operator op ts ≡ Some after → length ts ≤ n
     → (m : ℕ) × (length after ≤ m) × (chain_from operand op n terms
-        ts ≡ (operand after >>= λ x. chain_from operand op m (Then terms x.0) x.1))
+    ts ≡ (operand after >>= λ x. chain_from operand op m (Then terms x.0) x.1))
 unfolding chain_from
 chain_turn operand op zero terms ts after e enough = let is =
     behind_operator_is op ts after e in absurd (omega (arith, ap length is))
@@ -123,7 +131,7 @@ pub chain_fails : (operand : Reads Term) (op : ChainOperator) (first : Term) (st
 chain_fails operand op first start ts after terms e f c =
     let t = chain_turn operand op c.turns terms ts after e c.enough in
     c.so_far ∙ ap (λ o. o >>= λ z. Some (Chained op z.0, z.1))
-        (t.2 ∙ ap (λ o. o >>= λ y. chain_from operand op t.0 (Then terms y.0) y.1) f)
+    (t.2 ∙ ap (λ o. o >>= λ y. chain_from operand op t.0 (Then terms y.0) y.1) f)
 
 pub chain_no_turn : (operand : Reads Term) (op : ChainOperator) (n : ℕ) (terms : Terms) (ts : List Terminal)
     → behind_operator op ts ≡ None → chain_from operand op n terms ts ≡ Some (terms, ts)

@@ -40,10 +40,10 @@ begun_start found line rows more (start.Block kind replicator) = refl
 pub opening_starts : (level : ℕ) (found : List Declaration) (r : Row) (rows : List Row) (s : start_type.Start)
     → is_at level r ≡ true → head_at r.number r.terminals ≡ Some (start_of s)
     → beginning_from level found (r ∷ rows) ≡ Some
-        (record { declarations = found; line = r.number; start = start_of s }, rows)
+    (record { declarations = found; line = r.number; start = start_of s }, rows)
 opening_starts level found r rows s a e =
     opening_is level found r rows a ∙ ap (begun found r.number rows (λ more. beginning_from level more rows))
-        e ∙ begun_start found r.number rows (λ more. beginning_from level more rows) s
+    e ∙ begun_start found r.number rows (λ more. beginning_from level more rows) s
 
 pub opening_declares : (level : ℕ) (found : List Declaration) (r : Row) (rows : List Row) (d : Declaration)
     → is_at level r ≡ true → head_at r.number r.terminals ≡ Some (Declares d)

@@ -38,7 +38,7 @@ colon_is r None b e = absurd (cc)
 colon_is r (Some after) b e =
     let h = both_true (r.level == 0) (ended after) e in
     row_eq r 0 (Mark mark.Colon ∷ []) (eqb-true r.level 0 h.0)
-        (behind_is mark.Colon r.terminals after b ∙ ap (λ us. Mark mark.Colon ∷ us) (ended_is after h.1))
+    (behind_is mark.Colon r.terminals after b ∙ ap (λ us. Mark mark.Colon ∷ us) (ended_is after h.1))
 
 colon_if : (b : Bool) (r : Row) (rows rest : List Row) → is_colon r (behind mark.Colon r.terminals) ≡ b
     → cond b (Some rows) None ≡ Some rest → (number : ℕ) × (r ∷ rows ≡ colon_row number ∷ rest)
@@ -75,18 +75,20 @@ procedure_sound r ts rows x l t e =
     let c = colon_sound body.0.1 rest.0 rest.1 in
     let first = row_eq r 0 (Mark mark.Proc ∷ written_proc_head head.0) l (t ∙ ap (λ us. Mark mark.Proc ∷ us) h.0) in
     let whole = ap (λ q. q ∷ rows) first ∙ ap
-        (λ us. record { number = r.number; level = 0; terminals = Mark mark.Proc ∷ written_proc_head head.0 } ∷ us)
-        (b.0 ∙ ap (λ us. lines_of body.0.0 1 ++ us) c.1) in
+    (λ us. record { number = r.number; level = 0; terminals = Mark mark.Proc ∷ written_proc_head head.0 } ∷ us)
+    (b.0 ∙ ap (λ us. lines_of body.0.0 1 ++ us) c.1) in
     at_some (IsProcedure r rows) (record { line = r.number; head = head.0; body = body.0.0 }, rest.0) x rest.2
-        (c.0, whole, h.1, b.1)
+    (c.0, whole, h.1, b.1)
 
 constant_item : (r : Row) (ts : List Terminal) (rows : List Row) (c : Constant) → r.level ≡ 0
     → r.terminals ≡ Mark mark.Val ∷ ts → constant_at r.number ts ≡ Some c → IsItem (r ∷ rows) (GlobalConstant c) rows
 constant_item r ts rows c l t e =
     let h = constant_sound r.number ts c e in
-    let first = row_eq r 0 (Mark mark.Val ∷ written_constant c) l (t ∙ ap (λ us. Mark mark.Val ∷ us) h.0) in
-    (ap (λ q. q ∷ rows) (first ∙ ap (λ (n : ℕ). record
-        { number = n; level = 0; terminals = Mark mark.Val ∷ written_constant c }) (sym h.1.0)), (refl, h.1.1))
+    let first = row_eq r 0 (Mark mark.Val ∷ written_constant c) l (t ∙ ap (λ us. Mark mark.Val ∷ us) h.0) in (
+      ap (λ q. q ∷ rows) (first ∙ ap (λ (n : ℕ). record
+          { number = n; level = 0; terminals = Mark mark.Val ∷ written_constant c }) (sym h.1.0)),
+      (refl, h.1.1),
+    )
 
 item_with_sound : (r : Row) (ts : List Terminal) (rows : List Row) (x : ProgramItem × List Row) → r.level ≡ 0
     → r.terminals ≡ ts → item_with r.number rows ts ≡ Some x → IsItem (r ∷ rows) x.0 x.1
@@ -95,11 +97,11 @@ item_with_sound r [] rows x l t e = absurd (cc)
 item_with_sound r (Mark mark.Val ∷ ts) rows x l t e =
     let c = bind_some (constant_at r.number ts) _ x e in
     at_some (λ (y : ProgramItem × List Row). IsItem (r ∷ rows) y.0 y.1) (GlobalConstant c.0, rows) x c.2
-        (constant_item r ts rows c.0 l t c.1)
+    (constant_item r ts rows c.0 l t c.1)
 item_with_sound r (Mark mark.Proc ∷ ts) rows x l t e =
     let p = bind_some (procedure_at r.number ts rows) _ x e in
     at_some (λ (y : ProgramItem × List Row). IsItem (r ∷ rows) y.0 y.1) (GlobalProcedure p.0.0, p.0.1) x p.2
-        (procedure_sound r ts rows p.0 l t p.1)
+    (procedure_sound r ts rows p.0 l t p.1)
 item_with_sound r (t ∷ ts) rows x l u e = absurd (cc)
 
 item_if : (b : Bool) (r : Row) (rows : List Row) (x : ProgramItem × List Row) → nat_lt 0 r.level ≡ b
@@ -126,9 +128,12 @@ items_sound (suc n) found [] ys e = let same : found ≡ ys = cc in ([], sym sam
 items_sound zero found (r ∷ rows) ys e = absurd (cc)
 items_sound (suc n) found (r ∷ rows) ys e =
     let x = bind_some (item_at r rows) _ ys e in
-    let rest = items_sound n (found ++ x.0.0 ∷ []) x.0.1 ys x.2 in
-    (x.0.0 ∷ rest.0, rest.1 ∙ append_assoc found (x.0.0 ∷ []) rest.0, program_of (r ∷ rows) x.0.0 x.0.1 rest.0
-        (item_sound r rows x.0 x.1) rest.2)
+    let rest = items_sound n (found ++ x.0.0 ∷ []) x.0.1 ys x.2 in (
+      x.0.0 ∷ rest.0,
+      rest.1 ∙ append_assoc found (x.0.0 ∷ []) rest.0,
+      program_of (r ∷ rows) x.0.0 x.0.1 rest.0
+          (item_sound r rows x.0 x.1) rest.2,
+    )
 
 pub program_sound : (rows : List Row) (items : List ProgramItem) → program_at rows ≡ Some items → IsProgram rows items
 unfolding program_at
@@ -170,11 +175,11 @@ item_again rows (GlobalProcedure p) rest i =
     let body = process_again p.body 64 1 (colon ∷ rest) (omega arith) i.3 (stops_after i.0 rest) in
     let procedure =
     ap (λ (o : Option ProcHead). o >>= λ head. process_at 64 1 more >>= λ body. behind_colon body.1 >>= λ rest. Some
-        (record { line = p.line; head = head; body = body.0 }, rest)) (proc_head_again p.head i.2)
+    (record { line = p.line; head = head; body = body.0 }, rest)) (proc_head_again p.head i.2)
     ∙ ap (λ (o : Option (Process × List Row)). o >>= λ body. behind_colon body.1 >>= λ rest. Some
-        (record { line = p.line; head = p.head; body = body.0 }, rest)) body
+    (record { line = p.line; head = p.head; body = body.0 }, rest)) body
     ∙ ap (λ (o : Option (List Row)). o >>= λ rest. Some
-        (record { line = p.line; head = p.head; body = p.body }, rest)) (colon_again i.0 rest)
+    (record { line = p.line; head = p.head; body = p.body }, rest)) (colon_again i.0 rest)
     in
     record {
       first = proc_row p;
@@ -209,12 +214,12 @@ items_again : (items : List ProgramItem) (n : ℕ) (found : List ProgramItem) (r
 items_again [] n found rows enough is = ap (items_from n found) is ∙ no_items n found ∙ ap Some (sym (append-nil found))
 items_again (GlobalConstant c ∷ items) n found rows enough is =
     items_step n found items rows is.0 (GlobalConstant c) enough
-        (item_again rows (GlobalConstant c) is.0 (is.1, is.2))
-        (λ m h. items_again items m (found ++ GlobalConstant c ∷ []) is.0 h is.3)
+    (item_again rows (GlobalConstant c) is.0 (is.1, is.2))
+    (λ m h. items_again items m (found ++ GlobalConstant c ∷ []) is.0 h is.3)
 items_again (GlobalProcedure p ∷ items) n found rows enough is =
     items_step n found items rows is.1 (GlobalProcedure p) enough
-        (item_again rows (GlobalProcedure p) is.1 (is.0, is.2, is.3, is.4))
-        (λ m h. items_again items m (found ++ GlobalProcedure p ∷ []) is.1 h is.5)
+    (item_again rows (GlobalProcedure p) is.1 (is.0, is.2, is.3, is.4))
+    (λ m h. items_again items m (found ++ GlobalProcedure p ∷ []) is.1 h is.5)
 
 pub program_again : (rows : List Row) (items : List ProgramItem) → IsProgram rows items → program_at rows ≡ Some items
 unfolding program_at
@@ -250,9 +255,13 @@ pub program_goes_on : (start : List Row) (found : List ProgramItem) (r : Row) (r
     → ContinuesProgram start found (r ∷ rows) → ContinuesProgram start (found ++ x ∷ []) rest
 program_goes_on start found r rows rest x e less c =
     let t = item_turn c.turns found r rows c.enough in
-    record { turns = t.0; enough = omega (arith, t.1); so_far =
-        c.so_far ∙ t.2 ∙ ap (λ (o : Option (ProgramItem × List Row)). o >>= λ y. items_from t.0 (found ++ y.0 ∷ [])
-        y.1) e }
+    record {
+      turns = t.0;
+      enough = omega (arith, t.1);
+      so_far =
+          c.so_far ∙ t.2 ∙ ap (λ (o : Option (ProgramItem × List Row)). o >>= λ y. items_from t.0 (found ++ y.0 ∷ [])
+          y.1) e;
+    }
 
 pub program_fails : (start : List Row) (found : List ProgramItem) (r : Row) (rows : List Row) → item_at r rows ≡ None
     → ContinuesProgram start found (r ∷ rows) → program_at start ≡ None

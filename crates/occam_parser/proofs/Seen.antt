@@ -16,8 +16,12 @@ use Rattle.occam_parser.specs.LineReading.{has_condition}
 use Rattle.occam_parser.specs.Views.{expression_of, term_of, with_others}
 
 pub no_more : (ts us : List Token) → length ts ≤ length us → length (terminals_of ts) ≤ length (terminals_of us)
-no_more ts us h = omega (arith, length-map ts (λ (t : Token). terminal_of t.kind), length-map us
-    (λ (t : Token). terminal_of t.kind))
+no_more ts us h = omega (
+  arith,
+  length-map ts (λ (t : Token). terminal_of t.kind),
+  length-map us
+      (λ (t : Token). terminal_of t.kind),
+)
 
 others_push : (terms : Terms) (others : List Term) (x : Term)
     → with_others terms (others ++ x ∷ []) ≡ Then (with_others terms others) x

@@ -28,7 +28,7 @@ up_to_is {A} close read x rest e =
     let z = bind_some (behind close y.0.1) _ (x, rest) y.2 in
     let is = behind_is close y.0.1 z.0 z.1 in
     let same = at_some (λ (w : A × List Terminal). ◌≡◌ {A = A × List Terminal} (y.0.0, Mark close ∷ z.0)
-        (w.0, Mark close ∷ w.1)) (y.0.0, z.0) (x, rest) z.2 refl in
+    (w.0, Mark close ∷ w.1)) (y.0.0, z.0) (x, rest) z.2 refl in
     y.1 ∙ ap (λ us. Some (y.0.0, us)) is ∙ ap Some same
 
 -- what a reading gives, behind a terminal that was read
@@ -48,7 +48,7 @@ named_found inner n i name ts (Some after) x is e =
     let h = i after y.0.0 (Mark mark.CloseBracket ∷ y.0.1) read in
     let opened = behind_is mark.OpenBracket ts after is in
     let whole = opened ∙ ap (λ us. Mark mark.OpenBracket ∷ us)
-        (h.0 ∙ regroup (written y.0.0) y.0.1 (Mark mark.CloseBracket)) in
+    (h.0 ∙ regroup (written y.0.0) y.0.1 (Mark mark.CloseBracket)) in
     at_some (IsTerm n (Name name ∷ ts)) (Element name y.0.0, y.0.1) x y.2 (ap (λ us. Name name ∷ us) whole, h.1)
 
 named_sound : (inner : Reads Expression) (n : ℕ) → Sound written (λ e. (0 < n) × Fits e (pred n)) inner
@@ -69,14 +69,14 @@ converted_sound operand n o to ts x e =
 bracketed_sound : (inner : Reads Expression) (n : ℕ) → Sound written (λ e. (0 < n) × Fits e (pred n)) inner
     → (ts : List Terminal) (x : Term × List Terminal)
     → (up_to mark.CloseParenthesis (inner ts) >>= λ y. Some (Bracketed y.0, y.1)) ≡ Some x
-        → IsTerm n (Mark mark.OpenParenthesis ∷ ts) x
+    → IsTerm n (Mark mark.OpenParenthesis ∷ ts) x
 bracketed_sound inner n i ts x e =
     let y = bind_some (up_to mark.CloseParenthesis (inner ts)) _ x e in
     let read = up_to_is mark.CloseParenthesis (inner ts) y.0.0 y.0.1 y.1 in
     let h = i ts y.0.0 (Mark mark.CloseParenthesis ∷ y.0.1) read in
     let whole = h.0 ∙ regroup (written y.0.0) y.0.1 (Mark mark.CloseParenthesis) in
     at_some (IsTerm n (Mark mark.OpenParenthesis ∷ ts)) (Bracketed y.0.0, y.0.1) x y.2
-        (ap (λ us. Mark mark.OpenParenthesis ∷ us) whole, h.1)
+    (ap (λ us. Mark mark.OpenParenthesis ∷ us) whole, h.1)
 
 extreme_sound : (n : ℕ) (m : mark_type.Mark) (t : Term) (ts : List Terminal) (x : Term × List Terminal)
     → written_term t ≡ Mark m ∷ Mark mark.Int ∷ [] → FitsTerm t n
@@ -130,9 +130,9 @@ IsExpression n ts x = (ts ≡ written x.0 ++ x.1) × Fits x.0 n
 chain_found : (p : Reads Term) (n : ℕ) → Sound written_term (λ t. FitsTerm t n) p
     → (op : ChainOperator) (more : Terms → Reads Terms)
     → ((us : Terms) (vs : List Terminal) (y : Terms × List Terminal) → FitTerms us n → IsChain us
-        → more us vs ≡ Some y → IsTerms op n (written_terms op us ++ vs) y)
+    → more us vs ≡ Some y → IsTerms op n (written_terms op us ++ vs) y)
     → (terms : Terms) (ts : List Terminal) (o : Option (List Terminal)) (x : Terms × List Terminal)
-        → FitTerms terms n → IsChain terms → behind_operator op ts ≡ o → chain_step p more terms ts o ≡ Some x
+    → FitTerms terms n → IsChain terms → behind_operator op ts ≡ o → chain_step p more terms ts o ≡ Some x
     → IsTerms op n (written_terms op terms ++ ts) x
 chain_found p n s op more m terms ts None x fits is b e =
     at_some (IsTerms op n (written_terms op terms ++ ts)) (terms, ts) x e (refl, fits, is)
@@ -142,13 +142,13 @@ chain_found p n s op more m terms ts (Some after) x fits is b e =
     let sign = behind_operator_is op ts after b in
     let rest = m (Then terms y.0.0) y.0.1 x (fits, h.1) tt y.2 in
     let whole = ap (λ us. written_terms op terms ++ us) (sign ∙ ap (λ us. Chain op ∷ us) h.0) ∙ sym
-        (append_assoc (written_terms op terms) (Chain op ∷ written_term y.0.0) y.0.1) in
+    (append_assoc (written_terms op terms) (Chain op ∷ written_term y.0.0) y.0.1) in
     (whole ∙ rest.0, rest.1, rest.2)
 
 chain_sound : (p : Reads Term) (n : ℕ) → Sound written_term (λ t. FitsTerm t n) p
     → (op : ChainOperator) (k : ℕ) (terms : Terms) (ts : List Terminal) (x : Terms × List Terminal)
     → FitTerms terms n → IsChain terms → chain_from p op k terms ts ≡ Some x
-        → IsTerms op n (written_terms op terms ++ ts) x
+    → IsTerms op n (written_terms op terms ++ ts) x
 unfolding chain_from
 chain_sound p n s op zero terms ts x fits is e =
     at_some (IsTerms op n (written_terms op terms ++ ts)) (terms, ts) x e (refl, fits, is)
@@ -166,18 +166,18 @@ after_sound p n s first (Pair op ∷ ts) x fits e =
     let y = bind_some (p ts) _ x e in
     let h = s ts y.0.0 y.0.1 y.1 in
     let whole = ap (λ us. written_term first ++ Pair op ∷ us) h.0 ∙ sym
-        (append_assoc (written_term first) (Pair op ∷ written_term y.0.0) y.0.1) in
+    (append_assoc (written_term first) (Pair op ∷ written_term y.0.0) y.0.1) in
     at_some (IsExpression n (written_term first ++ Pair op ∷ ts)) (Paired op first y.0.0, y.0.1) x y.2
-        (whole, (fits, h.1))
+    (whole, (fits, h.1))
 after_sound p n s first (Chain op ∷ ts) x fits e =
     let y = bind_some (p ts) _ x e in
     let h = s ts y.0.0 y.0.1 y.1 in
     let z = bind_some (chain_from p op (length ts) (Then (First first) y.0.0) y.0.1) _ x y.2 in
     let rest = chain_sound p n s op (length ts) (Then (First first) y.0.0) y.0.1 z.0 (fits, h.1) tt z.1 in
     let whole = ap (λ us. written_term first ++ Chain op ∷ us) h.0 ∙ sym
-        (append_assoc (written_term first) (Chain op ∷ written_term y.0.0) y.0.1) in
+    (append_assoc (written_term first) (Chain op ∷ written_term y.0.0) y.0.1) in
     at_some (IsExpression n (written_term first ++ Chain op ∷ ts)) (Chained op z.0.0, z.0.1) x z.2
-        (whole ∙ rest.0, (rest.2, rest.1))
+    (whole ∙ rest.0, (rest.2, rest.1))
 after_sound p n s first (t ∷ ts) x fits e = at_some (IsExpression n (written_term first ++ t ∷ ts))
     (Alone first, t ∷ ts) x e (refl, fits)
 
@@ -212,8 +212,11 @@ nothing_sound write fits ts x rest e = absurd (cc)
 levels_sound : (n : ℕ) → Sound written (λ e. (0 < n) × Fits e (pred n)) (inner_at n) × Sound written_term
     (λ t. (0 < n) × FitsTerm t (pred n)) (operand_within n)
 unfolding inner_at operand_within
-levels_sound zero = (nothing_sound written (λ e. (0 < zero) × Fits e (pred zero)), nothing_sound written_term
-    (λ t. (0 < zero) × FitsTerm t (pred zero)))
+levels_sound zero = (
+  nothing_sound written (λ e. (0 < zero) × Fits e (pred zero)),
+  nothing_sound written_term
+      (λ t. (0 < zero) × FitsTerm t (pred zero)),
+)
 levels_sound (suc n) =
     let below = levels_sound n in
     let terms = term_with_sound (inner_at n) (operand_within n) n below.0 below.1 in (

@@ -45,7 +45,7 @@ pub pushed_tells : {A : Type 0} (f : A → Component) (read : Result (A × Bor (
 pushed_tells f (Err e) old new (Err t) got pushes told =
     let same : e ≡ t = cc pushes in
     let lost = passed_on e got (further (all_of (map f old)) got) (λ none. ap (further (all_of (map f old))) none)
-        told in
+    told in
     subst (λ (u : ParseFault). (u ≡ out_of_memory) ⊎ (further (all_of (map f old)) got ≡ None)) same lost
 pushed_tells f (Err e) old new (Ok rest) got pushes told = absurd (cc pushes)
 pushed_tells f (Ok x) old new (Err t) got pushes told = inl pushes

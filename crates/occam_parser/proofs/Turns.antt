@@ -25,13 +25,16 @@ block_turn : (item : ReadsLines Component) (level : ℕ) (single : Bool) (n : �
     (rows rest : List Row) (x : Component) → wants level single (count_of found) rows ≡ Some true
     → item rows ≡ Some (x, rest) → length rows ≤ n → length rest < length rows
     → (m : ℕ) × (length rest ≤ m) × (components_from item level single n found rows ≡ components_from item level
-        single m (Further found x) rest)
+    single m (Further found x) rest)
 unfolding components_from
 block_turn item level single zero found rows rest x w e enough less = absurd (omega arith)
-block_turn item level single (suc n) found rows rest x w e enough less =
-    (n, omega arith, ap (component_step (item rows >>= λ y. components_from item level single n (Further found y.0)
-        y.1) found rows) w ∙ ap (λ (o : Option (Component × List Row)). o >>= λ y. components_from item level single
-        n (Further found y.0) y.1) e)
+block_turn item level single (suc n) found rows rest x w e enough less = (
+  n,
+  omega arith,
+  ap (component_step (item rows >>= λ y. components_from item level single n (Further found y.0)
+      y.1) found rows) w ∙ ap (λ (o : Option (Component × List Row)). o >>= λ y. components_from item level single
+      n (Further found y.0) y.1) e,
+)
 
 pub block_goes_on : (item : ReadsLines Component) (level : ℕ) (single : Bool) (start : List Row) (found : Components)
     (rows rest : List Row) (x : Component) → wants level single (count_of found) rows ≡ Some true
@@ -49,8 +52,8 @@ unfolding components_from
 fails_at item level single zero found rows w e = ap (component_step None found rows) w
 fails_at item level single (suc n) found rows w e =
     ap (component_step (item rows >>= λ y. components_from item level single n (Further found y.0) y.1) found rows)
-        w ∙ ap (λ (o : Option (Component × List Row)). o >>= λ y. components_from item level single n
-        (Further found y.0) y.1) e
+    w ∙ ap (λ (o : Option (Component × List Row)). o >>= λ y. components_from item level single n
+    (Further found y.0) y.1) e
 
 pub block_fails : (item : ReadsLines Component) (level : ℕ) (single : Bool) (start : List Row) (found : Components)
     (rows : List Row) → wants level single (count_of found) rows ≡ Some true → item rows ≡ None

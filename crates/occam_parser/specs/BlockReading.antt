@@ -50,7 +50,7 @@ unfoldable pub beginning_from : ℕ → List Declaration → ReadsLines Beginnin
 beginning_from level found [] = None
 beginning_from level found (r ∷ rows) =
     if is_at level r then begun found r.number rows (λ more. beginning_from level more rows)
-        (head_at r.number r.terminals) else None
+    (head_at r.number r.terminals) else None
 
 abbrev pub with_declarations : List Declaration → Process → Process
 with_declarations [] p = p
@@ -84,7 +84,7 @@ components_from item level single zero found rows =
     component_step None found rows (wants level single (count_of found) rows)
 components_from item level single (suc n) found rows =
     component_step (item rows >>= λ x. components_from item level single n (Further found x.0) x.1) found rows
-        (wants level single (count_of found) rows)
+    (wants level single (count_of found) rows)
 
 unfoldable pub components_of : ReadsLines Component → ℕ → Bool → ReadsLines Components
 components_of item level single rows = components_from item level single (length rows) NoComponent rows

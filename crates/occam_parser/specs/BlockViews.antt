@@ -61,16 +61,24 @@ abbrev pub branch_of : Branch → Component
 branch_of = fold-Branch Construct Component Component Process construct_step branch_step choice_step process_step
 
 abbrev pub procedure_of : proc_type.Proc → Procedure
-procedure_of p = record { line = p.line; head =
-    record { name = p.name.now; formals = map formal_of p.formals.items }; body = process_of p.body }
+procedure_of p = record {
+  line = p.line;
+  head =
+      record { name = p.name.now; formals = map formal_of p.formals.items };
+  body = process_of p.body;
+}
 
 abbrev pub item_of : item_type.Item → ProgramItem
 item_of (item.Constant c) = GlobalConstant (constant_of c)
 item_of (item.Proc p) = GlobalProcedure (procedure_of p)
 
 abbrev pub beginning_of : opening_type.Opening → Beginning
-beginning_of o = record { declarations = map declaration_of o.declarations.items; line = o.line; start =
-    start_of o.start }
+beginning_of o = record {
+  declarations = map declaration_of o.declarations.items;
+  line = o.line;
+  start =
+      start_of o.start;
+}
 
 abbrev pub plain_component : CodeProcess → Component
 plain_component p = Plain (process_of p)

@@ -65,15 +65,19 @@ declaration_line (Channels n) = n.line
 
 abbrev mutual
   pub lines_of : Process → ℕ → List Row
-  lines_of (Declared d p) level = record { number = declaration_line d; level = level; terminals =
-      written_declaration d } ∷ lines_of p level
+  lines_of (Declared d p) level = record {
+    number = declaration_line d;
+    level = level;
+    terminals =
+        written_declaration d;
+  } ∷ lines_of p level
   lines_of (Does line c) level = lines_of_construct c line level
 
   pub lines_of_construct : Construct → ℕ → ℕ → List Row
   lines_of_construct (Act a) line level = record { number = line; level = level; terminals = written_action a } ∷ []
   lines_of_construct (Block kind replicator components) line level =
       record { number = line; level = level; terminals = block_word kind ∷ written_replicator replicator } ∷
-          lines_of_components components (level + 1)
+      lines_of_components components (level + 1)
 
   pub lines_of_components : Components → ℕ → List Row
   lines_of_components NoComponent level = []
@@ -145,4 +149,4 @@ IsProgram rows (GlobalConstant c ∷ items) = (rest : List Row) × (rows ≡ con
     c × IsProgram rest items
 IsProgram rows (GlobalProcedure p ∷ items) =
     (number : ℕ) × (rest : List Row) × (rows ≡ proc_row p ∷ (lines_of p.body 1 ++ colon_row number ∷ rest)) ×
-        FitsProcHead p.head × FitsProcess p.body 1 × IsProgram rest items
+    FitsProcHead p.head × FitsProcess p.body 1 × IsProgram rest items

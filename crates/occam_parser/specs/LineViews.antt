@@ -44,8 +44,13 @@ abbrev pub constant_of : constant_type.Constant → Constant
 constant_of c = record { line = c.line; value_type = c.value_type; name = c.name.now; value = value_of c.value }
 
 abbrev pub names_of : names_type.Names → Names
-names_of n = record { line = n.line; size = option_map expression_of n.size; value_type = n.value_type; names =
-    map spelling_of n.names.items }
+names_of n = record {
+  line = n.line;
+  size = option_map expression_of n.size;
+  value_type = n.value_type;
+  names =
+      map spelling_of n.names.items;
+}
 
 abbrev pub declaration_of : declaration_type.Declaration → Declaration
 declaration_of (declaration.Constant c) = Constants (constant_of c)
@@ -66,8 +71,13 @@ guard_of (guard.Input condition channel target) =
 guard_of (guard.Skip condition) = Skips (expression_of condition)
 
 abbrev pub formal_of : formal_type.Formal → Formal
-formal_of f = record { kind = f.kind; size = option_map expression_of f.size; value_type = f.value_type; name =
-    f.name.now }
+formal_of f = record {
+  kind = f.kind;
+  size = option_map expression_of f.size;
+  value_type = f.value_type;
+  name =
+      f.name.now;
+}
 
 abbrev pub proc_head_of : proc_head_type.ProcHead → ProcHead
 proc_head_of h = record { name = h.name.now; formals = map formal_of h.formals.items }

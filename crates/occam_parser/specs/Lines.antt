@@ -107,7 +107,7 @@ written_value (Bytes size bytes) = Text bytes ∷ []
 abbrev pub written_constant : Constant → List Terminal
 written_constant c =
     in_brackets (size_of c.value) ++ (type_word c.value_type ∷ Name c.name ∷ Mark mark.Is ∷
-        (written_value c.value ++ Mark mark.Colon ∷ []))
+    (written_value c.value ++ Mark mark.Colon ∷ []))
 
 -- the words before a type
 abbrev pub channel_words : Bool → List Terminal
@@ -117,7 +117,7 @@ channel_words true = Mark mark.Chan ∷ Mark mark.Of ∷ []
 abbrev pub written_names : Bool → Names → List Terminal
 written_names is_channel n =
     in_brackets n.size ++ (channel_words is_channel
-        ++ (type_word n.value_type ∷ (separated written_name n.names ++ Mark mark.Colon ∷ [])))
+    ++ (type_word n.value_type ∷ (separated written_name n.names ++ Mark mark.Colon ∷ [])))
 
 abbrev pub written_declaration : Declaration → List Terminal
 written_declaration (Constants c) = Mark mark.Val ∷ written_constant c

@@ -17,15 +17,23 @@ module _ {F : Type 0} (reads : F → List ℕ → Result (List ℕ) FileFault �
 
   pub acts_failed : (failure : Failure) (status : ℕ) → status ≡ status_of failure → line_of words ≡ Some asked
       → Performs reads asked before after out_before out_after (Err failure)
-          → Acts reads words before after out_before out_after status
+      → Acts reads words before after out_before out_after status
   acts_failed (failures.Malformed fault) status is line performed =
       let file = performed.0 in
-      refused asked line (record { bytes = file.bytes; read = file.read; holds =
-          malformed fault file.holds }) performed.1 is
+      refused asked line (record {
+        bytes = file.bytes;
+        read = file.read;
+        holds =
+            malformed fault file.holds;
+      }) performed.1 is
   acts_failed (failures.Uncertified refusal) status is line performed =
       let file = performed.0 in
-      refused asked line (record { bytes = file.bytes; read = file.read; holds =
-          uncertified refusal file.holds }) performed.1 is
+      refused asked line (record {
+        bytes = file.bytes;
+        read = file.read;
+        holds =
+            uncertified refusal file.holds;
+      }) performed.1 is
   acts_failed (failures.Unread path) status is line performed = unread asked line (performed.0).1 performed.1 is
   acts_failed failures.Unwritten status is line performed = unwritten asked performed.0 line performed.1 is
   acts_failed failures.Memory status is line performed = starved performed.1 is

@@ -94,7 +94,7 @@ valued-at_row id change missing [] changes misses all = misses
 valued-at_row id change missing (r ∷ rs) changes misses all =
     valued-cond (bytes_eq r.id id) (change r ++ rs) (r ∷ at_row id change missing rs)
     (valued-append (change r) rs (changes r all.0) all.1)
-        (all.0, valued-at_row id change missing rs changes misses all.1)
+    (all.0, valued-at_row id change missing rs changes misses all.1)
 
 -- a use that adds at least one value
 valued-with_values : (id : Text) (how : Reading) (s : ValueSource) (v : Text) (vs : List Text) (rows : List Row)
@@ -102,9 +102,9 @@ valued-with_values : (id : Text) (how : Reading) (s : ValueSource) (v : Text) (v
     → AllValued (with_values id how s (v ∷ vs) rows)
 valued-with_values id how s v vs rows all =
     valued-at_row id (more_values s (v ∷ vs))
-        (record { id = id; values = v ∷ vs; count = None; source = Some s; reading = how } ∷ []) rows
+    (record { id = id; values = v ∷ vs; count = None; source = Some s; reading = how } ∷ []) rows
     (λ r has. let more : 1 ≤ length (r.values ++ v ∷ vs) = rw length-append (omega arith) in (more, tt))
-        (omega arith, tt) all
+    (omega arith, tt) all
 
 -- a use of an argument
 valued-used : (o : Option Rule) (again : Bool) (values : List Text) (rows : List Row) → IsOurs o
@@ -115,7 +115,7 @@ valued-used o again values rows the_flag fault all = all
 valued-used o again [] rows the_path fault all = absurd (cc)
 valued-used o again (v ∷ vs) rows the_path fault all =
     valued-with_values (codes "MOD") _ CommandLine v vs (without (codes "MOD") rows)
-        (valued-at_row (codes "MOD") (λ _. []) [] rows (λ r has. tt) tt all)
+    (valued-at_row (codes "MOD") (λ _. []) [] rows (λ r has. tt) tt all)
 
 -- the pending argument is used
 valued-settled : (again : Bool) (h : Held) → settle_fault rules again h ≡ [] → AllValued h.rows
@@ -162,28 +162,28 @@ valued-long o again (Some v) h the_flag fault all = all
 valued-short : (o : Option Rule) (again : Bool) (rest : Text) (h : Held) (after : Held → Held × Outcome)
     (after_fault : Held → Kinds) → IsOurs o
     → ((k : Held) → after_fault k ≡ [] → AllValued k.rows → AllValued ((after k).0).rows)
-        → short_fault rules again o rest h after_fault ≡ [] → AllValued h.rows
+    → short_fault rules again o rest h after_fault ≡ [] → AllValued h.rows
     → AllValued ((short_met rules o rest h after).0).rows
 valued-short o again rest h after after_fault no_rule later fault all = all
 valued-short o again rest h after after_fault the_path later fault all =
     valued-option again (attached_value rest) h fault all
 valued-short o again rest h after after_fault the_flag later fault all =
     let parts =
-        both_empty (react_fault rules again flag_rule [] h) (after_fault (reacted rules flag_rule [] h)) fault in
+    both_empty (react_fault rules again flag_rule [] h) (after_fault (reacted rules flag_rule [] h)) fault in
     later (reacted rules flag_rule [] h) parts.1 (valued-reacted again flag_rule [] h the_flag parts.0 all)
 
 valued-letter : (o : Option ℕ) (again : Bool) (flags : Text) (skip : ℕ) (so_far : Outcome) (h : Held)
     (after : Text → ℕ → Outcome → Held → Held × Outcome)
     (after_fault : Text → ℕ → Held → Kinds)
-        → ((t : Text) (n : ℕ) (s : Outcome) (k : Held) → after_fault t n k ≡ [] → AllValued k.rows
-        → AllValued ((after t n s k).0).rows)
+    → ((t : Text) (n : ℕ) (s : Outcome) (k : Held) → after_fault t n k ≡ [] → AllValued k.rows
+    → AllValued ((after t n s k).0).rows)
     → bundle_step_fault rules again o flags skip h after_fault ≡ [] → AllValued h.rows
-        → AllValued ((bundle_step rules o flags skip so_far h after).0).rows
+    → AllValued ((bundle_step rules o flags skip so_far h after).0).rows
 valued-letter None again flags skip so_far h after after_fault later fault all = all
 valued-letter (Some x) again flags zero so_far h after after_fault later fault all =
     let rest = drop (length (encode_utf8 x)) flags in
     valued-short (arg_by_short rules x) again rest h (after rest 0 done) (after_fault rest 0) (by_short x)
-        (later rest 0 done) fault all
+    (later rest 0 done) fault all
 valued-letter (Some x) again flags (suc skip) so_far h after after_fault later fault all =
     later _ skip so_far h fault all
 
@@ -194,7 +194,7 @@ unfolding bundle_met flags_fault
 valued-bundle again zero flags skip so_far h fault all = all
 valued-bundle again (suc k) flags skip so_far h fault all =
     valued-letter (slice_get (chars flags) 0) again flags skip so_far h (bundle_met rules k) (flags_fault rules again k)
-        (valued-bundle again k) fault all
+    (valued-bundle again k) fault all
 
 -- a word that is no flag
 valued-plain : (waiting : Waiting) (word : Text) (h : Held) → AllValued h.rows
@@ -228,7 +228,7 @@ valued-other again None waiting word h fault all = go (short_of word) fault
     go (Some flags) f =
         let met = bundle rules flags h in
         valued-after_flag waiting word met.0 met.1
-            (valued-bundle again (length flags) flags h.skip plain (record h { skip = 0 }) f all)
+        (valued-bundle again (length flags) flags h.skip plain (record h { skip = 0 }) f all)
 
 -- ---- the walk
 
@@ -297,9 +297,9 @@ valued-turn name word w fault all = go w.stopped fault
     go (Some p) f = all
     go None f =
         let parts = both_empty (word_fault (leaf name) [] w.is_trailing w.waiting word w.held)
-            (step_fault (leaf name) w.position met.0 met.1) f in
+        (step_fault (leaf name) w.position met.0 met.1) f in
         valued-step name word w met.0 met.1 parts.1
-            (valued-word name w.is_trailing w.waiting w.position word w.held parts.0 all)
+        (valued-word name w.is_trailing w.waiting w.position word w.held parts.0 all)
 
 valued-walk : (name : Text) (words : List Text) (w : Walk) → walk_fault (leaf name) [] w words ≡ []
     → AllValued w.held.rows
@@ -308,7 +308,7 @@ unfolding walk_fault
 valued-walk name [] w fault all = all
 valued-walk name (word ∷ words) w fault all =
     let parts = both_empty (turn_fault (leaf name) [] w word)
-        (walk_fault (leaf name) [] (walked rules [] w word) words) fault in
+    (walk_fault (leaf name) [] (walked rules [] w word) words) fault in
     valued-walk name words (walked rules [] w word) parts.1 (valued-turn name word w parts.0 all)
 
 -- neither argument has a default
@@ -319,7 +319,7 @@ no_default false rows = refl
 no_defaults : (rows : List Row) → fold with_default rows rules ≡ rows
 no_defaults rows =
     ap (λ (xs : List Row). with_default xs flag_rule) (no_default (has_row path_rule.id rows) rows)
-        ∙ no_default (has_row flag_rule.id rows) rows
+    ∙ no_default (has_row flag_rule.id rows) rows
 
 -- ---- what is given
 
@@ -333,7 +333,7 @@ given_value id (r ∷ rs) all is = go (bytes_eq r.id id) (given_value id rs all.
         → 1 ≤ length values
         → option_map_or (λ x. explicit_source x.source) (cond b (Some r) (find (λ x. bytes_eq x.id id) rs)) false ≡ true
         → (text : Text) × (option_and_then (λ (x : Row). slice_get x.values 0)
-            (cond b (Some (record r { values = values })) (find (λ x. bytes_eq x.id id) rs)) ≡ Some text)
+        (cond b (Some (record r { values = values })) (find (λ x. bytes_eq x.id id) rs)) ≡ Some text)
     go true later [] has e = absurd (omega arith)
     go true later (v ∷ vs) has e = (v, refl)
     go false later values has e = later e
@@ -353,7 +353,7 @@ path_given name words fault =
     let all = valued-settled false end inner.0 (valued-walk name words (walk_from nothing_held) outer.0 tt) in
     let valued : AllValued (finished rules end) = subst AllValued (sym (no_defaults (settled rules end).rows)) all in
     given_value (codes "MOD") (finished rules end) valued
-        (is_there (is_given (codes "MOD") (finished rules end)) last.1)
+    (is_there (is_given (codes "MOD") (finished rules end)) last.1)
 
 -- ---- the whole line
 
@@ -365,11 +365,11 @@ entered_given (Some p) fault is = go (answers_to p.0 (codes "verify", [])) (answ
   where
     go : (b c : Bool)
         → option_map_or (λ s. level_fault s [] nothing_held p.1 false [])
-            (cond b (Some (leaf (codes "verify"))) (cond c (Some (leaf (codes "run"))) None)) [] ≡ []
+        (cond b (Some (leaf (codes "verify"))) (cond c (Some (leaf (codes "run"))) None)) [] ≡ []
         → is_some (option_map (λ s. rows_at s p.1) (cond b (Some (leaf (codes "verify")))
-            (cond c (Some (leaf (codes "run"))) None))) ≡ true
+        (cond c (Some (leaf (codes "run"))) None))) ≡ true
         → (asked : Asked) × (option_and_then entered_by (option_map (λ s. rows_at s p.1)
-            (cond b (Some (leaf (codes "verify"))) (cond c (Some (leaf (codes "run"))) None))) ≡ Some asked)
+        (cond b (Some (leaf (codes "verify"))) (cond c (Some (leaf (codes "run"))) None))) ≡ Some asked)
     go true c f e = let path =
         path_given (codes "verify") p.1 f in (verifies path.0, ap (option_and_then (named (codes "verify"))) path.1)
     go false true f e = let path =
@@ -391,6 +391,8 @@ given words fault =
     let settling = both_empty (settle_fault a.top.rules a.top.args_override_self end.held) _ inner.1 in
     let last = both_empty (defaults_fault (settled a.top.rules end.held).rows a.top.rules) _ settling.1 in
     let asked = entered_given end.stopped inner.0 (is_entered (finished a.top.rules end.held)
-        (is_some (entered a end.stopped)) last.1) in
-    (asked.0, ap (λ (kinds : Kinds). unless_faulty kinds (option_and_then entered_by (entered a end.stopped))) fault
-        ∙ asked.1)
+    (is_some (entered a end.stopped)) last.1) in (
+      asked.0,
+      ap (λ (kinds : Kinds). unless_faulty kinds (option_and_then entered_by (entered a end.stopped))) fault
+          ∙ asked.1,
+    )

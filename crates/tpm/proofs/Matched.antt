@@ -25,7 +25,7 @@ same_inside x y e = cc
 -- a subcommand's name and rows, told apart, are told together
 pub entered_is : {Z : Type 0} (s : Option (Box SubCommand Z)) (name : Text) (rows : List Row)
     → Some name ≡ option_map (λ b. (out-SubCommand (box_value b)).name.now) s
-        → Some rows ≡ option_map (λ p. p.1) (subcommand_rows s)
+    → Some rows ≡ option_map (λ p. p.1) (subcommand_rows s)
     → subcommand_rows s ≡ Some (name, rows)
 entered_is None name rows a b = absurd (cc)
 entered_is (Some box) name rows a b =
@@ -57,7 +57,7 @@ pub line_is : (words : List Text) (found : Option (Text × List Row)) (asked : O
     → asked ≡ option_and_then entered_by found → line_of words ≡ asked
 line_is words found asked none is by =
     ap (λ (kinds : Kinds). unless_faulty kinds (option_and_then entered_by (subcommand_of tpm words))) none
-        ∙ sym (ap (option_and_then entered_by) is) ∙ sym by
+    ∙ sym (ap (option_and_then entered_by) is) ∙ sym by
 
 pub tpm_is_simple : is_simple tpm ≡ true
 tpm_is_simple = refl

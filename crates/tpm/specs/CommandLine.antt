@@ -29,8 +29,12 @@ subcommand_shape name = record (new_shape name) { rules = module_rule ∷ [] }
 -- `tpm verify MOD` and `tpm run MOD`
 abbrev pub tpm : App
 tpm = record {
-  top = record (new_shape (codes "tpm")) { is_leaf = false; subcommand_required = true; disable_help_subcommand =
-      true };
+  top = record (new_shape (codes "tpm")) {
+    is_leaf = false;
+    subcommand_required = true;
+    disable_help_subcommand =
+        true;
+  };
   subs = subcommand_shape (codes "verify") ∷ subcommand_shape (codes "run") ∷ [];
 }
 

@@ -11,7 +11,7 @@ returns g c =
     let at = c.args.offset in
     let n = c.partition_point-index.result in
     let point = IsPartitionPoint-from_clause (λ r. ltb (place r) at) rows n c.partition_point-index.ensures.partitioned
-        (IsPartitionedBy-ltb place rows at c.requires) (λ a r f' k. search rules) in
+    (IsPartitionedBy-ltb place rows at c.requires) (λ a r f' k. search rules) in
     record {
       inside = ltb-true n _ (sym c.in_ok-row.ensures.lookup.0);
       is = c.in_ok-row.ensures.lookup.1;
@@ -26,7 +26,7 @@ returns-in_err-row g c =
     let at = c.args.offset in
     let n = c.partition_point-index.result in
     let point = IsPartitionPoint-from_clause (λ r. ltb (place r) at) rows n c.partition_point-index.ensures.partitioned
-        (IsPartitionedBy-ltb place rows at c.requires) (λ a r f' k. search rules) in
+    (IsPartitionedBy-ltb place rows at c.requires) (λ a r f' k. search rules) in
     let past : length rows ≤ n = ltb-false n _ (sym c.in_err-row.ensures.lookup.0) in
     rw c.from_residual.ensures (none_past place rows at n point past)
 
@@ -37,7 +37,7 @@ returns-then-place-offset g c =
     let at = c.args.offset in
     let n = c.partition_point-index.result in
     let point = IsPartitionPoint-from_clause (λ r. ltb (place r) at) rows n c.partition_point-index.ensures.partitioned
-        (IsPartitionedBy-ltb place rows at c.requires) (λ a r f' k. search rules) in
+    (IsPartitionedBy-ltb place rows at c.requires) (λ a r f' k. search rules) in
     let inside : n < length rows = ltb-true n _ (sym c.in_ok-row.ensures.lookup.0) in
     none_here place rows at n point c.in_ok-row.row.now c.requires inside (sym c.in_ok-row.ensures.lookup.1)
-        (λ e. c.if-place-offset.true (c.place.ensures ∙ e))
+    (λ e. c.if-place-offset.true (c.place.ensures ∙ e))

@@ -12,10 +12,10 @@ owner_of-owner-requires-clause-there c =
     let m = contents_of c.args.tables.now in
     let row = par_of c.index-row.result.now in
     let is : slice_get m.pars c.loop-par.par ≡ Some row =
-        item_there par_of c.args.tables.now.pars.items c.loop-par.par c.index-row.result.now
-        (search rules) c.index-row.ensures in
+    item_there par_of c.args.tables.now.pars.items c.loop-par.par c.index-row.result.now
+    (search rules) c.index-row.ensures in
     let known =
-        context_before (first_branch m) (length m.code) no_branches m.pars c.loop-par.par row c.requires.rows.pars is in
+    context_before (first_branch m) (length m.code) no_branches m.pars c.loop-par.par row c.requires.rows.pars is in
     let many = c.loop-par.invariant.many in
     let same = ap length c.deref.ensures.value in
     omega arith
@@ -25,12 +25,12 @@ overflow_cast-branch c =
     let m = contents_of c.args.tables.now in
     let row = par_of c.index-row.result.now in
     let is : slice_get m.pars c.loop-par.par ≡ Some row =
-        item_there par_of c.args.tables.now.pars.items c.loop-par.par c.index-row.result.now
-        (search rules) c.index-row.ensures in
+    item_there par_of c.args.tables.now.pars.items c.loop-par.par c.index-row.result.now
+    (search rules) c.index-row.ensures in
     let few =
-        branches_few (first_branch m) (length m.code) no_branches m.pars c.loop-par.par row c.requires.rows.pars is in
+    branches_few (first_branch m) (length m.code) no_branches m.pars c.loop-par.par row c.requires.rows.pars is in
     let long : length row.branches ≡ length c.index-row.result.now.branches.items =
-        length-map c.index-row.result.now.branches.items branch_of in
+    length-map c.index-row.result.now.branches.items branch_of in
     omega (arith, c.loop-branch-test.true)
 
 pub loop-branch-preserved : goal.loop-branch-preserved
@@ -38,24 +38,24 @@ loop-branch-preserved c =
     let m = contents_of c.args.tables.now in
     let row = par_of c.index-row.result.now in
     let is : slice_get m.pars c.loop-par.par ≡ Some row =
-        item_there par_of c.args.tables.now.pars.items c.loop-par.par c.index-row.result.now
-        (search rules) c.index-row.ensures in
+    item_there par_of c.args.tables.now.pars.items c.loop-par.par c.index-row.result.now
+    (search rules) c.index-row.ensures in
     let long : length row.branches ≡ length c.index-row.result.now.branches.items =
-        length-map c.index-row.result.now.branches.items branch_of in
+    length-map c.index-row.result.now.branches.items branch_of in
     let inside : c.loop-branch.branch < length c.index-row.result.now.branches.items = search rules in
     rw (c.in_ok-push.ensures.items)
-        (more_places m c.loop-par.par c.loop-branch.branch row c.loop-branch.places.items _ c.requires.rows is
-        (omega arith) refl refl (rw c.from.ensures at c.owner_of-owner.ensures) c.loop-branch.invariant)
+    (more_places m c.loop-par.par c.loop-branch.branch row c.loop-branch.places.items _ c.requires.rows is
+    (omega arith) refl refl (rw c.from.ensures at c.owner_of-owner.ensures) c.loop-branch.invariant)
 
 pub loop-par-preserved : goal.loop-par-preserved
 loop-par-preserved c =
     let m = contents_of c.args.tables.now in
     let row = par_of c.index-row.result.now in
     let is : slice_get m.pars c.loop-par.par ≡ Some row =
-        item_there par_of c.args.tables.now.pars.items c.loop-par.par c.index-row.result.now
-        (search rules) c.index-row.ensures in
+    item_there par_of c.args.tables.now.pars.items c.loop-par.par c.index-row.result.now
+    (search rules) c.index-row.ensures in
     let long : length row.branches ≡ length c.index-row.result.now.branches.items =
-        length-map c.index-row.result.now.branches.items branch_of in
+    length-map c.index-row.result.now.branches.items branch_of in
     let past : c.loop-branch.branch ≡ length c.index-row.result.now.branches.items = search rules in
     row_placed m c.loop-par.par c.loop-branch.branch row c.loop-branch.places.items is
-        (past ∙ sym long) c.loop-branch.invariant
+    (past ∙ sym long) c.loop-branch.invariant

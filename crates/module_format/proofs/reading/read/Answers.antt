@@ -13,8 +13,8 @@ returns-clause-found c =
 pub returns-clause-only : goal.returns-clause-only
 returns-clause-only c = λ d f.
     one_contents c.args.bytes.now (contents_of c.in_ok-tables.tables) d
-        (has_at _ _ (read_finds c.args.bytes.now (λ i. omega
-        (arith, c.type_inv.bytes i))) c.in_ok-tables.ensures.gives) f
+    (has_at _ _ (read_finds c.args.bytes.now (λ i. omega
+    (arith, c.type_inv.bytes i))) c.in_ok-tables.ensures.gives) f
 
 pub returns-in_err-tables-clause-only : goal.returns-in_err-tables-clause-only
 returns-in_err-tables-clause-only c = λ d f.
@@ -24,5 +24,5 @@ returns-in_err-tables-clause-only c = λ d f.
 pub returns-in_err-tables-clause-refused : goal.returns-in_err-tables-clause-refused
 returns-in_err-tables-clause-refused c =
     let told : (d : Contents) → Format c.args.bytes.now d → fault_of c.in_err-tables.field-0.0 ≡ out_of_memory =
-        λ d f. only_memory c.args.bytes.now d c.in_err-tables.field-0.0 f c.in_err-tables.ensures.gives in
+    λ d f. only_memory c.args.bytes.now d c.in_err-tables.field-0.0 f c.in_err-tables.ensures.gives in
     search (rules, told)

@@ -13,7 +13,7 @@ returns c =
     let t = c.args.tables.now in
     let k = contents_of t in
     let sizes = u32_bytes (length t.code.now) ++ u32_bytes (length t.constants.now) ++ u32_bytes t.data_words
-        ++ u32_bytes t.base
+    ++ u32_bytes t.base
     ++ u64_bytes t.budget ++ u32_bytes t.finish in
     let lengths = flat_map u32_bytes t.lengths in
     let counts = u32_bytes (length k.procedures) ++ u32_bytes (length k.labels) ++ u32_bytes (length k.pars) in

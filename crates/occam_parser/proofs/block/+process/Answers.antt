@@ -71,7 +71,7 @@ components-returns-in_err-behind-clause-found t c =
     rw (p.1, p.2)
     (passed_on _ _ _
     (λ none. turn_fails kind (kind_of l.found) c.args.level c.args.single l.goes_on start l.rest.now
-        (components_in l.found)
+    (components_in l.found)
     l.invariant.kind l.invariant.wanted c.loop-goes_on-test.true none l.invariant.reads)
     c.in_err-behind.ensures.found)
 
@@ -90,7 +90,7 @@ components-returns-in_err-goes_on-2-clause-found t c =
     let rows = rows_of on.behind.now in
     let item = component_at (65 - c.args.level) c.args.level kind in
     let stops = subst (λ n. wants c.args.level c.args.single n rows ≡ None) c.len.ensures
-        c.in_err-goes_on-2.ensures.found in
+    c.in_err-goes_on-2.ensures.found in
     let p = err_from_is_err_and c.from_residual-in_err-goes_on-2.result c.from_residual-in_err-goes_on-2.ensures.1 in
     rw (p.1, p.2) (inr (block_stops item c.args.level c.args.single start new rows stops going))
 
@@ -151,11 +151,11 @@ process-returns-in_err-replicator-in-Block-clause-found t c =
     in
     let began = c.in_ok-opening.ensures.found ∙ ap (λ s. started ds o.line s rest) c.in-Block.is in
     let p = err_from_is_err_and c.from_residual-in_err-replicator-in-Block.result
-        c.from_residual-in_err-replicator-in-Block.ensures.1 in
+    c.from_residual-in_err-replicator-in-Block.ensures.1 in
     rw (p.1, p.2)
     (passed_on _ _ _
     (λ none. block_lost c.args.level (rows_of c.args.lines.now) rest ds o.line kind r c.in_ok-opening.ensures.level
-        began
+    began
     (body_none kind (component_at (65 - level) level kind) level r single rest
     (single_is c.in-Block.replicator _ c.is_some-single.ensures) (is ∙ none)))
     (beside_lost (λ behind. (components_in read.new.found, rows_of behind.now)) c.in-Block.replicator read.result _ _
@@ -204,44 +204,44 @@ choice-returns-in_err-condition-clause-found t c =
     let p = err_from_is_err_and c.from_residual-in_err-condition.result c.from_residual-in_err-condition.ensures.1 in
     rw (p.1, p.2)
     (told_lost expression_of c.whole.result _ (whole_at (terminals_of c.deref.result.now)) _
-        c.in_err-condition.ensures c.whole.ensures
-        (λ none. choice_unread c.args.level (rows_of c.args.lines.now) (rows_of c.in_ok-first.rest.now)
-        (row_of c.in_ok-first.first.now) c.in_ok-first.ensures.level c.in_ok-first.ensures.found
-        (ap (λ ts. whole_at (terminals_of ts)) (sym c.deref.ensures.value) ∙ none)))
+    c.in_err-condition.ensures c.whole.ensures
+    (λ none. choice_unread c.args.level (rows_of c.args.lines.now) (rows_of c.in_ok-first.rest.now)
+    (row_of c.in_ok-first.first.now) c.in_ok-first.ensures.level c.in_ok-first.ensures.found
+    (ap (λ ts. whole_at (terminals_of ts)) (sym c.deref.ensures.value) ∙ none)))
 
 pub choice-returns-in_err-condition-2-clause-found : goal.choice-returns-in_err-condition-2-clause-found
 choice-returns-in_err-condition-2-clause-found t c =
     let p = err_from_is_err_and c.from_residual-in_err-condition-2.result
-        c.from_residual-in_err-condition-2.ensures.1 in
+    c.from_residual-in_err-condition-2.ensures.1 in
     rw (p.1, p.2)
     (passed_on _ _ _ (choice_empty c.args.level (rows_of c.args.lines.now) (rows_of c.in_ok-first.rest.now)
-        (row_of c.in_ok-first.first.now) (expression_of c.in_ok-condition.condition) c.in_ok-first.ensures.level
-        c.in_ok-first.ensures.found (ap (λ ts. whole_at (terminals_of ts)) (sym c.deref.ensures.value) ∙ told_found
-        expression_of c.whole.result c.in_ok-condition.condition (whole_at (terminals_of c.deref.result.now))
-        c.in_ok-condition.ensures c.whole.ensures))
-        (below_lost (λ x. (process_of x.0, rows_of x.1.now)) c.in_ok-condition.condition c.process.result _ _
-        c.in_err-condition-2.ensures c.process.ensures.found))
+    (row_of c.in_ok-first.first.now) (expression_of c.in_ok-condition.condition) c.in_ok-first.ensures.level
+    c.in_ok-first.ensures.found (ap (λ ts. whole_at (terminals_of ts)) (sym c.deref.ensures.value) ∙ told_found
+    expression_of c.whole.result c.in_ok-condition.condition (whole_at (terminals_of c.deref.result.now))
+    c.in_ok-condition.ensures c.whole.ensures))
+    (below_lost (λ x. (process_of x.0, rows_of x.1.now)) c.in_ok-condition.condition c.process.result _ _
+    c.in_err-condition-2.ensures c.process.ensures.found))
 
 pub choice-returns-clause-found : goal.choice-returns-clause-found
 choice-returns-clause-found t c =
     let y = c.in_ok-condition-2 in
     let same = below_head c.in_ok-condition.condition y.condition y.process y.rest c.process.result y.ensures in
     let read = ap (λ ts. whole_at (terminals_of ts)) (sym c.deref.ensures.value) ∙ told_found expression_of
-        c.whole.result c.in_ok-condition.condition (whole_at (terminals_of c.deref.result.now))
-        c.in_ok-condition.ensures c.whole.ensures in
+    c.whole.result c.in_ok-condition.condition (whole_at (terminals_of c.deref.result.now))
+    c.in_ok-condition.ensures c.whole.ensures in
     rw view-Choice
     (choice_found c.args.level (rows_of c.args.lines.now) (rows_of c.in_ok-first.rest.now) _
-        (row_of c.in_ok-first.first.now) (expression_of y.condition) _ c.in_ok-first.ensures.level
-        c.in_ok-first.ensures.found
+    (row_of c.in_ok-first.first.now) (expression_of y.condition) _ c.in_ok-first.ensures.level
+    c.in_ok-first.ensures.found
     (read ∙ ap (λ e. Some (expression_of e)) same)
     (below_found (λ x. (process_of x.0, rows_of x.1.now)) c.in_ok-condition.condition y.condition y.process y.rest
-        c.process.result _ y.ensures c.process.ensures.found))
+    c.process.result _ y.ensures c.process.ensures.found))
 
 pub choice-returns-clause-within : goal.choice-returns-clause-within
 choice-returns-clause-within t c =
     let y = c.in_ok-condition-2 in
     let less = below_keeps (λ x. length x.1.now < length c.in_ok-first.rest.now) c.in_ok-condition.condition
-        y.condition y.process y.rest c.process.result y.ensures c.process.ensures.within in
+    y.condition y.process y.rest c.process.result y.ensures c.process.ensures.within in
     omega (arith, less, c.in_ok-first.ensures.within)
 
 pub branch-returns-in_err-first-clause-found : goal.branch-returns-in_err-first-clause-found
@@ -254,44 +254,44 @@ branch-returns-in_err-guard-clause-found t c =
     let p = err_from_is_err_and c.from_residual-in_err-guard.result c.from_residual-in_err-guard.ensures.1 in
     rw (p.1, p.2)
     (told_lost guard_of c.guard.result _ (guard_at (terminals_of c.deref.result.now)) _ c.in_err-guard.ensures
-        c.guard.ensures (λ none. branch_unread c.args.level (rows_of c.args.lines.now)
-        (rows_of c.in_ok-first.rest.now) (row_of c.in_ok-first.first.now) c.in_ok-first.ensures.level
-        c.in_ok-first.ensures.found (ap (λ ts. guard_at (terminals_of ts)) (sym c.deref.ensures.value) ∙ none)))
+    c.guard.ensures (λ none. branch_unread c.args.level (rows_of c.args.lines.now)
+    (rows_of c.in_ok-first.rest.now) (row_of c.in_ok-first.first.now) c.in_ok-first.ensures.level
+    c.in_ok-first.ensures.found (ap (λ ts. guard_at (terminals_of ts)) (sym c.deref.ensures.value) ∙ none)))
 
 pub branch-returns-in_err-guard-2-clause-found : goal.branch-returns-in_err-guard-2-clause-found
 branch-returns-in_err-guard-2-clause-found t c =
     let p = err_from_is_err_and c.from_residual-in_err-guard-2.result c.from_residual-in_err-guard-2.ensures.1 in
     rw (p.1, p.2)
     (passed_on _ _ _ (branch_empty c.args.level (rows_of c.args.lines.now) (rows_of c.in_ok-first.rest.now)
-        (row_of c.in_ok-first.first.now) (guard_of c.in_ok-guard.guard) c.in_ok-first.ensures.level
-        c.in_ok-first.ensures.found (ap (λ ts. guard_at (terminals_of ts)) (sym c.deref.ensures.value) ∙ told_found
-        guard_of c.guard.result c.in_ok-guard.guard (guard_at (terminals_of c.deref.result.now))
-        c.in_ok-guard.ensures c.guard.ensures))
-        (below_lost (λ x. (process_of x.0, rows_of x.1.now)) c.in_ok-guard.guard c.process.result _ _
-        c.in_err-guard-2.ensures c.process.ensures.found))
+    (row_of c.in_ok-first.first.now) (guard_of c.in_ok-guard.guard) c.in_ok-first.ensures.level
+    c.in_ok-first.ensures.found (ap (λ ts. guard_at (terminals_of ts)) (sym c.deref.ensures.value) ∙ told_found
+    guard_of c.guard.result c.in_ok-guard.guard (guard_at (terminals_of c.deref.result.now))
+    c.in_ok-guard.ensures c.guard.ensures))
+    (below_lost (λ x. (process_of x.0, rows_of x.1.now)) c.in_ok-guard.guard c.process.result _ _
+    c.in_err-guard-2.ensures c.process.ensures.found))
 
 pub branch-returns-clause-found : goal.branch-returns-clause-found
 branch-returns-clause-found t c =
     let y = c.in_ok-guard-2 in
     let same = below_head c.in_ok-guard.guard y.guard y.process y.rest c.process.result y.ensures in
     let read = ap (λ ts. guard_at (terminals_of ts)) (sym c.deref.ensures.value) ∙ told_found guard_of c.guard.result
-        c.in_ok-guard.guard (guard_at (terminals_of c.deref.result.now)) c.in_ok-guard.ensures c.guard.ensures in
+    c.in_ok-guard.guard (guard_at (terminals_of c.deref.result.now)) c.in_ok-guard.ensures c.guard.ensures in
     rw view-Branch
     (branch_found c.args.level (rows_of c.args.lines.now) (rows_of c.in_ok-first.rest.now) _
-        (row_of c.in_ok-first.first.now) (guard_of y.guard) _ c.in_ok-first.ensures.level c.in_ok-first.ensures.found
+    (row_of c.in_ok-first.first.now) (guard_of y.guard) _ c.in_ok-first.ensures.level c.in_ok-first.ensures.found
     (read ∙ ap (λ g. Some (guard_of g)) same)
     (below_found (λ x. (process_of x.0, rows_of x.1.now)) c.in_ok-guard.guard y.guard y.process y.rest
-        c.process.result _ y.ensures c.process.ensures.found))
+    c.process.result _ y.ensures c.process.ensures.found))
 
 pub branch-returns-clause-within : goal.branch-returns-clause-within
 branch-returns-clause-within t c =
     let y = c.in_ok-guard-2 in
     let less = below_keeps (λ x. length x.1.now < length c.in_ok-first.rest.now) c.in_ok-guard.guard y.guard
-        y.process y.rest c.process.result y.ensures c.process.ensures.within in
+    y.process y.rest c.process.result y.ensures c.process.ensures.within in
     omega (arith, less, c.in_ok-first.ensures.within)
 
 pub process-returns-in_err-opening-clause-found : goal.process-returns-in_err-opening-clause-found
 process-returns-in_err-opening-clause-found t c =
     let p = err_from_is_err_and c.from_residual.result c.from_residual.ensures.1 in
     rw (p.1, p.2) (passed_on _ _ _ (process_none c.args.level (rows_of c.args.lines.now))
-        c.in_err-opening.ensures.found)
+    c.in_err-opening.ensures.found)

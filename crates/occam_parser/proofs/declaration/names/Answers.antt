@@ -18,8 +18,8 @@ loop-after-init c = record {
   within = omega (arith, c.in_ok-first.ensures.within);
   reads =
       let begun = list_begins name_at (terminals_of c.args.tokens.now) (terminals_of c.in_ok-first.rest.now)
-          (spelling_of c.in_ok-first.first) c.in_ok-first.ensures.found
-          (no_more c.in_ok-first.rest.now c.args.tokens.now (omega (arith, c.in_ok-first.ensures.within))) in
+      (spelling_of c.in_ok-first.first) c.in_ok-first.ensures.found
+      (no_more c.in_ok-first.rest.now c.args.tokens.now (omega (arith, c.in_ok-first.ensures.within))) in
       rw (c.in_ok-push.ensures.items, c.new-found.ensures.items) begun;
 }
 
@@ -28,8 +28,8 @@ returns-in_err-next-clause-found c =
     let p = err_from_is_err_and c.from_residual-in_err-next.result c.from_residual-in_err-next.ensures.1 in
     rw (p.1, p.2)
     (list_fails name_at (terminals_of c.args.tokens.now) (terminals_of c.loop-after.rest.now)
-        (terminals_of c.in-Some.after.now) _ (sym c.in-Some.ensures.behind) c.in_err-next.ensures.found
-        c.loop-after.invariant.reads)
+    (terminals_of c.in-Some.after.now) _ (sym c.in-Some.ensures.behind) c.in_err-next.ensures.found
+    c.loop-after.invariant.reads)
 
 pub loop-after-preserved : goal.loop-after-preserved
 loop-after-preserved c = record {
@@ -37,8 +37,8 @@ loop-after-preserved c = record {
   reads =
       let going =
       list_goes_on name_at (terminals_of c.args.tokens.now) (terminals_of c.loop-after.rest.now)
-          (terminals_of c.in-Some.after.now) (terminals_of c.in_ok-next.behind.now)
-          (map spelling_of c.loop-after.found.items) (spelling_of c.in_ok-next.next)
+      (terminals_of c.in-Some.after.now) (terminals_of c.in_ok-next.behind.now)
+      (map spelling_of c.loop-after.found.items) (spelling_of c.in_ok-next.next)
       (sym c.in-Some.ensures.behind)
       c.in_ok-next.ensures.found
       (no_more c.in_ok-next.behind.now c.in-Some.after.now (omega (arith, c.in_ok-next.ensures.within)))

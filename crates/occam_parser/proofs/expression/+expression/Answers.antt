@@ -20,13 +20,13 @@ chain-loop-after-init t c = record {
       let p = term_at c.args.levels in
       let first = term_of c.args.first in
       let begun = chain_begins p c.args.operator first (terminals_of c.args.tokens.now)
-          (terminals_of c.in_ok-second.rest.now) (term_of c.in_ok-second.second) c.in_ok-second.ensures.found
-          (no_more c.in_ok-second.rest.now c.args.tokens.now c.in_ok-second.ensures.within) in
+      (terminals_of c.in_ok-second.rest.now) (term_of c.in_ok-second.second) c.in_ok-second.ensures.found
+      (no_more c.in_ok-second.rest.now c.args.tokens.now c.in_ok-second.ensures.within) in
       let pushed : c.push.new.self.items ≡ [] ++ c.in_ok-second.second ∷ [] =
-          rw (c.in_ok-push.ensures.items, c.new-others.ensures.items) in
+      rw (c.in_ok-push.ensures.items, c.new-others.ensures.items) in
       subst (λ terms. Chains p c.args.operator first (terminals_of c.args.tokens.now) terms
-          (terminals_of c.in_ok-second.rest.now))
-          (sym (operands_push (First first) [] c.push.new.self.items c.in_ok-second.second pushed)) begun;
+      (terminals_of c.in_ok-second.rest.now))
+      (sym (operands_push (First first) [] c.push.new.self.items c.in_ok-second.second pushed)) begun;
 }
 
 pub chain-returns-in_err-other-clause-found : goal.chain-returns-in_err-other-clause-found
@@ -35,8 +35,8 @@ chain-returns-in_err-other-clause-found t c =
     rw (p.1, p.2)
     (fails_on _ _ _
     (λ none. chain_fails (term_at c.args.levels) c.args.operator (term_of c.args.first)
-        (terminals_of c.args.tokens.now) (terminals_of c.loop-after.rest.now) (terminals_of c.in-Some.after.now) _
-        (sym c.in-Some.ensures.found) none c.loop-after.invariant.reads)
+    (terminals_of c.args.tokens.now) (terminals_of c.loop-after.rest.now) (terminals_of c.in-Some.after.now) _
+    (sym c.in-Some.ensures.found) none c.loop-after.invariant.reads)
     c.in_err-other.ensures.found)
 
 pub chain-loop-after-preserved : goal.chain-loop-after-preserved
@@ -48,25 +48,25 @@ chain-loop-after-preserved t c = record {
       let first = term_of c.args.first in
       let going =
       chain_goes_on p c.args.operator first (terminals_of c.args.tokens.now) (terminals_of c.loop-after.rest.now)
-          (terminals_of c.in-Some.after.now) (terminals_of c.in_ok-other.behind.now)
-          (with_others (First first) (map term_of c.loop-after.others.items)) (term_of c.in_ok-other.other)
+      (terminals_of c.in-Some.after.now) (terminals_of c.in_ok-other.behind.now)
+      (with_others (First first) (map term_of c.loop-after.others.items)) (term_of c.in_ok-other.other)
       (sym c.in-Some.ensures.found)
       c.in_ok-other.ensures.found
       (no_more c.in_ok-other.behind.now c.in-Some.after.now c.in_ok-other.ensures.within)
       c.loop-after.invariant.reads
       in
       subst (λ terms. Chains p c.args.operator first (terminals_of c.args.tokens.now) terms
-          (terminals_of c.in_ok-other.behind.now))
-          (sym (operands_push (First first) c.loop-after.others.items c.push-in-Some.new.self.items
-          c.in_ok-other.other c.in_ok-push-2.ensures.items)) going;
+      (terminals_of c.in_ok-other.behind.now))
+      (sym (operands_push (First first) c.loop-after.others.items c.push-in-Some.new.self.items
+      c.in_ok-other.other c.in_ok-push-2.ensures.items)) going;
 }
 
 pub chain-returns-clause-found : goal.chain-returns-clause-found
 chain-returns-clause-found t c =
     let first = term_of c.args.first in
     let done = chain_ends (term_at c.args.levels) c.args.operator first (terminals_of c.args.tokens.now)
-        (terminals_of c.loop-after.rest.now) (with_others (First first) (map term_of c.loop-after.others.items))
-        (sym c.in_default.ensures.found) c.loop-after.invariant.reads in
+    (terminals_of c.loop-after.rest.now) (with_others (First first) (map term_of c.loop-after.others.items))
+    (sym c.in_default.ensures.found) c.loop-after.invariant.reads in
     rw (view-Chain c.args.operator _ c.loop-after.others, c.loop-after.invariant.same) done
 
 pub deeper-returns-in_err-inner-clause-found : goal.deeper-returns-in_err-inner-clause-found
@@ -78,7 +78,7 @@ deeper-returns-in_err-inner-clause-found t c =
     (fails_on _ _ _
     (λ none. ap (up_to c.args.close) below ∙ none)
     (seen_up_to expression_of c.args.close c.nested.result (Err c.in_err-inner.field-0.0)
-        (expression_at (c.args.levels - 1) ts) c.nested.ensures.found c.in_err-inner.ensures))
+    (expression_at (c.args.levels - 1) ts) c.nested.ensures.found c.in_err-inner.ensures))
 
 pub deeper-returns-clause-found : goal.deeper-returns-clause-found
 deeper-returns-clause-found t c =
@@ -87,20 +87,20 @@ deeper-returns-clause-found t c =
     rw c.in_ok-new.ensures.ok
     (ap (up_to c.args.close) below
     ∙ seen_up_to expression_of c.args.close c.nested.result (Ok (c.in_ok-inner.inner, c.in_ok-inner.rest))
-        (expression_at (c.args.levels - 1) ts) c.nested.ensures.found c.in_ok-inner.ensures)
+    (expression_at (c.args.levels - 1) ts) c.nested.ensures.found c.in_ok-inner.ensures)
 
 pub converted-returns-in_err-inner-clause-found : goal.converted-returns-in_err-inner-clause-found
 converted-returns-in_err-inner-clause-found t c =
     let ts = terminals_of c.args.tokens.now in
     let p = err_from_is_err_and c.from_residual.result c.from_residual.ensures.1 in
     rw (p.1, p.2) (fails_on _ _ _ (λ none. converted_fails (operand_within c.args.levels) c.args.to ts
-        (operand_below c.args.levels ts (omega arith) ∙ none)) c.in_err-inner.ensures.found)
+    (operand_below c.args.levels ts (omega arith) ∙ none)) c.in_err-inner.ensures.found)
 
 pub converted-returns-clause-found : goal.converted-returns-clause-found
 converted-returns-clause-found t c =
     let ts = terminals_of c.args.tokens.now in
     let found = converted_found (operand_within c.args.levels) c.args.to ts _ _
-        (operand_below c.args.levels ts (omega arith) ∙ c.in_ok-inner.ensures.found) in
+    (operand_below c.args.levels ts (omega arith) ∙ c.in_ok-inner.ensures.found) in
     rw view-Converted (rw c.in_ok-operand.ensures.ok found)
 
 pub deeper-returns-then-levels-eq0-clause-found : goal.deeper-returns-then-levels-eq0-clause-found

@@ -13,15 +13,15 @@ pub returns-in_err-first-clause-found : goal.returns-in_err-first-clause-found
 returns-in_err-first-clause-found c =
     let p = err_from_is_err_and c.from_residual.result c.from_residual.ensures.1 in
     rw (p.1, p.2) (fails_on _ _ _ (λ none. list_stops (expression_at 64) (terminals_of c.args.tokens.now) none)
-        c.in_err-first.ensures.found)
+    c.in_err-first.ensures.found)
 
 pub loop-after-init : goal.loop-after-init
 loop-after-init c = record {
   within = c.in_ok-first.ensures.within;
   reads =
       let begun = list_begins (expression_at 64) (terminals_of c.args.tokens.now)
-          (terminals_of c.in_ok-first.rest.now) (expression_of c.in_ok-first.first) c.in_ok-first.ensures.found
-          (no_more c.in_ok-first.rest.now c.args.tokens.now c.in_ok-first.ensures.within) in
+      (terminals_of c.in_ok-first.rest.now) (expression_of c.in_ok-first.first) c.in_ok-first.ensures.found
+      (no_more c.in_ok-first.rest.now c.args.tokens.now c.in_ok-first.ensures.within) in
       rw (c.in_ok-push.ensures.items, c.new-found.ensures.items) begun;
 }
 
@@ -31,7 +31,7 @@ returns-in_err-next-clause-found c =
     rw (p.1, p.2)
     (fails_on _ _ _
     (λ none. list_fails (expression_at 64) (terminals_of c.args.tokens.now) (terminals_of c.loop-after.rest.now)
-        (terminals_of c.in-Some.after.now) _ (sym c.in-Some.ensures.behind) none c.loop-after.invariant.reads)
+    (terminals_of c.in-Some.after.now) _ (sym c.in-Some.ensures.behind) none c.loop-after.invariant.reads)
     c.in_err-next.ensures.found)
 
 pub loop-after-preserved : goal.loop-after-preserved
@@ -40,8 +40,8 @@ loop-after-preserved c = record {
   reads =
       let going =
       list_goes_on (expression_at 64) (terminals_of c.args.tokens.now) (terminals_of c.loop-after.rest.now)
-          (terminals_of c.in-Some.after.now) (terminals_of c.in_ok-next.behind.now)
-          (map expression_of c.loop-after.found.items) (expression_of c.in_ok-next.next)
+      (terminals_of c.in-Some.after.now) (terminals_of c.in_ok-next.behind.now)
+      (map expression_of c.loop-after.found.items) (expression_of c.in_ok-next.next)
       (sym c.in-Some.ensures.behind)
       c.in_ok-next.ensures.found
       (no_more c.in_ok-next.behind.now c.in-Some.after.now c.in_ok-next.ensures.within)

@@ -24,7 +24,7 @@ returns-in_err-rest c =
     let p = err_from_is_err_and c.from_residual.result c.from_residual.ensures.1 in
     rw (p.1, p.2)
     (passed_on _ _ _ (λ none. program_fails (rows_of c.args.lines.now) (map item_of l.found.items) first after none
-        reads)
+    reads)
     (pushed_lost (λ x. (item_of x.0, rows_of x.1.now)) c.item.result l.found.items c.push.new.found.items _ _
     c.in_err-rest.ensures c.item.ensures.found))
 
@@ -37,7 +37,7 @@ loop-next-preserved c =
     let items = map item_of l.found.items in
     let reads = rw c.in-Some-next.is at l.invariant in
     let left = left_is c.in_ok-rest.rest.now c.split_first-next-in-Some-next.result
-        c.split_first-next-in-Some-next.ensures.cases in
+    c.split_first-next-in-Some-next.ensures.cases in
     let x =
     pushed_found item_of c.item.result l.found.items c.push.new.found.items c.in_ok-rest.rest
     (length c.in-Some-next.after.now) _ c.in_ok-rest.ensures c.item.ensures.found c.item.ensures.within
@@ -51,7 +51,7 @@ pub loop-next-smaller : goal.loop-next-smaller
 loop-next-smaller c =
     let l = c.loop-next in
     let left = left_len_is c.in_ok-rest.rest.now c.split_first-next-in-Some-next.result
-        c.split_first-next-in-Some-next.ensures.cases in
+    c.split_first-next-in-Some-next.ensures.cases in
     let x =
     pushed_found item_of c.item.result l.found.items c.push.new.found.items c.in_ok-rest.rest
     (length c.in-Some-next.after.now) _ c.in_ok-rest.ensures c.item.ensures.found c.item.ensures.within

@@ -23,7 +23,7 @@ returns-in_err-body-clause-found c =
     let rows = rows_of c.args.lines.now in
     let head = c.in_ok-head.head in
     let read = told_found proc_head_of c.proc_head.result head (proc_head_at ts) c.in_ok-head.ensures
-        c.proc_head.ensures in
+    c.proc_head.ensures in
     let is = procedure_is c.args.line ts rows (proc_head_of head) read in
     let p = err_from_is_err_and c.from_residual-in_err-body.result c.from_residual-in_err-body.ensures.1 in
     rw (p.1, p.2)
@@ -37,10 +37,10 @@ returns-clause-found c =
     let head = c.in_ok-head.head in
     let y = c.in_ok-body in
     let read = told_found proc_head_of c.proc_head.result head (proc_head_at ts) c.in_ok-head.ensures
-        c.proc_head.ensures in
+    c.proc_head.ensures in
     let is = procedure_is c.args.line ts rows (proc_head_of head) read in
     ap as_item (is ∙ body_found c.args.line (proc_head_of head) c.process.result (y.body, y.rest) _ y.ensures
-        c.process.ensures.found)
+    c.process.ensures.found)
 
 pub returns-clause-within : goal.returns-clause-within
 returns-clause-within c =

@@ -8,4 +8,4 @@ returns-in-Ok-perform g c =
 pub returns-in-Err-perform : goal.returns-in-Err-perform
 returns-in-Err-perform g c =
     acts_failed g.F.Files.reads _ _ _ _ _ _ c.in-Err-perform.failure c.fail.result c.fail.ensures c.in-Ok.ensures.asked
-        c.in-Err-perform.ensures
+    c.in-Err-perform.ensures

@@ -14,11 +14,11 @@ unwrap-requires c =
     let parse = c.in_ok-matches.ensures in
     let is = c.in_ok-command.ensures in
     let none : fault_of tpm words ≡ [] =
-        ap (λ (a : App). fault_of a words) (sym is) ∙ parse.kinds (ap is_simple_and_free is ∙ tpm_is_free) in
+    ap (λ (a : App). fault_of a words) (sym is) ∙ parse.kinds (ap is_simple_and_free is ∙ tpm_is_free) in
     let found : subcommand_rows_of c.in_ok-matches.matches ≡ subcommand_of tpm words =
     (parse.matches (ap is_simple is ∙ tpm_is_simple)).1 ∙ ap (λ (a : App). subcommand_of a words) is in
     some_asked words c.asked.result none
-        (line_is words (subcommand_rows_of c.in_ok-matches.matches) _ none found c.asked.ensures)
+    (line_is words (subcommand_rows_of c.in_ok-matches.matches) _ none found c.asked.ensures)
 
 pub returns-clause-asked : goal.returns-clause-asked
 returns-clause-asked c =
@@ -26,11 +26,11 @@ returns-clause-asked c =
     let parse = c.in_ok-matches.ensures in
     let is = c.in_ok-command.ensures in
     let none : fault_of tpm words ≡ [] =
-        ap (λ (a : App). fault_of a words) (sym is) ∙ parse.kinds (ap is_simple_and_free is ∙ tpm_is_free) in
+    ap (λ (a : App). fault_of a words) (sym is) ∙ parse.kinds (ap is_simple_and_free is ∙ tpm_is_free) in
     let found : subcommand_rows_of c.in_ok-matches.matches ≡ subcommand_of tpm words =
     (parse.matches (ap is_simple is ∙ tpm_is_simple)).1 ∙ ap (λ (a : App). subcommand_of a words) is in
     line_is words (subcommand_rows_of c.in_ok-matches.matches) _ none found c.asked.ensures
-        ∙ ap (option_map asked_of) c.unwrap.ensures
+    ∙ ap (option_map asked_of) c.unwrap.ensures
 
 pub returns-in_err-matches-clause-fault : goal.returns-in_err-matches-clause-fault
 returns-in_err-matches-clause-fault c =
@@ -40,5 +40,5 @@ returns-in_err-matches-clause-fault c =
     let made = err_from_is_err_and c.from_residual-in_err-matches.result c.from_residual-in_err-matches.ensures.1 in
     let has : HasKind (fault_of tpm words) c.in_err-matches.field-0.0 =
     subst (λ (a : App). HasKind (fault_of a words) c.in_err-matches.field-0.0) is
-        (parse.kinds (ap is_simple_and_free is ∙ tpm_is_free)) in
+    (parse.kinds (ap is_simple_and_free is ∙ tpm_is_free)) in
     rw made.1 (misused words c.in_err-matches.field-0.0 made.0 has made.2)

@@ -34,11 +34,11 @@ loop-goes_on-smaller c =
     let here = c.loop-goes_on.invariant.at in
     let stepped = c.in_ok-goes_on.ensures in
     let later =
-        at_next c.args.module.now c.loop-goes_on.machine c.step.new.machine here stepped.contents stepped.world in
+    at_next c.args.module.now c.loop-goes_on.machine c.step.new.machine here stepped.contents stepped.world in
     falls c.args.module.now.budget _ _ c.loop-goes_on.goes_on c.in_ok-goes_on.goes_on c.loop-goes_on-test.true
-        stepped.ran
+    stepped.ran
     (λ ended.
-        ap (λ (w : World). w.counters.executed)
-        (idle_count c.args.module.now c.loop-goes_on.machine c.step.new.machine here.contents stepped.world
-        (stepped.idle ended)))
+    ap (λ (w : World). w.counters.executed)
+    (idle_count c.args.module.now c.loop-goes_on.machine c.step.new.machine here.contents stepped.world
+    (stepped.idle ended)))
     (within c.args.module.now c.step.new.machine c.requires.well later)

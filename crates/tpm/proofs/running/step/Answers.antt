@@ -16,8 +16,8 @@ returns-after-matches-clause-ran c = elim c.match-matches.branch [
   | in-Idle w ↦ λ goes_on. absurd (not_both c.match-matches.matches w.matches-is goes_on)
   | in_default w ↦ λ goes_on.
       let more =
-          one_more _ _ (shown c.in-Ok.effect) c.in-Ok.ensures.answer (not_idle c.in-Ok.effect w.in_default.not-Idle) in
+      one_more _ _ (shown c.in-Ok.effect) c.in-Ok.ensures.answer (not_idle c.in-Ok.effect w.in_default.not-Idle) in
       let world : c.match-matches.machine.world
-          ≡ happens c.args.machine.now.contents c.args.machine.now.world plain_step = search rules in
+      ≡ happens c.args.machine.now.contents c.args.machine.now.world plain_step = search rules in
       ap (λ (x : World). x.counters.executed) world ∙ more
 ]

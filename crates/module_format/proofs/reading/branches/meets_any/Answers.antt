@@ -20,17 +20,17 @@ returns-in-Some c =
     let n = c.partition_point-first.result in
     let d = c.in-Some.other.now in
     let point = IsPartitionPoint-from_clause (λ (w : Interval).
-        int_le w.hi i.lo) ws n c.partition_point-first.ensures.partitioned
-        (λ j k e. parted e i least_word ws c.requires j k) (λ a r f' k. search rules) in
+    int_le w.hi i.lo) ws n c.partition_point-first.ensures.partitioned
+    (λ j k e. parted e i least_word ws c.requires j k) (λ a r f' k. search rules) in
     let inside : n < length ws = ltb-true n (length ws) (sym c.in-Some.ensures.lookup.0) in
     let here : get_or ws n d ≡ d = sym c.in-Some.ensures.lookup.1 in
     let lo_fits : FitsSigned w32 d.lo = search rules in
     let hi_fits : FitsSigned w32 i.hi = search rules in
     let one : int_lt (get_or ws n d).lo i.hi ≡ list_any (meet i) ws =
-        one_tells d i least_word ws n c.requires inside (λ k lt. point.0 k d (omega arith) lt)
-        (point.1 n d (omega arith) inside) in
+    one_tells d i least_word ws n c.requires inside (λ k lt. point.0 k d (omega arith) lt)
+    (point.1 n d (omega arith) inside) in
     let told : int_lt d.lo i.hi ≡ list_any (meet i) ws =
-        subst (λ (w : Interval). int_lt w.lo i.hi ≡ list_any (meet i) ws) here one in
+    subst (λ (w : Interval). int_lt w.lo i.hi ≡ list_any (meet i) ws) here one in
     rw (to_z-of_z w32 d.lo lo_fits, to_z-of_z w32 i.hi hi_fits) told
 
 pub returns-in-None : goal.returns-in-None
@@ -40,7 +40,7 @@ returns-in-None c =
     let ws = c.args.others.now in
     let n = c.partition_point-first.result in
     let point = IsPartitionPoint-from_clause (λ (w : Interval).
-        int_le w.hi i.lo) ws n c.partition_point-first.ensures.partitioned
-        (λ j k e. parted e i least_word ws c.requires j k) (λ a r f' k. search rules) in
+    int_le w.hi i.lo) ws n c.partition_point-first.ensures.partitioned
+    (λ j k e. parted e i least_word ws c.requires j k) (λ a r f' k. search rules) in
     let past : length ws ≤ n = ltb-false n (length ws) (sym c.in-None.ensures.lookup.0) in
     none_tells none i ws (λ k lt. point.0 k none (omega arith) (omega arith))

@@ -13,6 +13,6 @@ returns-clause-rise c = λ still.
     let new = c.fill.new.from in
     let took = rw (c.from.ensures, map-id _) at c.fill.ensures.takes.took in
     (took_has
-        (list_at (words_at from.size) behind_interval c.args.count least_word) from.failure from.rest.now
-        c.fill.new.items.items new.failure new.rest.now still took
+    (list_at (words_at from.size) behind_interval c.args.count least_word) from.failure from.rest.now
+    c.fill.new.items.items new.failure new.rest.now still took
     (writes_take from.size c.args.count from.rest.now from.fits)).keeps.1

@@ -10,8 +10,14 @@ late_list-requires c =
     let row = c.args.row.now in
     let size = label_size (label_of row) in
     rw (c.deref.ensures.value, map-id row.entries.items)
-        (omega (arith, size, c.fact_size.ensures.value, c.fact_size-2.ensures.value, c.fact_size-3.ensures.value,
-        c.requires))
+    (omega (
+      arith,
+      size,
+      c.fact_size.ensures.value,
+      c.fact_size-2.ensures.value,
+      c.fact_size-3.ensures.value,
+      c.requires,
+    ))
 
 pub returns-clause-behind : goal.returns-clause-behind
 returns-clause-behind c =
@@ -19,5 +25,11 @@ returns-clause-behind c =
     let size = label_size (label_of row) in
     let behind = rw (c.deref.ensures.value, map-id row.entries.items) at c.late_list.ensures.behind in
     ok_weaker c.late_list.result behind
-        (λ end e. omega (arith, e, size, c.fact_size.ensures.value, c.fact_size-2.ensures.value,
-        c.fact_size-3.ensures.value))
+    (λ end e. omega (
+      arith,
+      e,
+      size,
+      c.fact_size.ensures.value,
+      c.fact_size-2.ensures.value,
+      c.fact_size-3.ensures.value,
+    ))

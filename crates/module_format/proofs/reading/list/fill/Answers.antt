@@ -34,9 +34,9 @@ returns-then-has_failed-2-clause-takes g c =
       same = c.read-item.ensures.takes.same ∙ so_far.size;
       took = took_after _ from.failure from.rest.now xs left.failure left.rest.now unfailed
           (stops item R.behind c.loop.from.failure left.failure xs c.args.count c.loop.counter
-              (R.state c.loop.reader) c.loop.from.rest.now (R.view c.read-item.result) left.rest.now xs
+          (R.state c.loop.reader) c.loop.from.rest.now (R.view c.read-item.result) left.rest.now xs
           (list_at item R.behind c.args.count
-              (R.state c.args.reader.now) from.rest.now) c.loop-test.true so_far.unfailed failed took so_far.gives);
+          (R.state c.args.reader.now) from.rest.now) c.loop-test.true so_far.unfailed failed took so_far.gives);
     }
 
 pub loop-preserved : goal.loop-preserved
@@ -51,8 +51,8 @@ loop-preserved g c =
     let read = map R.view (g.L.Items.items c.loop.items) in
     let x = R.view c.read-item.result in
     let one =
-        taken item R.behind c.loop.from.failure
-        (R.state c.loop.reader) c.loop.from.rest.now x left.failure left.rest.now so_far.unfailed still took in
+    taken item R.behind c.loop.from.failure
+    (R.state c.loop.reader) c.loop.from.rest.now x left.failure left.rest.now so_far.unfailed still took in
     let more = map-append R.view (g.L.Items.items c.loop.items) (c.read-item.result ∷ []) in
     let added = when_ok c.add.result (sym c.is_err.ensures.value ∙ c.if-is_err.false) c.add.ensures in
     let next = c.read-item.ensures.next still in
@@ -63,7 +63,7 @@ loop-preserved g c =
       gives = rw (added, more, next) (goes_on item R.behind read c.args.count c.loop.counter
           (R.state c.loop.reader) c.loop.from.rest.now x left.rest.now
           (list_at item R.behind c.args.count
-              (R.state c.args.reader.now) from.rest.now) c.loop-test.true one so_far.gives);
+          (R.state c.args.reader.now) from.rest.now) c.loop-test.true one so_far.gives);
       last = rw (added, more, next, so_far.last, behind_last R.behind (R.state c.args.reader.now) read x) refl;
     }
 
@@ -81,5 +81,5 @@ returns-clause-takes g c =
           (took_all xs c.loop.from.failure c.loop.from.rest.now so_far.unfailed
           (is_done item R.behind xs c.args.count c.loop.counter (R.state c.loop.reader) c.loop.from.rest.now
           (list_at item R.behind c.args.count
-              (R.state c.args.reader.now) from.rest.now) c.loop-test.false so_far.gives));
+          (R.state c.args.reader.now) from.rest.now) c.loop-test.false so_far.gives));
     }

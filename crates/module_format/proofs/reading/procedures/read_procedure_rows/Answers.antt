@@ -14,7 +14,7 @@ returns-clause-rise c = λ still.
     let rows = c.fill.new.items.items in
     let taken = procedures_take from.size c.args.version c.args.code_len c.args.count from.rest.now from.fits in
     let kept =
-        took_has (procedure_rows_at from.size c.args.version c.args.code_len c.args.count) from.failure from.rest.now
+    took_has (procedure_rows_at from.size c.args.version c.args.code_len c.args.count) from.failure from.rest.now
     (map procedure_of rows) new.failure new.rest.now still
     c.fill.ensures.takes.took taken in
     rows_rise c.args.version c.args.code_len rows kept.keeps.1

@@ -21,8 +21,8 @@ returns c =
     let e3 = grows old p2 (u16_bytes (length row.writes.items)) e2 (rw c.len.ensures.value at c.u16.ensures) in
     let e4 = grows old p3 (u16_bytes (length row.reads.items)) e3 (rw c.len-2.ensures.value at c.u16-2.ensures) in
     let e5 = grows old p4 (u16_bytes (length row.written_parameters.items)) e4
-        (rw c.len-3.ensures.value at c.u16-3.ensures) in
+    (rw c.len-3.ensures.value at c.u16-3.ensures) in
     let e6 = grows old p5 (u16_bytes (length row.read_parameters.items)) e5
-        (rw c.len-4.ensures.value at c.u16-4.ensures) in
+    (rw c.len-4.ensures.value at c.u16-4.ensures) in
     let len : vec_len row.ends ≡ length row.ends.items = omega (arith, row.ends.ok.0) in
     grows old p6 (u16_bytes (length row.ends.items)) e6 (rw (c.len-5.ensures, len) at c.u16-5.ensures)

@@ -9,4 +9,4 @@ returns-clause-taken c = λ still.
     let self = c.args.self.now in
     let before : Before = record { low = self.low; entries = self.taken.entries.items } in
     ap (λ (s : Before). s.entries) (c.fill.ensures.last still)
-        ∙ behind_branches before (map branch_of c.fill.new.items.items)
+    ∙ behind_branches before (map branch_of c.fill.new.items.items)

@@ -28,15 +28,29 @@ overflow_mul-written-2 c =
 pub overflow_add-written-3 : goal.overflow_add-written-3
 overflow_add-written-3 c =
     let b = branch_of c.args.self.now in
-    omega (arith, branch_size b, intervals_size b.writes, intervals_size b.reads, c.len.ensures.value,
-        c.len-2.ensures.value, c.requires)
+    omega (
+      arith,
+      branch_size b,
+      intervals_size b.writes,
+      intervals_size b.reads,
+      c.len.ensures.value,
+      c.len-2.ensures.value,
+      c.requires,
+    )
 
 pub late_list-requires : goal.late_list-requires
 late_list-requires c =
     let b = branch_of c.args.self.now in
     rw (c.deref.ensures, map-id b.written_parameters)
-    (omega (arith, branch_size b, intervals_size b.writes, intervals_size b.reads, c.len.ensures.value,
-        c.len-2.ensures.value, c.requires))
+    (omega (
+      arith,
+      branch_size b,
+      intervals_size b.writes,
+      intervals_size b.reads,
+      c.len.ensures.value,
+      c.len-2.ensures.value,
+      c.requires,
+    ))
 
 pub returns-in_err-read-clause-gives : goal.returns-in_err-read-clause-gives
 unfolding late_branch
@@ -44,7 +58,7 @@ returns-in_err-read-clause-gives c =
     let b = branch_of c.args.self.now in
     let p = err_from_is_err_and c.from_residual.result c.from_residual.ensures.1 in
     let place : c.args.at + 18 + 8 * c.len.result + 8 * c.len-2.result
-        ≡ c.args.at + 18 + length (flat_map interval_bytes b.writes) + length (flat_map interval_bytes b.reads)
+    ≡ c.args.at + 18 + length (flat_map interval_bytes b.writes) + length (flat_map interval_bytes b.reads)
     = omega (arith, intervals_size b.writes, intervals_size b.reads, c.len.ensures.value, c.len-2.ensures.value) in
     let first = rw (c.deref.ensures, map-id b.written_parameters, place) at c.in_err-read.ensures.gives in
     rw (p.1, p.2) (tells_err c.in_err-read.field-0.0 _ first)
@@ -54,8 +68,16 @@ late_list-requires-2 c =
     let b = branch_of c.args.self.now in
     let read = rw (c.deref.ensures, map-id b.written_parameters) at c.in_ok-read.ensures.behind in
     rw (c.deref-2.ensures, map-id b.read_parameters)
-    (omega (arith, read, branch_size b, intervals_size b.writes, intervals_size b.reads, c.len.ensures.value,
-        c.len-2.ensures.value, c.requires))
+    (omega (
+      arith,
+      read,
+      branch_size b,
+      intervals_size b.writes,
+      intervals_size b.reads,
+      c.len.ensures.value,
+      c.len-2.ensures.value,
+      c.requires,
+    ))
 
 pub returns-in_err-ends-clause-gives : goal.returns-in_err-ends-clause-gives
 unfolding late_branch
@@ -63,7 +85,7 @@ returns-in_err-ends-clause-gives c =
     let b = branch_of c.args.self.now in
     let p = err_from_is_err_and c.from_residual-in_err-ends.result c.from_residual-in_err-ends.ensures.1 in
     let place : c.args.at + 18 + 8 * c.len.result + 8 * c.len-2.result
-        ≡ c.args.at + 18 + length (flat_map interval_bytes b.writes) + length (flat_map interval_bytes b.reads)
+    ≡ c.args.at + 18 + length (flat_map interval_bytes b.writes) + length (flat_map interval_bytes b.reads)
     = omega (arith, intervals_size b.writes, intervals_size b.reads, c.len.ensures.value, c.len-2.ensures.value) in
     let first = rw (c.deref.ensures, map-id b.written_parameters, place) at c.in_ok-read.ensures.gives in
     let read = rw (c.deref.ensures, map-id b.written_parameters, place) at c.in_ok-read.ensures.behind in
@@ -76,15 +98,24 @@ late_list-requires-3 c =
     let read = rw (c.deref.ensures, map-id b.written_parameters) at c.in_ok-read.ensures.behind in
     let ends = rw (c.deref-2.ensures, map-id b.read_parameters) at c.in_ok-ends.ensures.behind in
     rw (c.deref-3.ensures.value, map-id b.ends)
-    (omega (arith, read, ends, branch_size b, intervals_size b.writes, intervals_size b.reads, c.len.ensures.value,
-        c.len-2.ensures.value, c.requires))
+    (omega (
+      arith,
+      read,
+      ends,
+      branch_size b,
+      intervals_size b.writes,
+      intervals_size b.reads,
+      c.len.ensures.value,
+      c.len-2.ensures.value,
+      c.requires,
+    ))
 
 pub returns-clause-gives : goal.returns-clause-gives
 unfolding late_branch
 returns-clause-gives c =
     let b = branch_of c.args.self.now in
     let place : c.args.at + 18 + 8 * c.len.result + 8 * c.len-2.result
-        ≡ c.args.at + 18 + length (flat_map interval_bytes b.writes) + length (flat_map interval_bytes b.reads)
+    ≡ c.args.at + 18 + length (flat_map interval_bytes b.writes) + length (flat_map interval_bytes b.reads)
     = omega (arith, intervals_size b.writes, intervals_size b.reads, c.len.ensures.value, c.len-2.ensures.value) in
     let first = rw (c.deref.ensures, map-id b.written_parameters, place) at c.in_ok-read.ensures.gives in
     let read = rw (c.deref.ensures, map-id b.written_parameters, place) at c.in_ok-read.ensures.behind in
@@ -100,5 +131,14 @@ returns-clause-behind c =
     let ends = rw (c.deref-2.ensures, map-id b.read_parameters) at c.in_ok-ends.ensures.behind in
     let behind = rw (c.deref-3.ensures.value, map-id b.ends) at c.late_list-3.ensures.behind in
     ok_weaker c.late_list-3.result behind
-    (λ end e. omega (arith, e, read, ends, branch_size b, intervals_size b.writes, intervals_size b.reads,
-        c.len.ensures.value, c.len-2.ensures.value))
+    (λ end e. omega (
+      arith,
+      e,
+      read,
+      ends,
+      branch_size b,
+      intervals_size b.writes,
+      intervals_size b.reads,
+      c.len.ensures.value,
+      c.len-2.ensures.value,
+    ))

@@ -20,8 +20,14 @@ overflow_add-branches-2 c =
 pub late_list-requires : goal.late_list-requires
 late_list-requires c =
     let row = par_of c.args.self.now in
-    rw c.deref.ensures.value (omega (arith, par_size row, channels_size row.channels, c.len.ensures,
-        c.args.self.now.channels.ok.0, c.requires))
+    rw c.deref.ensures.value (omega (
+      arith,
+      par_size row,
+      channels_size row.channels,
+      c.len.ensures,
+      c.args.self.now.channels.ok.0,
+      c.requires,
+    ))
 
 pub returns-clause-gives : goal.returns-clause-gives
 unfolding late_par
@@ -36,5 +42,11 @@ returns-clause-behind c =
     let row = par_of c.args.self.now in
     let behind = rw c.deref.ensures.value at c.late_list.ensures.behind in
     ok_weaker c.late_list.result behind
-        (λ end e. omega (arith, e, par_size row, channels_size row.channels, c.len.ensures,
-        c.args.self.now.channels.ok.0))
+    (λ end e. omega (
+      arith,
+      e,
+      par_size row,
+      channels_size row.channels,
+      c.len.ensures,
+      c.args.self.now.channels.ok.0,
+    ))

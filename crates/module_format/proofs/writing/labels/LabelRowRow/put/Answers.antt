@@ -31,4 +31,4 @@ returns c =
     let len : vec_len row.entries ≡ length row.entries.items = omega (arith, row.entries.ok.0) in
     let e8 = grows old p7 (u16_bytes (length row.entries.items)) e7 (rw (c.len.ensures, len) at c.u16-2.ensures) in
     grows old p8 (flat_map entry_bytes row.entries.items) e8
-        (rw (c.deref.ensures.value, map-id row.entries.items) at c.put_all.ensures)
+    (rw (c.deref.ensures.value, map-id row.entries.items) at c.put_all.ensures)

@@ -31,8 +31,8 @@ returns c =
     let mapped : length branches ≡ length row.branches.items = rw length-map refl in
     let branch_count : vec_len row.branches ≡ length branches = omega (arith, row.branches.ok.0, mapped) in
     let e5 = grows old p4 (u16_bytes (length row.channels.items)) e4
-        (rw (c.len.ensures, channel_count) at c.u16-2.ensures) in
+    (rw (c.len.ensures, channel_count) at c.u16-2.ensures) in
     let e6 = grows old p5 (u16_bytes (length branches)) e5 (rw (c.len-2.ensures, branch_count) at c.u16-3.ensures) in
     let e7 = grows old p6 (flat_map channel_bytes row.channels.items) e6
-        (rw (c.deref.ensures.value, map-id row.channels.items) at c.put_all.ensures) in
+    (rw (c.deref.ensures.value, map-id row.channels.items) at c.put_all.ensures) in
     grows old p7 (flat_map branch_bytes branches) e7 (rw c.deref-2.ensures.value at c.put_all-2.ensures)

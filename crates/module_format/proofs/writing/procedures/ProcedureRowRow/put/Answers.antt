@@ -26,4 +26,4 @@ returns c =
     let len : vec_len row.parameters ≡ length row.parameters.items = omega (arith, row.parameters.ok.0) in
     let e5 = grows old p4 (u16_bytes (length row.parameters.items)) e4 (rw (c.len.ensures, len) at c.u16.ensures) in
     grows old p5 (flat_map (parameter_bytes c.args.version) row.parameters.items) e5
-        (rw (c.deref.ensures.value, map-id row.parameters.items) at c.put_all.ensures)
+    (rw (c.deref.ensures.value, map-id row.parameters.items) at c.put_all.ensures)
