@@ -1,6 +1,6 @@
 -- The rules, one test behind another.
 use Rattle.std.proofs.Common.{◌≡◌, ℕ, ℤ, negsuc, ◌+ℤ◌, ◌+◌, Result, Ok, Err, Option, Some, None, sym, ap, ◌∙◌, subst}
-use Rattle.std.proofs.Common.{refl, Bool, false, is_some, cond}
+use Rattle.std.proofs.Common.{refl, Bool, false, cond}
 use Rattle.prefix_decoder.specs.declared.decoding.Instr.{Instr}
 use Rattle.module_format.specs.declared.fact.Fact.{Fact}
 use Rattle.module_format.specs.declared.fact.Fact.TheVariants.{Unknown, Number}

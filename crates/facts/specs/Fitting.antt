@@ -13,7 +13,7 @@ use Rattle.machine_state.specs.Frame.{ChangesOwn}
 use Rattle.machine_state.specs.LocalStep as step
 use Rattle.machine_state.specs.Memory.{data_start}
 use Rattle.machine_state.specs.Site as steps
-use Rattle.machine_state.specs.Site.{Outcome, goes, jumps, stops, fails, Local}
+use Rattle.machine_state.specs.Site.{Outcome, goes, jumps, stops, Local}
 use Rattle.states.specs.declared.rule.Rule.{Rule}
 use Rattle.states.specs.State.{State, label_state}
 use Rattle.facts.specs.Rules as rule

@@ -1,11 +1,10 @@
 -- An event that reports a fault leaves it in the world.
-use Rattle.std.proofs.Common.{◌≡◌, ℕ, ◌+◌, ◌&&◌, Bool, is_some, true, false, if◌then◌else◌, nat_le, nat_lt, ℤ, List, []}
-use Rattle.std.proofs.Common.{◌∷◌, length}
-use Rattle.std.proofs.Common.{Option, Some, None, Result, Ok, Err, refl, sym, subst, slice_get}
+use Rattle.std.proofs.Common.{◌≡◌, ℕ, ◌+◌, ◌&&◌, Bool, is_some, true, false, if◌then◌else◌, nat_le, nat_lt, ℤ, List}
+use Rattle.std.proofs.Common.{length}
+use Rattle.std.proofs.Common.{Option, Some, None, Result, Ok, Err, refl, subst, slice_get}
 use Rattle.std.specs.Prelude.{⊤, ◌==◌}
 use Rattle.prefix_decoder.specs.declared.function.Fun.{Fun}
-use Rattle.prefix_decoder.specs.Functions.{fun_of, function_code, nibble}
-use Rattle.prefix_decoder.specs.Operand.{with_nibble, after_prefix}
+use Rattle.prefix_decoder.specs.Functions.{fun_of, function_code}
 use Rattle.module_format.specs.Contents.{Contents}
 use Rattle.machine_state.specs.declared.process.Task.{Task}
 use Rattle.machine_state.specs.declared.event.Event.{Event}
@@ -37,11 +36,11 @@ use Rattle.machine_state.specs.Alternations.{channel_enabled, channel_disabled, 
 use Rattle.machine_state.specs.Joins.{Found, branch_at, first_fault, no_row_faults, start_or_fail, first_start}
 use Rattle.machine_state.specs.Joins.{later_start, opened_by, opener_of, start_turn, on_row, own_end, branch_end}
 use Rattle.machine_state.specs.Joins.{join_turn, first_plan, later_plan, first_faults, later_faults, started, opened}
-use Rattle.machine_state.specs.Moves.{dispatch, enqueue, leave, put, counted, link_index, with_input, with_output}
+use Rattle.machine_state.specs.Moves.{dispatch, counted, link_index, with_input, with_output}
 use Rattle.machine_state.specs.Moves.{fill, rouse, wake, channel_at}
 use Rattle.machine_state.specs.Happens.{Effect, Turn, answered, ran, idle, ignored, taken, kept, busy, acknowledged}
-use Rattle.machine_state.specs.Happens.{most_executed, failed, between, settled, prefix_turn, site_of, byte_turn}
-use Rattle.machine_state.specs.Happens.{task_turn, step_turn, arrive_at, arrive_turn, acknowledge_turn, event_turn}
+use Rattle.machine_state.specs.Happens.{most_executed, failed, settled, prefix_turn, site_of, byte_turn}
+use Rattle.machine_state.specs.Happens.{task_turn, arrive_at, event_turn}
 use Rattle.machine_state.specs.Happens.{turn, turn_by}
 
 abbrev StaysIfFault : Result Effect Fault → World → Type 0

@@ -1,11 +1,11 @@
 -- An instruction changes no byte but those that its process may write: one lemma for each combinator, then one line
 -- an instruction.
-use Rattle.std.proofs.Common.{◌≡◌, ◌≢◌, ◌^◌, ◌-◌, ℕ, zero, suc, ◌+◌, ◌*◌, ◌%◌, ◌≤◌, ◌<◌, ℤ, pos, negsuc, Bool, true}
+use Rattle.std.proofs.Common.{◌≡◌, ◌≢◌, ◌^◌, ◌-◌, ℕ, zero, suc, ◌+◌, ◌%◌, ◌≤◌, ◌<◌, ℤ, pos, negsuc, Bool, true}
 use Rattle.std.proofs.Common.{false}
-use Rattle.std.proofs.Common.{◌&&◌, ◌||◌}
-use Rattle.std.proofs.Common.{cond, not, ◌⊎◌, inl, inr, Option, Some, None, refl, sym, ap, ◌∙◌, ltb, arith, int_lt}
+use Rattle.std.proofs.Common.{◌&&◌}
+use Rattle.std.proofs.Common.{cond, ◌⊎◌, inl, inr, Option, Some, None, refl, sym, ap, ◌∙◌, ltb, arith, int_lt}
 use Rattle.std.proofs.Common.{int_le}
-use Rattle.std.proofs.lemmas.Bool.{cases_lt, cases_eq}
+use Rattle.std.proofs.lemmas.Bool.{cases_lt}
 use Rattle.std.specs.Prelude.{nat_abs, ◌==◌}
 use Rattle.module_format.specs.declared.rows.Direction.{Direction}
 use Rattle.module_format.specs.declared.rows.Direction.TheVariants.{In, Out}
@@ -21,7 +21,7 @@ use Rattle.machine_state.specs.declared.instruction.Instruction.{Instruction}
 use Rattle.machine_state.specs.declared.instruction.Instruction.TheVariants as instructions
 use Rattle.machine_state.specs.Instructions.{instruction_of}
 use Rattle.machine_state.specs.Memory.{Memory, place_of, local_address, word_at, with_word, byte_at, with_byte}
-use Rattle.machine_state.specs.Holding.{Holding, may_write, may_read, may_write_word, may_read_word, has_end}
+use Rattle.machine_state.specs.Holding.{Holding, may_write, may_read, may_write_word, may_read_word}
 use Rattle.machine_state.specs.Spans.{all_places}
 use Rattle.machine_state.specs.LocalStep as step
 use Rattle.machine_state.specs.Site.{Site, Local, Outcome, goes, jumps, lands, stops, fails, ends_alternation}

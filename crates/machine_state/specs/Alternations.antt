@@ -1,13 +1,11 @@
 -- Alternations: what a process enables, waits for and disables.
-use Rattle.std.specs.Prelude.{ℕ, ◌+◌, ◌==◌, nat_lt, Bool, true, false, ◌&&◌, ◌||◌, not, if◌then◌else◌, ℤ, pos, List}
+use Rattle.std.specs.Prelude.{ℕ, ◌==◌, nat_lt, Bool, true, false, ◌||◌, if◌then◌else◌, ℤ, pos}
 use Rattle.std.specs.Prelude.{length}
-use Rattle.std.specs.Prelude.{Option, Some, None, is_some, is_none, slice_get}
+use Rattle.std.specs.Prelude.{Option, Some, None, is_some, slice_get}
 use Rattle.std.specs.List.{list_any}
-use Rattle.module_format.specs.Contents.{Contents}
 use Rattle.machine_state.specs.declared.fault.FaultKind.TheVariants.{AlternationOrder, OutsideCode, EndNotHeld}
-use Rattle.machine_state.specs.declared.process.Task.{Task}
 use Rattle.machine_state.specs.declared.process.Mode.{Mode}
-use Rattle.machine_state.specs.declared.process.Mode.TheVariants.{Plain, Enabling, Disabling, Starting}
+use Rattle.machine_state.specs.declared.process.Mode.TheVariants.{Plain, Enabling, Disabling}
 use Rattle.machine_state.specs.declared.process.Condition.TheVariants.{Alternating}
 use Rattle.machine_state.specs.declared.process.Channel.{Channel}
 use Rattle.machine_state.specs.declared.link.InputLink.{InputLink}

@@ -1,18 +1,15 @@
 -- Messages: over internal channels, where the first process to come waits for the second, and over links.
-use Rattle.std.specs.Prelude.{ℕ, zero, suc, ◌+◌, ◌*◌, ◌%◌, ◌^◌, ◌==◌, nat_lt, Bool, if◌then◌else◌, ℤ, pos, List, []}
+use Rattle.std.specs.Prelude.{ℕ, zero, suc, ◌+◌, ◌==◌, if◌then◌else◌, List, []}
 use Rattle.std.specs.Prelude.{◌∷◌}
-use Rattle.std.specs.Prelude.{length, Option, Some, None, slice_get, slice_index_or, Result, Ok, Err}
+use Rattle.std.specs.Prelude.{length, Option, Some, None, slice_get}
 use Rattle.std.specs.Option.{unwrap_or}
-use Rattle.module_format.specs.Contents.{Contents, link_length}
-use Rattle.machine_state.specs.declared.fault.FaultKind.{FaultKind}
-use Rattle.machine_state.specs.declared.fault.FaultKind.TheVariants.{OutsideCode, UnequalLengths, EndNotHeld}
+use Rattle.module_format.specs.Contents.{link_length}
+use Rattle.machine_state.specs.declared.fault.FaultKind.TheVariants.{UnequalLengths, EndNotHeld}
 use Rattle.machine_state.specs.declared.link.Link.{Link}
 use Rattle.machine_state.specs.declared.link.Link.TheVariants.{Zero, One, Two, Three}
 use Rattle.machine_state.specs.Memory.{Memory, place_of, byte_at, with_byte}
-use Rattle.machine_state.specs.World.{link_words, output_word, input_word}
+use Rattle.machine_state.specs.World.{output_word, input_word}
 use Rattle.machine_state.specs.Turn.{Turn, ran, emitted, answered, Here, failed, continued, followed, waiting, left}
-use Rattle.machine_state.specs.declared.process.Registers.{Registers}
-use Rattle.machine_state.specs.declared.process.Task.{Task}
 use Rattle.machine_state.specs.declared.process.Exchange.{Exchange}
 use Rattle.machine_state.specs.declared.process.Condition.{Condition}
 use Rattle.machine_state.specs.declared.process.Condition.TheVariants.{Ready, Sending, Receiving, OnLink}
@@ -21,9 +18,9 @@ use Rattle.machine_state.specs.declared.link.InputLink.{InputLink}
 use Rattle.machine_state.specs.Site.{Local}
 use Rattle.machine_state.specs.LocalStep.{copied}
 use Rattle.machine_state.specs.World.{World}
-use Rattle.machine_state.specs.Moves.{counted, faulty, put, with_condition, leave, enqueue, wake, dispatch, channel_at}
+use Rattle.machine_state.specs.Moves.{counted, wake, channel_at}
 use Rattle.machine_state.specs.Moves.{with_channel}
-use Rattle.machine_state.specs.Moves.{with_input, with_output, fill, rouse}
+use Rattle.machine_state.specs.Moves.{with_input, with_output, rouse}
 
 -- ---- internal channels
 

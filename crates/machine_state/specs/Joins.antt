@@ -1,10 +1,10 @@
 -- PARs: branches start, each with a share of what the starter holds, and the process goes on once all are joined.
-use Rattle.std.specs.Prelude.{ℕ, zero, suc, ◌+◌, ◌-◌, ◌*◌, ◌/◌, ◌%◌, ◌^◌, ◌==◌, nat_lt, ◌&&◌, ◌||◌, not, Bool, true}
+use Rattle.std.specs.Prelude.{ℕ, ◌+◌, ◌-◌, ◌*◌, ◌%◌, ◌^◌, ◌==◌, nat_lt, ◌&&◌, ◌||◌, not, Bool, true}
 use Rattle.std.specs.Prelude.{false}
 use Rattle.std.specs.Prelude.{if◌then◌else◌, ℤ, pos, negsuc, ◌+ℤ◌, ◌-ℤ◌, ◌*ℤ◌, nat_abs, List, [], ◌∷◌, ◌++◌, map}
 use Rattle.std.specs.Prelude.{length}
-use Rattle.std.specs.Prelude.{filter, flat_map, filter_map, Option, Some, None, is_some, slice_get, slice_set}
-use Rattle.std.specs.Option.{option_map, option_and_then}
+use Rattle.std.specs.Prelude.{filter, flat_map, Option, Some, None, is_some, slice_get, slice_set}
+use Rattle.std.specs.Option.{option_map}
 use Rattle.std.specs.List.{list_any, list_all}
 use Rattle.std.specs.Int.{w32, cast_unsigned, cast_signed}
 use Rattle.word_arithmetic.specs.Word.{least_word}
@@ -20,16 +20,13 @@ use Rattle.module_format.specs.declared.rows.Direction.TheVariants.{In, Out}
 use Rattle.module_format.specs.Stack.{of_empty}
 use Rattle.module_format.specs.Contents.{Contents, Par, Branch}
 use Rattle.module_format.specs.Contexts.{parameters_at}
-use Rattle.machine_state.specs.declared.holding.Span.{Span}
 use Rattle.machine_state.specs.declared.holding.End.{End}
 use Rattle.machine_state.specs.declared.fault.FaultKind.{FaultKind}
 use Rattle.machine_state.specs.declared.fault.FaultKind.TheVariants.{EndNotHeld, NotOwn, Undefined, JoinOrder}
-use Rattle.machine_state.specs.declared.fault.FaultKind.TheVariants.{OutsideCode}
 use Rattle.machine_state.specs.Memory.{Memory, data_start, place_of, local_address, word_at, with_word}
 use Rattle.machine_state.specs.Holding.{Holding, nothing, may_write, may_read, may_write_word, may_read_word}
 use Rattle.machine_state.specs.World.{constants_start, link_words}
 use Rattle.machine_state.specs.declared.process.Task.{Task}
-use Rattle.machine_state.specs.declared.process.Mode.{Mode}
 use Rattle.machine_state.specs.declared.process.Mode.TheVariants.{Plain, Starting}
 use Rattle.machine_state.specs.declared.process.Condition.TheVariants.{Ready, Ended}
 use Rattle.machine_state.specs.declared.process.Channel.{Channel}
@@ -57,7 +54,7 @@ words_of base i = record {
   size = 4 * nat_abs (i.hi -ℤ i.lo);
 }
 
--- what parameter j is, and the address that its word holds
+-- the address that the word of parameter j held at the first start: none if it is not known
 abbrev pub address_of : List (Option ℕ) → ℕ → Option ℕ
 address_of addresses j = elim (slice_get addresses j) [ None ↦ None | Some a ↦ a ]
 
@@ -237,7 +234,7 @@ ends_are_there plan b =
     let wanted = (share_by plan b).ends in
     list_all (is_listed plan.rest.ends) wanted && differ wanted
 
--- the words that scheduling takes of the new process are written by it alone, and the share is there
+-- the words that scheduling takes of the new process are held and are its own to write, and the share is there
 abbrev pub share_is_there : ℕ → Plan → ℕ → Branch → Bool
 share_is_there n plan workspace b =
     let share = share_by plan b in

@@ -1,5 +1,5 @@
 -- What one instruction of one process finds, what it may change, and what comes of it.
-use Rattle.std.specs.Prelude.{ℕ, Bool, ℤ, Option}
+use Rattle.std.specs.Prelude.{ℕ, Bool, ℤ}
 use Rattle.machine_state.specs.declared.fault.FaultKind.{FaultKind}
 use Rattle.machine_state.specs.Memory.{Memory}
 use Rattle.machine_state.specs.Holding.{Holding}

@@ -8,7 +8,7 @@ use Rattle.machine_state.specs.declared.event.Event.TheVariants.{Step, Arrive, A
 use Rattle.machine_state.specs.declared.link.Link.TheVariants.{Zero, One as FirstLink}
 use Rattle.module_format.specs.declared.rows.EndKind.TheVariants.{FrameWord}
 use Rattle.module_format.specs.declared.rows.Direction.TheVariants.{In, Out}
-use Rattle.module_format.specs.Contents.{Par, Branch}
+use Rattle.module_format.specs.Contents.{Par}
 use Rattle.machine_state.specs.World.{World}
 use Rattle.machine_state.specs.Happens.{world_by}
 

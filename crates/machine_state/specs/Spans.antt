@@ -1,10 +1,10 @@
 -- Sets of places as spans, and what is taken from a holding.
-use Rattle.std.specs.Prelude.{ℕ, zero, suc, ◌+◌, ◌*◌, ◌==◌, ◌&&◌, ◌||◌, nat_le, nat_lt, not, Bool, true, false}
-use Rattle.std.specs.Prelude.{if◌then◌else◌, ℤ, pos, ◌+ℤ◌, ◌-ℤ◌, int_le, nat_abs, List, [], ◌∷◌, ◌++◌, filter}
-use Rattle.std.specs.List.{list_any, list_all}
+use Rattle.std.specs.Prelude.{ℕ, zero, suc, ◌+◌, ◌==◌, ◌&&◌, ◌||◌, not, Bool, true}
+use Rattle.std.specs.Prelude.{if◌then◌else◌, ℤ, pos, ◌+ℤ◌, int_le, nat_abs, List, [], ◌∷◌, filter}
+use Rattle.std.specs.List.{list_any}
 use Rattle.machine_state.specs.declared.holding.Span.{Span}
 use Rattle.machine_state.specs.declared.holding.End.{End}
-use Rattle.machine_state.specs.Holding.{Holding, covers, may_write, may_read, same_direction}
+use Rattle.machine_state.specs.Holding.{Holding, may_write, may_read, same_direction}
 
 -- ---- spans in normal form: rising, with a gap between any two
 

@@ -5,7 +5,6 @@ use Rattle.std.proofs.Common.{◌∙◌, arith, cond, not, length, nat_lt, ◌==
 use Rattle.std.proofs.lemmas.Bool.{leb-true}
 use Rattle.std.proofs.lemmas.List.{length-set, replicate_more}
 use Rattle.std.proofs.lemmas.Option.{slice_get_cases}
-use Rattle.prefix_decoder.specs.declared.function.Fun.{Fun}
 use Rattle.prefix_decoder.specs.Functions.{fun_of, function_code, nibble}
 use Rattle.prefix_decoder.specs.Operand.{with_nibble, after_prefix}
 use Rattle.module_format.specs.Contents.{Contents}
@@ -18,7 +17,7 @@ use Rattle.machine_state.specs.declared.process.Task.{Task}
 use Rattle.machine_state.specs.Memory.{Memory}
 use Rattle.machine_state.specs.World.{World, Queue, loaded}
 use Rattle.machine_state.specs.declared.fault.FaultKind.TheVariants.{OutsideCode}
-use Rattle.machine_state.specs.Site.{Local, Outcome, goes, jumps, stops, fails}
+use Rattle.machine_state.specs.Site.{Local, Outcome}
 use Rattle.machine_state.specs.Instructions.{has_body}
 use Rattle.machine_state.specs.LocalStep.{local_step}
 use Rattle.machine_state.proofs.Bodied.{IsLocal, it_goes, it_jumps, it_stops, it_fails, local_steps_are_local}

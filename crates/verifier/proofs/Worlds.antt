@@ -33,7 +33,7 @@ use Rattle.machine_state.specs.Moves.{with_input, with_output, fill, fill_condit
 use Rattle.machine_state.specs.Moves.{with_condition}
 use Rattle.machine_state.specs.Happens.{Here, Turn, answered, turn_by, idle, ran, most_executed, failed, between, settled, prefix_turn}
 use Rattle.machine_state.specs.Happens.{site_of, byte_turn, task_turn, step_turn, arrive_at, arrive_turn}
-use Rattle.machine_state.specs.Happens.{acknowledge_turn, event_turn, turn, happens, run_from, ignored, acknowledged}
+use Rattle.machine_state.specs.Happens.{acknowledge_turn, event_turn, happens, run_from, ignored, acknowledged}
 use Rattle.machine_state.specs.Happens.{busy, kept, taken}
 use Rattle.verifier.specs.Certified.{IsCertified}
 use Rattle.machine_state.specs.Frame.{ChangesOwn}
