@@ -14,6 +14,3 @@ pub use laws::nothing_is_dropped;
 pub use layout::{MAX_BYTES, MAX_LINES, lines};
 pub use text::Text;
 pub use token::{Line, Token, TokenKind};
-
-#[cfg(test)]
-mod tests;

@@ -6,14 +6,15 @@ use Rattle.occam_layout.specs.declared.token.Token.{Token}
 use Rattle.occam_parser.specs.declared.tree.ChainOperator.{ChainOperator}
 use Rattle.occam_parser.specs.declared.tree.ValueType.{ValueType}
 use Rattle.occam_parser.specs.declared.tree.Operand.{Operand, Converted}
-use Rattle.occam_parser.specs.declared.tree.Expr.{Expr, Chain, the_lemmas}
+use Rattle.occam_parser.specs.declared.tree.Operation.{Operation, Chain}
+use Rattle.occam_parser.specs.declared.tree.Operand.TheFolds.{the_lemmas}
 use Rattle.occam_parser.specs.Terminals.{Terminal, terminal_of, terminals_of, seen_symbol}
 use Rattle.occam_parser.specs.Expressions.{Terms, First, Then, Term, Chained, Converted as Conversion}
 use Rattle.std.specs.Prelude.{MatchOption}
 use Rattle.std.specs.Borrow.{Bor}
 use Rattle.occam_parser.specs.declared.symbol.Symbol.{Symbol}
 use Rattle.occam_parser.specs.LineReading.{has_condition}
-use Rattle.occam_parser.specs.Views.{expression_of, term_of, with_others}
+use Rattle.occam_parser.specs.Views.{operation_of, term_of, with_others}
 
 pub no_more : (ts us : List Token) → length ts ≤ length us → length (terminals_of ts) ≤ length (terminals_of us)
 no_more ts us h = omega (
@@ -34,7 +35,7 @@ operands_push terms found pushed x e = ap (λ xs. with_others terms (map term_of
     (map_push term_of found x) ∙ others_push terms (map term_of found) (term_of x)
 
 pub view-Chain : (op : ChainOperator) (first : Operand) (others : Vec Operand Global)
-    → expression_of (Chain op first others) ≡ Chained op
+    → operation_of (Chain op first others) ≡ Chained op
     (with_others (First (term_of first)) (map term_of others.items))
 view-Chain op first others = search (rules, the_lemmas)
 

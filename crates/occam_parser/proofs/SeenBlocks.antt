@@ -13,7 +13,7 @@ use Rattle.occam_parser.specs.declared.tree.Action.{Action as CodeAction}
 use Rattle.occam_parser.specs.declared.tree.Declaration.{Declaration as CodeDeclaration}
 use Rattle.occam_parser.specs.declared.tree.Construct.{Construct as CodeConstruct, Action, Seq, Par, If, Alt}
 use Rattle.occam_parser.specs.declared.tree.Construct.{the_lemmas}
-use Rattle.occam_parser.specs.declared.tree.Construct.TheViews.{roll-Process, roll-Choice, roll-Branch}
+use Rattle.occam_parser.specs.declared.tree.Construct.TheViews.{roll-Choice, roll-Branch}
 use Rattle.occam_parser.specs.declared.tree.Expr.{Expr}
 use Rattle.occam_parser.specs.declared.tree.Guard.{Guard as CodeGuard}
 use Rattle.occam_parser.specs.Views.{expression_of}
@@ -92,11 +92,6 @@ rows_less ts us h = omega (arith, length-map ts row_of, length-map us row_of)
 
 pub view-Action : (a : CodeAction) → construct_of (Action a) ≡ Act (action_of a)
 view-Action a = search (rules, the_lemmas)
-
-pub view-Process : (ds : Vec CodeDeclaration Global) (line : ℕ) (c : CodeConstruct)
-    → process_of (roll-Process (record { declarations = ds; line = line; construct = c })) ≡ with_declarations
-    (map declaration_of ds.items) (Does line (construct_of c))
-view-Process ds line c = search (rules, the_lemmas)
 
 -- what an opening with this start is read as
 abbrev pub started : List Declaration → ℕ → start_type.Start → List Row → Option (Beginning × List Row)

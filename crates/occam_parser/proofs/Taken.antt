@@ -9,14 +9,27 @@ use Rattle.occam_parser.specs.declared.head.BlockKind.{BlockKind}
 use Rattle.occam_parser.specs.declared.tree.Process.{Process as CodeProcess}
 use Rattle.occam_parser.specs.Reading.{◌>>=◌}
 use Rattle.occam_parser.specs.Told.{out_of_memory, Tells, Pushes, IsBeside, StandsAbove}
-use Rattle.occam_parser.specs.Blocks.{Row, rows_of, Component, Components, NoComponent, Further}
+use Rattle.occam_parser.specs.Blocks.{Row, rows_of, Process, Does, Construct, Component, Components, NoComponent, Further}
 use Rattle.occam_parser.specs.BlockReading.{ReadsLines, wants, count_of, further, components_of, process_at}
-use Rattle.occam_parser.specs.BlockReading.{component_at, plain_at}
-use Rattle.occam_parser.specs.BlockViews.{all_of, process_of, plain_component}
+use Rattle.occam_parser.specs.BlockReading.{component_at, plain_at, with_declarations}
+use Rattle.occam_parser.specs.BlockViews.{all_of, process_of, plain_component, IsProcessOf}
+use Rattle.occam_parser.specs.Lines.{Declaration}
 use Rattle.occam_parser.proofs.Answering.{passed_on}
 use Rattle.occam_parser.proofs.Turns.{ContinuesBlock, block_begins, block_goes_on, block_fails}
 use Rattle.occam_parser.proofs.SeenBlocks.{all_push, rows_less}
 use Rattle.occam_parser.proofs.Levelled.{plain_none, plain_found}
+
+-- a process that was made of what was read
+pub told_made : (declarations : List Declaration) (line : ℕ) (made tree : Construct) (rest : Bor (List Line))
+    (answer : Result (CodeProcess × Bor (List Line)) ParseFault) (read : Option (Process × List Row)) → made ≡ tree
+    → IsProcessOf declarations line made rest answer
+    → read ≡ Some (with_declarations declarations (Does line tree), rows_of rest.now)
+    → Tells (λ x. (process_of x.0, rows_of x.1.now)) answer read
+told_made declarations line made tree rest (Ok x) read view is found =
+    found ∙ ap (λ c. Some (with_declarations declarations (Does line c), rows_of rest.now)) (sym view) ∙ ap
+    (λ p. Some (p, rows_of rest.now)) (sym is.0) ∙ ap
+    (λ (b : Bor (List Line)). Some (process_of x.0, rows_of b.now)) (sym is.1)
+told_made declarations line made tree rest (Err e) read view is found = inl is
 
 -- ---- one component
 

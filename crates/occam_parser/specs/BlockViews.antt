@@ -1,5 +1,10 @@
 -- The trees that processes and programs of the program are.
-use Rattle.std.specs.Prelude.{ℕ, List, [], ◌∷◌, map, fold, Option, option_map}
+use Rattle.std.specs.Prelude.{◌≡◌, ℕ, List, [], ◌∷◌, map, fold, Option, option_map, Result, Ok, Err}
+use Rattle.std.specs.Borrow.{Bor}
+use Rattle.occam_layout.specs.declared.token.Line.{Line}
+use Rattle.occam_parser.specs.declared.fault.ParseFault.{ParseFault}
+use Rattle.occam_parser.specs.Told.{out_of_memory}
+use Rattle.occam_parser.specs.Lines.{Declaration}
 use Rattle.occam_parser.specs.declared.head.BlockKind.{BlockKind}
 use Rattle.occam_parser.specs.declared.head.BlockKind.TheVariants as block
 use Rattle.occam_parser.specs.declared.tree.Process.{Process as CodeProcess}
@@ -29,7 +34,7 @@ all_of cs = fold Further NoComponent cs
 
 -- one level, with the trees of what stands inside
 abbrev pub process_step : Process-F Construct Component Component Process → Process
-process_step p = with_declarations (map declaration_of p.declarations.items) (Does p.line p.construct)
+process_step p = with_declarations (map declaration_of p.declarations.items) (Does p.line p.construct.value)
 
 abbrev pub construct_step : Construct-F Construct Component Component Process → Construct
 construct_step (Construct-F.Action a) = Act (action_of a)
@@ -59,6 +64,13 @@ choice_of = fold-Choice Construct Component Component Process construct_step bra
 
 abbrev pub branch_of : Branch → Component
 branch_of = fold-Branch Construct Component Component Process construct_step branch_step choice_step process_step
+
+-- the process that a construct makes with declarations, beside the lines behind it, unless memory ran out
+abbrev pub IsProcessOf : List Declaration → ℕ → Construct → Bor (List Line)
+    → Result (CodeProcess × Bor (List Line)) ParseFault → Type 0
+IsProcessOf declarations line construct rest (Ok x) =
+    (process_of x.0 ≡ with_declarations declarations (Does line construct)) × (x.1 ≡ rest)
+IsProcessOf declarations line construct rest (Err e) = e ≡ out_of_memory
 
 abbrev pub procedure_of : proc_type.Proc → Procedure
 procedure_of p = record {

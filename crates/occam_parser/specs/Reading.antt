@@ -13,7 +13,8 @@ use Rattle.occam_parser.specs.declared.tree.ValueType.{ValueType}
 use Rattle.occam_parser.specs.declared.tree.ValueType.TheVariants as value_type
 use Rattle.occam_parser.specs.declared.tree.PrefixOperator.{PrefixOperator}
 use Rattle.occam_parser.specs.declared.tree.PrefixOperator.TheVariants as prefix
-use Rattle.occam_parser.specs.declared.tree.PairOperator.TheVariants as pair
+use Rattle.occam_parser.specs.declared.tree.PairOperator.{PairOperator}
+use Rattle.occam_parser.specs.declared.tree.PairOperator.TheVariants as pair_operator
 use Rattle.occam_parser.specs.declared.tree.ChainOperator.{ChainOperator}
 use Rattle.occam_parser.specs.contracts.tree.ChainOperator as chain_contract
 use Rattle.occam_parser.specs.Terminals.{Terminal, Name, Integer, Character, Text, Pair, Chain, Mark, terminals_of}
@@ -78,7 +79,7 @@ unfoldable pub prefix_at : Reads PrefixOperator
 prefix_at [] = None
 prefix_at (Mark mark.BitNot ∷ ts) = Some (prefix.BitNot, ts)
 prefix_at (Mark mark.Not ∷ ts) = Some (prefix.Not, ts)
-prefix_at (Pair pair.Subtract ∷ ts) = Some (prefix.Negate, ts)
+prefix_at (Pair pair_operator.Subtract ∷ ts) = Some (prefix.Negate, ts)
 prefix_at (t ∷ ts) = None
 
 -- whether an operator between operands comes first
@@ -160,12 +161,16 @@ chain operand operator first ts = do
   y ← chain_from operand operator (length ts) (Then (First first) x.0) x.1
   Some (Chained operator y.0, y.1)
 
+-- a pair behind its first operand and the operator
+abbrev pub pair : Reads Term → PairOperator → Term → Reads Expression
+pair operand operator first ts = do
+  x ← operand ts
+  Some (Paired operator first x.0, x.1)
+
 -- what follows a first operand
 unfoldable pub after_first : Reads Term → Term → Reads Expression
 after_first operand first [] = Some (Alone first, [])
-after_first operand first (Pair operator ∷ ts) = do
-  x ← operand ts
-  Some (Paired operator first x.0, x.1)
+after_first operand first (Pair operator ∷ ts) = pair operand operator first ts
 after_first operand first (Chain operator ∷ ts) = chain operand operator first ts
 after_first operand first (t ∷ ts) = Some (Alone first, t ∷ ts)
 

@@ -11,7 +11,10 @@ use Rattle.occam_parser.specs.declared.fault.TheConstants.{MEMORY}
 use Rattle.occam_parser.specs.declared.symbol.Mark.{Mark}
 use Rattle.occam_parser.specs.declared.symbol.Mark.TheVariants as mark
 use Rattle.occam_parser.specs.declared.tree.ValueType.{ValueType}
+use Rattle.occam_parser.specs.declared.tree.Expr.{Expr}
+use Rattle.occam_parser.specs.declared.tree.Operation.{Operation}
 use Rattle.occam_parser.specs.Terminals.{Terminal, terminals_of}
+use Rattle.occam_parser.specs.Views.{expression_of, operation_of}
 use Rattle.occam_parser.specs.Reading.{Reads, ◌>>=◌, Fails, Gives, behind, list_of}
 use Rattle.occam_parser.specs.LineReading.{type_at, shape_at, name_at, only}
 use Rattle.occam_parser.specs.Blocks.{Row, rows_of, Procedure, ProgramItem, GlobalProcedure}
@@ -70,6 +73,11 @@ GoesUpTo mark (Err e) answer = answer ≡ Err e
 GoesUpTo mark (Ok x) (Err e) = Fails e (behind mark (terminals_of x.1.now))
 GoesUpTo mark (Ok x) (Ok y) = (y.0 ≡ x.0) × (behind mark (terminals_of x.1.now) ≡ Some (terminals_of y.1.now)) ×
     (length y.1.now < length x.1.now)
+
+-- the expression that an operation is, beside the tokens behind it, unless memory ran out
+abbrev pub IsMadeOf : Operation → Bor (List Token) → Result (Expr × Bor (List Token)) LineError → Type 0
+IsMadeOf operation rest (Ok x) = (expression_of x.0 ≡ operation_of operation) × (x.1 ≡ rest)
+IsMadeOf operation rest (Err e) = e ≡ errors.Memory
 
 -- what was read before, beside what was read next: the fault of that, or both
 abbrev pub IsBeside : {A B E : Type 0} → A → Result B E → Result (A × B) E → Type 0

@@ -1,9 +1,10 @@
 //! Processes, by the levels of their lines.
 
-ghost use Rattle.std.specs.Prelude.{◌≡◌, ◌≤◌, ◌<◌, ◌-◌, [], ◌∷◌, length, option_map, IfOk, OnOk};
+ghost use Rattle.std.specs.Prelude.{◌≡◌, ◌≤◌, ◌<◌, ◌-◌, [], ◌∷◌, length, map, option_map, IfOk, OnOk};
 ghost use Rattle.occam_parser.specs.Told.{Tells, Pushes, StandsAbove};
+ghost use Rattle.occam_parser.specs.BlockViews.{IsProcessOf};
 ghost use Rattle.occam_parser.specs.declared.head.BlockKind.TheVariants.{If, Alt};
-ghost use Rattle.occam_parser.specs.LineViews.{replicator_of};
+ghost use Rattle.occam_parser.specs.LineViews.{declaration_of, replicator_of};
 ghost use Rattle.occam_parser.specs.Reading.{Finds};
 ghost use Rattle.occam_parser.specs.Blocks.{row_of, rows_of, Block, NoComponent};
 ghost use Rattle.occam_parser.specs.BlockReading.{first_row, beginning_from, count_of, wants, further, components_of};
@@ -158,6 +159,27 @@ fn block<'a>(replicator: Option<Replicator<'a>>, body: Body<'a>) -> Construct<'a
     }
 }
 
+/// A process with these declarations and this construct, beside the lines behind it.
+fn made_of<'l, 'a>(
+    alloc: Global,
+    declarations: Vec<Declaration<'a>>,
+    line: u32,
+    construct: Construct<'a>,
+    rest: &'l [Line<'a>],
+) -> Result<(Process<'a>, &'l [Line<'a>]), ParseFault>
+    ensures { IsProcessOf (map declaration_of declarations.entry.items) line (construct_of construct.entry) rest.entry result }
+{
+    let construct = Box::new(alloc, construct)?;
+    Ok((
+        Process {
+            declarations,
+            line,
+            construct,
+        },
+        rest,
+    ))
+}
+
 /// What the line of a head says, beside what was read below it, and the lines behind that.
 fn below<'l, 'a, H: Drop, T: Drop>(
     head: H,
@@ -188,15 +210,7 @@ pub(crate) fn process<'l, 'a>(
     } = opening;
     match start {
         Start::Action(action) => {
-            let construct = Construct::Action(action);
-            Ok((
-                Process {
-                    declarations,
-                    line,
-                    construct,
-                },
-                rest,
-            ))
+            made_of(alloc, declarations, line, Construct::Action(action), rest)
         }
         Start::Block(kind, replicator) => {
             let single = replicator.is_some();
@@ -204,14 +218,7 @@ pub(crate) fn process<'l, 'a>(
             let read = components(alloc, line, level + 1, single, rest, &mut body);
             let (replicator, rest) = beside(replicator, read)?;
             let construct = block(replicator, body);
-            Ok((
-                Process {
-                    declarations,
-                    line,
-                    construct,
-                },
-                rest,
-            ))
+            made_of(alloc, declarations, line, construct, rest)
         }
     }
 }

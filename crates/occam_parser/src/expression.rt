@@ -4,14 +4,17 @@ ghost use Rattle.std.specs.Prelude.{◌≡◌, ◌≤◌, ◌<◌, length, map, 
 ghost use Rattle.occam_parser.specs.Terminals.{terminals_of};
 ghost use Rattle.occam_parser.specs.Views.{expression_of, term_of};
 ghost use Rattle.occam_parser.specs.Reading.{Gives, Finds, behind, behind_operator, prefix_at, begins_with_operator};
-ghost use Rattle.occam_parser.specs.Reading.{expression_at, one_operator, chain, term_at, marked, named, converted};
+ghost use Rattle.occam_parser.specs.Reading.{expression_at, one_operator, pair, chain, term_at, marked, named, converted};
 ghost use Rattle.occam_parser.specs.Reading.{up_to, inner_at, operand_within, list_of};
 ghost use Rattle.occam_parser.specs.LineReading.{bracketed_at};
-ghost use Rattle.occam_parser.specs.Told.{GoesUpTo};
+ghost use Rattle.occam_parser.specs.Told.{GoesUpTo, IsMadeOf};
 
 use crate::fault::{Fault, LineError};
+use crate::head::beside;
 use crate::symbol::{Mark, Symbol, behind, first};
-use crate::tree::{ChainOperator, Expr, Operand, PairOperator, PrefixOperator, ValueType};
+use crate::tree::{
+    ChainOperator, Expr, Operand, Operation, PairOperator, PrefixOperator, ValueType,
+};
 use occam_layout::Token;
 use std::alloc::Global;
 
@@ -104,6 +107,18 @@ fn nested<'t, 'a>(
     Ok((found, rest))
 }
 
+/// The expression that has this operator and these operands, beside the tokens behind it.
+fn made_of<'t, 'a>(
+    alloc: Global,
+    operation: Operation<'a>,
+    rest: &'t [Token<'a>],
+) -> Result<(Expr<'a>, &'t [Token<'a>]), LineError>
+    ensures { IsMadeOf operation.entry rest.entry result }
+{
+    let operation = Box::new(alloc, operation)?;
+    Ok((Expr { operation }, rest))
+}
+
 /// One operator with its operands, or an operand alone, whatever follows.
 #[cycle(expression)]
 #[tactic(auto, unfolding(crate::specs::Reading::one_operator, crate::specs::Reading::after_first))]
@@ -117,24 +132,35 @@ fn one_operator<'t, 'a>(
 {
     if let Some((operator, rest)) = prefix(tokens) {
         let (operand, rest) = operand(alloc, levels, rest)?;
-        return Ok((Expr::Prefix { operator, operand }, rest));
+        return made_of(alloc, Operation::Prefix { operator, operand }, rest);
     }
     let (left, rest) = operand(alloc, levels, tokens)?;
     match first(rest) {
-        Some((Symbol::Pair(operator), after)) => {
-            let (right, rest) = operand(alloc, levels, after)?;
-            Ok((
-                Expr::Pair {
-                    operator,
-                    left,
-                    right,
-                },
-                rest,
-            ))
-        }
+        Some((Symbol::Pair(operator), after)) => pair(alloc, levels, operator, left, after),
         Some((Symbol::Chain(operator), after)) => chain(alloc, levels, operator, left, after),
-        _ => Ok((Expr::Operand(left), rest)),
+        _ => made_of(alloc, Operation::Operand(left), rest),
     }
+}
+
+/// Two operands, of which the first and the operator behind it were read.
+#[cycle(expression)]
+fn pair<'t, 'a>(
+    alloc: Global,
+    levels: u32,
+    operator: PairOperator,
+    left: Operand<'a>,
+    tokens: &'t [Token<'a>],
+) -> Result<(Expr<'a>, &'t [Token<'a>]), LineError>
+    ensures found { Gives (λ x. (expression_of x.0, terminals_of x.1.now)) result (pair (term_at levels) operator (term_of left.entry) (terminals_of tokens.now)) }
+    ensures within { IfOk result (λ x. length x.1.now ≤ length tokens.now) }
+{
+    let (left, (right, rest)) = beside(left, operand(alloc, levels, tokens))?;
+    let operation = Operation::Pair {
+        operator,
+        left,
+        right,
+    };
+    made_of(alloc, operation, rest)
 }
 
 /// A chain, of which the first operand and the operator behind it were read.
@@ -158,14 +184,12 @@ fn chain<'t, 'a>(
         others.push(other)?;
         rest = behind;
     }
-    Ok((
-        Expr::Chain {
-            operator,
-            first,
-            others,
-        },
-        rest,
-    ))
+    let operation = Operation::Chain {
+        operator,
+        first,
+        others,
+    };
+    made_of(alloc, operation, rest)
 }
 
 /// What operators stand between.
@@ -264,15 +288,14 @@ fn deeper<'t, 'a>(
     levels: u32,
     close: Mark,
     tokens: &'t [Token<'a>],
-) -> Result<(Box<Expr<'a>>, &'t [Token<'a>]), LineError>
-    ensures found { Gives (λ x. (expression_of x.0.value, terminals_of x.1.now)) result (up_to close (inner_at levels (terminals_of tokens.now))) }
+) -> Result<(Expr<'a>, &'t [Token<'a>]), LineError>
+    ensures found { Gives (λ x. (expression_of x.0, terminals_of x.1.now)) result (up_to close (inner_at levels (terminals_of tokens.now))) }
     ensures within { IfOk result (λ x. length x.1.now ≤ length tokens.now) }
 {
     if levels == 0 {
         return Err(LineError::Fault(Fault::Nesting));
     }
-    let (inner, rest) = up_to(close, nested(alloc, levels - 1, tokens))?;
-    Ok((Box::new(alloc, inner)?, rest))
+    up_to(close, nested(alloc, levels - 1, tokens))
 }
 
 /// The expression in brackets that some tokens begin with, if they do, and the tokens behind it.

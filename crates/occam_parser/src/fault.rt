@@ -27,7 +27,7 @@ pub struct ParseFault {
 }
 
 /// What is wrong with a line.
-#[derive(Clone, Copy, Debug, PartialEq, Eq)]
+#[derive(Clone, Copy)]
 pub(crate) enum Fault {
     UnexpectedToken,
     MissingBody,
@@ -71,7 +71,7 @@ impl<T: Drop> From<AllocFailed<T>> for ParseFault {
 }
 
 /// Why the tokens of a line gave nothing.
-#[derive(Debug, Drop)]
+#[derive(Drop)]
 pub(crate) enum LineError {
     Memory,
     Fault(Fault),

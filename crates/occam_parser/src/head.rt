@@ -35,7 +35,7 @@ pub(crate) enum Start<'a> {
 }
 
 /// What a block is made of.
-#[derive(Clone, Copy, PartialEq, Eq)]
+#[derive(Clone, Copy)]
 pub(crate) enum BlockKind {
     Seq,
     Par,

@@ -16,6 +16,6 @@ pub use fault::{MEMORY, MISSING_BODY, MIXTURE, NESTING, ParseFault, UNEXPECTED_T
 pub use program::parse;
 pub use tree::{
     Action, Branch, ChainOperator, Choice, Constant, ConstantValue, Construct, Declaration, Expr,
-    Formal, FormalKind, Guard, Item, Names, Operand, PairOperator, Place, PrefixOperator, Proc,
-    Process, Program, Replicator, ValueType,
+    Formal, FormalKind, Guard, Item, Names, Operand, Operation, PairOperator, Place,
+    PrefixOperator, Proc, Process, Program, Replicator, ValueType,
 };

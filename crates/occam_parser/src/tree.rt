@@ -16,7 +16,7 @@ pub enum Item<'a> {
 }
 
 /// The type of a value.
-#[derive(Clone, Copy, Debug, PartialEq, Eq)]
+#[derive(Clone, Copy)]
 pub enum ValueType {
     /// `INT`
     Int,
@@ -72,7 +72,7 @@ pub struct Formal<'a> {
 }
 
 /// What a parameter stands for.
-#[derive(Clone, Copy, Debug, PartialEq, Eq)]
+#[derive(Clone, Copy, PartialEq, Eq)]
 pub enum FormalKind {
     /// `VAL`: a value.
     Value,
@@ -88,7 +88,7 @@ pub struct Process<'a> {
     pub declarations: Vec<Declaration<'a>>,
     /// The number of the line that the construct begins with.
     pub line: u32,
-    pub construct: Construct<'a>,
+    pub construct: Box<Construct<'a>>,
 }
 
 /// What is declared before a construct.
@@ -212,10 +212,17 @@ pub enum Guard<'a> {
     },
 }
 
+/// An expression.
+#[cycle(expression)]
+#[derive(Drop)]
+pub struct Expr<'a> {
+    pub operation: Box<Operation<'a>>,
+}
+
 /// One operator with its operands, or an operand alone. Brackets are kept.
 #[cycle(expression)]
 #[derive(Drop)]
-pub enum Expr<'a> {
+pub enum Operation<'a> {
     Operand(Operand<'a>),
     Prefix {
         operator: PrefixOperator,
@@ -250,10 +257,10 @@ pub enum Operand<'a> {
     /// `name[subscript]`
     Element {
         name: &'a [u8],
-        subscript: Box<Expr<'a>>,
+        subscript: Expr<'a>,
     },
     /// `(expression)`
-    Bracketed(Box<Expr<'a>>),
+    Bracketed(Expr<'a>),
     /// `INT operand` or `BYTE operand`
     Converted {
         to: ValueType,
@@ -262,7 +269,7 @@ pub enum Operand<'a> {
 }
 
 /// An operator before one operand.
-#[derive(Clone, Copy, Debug, PartialEq, Eq)]
+#[derive(Clone, Copy)]
 pub enum PrefixOperator {
     /// `-`
     Negate,
@@ -273,7 +280,7 @@ pub enum PrefixOperator {
 }
 
 /// An operator between exactly two operands.
-#[derive(Clone, Copy, Debug, PartialEq, Eq)]
+#[derive(Clone, Copy)]
 pub enum PairOperator {
     /// `-`
     Subtract,
@@ -302,7 +309,7 @@ pub enum PairOperator {
 }
 
 /// An associative operator, which may stand between more than two operands.
-#[derive(Clone, Copy, Debug, PartialEq, Eq)]
+#[derive(Clone, Copy, PartialEq, Eq)]
 pub enum ChainOperator {
     /// `+`
     Add,

@@ -16,9 +16,10 @@ use Rattle.occam_parser.proofs.Turns.{block_stops, block_ends}
 use Rattle.occam_parser.proofs.Levelled.{process_none, process_is, block_found, block_lost, body_found, body_none}
 use Rattle.occam_parser.proofs.Levelled.{seq_is, par_is, kind_reads, choice_none, choice_unread, choice_empty}
 use Rattle.occam_parser.proofs.Levelled.{choice_found, branch_none, branch_unread, branch_empty, branch_found}
-use Rattle.occam_parser.proofs.SeenBlocks.{first_stops, single_is, view-Action, view-Process, view-Choice, view-Branch}
+use Rattle.occam_parser.proofs.SeenBlocks.{first_stops, single_is, view-Action, view-Choice, view-Branch}
 use Rattle.occam_parser.proofs.SeenBlocks.{started}
 use Rattle.occam_parser.proofs.Taken.{kind_tells, pushed_tells, turn_begins, turn_goes_on, turn_fails, beside_lost}
+use Rattle.occam_parser.proofs.Taken.{told_made}
 use Rattle.occam_parser.proofs.Taken.{beside_found, beside_head, below_lost, below_found, below_head, below_keeps}
 use Rattle.occam_parser.proofs.block.+process.Goals as goal
 
@@ -128,7 +129,7 @@ process-returns-in-Action-clause-found t c =
     let rest = rows_of c.in_ok-opening.rest.now in
     let ds = map declaration_of o.declarations.items in
     let began = c.in_ok-opening.ensures.found ∙ ap (λ s. started ds o.line s rest) c.in-Action.is in
-    rw (view-Process, view-Action)
+    told_made ds o.line _ _ c.in_ok-opening.rest c.made_of.result _ (view-Action c.in-Action.action) c.made_of.ensures
     (process_is c.args.level (rows_of c.args.lines.now) rest
     (record { declarations = ds; line = o.line; start = start_of (start.Action c.in-Action.action) })
     c.in_ok-opening.ensures.level began)
@@ -189,7 +190,7 @@ process-returns-in_ok-replicator-in-Block-clause-found t c =
     ∙ ap (λ q. Block (kind_of body) (option_map replicator_of q) (components_in body))
     (sym (beside_head head y.replicator y.rest read.result y.ensures))
     in
-    rw view-Process
+    told_made ds o.line _ _ y.rest c.made_of-in-Block.result _ refl c.made_of-in-Block.ensures
     (block_found c.args.level (rows_of c.args.lines.now) rest _ ds o.line kind r _ c.in_ok-opening.ensures.level began
     (body_found kind _ (component_at (65 - level) level kind) level r single rest _ _ _
     (single_is head _ c.is_some-single.ensures) (is ∙ found) made (read.ensures.kind ∙ c.new-body.ensures.kind)))

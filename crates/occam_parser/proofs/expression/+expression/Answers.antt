@@ -7,7 +7,7 @@ use Rattle.occam_parser.specs.Views.{expression_of, term_of, with_others}
 use Rattle.occam_parser.specs.Reading.{up_to, term_at, inner_at, operand_within, expression_at}
 use Rattle.occam_parser.proofs.Levels.{inner_below, inner_none, operand_below, fails_on, up_to_none, converted_fails}
 use Rattle.occam_parser.proofs.Levels.{converted_found}
-use Rattle.occam_parser.proofs.Carried.{seen_up_to}
+use Rattle.occam_parser.proofs.Carried.{seen_up_to, made_gives}
 use Rattle.occam_parser.proofs.Lists.{Chains, chain_begins, chain_goes_on, chain_fails, chain_ends}
 use Rattle.occam_parser.proofs.Seen.{no_more, operands_push, view-Chain, view-Converted}
 use Rattle.occam_parser.proofs.expression.+expression.Goals as goal
@@ -67,27 +67,17 @@ chain-returns-clause-found t c =
     let done = chain_ends (term_at c.args.levels) c.args.operator first (terminals_of c.args.tokens.now)
     (terminals_of c.loop-after.rest.now) (with_others (First first) (map term_of c.loop-after.others.items))
     (sym c.in_default.ensures.found) c.loop-after.invariant.reads in
-    rw (view-Chain c.args.operator _ c.loop-after.others, c.loop-after.invariant.same) done
-
-pub deeper-returns-in_err-inner-clause-found : goal.deeper-returns-in_err-inner-clause-found
-deeper-returns-in_err-inner-clause-found t c =
-    let ts = terminals_of c.args.tokens.now in
-    let below = inner_below c.args.levels ts (omega arith) in
-    let p = err_from_is_err_and c.from_residual.result c.from_residual.ensures.1 in
-    rw (p.1, p.2)
-    (fails_on _ _ _
-    (λ none. ap (up_to c.args.close) below ∙ none)
-    (seen_up_to expression_of c.args.close c.nested.result (Err c.in_err-inner.field-0.0)
-    (expression_at (c.args.levels - 1) ts) c.nested.ensures.found c.in_err-inner.ensures))
+    made_gives _ _ c.loop-after.rest c.made_of.result _
+    (view-Chain _ _ _) c.made_of.ensures
+    (rw c.loop-after.invariant.same done)
 
 pub deeper-returns-clause-found : goal.deeper-returns-clause-found
 deeper-returns-clause-found t c =
     let ts = terminals_of c.args.tokens.now in
     let below = inner_below c.args.levels ts (omega arith) in
-    rw c.in_ok-new.ensures.ok
-    (ap (up_to c.args.close) below
-    ∙ seen_up_to expression_of c.args.close c.nested.result (Ok (c.in_ok-inner.inner, c.in_ok-inner.rest))
-    (expression_at (c.args.levels - 1) ts) c.nested.ensures.found c.in_ok-inner.ensures)
+    rw (ap (up_to c.args.close) below)
+    (seen_up_to expression_of c.args.close c.nested.result c.up_to.result (expression_at (c.args.levels - 1) ts)
+    c.nested.ensures.found c.up_to.ensures)
 
 pub converted-returns-in_err-inner-clause-found : goal.converted-returns-in_err-inner-clause-found
 converted-returns-in_err-inner-clause-found t c =

@@ -1,5 +1,0 @@
-//! The tests of `occam_parser`, by its public calls.
-#![tactic(auto)]
-
-#[cfg(test)]
-mod tests;
