@@ -1,16 +1,13 @@
-//! Tables by hand, and calls whose memory runs out. What files say, and which are refused, is asked by the cases of
-//! `conformance`.
+//! Each public call once, and tables by hand that no file gives. What files say, and which are refused, is asked by the
+//! cases of `conformance`.
 
 mod by_hand;
 mod files;
-mod kept_pars;
-mod kept_rows;
 mod lookups;
 
 use certificate::{FormatFault, MEMORY, Module, TRUNCATED, Tables, write};
 use files::{EVERY_ROW, EVERY_ROW_AGAIN, ROWS};
-use std::alloc::{AllocError, Global};
-use std::process::Abort;
+use std::alloc::Global;
 use std::test::*;
 
 /// Code `45 d1 00 71 21 f5`, a label row at 3.
@@ -27,69 +24,83 @@ const OUT_OF_MEMORY: FormatFault = FormatFault {
     offset: 0,
 };
 
-/// The tables say what the file `JUMP` says.
-fn says_jump(rt: &impl Abort, tables: &Tables) {
-    assert!(rt; tables.keeps());
-    assert_eq!(rt; tables.code, [0x45, 0xd1, 0, 0x71, 0x21, 0xf5].as_slice());
-    assert_eq!(rt;
-        (tables.data_words, tables.base, tables.budget, tables.finish),
-        (5, 3, 6, 6)
-    );
-    assert_eq!(rt; tables.labels.len(), 1);
-    for row in &tables.labels {
-        assert_eq!(rt;
-            (row.offset, row.context, row.depth, row.number),
-            (3, 0, 0, 3)
-        );
+/// The fault of a file that ends within a field at this length.
+const fn truncated(len: usize) -> FormatFault {
+    FormatFault {
+        number: TRUNCATED,
+        offset: len,
     }
 }
 
-/// The module is written as the file `JUMP`.
-fn is_written(rt: &impl Abort, alloc: Global, module: &Module) -> Result<(), AllocError> {
-    let written = write(alloc, module.tables())?;
-    assert_eq!(rt; written.as_slice(), JUMP.as_slice());
-    Ok(())
+/// Which of the header, the code and the label rows are those of the file `JUMP`.
+fn says_jump(tables: &Tables) -> [bool; 4] {
+    [
+        tables.keeps() && tables.first_branch() == 1,
+        (tables.data_words, tables.base, tables.budget, tables.finish) == (5, 3, 6, 6),
+        tables.code == [0x45, 0xd1, 0, 0x71, 0x21, 0xf5].as_slice(),
+        has_label(tables),
+    ]
+}
+
+/// Whether there is one label row, which is at 3 in the root.
+fn has_label(tables: &Tables) -> bool {
+    match tables.labels.as_slice() {
+        [row] => (row.offset, row.context, row.depth, row.number) == (3, 0, 0, 3),
+        _ => false,
+    }
+}
+
+/// What the file `JUMP` says is right, where it is read.
+fn jump_says(alloc: Global) -> Option<[bool; 4]> {
+    let module = Module::read(alloc, &JUMP).ok()?;
+    Some(says_jump(module.tables()))
 }
 
 #[test]
-fn a_file_is_read_and_written(rt: HostRuntime) -> Result<(), Fail> {
-    let module = Module::read(rt.alloc(), &JUMP).ok().ok_or("read")?;
-    says_jump(&rt, module.tables());
-    is_written(&rt, rt.alloc(), &module)?;
-    Ok(())
+fn a_file_is_read(rt: HostRuntime) {
+    assert_eq!(rt; jump_says(rt.alloc()), Some([true; 4]));
+}
+
+/// Whether a module is written as a file; none where memory runs out.
+fn is_written(alloc: Global, module: &Module, file: &[u8]) -> Option<bool> {
+    match write(alloc, module.tables()) {
+        Ok(written) => Some(written.as_slice() == file),
+        Err(_) => None,
+    }
+}
+
+/// Whether a file is written again as it was read; none where memory runs out.
+fn is_written_again(alloc: Global, file: &[u8]) -> Option<bool> {
+    match Module::read(alloc, file) {
+        Ok(module) => is_written(alloc, &module, file),
+        Err(OUT_OF_MEMORY) => None,
+        Err(_) => Some(false),
+    }
+}
+
+#[test]
+fn a_file_is_written(rt: HostRuntime) {
+    assert_eq!(rt; is_written_again(rt.alloc(), &JUMP), Some(true));
 }
 
 #[test]
 fn a_file_is_refused(rt: HostRuntime) {
-    let found = Module::read(rt.alloc(), &JUMP[..104]).err();
-    let expected = FormatFault {
-        number: TRUNCATED,
-        offset: 104,
-    };
-    assert_eq!(rt; found, Some(expected));
+    assert_eq!(rt;
+        Module::read(rt.alloc(), &JUMP[..104]).err(),
+        Some(truncated(104))
+    );
 }
 
 /// With memory refused at any moment, the answer is the plain one or out of memory, and nothing else.
-fn is_read_or_out_of_memory(rt: &impl Abort, alloc: Global, file: &[u8]) {
-    match Module::read(alloc, file) {
-        Ok(module) => match write(alloc, module.tables()) {
-            Ok(written) => assert_eq!(rt; written.as_slice(), file),
-            Err(_) => {}
-        },
-        Err(fault) => assert_eq!(rt; fault, OUT_OF_MEMORY),
-    }
-}
-
 #[test]
 fn memory_runs_out(rt: HostRuntime) {
-    is_read_or_out_of_memory(&rt, rt.alloc(), &ROWS);
-    is_read_or_out_of_memory(&rt, rt.alloc(), &EVERY_ROW);
-    is_read_or_out_of_memory(&rt, rt.alloc(), &EVERY_ROW_AGAIN);
-    match Module::read(rt.alloc(), &ROWS[..185]) {
-        Ok(_) => assert!(rt; false, "cut short"),
-        Err(fault) => {
-            let is_cut = fault.number == TRUNCATED && fault.offset == 185;
-            assert!(rt; is_cut || fault == OUT_OF_MEMORY);
-        }
+    for file in [
+        ROWS.as_slice(),
+        EVERY_ROW.as_slice(),
+        EVERY_ROW_AGAIN.as_slice(),
+    ] {
+        assert!(rt; is_written_again(rt.alloc(), file) != Some(false));
     }
+    let fault = Module::read(rt.alloc(), &ROWS[..185]).err();
+    assert!(rt; fault == Some(OUT_OF_MEMORY) || fault == Some(truncated(185)));
 }

@@ -23,7 +23,7 @@ use Rattle.module_format.specs.Procedures.{behind_parameter, ProcedureKeeps, beh
 use Rattle.module_format.specs.Procedures.{TableKeeps, behind_table}
 use Rattle.module_format.specs.Spelling.{u16_bytes, u32_bytes, u64_bytes, i32_bytes, range_bytes, kind_bytes}
 use Rattle.module_format.specs.Spelling.{parameter_bytes, procedure_bytes, table_row_bytes}
-use Rattle.module_format.specs.Reading.{and_then, fault, place, byte_at, interval_at, list_at}
+use Rattle.module_format.specs.Reading.{and_then, fault, place, tested, byte_at, int_at, interval_at, list_at}
 use Rattle.module_format.specs.ReadingRows.{words_range_at, region_size_at, region_at, ends_at, channels_at, value_at}
 use Rattle.module_format.specs.ReadingRows.{kind_at, parameter_word_at, parameter_at, parameters_at, frame_start_at}
 use Rattle.module_format.specs.ReadingRows.{frame_end_at, rising_at, procedure_row_at, procedure_rows_at}
@@ -273,33 +273,41 @@ module _ (size : ℕ) (version : Version) (hi : ℤ) where
 -- ---- procedure rows
 
 module _ (size : ℕ) where
+  -- a word from one up to another, both included
+  module _ (least most : ℤ) where
+    bounded_takes : (bytes : List ℕ) → IsBytes bytes
+        → Has (tested (int_at size bytes) (λ n. int_le least n && int_le n most) faults.Range (place size bytes))
+        (Spelled bytes i32_bytes (λ n. (least ≤ℤ n) × (n ≤ℤ most)))
+    bounded_takes bytes fits =
+        tested_takes _ _ _ _ (int_takes size bytes fits) (λ n fits inside.
+        let both = and_parts (int_le least n) (int_le n most) inside in
+        (int_le-true _ _ both.0, int_le-true _ _ both.1))
+
+    bounded_again : (n : ℤ) (rest : List ℕ) → FitsSigned w32 n → least ≤ℤ n → n ≤ℤ most
+        → tested (int_at size (i32_bytes n ++ rest)) (λ n. int_le least n && int_le n most) faults.Range
+        (place size (i32_bytes n ++ rest)) ≡ Ok (n, rest)
+    bounded_again n rest fits above below =
+        tested_again _ _ _ _ (int_again size n rest fits) (rw (int_le-le _ _ above, int_le-le _ _ below) refl)
+
   frame_start_takes : (bytes : List ℕ) → IsBytes bytes
       → Has (frame_start_at size bytes) (Spelled bytes i32_bytes (λ lo. (negsuc 16383 ≤ℤ lo) × (lo ≤ℤ pos 0)))
   unfolding frame_start_at
-  frame_start_takes bytes fits =
-      tested_takes _ _ _ _ (int_takes size bytes fits) (λ lo fits inside.
-      let both = and_parts (int_le (negsuc 16383) lo) (int_le lo (pos 0)) inside in
-      (int_le-true _ _ both.0, int_le-true _ _ both.1))
+  frame_start_takes bytes fits = bounded_takes (negsuc 16383) (pos 0) bytes fits
 
   frame_start_again : (lo : ℤ) (rest : List ℕ) → FitsSigned w32 lo → negsuc 16383 ≤ℤ lo → lo ≤ℤ pos 0
       → frame_start_at size (i32_bytes lo ++ rest) ≡ Ok (lo, rest)
   unfolding frame_start_at
-  frame_start_again lo rest fits above below =
-      tested_again _ _ _ _ (int_again size lo rest fits) (rw (int_le-le _ _ above, int_le-le _ _ below) refl)
+  frame_start_again lo rest fits above below = bounded_again (negsuc 16383) (pos 0) lo rest fits above below
 
   frame_end_takes : (bytes : List ℕ) → IsBytes bytes
       → Has (frame_end_at size bytes) (Spelled bytes i32_bytes (λ hi. (pos 4 ≤ℤ hi) × (hi ≤ℤ pos 16384)))
   unfolding frame_end_at
-  frame_end_takes bytes fits =
-      tested_takes _ _ _ _ (int_takes size bytes fits) (λ hi fits inside.
-      let both = and_parts (int_le (pos 4) hi) (int_le hi (pos 16384)) inside in
-      (int_le-true _ _ both.0, int_le-true _ _ both.1))
+  frame_end_takes bytes fits = bounded_takes (pos 4) (pos 16384) bytes fits
 
   frame_end_again : (hi : ℤ) (rest : List ℕ) → FitsSigned w32 hi → pos 4 ≤ℤ hi → hi ≤ℤ pos 16384
       → frame_end_at size (i32_bytes hi ++ rest) ≡ Ok (hi, rest)
   unfolding frame_end_at
-  frame_end_again hi rest fits above below =
-      tested_again _ _ _ _ (int_again size hi rest fits) (rw (int_le-le _ _ above, int_le-le _ _ below) refl)
+  frame_end_again hi rest fits above below = bounded_again (pos 4) (pos 16384) hi rest fits above below
 
   rising_takes : (code_len low : ℕ) (bytes : List ℕ) → IsBytes bytes
       → Has (rising_at size code_len low bytes) (Spelled bytes u32_bytes (λ n. (low < n) × (n < code_len)))

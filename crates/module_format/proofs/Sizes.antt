@@ -16,15 +16,18 @@ use Rattle.module_format.specs.Spelling.{u16_bytes, u32_bytes, u64_bytes, i32_by
 use Rattle.module_format.specs.Spelling.{label_bytes, channel_bytes, interval_bytes, end_kind_bytes, direction_byte}
 use Rattle.module_format.specs.Spelling.{end_bytes, branch_head, branch_bytes, par_bytes}
 
--- a fact has its tag at least
-pub fact_size : (f : Fact) → 1 ≤ length (fact_bytes f)
+-- a fact has its tag at least, and at most the bytes of a loop
+fact_spans : (f : Fact) → (1 ≤ length (fact_bytes f)) × (length (fact_bytes f) ≤ 17)
 unfolding fact_bytes u16_bytes u32_bytes u64_bytes i32_bytes
-fact_size facts.Unknown = omega arith
-fact_size (facts.Number lo hi) = omega arith
-fact_size (facts.Pointer region lo hi s) = omega arith
-fact_size (facts.CodeAddress offset) = omega arith
-fact_size (facts.Loop base count weight) = omega arith
-fact_size facts.ReturnAddress = omega arith
+fact_spans facts.Unknown = (omega arith, omega arith)
+fact_spans (facts.Number lo hi) = (omega arith, omega arith)
+fact_spans (facts.Pointer region lo hi s) = (omega arith, omega arith)
+fact_spans (facts.CodeAddress offset) = (omega arith, omega arith)
+fact_spans (facts.Loop base count weight) = (omega arith, omega arith)
+fact_spans facts.ReturnAddress = (omega arith, omega arith)
+
+pub fact_size : (f : Fact) → 1 ≤ length (fact_bytes f)
+fact_size f = (fact_spans f).0
 
 pub entry_size : (e : Entry) → (length (entry_bytes e) ≡ 8 + length (fact_bytes e.fact))
     × (1 ≤ length (fact_bytes e.fact))
@@ -97,13 +100,7 @@ par_size row = simp length-append (omega arith)
 -- ---- the bytes of rows that can be written fit in memory
 
 pub fact_small : (f : Fact) → length (fact_bytes f) ≤ 17
-unfolding fact_bytes u16_bytes u32_bytes u64_bytes i32_bytes
-fact_small facts.Unknown = omega arith
-fact_small (facts.Number lo hi) = omega arith
-fact_small (facts.Pointer region lo hi s) = omega arith
-fact_small (facts.CodeAddress offset) = omega arith
-fact_small (facts.Loop base count weight) = omega arith
-fact_small facts.ReturnAddress = omega arith
+fact_small f = (fact_spans f).1
 
 -- lists of items of a size at most
 all_small : {A : Type 0} (spelled : A → List ℕ) (P : A → Type 0) (most : ℕ)

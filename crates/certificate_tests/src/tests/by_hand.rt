@@ -1,7 +1,13 @@
-//! Tables by hand: which keep the format, and the file of those that do.
+//! Tables by hand, of which no file can be the only question: such as have no file, and such as are as long as the
+//! format allows. Whether other tables keep the format is asked of their files, by the cases of `conformance`.
 
 use super::JUMP;
-use certificate::{Entry, Fact, LabelRow, Stack, Step, Tables, Version, write};
+use bitflags::Flags;
+use certificate::{
+    BranchRow, ChannelRow, Direction, EndKind, EndRow, Ends, Entry, Fact, Interval, LabelRow,
+    ParRow, Parameter, ParameterKind, ProcedureRow, Stack, TableRow, Tables, Version, write,
+};
+use smallvec::SmallVec;
 use std::alloc::{AllocError, Global};
 use std::test::*;
 
@@ -9,21 +15,14 @@ const CODE: [u8; 6] = [0x45, 0xd1, 0, 0x71, 0x21, 0xf5];
 
 const LONG: [u8; 16_385] = [0; 16_385];
 
-const LONG_CODE: [u8; 262_144] = [0; 262_144];
+/// The words 1, -7, 9, 2, the least and the greatest.
+const SIX_WORDS: [u8; 24] = [
+    1, 0, 0, 0, 0xf9, 0xff, 0xff, 0xff, 9, 0, 0, 0, 2, 0, 0, 0, 0, 0, 0, 0x80, 0xff, 0xff, 0xff,
+    0x7f,
+];
 
-pub fn label(alloc: Global, offset: u32) -> LabelRow {
-    LabelRow {
-        offset,
-        context: 0,
-        depth: 0,
-        number: 3,
-        stack: Stack::of_empty(Fact::Unknown),
-        entries: Vec::new(alloc),
-    }
-}
-
-/// The tables of the file `JUMP`, with these label rows.
-pub fn tables_with(alloc: Global, labels: Vec<LabelRow>) -> Tables<'static> {
+/// The tables of the file `JUMP` without its label row.
+fn without_rows(alloc: Global) -> Tables<'static> {
     Tables {
         version: Version::One,
         code: &CODE,
@@ -35,321 +34,404 @@ pub fn tables_with(alloc: Global, labels: Vec<LabelRow>) -> Tables<'static> {
         lengths: [0; 8],
         has_long_operations: false,
         procedures: Vec::new(alloc),
-        labels,
+        labels: Vec::new(alloc),
         pars: Vec::new(alloc),
         table_rows: Vec::new(alloc),
     }
 }
 
-pub fn jump(alloc: Global) -> Result<Tables<'static>, AllocError> {
-    let mut labels = Vec::new(alloc);
-    labels.push(label(alloc, 3))?;
-    Ok(tables_with(alloc, labels))
+fn label(alloc: Global, offset: u32) -> LabelRow {
+    LabelRow {
+        offset,
+        context: 0,
+        depth: 0,
+        number: 3,
+        stack: Stack::of_empty(Fact::Unknown),
+        entries: Vec::new(alloc),
+    }
 }
 
-/// Whether the tables with this label row keep the format.
-fn keeps_with(alloc: Global, row: LabelRow) -> Result<bool, AllocError> {
-    let mut labels = Vec::new(alloc);
-    labels.push(row)?;
-    Ok(tables_with(alloc, labels).keeps())
+/// A branch that is given nothing.
+fn branch(alloc: Global, entry: u32) -> BranchRow {
+    BranchRow {
+        entry,
+        workspace: -6,
+        writes: SmallVec::new(alloc),
+        reads: SmallVec::new(alloc),
+        written_parameters: SmallVec::new(alloc),
+        read_parameters: SmallVec::new(alloc),
+        ends: Vec::new(alloc),
+    }
+}
+
+/// The only item of a list.
+fn alone<T: Drop>(alloc: Global, item: T) -> Result<Vec<T>, AllocError> {
+    let mut items = Vec::new(alloc);
+    items.push(item)?;
+    Ok(items)
+}
+
+/// The PAR of one branch.
+fn par(alloc: Global, branch: BranchRow) -> Result<ParRow, AllocError> {
+    let branches = alone(alloc, branch)?;
+    Ok(ParRow {
+        context: 0,
+        depth: 0,
+        block: 0,
+        successor: 5,
+        channels: Vec::new(alloc),
+        branches,
+    })
+}
+
+/// Whether the tables are valid and written as the file `JUMP`.
+fn are_jump(alloc: Global, tables: &Tables) -> bool {
+    if !tables.keeps() {
+        return false;
+    }
+    match write(alloc, tables) {
+        Ok(file) => file.as_slice() == JUMP.as_slice(),
+        Err(_) => false,
+    }
+}
+
+fn is_written_by_hand(alloc: Global) -> Result<bool, AllocError> {
+    let labels = alone(alloc, label(alloc, 3))?;
+    let mut tables = without_rows(alloc);
+    tables.labels = labels;
+    Ok(are_jump(alloc, &tables))
 }
 
 #[test]
 fn written_by_hand(rt: HostRuntime) -> Result<(), Fail> {
-    let tables = jump(rt.alloc())?;
-    assert!(rt; tables.keeps());
-    let file = write(rt.alloc(), &tables)?;
-    assert_eq!(rt; file.as_slice(), JUMP.as_slice());
+    assert!(rt; is_written_by_hand(rt.alloc())?);
     Ok(())
 }
 
-/// How many numbers of the header can be wrong.
-const WRONG_HEADERS: u8 = 9;
+/// An item of a list that keeps the format, by its number from 0 on.
+trait Numbered: Drop {
+    fn numbered(alloc: Global, number: u16) -> Result<Self, AllocError>;
+}
 
-/// Makes one number of the header wrong.
-fn make_wrong(tables: &mut Tables, case: u8) {
-    match case {
-        0 => tables.code = &[],
-        1 => tables.finish = 7,
-        2 => tables.constants = &LONG,
-        3 => {
-            tables.data_words = 0;
-            tables.base = 0;
-        }
-        4 => tables.data_words = 16_385,
-        5 => tables.base = 6,
-        6 => tables.budget = 4_611_686_018_427_387_905,
-        7 => tables.lengths = [0, 0, 0, 4_097, 0, 0, 0, 0],
-        // version 1 has no long operations
-        _ => tables.has_long_operations = true,
+impl Numbered for LabelRow {
+    fn numbered(alloc: Global, number: u16) -> Result<Self, AllocError> {
+        Ok(label(alloc, 1 + u32::from(number)))
     }
 }
 
-/// Which numbers of the header do not keep the format.
+impl Numbered for Entry {
+    fn numbered(_alloc: Global, number: u16) -> Result<Self, AllocError> {
+        Ok(Entry {
+            word: i32::from(number),
+            span: 1,
+            fact: Fact::Number { lo: 0, hi: 9 },
+        })
+    }
+}
+
+impl Numbered for ProcedureRow {
+    fn numbered(alloc: Global, number: u16) -> Result<Self, AllocError> {
+        Ok(ProcedureRow {
+            entry: 1 + u32::from(number),
+            lo: -2,
+            hi: 6,
+            number: u64::MAX,
+            parameters: Vec::new(alloc),
+        })
+    }
+}
+
+impl Numbered for TableRow {
+    fn numbered(_alloc: Global, number: u16) -> Result<Self, AllocError> {
+        let start = 4 * u32::from(number);
+        Ok(TableRow {
+            start,
+            end: start + 4,
+            lo: 0,
+            hi: 0,
+        })
+    }
+}
+
+impl Numbered for ParRow {
+    fn numbered(alloc: Global, number: u16) -> Result<Self, AllocError> {
+        par(alloc, branch(alloc, 1 + u32::from(number)))
+    }
+}
+
+impl Numbered for ChannelRow {
+    fn numbered(_alloc: Global, number: u16) -> Result<Self, AllocError> {
+        Ok(ChannelRow {
+            word: i32::from(number),
+            length: 1,
+        })
+    }
+}
+
+impl Numbered for Interval {
+    fn numbered(_alloc: Global, number: u16) -> Result<Self, AllocError> {
+        let lo = i32::from(number);
+        Ok(Interval { lo, hi: lo + 1 })
+    }
+}
+
+impl Numbered for EndRow {
+    fn numbered(_alloc: Global, number: u16) -> Result<Self, AllocError> {
+        Ok(EndRow {
+            kind: EndKind::FrameWord(i32::from(number)),
+            direction: Direction::In,
+        })
+    }
+}
+
+/// The items up to the one of a number.
+fn up_to<T: Numbered>(alloc: Global, last: u16) -> Result<Vec<T>, AllocError> {
+    let mut items = Vec::new(alloc);
+    for number in 0..=last {
+        items.push(T::numbered(alloc, number)?)?;
+    }
+    Ok(items)
+}
+
+fn labels_keep(alloc: Global, last: u16) -> Result<bool, AllocError> {
+    let labels = up_to(alloc, last)?;
+    let mut tables = without_rows(alloc);
+    tables.code = &LONG;
+    tables.labels = labels;
+    Ok(tables.keeps())
+}
+
+/// The entries of one label row, in the greatest frame.
+fn entries_keep(alloc: Global, last: u16) -> Result<bool, AllocError> {
+    let mut row = label(alloc, 3);
+    row.entries = up_to(alloc, last)?;
+    let labels = alone(alloc, row)?;
+    let mut tables = without_rows(alloc);
+    tables.data_words = 16_384;
+    tables.base = 0;
+    tables.labels = labels;
+    Ok(tables.keeps())
+}
+
+fn procedures_keep(alloc: Global, last: u16) -> Result<bool, AllocError> {
+    let procedures = up_to(alloc, last)?;
+    let mut tables = without_rows(alloc);
+    tables.code = &LONG;
+    tables.procedures = procedures;
+    Ok(tables.keeps())
+}
+
+fn table_rows_keep(alloc: Global, last: u16) -> Result<bool, AllocError> {
+    let table_rows = up_to(alloc, last)?;
+    let mut tables = without_rows(alloc);
+    tables.version = Version::Two;
+    tables.constants = &LONG[..16_384];
+    tables.table_rows = table_rows;
+    Ok(tables.keeps())
+}
+
+fn pars_keep(alloc: Global, pars: Vec<ParRow>) -> bool {
+    let mut tables = without_rows(alloc);
+    tables.code = &LONG;
+    tables.pars = pars;
+    tables.keeps()
+}
+
+fn branch_keeps(alloc: Global, row: BranchRow) -> Result<bool, AllocError> {
+    let pars = alone(alloc, par(alloc, row)?)?;
+    Ok(pars_keep(alloc, pars))
+}
+
+/// The channels of one PAR.
+fn channels_keep(alloc: Global, last: u16) -> Result<bool, AllocError> {
+    let channels = up_to(alloc, last)?;
+    let mut row = par(alloc, branch(alloc, 1))?;
+    row.channels = channels;
+    let pars = alone(alloc, row)?;
+    Ok(pars_keep(alloc, pars))
+}
+
+/// The intervals that one branch writes.
+fn writes_keep(alloc: Global, last: u16) -> Result<bool, AllocError> {
+    let writes: Vec<Interval> = up_to(alloc, last)?;
+    let writes = SmallVec::from_slice(alloc, &writes)?;
+    let mut row = branch(alloc, 1);
+    row.writes = writes;
+    branch_keeps(alloc, row)
+}
+
+/// The ends of one branch.
+fn ends_keep(alloc: Global, last: u16) -> Result<bool, AllocError> {
+    let ends = up_to(alloc, last)?;
+    let mut row = branch(alloc, 1);
+    row.ends = ends;
+    branch_keeps(alloc, row)
+}
+
+/// The lists of tables that a limit or a number of the file bounds.
+#[derive(Clone, Copy)]
+enum Items {
+    Labels,
+    Entries,
+    Procedures,
+    TableRows,
+    Pars,
+    Channels,
+    Writes,
+    Ends,
+}
+
+/// Lists by the number of their last item, from 0 on: the longest ones, and one item more, or more than a file can
+/// tell; and whether they keep the format.
+const LISTS: [(Items, u16, bool); 17] = [
+    (Items::Labels, 8_191, true),
+    (Items::Labels, 8_192, false),
+    (Items::Entries, 16_383, true),
+    (Items::Entries, 16_384, false),
+    (Items::Entries, 65_535, false),
+    (Items::Procedures, 511, true),
+    (Items::Procedures, 512, false),
+    (Items::TableRows, 1_023, true),
+    (Items::TableRows, 1_024, false),
+    (Items::Pars, 1_023, true),
+    (Items::Pars, 1_024, false),
+    (Items::Channels, 65_534, true),
+    (Items::Channels, 65_535, false),
+    (Items::Writes, 65_534, true),
+    (Items::Writes, 65_535, false),
+    (Items::Ends, 65_534, true),
+    (Items::Ends, 65_535, false),
+];
+
+/// Whether tables with such a list keep the format.
+fn keep(alloc: Global, items: Items, last: u16) -> Result<bool, AllocError> {
+    match items {
+        Items::Labels => labels_keep(alloc, last),
+        Items::Entries => entries_keep(alloc, last),
+        Items::Procedures => procedures_keep(alloc, last),
+        Items::TableRows => table_rows_keep(alloc, last),
+        Items::Pars => Ok(pars_keep(alloc, up_to(alloc, last)?)),
+        Items::Channels => channels_keep(alloc, last),
+        Items::Writes => writes_keep(alloc, last),
+        Items::Ends => ends_keep(alloc, last),
+    }
+}
+
 #[test]
-fn headers(rt: HostRuntime) -> Result<(), Fail> {
-    for case in 0..WRONG_HEADERS {
-        let mut tables = jump(rt.alloc())?;
-        make_wrong(&mut tables, case);
-        assert!(rt; !tables.keeps(), "{case}");
+fn long_lists(rt: HostRuntime) -> Result<(), Fail> {
+    for (items, last, keeps) in &LISTS {
+        assert_eq!(rt; keep(rt.alloc(), *items, *last)?, *keeps, "{last}");
     }
     Ok(())
 }
 
-/// What version 2 may have.
-#[test]
-fn headers_again(rt: HostRuntime) -> Result<(), Fail> {
-    for has_long_operations in [false, true] {
-        let mut tables = jump(rt.alloc())?;
-        tables.version = Version::Two;
-        tables.has_long_operations = has_long_operations;
-        assert!(rt; tables.keeps());
-    }
-    Ok(())
-}
-
-/// The most code of each version, and one byte more.
-#[test]
-fn long_code(rt: HostRuntime) -> Result<(), Fail> {
-    let cases = [
-        (Version::One, 65_535, true),
-        (Version::One, 65_536, false),
-        (Version::Two, 65_536, true),
-        (Version::Two, 262_143, true),
-        (Version::Two, 262_144, false),
-    ];
-    for (version, len, keeps) in &cases {
-        let mut tables = jump(rt.alloc())?;
-        tables.version = *version;
-        tables.code = LONG_CODE.get(..*len).ok_or("code")?;
-        assert_eq!(rt; tables.keeps(), *keeps, "{len}");
-    }
-    Ok(())
-}
-
-fn pointer(region: u16, lo: i32, hi: i32, step: Step) -> Fact {
-    Fact::Pointer {
-        region,
-        lo,
-        hi,
-        step,
-    }
-}
-
-/// Facts of registers, and whether a row with them keeps the format.
-fn facts_of_registers() -> [(Fact, bool); 21] {
+/// Kinds of a parameter in version 1, where regions have the full range alone, and whether they keep the format.
+fn kinds() -> [(ParameterKind, bool); 7] {
     [
-        (Fact::Number { lo: -1, hi: 5 }, true),
-        (Fact::Number { lo: 5, hi: 5 }, true),
-        (
-            Fact::Number {
-                lo: i32::MIN,
-                hi: i32::MAX,
-            },
-            true,
-        ),
-        (Fact::Number { lo: 6, hi: 5 }, false),
-        (pointer(0, 0, 0, Step::Word), true),
-        (pointer(1, -8, 4, Step::Word), true),
-        (pointer(0, -7, 5, Step::Byte), true),
-        (pointer(0, i32::MIN, i32::MAX, Step::Byte), true),
-        (pointer(0, i32::MIN, i32::MAX, Step::Word), false),
-        (pointer(0, -7, 4, Step::Word), false),
-        (pointer(0, -8, 5, Step::Word), false),
-        (pointer(0, 4, 0, Step::Word), false),
-        (pointer(0, 1, 0, Step::Byte), false),
-        // the root has no parameter
-        (pointer(2, 0, 0, Step::Byte), false),
-        (pointer(65_535, 0, 0, Step::Byte), false),
-        (Fact::CodeAddress { offset: 0 }, true),
-        (Fact::CodeAddress { offset: 6 }, true),
-        (Fact::CodeAddress { offset: 7 }, false),
-        (Fact::CodeAddress { offset: u32::MAX }, false),
-        // no register has these
-        (
-            Fact::Loop {
-                base: 0,
-                count: 3,
-                weight: 6,
-            },
-            false,
-        ),
-        (Fact::ReturnAddress, false),
+        (read_region(0, i32::MAX), false),
+        (read_region(i32::MIN, 0), false),
+        (read_region(4, 3), false),
+        (written_region(3, 3), false),
+        (written_region(4, 3), false),
+        (channels(Ends::IN | Ends::OUT), true),
+        (channels(Ends::from_bits_retain(4)), false),
     ]
 }
 
+fn read_region(lo: i32, hi: i32) -> ParameterKind {
+    ParameterKind::ReadRegion { size: 4, lo, hi }
+}
+
+fn written_region(lo: i32, hi: i32) -> ParameterKind {
+    ParameterKind::WrittenRegion { size: 4, lo, hi }
+}
+
+fn channels(ends: Ends) -> ParameterKind {
+    ParameterKind::Channels {
+        count: 1,
+        length: 4,
+        ends,
+    }
+}
+
+/// Whether tables of version 1 with a procedure that has this parameter keep the format.
+fn kind_keeps(alloc: Global, kind: ParameterKind) -> Result<bool, AllocError> {
+    let mut row = ProcedureRow::numbered(alloc, 1)?;
+    row.parameters = alone(alloc, Parameter { word: 1, kind })?;
+    let procedures = alone(alloc, row)?;
+    let mut tables = without_rows(alloc);
+    tables.procedures = procedures;
+    Ok(tables.keeps())
+}
+
 #[test]
-fn facts(rt: HostRuntime) -> Result<(), Fail> {
-    let alloc = rt.alloc();
-    let cases = facts_of_registers();
-    for (fact, keeps) in &cases {
-        for register in 0..3 {
-            let mut row = label(alloc, 3);
-            match register {
-                0 => row.stack.a = *fact,
-                1 => row.stack.b = *fact,
-                _ => row.stack.c = *fact,
-            }
-            assert_eq!(rt; keeps_with(alloc, row)?, *keeps, "{fact:?}");
-        }
+fn kinds_of_parameters(rt: HostRuntime) -> Result<(), Fail> {
+    for (index, (kind, keeps)) in kinds().iter().enumerate() {
+        assert_eq!(rt; kind_keeps(rt.alloc(), *kind)?, *keeps, "{index}");
     }
     Ok(())
 }
 
-/// Two entries of a row in a frame of the words -3 to 1, by word and span, and whether it keeps the format.
-const ENTRIES: [(i32, u32, i32, u32, bool); 9] = [
-    (-3, 1, 1, 1, true),
-    (-3, 2, -1, 3, true),
-    (-3, 3, -1, 3, false),
-    (-3, 1, -3, 1, false),
-    (0, 1, -1, 1, false),
-    (-4, 1, 1, 1, false),
-    (-3, 1, 1, 2, false),
-    (-3, 0, 1, 1, false),
-    (-3, 1, 1, u32::MAX, false),
-];
+/// A table row by its start, its end, lo and hi.
+type Row = (u32, u32, i32, i32);
 
-fn number_at(word: i32, span: u32) -> Entry {
-    Entry {
-        word,
-        span,
-        fact: Fact::Number { lo: 0, hi: 9 },
-    }
-}
-
-#[test]
-fn entries(rt: HostRuntime) -> Result<(), Fail> {
-    let alloc = rt.alloc();
-    for (word, span, other, length, keeps) in &ENTRIES {
-        let mut row = label(alloc, 3);
-        row.entries.push(number_at(*word, *span))?;
-        row.entries.push(number_at(*other, *length))?;
-        assert_eq!(rt;
-            keeps_with(alloc, row)?,
-            *keeps,
-            "{word} {span} {other} {length}"
-        );
-    }
-    Ok(())
-}
-
-/// Offsets and contexts of two label rows in six bytes of code, and whether they keep the format.
-const ORDERS: [(u32, u32, u16, bool); 7] = [
-    (1, 5, 0, true),
-    (3, 3, 0, false),
-    (4, 3, 0, false),
-    (0, 3, 0, false),
-    (3, 6, 0, false),
-    (1, 5, 1, false),
-    (1, 5, 65_535, false),
-];
-
-/// Appends a label row of a context.
-fn add_label(
-    alloc: Global,
-    labels: &mut Vec<LabelRow>,
-    offset: u32,
-    context: u16,
-) -> Result<(), AllocError> {
-    let mut row = label(alloc, offset);
-    row.context = context;
-    labels.push(row)?;
-    Ok(())
-}
-
-#[test]
-fn orders(rt: HostRuntime) -> Result<(), Fail> {
-    let alloc = rt.alloc();
-    for (first, second, context, keeps) in &ORDERS {
-        let mut labels = Vec::new(alloc);
-        add_label(alloc, &mut labels, *first, 0)?;
-        add_label(alloc, &mut labels, *second, *context)?;
-        assert_eq!(rt;
-            tables_with(alloc, labels).keeps(),
-            *keeps,
-            "{first} {second} {context}"
-        );
-    }
-    Ok(())
-}
-
-/// As many label rows as the format allows, and one more.
-#[test]
-fn many_labels(rt: HostRuntime) -> Result<(), Fail> {
-    let alloc = rt.alloc();
-    for (count, keeps) in [(8_192, true), (8_193, false)] {
-        let mut labels = Vec::new(alloc);
-        for offset in 1..=count {
-            labels.push(label(alloc, offset))?;
-        }
-        let mut tables = tables_with(alloc, labels);
-        tables.code = &LONG;
-        assert_eq!(rt; tables.keeps(), keeps, "{count}");
-    }
-    Ok(())
-}
-
-/// An entry for each word of the greatest frame, and more than it has words.
-#[test]
-fn many_entries(rt: HostRuntime) -> Result<(), Fail> {
-    let alloc = rt.alloc();
-    for (count, keeps) in [(16_384, true), (16_385, false), (65_536, false)] {
-        let mut row = label(alloc, 3);
-        for word in 0..count {
-            row.entries.push(number_at(word, 1))?;
-        }
-        let mut labels = Vec::new(alloc);
-        labels.push(row)?;
-        let mut tables = tables_with(alloc, labels);
-        tables.data_words = 16_384;
-        tables.base = 0;
-        assert_eq!(rt; tables.keeps(), keeps, "{count}");
-    }
-    Ok(())
-}
-
-/// The fact of a word, and how many words have it, and whether a row with it keeps the format.
-fn entry_facts() -> [(Fact, u32, bool); 16] {
-    [
-        (Fact::Unknown, 1, false),
-        (pointer(0, 0, 4, Step::Word), 2, true),
-        (pointer(2, 0, 4, Step::Word), 1, false),
-        (Fact::CodeAddress { offset: 6 }, 3, true),
-        (Fact::CodeAddress { offset: 7 }, 1, false),
-        (a_loop(0, 3), 2, true),
-        (a_loop(0, 3), 1, false),
-        (a_loop(0, 3), 3, false),
-        (a_loop(0, 0), 2, false),
-        (a_loop(0, 2_147_483_647), 2, true),
-        (a_loop(1, 2_147_483_647), 2, true),
-        (a_loop(2, 2_147_483_647), 2, false),
-        (a_loop(i32::MIN, 2_147_483_648), 2, false),
-        (a_loop(i32::MAX, 1), 2, true),
-        (Fact::ReturnAddress, 1, true),
-        (Fact::ReturnAddress, 2, false),
-    ]
-}
-
-fn a_loop(base: i32, count: u32) -> Fact {
-    Fact::Loop {
-        base,
-        count,
-        weight: u64::MAX,
-    }
-}
-
-#[test]
-fn facts_of_words(rt: HostRuntime) -> Result<(), Fail> {
-    let alloc = rt.alloc();
-    let cases = entry_facts();
-    for (fact, span, keeps) in &cases {
-        let mut row = label(alloc, 3);
-        row.entries.push(Entry {
-            word: -3,
-            span: *span,
-            fact: *fact,
+fn table_rows(alloc: Global, rows: &[Row]) -> Result<Vec<TableRow>, AllocError> {
+    let mut table_rows = Vec::new(alloc);
+    for (start, end, lo, hi) in rows {
+        table_rows.push(TableRow {
+            start: *start,
+            end: *end,
+            lo: *lo,
+            hi: *hi,
         })?;
-        assert_eq!(rt; keeps_with(alloc, row)?, *keeps, "{fact:?} {span}");
+    }
+    Ok(table_rows)
+}
+
+/// Whether tables of a version keep the format, with this flag and these table rows.
+fn extension_keeps(
+    alloc: Global,
+    version: Version,
+    has_long_operations: bool,
+    rows: &[Row],
+) -> Result<bool, AllocError> {
+    let table_rows = table_rows(alloc, rows)?;
+    let mut tables = without_rows(alloc);
+    tables.version = version;
+    tables.constants = &SIX_WORDS;
+    tables.has_long_operations = has_long_operations;
+    tables.table_rows = table_rows;
+    Ok(tables.keeps())
+}
+
+/// Versions, flags, table rows over the six words, and whether they keep the format. Version 1 has neither a flag nor
+/// rows; of these rows the first five are right in version 2.
+const EXTENSIONS: [(Version, bool, &[Row], bool); 18] = [
+    (Version::One, false, &[], true),
+    (Version::One, true, &[], false),
+    (Version::Two, false, &[], true),
+    (Version::Two, true, &[], true),
+    (Version::One, false, &[(0, 8, -7, 1)], false),
+    (Version::One, false, &[(0, 16, -7, 9)], false),
+    (Version::One, false, &[(16, 24, i32::MIN, i32::MAX)], false),
+    (Version::One, false, &[(0, 4, 1, 1), (4, 8, -7, -7)], false),
+    (Version::One, false, &[(0, 4, 1, 1), (12, 16, 0, 9)], false),
+    (Version::One, false, &[(0, 8, -6, 1)], false),
+    (Version::One, false, &[(0, 8, -7, 0)], false),
+    (Version::One, false, &[(0, 12, -7, 8)], false),
+    (Version::One, false, &[(0, 4, 2, 1)], false),
+    (Version::One, false, &[(2, 8, -9, 9)], false),
+    (Version::One, false, &[(0, 6, -9, 9)], false),
+    (Version::One, false, &[(4, 4, -9, 9)], false),
+    (Version::One, false, &[(20, 28, i32::MIN, i32::MAX)], false),
+    (Version::One, false, &[(0, 8, -7, 1), (4, 8, -7, -7)], false),
+];
+
+#[test]
+fn extensions(rt: HostRuntime) -> Result<(), Fail> {
+    for (version, flag, rows, keeps) in &EXTENSIONS {
+        let found = extension_keeps(rt.alloc(), *version, *flag, *rows)?;
+        assert_eq!(rt; found, *keeps);
     }
     Ok(())
 }

@@ -1,4 +1,4 @@
-use Rattle.std.proofs.Common.{◌≡◌, ◌<◌, length, get_or, ◌∙◌, rules, arith}
+use Rattle.std.proofs.Common.{◌≡◌, ℕ, List, ◌<◌, length, get_or, ◌∙◌, rules, arith}
 use Rattle.std.proofs.lemmas.List.{get_or_default}
 use Rattle.module_format.specs.declared.places.Place.{Place}
 use Rattle.module_format.specs.Contents.{contents_of, par_of, branch_of}
@@ -10,6 +10,14 @@ use Rattle.certificate.proofs.numbers.numbers_of.Goals as goal
 
 nowhere : Place
 nowhere = record { par = 0; branch = 0; owner = 0 }
+
+-- the place at an index
+abbrev place_at : List Place → ℕ → Place
+place_at places i = get_or places i nowhere
+
+stands_at : (places : List Place) (i : ℕ) → i < length places
+    → place_at places i ≡ get_or places i (place_at places i)
+stands_at places i lt = get_or_default places i nowhere (place_at places i) lt
 
 pub overflow_cast-first : goal.overflow_cast-first
 overflow_cast-first c =
@@ -25,9 +33,8 @@ unfolding nowhere
 index-row-requires c =
     let places = c.args.places.now in
     let i = c.loop-index.index in
-    let place = get_or places i nowhere in
-    let is : place ≡ get_or places i place = get_or_default places i nowhere place c.loop-index-test.true in
-    let inside = par_inside c.args.tables.now places i place c.requires.places c.loop-index-test.true is in
+    let is = stands_at places i c.loop-index-test.true in
+    let inside = par_inside c.args.tables.now places i _ c.requires.places c.loop-index-test.true is in
     search (rules, inside)
 
 pub index-branch-requires : goal.index-branch-requires
@@ -35,10 +42,9 @@ unfolding nowhere
 index-branch-requires c =
     let places = c.args.places.now in
     let i = c.loop-index.index in
-    let place = get_or places i nowhere in
-    let is : place ≡ get_or places i place = get_or_default places i nowhere place c.loop-index-test.true in
+    let is = stands_at places i c.loop-index-test.true in
     let inside =
-    branch_inside c.args.tables.now places i place c.requires.places c.loop-index-test.true is
+    branch_inside c.args.tables.now places i _ c.requires.places c.loop-index-test.true is
     c.index-row.result.now (rw c.from.ensures at c.index-row.ensures) in
     search (rules, inside)
 
@@ -48,9 +54,8 @@ loop-index-preserved c = λ at.
     let t = c.args.tables.now in
     let places = c.args.places.now in
     let i = c.loop-index.index in
-    let place = get_or places i nowhere in
-    let is : place ≡ get_or places i place = get_or_default places i nowhere place c.loop-index-test.true in
-    let stands = place_stands t places i place c.requires.places c.loop-index-test.true is c.index-row.result.now
+    let is = stands_at places i c.loop-index-test.true in
+    let stands = place_stands t places i _ c.requires.places c.loop-index-test.true is c.index-row.result.now
     (rw c.from.ensures at c.index-row.ensures) c.index-branch.result.now
     (rw c.from-in-loop-index.ensures at c.index-branch.ensures) in
     let first = c.first_branch-first.ensures in

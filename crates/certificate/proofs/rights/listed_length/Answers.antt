@@ -1,4 +1,4 @@
-use Rattle.std.proofs.Common.{◌≡◌, ◌<◌, ◌≤◌, length, sym, ap, ◌∙◌, to_z, of_z, rules, arith, w32, FitsSigned}
+use Rattle.std.proofs.Common.{◌≡◌, ℤ, Bool, ◌<◌, ◌≤◌, length, sym, ap, ◌∙◌, to_z, of_z, rules, arith, w32, FitsSigned}
 use Rattle.std.specs.Prelude.{int_lt}
 use Rattle.std.proofs.lemmas.Int.{to_z-of_z}
 use Rattle.std.proofs.lemmas.Bool.{ltb-true, ltb-false}
@@ -8,13 +8,16 @@ use Rattle.module_format.specs.Order.{least_word}
 use Rattle.certificate.proofs.RightLaws.{channels_parted, past_listed, other_listed, here_listed}
 use Rattle.certificate.proofs.rights.listed_length.Goals as goal
 
+-- a channel in a word below one
+abbrev below : ℤ → ChannelRow → Bool
+below k x = int_lt x.word k
+
 pub returns-in_err-channel : goal.returns-in_err-channel
 returns-in_err-channel c =
     let k = c.args.word in
     let cs = c.args.channels.now in
     let n = c.partition_point-index.result in
-    let point = IsPartitionPoint-from_clause (λ (x : ChannelRow).
-    int_lt x.word k) cs n c.partition_point-index.ensures.partitioned
+    let point = IsPartitionPoint-from_clause (below k) _ _ c.partition_point-index.ensures.partitioned
     (λ i j d. channels_parted k least_word cs d c.requires i j) (λ a r f' h. search rules) in
     let past : length cs ≤ n = ltb-false n (length cs) (sym c.in_err-channel.ensures.lookup.0) in
     rw c.from_residual.ensures (sym (past_listed k cs n c.requires point past))
@@ -24,8 +27,7 @@ returns-then-channel-word c =
     let k = c.args.word in
     let cs = c.args.channels.now in
     let n = c.partition_point-index.result in
-    let point = IsPartitionPoint-from_clause (λ (x : ChannelRow).
-    int_lt x.word k) cs n c.partition_point-index.ensures.partitioned
+    let point = IsPartitionPoint-from_clause (below k) _ _ c.partition_point-index.ensures.partitioned
     (λ i j d. channels_parted k least_word cs d c.requires i j) (λ a r f' h. search rules) in
     let inside : n < length cs = ltb-true n (length cs) (sym c.in_ok-channel.ensures.lookup.0) in
     sym (other_listed k cs n c.requires point c.in_ok-channel.channel.now inside c.in_ok-channel.ensures.lookup.1
@@ -36,8 +38,7 @@ returns c =
     let k = c.args.word in
     let cs = c.args.channels.now in
     let n = c.partition_point-index.result in
-    let point = IsPartitionPoint-from_clause (λ (x : ChannelRow).
-    int_lt x.word k) cs n c.partition_point-index.ensures.partitioned
+    let point = IsPartitionPoint-from_clause (below k) _ _ c.partition_point-index.ensures.partitioned
     (λ i j d. channels_parted k least_word cs d c.requires i j) (λ a r f' h. search rules) in
     let inside : n < length cs = ltb-true n (length cs) (sym c.in_ok-channel.ensures.lookup.0) in
     let word_fits : FitsSigned w32 c.in_ok-channel.channel.now.word = search rules in

@@ -7,37 +7,28 @@ use Rattle.module_format.proofs.offsets.row_at.Goals as goal
 pub returns : goal.returns
 returns g c =
     let place = g.T.AtOffset.place in
-    let rows = c.args.rows.now in
-    let at = c.args.offset in
-    let n = c.partition_point-index.result in
-    let point = IsPartitionPoint-from_clause (λ r. ltb (place r) at) rows n c.partition_point-index.ensures.partitioned
-    (IsPartitionedBy-ltb place rows at c.requires) (λ a r f' k. search rules) in
+    let point = IsPartitionPoint-from_clause (λ r. ltb (place r) c.args.offset) _ _
+    c.partition_point-index.ensures.partitioned (IsPartitionedBy-ltb place _ _ c.requires) (λ a r f' k. search rules) in
     record {
-      inside = ltb-true n _ (sym c.in_ok-row.ensures.lookup.0);
+      inside = ltb-true _ _ (sym c.in_ok-row.ensures.lookup.0);
       is = c.in_ok-row.ensures.lookup.1;
       here = sym c.place.ensures ∙ c.if-place-offset.false;
-      before = λ k d lt. before_here place rows at n point d k lt;
+      before = λ k d lt. before_here place _ _ _ point d k lt;
     }
 
 pub returns-in_err-row : goal.returns-in_err-row
 returns-in_err-row g c =
     let place = g.T.AtOffset.place in
-    let rows = c.args.rows.now in
-    let at = c.args.offset in
-    let n = c.partition_point-index.result in
-    let point = IsPartitionPoint-from_clause (λ r. ltb (place r) at) rows n c.partition_point-index.ensures.partitioned
-    (IsPartitionedBy-ltb place rows at c.requires) (λ a r f' k. search rules) in
-    let past : length rows ≤ n = ltb-false n _ (sym c.in_err-row.ensures.lookup.0) in
-    rw c.from_residual.ensures (none_past place rows at n point past)
+    let point = IsPartitionPoint-from_clause (λ r. ltb (place r) c.args.offset) _ _
+    c.partition_point-index.ensures.partitioned (IsPartitionedBy-ltb place _ _ c.requires) (λ a r f' k. search rules) in
+    let past : length c.args.rows.now ≤ c.partition_point-index.result = ltb-false _ _ (sym c.in_err-row.ensures.lookup.0) in
+    rw c.from_residual.ensures (none_past place _ _ _ point past)
 
 pub returns-then-place-offset : goal.returns-then-place-offset
 returns-then-place-offset g c =
     let place = g.T.AtOffset.place in
-    let rows = c.args.rows.now in
-    let at = c.args.offset in
-    let n = c.partition_point-index.result in
-    let point = IsPartitionPoint-from_clause (λ r. ltb (place r) at) rows n c.partition_point-index.ensures.partitioned
-    (IsPartitionedBy-ltb place rows at c.requires) (λ a r f' k. search rules) in
-    let inside : n < length rows = ltb-true n _ (sym c.in_ok-row.ensures.lookup.0) in
-    none_here place rows at n point c.in_ok-row.row.now c.requires inside (sym c.in_ok-row.ensures.lookup.1)
+    let point = IsPartitionPoint-from_clause (λ r. ltb (place r) c.args.offset) _ _
+    c.partition_point-index.ensures.partitioned (IsPartitionedBy-ltb place _ _ c.requires) (λ a r f' k. search rules) in
+    let inside : c.partition_point-index.result < length c.args.rows.now = ltb-true _ _ (sym c.in_ok-row.ensures.lookup.0) in
+    none_here place _ _ _ point c.in_ok-row.row.now c.requires inside (sym c.in_ok-row.ensures.lookup.1)
     (λ e. c.if-place-offset.true (c.place.ensures ∙ e))

@@ -1,5 +1,4 @@
-use Rattle.std.proofs.Common.{◌≡◌, ◌<◌, length, Some, refl, sym, ap, ◌∙◌, rules, arith}
-use Rattle.std.specs.Prelude.{slice_get}
+use Rattle.std.proofs.Common.{◌≡◌, ◌<◌, length, refl, sym, ap, ◌∙◌, rules, arith}
 use Rattle.std.proofs.lemmas.List.{length-map}
 use Rattle.module_format.specs.Contents.{contents_of, par_of, branch_of}
 use Rattle.module_format.specs.Contexts.{first_branch}
@@ -11,8 +10,7 @@ pub owner_of-owner-requires-clause-there : goal.owner_of-owner-requires-clause-t
 owner_of-owner-requires-clause-there c =
     let m = contents_of c.args.tables.now in
     let row = par_of c.index-row.result.now in
-    let is : slice_get m.pars c.loop-par.par ≡ Some row =
-    item_there par_of c.args.tables.now.pars.items c.loop-par.par c.index-row.result.now
+    let is = item_there par_of c.args.tables.now.pars.items c.loop-par.par c.index-row.result.now
     (search rules) c.index-row.ensures in
     let known =
     context_before (first_branch m) (length m.code) no_branches m.pars c.loop-par.par row c.requires.rows.pars is in
@@ -24,24 +22,20 @@ pub overflow_cast-branch : goal.overflow_cast-branch
 overflow_cast-branch c =
     let m = contents_of c.args.tables.now in
     let row = par_of c.index-row.result.now in
-    let is : slice_get m.pars c.loop-par.par ≡ Some row =
-    item_there par_of c.args.tables.now.pars.items c.loop-par.par c.index-row.result.now
+    let is = item_there par_of c.args.tables.now.pars.items c.loop-par.par c.index-row.result.now
     (search rules) c.index-row.ensures in
     let few =
     branches_few (first_branch m) (length m.code) no_branches m.pars c.loop-par.par row c.requires.rows.pars is in
-    let long : length row.branches ≡ length c.index-row.result.now.branches.items =
-    length-map c.index-row.result.now.branches.items branch_of in
+    let long = length-map c.index-row.result.now.branches.items branch_of in
     omega (arith, c.loop-branch-test.true)
 
 pub loop-branch-preserved : goal.loop-branch-preserved
 loop-branch-preserved c =
     let m = contents_of c.args.tables.now in
     let row = par_of c.index-row.result.now in
-    let is : slice_get m.pars c.loop-par.par ≡ Some row =
-    item_there par_of c.args.tables.now.pars.items c.loop-par.par c.index-row.result.now
+    let is = item_there par_of c.args.tables.now.pars.items c.loop-par.par c.index-row.result.now
     (search rules) c.index-row.ensures in
-    let long : length row.branches ≡ length c.index-row.result.now.branches.items =
-    length-map c.index-row.result.now.branches.items branch_of in
+    let long = length-map c.index-row.result.now.branches.items branch_of in
     let inside : c.loop-branch.branch < length c.index-row.result.now.branches.items = search rules in
     rw (c.in_ok-push.ensures.items)
     (more_places m c.loop-par.par c.loop-branch.branch row c.loop-branch.places.items _ c.requires.rows is
@@ -51,11 +45,9 @@ pub loop-par-preserved : goal.loop-par-preserved
 loop-par-preserved c =
     let m = contents_of c.args.tables.now in
     let row = par_of c.index-row.result.now in
-    let is : slice_get m.pars c.loop-par.par ≡ Some row =
-    item_there par_of c.args.tables.now.pars.items c.loop-par.par c.index-row.result.now
+    let is = item_there par_of c.args.tables.now.pars.items c.loop-par.par c.index-row.result.now
     (search rules) c.index-row.ensures in
-    let long : length row.branches ≡ length c.index-row.result.now.branches.items =
-    length-map c.index-row.result.now.branches.items branch_of in
+    let long = length-map c.index-row.result.now.branches.items branch_of in
     let past : c.loop-branch.branch ≡ length c.index-row.result.now.branches.items = search rules in
     row_placed m c.loop-par.par c.loop-branch.branch row c.loop-branch.places.items is
     (past ∙ sym long) c.loop-branch.invariant

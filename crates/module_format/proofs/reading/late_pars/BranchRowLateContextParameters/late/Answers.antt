@@ -1,65 +1,59 @@
-use Rattle.std.proofs.Common.{◌≡◌, ◌+◌, ◌*◌, length, arith, sym, refl}
+use Rattle.std.proofs.Common.{◌≡◌, ℕ, ◌+◌, ◌*◌, length, arith, sym, refl}
 use Rattle.std.specs.List.{flat_map}
 use Rattle.std.proofs.lemmas.Result.{err_from_is_err_and}
 use Rattle.std.proofs.lemmas.List.{map-id}
-use Rattle.module_format.specs.Contents.{branch_of}
-use Rattle.module_format.specs.Spelling.{interval_bytes}
+use Rattle.module_format.specs.Contents.{Branch, branch_of}
+use Rattle.module_format.specs.Spelling.{u16_bytes, interval_bytes, end_bytes, branch_bytes}
 use Rattle.module_format.specs.Late.{late_branch}
 use Rattle.module_format.proofs.Tools.{step}
 use Rattle.module_format.proofs.Loop.{ok_weaker, tells_err, tells_same}
 use Rattle.module_format.proofs.Sizes.{branch_size, intervals_size}
 use Rattle.module_format.proofs.reading.late_pars.BranchRowLateContextParameters.late.Goals as goal
 
+-- the bytes of a branch, by how many intervals it has
+sized : (b : Branch) → length (branch_bytes b) ≡ 18 + 8 * length b.writes + 8 * length b.reads
+    + length (flat_map u16_bytes b.written_parameters) + length (flat_map u16_bytes b.read_parameters)
+    + length (flat_map end_bytes b.ends)
+sized b = omega (arith, branch_size b, intervals_size b.writes, intervals_size b.reads)
+
+-- where the lists behind the intervals stand
+behind_intervals : (b : Branch) (at writes reads : ℕ) → writes ≡ length b.writes → reads ≡ length b.reads
+    → at + 18 + 8 * writes + 8 * reads
+    ≡ at + 18 + length (flat_map interval_bytes b.writes) + length (flat_map interval_bytes b.reads)
+behind_intervals b at writes reads w r = omega (arith, intervals_size b.writes, intervals_size b.reads, w, r)
+
 pub overflow_mul-written : goal.overflow_mul-written
 overflow_mul-written c =
     let b = branch_of c.args.self.now in
-    omega (arith, branch_size b, intervals_size b.writes, c.len.ensures.value, c.requires)
+    omega (arith, sized b, c.len.ensures.value, c.requires)
 
 pub overflow_add-written-2 : goal.overflow_add-written-2
 overflow_add-written-2 c =
     let b = branch_of c.args.self.now in
-    omega (arith, branch_size b, intervals_size b.writes, c.len.ensures.value, c.requires)
+    omega (arith, sized b, c.len.ensures.value, c.requires)
 
 pub overflow_mul-written-2 : goal.overflow_mul-written-2
 overflow_mul-written-2 c =
     let b = branch_of c.args.self.now in
-    omega (arith, branch_size b, intervals_size b.reads, c.len-2.ensures.value, c.requires)
+    omega (arith, sized b, c.len-2.ensures.value, c.requires)
 
 pub overflow_add-written-3 : goal.overflow_add-written-3
 overflow_add-written-3 c =
     let b = branch_of c.args.self.now in
-    omega (
-      arith,
-      branch_size b,
-      intervals_size b.writes,
-      intervals_size b.reads,
-      c.len.ensures.value,
-      c.len-2.ensures.value,
-      c.requires,
-    )
+    omega (arith, sized b, c.len.ensures.value, c.len-2.ensures.value, c.requires)
 
 pub late_list-requires : goal.late_list-requires
 late_list-requires c =
     let b = branch_of c.args.self.now in
     rw (c.deref.ensures, map-id b.written_parameters)
-    (omega (
-      arith,
-      branch_size b,
-      intervals_size b.writes,
-      intervals_size b.reads,
-      c.len.ensures.value,
-      c.len-2.ensures.value,
-      c.requires,
-    ))
+    (omega (arith, sized b, c.len.ensures.value, c.len-2.ensures.value, c.requires))
 
 pub returns-in_err-read-clause-gives : goal.returns-in_err-read-clause-gives
 unfolding late_branch
 returns-in_err-read-clause-gives c =
     let b = branch_of c.args.self.now in
     let p = err_from_is_err_and c.from_residual.result c.from_residual.ensures.1 in
-    let place : c.args.at + 18 + 8 * c.len.result + 8 * c.len-2.result
-    ≡ c.args.at + 18 + length (flat_map interval_bytes b.writes) + length (flat_map interval_bytes b.reads)
-    = omega (arith, intervals_size b.writes, intervals_size b.reads, c.len.ensures.value, c.len-2.ensures.value) in
+    let place = behind_intervals b c.args.at _ _ c.len.ensures.value c.len-2.ensures.value in
     let first = rw (c.deref.ensures, map-id b.written_parameters, place) at c.in_err-read.ensures.gives in
     rw (p.1, p.2) (tells_err c.in_err-read.field-0.0 _ first)
 
@@ -68,25 +62,14 @@ late_list-requires-2 c =
     let b = branch_of c.args.self.now in
     let read = rw (c.deref.ensures, map-id b.written_parameters) at c.in_ok-read.ensures.behind in
     rw (c.deref-2.ensures, map-id b.read_parameters)
-    (omega (
-      arith,
-      read,
-      branch_size b,
-      intervals_size b.writes,
-      intervals_size b.reads,
-      c.len.ensures.value,
-      c.len-2.ensures.value,
-      c.requires,
-    ))
+    (omega (arith, read, sized b, c.len.ensures.value, c.len-2.ensures.value, c.requires))
 
 pub returns-in_err-ends-clause-gives : goal.returns-in_err-ends-clause-gives
 unfolding late_branch
 returns-in_err-ends-clause-gives c =
     let b = branch_of c.args.self.now in
     let p = err_from_is_err_and c.from_residual-in_err-ends.result c.from_residual-in_err-ends.ensures.1 in
-    let place : c.args.at + 18 + 8 * c.len.result + 8 * c.len-2.result
-    ≡ c.args.at + 18 + length (flat_map interval_bytes b.writes) + length (flat_map interval_bytes b.reads)
-    = omega (arith, intervals_size b.writes, intervals_size b.reads, c.len.ensures.value, c.len-2.ensures.value) in
+    let place = behind_intervals b c.args.at _ _ c.len.ensures.value c.len-2.ensures.value in
     let first = rw (c.deref.ensures, map-id b.written_parameters, place) at c.in_ok-read.ensures.gives in
     let read = rw (c.deref.ensures, map-id b.written_parameters, place) at c.in_ok-read.ensures.behind in
     let second = rw (c.deref-2.ensures, map-id b.read_parameters, read) at c.in_err-ends.ensures.gives in
@@ -98,25 +81,13 @@ late_list-requires-3 c =
     let read = rw (c.deref.ensures, map-id b.written_parameters) at c.in_ok-read.ensures.behind in
     let ends = rw (c.deref-2.ensures, map-id b.read_parameters) at c.in_ok-ends.ensures.behind in
     rw (c.deref-3.ensures.value, map-id b.ends)
-    (omega (
-      arith,
-      read,
-      ends,
-      branch_size b,
-      intervals_size b.writes,
-      intervals_size b.reads,
-      c.len.ensures.value,
-      c.len-2.ensures.value,
-      c.requires,
-    ))
+    (omega (arith, read, ends, sized b, c.len.ensures.value, c.len-2.ensures.value, c.requires))
 
 pub returns-clause-gives : goal.returns-clause-gives
 unfolding late_branch
 returns-clause-gives c =
     let b = branch_of c.args.self.now in
-    let place : c.args.at + 18 + 8 * c.len.result + 8 * c.len-2.result
-    ≡ c.args.at + 18 + length (flat_map interval_bytes b.writes) + length (flat_map interval_bytes b.reads)
-    = omega (arith, intervals_size b.writes, intervals_size b.reads, c.len.ensures.value, c.len-2.ensures.value) in
+    let place = behind_intervals b c.args.at _ _ c.len.ensures.value c.len-2.ensures.value in
     let first = rw (c.deref.ensures, map-id b.written_parameters, place) at c.in_ok-read.ensures.gives in
     let read = rw (c.deref.ensures, map-id b.written_parameters, place) at c.in_ok-read.ensures.behind in
     let second = rw (c.deref-2.ensures, map-id b.read_parameters, read) at c.in_ok-ends.ensures.gives in
@@ -131,14 +102,4 @@ returns-clause-behind c =
     let ends = rw (c.deref-2.ensures, map-id b.read_parameters) at c.in_ok-ends.ensures.behind in
     let behind = rw (c.deref-3.ensures.value, map-id b.ends) at c.late_list-3.ensures.behind in
     ok_weaker c.late_list-3.result behind
-    (λ end e. omega (
-      arith,
-      e,
-      read,
-      ends,
-      branch_size b,
-      intervals_size b.writes,
-      intervals_size b.reads,
-      c.len.ensures.value,
-      c.len-2.ensures.value,
-    ))
+    (λ end e. omega (arith, e, read, ends, sized b, c.len.ensures.value, c.len-2.ensures.value))
