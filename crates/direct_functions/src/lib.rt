@@ -3,7 +3,9 @@
 
 mod arithmetic;
 mod jumps;
+mod landings;
 mod locals;
+mod pointers;
 
 ghost use Rattle.std.specs.Prelude.{◌≡◌};
 ghost use Rattle.machine_state.specs.Performing.{Performs, IsSameElsewhere, direct_outcome};
@@ -14,7 +16,7 @@ use prefix_decoder::Fun;
 
 /// Executes one function of the running process with its whole operand; `opr` is the operation that its operand
 /// chooses. The registers `at`, `began` and `operand` stay as they are: the caller says where the next instruction
-/// begins. An instruction that has no body yet is unknown. After a fault nothing has changed.
+/// begins. An operation that has no body yet is unknown. After a fault nothing has changed.
 #[tactic(auto, unfolding(machine_state::specs::LocalStep::step_by, machine_state::specs::LocalStep::step_of, machine_state::specs::LocalStep::instruction_step))]
 pub fn direct<S: Store>(cpu: &mut Cpu<S>, fun: Fun, operand: i32) -> Result<Flow, Fault>
     ensures performs { let outcome = direct_outcome S.cells S.holding cpu.old fun operand in
@@ -27,7 +29,14 @@ pub fn direct<S: Store>(cpu: &mut Cpu<S>, fun: Fun, operand: i32) -> Result<Flow
         Some(Instruction::StoreLocal) => locals::store_local(cpu, operand),
         Some(Instruction::WithConstant(op)) => arithmetic::with_constant(cpu, op, operand),
         Some(Instruction::Jump) => jumps::jump(cpu, operand),
+        Some(Instruction::LoadLocalPointer) => pointers::load_local_pointer(cpu, operand),
+        Some(Instruction::LoadNonLocalPointer) => pointers::load_non_local_pointer(cpu, operand),
+        Some(Instruction::LoadNonLocal) => pointers::load_non_local(cpu, operand),
+        Some(Instruction::StoreNonLocal) => pointers::store_non_local(cpu, operand),
+        Some(Instruction::ConditionalJump) => landings::conditional_jump(cpu, operand),
+        Some(Instruction::AdjustWorkspace) => landings::adjust_workspace(cpu, operand),
+        Some(Instruction::Call) => landings::call(cpu, operand),
         Some(Instruction::Operate(op)) => operate(cpu, op),
-        _ => Err(cpu.fault(FaultKind::UnknownOperation)),
+        None => Err(cpu.fault(FaultKind::UnknownOperation)),
     }
 }

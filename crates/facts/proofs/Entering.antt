@@ -108,55 +108,49 @@ constant_means m act (Number lo hi) (Some x) number t (is_number low high fits) 
     (subst (λ (z : ℤ). FitsSigned w32 z) is fits, ap (λ (z : ℤ). Some z) is)
 constant_means m act f v number t means = absurd (cc)
 
-module _ (m : Contents) (act : Activation) (turns : ℤ → ℕ) (k : ℤ) (v : Option ℤ) where
+module _ (m : Contents) (act : Activation) (turns : ℤ → ℕ) (k : ℤ) where
   -- each kind of word that a label may have: a fact alone
-  alone_means : (said : WordFact) (wanted : Fact) → implies (by_itself said) wanted ≡ true → MeansWord m act k said v
+  alone_means : (v : Option ℤ) (said : WordFact) (wanted : Fact) → implies (by_itself said) wanted ≡ true
+      → MeansWord m act k said v
       → MeansWord m (with_turns turns act) k (Alone wanted) v
-  alone_means said wanted t means = is_fact (other_turns m act turns wanted v
+  alone_means v said wanted t means = is_fact (other_turns m act turns wanted v
       (implies_means m act (by_itself said) wanted v t (itself_means m act k said v means)))
 
   -- the index of a loop
-  index_means : (said : WordFact) (loop : CountedLoop) → says said (Index loop) ≡ true → LoopFits (Index loop)
+  index_means : (v : Option ℤ) (said : WordFact) (loop : CountedLoop) → says said (Index loop) ≡ true
+      → LoopFits (Index loop)
       → turns k ≡ turns_from said (Index loop) (act.turns k) → MeansWord m act k said v
       → MeansWord m (with_turns turns act) k (Index loop) v
-  index_means (Alone fact) loop t fits left (is_fact means) =
+  index_means v (Alone fact) loop t fits left (is_fact means) =
       let constant = constant_means m act fact v loop.base t means in
       let some : 1 ≤ loop.count = fits.some in
       subst (λ (x : Option ℤ). MeansWord m (with_turns turns act) k (Index loop) x) (sym constant.1)
       (is_index (omega arith) (omega arith) (omega (arith, ints)) constant.0)
-  index_means (Index other) loop t fits left means = under_way v means
-    where
-      under_way : (u : Option ℤ) → MeansWord m act k (Index other) u
-          → MeansWord m (with_turns turns act) k (Index loop) u
-      under_way None known = elim known [ ]
-      under_way (Some x) (is_index some most is fits) =
-          let same = same_loop other loop t in
-          let first : other.base ≡ loop.base = same.0 in
-          let number : other.count ≡ loop.count = same.1 in
-          is_index (omega arith) (omega arith) (omega (arith, ints)) fits
-  index_means (Count other) loop t fits left means = absurd (cc)
+  index_means None (Index other) loop t fits left means = elim means [ ]
+  index_means (Some x) (Index other) loop t fits left (is_index some most is sfits) =
+      let same = same_loop other loop t in
+      let first : other.base ≡ loop.base = same.0 in
+      let number : other.count ≡ loop.count = same.1 in
+      is_index (omega arith) (omega arith) (omega (arith, ints)) sfits
+  index_means v (Count other) loop t fits left means = absurd (cc)
 
   -- the count of a loop whose index is in the word before
-  count_means : (said first : WordFact) (loop : CountedLoop) → says said (Count loop) ≡ true
+  count_means : (v : Option ℤ) (said first : WordFact) (loop : CountedLoop) → says said (Count loop) ≡ true
       → says first (Index loop) ≡ true
       → are_alike (is_alone first) (is_alone said) ≡ true → LoopFits (Count loop)
       → turns (k -ℤ pos 1) ≡ turns_from first (Index loop) (act.turns (k -ℤ pos 1)) → MeansWord m act k said v
       → MeansWord m (with_turns turns act) k (Count loop) v
-  count_means (Alone fact) (Alone one) loop t u alike fits left (is_fact means) =
+  count_means v (Alone fact) (Alone one) loop t u alike fits left (is_fact means) =
       let constant = constant_means m act fact v (pos loop.count) t means in
       let some : 1 ≤ loop.count = fits.some in
       subst (λ (x : Option ℤ). MeansWord m (with_turns turns act) k (Count loop) x) (sym constant.1)
       (is_count (omega arith) (omega arith) (ap (λ (n : ℕ). pos n) (sym left)) constant.0)
-  count_means (Count other) (Index index) loop t u alike fits left means = under_way v means
-    where
-      under_way : (u : Option ℤ) → MeansWord m act k (Count other) u
-          → MeansWord m (with_turns turns act) k (Count loop) u
-      under_way None known = elim known [ ]
-      under_way (Some x) (is_count some most is fits) =
-          let same = same_loop other loop t in
-          let all : other.count ≡ loop.count = same.1 in
-          is_count (omega arith) (omega arith) (is ∙ ap (λ (c : ℕ). pos c) (sym left)) fits
-  count_means said first loop t u alike fits left means = absurd (cc)
+  count_means None (Count other) (Index index) loop t u alike fits left means = elim means [ ]
+  count_means (Some x) (Count other) (Index index) loop t u alike fits left (is_count some most is sfits) =
+      let same = same_loop other loop t in
+      let all : other.count ≡ loop.count = same.1 in
+      is_count (omega arith) (omega arith) (is ∙ ap (λ (c : ℕ). pos c) (sym left)) sfits
+  count_means v said first loop t u alike fits left means = absurd (cc)
 
 -- ---- entries
 

@@ -13,6 +13,8 @@ use Rattle.word_arithmetic.specs.Word.{least_word}
 use Rattle.module_format.specs.declared.fact.Fact.{Fact}
 use Rattle.module_format.specs.declared.fact.Fact.TheVariants.{Unknown, Number, Pointer, CodeAddress, Loop}
 use Rattle.module_format.specs.declared.fact.Fact.TheVariants.{ReturnAddress}
+use Rattle.module_format.specs.declared.stack.Stack.{Stack}
+use Rattle.module_format.specs.Stack.{AreRelated}
 use Rattle.module_format.specs.Contents.{Contents, Label, label_at}
 use Rattle.module_format.specs.Contents.{Par, Branch}
 use Rattle.certificate.specs.Branches.{numbered_branch}
@@ -46,7 +48,7 @@ use Rattle.states.proofs.RowFacts.{and-parts}
 use Rattle.facts.specs.Rules as rule
 use Rattle.facts.specs.Rules.{Ruling, falls, leads, ends, breaks}
 use Rattle.facts.specs.Meaning.{Activation, Means, says_nothing, is_number, IsOwnWord, HasFrame, Knows, IsWellFormed}
-use Rattle.facts.specs.Meaning.{SameMode, both_plain, label_turns}
+use Rattle.facts.specs.Meaning.{MeansKnown, SameMode, both_plain, label_turns}
 use Rattle.facts.specs.Fitting.{After, Here, rule_site, step_site, Fits, it_falls, it_leads, it_ends, it_breaks}
 use Rattle.facts.specs.Fitting.{HasNext, RulesFitSteps}
 use Rattle.facts.proofs.Words.{local_place, frame_word_is, knows_written, means_same, stored_means, plain_means}
@@ -320,26 +322,28 @@ module _ (x : Here) where
 
   -- ---- the instructions
 
+  -- the registers and the number change, and all else stays known
+  after_stack : {s : State} {l : Local} {said : Stack Known} {stack : Stack (Option ℤ)} {number : ℕ}
+      → After x.m x.h x.mode x.act s l → AreRelated (MeansKnown x.m x.act) said stack
+      → After x.m x.h x.mode x.act (record s { stack = said; number = number })
+      (record l { registers = record l.registers { stack = stack } })
+  after_stack a related = record {
+    frame = a.frame;
+    knows = record { stack = related; words = a.knows.words; within = a.knows.within };
+    same_mode = a.same_mode;
+  }
+
   module _ (wf : IsWellFormed x.m) (s : State) (l : Local) (a : After x.m x.h x.mode x.act s l)
       (changes : ChangesOwn x.h x.memory l.memory) (n : s.number ≡ x.number) where
     ldc_fits : (e : ℤ) → FitsSigned w32 e
         → FitsIf x (rule.goes_on (rule_site x) (rule.push (rule.constant e) s))
         (step.goes_on (step_site x) (step.push (Some e) l))
     ldc_fits e fits = goes_on_fits (rule.push (rule.constant e) s) (step.push (Some e) l)
-        (record {
-          frame = a.frame;
-          knows = record {
-            stack = record {
-              a = is_number (omega (arith, ints)) (omega (arith, ints)) fits;
-              b =
-                  a.knows.stack.a;
-              c = a.knows.stack.b;
-            };
-            words = a.knows.words;
-            within = a.knows.within;
-          };
-          same_mode = a.same_mode;
-        }) changes n
+        (after_stack a (record {
+          a = is_number (omega (arith, ints)) (omega (arith, ints)) fits;
+          b = a.knows.stack.a;
+          c = a.knows.stack.b;
+        })) changes n
 
     ldl_fits : (e : ℤ) → FitsSigned w32 e
         → FitsIf x (rule.instruction_rule (rule_site x) instructions.LoadLocal e s)
@@ -352,21 +356,13 @@ module _ (x : Here) where
         (local_place a.frame e fits w.place w.is w.inside) w.readable
         (goes_on_fits (rule.push (rule.loaded (s.depth +ℤ e) (s.frame (s.depth +ℤ e))) s)
         (step.push (word_at l.memory w.place) l)
-        (record {
-          frame = a.frame;
-          knows = record {
-            stack = record {
-              a = plain_means x.m x.act (s.depth +ℤ e) (s.frame (s.depth +ℤ e)) (word_at l.memory w.place)
-                  (means_same (a.knows.words (s.depth +ℤ e)) refl
-                  (frame_word_is l.memory x.act.origin (s.depth +ℤ e) w.place w.is));
-              b = a.knows.stack.a;
-              c = a.knows.stack.b;
-            };
-            words = a.knows.words;
-            within = a.knows.within;
-          };
-          same_mode = a.same_mode;
-        }) changes n))))
+        (after_stack a (record {
+          a = plain_means x.m x.act (s.depth +ℤ e) (s.frame (s.depth +ℤ e)) (word_at l.memory w.place)
+              (means_same (a.knows.words (s.depth +ℤ e)) refl
+              (frame_word_is l.memory x.act.origin (s.depth +ℤ e) w.place w.is));
+          b = a.knows.stack.a;
+          c = a.knows.stack.b;
+        })) changes n))))
 
     stl_fits : (e : ℤ) → FitsSigned w32 e
         → FitsIf x (rule.instruction_rule (rule_site x) instructions.StoreLocal e s)
@@ -378,15 +374,7 @@ module _ (x : Here) where
         write_step s l e s.stack.a.fact (Some v) _ _ a changes fits t
         (λ place inside. stored_means x.m x.act s.stack.a.fact v l.memory place inside means) (λ memory b c.
         goes_on_fits (rule.pop (written (s.depth +ℤ e) s.stack.a.fact s)) (step.pop (record l { memory = memory }))
-        (record {
-          frame = b.frame;
-          knows = record {
-            stack = record { a = b.knows.stack.b; b = b.knows.stack.c; c = says_nothing };
-            words = b.knows.words;
-            within = b.knows.within;
-          };
-          same_mode = b.same_mode;
-        }) c n))))))
+        (after_stack b (record { a = b.knows.stack.b; b = b.knows.stack.c; c = says_nothing })) c n))))))
 
     -- what A becomes
     becomes_fits : (s' : State) (l' : Local) (fact : Option Fact) (result : Option ℤ) → After x.m x.h x.mode x.act s' l'
@@ -399,15 +387,7 @@ module _ (x : Here) where
     becomes_fits s' l' (Some f) (Some v) b c e means =
         in_plain_rule s' b.same_mode _ _ (beside_plain_rule s' b.same_mode _ _
         (goes_on_fits (rule.with_a (known f) s') (step.with_a v l')
-        (record {
-          frame = b.frame;
-          knows = record {
-            stack = record { a = means; b = b.knows.stack.b; c = b.knows.stack.c };
-            words = b.knows.words;
-            within = b.knows.within;
-          };
-          same_mode = b.same_mode;
-        }) c e))
+        (after_stack b (record { a = means; b = b.knows.stack.b; c = b.knows.stack.c })) c e))
 
     constant_fits : (op : BinaryOperation) (e : ℤ) → FitsSigned w32 e
         → FitsIf x (rule.instruction_rule (rule_site x) (instructions.WithConstant op) e s)
@@ -438,15 +418,7 @@ module _ (x : Here) where
         leads_fits wf (target (x.at + x.len) (pos k))
         (rule.without_registers (record s' { number = s'.number - x.len }))
         (step.without_registers (record l { memory = memory }))
-        (record {
-          frame = b.frame;
-          knows = record {
-            stack = record { a = says_nothing; b = says_nothing; c = says_nothing };
-            words = b.knows.words;
-            within = b.knows.within;
-          };
-          same_mode = b.same_mode;
-        }) c left)))))
+        (after_stack b (record { a = says_nothing; b = says_nothing; c = says_nothing })) c left)))))
 
     operation_fits : (op : Op) → FitsIf x (rule.operation_rule (rule_site x) op s)
         (if op_has_body op then step.operation_step (step_site x) op l else fails UnknownOperation)
@@ -454,15 +426,7 @@ module _ (x : Here) where
     operation_fits operations.Reverse =
         in_plain_step s a.same_mode _ _ (in_plain_rule s a.same_mode _ _ (beside_plain_rule s a.same_mode _ _
         (goes_on_fits (rule.reverse s) (step.reverse l)
-        (record {
-          frame = a.frame;
-          knows = record {
-            stack = record { a = a.knows.stack.b; b = a.knows.stack.a; c = a.knows.stack.c };
-            words = a.knows.words;
-            within = a.knows.within;
-          };
-          same_mode = a.same_mode;
-        }) changes n)))
+        (after_stack a (record { a = a.knows.stack.b; b = a.knows.stack.a; c = a.knows.stack.c })) changes n)))
     operation_fits operations.MinimumInteger =
         beside_plain_rule s a.same_mode _ _
         (beside_plain_step s a.same_mode _ _ (ldc_fits least_word (record { sfits = lit< tt })))
@@ -474,15 +438,8 @@ module _ (x : Here) where
         in_plain_step s a.same_mode _ _ (uses_fits s.stack.a l.registers.stack.a _ _ a.knows.stack.a (λ v means.
         uses_fits s.stack.b l.registers.stack.b _ _ a.knows.stack.b (λ u other.
         becomes_fits (rule.pop s) (step.pop l) _ _
-        (record {
-          frame = a.frame;
-          knows = record {
-            stack = record { a = a.knows.stack.b; b = a.knows.stack.c; c = says_nothing };
-            words = a.knows.words;
-            within = a.knows.within;
-          };
-          same_mode = a.same_mode;
-        }) changes n (result_means x.m x.act op s.stack.b.fact s.stack.a.fact u v other means))))
+        (after_stack a (record { a = a.knows.stack.b; b = a.knows.stack.c; c = says_nothing }))
+        changes n (result_means x.m x.act op s.stack.b.fact s.stack.a.fact u v other means))))
     operation_fits (operations.Unary op) =
         in_plain_step s a.same_mode _ _ (uses_fits s.stack.a l.registers.stack.a _ _ a.knows.stack.a (λ v means.
         becomes_fits s l _ _ a changes n (unary_result_means x.m x.act op s.stack.a.fact v means)))

@@ -1,6 +1,9 @@
 -- The rules, one test behind another.
 use Rattle.std.proofs.Common.{◌≡◌, ℕ, ℤ, negsuc, ◌+ℤ◌, ◌+◌, Result, Ok, Err, Option, Some, None, sym, ap, ◌∙◌, subst}
-use Rattle.std.proofs.Common.{refl, Bool, false, cond}
+use Rattle.std.proofs.Common.{refl, Bool, false, cond, is_some, to_z, of_z}
+use Rattle.std.proofs.lemmas.Int.{to_z-of_z}
+use Rattle.std.specs.Prelude.{FitsSigned, ok_or, IfSome, IfOk}
+use Rattle.std.specs.Int.{w32}
 use Rattle.prefix_decoder.specs.declared.decoding.Instr.{Instr}
 use Rattle.module_format.specs.declared.fact.Fact.{Fact}
 use Rattle.module_format.specs.declared.fact.Fact.TheVariants.{Unknown, Number}
@@ -22,10 +25,10 @@ use Rattle.states.specs.State.{State, known, written}
 use Rattle.states.specs.Below.{below}
 use Rattle.machine_state.specs.declared.cpu.Flow.{Flow}
 use Rattle.facts.specs.Rules.{Ruling, Site, leads, breaks, outside_alternation, outside_starts, alone, uses, forward}
-use Rattle.facts.specs.Rules.{writes_word, reads_word, schedules, pays, leads_to, goes_on, push, pop, without_registers}
+use Rattle.facts.specs.Rules.{writes_word, reads_word, schedules, pays, leads_to, goes_on, goes_to, push, pop}
 use Rattle.facts.specs.Rules.{loaded, instruction_rule, rule_of, rule, rule_at, has_rule, operation_rule, op_has_rule}
 use Rattle.facts.specs.Rules.{instruction_has_rule}
-use Rattle.facts.specs.Telling.{Advances}
+use Rattle.facts.specs.Telling.{Admits, Advances}
 
 -- the same ruling, told otherwise
 pub advances-by : (r : Result Flow Rule) (after : State) (p q : Ruling) → p ≡ q → Advances r after q
@@ -46,12 +49,14 @@ load_constant-done site s t e d v v_is d_is t_is =
 abbrev pub after_load : ℤ → State → State
 after_load k s = push (loaded k (s.frame k)) s
 
-pub load_local-own : (site : Site) (s : State) (e d : ℤ) → ((n : Ruling) → outside_starts s.mode n ≡ n) → d ≡ e
-    → instruction_rule site LoadLocal e s
-    ≡ reads_word site s (s.depth +ℤ d) (goes_on site (after_load (s.depth +ℤ d) s))
+pub load_local-own : (site : Site) (s : State) (e : ℤ) → FitsSigned w32 e
+    → ((n : Ruling) → outside_starts s.mode n ≡ n)
+    → let k = s.depth +ℤ to_z w32 (of_z w32 e) in
+    instruction_rule site LoadLocal e s ≡ reads_word site s k (goes_on site (after_load k s))
 unfolding instruction_rule
-load_local-own site s e d starts d_is =
-    starts _ ∙ ap (λ (z : ℤ). reads_word site s (s.depth +ℤ z) (goes_on site (after_load (s.depth +ℤ z) s))) (sym d_is)
+load_local-own site s e fits starts =
+    starts _ ∙ ap (λ (z : ℤ). reads_word site s (s.depth +ℤ z) (goes_on site (after_load (s.depth +ℤ z) s)))
+    (sym (to_z-of_z w32 e fits))
 
 pub load_local-after : (s t : State) (k z : ℤ) (fact : WordFact) (v : Known) → z ≡ k → fact ≡ s.frame z
     → v ≡ loaded z fact → t ≡ push v s → after_load k s ≡ t
@@ -64,15 +69,14 @@ load_local-after s t k z fact v z_is fact_is v_is t_is =
 abbrev pub after_store : ℤ → Fact → State → State
 after_store k fact s = pop (written k fact s)
 
-pub store_local-own : (site : Site) (s : State) (e d : ℤ) (fact : Fact)
-    → ((n : Fact → Ruling) → uses s.stack.a n ≡ n fact)
-    → ((n : Ruling) → alone s.mode n ≡ n) → d ≡ e
-    → instruction_rule site StoreLocal e s
-    ≡ writes_word site s (s.depth +ℤ d) (goes_on site (after_store (s.depth +ℤ d) fact s))
+pub store_local-own : (site : Site) (s : State) (e : ℤ) (fact : Fact) → FitsSigned w32 e
+    → ((n : Fact → Ruling) → uses s.stack.a n ≡ n fact) → ((n : Ruling) → alone s.mode n ≡ n)
+    → let k = s.depth +ℤ to_z w32 (of_z w32 e) in
+    instruction_rule site StoreLocal e s ≡ writes_word site s k (goes_on site (after_store k fact s))
 unfolding instruction_rule
-store_local-own site s e d fact used passes d_is =
+store_local-own site s e fact fits used passes =
     used _ ∙ (passes _ ∙ ap (λ (z : ℤ). writes_word site s (s.depth +ℤ z)
-    (goes_on site (after_store (s.depth +ℤ z) fact s))) (sym d_is))
+    (goes_on site (after_store (s.depth +ℤ z) fact s))) (sym (to_z-of_z w32 e fits)))
 
 pub store_local-after : (s t u : State) (k z : ℤ) (fact : Fact) → z ≡ k → t ≡ written z fact s → u ≡ pop t
     → after_store k fact s ≡ u
@@ -80,15 +84,14 @@ store_local-after s t u k z fact z_is t_is u_is = sym (u_is ∙ ap pop (t_is ∙
 
 -- ---- j
 
--- what j does once it leads forward
-abbrev pub on_jump : Site → State → ℤ → Ruling
-on_jump site s e = outside_starts s.mode (schedules site s (λ s. pays site s
-    (λ s. leads_to site (target (site.at + site.length) e) (without_registers s))))
-
-pub jump-forward : (site : Site) (s : State) (e d : ℤ) → ((n : Ruling) → outside_alternation s.mode n ≡ n) → d ≡ e
-    → instruction_rule site Jump e s ≡ forward d (on_jump site s d)
+pub jump-forward : (site : Site) (s : State) (e : ℤ) → FitsSigned w32 e
+    → ((n : Ruling) → outside_alternation s.mode n ≡ n)
+    → let d = to_z w32 (of_z w32 e) in
+    instruction_rule site Jump e s ≡ forward d (goes_to site (target (site.at + site.length) d) s)
 unfolding instruction_rule
-jump-forward site s e d alternation d_is = alternation _ ∙ ap (λ (z : ℤ). forward z (on_jump site s z)) (sym d_is)
+jump-forward site s e fits alternation =
+    alternation _
+    ∙ ap (λ (z : ℤ). forward z (goes_to site (target (site.at + site.length) z) s)) (sym (to_z-of_z w32 e fits))
 
 -- ---- labels
 
@@ -163,14 +166,27 @@ unruled m at i s h = without-rule _ (instruction_of i.fun i.operand) i.operand s
 
 -- ---- words, where it is known whether they may be written or read
 
-pub written-by : (site : Site) (s : State) (w z : ℤ) (b : Bool) (k : Ruling) → z ≡ w
-    → b ≡ may_write_word site.contents s.context z → writes_word site s w k ≡ cond b k (breaks rules.OwnWord)
-unfolding writes_word
-written-by site s w z b k z_is h =
-    ap (λ b. cond b k (breaks rules.OwnWord)) (ap (may_write_word site.contents s.context) (sym z_is) ∙ sym h)
+-- a test that is handed a word, or else breaks `OwnWord`
+admitted : (may : Bool) (o : Option ℤ) → is_some o ≡ may
+    → Admits (ok_or o rules.OwnWord) (λ k. cond may k (breaks rules.OwnWord))
+admitted may (Some x) h = λ k. ap (λ b. cond b k (breaks rules.OwnWord)) (sym h)
+admitted may None h = λ k. ap (λ b. cond b k (breaks rules.OwnWord)) (sym h)
 
-pub read-by : (site : Site) (s : State) (w z : ℤ) (b : Bool) (k : Ruling) → z ≡ w
-    → b ≡ may_read_word site.contents s.context z → reads_word site s w k ≡ cond b k (breaks rules.OwnWord)
+-- what holds of the word holds where it is passed on
+pub passed-on : (P : ℤ → Type 0) (o : Option ℤ) (r : Result ℤ Rule) → r ≡ ok_or o rules.OwnWord → IfSome o P → IfOk r P
+passed-on P (Some x) r r_is h = rw r_is h
+passed-on P None r r_is h = rw r_is tt
+
+pub written-by : (site : Site) (s : State) (w z : ℤ) (o : Option ℤ) (r : Result ℤ Rule) → r ≡ ok_or o rules.OwnWord
+    → z ≡ w → is_some o ≡ may_write_word site.contents s.context z → Admits r (writes_word site s w)
+unfolding writes_word
+written-by site s w z o r r_is z_is h =
+    rw r_is (admitted (may_write_word site.contents s.context w) o
+    (h ∙ ap (may_write_word site.contents s.context) z_is))
+
+pub read-by : (site : Site) (s : State) (w z : ℤ) (o : Option ℤ) (r : Result ℤ Rule) → r ≡ ok_or o rules.OwnWord
+    → z ≡ w → is_some o ≡ may_read_word site.contents s.context z → Admits r (reads_word site s w)
 unfolding reads_word
-read-by site s w z b k z_is h =
-    ap (λ b. cond b k (breaks rules.OwnWord)) (ap (may_read_word site.contents s.context) (sym z_is) ∙ sym h)
+read-by site s w z o r r_is z_is h =
+    rw r_is (admitted (may_read_word site.contents s.context w) o
+    (h ∙ ap (may_read_word site.contents s.context) z_is))

@@ -127,6 +127,11 @@ with_a v s = record s { stack = with_top v s.stack }
 abbrev pub without_registers : State → State
 without_registers s = record s { stack = of_empty unknown }
 
+-- the process goes on at a label, where another one may run first; among the starts of a PAR none does so
+abbrev pub goes_to : Site → ℕ → State → Ruling
+goes_to site to s =
+    outside_starts s.mode (schedules site s (λ s. pays site s (λ s. leads_to site to (without_registers s))))
+
 -- a constant
 abbrev pub constant : ℤ → Known
 constant v = known (Number v v)
@@ -190,8 +195,7 @@ instruction_rule site StoreLocal e s =
     uses s.stack.a (λ a. alone s.mode (writes_word site s k (goes_on site (pop (written k a s)))))
 instruction_rule site (WithConstant op) e s = uses s.stack.a (λ a. becomes site (result_fact op a (Number e e)) s)
 instruction_rule site Jump e s =
-    outside_alternation s.mode (forward e (outside_starts s.mode (schedules site s (λ s. pays site s (λ s.
-    leads_to site (target (site.at + site.length) e) (without_registers s))))))
+    outside_alternation s.mode (forward e (goes_to site (target (site.at + site.length) e) s))
 instruction_rule site (Operate op) e s = operation_rule site op s
 instruction_rule site _ e s = breaks rules.Spelling
 

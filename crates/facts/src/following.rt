@@ -42,6 +42,7 @@ pub fn transfer<'a>(
     match advance(&mut next, module, at, instr)? {
         Flow::Next => Ok(Successors::Falls(next)),
         Flow::Jump { to } => Ok(Successors::Leads(to)),
+        Flow::Land { to } => Ok(Successors::Leads(to)),
         Flow::Stop => Ok(Successors::Ends),
     }
 }

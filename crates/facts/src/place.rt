@@ -29,7 +29,8 @@ impl Place<'_, '_> {
     ghost use Rattle.machine_state.specs.declared.instruction.Instruction.TheVariants.{StoreLocal, WithConstant};
     ghost use Rattle.machine_state.specs.declared.instruction.Instruction.TheVariants.{Operate};
     ghost use Rattle.states.specs.Views.{state_of, CanWrite, BelongsTo};
-    ghost use Rattle.facts.specs.Rules.{writes_word, reads_word, schedules, pays, goes_on, leads_to, becomes};
+    ghost use Rattle.facts.specs.Rules.{writes_word, reads_word, schedules, pays, goes_on, leads_to, goes_to};
+    ghost use Rattle.facts.specs.Rules.{becomes};
     ghost use Rattle.facts.specs.Rules.{operation_rule, instruction_rule};
     ghost use Rattle.facts.specs.Telling.{Admits, Leaves, Advances};
     ghost use Rattle.facts.specs.Places.{site_of};
@@ -43,10 +44,8 @@ impl Place<'_, '_> {
         ensures word { IfOk result (λ k. k ≡ state.now.depth +ℤ distance) }
         ensures room { IfOk result (CanWrite state.now) }
     {
-        match state.writable_word(i64::from(state.depth) + i64::from(distance)) {
-            Some(word) => Ok(word),
-            None => Err(Rule::OwnWord),
-        }
+        let word = state.writable_word(i64::from(state.depth) + i64::from(distance));
+        word.ok_or(Rule::OwnWord)
     }
 
     /// The state's context may read the word so far from the workspace.
@@ -57,10 +56,8 @@ impl Place<'_, '_> {
             Admits result (reads_word (site_of self.now) (state_of state.now) word) }
         ensures word { IfOk result (λ k. k ≡ state.now.depth +ℤ distance) }
     {
-        match state.readable_word(i64::from(state.depth) + i64::from(distance)) {
-            Some(word) => Ok(word),
-            None => Err(Rule::OwnWord),
-        }
+        let word = state.readable_word(i64::from(state.depth) + i64::from(distance));
+        word.ok_or(Rule::OwnWord)
     }
 
     /// The context may write the three words below the workspace, and they are unknown from now on.
@@ -125,6 +122,19 @@ impl Place<'_, '_> {
             }
             None => Err(Rule::Label),
         }
+    }
+
+    /// The process goes on at the label of the offset, where another process may run first.
+    fn goes_to(&self, state: &mut State, to: u32) -> Result<Flow, Rule>
+        requires { BelongsTo self.now.module.now state.old }
+        ensures ruling { Advances result (state_of state.new) (goes_to (site_of self.now) to (state_of state.old)) }
+        ensures belongs { BelongsTo self.now.module.now state.new }
+    {
+        outside_starts(state.mode)?;
+        self.schedules(state)?;
+        self.pays(state)?;
+        state.stack = Stack::of_empty(Known::UNKNOWN);
+        self.leads_to(state, to)
     }
 
     #[tactic(auto, unfolding(crate::specs::Rules::instruction_rule))]
@@ -209,11 +219,7 @@ impl Place<'_, '_> {
     {
         outside_alternation(state.mode)?;
         forward(distance)?;
-        outside_starts(state.mode)?;
-        self.schedules(state)?;
-        self.pays(state)?;
-        state.stack = Stack::of_empty(Known::UNKNOWN);
-        self.leads_to(state, self.target(distance))
+        self.goes_to(state, self.target(distance))
     }
 
     #[tactic(auto, unfolding(crate::specs::Rules::operation_rule))]

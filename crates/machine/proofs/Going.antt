@@ -10,6 +10,8 @@ use Rattle.machine_state.specs.declared.event.Event.{Event}
 use Rattle.machine_state.specs.declared.link.Link.{Link}
 use Rattle.machine_state.specs.declared.link.Link.TheVariants.{Zero, One, Two, Three}
 use Rattle.machine_state.specs.declared.fault.Fault.{Fault}
+use Rattle.machine_state.specs.Instructions.{has_body}
+use Rattle.machine_state.proofs.EventLaws.{faults_are_kept}
 use Rattle.machine_state.specs.World.{World}
 use Rattle.machine_state.specs.World.{loaded}
 use Rattle.machine_state.specs.Happens.{happens, turn, run_from, world_after, emitted, emitted_by, emitted_from}
@@ -19,12 +21,12 @@ use Rattle.verifier.specs.Headline.{IsEvent, RunsWell}
 use Rattle.machine.specs.Asking.{Execution}
 use Rattle.machine.specs.Replaying.{NeverFails, GoesOut, bytes_of, out_on}
 use Rattle.verifier.proofs.Lists.{got_set, got_other}
-use Rattle.machine.proofs.FaultsStay.{fault_stays}
 
 -- no event that can happen is a fault
 pub no_fault : (m : Contents) (w : World) (e : Event) (f : Fault) → NeverFails m w → IsEvent e
     → (turn m w e).answer ≡ Err f → ⊥
-no_fault m w e f never is fails = never.always (e ∷ []) f (is, tt) (fault_stays m w e f fails)
+no_fault m w e f never is fails = never.always (e ∷ []) f (is, tt)
+    (faults_are_kept has_body m w e f fails)
 
 -- The run of a module that runs well, in the middle of a list of events: what is left of them leads to the same
 -- world, and puts out what is left to be put out.

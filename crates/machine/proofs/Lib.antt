@@ -1,2 +1,1 @@
-mod FaultsStay
 mod Going

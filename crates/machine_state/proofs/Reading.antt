@@ -91,7 +91,7 @@ cast_unsigned_below : (v : ℤ) → FitsSigned w32 v → cast_unsigned w32 v < 4
 cast_unsigned_below v fits = omega (arith, ints)
 
 -- two memories whose bytes at a word agree
-word_at_same : (m n : Memory) (place : ℕ) → byte_at m place ≡ byte_at n place
+pub word_at_same : (m n : Memory) (place : ℕ) → byte_at m place ≡ byte_at n place
     → byte_at m (place + 1) ≡ byte_at n (place + 1) → byte_at m (place + 2) ≡ byte_at n (place + 2)
     → byte_at m (place + 3) ≡ byte_at n (place + 3) → word_at m place ≡ word_at n place
 unfolding word_at

@@ -1,8 +1,8 @@
--- Scheduling takes the three words below the workspace: in one test and one change.
-use Rattle.std.proofs.Common.{◌≡◌, ℕ, Bool, true, false, ◌&&◌, cond, negsuc, refl}
+-- Scheduling takes the three words below the workspace: in one test and one change. What may be written may be read.
+use Rattle.std.proofs.Common.{◌≡◌, ℕ, ◌+◌, Bool, true, false, ◌&&◌, ◌||◌, cond, negsuc, refl, IsTrue}
 use Rattle.machine_state.specs.declared.fault.FaultKind.TheVariants.{NotOwn}
 use Rattle.machine_state.specs.Memory.{place_of, local_address}
-use Rattle.machine_state.specs.Holding.{may_write_word}
+use Rattle.machine_state.specs.Holding.{Holding, may_write, may_write_word, may_read_word}
 use Rattle.machine_state.specs.Site.{Site, Local, Outcome, fails}
 use Rattle.machine_state.specs.LocalStep.{writes, schedules, holds_scheduling_words}
 use Rattle.machine_state.specs.LocalStep.{without_scheduling_words}
@@ -25,3 +25,17 @@ schedules-is s l behind =
     (behind (record l { memory = without_scheduling_words l.memory l.registers.workspace }))
 
 pub ruleset schedules_is = (schedules-is)
+
+four_weaker : (a b c d p q r t : Bool) → IsTrue (a && b && c && d)
+    → IsTrue ((a || p) && (b || q) && (c || r) && (d || t))
+four_weaker true true true true p q r t h = h
+four_weaker true true true false p q r t h = absurd (cc)
+four_weaker true true false d p q r t h = absurd (cc)
+four_weaker true false c d p q r t h = absurd (cc)
+four_weaker false b c d p q r t h = absurd (cc)
+
+pub may_write_word-read : (h : Holding) (place : ℕ) → IsTrue (may_write_word h place) → IsTrue (may_read_word h place)
+unfolding may_write_word may_read_word
+may_write_word-read h place own =
+    four_weaker (may_write h place) (may_write h (place + 1)) (may_write h (place + 2)) (may_write h (place + 3))
+    _ _ _ _ own

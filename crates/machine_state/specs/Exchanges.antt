@@ -1,7 +1,7 @@
 -- Messages: over internal channels, where the first process to come waits for the second, and over links.
 use Rattle.std.specs.Prelude.{ℕ, zero, suc, ◌+◌, ◌==◌, if◌then◌else◌, List, []}
 use Rattle.std.specs.Prelude.{◌∷◌}
-use Rattle.std.specs.Prelude.{length, Option, Some, None, slice_get}
+use Rattle.std.specs.Prelude.{Option, Some, None, slice_get}
 use Rattle.std.specs.Option.{unwrap_or}
 use Rattle.module_format.specs.Contents.{link_length}
 use Rattle.machine_state.specs.declared.fault.FaultKind.TheVariants.{UnequalLengths, EndNotHeld}

@@ -19,3 +19,8 @@ pub mod MemoryLaws
 pub mod SmallModules
 pub mod Apart
 pub mod Frame
+pub mod EventLaws
+pub mod Writing
+pub mod SpanLaws
+pub mod Seeing
+pub mod Waiting

@@ -2,14 +2,14 @@
 use Rattle.std.specs.Prelude.{◌≡◌, ℕ, ◌+◌, ℤ, Bool, Option, Some, None, Result, Ok, Err, if◌then◌else◌}
 use Rattle.machine_state.specs.declared.cpu.Cpu.{Cpu}
 use Rattle.machine_state.specs.declared.cpu.Flow.{Flow}
-use Rattle.machine_state.specs.declared.cpu.Flow.TheVariants.{Next, Jump, Stop}
+use Rattle.machine_state.specs.declared.cpu.Flow.TheVariants.{Next, Jump, Land, Stop}
 use Rattle.machine_state.specs.declared.fault.Fault.{Fault}
 use Rattle.machine_state.specs.declared.fault.FaultKind.{FaultKind}
 use Rattle.machine_state.specs.Faults.{fault_in}
 use Rattle.machine_state.specs.Memory.{Memory}
 use Rattle.machine_state.specs.Holding.{Holding}
 use Rattle.machine_state.specs.World.{Roles}
-use Rattle.machine_state.specs.Site.{Site, Local, Outcome, goes, jumps, stops, fails}
+use Rattle.machine_state.specs.Site.{Site, Local, Outcome, goes, jumps, lands, stops, fails}
 use Rattle.machine_state.specs.Instructions.{op_has_body}
 use Rattle.machine_state.specs.LocalStep.{local_step, instruction_step, operation_step}
 use Rattle.machine_state.specs.declared.fault.FaultKind.TheVariants.{UnknownOperation}
@@ -70,6 +70,7 @@ Admits cpu (Err fault) test = (after : Outcome) → faulted cpu (test after) ≡
 abbrev pub Performs : {S : Type 0} → (S → Memory) → Cpu S → Cpu S → Result Flow Fault → Outcome → Type 0
 Performs cells before after (Ok Next) outcome = outcome ≡ goes (local_of cells after)
 Performs cells before after (Ok (Jump to)) outcome = outcome ≡ jumps to (local_of cells after)
+Performs cells before after (Ok (Land to)) outcome = outcome ≡ lands to (local_of cells after)
 Performs cells before after (Ok Stop) outcome = outcome ≡ stops (local_of cells after)
 Performs cells before after (Err fault) outcome =
     (faulted before outcome ≡ Some fault) × (local_of cells after ≡ local_of cells before)

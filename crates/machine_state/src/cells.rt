@@ -1,6 +1,7 @@
 //! Bytes with tags, as slices: a byte is defined where its tag is set.
 
-ghost use Rattle.std.specs.Prelude.{◌≡◌, ◌+◌, ◌<◌, ◌^◌, length};
+ghost use Rattle.std.specs.Prelude.{◌≡◌, ◌+◌, ◌<◌, ◌^◌, false, length};
+ghost use Rattle.machine_state.specs.LocalStep.{copied, meet};
 ghost use Rattle.machine_state.specs.Memory.{byte_at, with_byte, word_at, with_word};
 ghost use Rattle.machine_state.specs.Tagged.{tagged_cells};
 
@@ -68,5 +69,21 @@ pub(crate) fn set_word(bytes: &mut [u8], tags: &mut [bool], place: usize, value:
             set_byte(bytes, tags, place + 2, None);
             set_byte(bytes, tags, place + 3, None);
         }
+    }
+}
+
+/// So many bytes from one place on go to another, which they do not meet.
+pub(crate) fn copy(bytes: &mut [u8], tags: &mut [bool], source: usize, to: usize, count: usize)
+    requires lengths { length tags.old ≡ length bytes.old }
+    requires apart { meet source count to count ≡ false }
+    requires source { source < 2 ^ 32 }
+    requires to { to < 2 ^ 32 }
+    requires count { count < 2 ^ 32 }
+    ensures { let before = tagged_cells bytes.old tags.old in
+        tagged_cells bytes.new tags.new ≡ copied before source to count before }
+{
+    for k in 0..count {
+        let byte = byte_at(bytes, tags, source + k);
+        set_byte(bytes, tags, to + k, byte);
     }
 }

@@ -1,14 +1,17 @@
 //! The running process, and what its instructions ask.
 
-ghost use Rattle.std.specs.Prelude.{◌≡◌, ◌+◌, nat_lt, IsTrue};
+ghost use Rattle.std.specs.Prelude.{◌≡◌, ◌+◌, ◌-◌, ◌%◌, ◌^◌, ◌≤◌, ◌==◌, ◌&&◌, not, nat_lt, int_le, nat_abs, pos, IsTrue};
+ghost use Rattle.std.specs.Prelude.{IfOk, false};
 ghost use Rattle.std.specs.Option.{ok_or};
-ghost use Rattle.machine_state.specs.Holding.{may_write_word, may_read_word};
+ghost use Rattle.std.specs.Int.{w32, cast_unsigned};
+ghost use Rattle.machine_state.specs.Holding.{may_write, may_read, may_write_word, may_read_word};
 ghost use Rattle.machine_state.specs.LocalStep.{outside_alternation, outside_starts, alone, target};
 ghost use Rattle.machine_state.specs.LocalStep.{holds_scheduling_words, without_scheduling_words};
-ghost use Rattle.machine_state.specs.Memory.{place_of, word_at};
+ghost use Rattle.machine_state.specs.LocalStep.{may_read_bytes, may_write_bytes, meet};
+ghost use Rattle.machine_state.specs.Memory.{place_of, word_at, byte_at};
 ghost use Rattle.machine_state.specs.Performing.{fault_of, value_or_fault, Admits};
 
-use crate::address::local_address;
+use crate::address::{local_address, place_of};
 use crate::fault::{Fault, FaultKind};
 use crate::process::{Mode, Registers, Word};
 use crate::store::Store;
@@ -29,6 +32,16 @@ pub struct Cpu<S> {
     pub store: S,
 }
 
+/// Whether so many bytes at one address meet those at another.
+fn meet(one: u32, other: u32, count: u32) -> bool
+    ensures { result ≡ meet (place_of one) count (place_of other) count }
+{
+    let one = u64::from(place_of(one));
+    let other = u64::from(place_of(other));
+    let count = u64::from(count);
+    one < other + count && other < one + count
+}
+
 /// How a process goes on after an instruction. Later instructions add kinds.
 #[derive(Clone, Copy, Debug, PartialEq, Eq)]
 pub enum Flow {
@@ -36,6 +49,8 @@ pub enum Flow {
     Next,
     /// At a code offset, by an instruction after which the process may go to the back of the ready list.
     Jump { to: u32 },
+    /// At a code offset, by an instruction after which the process goes on.
+    Land { to: u32 },
     /// It stops for good.
     Stop,
 }
@@ -67,6 +82,40 @@ impl<S> Cpu<S> {
         ensures { result ≡ self.now.registers.at + 1 }
     {
         u64::from(self.registers.at) + 1
+    }
+
+    /// Passes where a test holds, else this fault.
+    pub fn check(&self, holds: bool, kind: FaultKind) -> Result<(), Fault>
+        ensures { result ≡ value_or_fault self.now holds tt kind }
+    {
+        if holds { Ok(()) } else { Err(self.fault(kind)) }
+    }
+
+    /// The address of a word that a register holds: it is a multiple of 4, else `Unaligned`.
+    pub fn aligned(&self, value: i32) -> Result<u32, Fault>
+        ensures { let at = cast_unsigned w32 value in
+            result ≡ value_or_fault self.now (at % 4 == 0) at FaultKind.Unaligned }
+    {
+        let address = value.cast_unsigned();
+        if address % 4 == 0 {
+            Ok(address)
+        } else {
+            Err(self.fault(FaultKind::Unaligned))
+        }
+    }
+
+    /// A count from the least to the most, else `CountRange`.
+    pub fn count(&self, least: u32, most: u32, value: i32) -> Result<u32, Fault>
+        ensures value { let holds = int_le (pos least) value && int_le value (pos most) in
+            result ≡ value_or_fault self.now holds (nat_abs value) FaultKind.CountRange }
+        ensures bound { IfOk result (λ n. n ≤ most) }
+    {
+        let number = i64::from(value);
+        if i64::from(least) <= number && number <= i64::from(most) {
+            Ok(value.unsigned_abs())
+        } else {
+            Err(self.fault(FaultKind::CountRange))
+        }
     }
 
     /// Passes where the offset lies in the code, else `OutsideCode`.
@@ -121,6 +170,20 @@ impl<S> Cpu<S> {
             .wrapping_add(1)
             .wrapping_add_signed(distance)
     }
+
+    /// The address after the present instruction, modulo 2^32.
+    pub fn next_address(&self) -> u32
+        ensures { result ≡ (self.now.code_start + (self.now.registers.at + 1)) % 2 ^ 32 }
+    {
+        self.code_start.wrapping_add(self.target(0))
+    }
+
+    /// The code offset of an address, modulo 2^32.
+    pub fn code_offset(&self, address: u32) -> u32
+        ensures { result ≡ (address + 2 ^ 32 - self.now.code_start) % 2 ^ 32 }
+    {
+        address.wrapping_sub(self.code_start)
+    }
 }
 
 impl<S: Store> Cpu<S> {
@@ -135,6 +198,48 @@ impl<S: Store> Cpu<S> {
         } else {
             Err(self.fault(FaultKind::NotOwn))
         }
+    }
+
+    /// The byte at an address that may be read, else `NotOwn`.
+    pub fn read_byte(&self, address: u32) -> Result<Option<u8>, Fault>
+        ensures { let place = place_of address in
+            let can_load = may_read (S.holding self.now.store) place in
+            result ≡ value_or_fault self.now can_load (byte_at (S.cells self.now.store) place) FaultKind.NotOwn }
+    {
+        if self.store.can_load_byte(address) {
+            Ok(self.store.load_byte(address))
+        } else {
+            Err(self.fault(FaultKind::NotOwn))
+        }
+    }
+
+    /// Passes where the byte at an address may be written, else `NotOwn`.
+    pub fn writable_byte(&self, address: u32) -> Result<(), Fault>
+        ensures { let can_store = may_write (S.holding self.now.store) (place_of address) in
+            result ≡ value_or_fault self.now can_store tt FaultKind.NotOwn }
+    {
+        self.check(self.store.can_store_byte(address), FaultKind::NotOwn)
+    }
+
+    /// Whether so many bytes may be read at one address and written at another, and the two blocks do not meet.
+    pub fn may_copy(&self, from: u32, to: u32, count: u32) -> bool
+        ensures value { let holding = S.holding self.now.store in
+            let apart = not (meet (place_of from) count (place_of to) count) in
+            result ≡ (may_read_bytes holding from count && may_write_bytes holding to count && apart) }
+        ensures apart { IsTrue result → meet (place_of from) count (place_of to) count ≡ false }
+    {
+        self.store.can_load_bytes(from, count)
+            && self.store.can_store_bytes(to, count)
+            && !meet(from, to, count)
+    }
+
+    /// The value of the word at an address that may be written: it is defined, else `Undefined`.
+    pub fn own_word(&self, address: u32) -> Result<i32, Fault>
+        requires { IsTrue (may_write_word (S.holding self.now.store) (place_of address)) }
+        ensures { let word = word_at (S.cells self.now.store) (place_of address) in
+            result ≡ ok_or word (fault_of self.now FaultKind.Undefined) }
+    {
+        self.used(self.store.load_word(address))
     }
 
     /// Passes where the word at an address may be written, else `NotOwn`.

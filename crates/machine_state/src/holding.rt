@@ -3,6 +3,7 @@
 ghost use Rattle.std.specs.Prelude.{◌≡◌};
 ghost use Rattle.std.specs.List.{list_any};
 ghost use Rattle.machine_state.specs.Holding.{covers, may_write, may_read, may_write_word, may_read_word, has_end};
+ghost use Rattle.machine_state.specs.Spans.{all_places};
 ghost use Rattle.machine_state.specs.Views.{holding_view};
 
 use certificate::Direction;
@@ -82,6 +83,30 @@ impl Holding {
             && self.may_read(place + 1)
             && self.may_read(place + 2)
             && self.may_read(place + 3)
+    }
+
+    /// Whether all of so many bytes from the place on may be read.
+    pub fn may_read_bytes(&self, place: u32, count: u32) -> bool
+        ensures { result ≡ all_places (may_read (holding_view self.now)) place count }
+    {
+        for k in 0..count {
+            if !self.may_read(u64::from(place) + u64::from(k)) {
+                return false;
+            }
+        }
+        true
+    }
+
+    /// Whether all of so many bytes from the place on may be written.
+    pub fn may_write_bytes(&self, place: u32, count: u32) -> bool
+        ensures { result ≡ all_places (may_write (holding_view self.now)) place count }
+    {
+        for k in 0..count {
+            if !self.may_write(u64::from(place) + u64::from(k)) {
+                return false;
+            }
+        }
+        true
     }
 
     /// Whether the end is among those that may be used.

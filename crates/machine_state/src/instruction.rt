@@ -67,13 +67,8 @@ impl Instruction {
         ensures { result ≡ has_body self }
     {
         match self {
-            Instruction::Jump
-            | Instruction::LoadConstant
-            | Instruction::LoadLocal
-            | Instruction::WithConstant(_)
-            | Instruction::StoreLocal => true,
             Instruction::Operate(op) => op.has_body(),
-            _ => false,
+            _ => true,
         }
     }
 }

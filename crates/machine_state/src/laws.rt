@@ -4,6 +4,11 @@ ghost use Rattle.machine_state.specs.MemoryLaws.{ByteReadsBack, WordReadsBack, U
 ghost use Rattle.machine_state.specs.MemoryLaws.{ByteElsewhereStays, WordBesideByteStays, ByteBesideWordStays};
 ghost use Rattle.machine_state.specs.MemoryLaws.{WordElsewhereStays, ByteKeepsLength, WordKeepsLength};
 ghost use Rattle.machine_state.specs.Frame.{StepsChangeOwn};
+ghost use Rattle.machine_state.specs.EventLaws.{EventsCountBytes, FaultsAreKept, FaultsStay};
+ghost use Rattle.machine_state.specs.Writing.{StepsWriteOwn, ArrivalsWriteOne, AcknowledgementsWriteNothing};
+ghost use Rattle.machine_state.specs.Seeing.{StepsSeeWhatTheyRead};
+ghost use Rattle.machine_state.specs.Waiting.{LinesAreReady, LinksHaveTheirWaiters, ArrivalsFillBuffers, BranchesAreCounted};
+ghost use Rattle.machine_state.specs.SpanLaws.{RunsCoverTheTest};
 ghost use Rattle.machine_state.specs.SmallModules.{FirstEnds, JumpEnds, SlicedJumpEnds, CallEnds, LoopEnds};
 ghost use Rattle.machine_state.specs.SmallModules.{PairEnds, PairFaults, EchoWaits, ChannelEnds, ChoiceWaits};
 
@@ -26,6 +31,50 @@ pub fn small_modules_end()
 #[tactic(auto, using(crate::proofs::Frame::steps_change_own))]
 pub fn steps_change_their_own()
     ensures { StepsChangeOwn }
+{}
+
+/// An event that executes a byte adds one to the count of executed bytes. Any other, a fault too, adds none.
+#[tactic(auto, using(crate::proofs::EventLaws::counting))]
+pub fn events_count_bytes()
+    ensures { EventsCountBytes }
+{}
+
+/// A fault that an event reports is in the world after it, and from then on nothing changes.
+#[tactic(auto, using(crate::proofs::EventLaws::reported_faults))]
+pub fn faults_stay()
+    ensures kept { FaultsAreKept }
+    ensures stays { FaultsStay }
+{}
+
+/// A step changes only bytes that the running process may write, and where its message meets a receiver that waits,
+/// the bytes of the receiver's buffer, which become those sent. An arrival changes at most one byte, the next one in
+/// the buffer of the process that waits there, and an acknowledgement none.
+pub fn events_write_their_own()
+    ensures steps { StepsWriteOwn }
+    ensures arrivals { ArrivalsWriteOne }
+    ensures buffers { ArrivalsFillBuffers }
+    ensures acknowledgements { AcknowledgementsWriteNothing }
+{}
+
+/// A step depends on no byte but those that the running process may read, and where it meets a sender, those that
+/// are sent: in two worlds that differ elsewhere in memory it answers the same, and they differ no more.
+pub fn steps_see_what_they_read()
+    ensures { StepsSeeWhatTheyRead }
+{}
+
+/// Who runs or waits for its turn is ready, and stands in the line once. Who waits on a link
+/// does wait there. Each live branch is counted by the join that its opener has open; who has a join open is one of its
+/// members, or has done its own endp.
+pub fn waiting_is_in_order()
+    ensures lines { LinesAreReady }
+    ensures links { LinksHaveTheirWaiters }
+    ensures branches { BranchesAreCounted }
+{}
+
+/// Spans in normal form cover the places that pass the test.
+#[tactic(auto, using(crate::proofs::SpanLaws::normal_spans))]
+pub fn spans_cover_the_test()
+    ensures { RunsCoverTheTest }
 {}
 
 /// Memory reads back what was written.

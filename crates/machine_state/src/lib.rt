@@ -27,8 +27,9 @@ pub use fault::{
 pub use holding::{End, Holding, Span};
 pub use instruction::Instruction;
 pub use laws::{
-    memory_keeps_its_length, memory_reads_back, memory_stays_elsewhere, small_modules_end,
-    steps_change_their_own,
+    events_count_bytes, events_write_their_own, faults_stay, memory_keeps_its_length,
+    memory_reads_back, memory_stays_elsewhere, small_modules_end, steps_change_their_own,
+    steps_see_what_they_read, waiting_is_in_order,
 };
 pub use link::{InputLink, Link, OutputLink};
 pub use op::{LongOp, Op, Shift};

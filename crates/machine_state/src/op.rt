@@ -1,9 +1,12 @@
 //! The operations, which the function `opr` chooses by its operand.
 
-ghost use Rattle.std.specs.Prelude.{◌≡◌};
+ghost use Rattle.std.specs.Prelude.{◌≡◌, ◌<◌};
 ghost use Rattle.machine_state.specs.Instructions.{op_of, op_has_body};
+ghost use Rattle.machine_state.specs.LocalStep.{shifted, long_result};
 
-use word_arithmetic::{Binary, Unary};
+use word_arithmetic::{
+    Binary, LongResult, Unary, long_difference, long_product, long_sum, shift_left, shift_right,
+};
 
 /// A shift of B by A.
 #[derive(Clone, Copy, Debug, PartialEq, Eq)]
@@ -12,6 +15,19 @@ pub enum Shift {
     Left,
     /// `shr`.
     Right,
+}
+
+impl Shift {
+    /// The word, shifted by this count of bits.
+    pub fn apply(self, word: i32, count: u32) -> i32
+        requires { count < 32 }
+        ensures { result ≡ shifted self word count }
+    {
+        match self {
+            Shift::Left => shift_left(word, count),
+            Shift::Right => shift_right(word, count),
+        }
+    }
 }
 
 /// An operation of two words at a time.
@@ -23,6 +39,19 @@ pub enum LongOp {
     Difference,
     /// `lmul`.
     Product,
+}
+
+impl LongOp {
+    /// The result of B, A and C, in this order.
+    pub fn apply(self, left: i32, right: i32, third: i32) -> LongResult
+        ensures { result ≡ long_result self left right third }
+    {
+        match self {
+            LongOp::Sum => long_sum(left, right, third),
+            LongOp::Difference => long_difference(left, right, third),
+            LongOp::Product => long_product(left, right, third),
+        }
+    }
 }
 
 /// An operation.
@@ -143,9 +172,19 @@ impl Op {
     pub fn has_body(self) -> bool
         ensures { result ≡ op_has_body self }
     {
-        matches!(
-            self,
-            Op::Reverse | Op::MinimumInteger | Op::StopProcess | Op::Binary(_) | Op::Unary(_)
-        )
+        match self {
+            Op::Input
+            | Op::Output
+            | Op::StartProcess
+            | Op::EndProcess
+            | Op::Alternate
+            | Op::EnableChannel
+            | Op::EnableSkip
+            | Op::AlternationWait
+            | Op::DisableChannel
+            | Op::DisableSkip
+            | Op::AlternationEnd => false,
+            _ => true,
+        }
     }
 }

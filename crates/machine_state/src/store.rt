@@ -1,7 +1,9 @@
 //! Memory as the running process may touch it.
 
-ghost use Rattle.std.specs.Prelude.{◌≡◌, IsTrue};
+ghost use Rattle.std.specs.Prelude.{◌≡◌, IsTrue, false};
 ghost use Rattle.machine_state.specs.Holding.{Holding, may_write, may_read, may_write_word, may_read_word};
+ghost use Rattle.machine_state.specs.Spans.{all_places};
+ghost use Rattle.machine_state.specs.LocalStep.{copied, meet};
 ghost use Rattle.machine_state.specs.World.{Roles};
 ghost use Rattle.machine_state.specs.Memory.{Memory, place_of, byte_at, with_byte, word_at, with_word};
 
@@ -34,6 +36,14 @@ pub trait Store {
     fn can_store_word(&self, address: u32) -> bool
         ensures { result ≡ may_write_word (holding self.now) (place_of address) };
 
+    /// Whether all of so many bytes from the address on may be read.
+    fn can_load_bytes(&self, address: u32, count: u32) -> bool
+        ensures { result ≡ all_places (may_read (holding self.now)) (place_of address) count };
+
+    /// Whether all of so many bytes from the address on may be written.
+    fn can_store_bytes(&self, address: u32, count: u32) -> bool
+        ensures { result ≡ all_places (may_write (holding self.now)) (place_of address) count };
+
     /// The byte, none where it is undefined.
     fn load_byte(&self, address: u32) -> Option<u8>
         requires { IsTrue (may_read (holding self.now) (place_of address)) }
@@ -55,6 +65,15 @@ pub trait Store {
     fn store_word(&mut self, address: u32, value: Word)
         requires { IsTrue (may_write_word (holding self.old) (place_of address)) }
         ensures memory { cells self.new ≡ with_word (cells self.old) (place_of address) value }
+        ensures holding { holding self.new ≡ holding self.old }
+        ensures roles { roles self.new ≡ roles self.old };
+
+    /// So many bytes from one address on go to another, whoever holds them. Undefined bytes stay undefined. The two
+    /// blocks do not meet.
+    fn copy(&mut self, from: u32, to: u32, count: u32)
+        requires { meet (place_of from) count (place_of to) count ≡ false }
+        ensures memory { let before = cells self.old in
+            cells self.new ≡ copied before (place_of from) (place_of to) count before }
         ensures holding { holding self.new ≡ holding self.old }
         ensures roles { roles self.new ≡ roles self.old };
 }

@@ -125,6 +125,22 @@ impl Store for TaggedStore {
             .is_some_and(|holding| holding.may_write_word(place))
     }
 
+    fn can_load_bytes(&self, address: u32, count: u32) -> bool {
+        let place = place_of(address);
+        match self.current() {
+            Some(holding) => holding.may_read_bytes(place, count),
+            None => count == 0,
+        }
+    }
+
+    fn can_store_bytes(&self, address: u32, count: u32) -> bool {
+        let place = place_of(address);
+        match self.current() {
+            Some(holding) => holding.may_write_bytes(place, count),
+            None => count == 0,
+        }
+    }
+
     fn load_byte(&self, address: u32) -> Option<u8> {
         cells::byte_at(&self.bytes, &self.tags, place_of(address) as usize)
     }
@@ -148,6 +164,16 @@ impl Store for TaggedStore {
             &mut self.tags,
             place_of(address) as usize,
             value,
+        );
+    }
+
+    fn copy(&mut self, from: u32, to: u32, count: u32) {
+        cells::copy(
+            &mut self.bytes,
+            &mut self.tags,
+            place_of(from) as usize,
+            place_of(to) as usize,
+            count as usize,
         );
     }
 }

@@ -1,2 +1,5 @@
 mod known;
-mod stores;
+mod memory;
+mod names;
+mod roles;
+mod text;

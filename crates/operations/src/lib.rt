@@ -2,8 +2,14 @@
 #![tactic(auto)]
 
 mod arithmetic;
+mod bytes;
+mod long;
+mod loops;
+mod moving;
 mod registers;
+mod returning;
 mod stopping;
+mod subscripts;
 
 ghost use Rattle.machine_state.specs.Performing.{Performs, IsSameElsewhere, operation_outcome};
 
@@ -23,6 +29,18 @@ pub fn operate<S: Store>(cpu: &mut Cpu<S>, op: Op) -> Result<Flow, Fault>
         Op::StopProcess => stopping::stop_process(cpu),
         Op::Binary(op) => arithmetic::binary(cpu, op),
         Op::Unary(op) => arithmetic::unary(cpu, op),
+        Op::Shift(op) => long::shift(cpu, op),
+        Op::Long(op) => long::long(cpu, op),
+        Op::LoadByte => bytes::load_byte(cpu),
+        Op::StoreByte => bytes::store_byte(cpu),
+        Op::ByteSubscript => subscripts::byte_subscript(cpu),
+        Op::WordSubscript => subscripts::word_subscript(cpu),
+        Op::CheckSubscript => subscripts::check_subscript(cpu),
+        Op::CheckCount => subscripts::check_count(cpu),
+        Op::LoadPointerToInstruction => subscripts::load_pointer_to_instruction(cpu),
+        Op::Move => moving::move_bytes(cpu),
+        Op::Return => returning::return_from_call(cpu),
+        Op::LoopEnd => loops::loop_end(cpu),
         _ => Err(cpu.fault(FaultKind::UnknownOperation)),
     }
 }

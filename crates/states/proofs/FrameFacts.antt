@@ -12,10 +12,12 @@ use Rattle.states.specs.declared.overlay.Written.{Written}
 use Rattle.states.specs.Lookup.{lookup}
 use Rattle.states.specs.State.{Facts, by_itself, is_word, is_tied, with_fact, entry_fact}
 use Rattle.states.specs.declared.known.Loop.{Loop}
+use Rattle.states.specs.declared.known.LoopWord.{LoopWord}
+use Rattle.states.specs.declared.known.LoopWord.TheVariants as words
 use Rattle.states.specs.declared.known.WordFact.{WordFact}
 use Rattle.states.specs.declared.known.WordFact.TheVariants.{Alone, Index, Count}
 use Rattle.states.specs.Below.{says}
-use Rattle.states.specs.Frames.{fact_of_index, facts_over, with_alone, is_index, is_count, parted}
+use Rattle.states.specs.Frames.{fact_of_index, facts_over, with_alone, is_loop_word, parted}
 use Rattle.states.proofs.RowFacts.{le-yes, le-no, and-both}
 
 pub is_word-same : (j k : ℤ) → j ≡ k → is_word j k ≡ true
@@ -74,52 +76,40 @@ word-cases j k = by_lt_z j k (λ l. inr (is_word-below j k l)) (λ h. by_lt_z k 
     let same : j ≡ k = omega (arith, ints) in
     inl (is_word-same j k same, same)))
 
+-- another word than the one that is parted stays what it is
+kept : (is_loop : Bool) (fact : WordFact) → fact ≡ cond (is_loop && false) (Alone (by_itself fact)) fact
+kept true fact = refl
+kept false fact = refl
+
 -- a word of a loop that is parted from the other one
-pub parted-place : (is_such : WordFact → Bool) (k : ℤ) (facts new : Facts) (fact : WordFact) (alone : Fact)
-    → fact ≡ facts k → true ≡ is_such fact → alone ≡ by_itself fact → new ≡ with_alone k alone facts
-    → new ≡ parted is_such k facts
-parted-place is_such k facts new fact alone is such by_is placed = placed ∙ fun_ext (λ j. elim (word-cases j k) [
+pub parted-place : (which : LoopWord) (k : ℤ) (facts new : Facts) (fact : WordFact) (alone : Fact)
+    → fact ≡ facts k → true ≡ is_loop_word which fact → alone ≡ by_itself fact → new ≡ with_alone k alone facts
+    → new ≡ parted which k facts
+parted-place which k facts new fact alone is such by_is placed = placed ∙ fun_ext (λ j. elim (word-cases j k) [
   | inl h ↦
       let here : facts j ≡ fact = ap facts h.1 ∙ sym is in
       rw (h.0, here, ← such, by_is) refl
-  | inr h ↦ rw h refl
+  | inr h ↦ rw h (kept (is_loop_word which (facts j)) (facts j))
 ])
 
-pub parted-none : (is_such : WordFact → Bool) (k : ℤ) (facts : Facts) (fact : WordFact) → fact ≡ facts k
-    → false ≡ is_such fact → facts ≡ parted is_such k facts
-parted-none is_such k facts fact is such = fun_ext (λ j. elim (word-cases j k) [
+pub parted-none : (which : LoopWord) (k : ℤ) (facts : Facts) (fact : WordFact) → fact ≡ facts k
+    → false ≡ is_loop_word which fact → facts ≡ parted which k facts
+parted-none which k facts fact is such = fun_ext (λ j. elim (word-cases j k) [
   | inl h ↦
       let here : facts j ≡ fact = ap facts h.1 ∙ sym is in
       rw (h.0, here, ← such) refl
-  | inr h ↦ rw h refl
+  | inr h ↦ rw h (kept (is_loop_word which (facts j)) (facts j))
 ])
 
--- a word that is parted where it is such a word of a loop
-abbrev parted_if : Bool → (WordFact → Bool) → WordFact → WordFact
-parted_if here is_such fact = cond (here && is_such fact) (Alone (by_itself fact)) fact
-
-part-alone : (before behind : Bool) (fact : Fact)
-    → parted_if behind is_count (parted_if before is_index (Alone fact)) ≡ Alone fact
-part-alone true true fact = refl
-part-alone true false fact = refl
-part-alone false true fact = refl
-part-alone false false fact = refl
+-- a word that is parted where it is this word of a loop
+abbrev parted_if : Bool → LoopWord → WordFact → WordFact
+parted_if here which fact = cond (is_loop_word which fact && here) (Alone (by_itself fact)) fact
 
 part-index : (before behind : Bool) (loop : Loop)
-    → parted_if behind is_count (parted_if before is_index (Index loop))
+    → parted_if behind words.Count (parted_if before words.Index (Index loop))
     ≡ cond before (Alone (by_itself (Index loop))) (Index loop)
-part-index true true loop = refl
-part-index true false loop = refl
-part-index false true loop = refl
-part-index false false loop = refl
-
-part-count : (before behind : Bool) (loop : Loop)
-    → parted_if behind is_count (parted_if before is_index (Count loop))
-    ≡ cond behind (Alone (by_itself (Count loop))) (Count loop)
-part-count true true loop = refl
-part-count true false loop = refl
-part-count false true loop = refl
-part-count false false loop = refl
+part-index true behind loop = refl
+part-index false behind loop = refl
 
 -- the word before one is the word that one is behind
 before-behind : (w j : ℤ) → is_word j (w -ℤ pos 1) ≡ is_word w (j +ℤ pos 1)
@@ -137,17 +127,17 @@ before-behind w j = elim (word-cases j (w -ℤ pos 1)) [
 
 -- what is known of a word once those are parted that are in a loop with word w
 parted-word : (w j : ℤ) (fact : WordFact)
-    → parted_if (is_word j (w +ℤ pos 1)) is_count (parted_if (is_word j (w -ℤ pos 1)) is_index fact)
+    → parted_if (is_word j (w +ℤ pos 1)) words.Count (parted_if (is_word j (w -ℤ pos 1)) words.Index fact)
     ≡ cond (is_tied j fact w) (Alone (by_itself fact)) fact
-parted-word w j (Alone fact) = part-alone (is_word j (w -ℤ pos 1)) (is_word j (w +ℤ pos 1)) fact
+parted-word w j (Alone fact) = refl
 parted-word w j (Index loop) =
     part-index (is_word j (w -ℤ pos 1)) (is_word j (w +ℤ pos 1)) loop
     ∙ ap (λ b. cond b (Alone (by_itself (Index loop))) (Index loop)) (before-behind w j)
-parted-word w j (Count loop) = part-count (is_word j (w -ℤ pos 1)) (is_word j (w +ℤ pos 1)) loop
+parted-word w j (Count loop) = refl
 
 -- a word is written once the words are parted that can be in a loop with it
 pub parts-write : (w : ℤ) (fact : Fact) (facts : Facts)
-    → with_alone w fact (parted is_count (w +ℤ pos 1) (parted is_index (w -ℤ pos 1) facts)) ≡ with_fact w fact facts
+    → with_alone w fact (parted words.Count (w +ℤ pos 1) (parted words.Index (w -ℤ pos 1) facts)) ≡ with_fact w fact facts
 parts-write w fact facts = fun_ext (λ j. elim (word-cases j w) [
   | inl h ↦ rw h.0 refl
   | inr h ↦ rw h (parted-word w j (facts j))
@@ -156,7 +146,7 @@ parts-write w fact facts = fun_ext (λ j. elim (word-cases j w) [
 -- the same, step by step
 pub write-steps : (w here before behind : ℤ) (fact : Fact) (facts first second new : Facts) → here ≡ w
     → before ≡ w -ℤ pos 1 → behind ≡ w +ℤ pos 1
-    → first ≡ parted is_index before facts → second ≡ parted is_count behind first → new ≡ with_alone here fact second
+    → first ≡ parted words.Index before facts → second ≡ parted words.Count behind first → new ≡ with_alone here fact second
     → new ≡ with_fact w fact facts
 write-steps w here before behind fact facts first second new here_is before_is behind_is one two three =
     three ∙ (rw (here_is, two, behind_is, one, before_is) (parts-write w fact facts))

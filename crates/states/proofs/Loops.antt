@@ -5,12 +5,14 @@ use Rattle.std.proofs.Math.Logic.{∥∥₁_elim}
 use Rattle.module_format.specs.declared.fact.Fact.{Fact}
 use Rattle.std.specs.Coded.{Unit-prop}
 use Rattle.std.proofs.Props.{props}
+use Rattle.states.specs.declared.known.LoopWord.{LoopWord}
+use Rattle.states.specs.declared.known.LoopWord.TheVariants as words
 use Rattle.states.specs.declared.known.WordFact.{WordFact}
 use Rattle.states.specs.declared.known.WordFact.TheVariants.{Alone, Index, Count}
 use Rattle.states.specs.State.{Facts, is_alone}
 use Rattle.states.specs.Rows.{LoopFits}
 use Rattle.states.specs.declared.frame.Frame.{Frame}
-use Rattle.states.specs.Frames.{frame_facts, is_index, is_count, HasRoom}
+use Rattle.states.specs.Frames.{frame_facts, is_loop_word, HasRoom}
 
 pub loop_fits_prop : (fact : WordFact) → IsProp (LoopFits fact)
 loop_fits_prop (Alone fact) = Unit-prop
@@ -38,12 +40,9 @@ room-of frame k fact is loop =
     let inside = frame.inside k (loop-below _ _ (ap is_alone (sym is) ∙ loop)) in
     record { low = inside.0; high = inside.1 }
 
-pub index-apart : (fact : WordFact) → is_index fact ≡ true → is_alone fact ≡ false
-index-apart (Alone fact) h = absurd (cc)
-index-apart (Index loop) h = refl
-index-apart (Count loop) h = refl
-
-pub count-apart : (fact : WordFact) → is_count fact ≡ true → is_alone fact ≡ false
-count-apart (Alone fact) h = absurd (cc)
-count-apart (Index loop) h = refl
-count-apart (Count loop) h = refl
+-- a word of a loop is not alone
+pub loop_word-apart : (which : LoopWord) (fact : WordFact) → is_loop_word which fact ≡ true → is_alone fact ≡ false
+loop_word-apart words.Index (Alone fact) h = absurd (cc)
+loop_word-apart words.Count (Alone fact) h = absurd (cc)
+loop_word-apart which (Index loop) h = refl
+loop_word-apart which (Count loop) h = refl

@@ -1,10 +1,9 @@
 -- States that are equal field by field, and the words of all contexts.
 use Rattle.std.proofs.Common.{◌≡◌, ℕ, zero, suc, ◌+◌, ◌-◌, ◌<◌, ℤ, ◌≤ℤ◌, ◌<ℤ◌, true, cond, List, [], ◌∷◌, length}
-use Rattle.std.proofs.Common.{get_or, map, Option, Some, None, Result, Ok, Err, refl, sym, ap, ◌∙◌, subst, arith, rules}
+use Rattle.std.proofs.Common.{get_or, map, Option, Some, None, refl, sym, ap, ◌∙◌, subst, arith, rules}
 use Rattle.std.proofs.Common.{inl, inr}
 use Rattle.std.specs.Prelude.{slice_get, option_map, nat_lt, ◌==◌, FitsSigned}
 use Rattle.std.specs.Int.{w32}
-use Rattle.std.specs.Result.{result_ok, OkIff}
 use Rattle.std.proofs.lemmas.List.{get_or_default}
 use Rattle.std.proofs.lemmas.Bool.{cases_Bool, cases_lt}
 use Rattle.std.proofs.lemmas.Int.{ints}
@@ -143,9 +142,3 @@ room-fits s k c =
     let least = s.frame.low in
     let most = s.frame.high in
     search (rules, arith, ints)
-
--- a conversion that succeeds gives the number
-pub converted : {E : Type 0} (r : Result ℤ E) (P : Type 0) (v w : ℤ) (o : Option ℤ) → OkIff r P v → P → v ≡ w
-    → o ≡ result_ok r → o ≡ Some w
-converted (Ok x) P v w o h p e is = is ∙ ap (λ (z : ℤ). Some z) (h.1 ∙ e)
-converted (Err x) P v w o h p e is = absurd (h p)

@@ -6,6 +6,8 @@ use Rattle.module_format.specs.declared.rows.Entry.{Entry}
 use Rattle.module_format.specs.declared.rows.Parameter.{Parameter}
 use Rattle.states.specs.declared.overlay.Written.{Written}
 use Rattle.states.specs.declared.frame.Frame.{Frame}
+use Rattle.states.specs.declared.known.LoopWord.{LoopWord}
+use Rattle.states.specs.declared.known.LoopWord.TheVariants as words
 use Rattle.states.specs.declared.known.WordFact.{WordFact}
 use Rattle.states.specs.declared.known.WordFact.TheVariants.{Alone, Index, Count}
 use Rattle.states.specs.Lookup.{lookup}
@@ -27,17 +29,16 @@ frame_facts frame = facts_over frame.lo frame.row.now frame.overlay.written.item
 abbrev pub with_alone : ℤ → Fact → Facts → Facts
 with_alone k fact facts = λ j. if is_word j k then Alone fact else facts j
 
-abbrev pub is_index : WordFact → Bool
-is_index (Index loop) = true
-is_index _ = false
+-- the fact is that of this word of a loop
+abbrev pub is_loop_word : LoopWord → WordFact → Bool
+is_loop_word words.Index (Index loop) = true
+is_loop_word words.Count (Count loop) = true
+is_loop_word _ _ = false
 
-abbrev pub is_count : WordFact → Bool
-is_count (Count loop) = true
-is_count _ = false
-
--- if word k is such a word of a loop, it is what it says by itself from now on
-abbrev pub parted : (WordFact → Bool) → ℤ → Facts → Facts
-parted is_such k facts = λ j. if is_word j k && is_such (facts j) then Alone (by_itself (facts j)) else facts j
+-- if word k is this word of a loop, it is what it says by itself from now on
+abbrev pub parted : LoopWord → ℤ → Facts → Facts
+parted which k facts =
+    λ j. if is_loop_word which (facts j) && is_word j k then Alone (by_itself (facts j)) else facts j
 
 -- word k can be written
 pub record HasRoom (frame : Frame) (k : ℤ) : Type 0 where

@@ -1,5 +1,5 @@
 -- A state in memory, as the state that it is, and the module that it is one of.
-use Rattle.std.specs.Prelude.{◌≡◌, ℕ, ℤ, true}
+use Rattle.std.specs.Prelude.{◌≡◌, ℕ, ℤ, Bool, true, Option, IfSome, is_some}
 use Rattle.module_format.specs.Contents.{Contents}
 use Rattle.module_format.specs.Contexts.{context_at}
 use Rattle.module_format.specs.Keeping.{Keeps}
@@ -29,3 +29,10 @@ pub record BelongsTo (m : Contents) (s : InMemory) : Type 0 where
   pub kept : Keeps m
   pub is : s.module.now ≡ m
   pub room : (n : ℕ) (k : ℤ) → has_word (context_at m n) k ≡ true → CanWrite s k
+
+-- A word is handed out exactly where the state's context may use it so, as the word that it is, and there is room for
+-- it.
+pub record IsUsable (may_use : Contents → ℕ → ℤ → Bool) (s : InMemory) (word : ℤ) (usable : Option ℤ) : Type 0 where
+  pub some : IfSome usable (λ k. k ≡ word)
+  pub allowed : (m : Contents) → BelongsTo m s → is_some usable ≡ may_use m s.context word
+  pub room : (m : Contents) → BelongsTo m s → IfSome usable (CanWrite s)

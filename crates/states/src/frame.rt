@@ -9,7 +9,7 @@ ghost use Rattle.states.specs.Rows.{AreApart, LoopFits, IsRow};
 ghost use Rattle.states.specs.State.{is_alone, entry_fact, parameter_fact};
 
 use crate::implication::{holds_constant, says};
-use crate::known::WordFact;
+use crate::known::{LoopWord, WordFact};
 use crate::overlay::Overlay;
 use crate::row::{row_fact, segment_from};
 use certificate::{Entry, Fact, ParameterKind, ProcedureRow, Step};
@@ -32,7 +32,7 @@ pub(crate) struct Frame<'a> {
 impl<'a> Frame<'a> {
     ghost use Rattle.states.specs.State.{no_facts, with_fact, procedure_facts};
     ghost use Rattle.states.specs.Below.{says, entries_hold, is_whole, price};
-    ghost use Rattle.states.specs.Frames.{fact_of_index, frame_facts, with_alone, is_index, is_count, parted, HasRoom};
+    ghost use Rattle.states.specs.Frames.{fact_of_index, frame_facts, with_alone, parted, HasRoom};
     ghost use Rattle.states.specs.Frames.{HasRoomForAll, SameRoom};
     ghost use Rattle.states.specs.Comparing.{SaysLess, OneSaysAll, WrittenSaysAll};
 
@@ -91,24 +91,13 @@ impl<'a> Frame<'a> {
         self.overlay.set(index, fact);
     }
 
-    /// If the word is the index of a loop, it is what it says by itself from now on.
-    fn part_index(&mut self, word: i64)
-        ensures facts { frame_facts self.new ≡ parted is_index word (frame_facts self.old) }
+    /// If the word is this one of a loop, it is what it says by itself from now on.
+    fn part(&mut self, word: i64, which: LoopWord)
+        ensures facts { frame_facts self.new ≡ parted which word (frame_facts self.old) }
         ensures room { SameRoom self.old self.new }
     {
         let fact = self.fact_at(word);
-        if fact.is_index() {
-            self.place(word, fact.by_itself());
-        }
-    }
-
-    /// If the word is the count of a loop, it is what it says by itself from now on.
-    fn part_count(&mut self, word: i64)
-        ensures facts { frame_facts self.new ≡ parted is_count word (frame_facts self.old) }
-        ensures room { SameRoom self.old self.new }
-    {
-        let fact = self.fact_at(word);
-        if fact.is_count() {
+        if fact.is_loop_word(which) {
             self.place(word, fact.by_itself());
         }
     }
@@ -120,8 +109,8 @@ impl<'a> Frame<'a> {
         ensures facts { frame_facts self.new ≡ with_fact word fact (frame_facts self.old) }
         ensures room { SameRoom self.old self.new }
     {
-        self.part_index(word - 1);
-        self.part_count(word + 1);
+        self.part(word - 1, LoopWord::Index);
+        self.part(word + 1, LoopWord::Count);
         self.place(word, fact);
     }
 

@@ -3,7 +3,7 @@
 ghost use Rattle.std.specs.Prelude.{◌≡◌};
 ghost use Rattle.states.specs.State.{by_itself, handed_out, plain, is_alone};
 ghost use Rattle.states.specs.Rows.{LoopFits};
-ghost use Rattle.states.specs.Frames.{is_index, is_count};
+ghost use Rattle.states.specs.Frames.{is_loop_word};
 
 use certificate::Fact;
 
@@ -16,6 +16,15 @@ pub struct Loop {
     pub count: u32,
     /// What a turn may cost.
     pub weight: u64,
+}
+
+/// A word of a loop.
+#[derive(Clone, Copy, Debug, PartialEq, Eq)]
+pub(crate) enum LoopWord {
+    /// The first, the index.
+    Index,
+    /// The second, the count.
+    Count,
 }
 
 /// What is known of a word of the frame.
@@ -64,18 +73,14 @@ impl WordFact {
         matches!(self, WordFact::Alone(_))
     }
 
-    /// Whether the word is the index of a loop.
-    pub(crate) fn is_index(self) -> bool
-        ensures { result ≡ is_index self }
+    /// Whether it is this word of a loop.
+    pub(crate) fn is_loop_word(self, which: LoopWord) -> bool
+        ensures { result ≡ is_loop_word which self }
     {
-        matches!(self, WordFact::Index(_))
-    }
-
-    /// Whether the word is the count of a loop.
-    pub(crate) fn is_count(self) -> bool
-        ensures { result ≡ is_count self }
-    {
-        matches!(self, WordFact::Count(_))
+        match which {
+            LoopWord::Index => matches!(self, WordFact::Index(_)),
+            LoopWord::Count => matches!(self, WordFact::Count(_)),
+        }
     }
 }
 

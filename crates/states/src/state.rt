@@ -1,6 +1,7 @@
 //! What is known of a process at a place of its code.
 
-ghost use Rattle.std.specs.Prelude.{◌≡◌, ◌≤◌, ◌-◌, ◌≤ℤ◌, ℤ, IfOk, IfSome, Some, is_some, slice_get};
+ghost use Rattle.std.specs.Prelude.{◌≡◌, ◌≤◌, ◌-◌, ◌≤ℤ◌, ℤ, IfOk, Some, SomeIff, IsTrue, FitsSigned, slice_get};
+ghost use Rattle.std.specs.Int.{w32};
 ghost use Rattle.module_format.specs.Contents.{Contents, contents_of, procedure_of, label_of};
 ghost use Rattle.certificate.specs.Rights.{may_write_word, may_read_word};
 ghost use Rattle.module_format.specs.Keeping.{Keeps};
@@ -8,7 +9,7 @@ ghost use Rattle.module_format.specs.Stack.{pushed, popped, reversed};
 ghost use Rattle.states.specs.State.{unknown, known, without_source, forgets, written, begun, root_state};
 ghost use Rattle.states.specs.State.{procedure_state, label_state};
 ghost use Rattle.states.specs.Rows.{LoopFits, IsRowOf};
-ghost use Rattle.states.specs.Views.{state_of, CanWrite, BelongsTo};
+ghost use Rattle.states.specs.Views.{state_of, CanWrite, BelongsTo, IsUsable};
 ghost use Rattle.states.specs.Room.{Covers};
 
 use crate::frame::Frame;
@@ -90,6 +91,16 @@ fn room_of(tables: &Tables) -> (i32, i32)
     (lo, hi)
 }
 
+/// The word, where it is allowed and one of 32 bits.
+fn word_where(is_allowed: bool, word: i64) -> Option<i32>
+    ensures { SomeIff result (IsTrue is_allowed × FitsSigned w32 word) word }
+{
+    if !is_allowed {
+        return None;
+    }
+    i32::try_from(word).ok()
+}
+
 impl<'a> State<'a> {
     /// The state of the root when the module begins.
     pub fn root(alloc: Global, module: &'a Module<'a>) -> Result<Self, AllocError>
@@ -114,27 +125,17 @@ impl<'a> State<'a> {
     /// The word, if the state's context may write it. The time goes with the logarithm of the intervals of a
     /// branch's row.
     pub fn writable_word(&self, word: i64) -> Option<i32>
-        ensures some { IfSome result (λ k. k ≡ word) }
-        ensures allowed { (m : Contents) → BelongsTo m self.now → is_some result ≡ may_write_word m self.now.context word }
-        ensures room { (m : Contents) → BelongsTo m self.now → IfSome result (CanWrite self.now) }
+        ensures { IsUsable may_write_word self.now word result }
     {
-        if !self.module.may_write_word(self.context, word) {
-            return None;
-        }
-        i32::try_from(word).ok()
+        word_where(self.module.may_write_word(self.context, word), word)
     }
 
     /// The word, if the state's context may read it. The time goes with the logarithm of the intervals of a
     /// branch's row.
     pub fn readable_word(&self, word: i64) -> Option<i32>
-        ensures some { IfSome result (λ k. k ≡ word) }
-        ensures allowed { (m : Contents) → BelongsTo m self.now → is_some result ≡ may_read_word m self.now.context word }
-        ensures room { (m : Contents) → BelongsTo m self.now → IfSome result (CanWrite self.now) }
+        ensures { IsUsable may_read_word self.now word result }
     {
-        if !self.module.may_read_word(self.context, word) {
-            return None;
-        }
-        i32::try_from(word).ok()
+        word_where(self.module.may_read_word(self.context, word), word)
     }
 
     /// What is known of a word of the frame.

@@ -50,7 +50,9 @@ use Rattle.verifier.specs.Headline.{IsEvent, AreEvents}
 use Rattle.facts.proofs.Words.{bool_cases}
 use Rattle.verifier.proofs.Lists.{got_set, got_other, total_set, all_ready_same, all_ready_without, absent_by_condition}
 use Rattle.verifier.proofs.Lists.{leave_line, push_line, pick_line}
-use Rattle.verifier.proofs.Steps.{site_in, byte_here, owes, prefixed_stands, Comes, comes_on, comes_to, comes_down, comes_last}
+use Rattle.verifier.proofs.Given.{or_left, or_right}
+use Rattle.verifier.proofs.Steps.{site_in, byte_here, owes, prefixed_stands, Comes, comes_on, comes_to, comes_down}
+use Rattle.verifier.proofs.Steps.{comes_last}
 
 -- an instruction of a process
 abbrev at_here : Contents → ℕ → Task → ℕ → Here
@@ -152,16 +154,20 @@ waiters_same tasks links p t u here ready w = record {
 
 -- ---- the running process
 
+-- who is not over is alive
+alive : (m : Contents) (g : Holding) (memory : Memory) (t : Task) (due : ℕ) (c : Condition) → t.condition ≡ c
+    → (c ≡ Stopped → ⊥) → (c ≡ Ended → ⊥) → Meets m g memory t due → Lives m g memory t due
+alive m g memory t due c e a b (it_lives l) = l
+alive m g memory t due c e a b (it_stopped s) = absurd (a (sym e ∙ s))
+alive m g memory t due c e a b (it_ended s) = absurd (b (sym e ∙ s))
+
 -- the process that runs, with all that is known of it
 record Runs (m : Contents) (w : World) (dues : List ℕ) (p : ℕ) : Type 0 where
   pub task : Task
   pub here : slice_get w.tasks p ≡ Some task
   pub ready : task.condition ≡ Ready
-  pub role : Role
-  pub has_role : slice_get w.roles p ≡ Some role
-  pub due : ℕ
-  pub has_due : slice_get dues p ≡ Some due
-  pub lives : Lives m (held role) w.memory task due
+  pub row : Process m w.memory w.roles dues p task
+  pub lives : Lives m (held row.role) w.memory task row.due
 
 awaits_nothing : (c : Condition) (place : ℕ) → c ≡ Ready → awaits c place ≡ false
 awaits_nothing c place e = ap (λ c. awaits c place) e
@@ -178,18 +184,9 @@ runs m w h p e =
       task = r.task;
       here = r.here;
       ready = r.ready;
-      role = q.role;
-      has_role = q.has_role;
-      due = q.due;
-      has_due = q.has_due;
-      lives = alive r.task r.ready q.due (held q.role) q.meets;
+      row = q;
+      lives = alive m (held q.role) w.memory r.task q.due Ready r.ready (λ e. cc) (λ e. cc) q.meets;
     }
-  where
-    alive : (t : Task) → t.condition ≡ Ready → (due : ℕ) (g : Holding) → Meets m g w.memory t due
-        → Lives m g w.memory t due
-    alive t ready due g (it_lives l) = l
-    alive t ready due g (it_stopped s) = let no' : Ready ≡ Stopped = sym ready ∙ s in absurd (cc)
-    alive t ready due g (it_ended s) = let no' : Ready ≡ Ended = sym ready ∙ s in absurd (cc)
 
 -- ---- the parts after a step of the running process
 
@@ -199,28 +196,29 @@ counted_owed dues p due later executed budget has less owed = let t = total_set 
 
 -- the process goes on as this task, and nobody else does anything
 module _ (m : Contents) (w : World) (h : Holds m w) (p : ℕ) (r : Runs m w h.dues p) where
-  put_table : (new : Memory) (u : Task) (later : ℕ) → ChangesOwn (held r.role) w.memory new
-      → Meets m (held r.role) new u later → Table m new (slice_set w.tasks p u) w.roles (slice_set h.dues p later)
+  put_table : (new : Memory) (u : Task) (later : ℕ) → ChangesOwn (held r.row.role) w.memory new
+      → Meets m (held r.row.role) new u later
+      → Table m new (slice_set w.tasks p u) w.roles (slice_set h.dues p later)
   put_table new u later changes meets =
-      table_put m w.memory new w.tasks w.roles h.dues p r.task u r.due later r.role h.apart.processes h.table r.here
-      r.has_role r.has_due changes meets
+      table_put m w.memory new w.tasks w.roles h.dues p r.task u r.row.due later r.row.role h.apart.processes h.table
+      r.here r.row.has_role r.row.has_due changes meets
 
   -- it goes on, and keeps the processor
-  went_on : (u : Task) (new : Memory) (later : ℕ) → u.condition ≡ Ready → ChangesOwn (held r.role) w.memory new
-      → Lives m (held r.role) new u later → later + 1 ≤ r.due → Holds m (counted (put p u new w))
+  went_on : (u : Task) (new : Memory) (later : ℕ) → u.condition ≡ Ready → ChangesOwn (held r.row.role) w.memory new
+      → Lives m (held r.row.role) new u later → later + 1 ≤ r.row.due → Holds m (counted (put p u new w))
   went_on u new later ready changes lives less = record {
     dues = slice_set h.dues p later;
     table = put_table new u later changes (it_lives lives);
     line = record { ready = all_ready_same w.tasks p u (line w.queue) ready h.line.ready; once = h.line.once };
     waiters = waiters_same w.tasks w.links p r.task u r.here r.ready h.waiters;
-    owed = counted_owed h.dues p r.due later w.counters.executed m.budget r.has_due less h.owed;
+    owed = counted_owed h.dues p r.row.due later w.counters.executed m.budget r.row.has_due less h.owed;
     apart = h.apart;
     well = h.well;
   }
 
   -- it goes on, and is sent to the back of the list
   was_sliced : (u : Task) (new : Memory) (later pick : ℕ) → w.queue.running ≡ Some p → u.condition ≡ Ready
-      → ChangesOwn (held r.role) w.memory new → Lives m (held r.role) new u later → later + 1 ≤ r.due
+      → ChangesOwn (held r.row.role) w.memory new → Lives m (held r.row.role) new u later → later + 1 ≤ r.row.due
       → Holds m (counted (dispatch pick (enqueue p (leave (put p u new w)))))
   unfolding dispatch
   was_sliced u new later pick running ready changes lives less =
@@ -245,7 +243,7 @@ module _ (m : Contents) (w : World) (h : Holds m w) (p : ℕ) (r : Runs m w h.du
 
   -- it stops
   has_stopped : (u : Task) (new : Memory) (pick : ℕ) (b : Bool) → w.queue.running ≡ Some p → u.condition ≡ Stopped
-      → ChangesOwn (held r.role) w.memory new → 1 ≤ r.due
+      → ChangesOwn (held r.row.role) w.memory new → 1 ≤ r.row.due
       → Holds m (counted (dispatch pick (leave (finished_where b (put p u new w)))))
   unfolding dispatch
   has_stopped u new pick b running stopped changes less =
@@ -258,35 +256,35 @@ module _ (m : Contents) (w : World) (h : Holds m w) (p : ℕ) (r : Runs m w h.du
         line = pick_line (slice_set w.tasks p u) None w.queue.ready pick
             (record { ready = all_ready_without w.tasks p u w.queue.ready left.1 left.0.ready; once = left.0.once });
         waiters = waiters_same w.tasks w.links p r.task u r.here r.ready h.waiters;
-        owed = counted_owed h.dues p r.due 0 w.counters.executed m.budget r.has_due (omega arith) h.owed;
+        owed = counted_owed h.dues p r.row.due 0 w.counters.executed m.budget r.row.has_due (omega arith) h.owed;
         apart = h.apart;
         well = h.well;
       }
 
   -- what an outcome comes to
   settled_holds : (d : Decodes m) (wf : IsWellFormed m) (c : IsCertified m) (slice : Bool) (pick : ℕ) (o : Outcome)
-      → w.queue.running ≡ Some p → Comes m d wf c (held r.role) w.memory r.task r.due o
+      → w.queue.running ≡ Some p → Comes m d wf c (held r.row.role) w.memory r.task r.row.due o
       → Holds m (settled (at_here m p r.task pick) slice o w).world
   settled_holds d wf c slice pick o running (comes_on {l = l} later changes lives less) =
       went_on (record r.task {
         registers = between
             (r.task.registers.at + 1) l.registers;
       }) l.memory later r.ready changes
-      (subst (λ c. Lives m (held r.role) l.memory (record {
+      (subst (λ c. Lives m (held r.row.role) l.memory (record {
         registers = between (r.task.registers.at + 1) l.registers;
         mode = r.task.mode;
         condition = c;
       }) later) (sym r.ready) lives) less
   settled_holds d wf c true pick o running (comes_to {to = to} {l = l} later changes lives less) =
       was_sliced (record r.task { registers = between to l.registers }) l.memory later pick running r.ready changes
-      (subst (λ c. Lives m (held r.role) l.memory (record {
+      (subst (λ c. Lives m (held r.row.role) l.memory (record {
         registers = between to l.registers;
         mode = r.task.mode;
         condition = c;
       }) later) (sym r.ready) lives) less
   settled_holds d wf c false pick o running (comes_to {to = to} {l = l} later changes lives less) =
       went_on (record r.task { registers = between to l.registers }) l.memory later r.ready changes
-      (subst (λ c. Lives m (held r.role) l.memory (record {
+      (subst (λ c. Lives m (held r.row.role) l.memory (record {
         registers = between to l.registers;
         mode = r.task.mode;
         condition = c;
@@ -302,7 +300,7 @@ module _ (m : Contents) (w : World) (h : Holds m w) (p : ℕ) (r : Runs m w h.du
 
 module _ (m : Contents) (d : Decodes m) (wf : IsWellFormed m) (c : IsCertified m) where
   stands_now : (w : World) (h : Holds m w) (p : ℕ) (r : Runs m w h.dues p)
-      → Stands m (held r.role) w.memory r.task r.due
+      → Stands m (held r.row.role) w.memory r.task r.row.due
   stands_now w h p r = r.lives.claim w.memory refl (λ place e a. refl)
       (λ place e. let no' : true ≡ false = sym e ∙ awaits_nothing r.task.condition place r.ready in absurd (cc))
 
@@ -313,8 +311,8 @@ module _ (m : Contents) (d : Decodes m) (wf : IsWellFormed m) (c : IsCertified m
       (with_nibble r.task.registers.operand (nibble byte))) w).world
   prefix_holds pick w h p r byte here none =
       let now = stands_now w h p r in
-      let some = owes m d wf c (held r.role) w.memory r.task r.due now in
-      on_due r.due refl now some
+      let some = owes m d wf c (held r.row.role) w.memory r.task r.row.due now in
+      on_due r.row.due refl now some
     where
       u : Task
       u = record r.task {
@@ -335,15 +333,15 @@ module _ (m : Contents) (d : Decodes m) (wf : IsWellFormed m) (c : IsCertified m
         | inr t ↦ let high : length m.code < suc (r.task.registers.at + 1) = t.1 in absurd (omega arith)
       ]
 
-      on_due : (due : ℕ) → r.due ≡ due → Stands m (held r.role) w.memory r.task r.due → 1 ≤ r.due
+      on_due : (due : ℕ) → r.row.due ≡ due → Stands m (held r.row.role) w.memory r.task r.row.due → 1 ≤ r.row.due
           → Holds m (prefix_turn (at_here m p r.task pick) (after_prefix (function_code byte)
           (with_nibble r.task.registers.operand (nibble byte))) w).world
       on_due zero e now some = absurd (omega arith)
       on_due (suc due) e now some =
-          let further : (later : Memory) → Stands m (held r.role) later r.task r.due
-          → Stands m (held r.role) later u due =
-          λ later s. prefixed_stands m d wf c (held r.role) later r.task due byte
-          (subst (λ n. Stands m (held r.role) later r.task n) e s) here none in
+          let further : (later : Memory) → Stands m (held r.row.role) later r.task r.row.due
+          → Stands m (held r.row.role) later u due =
+          λ later s. prefixed_stands m d wf c (held r.row.role) later r.task due byte
+          (subst (λ n. Stands m (held r.row.role) later r.task n) e s) here none in
           let moved = further w.memory now in
           let b = byte_here m u.registers moved.instr moved.taken moved.reading in
           let low : r.task.registers.at + 1 < length m.code =
@@ -367,8 +365,8 @@ module _ (m : Contents) (d : Decodes m) (wf : IsWellFormed m) (c : IsCertified m
       local : Local
       local = record { registers = r.task.registers; memory = w.memory }
 
-      held_here : holding_at w.roles p ≡ held r.role
-      held_here = ap (λ (o : Option Role). elim o [ None ↦ nothing | Some role ↦ held role ]) r.has_role
+      held_here : holding_at w.roles p ≡ held r.row.role
+      held_here = ap (λ (o : Option Role). elim o [ None ↦ nothing | Some role ↦ held role ]) r.row.has_role
 
       on_function : (f : Option Fun) → fun_of (function_code byte) ≡ f
           → Holds m (elim f as (λ f. Turn) [
@@ -379,9 +377,9 @@ module _ (m : Contents) (d : Decodes m) (wf : IsWellFormed m) (c : IsCertified m
       on_function None e = prefix_holds pick w h p r byte here e
       on_function (Some f) e =
           settled_holds m w h p r d wf c slice pick (local_step (site_of (at_here m p r.task pick) w) f operand local) running
-          (subst (λ g. Comes m d wf c (held r.role) w.memory r.task r.due
+          (subst (λ g. Comes m d wf c (held r.row.role) w.memory r.task r.row.due
           (local_step (site_in m d wf c (r.task.registers.at + 1) r.task.mode g) f operand local)) (sym held_here)
-          (comes_last m d wf c (held r.role) w.memory r.task r.due byte f (stands_now w h p r) here e))
+          (comes_last m d wf c (held r.row.role) w.memory r.task r.row.due byte f (stands_now w h p r) here e))
 
   -- a step
   step_holds : (slice : Bool) (pick : ℕ) (w : World) → Holds m w → Holds m (step_turn has_body m slice pick w).world
@@ -469,34 +467,31 @@ same_total dues p due has = let t = total_set dues p due due has in omega arith
 record Waits (m : Contents) (w : World) (dues : List ℕ) (p : ℕ) (t : Task) : Type 0 where
   pub here : slice_get w.tasks p ≡ Some t
   pub waits : t.condition ≡ Ready → ⊥
-  pub role : Role
-  pub has_role : slice_get w.roles p ≡ Some role
-  pub due : ℕ
-  pub has_due : slice_get dues p ≡ Some due
-  pub lives : Lives m (held role) w.memory t due
+  pub row : Process m w.memory w.roles dues p t
+  pub lives : Lives m (held row.role) w.memory t row.due
 
 module _ (m : Contents) (w : World) (h : Holds m w) (p : ℕ) (t : Task) (r : Waits m w h.dues p t) where
   absent : IsAbsent p (line w.queue)
   absent = absent_by_condition w.tasks p t (line w.queue) r.here r.waits h.line.ready
 
   -- it goes on waiting, for something else
-  waits_on : (u : Task) (new : Memory) (links : Links) → ChangesOwn (held r.role) w.memory new
-      → Lives m (held r.role) new u r.due → Waiters (slice_set w.tasks p u) links
+  waits_on : (u : Task) (new : Memory) (links : Links) → ChangesOwn (held r.row.role) w.memory new
+      → Lives m (held r.row.role) new u r.row.due → Waiters (slice_set w.tasks p u) links
       → Holds m (record w { memory = new; tasks = slice_set w.tasks p u; links = links })
   waits_on u new links changes lives waiters = record {
-    dues = slice_set h.dues p r.due;
-    table = table_put m w.memory new w.tasks w.roles h.dues p t u r.due r.due r.role h.apart.processes h.table r.here
-        r.has_role r.has_due changes (it_lives lives);
+    dues = slice_set h.dues p r.row.due;
+    table = table_put m w.memory new w.tasks w.roles h.dues p t u r.row.due r.row.due r.row.role h.apart.processes
+        h.table r.here r.row.has_role r.row.has_due changes (it_lives lives);
     line = record { ready = all_ready_without w.tasks p u (line w.queue) absent h.line.ready; once = h.line.once };
     waiters = waiters;
-    owed = rw (same_total h.dues p r.due r.has_due) h.owed;
+    owed = rw (same_total h.dues p r.row.due r.row.has_due) h.owed;
     apart = h.apart;
     well = h.well;
   }
 
   -- it becomes ready
-  woken : (new : Memory) (links : Links) → ChangesOwn (held r.role) w.memory new
-      → Lives m (held r.role) new (record t { condition = Ready }) r.due
+  woken : (new : Memory) (links : Links) → ChangesOwn (held r.row.role) w.memory new
+      → Lives m (held r.row.role) new (record t { condition = Ready }) r.row.due
       → Waiters (slice_set w.tasks p (record t { condition = Ready })) links
       → Holds m (record w {
         memory = new;
@@ -518,13 +513,6 @@ module _ (m : Contents) (w : World) (h : Holds m w) (p : ℕ) (t : Task) (r : Wa
         well = h.well;
       }
 
--- who is not over is alive
-alive : (m : Contents) (g : Holding) (memory : Memory) (t : Task) (due : ℕ) (c : Condition) → t.condition ≡ c
-    → (c ≡ Stopped → ⊥) → (c ≡ Ended → ⊥) → Meets m g memory t due → Lives m g memory t due
-alive m g memory t due c e a b (it_lives l) = l
-alive m g memory t due c e a b (it_stopped s) = absurd (a (sym e ∙ s))
-alive m g memory t due c e a b (it_ended s) = absurd (b (sym e ∙ s))
-
 waits_at : (m : Contents) (w : World) (h : Holds m w) (p : ℕ) (t : Task) (c : Condition) → slice_get w.tasks p ≡ Some t
     → t.condition ≡ c → (c ≡ Ready → ⊥) → (c ≡ Stopped → ⊥) → (c ≡ Ended → ⊥) → Waits m w h.dues p t
 waits_at m w h p t c here e x a b =
@@ -532,10 +520,7 @@ waits_at m w h p t c here e x a b =
     record {
       here = here;
       waits = λ r. x (sym e ∙ r);
-      role = q.role;
-      has_role = q.has_role;
-      due = q.due;
-      has_due = q.has_due;
+      row = q;
       lives = alive m (held q.role) w.memory t q.due c e a b q.meets;
     }
 
@@ -623,7 +608,7 @@ module _ (m : Contents) where
         outputs = slice_set w.links.outputs k
             (record { waiting = None });
       }) (record { size = refl; others = λ place e. refl })
-      (lives_ready m (held r.role) w.memory v.task r.due
+      (lives_ready m (held r.row.role) w.memory v.task r.row.due
       (λ place. awaits_no_input v.task.condition v.exchange v.done place v.waits channel) r.lives)
       (after_ack w.tasks w.links k p l (record v.task { condition = Ready }) here h.waiters v) in
       dispatch_holds m 0 (wake p (with_output k (record { waiting = None }) w))
@@ -699,38 +684,41 @@ module _ (m : Contents) where
     room = l.room;
   })
 
-  -- what a process waits for stays what it is, where another part of its task changed
+  -- each process has the condition that it had, where another part of one's task changed
+  condition_again : (tasks : List Task) (p q : ℕ) (t u old : Task) → slice_get tasks p ≡ Some t
+      → u.condition ≡ t.condition → slice_get tasks q ≡ Some old
+      → (new : Task) × (slice_get (slice_set tasks p u) q ≡ Some new) × (new.condition ≡ old.condition)
+  condition_again tasks p q t u old here same there = elim (cases_eq p q) [
+    | inl e ↦
+        let before : slice_get tasks p ≡ Some old = subst (λ n. slice_get tasks n ≡ Some old) (sym e) there in
+        let is : t ≡ old = same_some (slice_get tasks p) t old here before in (
+          u,
+          subst (λ n. slice_get (slice_set tasks p u) n ≡ Some u) e (got_set tasks p t u here),
+          same ∙ ap (λ (x : Task). x.condition) is,
+        )
+    | inr differ ↦ (old, got_other tasks p q u differ ∙ there, refl)
+  ]
+
+  -- so what it waits for stays what it is
   waits_again : (tasks : List Task) (p q word : ℕ) (t u : Task) → slice_get tasks p ≡ Some t
       → u.condition ≡ t.condition → WaitsOn tasks q word → WaitsOn (slice_set tasks p u) q word
-  waits_again tasks p q word t u here same w = elim (cases_eq p q) [
-    | inl e ↦
-        let old : slice_get tasks p ≡ Some w.task = subst (λ n. slice_get tasks n ≡ Some w.task) (sym e) w.here in
-        let is : t ≡ w.task = same_some (slice_get tasks p) t w.task here old in
-        record {
-          task = u;
-          here = subst (λ n. slice_get (slice_set tasks p u) n ≡ Some u) e (got_set tasks p t u here);
-          exchange = w.exchange;
-          done = w.done;
-          waits = same ∙ ap (λ (x : Task). x.condition) is ∙ w.waits;
-          on = w.on;
-          more = w.more;
-        }
-    | inr differ ↦ waits_same tasks p q word u differ w
-  ]
+  waits_again tasks p q word t u here same w =
+      let new = condition_again tasks p q t u w.task here same w.here in
+      record {
+        task = new.0;
+        here = new.1;
+        exchange = w.exchange;
+        done = w.done;
+        waits = new.2 ∙ w.waits;
+        on = w.on;
+        more = w.more;
+      }
 
   ready_again : (tasks : List Task) (p : ℕ) (t u : Task) (q : ℕ) → slice_get tasks p ≡ Some t
       → u.condition ≡ t.condition → IsReadyAt tasks q → IsReadyAt (slice_set tasks p u) q
-  ready_again tasks p t u q here same r = elim (cases_eq p q) [
-    | inl e ↦
-        let old : slice_get tasks p ≡ Some r.task = subst (λ n. slice_get tasks n ≡ Some r.task) (sym e) r.here in
-        let is : t ≡ r.task = same_some (slice_get tasks p) t r.task here old in
-        record {
-          task = u;
-          here = subst (λ n. slice_get (slice_set tasks p u) n ≡ Some u) e (got_set tasks p t u here);
-          ready = same ∙ ap (λ (x : Task). x.condition) is ∙ r.ready;
-        }
-    | inr differ ↦ record { task = r.task; here = got_other tasks p q u differ ∙ r.here; ready = r.ready }
-  ]
+  ready_again tasks p t u q here same r =
+      let new = condition_again tasks p q t u r.task here same r.here in
+      record { task = new.0; here = new.1; ready = new.2 ∙ r.ready }
 
   all_ready_again : (tasks : List Task) (p : ℕ) (t u : Task) (qs : List ℕ) → slice_get tasks p ≡ Some t
       → u.condition ≡ t.condition → AllReady tasks qs → AllReady (slice_set tasks p u) qs
@@ -802,7 +790,7 @@ module _ (m : Contents) where
           let u : Task = record t { condition = Ready } in
           subst (λ x. Holds m x) (sym (wake_is w p t here))
           (woken m w h p t r w.memory w.links (record { size = refl; others = λ place e. refl })
-          (lives_ready m (held r.role) w.memory t r.due (λ place. ap (λ c. awaits c place) e) r.lives)
+          (lives_ready m (held r.row.role) w.memory t r.row.due (λ place. ap (λ c. awaits c place) e) r.lives)
           (record {
             few = h.waiters.few;
             inputs = λ k l q a b. let old = h.waiters.inputs k l q a b in
@@ -875,14 +863,14 @@ module _ (m : Contents) (k byte : ℕ) (small : byte < 256) (w : World) (h : Hol
   r : Waits m w h.dues p v.task
   r = waits_at m w h p v.task (OnLink v.exchange v.done) v.here v.waits (λ e. cc) (λ e. cc) (λ e. cc)
 
-  mine : may_write (held r.role) goal_place ≡ true
+  mine : may_write (held r.row.role) goal_place ≡ true
   mine = (r.lives.room goal_place awaited_here).0
 
-  changes : ChangesOwn (held r.role) w.memory filled
+  changes : ChangesOwn (held r.row.role) w.memory filled
   changes = record {
     size = length-with_byte w.memory goal_place (Some byte);
     others = λ place free. byte_at-with_byte_other w.memory goal_place place (Some byte)
-        (λ e. let no' : true ≡ false = sym mine ∙ ap (may_write (held r.role)) (sym e) ∙ free in cc);
+        (λ e. let no' : true ≡ false = sym mine ∙ ap (may_write (held r.row.role)) (sym e) ∙ free in cc);
   }
 
   -- the byte is there, in each memory that the process may meet
@@ -893,15 +881,15 @@ module _ (m : Contents) (k byte : ℕ) (small : byte < 256) (w : World) (h : Hol
   -- the process's claim, where the places that are still awaited are given by a test
   claim_after : (c : Condition) (still : ℕ → Bool) → ((place : ℕ) → awaits c place ≡ still place)
       → ((place : ℕ) → awaits v.task.condition place ≡ (eqb place goal_place || still place))
-      → Lives m (held r.role) filled (record v.task { condition = c }) r.due
+      → Lives m (held r.row.role) filled (record v.task { condition = c }) r.row.due
   claim_after c still is_still was = record {
-    claim = λ later size agree bytes. stands_whatever m (held r.role) later v.task c r.due
+    claim = λ later size agree bytes. stands_whatever m (held r.row.role) later v.task c r.row.due
         (r.lives.claim later (size ∙ changes.size)
         (λ place e free.
         let not_still : still place ≡ false =
-        or_false_right (eqb place goal_place) (still place) (sym (was place) ∙ free) in
+        or_right (eqb place goal_place) (still place) (sym (was place) ∙ free) in
         let not_here : eqb place goal_place ≡ false =
-        or_false_left (eqb place goal_place) (still place) (sym (was place) ∙ free) in
+        or_left (eqb place goal_place) (still place) (sym (was place) ∙ free) in
         agree place e (is_still place ∙ not_still)
         ∙ byte_at-with_byte_other w.memory goal_place place (Some byte) (differs place not_here))
         (λ place e. elim (bool_cases (still place)) [
@@ -909,21 +897,13 @@ module _ (m : Contents) (k byte : ℕ) (small : byte < 256) (w : World) (h : Hol
           | inr s ↦
               let is_here : place ≡ goal_place = same_place place (still place) s (sym (was place) ∙ e) in
               subst (λ q. IsByte (byte_at later q)) (sym is_here)
-              (comes_in later (agree goal_place (readable_byte (held r.role) goal_place mine)
+              (comes_in later (agree goal_place (readable_byte (held r.row.role) goal_place mine)
               (subst (λ q. awaits c q ≡ false) is_here (is_still place ∙ s))))
         ]));
     room = λ place e. let q = r.lives.room place (was place ∙ or_true_right (eqb place goal_place) (still place)
         (sym (is_still place) ∙ e)) in (q.0, omega (arith, q.1, changes.size));
   }
     where
-      or_false_left : (a b : Bool) → (a || b) ≡ false → a ≡ false
-      or_false_left true b e = absurd (cc)
-      or_false_left false b e = refl
-
-      or_false_right : (a b : Bool) → (a || b) ≡ false → b ≡ false
-      or_false_right true b e = absurd (cc)
-      or_false_right false b e = e
-
       or_true_right : (a b : Bool) → b ≡ true → (a || b) ≡ true
       or_true_right true b e = refl
       or_true_right false b e = e

@@ -1,4 +1,5 @@
 //! Worked values. Each test writes what it finds, a line a case, and compares the text with the one that is wanted.
+//! What the operations of the machine compute of words and ranges is asked by cases.
 
 use std::alloc::Global;
 use std::fmt::Debug;
@@ -11,22 +12,6 @@ use word_arithmetic::{
 const MIN: i32 = i32::MIN;
 
 const MAX: i32 = i32::MAX;
-
-const OPERATIONS: [Binary; 13] = [
-    Binary::Add,
-    Binary::Subtract,
-    Binary::Multiply,
-    Binary::Divide,
-    Binary::Remainder,
-    Binary::Sum,
-    Binary::Difference,
-    Binary::Product,
-    Binary::And,
-    Binary::Or,
-    Binary::ExclusiveOr,
-    Binary::Greater,
-    Binary::Equal,
-];
 
 /// What a test finds, each value after a space.
 #[derive(Drop)]
@@ -55,10 +40,16 @@ impl Found {
         }
     }
 
-    /// The ends of a range, where there is one.
-    fn put_range(&mut self, range: Option<Range>) {
+    /// The ends of a range.
+    fn put_range(&mut self, range: Range) {
+        self.put((range.lo, range.hi));
+    }
+
+    /// A line with the ends of a range, where there is one.
+    fn put_line(&mut self, range: Option<Range>) {
+        self.begin_line();
         match range {
-            Some(range) => self.put((range.lo, range.hi)),
+            Some(range) => self.put_range(range),
             None => self.put(None::<Range>),
         }
     }
@@ -67,118 +58,110 @@ impl Found {
         self.put((found.low, found.high));
     }
 
-    fn check(&self, rt: &impl Abort, wanted: &str) {
-        assert!(rt; !self.is_out_of_memory);
-        assert_eq!(rt; self.text.as_str(), wanted);
-    }
-}
-
-/// The range with these ends.
-fn range(rt: &impl Abort, lo: i32, hi: i32) -> Range {
-    assert!(rt; lo <= hi);
-    Range::new(lo, hi)
-}
-
-const RESULTS: &str = "
- Add Some(-5) Some(5) Some(22) None None Some(-2147483647) Some(1) Some(-2)
- Subtract Some(-9) Some(9) Some(2) Some(-2147483647) Some(2147483646) None Some(1) Some(0)
- Multiply Some(-14) Some(-14) Some(120) None Some(2147483647) Some(-2147483648) Some(0) Some(1)
- Divide Some(-3) Some(-3) Some(1) None Some(2147483647) Some(-2147483648) None Some(1)
- Remainder Some(-1) Some(1) Some(2) None Some(0) Some(0) None Some(0)
- Sum Some(-5) Some(5) Some(22) Some(2147483647) Some(-2147483648) Some(-2147483647) Some(1) Some(-2)
- Difference Some(-9) Some(9) Some(2) Some(-2147483647) Some(2147483646) Some(2147483647) Some(1) Some(0)
- Product Some(-14) Some(-14) Some(120) Some(-2147483648) Some(2147483647) Some(-2147483648) Some(0) Some(1)
- And Some(0) Some(6) Some(8) Some(-2147483648) Some(1) Some(0) Some(0) Some(-1)
- Or Some(-5) Some(-1) Some(14) Some(-1) Some(2147483647) Some(-2147483647) Some(1) Some(-1)
- ExclusiveOr Some(-5) Some(-7) Some(6) Some(2147483647) Some(2147483646) Some(-2147483647) Some(1) Some(0)
- Greater Some(0) Some(1) Some(1) Some(0) Some(1) Some(0) Some(1) Some(0)
- Equal Some(0) Some(0) Some(0) Some(0) Some(0) Some(0) Some(0) Some(1)";
-
-/// Each operation of eight pairs of words.
-#[test]
-fn operations_of_words(rt: HostRuntime) {
-    let mut found = Found::new(rt.alloc());
-    let words = [
-        (-7, 2),
-        (7, -2),
-        (12, 10),
-        (MIN, -1),
-        (MAX, 1),
-        (MIN, 1),
-        (1, 0),
-        (-1, -1),
-    ];
-    for operation in OPERATIONS {
-        found.begin_line();
-        found.put(operation);
-        for (left, right) in words {
-            found.put(operation.apply(left, right));
+    /// What was found; nothing where that is not all.
+    fn all(&self) -> &str {
+        if self.is_out_of_memory {
+            return "";
         }
+        self.text.as_str()
     }
-    found.check(&rt, RESULTS);
+
+    /// Checks that this was found, and nothing else.
+    fn check(&self, rt: &impl Abort, expected: &str) {
+        assert_eq!(rt; self.all(), expected);
+    }
 }
 
-const BITS: &str = "
+/// Words, their complements, and the words shifted by 1 and 31 bits, left and right.
+fn put_bits(found: &mut Found) {
+    for word in &[MIN, -1, 1, MAX] {
+        found.begin_line();
+        found.put(*word);
+        found.put(not(*word));
+        found.put(shift_left(*word, 1));
+        found.put(shift_left(*word, 31));
+        found.put(shift_right(*word, 1));
+        found.put(shift_right(*word, 31));
+    }
+}
+
+/// A carry and two words.
+const LONG_OPERANDS: &[(i32, i32, i32)] = &[
+    (1, -1, 1),
+    (0, 5, 3),
+    (1, 0, -1),
+    (MAX, 0, -1),
+    (-1, -1, -1),
+    (2, MIN, 2),
+];
+
+/// The long sum, difference and product of these.
+fn put_long_operations(found: &mut Found) {
+    for (carry, left, right) in LONG_OPERANDS {
+        found.begin_line();
+        found.put_long(long_sum(*left, *right, *carry));
+        found.put_long(long_difference(*left, *right, *carry));
+        found.put_long(long_product(*left, *right, *carry));
+    }
+}
+
+/// What holds of words and what does not, and a complement.
+fn put_questions_of_words(found: &mut Found) {
+    found.begin_line();
+    found.put(is_greater(1, -1));
+    found.put(is_below_unsigned(1, -1));
+    found.put(is_greater(1, 1));
+    found.put(is_below_unsigned(-1, 1));
+    found.put(Unary::Not.apply(12));
+}
+
+const WORDS: &str = "
  -2147483648 2147483647 0 0 1073741824 1
  -1 0 -2 -2147483648 2147483647 1
  1 -2 2 -2147483648 0 0
- 2147483647 -2147483648 -2 -2147483648 1073741823 0";
-
-/// A word, its complement, and the word shifted by 1 and 31 bits, left and right.
-#[test]
-fn bits_of_words(rt: HostRuntime) {
-    let mut found = Found::new(rt.alloc());
-    for word in [MIN, -1, 1, MAX] {
-        found.begin_line();
-        found.put(word);
-        found.put(not(word));
-        found.put(shift_left(word, 1));
-        found.put(shift_left(word, 31));
-        found.put(shift_right(word, 1));
-        found.put(shift_right(word, 31));
-    }
-    found.check(&rt, BITS);
-}
-
-const LONG_RESULTS: &str = "
+ 2147483647 -2147483648 -2 -2147483648 1073741823 0
  (1, 1) (-3, 0) (0, 1)
  (8, 0) (2, 0) (15, 0)
  (0, 1) (0, 1) (1, 0)
  (0, 1) (0, 1) (2147483647, 0)
  (-1, 1) (-1, 1) (0, -1)
- (-2147483646, 0) (2147483646, 0) (2, 1)";
+ (-2147483646, 0) (2147483646, 0) (2, 1)
+ true true false false Some(-13)";
 
-/// The long sum, difference and product of two words and a carry.
 #[test]
-fn long_operations(rt: HostRuntime) {
+fn words(rt: HostRuntime) {
     let mut found = Found::new(rt.alloc());
-    let words = [
-        (1, -1, 1),
-        (0, 5, 3),
-        (1, 0, -1),
-        (MAX, 0, -1),
-        (-1, -1, -1),
-        (2, MIN, 2),
-    ];
-    for (carry, left, right) in words {
-        found.begin_line();
-        found.put_long(long_sum(left, right, carry));
-        found.put_long(long_difference(left, right, carry));
-        found.put_long(long_product(left, right, carry));
-    }
-    found.check(&rt, LONG_RESULTS);
+    put_bits(&mut found);
+    put_long_operations(&mut found);
+    put_questions_of_words(&mut found);
+    found.check(&rt, WORDS);
 }
 
-const COMPARISONS: [Comparison; 6] = [
-    Comparison::Equal,
-    Comparison::NotEqual,
-    Comparison::Less,
-    Comparison::LessOrEqual,
-    Comparison::Greater,
-    Comparison::GreaterOrEqual,
-];
+/// A comparison, its negation and its mirror image, whether it holds of 4, 5 and 6 with 5, and what it leaves of 0 to
+/// 10 with 0, 5, 10 and 11.
+fn put_comparison(comparison: Comparison, found: &mut Found) {
+    found.begin_line();
+    found.put(comparison);
+    found.put(comparison.negated());
+    found.put(comparison.mirrored());
+    for word in &[4, 5, 6] {
+        found.put(comparison.holds(*word, 5));
+    }
+    for constant in &[0, 5, 10, 11] {
+        found.put_range(Range::new(0, 10).narrow(comparison, *constant));
+    }
+}
 
-const COMPARED: &str = "
+fn put_comparisons(found: &mut Found) {
+    put_comparison(Comparison::Equal, found);
+    put_comparison(Comparison::NotEqual, found);
+    put_comparison(Comparison::Less, found);
+    put_comparison(Comparison::LessOrEqual, found);
+    put_comparison(Comparison::Greater, found);
+    put_comparison(Comparison::GreaterOrEqual, found);
+}
+
+const COMPARISONS: &str = "
  Equal NotEqual Equal false true false (0, 0) (5, 5) (10, 10) (0, 10)
  NotEqual Equal NotEqual true false true (1, 10) (0, 10) (0, 9) (0, 10)
  Less GreaterOrEqual Greater true false false (0, 10) (0, 4) (0, 9) (0, 10)
@@ -186,87 +169,74 @@ const COMPARED: &str = "
  Greater LessOrEqual Less false false true (1, 10) (6, 10) (0, 10) (0, 10)
  GreaterOrEqual Less LessOrEqual false true true (0, 10) (5, 10) (10, 10) (0, 10)";
 
-/// Each comparison, its negation and its mirror image, whether it holds of 4, 5 and 6 with 5, and what it leaves of
-/// 0 to 10 with 0, 5, 10 and 11.
 #[test]
 fn comparisons(rt: HostRuntime) {
     let mut found = Found::new(rt.alloc());
-    for comparison in COMPARISONS {
-        found.begin_line();
-        found.put(comparison);
-        found.put(comparison.negated());
-        found.put(comparison.mirrored());
-        for word in [4, 5, 6] {
-            found.put(comparison.holds(word, 5));
-        }
-        for constant in [0, 5, 10, 11] {
-            found.put_range(Some(Range::new(0, 10).narrow(comparison, constant)));
-        }
-    }
-    found.check(&rt, COMPARED);
+    put_comparisons(&mut found);
+    found.check(&rt, COMPARISONS);
 }
 
-const RANGES_OF_RESULTS: &str = "
- Add (3, 14) (-10, 5) (22, 22) None (5, 12)
- Subtract (-4, 7) (-5, 10) (2, 2) (-2147483647, -2147483647) (2, 9)
- Multiply (0, 40) (-21, 21) (120, 120) None (0, 27)
- Divide (0, 3) (-3, 3) (1, 1) None None
- Remainder (0, 3) (-2, 2) (0, 9) None None
- Sum (3, 14) (-10, 5) (22, 22) (-2147483648, 2147483647) (5, 12)
- Difference (-4, 7) (-5, 10) (2, 2) (-2147483647, -2147483647) (2, 9)
- Product (0, 40) (-21, 21) (120, 120) (-2147483648, 2147483647) (0, 27)
- And (0, 4) (-2147483648, 2147483647) (8, 8) (-2147483648, -2147483648) (0, 3)
- Or (0, 15) (-2147483648, 2147483647) (14, 14) (-1, -1) (0, 15)
- ExclusiveOr (0, 15) (-2147483648, 2147483647) (6, 6) (2147483647, 2147483647) (0, 15)
- Greater (0, 1) (0, 1) (0, 1) (0, 1) (0, 1)
- Equal (0, 1) (0, 1) (0, 1) (0, 1) (0, 1)";
-
-/// The range of the results of each operation of five pairs of ranges.
-#[test]
-fn operations_of_ranges(rt: HostRuntime) {
-    let mut found = Found::new(rt.alloc());
-    let pairs = [
-        ((0, 10), (3, 4)),
-        ((-7, 7), (-3, -2)),
-        ((12, 12), (10, 10)),
-        ((MIN, MIN), (-1, -1)),
-        ((5, 9), (0, 3)),
-    ];
-    for operation in OPERATIONS {
-        found.begin_line();
-        found.put(operation);
-        for (left, right) in pairs {
-            let left = range(&rt, left.0, left.1);
-            let right = range(&rt, right.0, right.1);
-            found.put_range(operation.range(left, right));
-        }
-    }
-    found.check(&rt, RANGES_OF_RESULTS);
+/// The hull of 0 to 10 with a range, and the parts inside and outside that.
+fn put_parts(other: Range, found: &mut Found) {
+    let words = Range::new(0, 10);
+    found.begin_line();
+    found.put_range(words.hull(other));
+    found.put_range(words.inside(other));
+    found.put_range(words.outside(other));
 }
 
-const PARTS: &str = "
+fn put_parts_of_ranges(found: &mut Found) {
+    put_parts(Range::new(-3, 4), found);
+    put_parts(Range::new(7, 12), found);
+    put_parts(Range::new(2, 3), found);
+    put_parts(Range::new(11, 12), found);
+    put_parts(Range::new(0, MAX), found);
+}
+
+/// Ranges that are made.
+fn put_made_ranges(found: &mut Found) {
+    let bytes = Range::new(0, 255);
+    found.put_line(Range::between(1, 0));
+    found.put_line(Range::between(0, 255));
+    found.put_line(bytes.add_constant(-5));
+    found.put_line(Range::full().add_constant(1));
+    found.put_line(Some(Range::truths()));
+    found.put_line(Some(Range::at_least(7)));
+    found.put_line(Some(Range::at_most(7)));
+}
+
+/// The ranges of the results of operations.
+fn put_ranges_of_results(found: &mut Found) {
+    found.put_line(Unary::Not.range(Range::new(-1, 5)));
+    found.put_line(Some(Range::new(0, 3).shift_left(Range::new(0, 4))));
+    found.put_line(Some(Range::new(5, 100).shift_right(Range::new(1, 31))));
+    found.put_line(Binary::Equal.range(Range::new(0, 10), Range::new(3, 4)));
+    found.put_line(Binary::Equal.range(Range::new(-7, 7), Range::new(-3, -2)));
+    found.put_line(Binary::Equal.range(Range::new(5, 9), Range::new(0, 3)));
+}
+
+/// What holds of ranges and what does not, and the only word of one.
+fn put_questions_of_ranges(found: &mut Found) {
+    let bytes = Range::new(0, 255);
+    found.begin_line();
+    found.put(bytes.contains(0));
+    found.put(bytes.contains(255));
+    found.put(bytes.fits_byte());
+    found.put(bytes.fits_within(Range::full()));
+    found.put(bytes.contains(-1));
+    found.put(bytes.contains(256));
+    found.put(Range::new(0, 256).fits_byte());
+    found.put(Range::full().fits_within(bytes));
+    found.put(Range::constant(MIN).is_constant());
+    found.put(bytes.is_constant());
+}
+
+const RANGES: &str = "
  (-3, 10) (0, 4) (5, 10)
  (0, 12) (7, 10) (0, 6)
  (0, 10) (2, 3) (0, 10)
  (0, 12) (0, 10) (0, 10)
- (0, 2147483647) (0, 10) (0, 10)";
-
-/// The hull of 0 to 10 with another range, and the parts inside and outside that.
-#[test]
-fn parts_of_ranges(rt: HostRuntime) {
-    let mut found = Found::new(rt.alloc());
-    let words = Range::new(0, 10);
-    for (lo, hi) in [(-3, 4), (7, 12), (2, 3), (11, 12), (0, MAX)] {
-        let other = range(&rt, lo, hi);
-        found.begin_line();
-        found.put_range(Some(words.hull(other)));
-        found.put_range(Some(words.inside(other)));
-        found.put_range(Some(words.outside(other)));
-    }
-    found.check(&rt, PARTS);
-}
-
-const SINGLE_RANGES: &str = "
+ (0, 2147483647) (0, 10) (0, 10)
  None
  (0, 255)
  (-5, 250)
@@ -276,56 +246,18 @@ const SINGLE_RANGES: &str = "
  (-2147483648, 7)
  (-6, 0)
  (0, 48)
- (0, 100)";
+ (0, 100)
+ (0, 1)
+ (0, 1)
+ (0, 1)
+ true true true true false false false false Some(-2147483648) None";
 
 #[test]
-fn single_ranges(rt: HostRuntime) {
+fn ranges(rt: HostRuntime) {
     let mut found = Found::new(rt.alloc());
-    let bytes = Range::new(0, 255);
-    for range in [
-        Range::between(1, 0),
-        Range::between(0, 255),
-        bytes.add_constant(-5),
-        Range::full().add_constant(1),
-        Some(Range::truths()),
-        Some(Range::at_least(7)),
-        Some(Range::at_most(7)),
-        Unary::Not.range(Range::new(-1, 5)),
-        Some(Range::new(0, 3).shift_left(Range::new(0, 4))),
-        Some(Range::new(5, 100).shift_right(Range::new(1, 31))),
-    ] {
-        found.begin_line();
-        found.put_range(range);
-    }
-    found.check(&rt, SINGLE_RANGES);
-}
-
-/// What is asked of words and ranges: first what holds.
-#[test]
-fn questions(rt: HostRuntime) {
-    let bytes = Range::new(0, 255);
-    let found = [
-        bytes.contains(0),
-        bytes.contains(255),
-        bytes.fits_byte(),
-        bytes.fits_within(Range::full()),
-        is_greater(1, -1),
-        is_below_unsigned(1, -1),
-        bytes.contains(-1),
-        bytes.contains(256),
-        Range::new(0, 256).fits_byte(),
-        Range::full().fits_within(bytes),
-        is_greater(1, 1),
-        is_below_unsigned(-1, 1),
-    ];
-    let wanted = [
-        true, true, true, true, true, true, false, false, false, false, false, false,
-    ];
-    assert_eq!(rt; found, wanted);
-    let found = [
-        Unary::Not.apply(12),
-        Range::constant(MIN).is_constant(),
-        bytes.is_constant(),
-    ];
-    assert_eq!(rt; found, [Some(-13), Some(MIN), None]);
+    put_parts_of_ranges(&mut found);
+    put_made_ranges(&mut found);
+    put_ranges_of_results(&mut found);
+    put_questions_of_ranges(&mut found);
+    found.check(&rt, RANGES);
 }

@@ -118,6 +118,7 @@ impl Machine {
         let (at, condition) = match flow {
             Flow::Next => (next, task.condition),
             Flow::Jump { to } => (to, task.condition),
+            Flow::Land { to } => (to, task.condition),
             Flow::Stop => (next, Condition::Stopped),
         };
         let registers = between(at, registers);
@@ -130,7 +131,7 @@ impl Machine {
             },
         );
         match flow {
-            Flow::Next => {}
+            Flow::Next | Flow::Land { .. } => {}
             Flow::Jump { .. } => {
                 if choice.slice {
                     self.leave();

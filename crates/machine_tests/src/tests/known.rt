@@ -6,24 +6,17 @@ ghost use Rattle.module_format.specs.Contents.{label_of, procedure_of};
 ghost use Rattle.states.specs.Rows.{IsRowOf};
 ghost use Rattle.states.specs.Views.{BelongsTo};
 
+use crate::tests::text::Found;
 use certificate::{Fact, LabelRow, Module, ProcedureRow};
-use states::{BUDGET, Known, LABEL, Mode, Source, State, WordFact, below};
+use states::{Known, Source, State, below};
 use std::alloc::Global;
-use std::process::Abort;
-
-/// `stopp` alone, with five data words, base 3 and budget 1000.
-const STOP: [u8; 78] = [
-    0x54, 0x50, 0x4d, 0x31, 2, 0, 0, 0, 0, 0, 0, 0, 5, 0, 0, 0, 3, 0, 0, 0, 0xe8, 3, 0, 0, 0, 0, 0,
-    0, 0, 0, 0, 0, 0, 0, 0, 0, 0, 0, 0, 0, 0, 0, 0, 0, 0, 0, 0, 0, 0, 0, 0, 0, 0, 0, 0, 0, 0, 0, 0,
-    0, 0, 0, 0, 0, 0, 0, 0, 0, 0, 0, 0, 0, 0, 0, 0, 0, 0x21, 0xf5,
-];
 
 const SMALL: Fact = Fact::Number { lo: 1, hi: 5 };
 
 const LARGE: Fact = Fact::Number { lo: 1000, hi: 1000 };
 
-/// Code that nothing runs, twelve data words with base 4, a procedure, and four label rows: a loop with the greatest price,
-/// one that costs 2^64 - 1, the same where the label wants 1 besides, and two loops that cost 2^63 each.
+/// Code that nothing runs, twelve data words with base 4, a procedure, and four label rows: a loop with the greatest
+/// price, one that costs 2^64 - 1, the same where the label wants 1 besides, and two loops that cost 2^63 each.
 const FILE: [u8; 342] = [
     0x54, 0x50, 0x4d, 0x31, 0x10, 0, 0, 0, 0, 0, 0, 0, 0x0c, 0, 0, 0, 4, 0, 0, 0, 0xe8, 3, 0, 0, 0,
     0, 0, 0, 0, 0, 0, 0, 0, 0, 0, 0, 0, 0, 0, 0, 0, 0, 0, 0, 0, 0, 0, 0, 0, 0, 0, 0, 0, 0, 0, 0, 0,
@@ -40,128 +33,110 @@ const FILE: [u8; 342] = [
     0, 0, 0, 0x40,
 ];
 
-/// The words of the root's frame.
-const OWN: [i64; 5] = [-3, -2, -1, 0, 1];
-
-/// The state where the module begins.
-fn root<'a>(alloc: Global, module: &'a Module<'a>) -> Option<State<'a>>
-    ensures { IfSome result (BelongsTo «module».now) }
-{
-    State::root(alloc, module).ok()
-}
-
-/// The same state again.
-fn copy<'a>(alloc: Global, module: &Module, state: &State<'a>) -> Option<State<'a>>
-    requires { BelongsTo «module».now state.now }
-    ensures { IfSome result (BelongsTo «module».now) }
-{
-    let _ = module;
-    state.copy(alloc).ok()
-}
-
-/// The word of the frame has this fact from now on.
-fn write(module: &Module, state: &mut State, word: i64, fact: Fact) -> Option<()>
+/// The word of the frame has this fact from now on, if the context may write it.
+fn write(module: &Module, state: &mut State, word: i64, fact: Fact)
     requires { BelongsTo «module».now state.old }
     ensures { BelongsTo «module».now state.new }
 {
     let _ = module;
-    let word = state.writable_word(word)?;
-    state.write(word, fact);
-    Some(())
+    if let Some(word) = state.writable_word(word) {
+        state.write(word, fact);
+    }
 }
 
-fn known_at_the_start(rt: &impl Abort, alloc: Global) -> Option<()> {
-    let module = Module::read(alloc, &STOP).ok()?;
-    let state = root(alloc, &module)?;
-    assert_eq!(rt; (state.context, state.depth, state.number), (0, 0, 1000));
-    assert_eq!(rt; state.mode, Mode::Plain);
+/// The context, the depth and the number of a state.
+fn put_place(state: &State, found: &mut Found) {
+    found.begin_line();
+    found.put(state.context);
+    found.put(state.depth);
+    found.put(state.number);
+}
+
+/// What is known of the registers.
+fn put_registers(state: &State, found: &mut Found) {
     for known in [state.stack.a, state.stack.b, state.stack.c] {
-        assert_eq!(rt; known, Known::UNKNOWN);
+        found.begin_line();
+        found.put(known.fact);
+        found.put(known.source);
     }
-    assert!(rt; state.guards.is_empty());
-    for word in OWN {
-        assert_eq!(rt; state.writable_word(word), Some(word as i32));
-        assert_eq!(rt; state.readable_word(word), Some(word as i32));
-        assert_eq!(rt; state.fact_at(word as i32), WordFact::Alone(Fact::Unknown));
-    }
-    for word in [-4, 2, i64::MIN, i64::MAX, 1 << 32] {
-        assert_eq!(rt; state.writable_word(word), None);
-        assert_eq!(rt; state.readable_word(word), None);
-    }
-    Some(())
 }
 
-#[test]
-fn nothing_is_known_at_the_start(rt: HostRuntime) {
-    assert!(rt;
-        known_at_the_start(&rt, rt.alloc()).is_some()
-            || known_at_the_start(&rt, rt.alloc()).is_some()
-    );
+/// Words of the frame, and what is known of them.
+fn put_words(state: &State, words: &[i32], found: &mut Found) {
+    for word in words {
+        found.begin_line();
+        found.put(*word);
+        found.put(state.fact_at(*word));
+    }
 }
 
-fn changes(rt: &impl Abort, alloc: Global) -> Option<()> {
-    let module = Module::read(alloc, &STOP).ok()?;
-    let mut state = root(alloc, &module)?;
-    let from = Known {
+/// Words, and which of them may be written and read.
+fn put_usable(state: &State, words: &[i64], found: &mut Found) {
+    for word in words {
+        found.begin_line();
+        found.put(*word);
+        found.put(state.writable_word(*word));
+        found.put(state.readable_word(*word));
+    }
+}
+
+/// What is known where the module begins.
+fn put_root(state: &State, found: &mut Found) {
+    put_place(state, found);
+    put_registers(state, found);
+    found.begin_line();
+    found.put(state.mode);
+    found.put(state.guards.is_empty());
+    put_words(state, &[-4, -3, -2, -1, 0, 1, 2, 3, 4, 5, 6, 7], found);
+    let outside = [-5, 8, i64::MIN, i64::MAX, 1 << 32];
+    put_usable(state, &[-4, -3, -2, -1, 0, 1, 2, 3, 4, 5, 6, 7], found);
+    put_usable(state, &outside, found);
+}
+
+/// Words are written, and registers pushed, exchanged and popped.
+fn put_changes(module: &Module, state: &mut State, found: &mut Found)
+    requires { BelongsTo «module».now state.old }
+    ensures { BelongsTo «module».now state.new }
+{
+    write(module, state, 1, SMALL);
+    state.push(Known::of(LARGE));
+    state.push(Known {
         fact: SMALL,
         source: Source::From { word: 1 },
-    };
-    write(&module, &mut state, 1, SMALL)?;
-    state.push(Known::of(LARGE));
-    state.push(from);
-    assert_eq!(rt;
-        (state.stack.a, state.stack.b, state.stack.c),
-        (from, Known::of(LARGE), Known::UNKNOWN)
-    );
+    });
+    put_registers(state, found);
     state.reverse();
-    assert_eq!(rt;
-        (state.stack.a, state.stack.b, state.stack.c),
-        (Known::of(LARGE), from, Known::UNKNOWN)
-    );
-    write(&module, &mut state, 1, LARGE)?;
-    assert_eq!(rt;
-        (state.stack.a, state.stack.b),
-        (Known::of(LARGE), Known::of(SMALL))
-    );
-    assert_eq!(rt; state.fact_at(1), WordFact::Alone(LARGE));
-    assert_eq!(rt; state.fact_at(0), WordFact::Alone(Fact::Unknown));
+    put_registers(state, found);
+    write(module, state, 1, LARGE);
+    put_registers(state, found);
+    put_words(state, &[0, 1], found);
     state.pop();
-    assert_eq!(rt;
-        (state.stack.a, state.stack.b, state.stack.c),
-        (Known::of(SMALL), Known::UNKNOWN, Known::UNKNOWN)
-    );
-    Some(())
+    put_registers(state, found);
 }
 
-#[test]
-fn what_is_known_changes(rt: HostRuntime) {
-    assert!(rt; changes(&rt, rt.alloc()).is_some() || changes(&rt, rt.alloc()).is_some());
+/// A copy, in which a word is written.
+fn put_copied(module: &Module, copy: &mut State, found: &mut Found)
+    requires { BelongsTo «module».now copy.old }
+{
+    put_place(copy, found);
+    put_registers(copy, found);
+    write(module, copy, 2, LARGE);
+    put_words(copy, &[-2, 2], found);
 }
 
-fn copies(rt: &impl Abort, alloc: Global) -> Option<()> {
-    let module = Module::read(alloc, &STOP).ok()?;
-    let mut state = root(alloc, &module)?;
-    write(&module, &mut state, -2, SMALL)?;
+/// A copy of a state, and the state after the copy has changed.
+fn put_copy(alloc: Global, module: &Module, state: &mut State, found: &mut Found)
+    requires { BelongsTo «module».now state.old }
+    ensures { BelongsTo «module».now state.new }
+{
+    write(module, state, -2, SMALL);
     state.push(Known::of(LARGE));
     state.number = 7;
-    let mut again = copy(alloc, &module, &state)?;
-    assert_eq!(rt; (again.context, again.depth, again.number), (0, 0, 7));
-    assert_eq!(rt;
-        (again.stack.a, again.stack.b, again.stack.c),
-        (state.stack.a, state.stack.b, state.stack.c)
-    );
-    assert_eq!(rt; again.fact_at(-2), WordFact::Alone(SMALL));
-    write(&module, &mut again, 1, LARGE)?;
-    assert_eq!(rt;
-        (again.fact_at(1), state.fact_at(1)),
-        (WordFact::Alone(LARGE), WordFact::Alone(Fact::Unknown))
-    );
-    Some(())
-}
-
-#[test]
-fn a_copy_stands_alone(rt: HostRuntime) {
-    assert!(rt; copies(&rt, rt.alloc()).is_some() || copies(&rt, rt.alloc()).is_some());
+    match state.copy(alloc) {
+        Ok(mut copy) => put_copied(module, &mut copy, found),
+        Err(_) => found.fail(),
+    }
+    put_words(state, &[-2, 2], found);
 }
 
 /// A label row of the module.
@@ -176,61 +151,62 @@ pub fn label<'t>(module: &'t Module, index: usize) -> Option<&'t LabelRow>
 }
 
 /// The word is a number from now on.
-fn set(module: &Module, state: &mut State, word: i64, lo: i32, hi: i32) -> Option<()>
+fn set(module: &Module, state: &mut State, word: i64, number: i32)
     requires { BelongsTo «module».now state.old }
     ensures { BelongsTo «module».now state.new }
 {
-    write(module, state, word, Fact::Number { lo, hi })
+    let fact = Fact::Number {
+        lo: number,
+        hi: number,
+    };
+    write(module, state, word, fact);
 }
-
-/// What it costs a state with this number to go on as a label's, or the number of the rule that is broken.
-fn cost(module: &Module, state: &mut State, number: u64, row: &LabelRow) -> Result<u64, u8>
-    requires belongs { BelongsTo «module».now state.old }
-    requires row { IsRowOf «module».now (label_of row.now) }
-    ensures { BelongsTo «module».now state.new }
-{
-    let _ = module;
-    state.number = number;
-    below(state, row).map_err(|fault| fault.number)
-}
-
-/// A label, words 0 to 3, what the state may pay, and what it costs to go on.
-const PRICES: [(usize, [i32; 4], u64, Result<u64, u8>); 8] = [
-    (0, [1, i32::MAX, 0, 0], u64::MAX, Err(BUDGET)),
-    (0, [2, i32::MAX, 0, 0], u64::MAX, Err(LABEL)),
-    (1, [0, 4, 0, 0], u64::MAX, Ok(u64::MAX)),
-    (1, [0, 4, 0, 0], u64::MAX - 1, Err(BUDGET)),
-    (2, [0, 4, 0, 0], u64::MAX, Err(BUDGET)),
-    (3, [0, 3, 0, 3], u64::MAX, Err(BUDGET)),
-    (3, [0, 3, 0, 2], u64::MAX, Err(LABEL)),
-    (3, [0, 3, 0, 2], (1 << 63) - 1, Err(BUDGET)),
-];
 
 /// Words 0 to 3 are these numbers from now on.
-fn set_four(module: &Module, state: &mut State, words: [i32; 4]) -> Option<()>
+fn set_four(module: &Module, state: &mut State, words: [i32; 4])
     requires { BelongsTo «module».now state.old }
     ensures { BelongsTo «module».now state.new }
 {
-    set(module, state, 0, words[0], words[0])?;
-    set(module, state, 1, words[1], words[1])?;
-    set(module, state, 2, words[2], words[2])?;
-    set(module, state, 3, words[3], words[3])
+    set(module, state, 0, words[0]);
+    set(module, state, 1, words[1]);
+    set(module, state, 2, words[2]);
+    set(module, state, 3, words[3]);
 }
 
-fn pays(rt: &impl Abort, alloc: Global) -> Option<()> {
-    let module = Module::read(alloc, &FILE).ok()?;
-    for (index, words, number, told) in PRICES {
-        let row = label(&module, index)?;
-        let mut state = root(alloc, &module)?;
-        set_four(&module, &mut state, words)?;
-        assert_eq!(rt; cost(&module, &mut state, number, row), told);
+/// What it costs to go on as a label's with these words and this number, or the number of the rule that is broken.
+fn put_price(
+    module: &Module,
+    state: &mut State,
+    index: usize,
+    words: [i32; 4],
+    number: u64,
+    found: &mut Found,
+)
+    requires { BelongsTo «module».now state.old }
+    ensures { BelongsTo «module».now state.new }
+{
+    set_four(module, state, words);
+    state.number = number;
+    found.begin_line();
+    match label(module, index) {
+        Some(row) => found.put(below(state, row).map_err(|fault| fault.number)),
+        None => found.fail(),
     }
-    Some(())
 }
 
-#[test]
-fn prices_are_exact(rt: HostRuntime) {
-    assert!(rt; pays(&rt, rt.alloc()).is_some() || pays(&rt, rt.alloc()).is_some());
+/// A label, words 0 to 3, and what the state may pay.
+fn put_prices(module: &Module, state: &mut State, found: &mut Found)
+    requires { BelongsTo «module».now state.old }
+    ensures { BelongsTo «module».now state.new }
+{
+    put_price(module, state, 0, [1, i32::MAX, 0, 0], u64::MAX, found);
+    put_price(module, state, 0, [2, i32::MAX, 0, 0], u64::MAX, found);
+    put_price(module, state, 1, [0, 4, 0, 0], u64::MAX, found);
+    put_price(module, state, 1, [0, 4, 0, 0], u64::MAX - 1, found);
+    put_price(module, state, 2, [0, 4, 0, 0], u64::MAX, found);
+    put_price(module, state, 3, [0, 3, 0, 3], u64::MAX, found);
+    put_price(module, state, 3, [0, 3, 0, 2], u64::MAX, found);
+    put_price(module, state, 3, [0, 3, 0, 2], (1 << 63) - 1, found);
 }
 
 /// The first procedure row of the module.
@@ -240,32 +216,145 @@ fn procedure<'t>(module: &'t Module) -> Option<&'t ProcedureRow>
     module.tables().procedures.get(0)
 }
 
-fn begins(rt: &impl Abort, alloc: Global) -> Option<()> {
-    let module = Module::read(alloc, &FILE).ok()?;
-    let mut state = root(alloc, &module)?;
-    state.push(Known::of(SMALL));
-    write(&module, &mut state, 0, SMALL)?;
-    state.become_procedure(&module, procedure(&module)?, 1);
-    assert_eq!(rt; (state.context, state.depth, state.number), (1, 0, 9));
-    assert_eq!(rt; state.stack.a, Known::UNKNOWN);
-    assert_eq!(rt; state.fact_at(0), WordFact::Alone(Fact::ReturnAddress));
-    assert_eq!(rt;
-        state.fact_at(1),
-        WordFact::Alone(Fact::Number { lo: -5, hi: 5 })
-    );
-    assert_eq!(rt;
-        (state.writable_word(-2), state.readable_word(8)),
-        (Some(-2), None)
-    );
-    state.become_label(&module, label(&module, 2)?);
-    assert_eq!(rt; (state.context, state.depth, state.number), (0, 0, 1));
-    assert!(rt; matches!(state.fact_at(0), WordFact::Index(_)));
-    assert!(rt; matches!(state.fact_at(1), WordFact::Count(_)));
-    assert_eq!(rt; state.fact_at(2), WordFact::Alone(Fact::Unknown));
-    Some(())
+/// The state where a procedure begins, and then that of a label.
+fn put_begun<'a>(
+    module: &'a Module<'a>,
+    state: &mut State<'a>,
+    procedure: &ProcedureRow,
+    label: &'a LabelRow,
+    found: &mut Found,
+)
+    requires belongs { BelongsTo «module».now state.old }
+    requires procedure { slice_get «module».now.procedures 0 ≡ Some (procedure_of procedure.now) }
+    requires label { IsRowOf «module».now (label_of label.now) }
+{
+    state.become_procedure(module, procedure, 1);
+    put_place(state, found);
+    put_registers(state, found);
+    put_words(state, &[0, 1], found);
+    put_usable(state, &[-2, 8], found);
+    state.become_label(module, label);
+    put_place(state, found);
+    put_words(state, &[0, 1, 2], found);
 }
 
+fn put_beginnings<'a>(module: &'a Module<'a>, state: &mut State<'a>, found: &mut Found)
+    requires { BelongsTo «module».now state.old }
+{
+    state.push(Known::of(SMALL));
+    write(module, state, 0, SMALL);
+    match (procedure(module), label(module, 2)) {
+        (Some(procedure), Some(label)) => put_begun(module, state, procedure, label, found),
+        _ => found.fail(),
+    }
+}
+
+/// All of it, of one state.
+fn put_state<'a>(alloc: Global, module: &'a Module<'a>, state: &mut State<'a>, found: &mut Found)
+    requires { BelongsTo «module».now state.old }
+{
+    put_root(state, found);
+    put_changes(module, state, found);
+    put_copy(alloc, module, state, found);
+    put_prices(module, state, found);
+    put_beginnings(module, state, found);
+}
+
+fn put_states<'a>(alloc: Global, module: &'a Module<'a>, found: &mut Found) {
+    match State::root(alloc, module) {
+        Ok(mut state) => put_state(alloc, module, &mut state, found),
+        Err(_) => found.fail(),
+    }
+}
+
+fn put_known(alloc: Global, found: &mut Found) {
+    match Module::read(alloc, &FILE) {
+        Ok(module) => put_states(alloc, &module, found),
+        Err(_) => found.fail(),
+    }
+}
+
+const KNOWN: &str = "
+ 0 0 1000
+ Unknown Nowhere
+ Unknown Nowhere
+ Unknown Nowhere
+ Plain true
+ -4 Alone(Unknown)
+ -3 Alone(Unknown)
+ -2 Alone(Unknown)
+ -1 Alone(Unknown)
+ 0 Alone(Unknown)
+ 1 Alone(Unknown)
+ 2 Alone(Unknown)
+ 3 Alone(Unknown)
+ 4 Alone(Unknown)
+ 5 Alone(Unknown)
+ 6 Alone(Unknown)
+ 7 Alone(Unknown)
+ -4 Some(-4) Some(-4)
+ -3 Some(-3) Some(-3)
+ -2 Some(-2) Some(-2)
+ -1 Some(-1) Some(-1)
+ 0 Some(0) Some(0)
+ 1 Some(1) Some(1)
+ 2 Some(2) Some(2)
+ 3 Some(3) Some(3)
+ 4 Some(4) Some(4)
+ 5 Some(5) Some(5)
+ 6 Some(6) Some(6)
+ 7 Some(7) Some(7)
+ -5 None None
+ 8 None None
+ -9223372036854775808 None None
+ 9223372036854775807 None None
+ 4294967296 None None
+ Number { lo: 1, hi: 5 } From { word: 1 }
+ Number { lo: 1000, hi: 1000 } Nowhere
+ Unknown Nowhere
+ Number { lo: 1000, hi: 1000 } Nowhere
+ Number { lo: 1, hi: 5 } From { word: 1 }
+ Unknown Nowhere
+ Number { lo: 1000, hi: 1000 } Nowhere
+ Number { lo: 1, hi: 5 } Nowhere
+ Unknown Nowhere
+ 0 Alone(Unknown)
+ 1 Alone(Number { lo: 1000, hi: 1000 })
+ Number { lo: 1, hi: 5 } Nowhere
+ Unknown Nowhere
+ Unknown Nowhere
+ 0 0 7
+ Number { lo: 1000, hi: 1000 } Nowhere
+ Number { lo: 1, hi: 5 } Nowhere
+ Unknown Nowhere
+ -2 Alone(Number { lo: 1, hi: 5 })
+ 2 Alone(Number { lo: 1000, hi: 1000 })
+ -2 Alone(Number { lo: 1, hi: 5 })
+ 2 Alone(Unknown)
+ Err(15)
+ Err(16)
+ Ok(18446744073709551615)
+ Err(15)
+ Err(15)
+ Err(15)
+ Err(16)
+ Err(15)
+ 1 0 9
+ Unknown Nowhere
+ Unknown Nowhere
+ Unknown Nowhere
+ 0 Alone(ReturnAddress)
+ 1 Alone(Number { lo: -5, hi: 5 })
+ -2 Some(-2) Some(-2)
+ 8 None None
+ 0 0 1
+ 0 Index(Loop { base: 0, count: 4, weight: 6148914691236517205 })
+ 1 Count(Loop { base: 0, count: 4, weight: 6148914691236517205 })
+ 2 Alone(Unknown)";
+
 #[test]
-fn states_begin_as_a_procedure_and_a_label(rt: HostRuntime) {
-    assert!(rt; begins(&rt, rt.alloc()).is_some() || begins(&rt, rt.alloc()).is_some());
+fn what_is_known_begins_and_changes(rt: HostRuntime) {
+    let mut found = Found::new(rt.alloc());
+    put_known(rt.alloc(), &mut found);
+    found.check(&rt, KNOWN);
 }

@@ -11,18 +11,15 @@ use Rattle.facts.proofs.place.Place.load_local.Goals as goal
 pub returns-in_err-word-clause-ruling : goal.returns-in_err-word-clause-ruling
 returns-in_err-word-clause-ruling c =
     let p = err_from_is_err_and c.from_residual-in_err-word.result c.from_residual-in_err-word.ensures.1 in
-    rw (p.1, p.2)
-    (load_local-own (site_of c.args.self.now)
-    (state_of c.args.state.now) c.args.distance _ c.in_ok-outside_starts.ensures
-    (to_z-of_z w32 c.args.distance c.ranges.distance) ∙ c.in_err-word.ensures.test _)
+    rw (p.1, p.2) (load_local-own (site_of c.args.self.now) (state_of c.args.state.now) c.args.distance
+    c.ranges.distance c.in_ok-outside_starts.ensures ∙ c.in_err-word.ensures.test _)
 
 pub returns-clause-ruling : goal.returns-clause-ruling
 returns-clause-ruling c =
-    let same = to_z-of_z w32 c.args.distance c.ranges.distance in
     let fits = to_z-of_z w32 c.in_ok-word.word (search rules) in
     advances-by c.goes_on.result (state_of c.goes_on.new.state) _ _
-    (load_local-own (site_of c.args.self.now)
-    (state_of c.args.state.now) c.args.distance _ c.in_ok-outside_starts.ensures same
+    (load_local-own (site_of c.args.self.now) (state_of c.args.state.now) c.args.distance c.ranges.distance
+    c.in_ok-outside_starts.ensures
     ∙ (c.in_ok-word.ensures.test _
     ∙ ap (goes_on (site_of c.args.self.now))
     (load_local-after (state_of c.args.state.now)

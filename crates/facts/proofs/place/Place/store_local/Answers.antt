@@ -9,11 +9,10 @@ use Rattle.facts.proofs.place.Place.store_local.Goals as goal
 
 pub returns-clause-ruling : goal.returns-clause-ruling
 returns-clause-ruling c =
-    let same = to_z-of_z w32 c.args.distance c.ranges.distance in
     let fits = to_z-of_z w32 c.in_ok-word.word (search rules) in
     advances-by c.goes_on.result (state_of c.goes_on.new.state) _ _
-    (store_local-own (site_of c.args.self.now)
-    (state_of c.args.state.now) c.args.distance _ c.in_ok-fact.fact c.in_ok-fact.ensures c.in_ok-alone.ensures same
+    (store_local-own (site_of c.args.self.now) (state_of c.args.state.now) c.args.distance c.in_ok-fact.fact
+    c.ranges.distance c.in_ok-fact.ensures c.in_ok-alone.ensures
     ∙ (c.in_ok-word.ensures.test _
     ∙ ap (goes_on (site_of c.args.self.now))
     (store_local-after (state_of c.args.state.now) (state_of c.write.new.self)

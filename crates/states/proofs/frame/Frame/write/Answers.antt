@@ -8,7 +8,7 @@ pub returns-clause-facts : goal.returns-clause-facts
 returns-clause-facts c =
     let low = c.args.self.now.low in
     let high = c.args.self.now.high in
-    write-steps c.args.word _ _ _ c.args.fact (frame_facts c.args.self.now) (frame_facts c.part_index.new.self)
-    (frame_facts c.part_count.new.self) (frame_facts c.place.new.self)
+    write-steps c.args.word _ _ _ c.args.fact (frame_facts c.args.self.now) (frame_facts c.part.new.self)
+    (frame_facts c.part-2.new.self) (frame_facts c.place.new.self)
     (omega (arith, ints, low, high)) (omega (arith, ints, low, high))
-    (omega (arith, ints, low, high)) c.part_index.ensures.facts c.part_count.ensures.facts c.place.ensures.facts
+    (omega (arith, ints, low, high)) c.part.ensures.facts c.part-2.ensures.facts c.place.ensures.facts

@@ -1,0 +1,74 @@
+//! Pointers, and the words that they lead to.
+#![tactic(auto, unfolding(machine_state::specs::LocalStep::instruction_step, machine_state::specs::LocalStep::uses, machine_state::specs::LocalStep::aligned, machine_state::specs::LocalStep::reads, machine_state::specs::LocalStep::writes, machine_state::specs::LocalStep::goes_on))]
+
+ghost use Rattle.machine_state.specs.declared.instruction.Instruction.TheVariants as instruction;
+ghost use Rattle.machine_state.specs.Performing.{Performs, IsSameElsewhere, instruction_outcome};
+
+use machine_state::{Cpu, Fault, Flow, Store, local_address};
+
+/// `ldlp`: the address of the word with this number from the workspace is pushed.
+pub(crate) fn load_local_pointer<S: Store>(cpu: &mut Cpu<S>, operand: i32) -> Result<Flow, Fault>
+    ensures performs { let done = instruction.LoadLocalPointer in
+        let outcome = instruction_outcome S.cells S.holding cpu.old done operand in
+        Performs S.cells cpu.old cpu.new result outcome }
+    ensures elsewhere { IsSameElsewhere S.holding S.roles cpu.old cpu.new }
+{
+    cpu.in_code(cpu.next())?;
+    let address = local_address(cpu.registers.workspace, operand);
+    cpu.registers.stack.push(Some(address.cast_signed()));
+    Ok(Flow::Next)
+}
+
+/// `ldnlp`: A becomes the address of the word with this number from A.
+pub(crate) fn load_non_local_pointer<S: Store>(
+    cpu: &mut Cpu<S>,
+    operand: i32,
+) -> Result<Flow, Fault>
+    ensures performs { let done = instruction.LoadNonLocalPointer in
+        let outcome = instruction_outcome S.cells S.holding cpu.old done operand in
+        Performs S.cells cpu.old cpu.new result outcome }
+    ensures elsewhere { IsSameElsewhere S.holding S.roles cpu.old cpu.new }
+{
+    cpu.outside_starts()?;
+    let base = cpu.used(cpu.registers.stack.a)?;
+    cpu.in_code(cpu.next())?;
+    let address = local_address(base.cast_unsigned(), operand);
+    cpu.registers.stack.a = Some(address.cast_signed());
+    Ok(Flow::Next)
+}
+
+/// `ldnl`: A becomes the word with this number from A.
+pub(crate) fn load_non_local<S: Store>(cpu: &mut Cpu<S>, operand: i32) -> Result<Flow, Fault>
+    ensures performs { let done = instruction.LoadNonLocal in
+        let outcome = instruction_outcome S.cells S.holding cpu.old done operand in
+        Performs S.cells cpu.old cpu.new result outcome }
+    ensures elsewhere { IsSameElsewhere S.holding S.roles cpu.old cpu.new }
+{
+    cpu.alone()?;
+    let base = cpu.used(cpu.registers.stack.a)?;
+    let first = cpu.aligned(base)?;
+    let word = cpu.read(local_address(first, operand))?;
+    cpu.in_code(cpu.next())?;
+    cpu.registers.stack.a = word;
+    Ok(Flow::Next)
+}
+
+/// `stnl`: B goes to the word with this number from A, and both are popped.
+pub(crate) fn store_non_local<S: Store>(cpu: &mut Cpu<S>, operand: i32) -> Result<Flow, Fault>
+    ensures performs { let done = instruction.StoreNonLocal in
+        let outcome = instruction_outcome S.cells S.holding cpu.old done operand in
+        Performs S.cells cpu.old cpu.new result outcome }
+    ensures elsewhere { IsSameElsewhere S.holding S.roles cpu.old cpu.new }
+{
+    cpu.alone()?;
+    let base = cpu.used(cpu.registers.stack.a)?;
+    let value = cpu.used(cpu.registers.stack.b)?;
+    let first = cpu.aligned(base)?;
+    let address = local_address(first, operand);
+    cpu.writable(address)?;
+    cpu.in_code(cpu.next())?;
+    cpu.store.store_word(address, Some(value));
+    cpu.registers.stack.pop(None);
+    cpu.registers.stack.pop(None);
+    Ok(Flow::Next)
+}

@@ -1,0 +1,11 @@
+use Rattle.machine_state.proofs.Waiting.{lines_are_ready, links_have_their_waiters, branches_are_counted}
+use Rattle.machine_state.proofs.laws.waiting_is_in_order.Goals as goal
+
+pub returns-clause-lines : goal.returns-clause-lines
+returns-clause-lines c = lines_are_ready
+
+pub returns-clause-links : goal.returns-clause-links
+returns-clause-links c = links_have_their_waiters
+
+pub returns-clause-branches : goal.returns-clause-branches
+returns-clause-branches c = branches_are_counted

@@ -1,0 +1,49 @@
+//! Shifts, and operations of two words at a time.
+#![tactic(auto, unfolding(machine_state::specs::LocalStep::operation_step, machine_state::specs::LocalStep::holds, machine_state::specs::LocalStep::uses, machine_state::specs::LocalStep::counts, machine_state::specs::LocalStep::goes_on))]
+
+ghost use Rattle.machine_state.specs.declared.op.Op.TheVariants as operation;
+ghost use Rattle.machine_state.specs.Performing.{Performs, IsSameElsewhere, operation_outcome};
+
+use certificate::Stack;
+use machine_state::{Cpu, Fault, FaultKind, Flow, LongOp, Shift, Store};
+
+/// The most bits by which a word is shifted.
+const MOST_SHIFT: u32 = 31;
+
+/// `shl`, `shr`: A and B are popped, and B, shifted by A bits, is pushed.
+pub(crate) fn shift<S: Store>(cpu: &mut Cpu<S>, op: Shift) -> Result<Flow, Fault>
+    ensures performs { let outcome = operation_outcome S.cells S.holding cpu.old (operation.Shift op) in
+        Performs S.cells cpu.old cpu.new result outcome }
+    ensures elsewhere { IsSameElsewhere S.holding S.roles cpu.old cpu.new }
+{
+    cpu.alone()?;
+    let count = cpu.used(cpu.registers.stack.a)?;
+    let word = cpu.used(cpu.registers.stack.b)?;
+    let count = cpu.count(0, MOST_SHIFT, count)?;
+    let value = op.apply(word, count);
+    cpu.in_code(cpu.next())?;
+    cpu.registers.stack.pop(None);
+    cpu.registers.stack.a = Some(value);
+    Ok(Flow::Next)
+}
+
+/// `lsum`, `ldiff`, `lmul`: A becomes the low word of the result of B, A and C, and B the high one or the carry.
+pub(crate) fn long<S: Store>(cpu: &mut Cpu<S>, op: LongOp) -> Result<Flow, Fault>
+    ensures performs { let outcome = operation_outcome S.cells S.holding cpu.old (operation.Long op) in
+        Performs S.cells cpu.old cpu.new result outcome }
+    ensures elsewhere { IsSameElsewhere S.holding S.roles cpu.old cpu.new }
+{
+    cpu.check(cpu.has_long_operations, FaultKind::UnknownOperation)?;
+    cpu.alone()?;
+    let right = cpu.used(cpu.registers.stack.a)?;
+    let left = cpu.used(cpu.registers.stack.b)?;
+    let third = cpu.used(cpu.registers.stack.c)?;
+    cpu.in_code(cpu.next())?;
+    let result = op.apply(left, right, third);
+    cpu.registers.stack = Stack {
+        a: Some(result.low),
+        b: Some(result.high),
+        c: None,
+    };
+    Ok(Flow::Next)
+}

@@ -1,0 +1,30 @@
+//! Blocks of bytes that move.
+#![tactic(auto, unfolding(machine_state::specs::LocalStep::operation_step, machine_state::specs::LocalStep::uses, machine_state::specs::LocalStep::counts, machine_state::specs::LocalStep::holds, machine_state::specs::LocalStep::goes_on))]
+
+ghost use Rattle.machine_state.specs.declared.op.Op.TheVariants as operation;
+ghost use Rattle.machine_state.specs.Performing.{Performs, IsSameElsewhere, operation_outcome};
+
+use certificate::Stack;
+use machine_state::{Cpu, Fault, FaultKind, Flow, Store};
+
+/// The most bytes that move at a time.
+const MOST_MOVED: u32 = 65_536;
+
+/// `move`: A bytes go from C to B. The two blocks do not meet, and undefined bytes stay undefined.
+pub(crate) fn move_bytes<S: Store>(cpu: &mut Cpu<S>) -> Result<Flow, Fault>
+    ensures performs { let outcome = operation_outcome S.cells S.holding cpu.old operation.Move in
+        Performs S.cells cpu.old cpu.new result outcome }
+    ensures elsewhere { IsSameElsewhere S.holding S.roles cpu.old cpu.new }
+{
+    cpu.alone()?;
+    let count = cpu.used(cpu.registers.stack.a)?;
+    let to = cpu.used(cpu.registers.stack.b)?.cast_unsigned();
+    let from = cpu.used(cpu.registers.stack.c)?.cast_unsigned();
+    let count = cpu.count(0, MOST_MOVED, count)?;
+    let is_own = cpu.may_copy(from, to, count);
+    cpu.check(is_own, FaultKind::NotOwn)?;
+    cpu.in_code(cpu.next())?;
+    cpu.store.copy(from, to, count);
+    cpu.registers.stack = Stack::of_empty(None);
+    Ok(Flow::Next)
+}

@@ -1,0 +1,87 @@
+//! Addresses that are computed, and checks of subscripts and counts.
+#![tactic(auto, unfolding(machine_state::specs::LocalStep::operation_step, machine_state::specs::LocalStep::holds, machine_state::specs::LocalStep::uses, machine_state::specs::LocalStep::goes_on))]
+
+ghost use Rattle.machine_state.specs.declared.op.Op.TheVariants as operation;
+ghost use Rattle.machine_state.specs.Performing.{Performs, IsSameElsewhere, operation_outcome};
+
+use machine_state::{Cpu, Fault, FaultKind, Flow, Store, local_address};
+use word_arithmetic::is_below_unsigned;
+
+/// `bsub`: A and B are popped, and the address B bytes after A is pushed.
+pub(crate) fn byte_subscript<S: Store>(cpu: &mut Cpu<S>) -> Result<Flow, Fault>
+    ensures performs { let outcome = operation_outcome S.cells S.holding cpu.old operation.ByteSubscript in
+        Performs S.cells cpu.old cpu.new result outcome }
+    ensures elsewhere { IsSameElsewhere S.holding S.roles cpu.old cpu.new }
+{
+    cpu.alone()?;
+    let base = cpu.used(cpu.registers.stack.a)?;
+    let subscript = cpu.used(cpu.registers.stack.b)?;
+    let address = base.cast_unsigned().wrapping_add(subscript.cast_unsigned());
+    cpu.in_code(cpu.next())?;
+    cpu.registers.stack.pop(None);
+    cpu.registers.stack.a = Some(address.cast_signed());
+    Ok(Flow::Next)
+}
+
+/// `wsub`: A and B are popped, and the address B words after A is pushed.
+pub(crate) fn word_subscript<S: Store>(cpu: &mut Cpu<S>) -> Result<Flow, Fault>
+    ensures performs { let outcome = operation_outcome S.cells S.holding cpu.old operation.WordSubscript in
+        Performs S.cells cpu.old cpu.new result outcome }
+    ensures elsewhere { IsSameElsewhere S.holding S.roles cpu.old cpu.new }
+{
+    cpu.alone()?;
+    let base = cpu.used(cpu.registers.stack.a)?;
+    let subscript = cpu.used(cpu.registers.stack.b)?;
+    let address = local_address(base.cast_unsigned(), subscript);
+    cpu.in_code(cpu.next())?;
+    cpu.registers.stack.pop(None);
+    cpu.registers.stack.a = Some(address.cast_signed());
+    Ok(Flow::Next)
+}
+
+/// `csub0`: A is popped, unless B is not below it, which sets the error flag.
+pub(crate) fn check_subscript<S: Store>(cpu: &mut Cpu<S>) -> Result<Flow, Fault>
+    ensures performs { let outcome = operation_outcome S.cells S.holding cpu.old operation.CheckSubscript in
+        Performs S.cells cpu.old cpu.new result outcome }
+    ensures elsewhere { IsSameElsewhere S.holding S.roles cpu.old cpu.new }
+{
+    cpu.alone()?;
+    let bound = cpu.used(cpu.registers.stack.a)?;
+    let subscript = cpu.used(cpu.registers.stack.b)?;
+    cpu.check(is_below_unsigned(subscript, bound), FaultKind::ErrorFlag)?;
+    cpu.in_code(cpu.next())?;
+    cpu.registers.stack.pop(None);
+    Ok(Flow::Next)
+}
+
+/// `ccnt1`: A is popped, unless B is 0 or above it, which sets the error flag.
+pub(crate) fn check_count<S: Store>(cpu: &mut Cpu<S>) -> Result<Flow, Fault>
+    ensures performs { let outcome = operation_outcome S.cells S.holding cpu.old operation.CheckCount in
+        Performs S.cells cpu.old cpu.new result outcome }
+    ensures elsewhere { IsSameElsewhere S.holding S.roles cpu.old cpu.new }
+{
+    cpu.alone()?;
+    let most = cpu.used(cpu.registers.stack.a)?;
+    let count = cpu.used(cpu.registers.stack.b)?;
+    cpu.check(
+        count.cast_unsigned() != 0 && !is_below_unsigned(most, count),
+        FaultKind::ErrorFlag,
+    )?;
+    cpu.in_code(cpu.next())?;
+    cpu.registers.stack.pop(None);
+    Ok(Flow::Next)
+}
+
+/// `ldpi`: A becomes the address A bytes after the instruction.
+pub(crate) fn load_pointer_to_instruction<S: Store>(cpu: &mut Cpu<S>) -> Result<Flow, Fault>
+    ensures performs { let outcome = operation_outcome S.cells S.holding cpu.old operation.LoadPointerToInstruction in
+        Performs S.cells cpu.old cpu.new result outcome }
+    ensures elsewhere { IsSameElsewhere S.holding S.roles cpu.old cpu.new }
+{
+    cpu.alone()?;
+    let distance = cpu.used(cpu.registers.stack.a)?;
+    cpu.in_code(cpu.next())?;
+    let address = cpu.next_address().wrapping_add(distance.cast_unsigned());
+    cpu.registers.stack.a = Some(address.cast_signed());
+    Ok(Flow::Next)
+}
