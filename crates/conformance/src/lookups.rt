@@ -21,20 +21,23 @@ fn end_kind(words: &mut Words) -> EndKind {
     }
 }
 
-/// An end, and then `in` or `out`.
-fn end(words: &mut Words) -> EndRow {
-    let kind = end_kind(words);
-    let direction = words.word();
-    if direction != "in" && direction != "out" {
-        words.fail();
-    }
-    EndRow {
-        kind,
-        direction: if direction == "in" {
-            Direction::In
-        } else {
+/// `in` or `out`.
+fn direction(words: &mut Words) -> Direction {
+    match words.word() {
+        "in" => Direction::In,
+        "out" => Direction::Out,
+        _ => {
+            words.fail();
             Direction::Out
-        },
+        }
+    }
+}
+
+/// An end, and then its direction.
+fn end(words: &mut Words) -> EndRow {
+    EndRow {
+        kind: end_kind(words),
+        direction: direction(words),
     }
 }
 

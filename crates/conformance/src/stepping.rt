@@ -4,16 +4,19 @@ use crate::answer::Answer;
 use crate::outcome::{Outcome, judged};
 use crate::running::put_fault;
 use crate::words::{Words, question};
-use certificate::{Module, Stack};
+use certificate::{Module, Stack, Tables};
 use direct_functions::direct;
 use machine_state::{
     Cpu, DATA_START, Fault, Flow, Mode, Registers, Store, TaggedStore, Word, local_address,
+    place_of,
 };
 use prefix_decoder::Fun;
 use std::alloc::Global;
 
 /// The number of the process.
 const PROCESS: u64 = 7;
+
+const BYTES_IN_WORD: u32 = 4;
 
 /// The registers before the words of a case are taken. The instruction began at offset 1.
 const REGISTERS: Registers = Registers {
@@ -91,6 +94,10 @@ fn put_flow(flow: Result<Flow, Fault>, out: &mut Answer) {
             out.put("jump ");
             out.number(i64::from(to));
         }
+        Ok(Flow::Land { to }) => {
+            out.put("land ");
+            out.number(i64::from(to));
+        }
         Ok(Flow::Stop) => out.put("stop"),
         Err(fault) => put_fault(Some(fault), out),
     }
@@ -105,13 +112,19 @@ fn put_value(value: Word, out: &mut Answer) {
     }
 }
 
-/// The three registers, and whether any of the others is not as before.
+/// The three registers, the number of the data word that is the workspace where that is another, and whether any of the
+/// others is not as before.
 fn put_registers(before: Registers, after: Registers, out: &mut Answer) {
     put_value(after.stack.a, out);
     put_value(after.stack.b, out);
     put_value(after.stack.c, out);
+    if after.workspace != before.workspace {
+        out.put(" at word ");
+        out.number(i64::from(place_of(after.workspace) / BYTES_IN_WORD));
+    }
     let others = Registers {
         stack: before.stack,
+        workspace: before.workspace,
         ..after
     };
     out.put(if others == before {
@@ -152,6 +165,11 @@ fn execute(
     process.is_read() && asked.is_read()
 }
 
+/// The address after the data words, where the code begins.
+fn data_end(tables: &Tables) -> u32 {
+    DATA_START.wrapping_add(tables.data_words.wrapping_mul(BYTES_IN_WORD))
+}
+
 /// What an instruction does: `FUNCTION OPERAND = FLOW A B C, DATA`.
 pub(crate) fn step(
     alloc: Global,
@@ -168,9 +186,9 @@ pub(crate) fn step(
         process: PROCESS,
         registers: REGISTERS,
         mode: Mode::Plain,
-        code_start: DATA_START,
+        code_start: data_end(module.tables()),
         code_length: 0,
-        has_long_operations: false,
+        has_long_operations: module.tables().has_long_operations,
         store,
     };
     if execute(&mut cpu, Words::of(process), Words::of(asked), out) {

@@ -4,8 +4,8 @@ use crate::answer::Answer;
 use crate::tokens::{write_character, write_name, write_text};
 use occam_parser::{
     Action, Branch, ChainOperator, Choice, Constant, ConstantValue, Construct, Declaration, Expr,
-    Formal, FormalKind, Guard, Item, Names, Operand, PairOperator, Place, PrefixOperator, Proc,
-    Process, Replicator, ValueType,
+    Formal, FormalKind, Guard, Item, Names, Operand, Operation, PairOperator, Place,
+    PrefixOperator, Proc, Process, Replicator, ValueType,
 };
 
 /// The items of a program as a source.
@@ -258,9 +258,9 @@ fn write_exprs(out: &mut Answer, exprs: &[Expr]) {
 
 #[cycle(write_expr)]
 fn write_expr(out: &mut Answer, expr: &Expr) {
-    match expr {
-        Expr::Operand(operand) => write_operand(out, operand),
-        Expr::Prefix { operator, operand } => {
+    match &*expr.operation {
+        Operation::Operand(operand) => write_operand(out, operand),
+        Operation::Prefix { operator, operand } => {
             match operator {
                 PrefixOperator::Negate => out.put("-"),
                 PrefixOperator::BitNot => out.put("~"),
@@ -268,7 +268,7 @@ fn write_expr(out: &mut Answer, expr: &Expr) {
             }
             write_operand(out, operand);
         }
-        Expr::Pair {
+        Operation::Pair {
             operator,
             left,
             right,
@@ -277,7 +277,7 @@ fn write_expr(out: &mut Answer, expr: &Expr) {
             out.put(pair_sign(*operator));
             write_operand(out, right);
         }
-        Expr::Chain {
+        Operation::Chain {
             operator,
             first,
             others,

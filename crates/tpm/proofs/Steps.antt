@@ -20,7 +20,8 @@ use Rattle.machine_state.specs.declared.fault.FaultKind.TheVariants.{OutsideCode
 use Rattle.machine_state.specs.Site.{Local, Outcome}
 use Rattle.machine_state.specs.Instructions.{has_body}
 use Rattle.machine_state.specs.LocalStep.{local_step}
-use Rattle.machine_state.proofs.Bodied.{IsLocal, it_goes, it_jumps, it_stops, it_fails, local_steps_are_local}
+use Rattle.machine_state.proofs.Bodied.{IsLocal, it_goes, it_jumps, it_lands, it_stops, it_fails}
+use Rattle.machine_state.proofs.Bodied.{local_steps_are_local}
 use Rattle.machine_state.specs.Moves.{counted, finished_where, put, leave, picked, dispatch}
 use Rattle.machine_state.specs.Happens.{Effect, ran, idle, answered, Here, Turn, turn, turn_by, happens, run_from}
 use Rattle.machine_state.specs.Happens.{failed, site_of, settled, prefix_turn, byte_turn, task_turn, step_turn}
@@ -74,6 +75,7 @@ steps_settled : (h : Here) (o : Outcome) → IsLocal o → (w : World) → Steps
 unfolding dispatch
 steps_settled h o (it_goes {l = l}) w = runs _ refl (alone_put h.process _ l.memory w)
 steps_settled h o (it_jumps {l = l}) w = runs _ refl (alone_put h.process _ l.memory w)
+steps_settled h o (it_lands {l = l}) w = runs _ refl (alone_put h.process _ l.memory w)
 steps_settled h o (it_stops {l = l}) w =
     runs _ refl (alone_stopped h.process h.pick _ l.memory (h.next == h.contents.finish) w)
 steps_settled h o it_fails w = faults _ _ refl

@@ -54,8 +54,8 @@ fn asked<'a>(matches: &ArgMatches<'a>) -> Option<Line<'a>>
 /// or `run MOD`.
 pub fn line<'a>(alloc: Global, words: &'a [&'a str]) -> Result<Line<'a>, LineFault>
     ensures asked { IfOk result (λ l. line_of (texts words.entry.now) ≡ Some (asked_of l)) }
-    // A body that always answers want of memory meets this too, since no clause can say that memory
-    // is left: tests show that lines are read.
+    // A body that always reports that memory ran out meets this too, since no clause can say that memory
+    // is left: `scripts/command_lines` shows that lines are read.
     ensures fault { IfErr result (IsFaultAt (texts words.entry.now)) }
 {
     let matches = command(alloc)?.try_get_matches_from(words)?;

@@ -6,7 +6,7 @@ ghost use Rattle.tpm.specs.declared.files.FileFault.{FileFault};
 use std::{fs, io, rt};
 
 /// Why a file was not read.
-#[derive(Clone, Copy, Debug, PartialEq, Eq)]
+#[derive(Clone, Copy)]
 pub enum FileFault {
     /// The file is not there, or it failed.
     Failed,

@@ -7,8 +7,6 @@ mod files;
 mod line;
 mod report;
 mod running;
-#[cfg(test)]
-mod tests;
 
 use acting::act;
 use files::SystemFiles;

@@ -21,7 +21,7 @@ pub const FAILED: u8 = 3;
 pub const STARVED: u8 = 4;
 
 /// What is told of a module that is certified.
-#[derive(Clone, Copy, Debug, PartialEq, Eq)]
+#[derive(Clone, Copy)]
 pub enum Report {
     /// The most bytes that a run executes.
     Accepted { budget: u64 },
