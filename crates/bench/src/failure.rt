@@ -11,7 +11,7 @@ use std::alloc::{AllocError, AllocFailed};
 use verifier::Refusal;
 
 /// Why a call that is repeated has no checksum.
-#[derive(Clone, Copy, Debug, PartialEq, Eq)]
+#[derive(Clone, Copy)]
 pub(crate) enum Failure {
     /// Memory ran out.
     Memory,

@@ -9,8 +9,6 @@
 mod call;
 mod failure;
 mod repeating;
-#[cfg(test)]
-mod tests;
 
 use call::{Call, NAMES, call_named};
 use failure::Failure;

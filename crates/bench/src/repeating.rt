@@ -1,11 +1,11 @@
 //! The calls, repeated.
 
-use crate::call::Call;
+use crate::call::{Call, ModuleCall};
 use crate::failure::Failure;
 use certificate::{Module, write};
 use machine::Checked;
 use machine_state::{Effect, Event};
-use occam_layout::lines;
+use occam_layout::{Line, lines};
 use occam_parser::parse;
 use std::alloc::Global;
 use verifier::verify;
@@ -21,22 +21,32 @@ fn mixed(checksum: u64, number: u64) -> u64 {
     checksum.wrapping_mul(31).wrapping_add(number)
 }
 
+/// The budget and the number of rows.
+fn summary(module: &Module) -> (u64, u64) {
+    let tables = module.tables();
+    let rows = tables.procedures.len() + tables.labels.len() + tables.pars.len();
+    (tables.budget, (rows + tables.table_rows.len()) as u64)
+}
+
+fn read(alloc: Global, file: &[u8]) -> Result<(u64, u64), Failure> {
+    match Module::read(alloc, file) {
+        Ok(module) => Ok(summary(&module)),
+        Err(fault) => Err(fault.into()),
+    }
+}
+
 /// The budgets and the numbers of rows.
 fn read_repeatedly(alloc: Global, file: &[u8], times: u64) -> Result<u64, Failure> {
     let mut checksum = 0;
     for _ in 0..times {
-        let module = Module::read(alloc, file)?;
-        let tables = module.tables();
-        let rows = tables.procedures.len() + tables.labels.len() + tables.pars.len();
-        checksum = mixed(checksum, tables.budget);
-        checksum = mixed(checksum, (rows + tables.table_rows.len()) as u64);
+        let (budget, rows) = read(alloc, file)?;
+        checksum = mixed(mixed(checksum, budget), rows);
     }
     Ok(checksum)
 }
 
 /// The lengths of the written files.
-fn write_repeatedly(alloc: Global, file: &[u8], times: u64) -> Result<u64, Failure> {
-    let module = Module::read(alloc, file)?;
+fn write_repeatedly(alloc: Global, module: &Module, times: u64) -> Result<u64, Failure> {
     let mut checksum = 0;
     for _ in 0..times {
         let written = write(alloc, module.tables())?;
@@ -45,20 +55,18 @@ fn write_repeatedly(alloc: Global, file: &[u8], times: u64) -> Result<u64, Failu
     Ok(checksum)
 }
 
-fn verify_repeatedly(alloc: Global, file: &[u8], times: u64) -> Result<u64, Failure> {
-    let module = Module::read(alloc, file)?;
+/// The budgets.
+fn verify_repeatedly(alloc: Global, module: &Module, times: u64) -> Result<u64, Failure> {
     let mut checksum = 0;
     for _ in 0..times {
-        let verified = verify(alloc, &module)?;
+        let verified = verify(alloc, module)?;
         checksum = mixed(checksum, verified.module().tables().budget);
     }
     Ok(checksum)
 }
 
 /// Whether each event ran an instruction byte, and how many were executed.
-fn apply_repeatedly(alloc: Global, file: &[u8], times: u64) -> Result<u64, Failure> {
-    let module = Module::read(alloc, file)?;
-    let mut machine = Checked::load(alloc, &module)?;
+fn apply_repeatedly(machine: &mut Checked, times: u64) -> Result<u64, Failure> {
     let mut checksum = 0;
     for _ in 0..times {
         let has_run = matches!(machine.apply(STEP)?, Effect::Ran);
@@ -67,6 +75,27 @@ fn apply_repeatedly(alloc: Global, file: &[u8], times: u64) -> Result<u64, Failu
     Ok(mixed(checksum, machine.executed()))
 }
 
+/// Repeats a call on this module.
+fn of_module(alloc: Global, call: ModuleCall, module: &Module, times: u64) -> Result<u64, Failure> {
+    match call {
+        ModuleCall::Write => write_repeatedly(alloc, module, times),
+        ModuleCall::Verify => verify_repeatedly(alloc, module, times),
+        ModuleCall::Apply => match Checked::load(alloc, module) {
+            Ok(mut machine) => apply_repeatedly(&mut machine, times),
+            Err(error) => Err(error.into()),
+        },
+    }
+}
+
+/// Repeats a call on the module that is read from this file.
+fn of_file(alloc: Global, call: ModuleCall, file: &[u8], times: u64) -> Result<u64, Failure> {
+    match Module::read(alloc, file) {
+        Ok(module) => of_module(alloc, call, &module, times),
+        Err(fault) => Err(fault.into()),
+    }
+}
+
+/// The levels and the numbers of tokens.
 fn lines_repeatedly(alloc: Global, source: &[u8], times: u64) -> Result<u64, Failure> {
     let mut checksum = 0;
     for _ in 0..times {
@@ -79,14 +108,21 @@ fn lines_repeatedly(alloc: Global, source: &[u8], times: u64) -> Result<u64, Fai
 }
 
 /// The number of lines that were read as a program.
-fn parse_repeatedly(alloc: Global, source: &[u8], times: u64) -> Result<u64, Failure> {
-    let rows = lines(alloc, source)?;
+fn parse_repeatedly(alloc: Global, rows: &[Line], times: u64) -> Result<u64, Failure> {
     let mut checksum = 0;
     for _ in 0..times {
-        parse(alloc, &rows)?;
+        parse(alloc, rows)?;
         checksum = mixed(checksum, rows.len() as u64);
     }
     Ok(checksum)
+}
+
+/// The same, of the lines of a source.
+fn parse_source(alloc: Global, source: &[u8], times: u64) -> Result<u64, Failure> {
+    match lines(alloc, source) {
+        Ok(rows) => parse_repeatedly(alloc, &rows, times),
+        Err(fault) => Err(fault.into()),
+    }
 }
 
 /// Repeats the call on these bytes, and returns a checksum of its results.
@@ -98,10 +134,8 @@ pub(crate) fn checksum_of(
 ) -> Result<u64, Failure> {
     match call {
         Call::Read => read_repeatedly(alloc, bytes, times),
-        Call::Write => write_repeatedly(alloc, bytes, times),
-        Call::Verify => verify_repeatedly(alloc, bytes, times),
-        Call::Apply => apply_repeatedly(alloc, bytes, times),
+        Call::OfModule(call) => of_file(alloc, call, bytes, times),
         Call::Lines => lines_repeatedly(alloc, bytes, times),
-        Call::Parse => parse_repeatedly(alloc, bytes, times),
+        Call::Parse => parse_source(alloc, bytes, times),
     }
 }

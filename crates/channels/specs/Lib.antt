@@ -1,0 +1,6 @@
+pub mod Arriving
+pub mod Beside
+pub mod Lending
+pub mod Moment
+pub mod Settling
+pub mod Sound

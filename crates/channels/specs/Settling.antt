@@ -1,0 +1,60 @@
+-- What a call for an instruction did that asks something of others, against the turn of the definitions.
+use Rattle.std.specs.Prelude.{◌≡◌, ◌+◌, ◌==◌, ◌&&◌, Bool, false, is_some, Option, Some, None, Result, Ok, Err}
+use Rattle.module_format.specs.Contents.{Contents}
+use Rattle.machine_state.specs.declared.fault.Fault.{Fault}
+use Rattle.machine_state.specs.declared.link.InputLink.{InputLink}
+use Rattle.machine_state.specs.declared.process.Exchange.{Exchange}
+use Rattle.machine_state.specs.declared.process.Registers.{Registers}
+use Rattle.machine_state.specs.Site.{Local}
+use Rattle.machine_state.specs.LocalStep.{without_scheduling_words}
+use Rattle.machine_state.specs.World.{World}
+use Rattle.machine_state.specs.declared.fault.FaultKind.TheVariants.{EndNotHeld}
+use Rattle.machine_state.specs.declared.process.Channel.{Channel}
+use Rattle.machine_state.specs.Moves.{counted, faulty, channel_at}
+use Rattle.machine_state.specs.Turn.{Effect, Turn, answered, Here, failed}
+use Rattle.machine_state.specs.Exchanges.{received_inside, sent_inside}
+use Rattle.channels.specs.declared.here.Here.{Here as Instance}
+
+-- an instruction of a process in this module, whose last byte it is at
+abbrev pub here_in : Contents → Instance → Here
+here_in m h = record {
+  contents = m;
+  process = h.process;
+  from = h.task;
+  next = h.task.registers.at + 1;
+  pick = h.pick;
+}
+
+-- the process with these registers, once scheduling has taken its words
+abbrev pub scheduled : Registers → World → Local
+scheduled registers w =
+    record { registers = registers; memory = without_scheduling_words w.memory registers.workspace }
+
+-- whether the byte that is kept on an input link is the whole message
+abbrev pub is_complete : Option InputLink → Exchange → Bool
+is_complete None e = false
+is_complete (Some link) e = is_some link.kept && e.length == 1
+
+-- a message over the internal channel at its address; there may be none
+abbrev pub received_by_channel : Here → Exchange → Local → World → Turn
+received_by_channel h e l w = elim (channel_at w e.channel) [
+  | None ↦ failed h EndNotHeld w
+  | Some channel ↦ received_inside h e channel l w
+]
+
+abbrev pub sent_by_channel : Here → Exchange → Local → World → Turn
+sent_by_channel h e l w = elim (channel_at w e.channel) [
+  | None ↦ failed h EndNotHeld w
+  | Some channel ↦ sent_inside h e channel l w
+]
+
+-- whether some process waits at the internal channel
+abbrev pub is_awaited : Option Channel → Bool
+is_awaited None = false
+is_awaited (Some channel) = is_some channel.waiting
+
+-- By the answer: the instruction is executed, with this effect; or it is at fault, and nothing has changed.
+abbrev pub Settles : {A : Type 0} → World → World → Effect → Result A Fault → Turn → Type 0
+Settles before after effect (Ok goes_on) turn = turn ≡ answered effect (counted after)
+Settles before after effect (Err fault) turn =
+    (turn ≡ record { world = faulty fault before; answer = Err fault }) × (after ≡ before)

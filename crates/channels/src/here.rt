@@ -1,0 +1,90 @@
+//! An instruction of a process that asks something of others.
+
+ghost use Rattle.std.specs.Prelude.{◌≡◌, ◌+◌, ◌<◌, ◌^◌, nat_lt, length};
+ghost use Rattle.machine_state.specs.Faults.{fault_in};
+ghost use Rattle.machine_state.specs.Turn.{between};
+ghost use Rattle.machine_state.specs.Moves.{put, leave, dispatch};
+ghost use Rattle.channels.specs.Moment.{IsSteady, WaitsForMore};
+
+use crate::traffic::Traffic;
+use certificate::Tables;
+use machine_state::{Condition, Fault, FaultKind, Registers, Store, Task};
+use process_queue::ListQueue;
+
+/// An instruction of a process, whose last byte it is at.
+#[derive(Clone, Copy)]
+pub struct Here {
+    /// The number of the process.
+    pub process: u64,
+    /// The process as it was.
+    pub task: Task,
+    /// Which ready process runs next, counted round the list, if this one waits.
+    pub pick: u64,
+}
+
+impl Here {
+    /// A fault of this instruction.
+    pub fn fault(&self, kind: FaultKind) -> Fault
+        ensures { result ≡ fault_in self.now.process self.now.task.registers.began kind }
+    {
+        Fault::new(kind, self.process, self.task.registers.began)
+    }
+
+    /// Whether code follows the instruction.
+    pub fn is_followed(&self, tables: &Tables) -> bool
+        ensures { result ≡ nat_lt (self.now.task.registers.at + 1) (length tables.now.code.now) }
+    {
+        u64::from(self.task.registers.at) + 1 < tables.code.len() as u64
+    }
+
+    /// The code offset after the instruction.
+    pub fn next(&self) -> u32
+        requires { self.now.task.registers.at + 1 < 2 ^ 32 }
+        ensures { result ≡ self.now.task.registers.at + 1 }
+    {
+        self.task.registers.at + 1
+    }
+}
+
+/// The registers between two instructions, the next of which begins at this offset.
+fn between(at: u32, registers: Registers) -> Registers
+    ensures { result ≡ between at registers }
+{
+    Registers {
+        at,
+        began: at,
+        operand: 0,
+        ..registers
+    }
+}
+
+impl<S: Store> Traffic<S, ListQueue> {
+    /// The process is after the instruction, with these registers and in this condition.
+    pub(crate) fn put_after(&mut self, here: &Here, registers: Registers, condition: Condition)
+        requires next { here.now.task.registers.at + 1 < 2 ^ 32 }
+        requires condition { WaitsForMore condition }
+        ensures { let w = self.old.world in
+            let after = between (here.now.task.registers.at + 1) registers in
+            let task = record here.now.task { registers = after; condition = condition } in
+            self.new ≡ record self.old { world = put here.now.process task w.memory w } }
+    {
+        let registers = between(here.next(), registers);
+        self.put(
+            here.process,
+            Task {
+                registers,
+                condition,
+                ..here.task
+            },
+        );
+    }
+
+    /// The process gives way, and another may run.
+    pub(crate) fn give_way(&mut self, here: &Here)
+        ensures world { self.new.world ≡ dispatch here.now.pick (leave self.old.world) }
+        ensures holding { self.new.holding ≡ self.old.holding }
+    {
+        self.leave();
+        self.dispatch(here.pick);
+    }
+}

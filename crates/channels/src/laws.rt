@@ -1,0 +1,10 @@
+//! Laws of the definitions.
+
+ghost use Rattle.channels.specs.Beside.{ArrivesBeside, AcknowledgesBeside};
+
+/// What comes of an arrival and of an acknowledgement does not depend on what is counted, nor on a fault.
+#[tactic(auto, using(crate::proofs::Beside::arrives_beside, crate::proofs::Beside::acknowledges_beside))]
+pub fn links_read_no_counters()
+    ensures arrivals { ArrivesBeside }
+    ensures acknowledgements { AcknowledgesBeside }
+{}

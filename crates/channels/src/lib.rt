@@ -1,0 +1,17 @@
+//! Processes that wait for one another and for the links.
+#![tactic(auto)]
+
+mod copying_store;
+mod here;
+mod inside;
+mod laws;
+mod links;
+mod outside;
+mod processor;
+mod traffic;
+
+pub use copying_store::CopyingStore;
+pub use here::Here;
+pub use laws::links_read_no_counters;
+pub use links::Arrival;
+pub use traffic::Traffic;
