@@ -11,7 +11,6 @@ ghost use Rattle.channels.specs.Moment.{IsSteady, WaitsForMore};
 ghost use Rattle.channels.specs.Settling.{here_in, scheduled, is_awaited, Settles};
 ghost use Rattle.channels.specs.Settling.{received_by_channel, sent_by_channel};
 
-use crate::copying_store::CopyingStore;
 use crate::here::Here;
 use crate::traffic::Traffic;
 use certificate::Tables;
@@ -59,7 +58,7 @@ impl<S: Store> Traffic<S, ListQueue> {
     }
 }
 
-impl<S: CopyingStore> Traffic<S, ListQueue> {
+impl<S: Store> Traffic<S, ListQueue> {
     /// The sender's bytes go to the receiver. The other process, which came first, becomes ready, and this one goes on.
     fn meet(
         &mut self,

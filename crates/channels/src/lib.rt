@@ -1,7 +1,6 @@
 //! Processes that wait for one another and for the links.
 #![tactic(auto)]
 
-mod copying_store;
 mod here;
 mod inside;
 mod laws;
@@ -10,7 +9,6 @@ mod outside;
 mod processor;
 mod traffic;
 
-pub use copying_store::CopyingStore;
 pub use here::Here;
 pub use laws::links_read_no_counters;
 pub use links::Arrival;

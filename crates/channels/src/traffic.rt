@@ -9,7 +9,6 @@ ghost use Rattle.machine_state.specs.LocalStep.{holds_scheduling_words, without_
 ghost use Rattle.machine_state.specs.Memory.{data_start, place_of, with_byte};
 ghost use Rattle.channels.specs.Moment.{IsSteady, WaitsForMore};
 
-use crate::copying_store::CopyingStore;
 use certificate::Tables;
 use machine_state::{
     Channel, Condition, Cpu, DATA_START, InputLink, Link, OutputLink, Registers, Store,
@@ -218,7 +217,7 @@ impl<S: Store> Traffic<S, ListQueue> {
     }
 }
 
-impl<S: CopyingStore> Traffic<S, ListQueue> {
+impl<S: Store> Traffic<S, ListQueue> {
     /// The bytes go from one place to the other, whoever holds them.
     pub(crate) fn copy(&mut self, from: u32, to: u32, count: u32)
         ensures { let w = self.old.world in

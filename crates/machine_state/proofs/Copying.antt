@@ -1,12 +1,12 @@
 -- Blocks of bytes, one byte more at a time.
-use Rattle.std.proofs.Common.{◌≡◌, ℕ, zero, suc, ◌+◌, ◌-◌, ◌<◌, ◌≤◌, ◌⊎◌, inl, inr, Bool, true, false, ◌&&◌}
+use Rattle.std.proofs.Common.{◌≡◌, ℕ, zero, suc, ◌+◌, ◌-◌, ◌<◌, ◌≤◌, ◌⊎◌, inl, inr, Bool, true, false, ◌&&◌, Option}
 use Rattle.std.proofs.Common.{refl, sym, ap, ◌∙◌, arith}
 use Rattle.std.specs.Prelude.{◌==◌}
-use Rattle.std.proofs.lemmas.Bool.{cases_lt}
 use Rattle.std.proofs.lemmas.Bool.Decides.{nat_tests}
+use Rattle.std.proofs.lemmas.List.{set_comm}
 use Rattle.machine_state.specs.Memory.{Memory, byte_at, with_byte}
 use Rattle.machine_state.specs.Spans.{all_places}
-use Rattle.machine_state.specs.LocalStep.{copied, meet}
+use Rattle.machine_state.specs.LocalStep.{copied}
 use Rattle.machine_state.proofs.Reading.{byte_at-with_byte_other}
 
 -- the test of the first of some places, and of the others
@@ -87,33 +87,41 @@ copied-beside from source to (suc n) m place (inr above) =
     copied-beside from (source + 1) (to + 1) n (with_byte m to (byte_at from source)) place (inr (omega arith))
     ∙ byte_at-with_byte_other m to place (byte_at from source) (omega arith)
 
--- two blocks that do not meet: the one ends before the other begins
-apart-sides : (source to n k : ℕ) → meet source n to n ≡ false → k < n
-    → (source + k < to) ⊎ (to + k ≤ source + k)
-apart-sides source to n k apart below = elim (cases_lt source (to + n)) [
-  | inr above ↦ inr (omega arith)
-  | inl here ↦ elim (cases_lt to (source + n)) [
-    | inr above ↦ inl (omega arith)
-    | inl there ↦ absurd (both here there)
-  ]
-]
-  where
-    both : source < to + n → to < source + n → ⊥
-    both p q = let x : true ≡ false = sym (meets p q) ∙ apart in cc
-      where
-        meets : source < to + n → to < source + n → meet source n to n ≡ true
-        meets p q = grind (arith, nat_tests)
-
--- the next byte of a block is copied: it is still as before
-pub copied-next : (before m : Memory) (source to n k : ℕ) → meet source n to n ≡ false → k < n
-    → m ≡ copied before source to k before
+-- the next byte of a block is copied, from the first on: it is still as before where the block goes down
+pub copied-next : (before m : Memory) (source to k : ℕ) → to ≤ source → m ≡ copied before source to k before
     → with_byte m (to + k) (byte_at m (source + k)) ≡ copied before source to (k + 1) before
-copied-next before m source to n k apart below so_far =
+copied-next before m source to k down so_far =
     let more : suc k ≡ k + 1 = omega arith in
-    let kept = copied-beside before source to k before (source + k) (apart-sides source to n k apart below) in
+    let kept = copied-beside before source to k before (source + k) (inr (omega arith)) in
     ap (λ (x : Memory). with_byte x (to + k) (byte_at x (source + k))) so_far
     ∙ (ap (with_byte (copied before source to k before) (to + k)) kept
     ∙ (sym (copied-more before source to k before) ∙ ap (λ (x : ℕ). copied before source to x before) more))
+
+-- a byte below a block may be written before it
+copied-later : (from : Memory) (source to n : ℕ) (m : Memory) (place : ℕ) (byte : Option ℕ) → place < to
+    → with_byte (copied from source to n m) place byte ≡ copied from source to n (with_byte m place byte)
+unfolding copied
+copied-later from source to zero m place byte below = refl
+copied-later from source to (suc n) m place byte below =
+    copied-later from (source + 1) (to + 1) n (with_byte m to (byte_at from source)) place byte (omega arith)
+    ∙ ap (copied from (source + 1) (to + 1) n) (set_comm m to place (byte_at from source) byte (omega arith))
+
+-- one byte more, at the front of a block
+copied-front : (from : Memory) (source to n : ℕ) (m : Memory)
+    → with_byte (copied from (source + 1) (to + 1) n m) to (byte_at from source) ≡ copied from source to (suc n) m
+unfolding copied
+copied-front from source to n m = copied-later from (source + 1) (to + 1) n m to (byte_at from source) (omega arith)
+
+-- the next byte of a block is copied, from the last on: it is still as before where the block goes up
+pub copied-previous : (before m : Memory) (source to n : ℕ) → source ≤ to
+    → m ≡ copied before (source + 1) (to + 1) n before
+    → with_byte m to (byte_at m source) ≡ copied before source to (n + 1) before
+copied-previous before m source to n up so_far =
+    let more : suc n ≡ n + 1 = omega arith in
+    let kept = copied-beside before (source + 1) (to + 1) n before source (inl (omega arith)) in
+    ap (λ (x : Memory). with_byte x to (byte_at x source)) so_far
+    ∙ (ap (with_byte (copied before (source + 1) (to + 1) n before) to) kept
+    ∙ (copied-front before source to n before ∙ ap (λ (x : ℕ). copied before source to x before) more))
 
 -- none of some places passes a test that no place passes
 pub all_places-nowhere : (test : ℕ → Bool) → ((place : ℕ) → test place ≡ false) → (place n : ℕ)

@@ -1,7 +1,7 @@
 //! Bytes with tags, as slices: a byte is defined where its tag is set.
 
-ghost use Rattle.std.specs.Prelude.{◌≡◌, ◌+◌, ◌<◌, ◌^◌, false, length};
-ghost use Rattle.machine_state.specs.LocalStep.{copied, meet};
+ghost use Rattle.std.specs.Prelude.{◌≡◌, ◌+◌, ◌<◌, ◌≤◌, ◌^◌, length};
+ghost use Rattle.machine_state.specs.LocalStep.{copied};
 ghost use Rattle.machine_state.specs.Memory.{byte_at, with_byte, word_at, with_word};
 ghost use Rattle.machine_state.specs.Tagged.{tagged_cells};
 
@@ -72,12 +72,11 @@ pub(crate) fn set_word(bytes: &mut [u8], tags: &mut [bool], place: usize, value:
     }
 }
 
-/// So many bytes from one place on go to another, which they do not meet.
-pub(crate) fn copy(bytes: &mut [u8], tags: &mut [bool], source: usize, to: usize, count: usize)
+/// So many bytes from one place on go to another, the first byte first: so none is overwritten before it is copied.
+fn copy_down(bytes: &mut [u8], tags: &mut [bool], source: usize, to: usize, count: usize)
     requires lengths { length tags.old ≡ length bytes.old }
-    requires apart { meet source count to count ≡ false }
+    requires down { to ≤ source }
     requires source { source < 2 ^ 32 }
-    requires to { to < 2 ^ 32 }
     requires count { count < 2 ^ 32 }
     ensures { let before = tagged_cells bytes.old tags.old in
         tagged_cells bytes.new tags.new ≡ copied before source to count before }
@@ -85,5 +84,37 @@ pub(crate) fn copy(bytes: &mut [u8], tags: &mut [bool], source: usize, to: usize
     for k in 0..count {
         let byte = byte_at(bytes, tags, source + k);
         set_byte(bytes, tags, to + k, byte);
+    }
+}
+
+/// So many bytes from one place on go to another, the last byte first: so none is overwritten before it is copied.
+fn copy_up(bytes: &mut [u8], tags: &mut [bool], source: usize, to: usize, count: usize)
+    requires lengths { length tags.old ≡ length bytes.old }
+    requires up { source ≤ to }
+    requires to { to < 2 ^ 32 }
+    requires count { count < 2 ^ 32 }
+    ensures { let before = tagged_cells bytes.old tags.old in
+        tagged_cells bytes.new tags.new ≡ copied before source to count before }
+{
+    for k in 0..count {
+        let left = count - 1 - k;
+        let byte = byte_at(bytes, tags, source + left);
+        set_byte(bytes, tags, to + left, byte);
+    }
+}
+
+/// So many bytes from one place on go to another, as they were before.
+pub(crate) fn copy(bytes: &mut [u8], tags: &mut [bool], source: usize, to: usize, count: usize)
+    requires lengths { length tags.old ≡ length bytes.old }
+    requires source { source < 2 ^ 32 }
+    requires to { to < 2 ^ 32 }
+    requires count { count < 2 ^ 32 }
+    ensures { let before = tagged_cells bytes.old tags.old in
+        tagged_cells bytes.new tags.new ≡ copied before source to count before }
+{
+    if to <= source {
+        copy_down(bytes, tags, source, to, count);
+    } else {
+        copy_up(bytes, tags, source, to, count);
     }
 }

@@ -1,9 +1,9 @@
 //! Memory as the running process may touch it.
 
-ghost use Rattle.std.specs.Prelude.{◌≡◌, IsTrue, false};
+ghost use Rattle.std.specs.Prelude.{◌≡◌, IsTrue};
 ghost use Rattle.machine_state.specs.Holding.{Holding, may_write, may_read, may_write_word, may_read_word};
 ghost use Rattle.machine_state.specs.Spans.{all_places};
-ghost use Rattle.machine_state.specs.LocalStep.{copied, meet};
+ghost use Rattle.machine_state.specs.LocalStep.{copied};
 ghost use Rattle.machine_state.specs.World.{Roles};
 ghost use Rattle.machine_state.specs.Memory.{Memory, place_of, byte_at, with_byte, word_at, with_word};
 
@@ -68,10 +68,9 @@ pub trait Store {
         ensures holding { holding self.new ≡ holding self.old }
         ensures roles { roles self.new ≡ roles self.old };
 
-    /// So many bytes from one address on go to another, whoever holds them. Undefined bytes stay undefined. The two
-    /// blocks do not meet.
+    /// So many bytes from one address on go to another, whoever holds them. Undefined bytes stay undefined. Where the
+    /// two blocks meet, each byte is copied as it was before; outside the memory nothing changes.
     fn copy(&mut self, from: u32, to: u32, count: u32)
-        requires { meet (place_of from) count (place_of to) count ≡ false }
         ensures memory { let before = cells self.old in
             cells self.new ≡ copied before (place_of from) (place_of to) count before }
         ensures holding { holding self.new ≡ holding self.old }

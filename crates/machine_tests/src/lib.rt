@@ -1,4 +1,4 @@
-//! The tests of `machine_state` and `states`, by their public calls.
+//! The tests of `machine_state`, `states` and `process_queue`, by their public calls.
 #![tactic(auto)]
 
 #[cfg(test)]

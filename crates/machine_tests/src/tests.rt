@@ -1,5 +1,6 @@
 mod known;
 mod memory;
 mod names;
+mod queues;
 mod roles;
 mod text;

@@ -6,6 +6,3 @@ mod ready_queue;
 
 pub use list_queue::ListQueue;
 pub use ready_queue::ReadyQueue;
-
-#[cfg(test)]
-mod tests;

@@ -33,7 +33,7 @@ fn tables(alloc: Global) -> Tables<'static>
 }
 
 /// Twenty undefined bytes, five of code, three of padding, and the constants at place 28; and the root.
-fn loaded(alloc: Global) -> Result<(TaggedStore, Task), AllocError> {
+pub fn loaded(alloc: Global) -> Result<(TaggedStore, Task), AllocError> {
     let tables = tables(alloc);
     Ok((TaggedStore::load(alloc, &tables)?, Task::root(&tables)))
 }

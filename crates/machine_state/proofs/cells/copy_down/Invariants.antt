@@ -1,7 +1,7 @@
 use Rattle.std.proofs.Common.{◌≡◌, length}
 use Rattle.machine_state.specs.LocalStep.{copied}
 use Rattle.machine_state.specs.Tagged.{tagged_cells}
-use Rattle.machine_state.proofs.cells.copy.Given as goal
+use Rattle.machine_state.proofs.cells.copy_down.Given as goal
 
 -- what was copied so far, of bytes and tags of one length
 abbrev pub invariant-loop-k : goal.invariant-loop-k
