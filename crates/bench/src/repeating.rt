@@ -59,7 +59,7 @@ fn write_repeatedly(alloc: Global, module: &Module, times: u64) -> Result<u64, F
 fn verify_repeatedly(alloc: Global, module: &Module, times: u64) -> Result<u64, Failure> {
     let mut checksum = 0;
     for _ in 0..times {
-        let verified = verify(alloc, module)?;
+        let verified = verify(alloc, &*module)?;
         checksum = mixed(checksum, verified.module().tables().budget);
     }
     Ok(checksum)
