@@ -19,20 +19,6 @@ use Rattle.prefix_decoder.proofs.Spellings.{IsSpelling-same, at_most_eight}
 
 -- ---- one byte
 
--- one more byte with function pfix
-pub read-pfix : (more byte : ℕ) (bytes : List ℕ) (register : ℤ) (taken : ℕ)
-    → function_code byte ≡ pfix
-    → read (suc more) (byte ∷ bytes) register taken
-    ≡ read more bytes (prefixed (with_nibble register (nibble byte))) (taken + 1)
-read-pfix more byte bytes register taken is = rw is refl
-
--- one more byte with function nfix
-pub read-nfix : (more byte : ℕ) (bytes : List ℕ) (register : ℤ) (taken : ℕ)
-    → function_code byte ≡ nfix
-    → read (suc more) (byte ∷ bytes) register taken
-    ≡ read more bytes (negated (with_nibble register (nibble byte))) (taken + 1)
-read-nfix more byte bytes register taken is = rw is refl
-
 -- one more byte with another function is the last
 pub read-function : (more byte : ℕ) (bytes : List ℕ) (register : ℤ) (taken : ℕ) (f : Fun)
     → fun_of (function_code byte) ≡ Some f

@@ -238,12 +238,6 @@ says-more said facts wanted rest_said rest_wanted word here there end fact other
       | inr p ↦ inr (rw w p)
     ])
 
-pub says-all : (said facts : Facts) (row rest : List Entry) (word : ℤ) → SaysUpTo said facts (entry_fact row) word
-    → rest ≡ [] → ((k : ℤ) → word ≤ℤ k → entry_fact rest k ≡ entry_fact row k) → OneSaysAll said facts (entry_fact row)
-says-all said facts row rest word earlier none same = λ k. by_lt_z k word (λ low. earlier k low) (λ high.
-    inl (ap (says (said k)) (sym (same k high) ∙ ap (λ (es : List Entry). entry_fact es k) none)
-    ∙ says-unknown (said k)))
-
 pub says-less : (facts wanted rest_wanted : Facts) (word there end : ℤ) (other : WordFact)
     → ((k : ℤ) → word ≤ℤ k → rest_wanted k ≡ wanted k) → ((k : ℤ) → word ≤ℤ k → k <ℤ there → rest_wanted k ≡ other)
     → end ≤ℤ there

@@ -32,16 +32,6 @@ is_word-below j k h = rw (le-no k j h) (false-right (int_le j k)) where
 pub is_word-above : (j k : ℤ) → k <ℤ j → is_word j k ≡ false
 is_word-above j k h = rw (le-no j k h) refl
 
--- nothing written
-nothing : (z : ℤ) → fact_of_index [] z ≡ None
-nothing (pos n) = refl
-nothing (negsuc n) = refl
-
-pub facts_over-empty : (lo : ℤ) (row : List Entry) (written : List Written) → written ≡ []
-    → facts_over lo row written ≡ entry_fact row
-facts_over-empty lo row written none = fun_ext (λ k. ap (λ o. unwrap_or (option_map Alone o) (entry_fact row k))
-    (ap (λ ws. fact_of_index ws (k -ℤ lo)) none ∙ nothing (k -ℤ lo)))
-
 -- one more written
 write-at : (written new : List Written) (fact : Fact) (rest : WordFact) (lo word k : ℤ) (i : ℕ) (z : ℤ) → z ≡ k -ℤ lo
     → word ≡ lo +ℤ pos i → ((j : ℕ) → lookup new j ≡ cond (eqb j i) (Some fact) (lookup written j))

@@ -29,10 +29,6 @@ pub loop-below : (o : Option Fact) (said : WordFact) → is_alone (unwrap_or (op
 loop-below None said h = h
 loop-below (Some fact) said h = absurd (cc)
 
-pub fits-over : (o : Option Fact) (said : WordFact) → LoopFits said → LoopFits (unwrap_or (option_map Alone o) said)
-fits-over None said h = h
-fits-over (Some fact) said h = tt
-
 -- the words of a loop can be written
 pub room-of : (frame : Frame) (k : ℤ) (fact : WordFact) → fact ≡ frame_facts frame k → is_alone fact ≡ false
     → HasRoom frame k

@@ -141,14 +141,6 @@ entry_fact-take low k (entry ∷ entries) (suc n) d r l h =
     ap (λ f. cond (is_about entry k) (said_of entry.fact (is_word entry.word k)) f)
     (entry_fact-take (end_of entry) k entries n d p.1 (omega arith) h)
 
--- one entry alone
-pub entry_fact-one : (k : ℤ) (entries : List Entry) (d : Entry) → length entries ≡ 1
-    → entry_fact entries k ≡ cond (is_about (get_or entries 0 d) k)
-    (said_of (get_or entries 0 d).fact (is_word (get_or entries 0 d).word k)) (Alone Unknown)
-entry_fact-one k [] d h = absurd (omega arith)
-entry_fact-one k (entry ∷ []) d h = refl
-entry_fact-one k (entry ∷ other ∷ entries) d h = absurd (omega arith)
-
 -- ---- a row from a word on
 
 pub entry_fact-behind : (k word : ℤ) (entry : Entry) (entries : List Entry) → end_of entry ≤ℤ word → word ≤ℤ k

@@ -277,9 +277,6 @@ led : (m : Contents) (p q : Place) → next m p ≡ Some q → Led m p q
 unfolding next
 led m (at, before) q h = led_in m at before q (state_at m at before) (fetched m.code at) refl h
 
-no_none : {A : Type 0} (f : Place → Option A) (q : A) (g : Option A) → g ≡ None → g ≡ Some q → ⊥
-no_none f q g e h = none_or_some g q e h
-
 -- where the trail goes it never goes back
 module _ (m : Contents) (spans : Spans m) where
   behind : (k : ℕ) (p q : Place) → trail k m p ≡ Some q → p.0 ≤ q.0

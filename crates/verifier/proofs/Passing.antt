@@ -125,10 +125,6 @@ start-some m at (suc more) o l b here h = elim (cases_eq o at) [
 abbrev pub NoneFrom : Contents → ℕ → ℕ → Type 0
 NoneFrom m from end = (o : ℕ) → from ≤ o → o < end → is_start m o ≡ false
 
-pub none-further : (m : Contents) (from end : ℕ) → NoneFrom m from end → is_start m end ≡ false
-    → NoneFrom m from (end + 1)
-none-further m from end h here o low high = elim (cases_eq o end) [ inl e ↦ rw e here | inr d ↦ h o low (omega arith) ]
-
 pub none-within : (m : Contents) (from end : ℕ) → from ≤ end → NoneFrom m from end
     → first_start m from (end - from) ≡ None
 none-within m from end ordered h = start-none m from (end - from) (λ o low high. h o low (omega arith))

@@ -68,38 +68,11 @@ labels-first m rows keeps is = record {
   same = λ o l. ap (λ ls. find (λ row. row.offset == o) ls) is;
 }
 
--- behind an offset at which no row stands
-pub labels-on : (m : Contents) (at : ℕ) (rows : List LabelRow) → LabelsLeft m at rows
-    → ((row : LabelRow) (later : List LabelRow) → rows ≡ row ∷ later → row.offset ≢ at) → LabelsLeft m (at + 1) rows
-labels-on m at rows a h =
-    record {
-      rise = rise-on (λ row. row.offset) at rows a.rise h;
-      sound = a.sound;
-      same = λ o l. a.same o (omega arith);
-    }
-
 -- no row stands at the offset
 pub labels-none : (m : Contents) (at : ℕ) (rows : List LabelRow) → LabelsLeft m at rows
     → ((row : LabelRow) (later : List LabelRow) → rows ≡ row ∷ later → row.offset ≢ at) → label_at m at ≡ None
 labels-none m at rows a h =
     a.same at (omega arith) ∙ label-below (at + 1) at rows (rise-on (λ row. row.offset) at rows a.rise h) (omega arith)
-
--- behind the first row, which stands at the offset
-pub labels-later : (m : Contents) (at : ℕ) (rows later : List LabelRow) (row : LabelRow) → LabelsLeft m at rows
-    → rows ≡ row ∷ later → row.offset ≡ at → LabelsLeft m (at + 1) later
-labels-later m at rows later row a is e =
-    let b : LabelsLeft m at (row ∷ later) = subst (λ rs. LabelsLeft m at rs) is a in
-    record {
-      rise = rise-lower (λ (row : LabelRow). row.offset) (at + 1) (row.offset + 1) later (omega arith) b.rise.1;
-      sound = b.sound.1;
-      same = λ o l. b.same o (omega arith) ∙ label-other row later o (λ x. absurd (omega arith));
-    }
-
-pub labels-here : (m : Contents) (at : ℕ) (rows later : List LabelRow) (row : LabelRow) → LabelsLeft m at rows
-    → rows ≡ row ∷ later → row.offset ≡ at → IsLabelRow m at row
-labels-here m at rows later row a is e =
-    let b : LabelsLeft m at (row ∷ later) = subst (λ rs. LabelsLeft m at rs) is a in
-    record { found = b.same at (omega arith) ∙ label-here row later at e; sound = b.sound.0 }
 
 -- ---- procedure rows
 
@@ -138,17 +111,6 @@ procedures-first m rows keeps is = record {
   behind_root = omega arith;
   rest = is;
 }
-
-pub procedures-on : (m : Contents) (at context : ℕ) (rows : List ProcedureRow) → ProceduresLeft m at context rows
-    → ((row : ProcedureRow) (later : List ProcedureRow) → rows ≡ row ∷ later → row.entry ≢ at)
-    → ProceduresLeft m (at + 1) context rows
-procedures-on m at context rows a h =
-    record {
-      rise = rise-on (λ row. row.entry) at rows a.rise h;
-      same = λ o l. a.same o (omega arith);
-      behind_root = a.behind_root;
-      rest = a.rest;
-    }
 
 pub procedures-none : (m : Contents) (at context : ℕ) (rows : List ProcedureRow) → ProceduresLeft m at context rows
     → ((row : ProcedureRow) (later : List ProcedureRow) → rows ≡ row ∷ later → row.entry ≢ at)
