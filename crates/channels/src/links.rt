@@ -6,7 +6,7 @@ ghost use Rattle.machine_state.specs.Happens.{arrive_turn, acknowledge_turn, ans
 ghost use Rattle.channels.specs.Arriving.{effect_of, acknowledged_if};
 
 use crate::traffic::Traffic;
-use machine_state::{Condition, InputLink, Link, Mode, OutputLink, Store, TaggedStore, Task};
+use machine_state::{Condition, InputLink, Link, Mode, OutputLink, Store, Task};
 use process_queue::ListQueue;
 
 /// What became of a byte that arrived.
@@ -41,9 +41,7 @@ impl<S: Store> Traffic<S, ListQueue> {
             self.put(process, Task { mode, ..task });
         }
     }
-}
 
-impl Traffic<TaggedStore, ListQueue> {
     /// The byte goes into the buffer of the process that waits on this input link; with the last one it
     /// becomes ready.
     fn fill(&mut self, process: u64, link: Link, byte: u8, input: InputLink)
