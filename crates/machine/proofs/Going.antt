@@ -20,7 +20,7 @@ use Rattle.std.proofs.lemmas.Grind.{not_there}
 use Rattle.verifier.specs.Headline.{IsEvent, RunsWell}
 use Rattle.machine.specs.Asking.{Execution}
 use Rattle.machine.specs.Replaying.{NeverFails, GoesOut, bytes_of, out_on}
-use Rattle.verifier.proofs.Lists.{got_set, got_other}
+use Rattle.machine_state.proofs.Lines.{got_set, got_other}
 
 -- no event that can happen is a fault
 pub no_fault : (m : Contents) (w : World) (e : Event) (f : Fault) → NeverFails m w → IsEvent e
