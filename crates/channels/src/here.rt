@@ -1,4 +1,4 @@
-//! An instruction of a process that asks something of others.
+//! A process at an instruction, and how it goes on.
 
 ghost use Rattle.std.specs.Prelude.{◌≡◌, ◌+◌, ◌<◌, ◌^◌, nat_lt, length};
 ghost use Rattle.machine_state.specs.Faults.{fault_in};
@@ -11,7 +11,7 @@ use certificate::Tables;
 use machine_state::{Condition, Fault, FaultKind, Registers, Store, Task};
 use process_queue::ListQueue;
 
-/// An instruction of a process, whose last byte it is at.
+/// A process at a byte of its code: the last one of an instruction, or a prefix.
 #[derive(Clone, Copy)]
 pub struct Here {
     /// The number of the process.
@@ -59,16 +59,15 @@ fn between(at: u32, registers: Registers) -> Registers
 }
 
 impl<S: Store> Traffic<S, ListQueue> {
-    /// The process is after the instruction, with these registers and in this condition.
-    pub(crate) fn put_after(&mut self, here: &Here, registers: Registers, condition: Condition)
-        requires next { here.now.task.registers.at + 1 < 2 ^ 32 }
-        requires condition { WaitsForMore condition }
+    /// The process is between two instructions, the next of which begins at this offset, with these registers and in
+    /// this condition.
+    pub fn put_at(&mut self, here: &Here, at: u32, registers: Registers, condition: Condition)
+        requires { WaitsForMore condition }
         ensures { let w = self.old.world in
-            let after = between (here.now.task.registers.at + 1) registers in
-            let task = record here.now.task { registers = after; condition = condition } in
+            let task = record here.now.task { registers = between at registers; condition = condition } in
             self.new ≡ record self.old { world = put here.now.process task w.memory w } }
     {
-        let registers = between(here.next(), registers);
+        let registers = between(at, registers);
         self.put(
             here.process,
             Task {
@@ -79,8 +78,20 @@ impl<S: Store> Traffic<S, ListQueue> {
         );
     }
 
+    /// The process is after the instruction, with these registers and in this condition.
+    pub(crate) fn put_after(&mut self, here: &Here, registers: Registers, condition: Condition)
+        requires next { here.now.task.registers.at + 1 < 2 ^ 32 }
+        requires condition { WaitsForMore condition }
+        ensures { let w = self.old.world in
+            let after = between (here.now.task.registers.at + 1) registers in
+            let task = record here.now.task { registers = after; condition = condition } in
+            self.new ≡ record self.old { world = put here.now.process task w.memory w } }
+    {
+        self.put_at(here, here.next(), registers, condition);
+    }
+
     /// The process gives way, and another may run.
-    pub(crate) fn give_way(&mut self, here: &Here)
+    pub fn give_way(&mut self, here: &Here)
         ensures world { self.new.world ≡ dispatch here.now.pick (leave self.old.world) }
         ensures holding { self.new.holding ≡ self.old.holding }
     {

@@ -1,13 +1,14 @@
 //! What comes and goes on the links.
 
-ghost use Rattle.std.specs.Prelude.{◌≡◌, ◌<◌};
+ghost use Rattle.std.specs.Prelude.{◌≡◌, ◌<◌, IfSome, OnErr, IsTrue, slice_get};
 ghost use Rattle.machine_state.specs.Moves.{link_index, fill, rouse};
-ghost use Rattle.machine_state.specs.Happens.{arrive_turn, acknowledge_turn, answered};
-ghost use Rattle.channels.specs.Arriving.{effect_of, acknowledged_if};
+ghost use Rattle.machine_state.specs.Happens.{arrive_turn, acknowledge_turn};
+ghost use Rattle.channels.specs.Arriving.{effect_of, acknowledged_if, IsTurn, may_wake, has_sender};
 
 use crate::traffic::Traffic;
-use machine_state::{Condition, InputLink, Link, Mode, OutputLink, Store, TaggedStore, Task};
+use machine_state::{Condition, InputLink, Link, Mode, OutputLink, Store, Task};
 use process_queue::ListQueue;
+use std::alloc::AllocError;
 
 /// What became of a byte that arrived.
 #[derive(Clone, Copy, Debug, PartialEq, Eq)]
@@ -24,7 +25,7 @@ impl<S: Store> Traffic<S, ListQueue> {
     /// What a process has enabled is ready. If it waits for that, it becomes ready; if it is still enabling, it will
     /// not wait.
     pub(crate) fn rouse(&mut self, enabled: Option<u64>)
-        requires { 0 < self.old.room }
+        requires { IfSome enabled (λ _. 0 < self.old.room) }
         ensures world { self.new.world ≡ rouse enabled self.old.world }
         ensures holding { self.new.holding ≡ self.old.holding }
     {
@@ -41,9 +42,7 @@ impl<S: Store> Traffic<S, ListQueue> {
             self.put(process, Task { mode, ..task });
         }
     }
-}
 
-impl Traffic<TaggedStore, ListQueue> {
     /// The byte goes into the buffer of the process that waits on this input link; with the last one it
     /// becomes ready.
     fn fill(&mut self, process: u64, link: Link, byte: u8, input: InputLink)
@@ -77,20 +76,25 @@ impl Traffic<TaggedStore, ListQueue> {
         }
     }
 
-    /// A byte arrives on a link.
-    pub fn arrive(&mut self, link: Link, byte: u8) -> Arrival
-        requires { 0 < self.old.room }
-        ensures { let turn = arrive_turn (link_index link) byte self.old.world in
-            turn ≡ answered (effect_of result) self.new.world }
+    /// A byte arrives on a link. Only where it may make a process ready can memory run out.
+    pub fn arrive(&mut self, link: Link, byte: u8) -> Result<Arrival, AllocError>
+        ensures turn { let turn = arrive_turn (link_index link) byte self.old.world in
+            IsTurn effect_of self.old.world self.new.world result turn }
+        ensures err { OnErr result (IsTrue (may_wake (slice_get self.old.world.links.inputs (link_index link)))) }
+        ensures room { OnErr result (self.old.room ≡ 0) }
     {
         let input = self.input(link);
         if let Some(process) = input.waiting {
+            self.reserve()?;
             self.fill(process, link, byte, input);
             self.dispatch(0);
-            return Arrival::Taken;
+            return Ok(Arrival::Taken);
         }
         if input.kept.is_some() {
-            return Arrival::Busy;
+            return Ok(Arrival::Busy);
+        }
+        if input.enabled.is_some() {
+            self.reserve()?;
         }
         self.set_input(
             link,
@@ -101,21 +105,24 @@ impl Traffic<TaggedStore, ListQueue> {
         );
         self.rouse(input.enabled);
         self.dispatch(0);
-        Arrival::Kept
+        Ok(Arrival::Kept)
     }
 
     /// The message that was emitted on a link is acknowledged. Answers whether its sender goes on: nobody may wait.
-    pub fn acknowledge(&mut self, link: Link) -> bool
-        requires { 0 < self.old.room }
-        ensures { let turn = acknowledge_turn (link_index link) self.old.world in
-            turn ≡ answered (acknowledged_if result) self.new.world }
+    /// Only where its sender waits can memory run out.
+    pub fn acknowledge(&mut self, link: Link) -> Result<bool, AllocError>
+        ensures turn { let turn = acknowledge_turn (link_index link) self.old.world in
+            IsTurn acknowledged_if self.old.world self.new.world result turn }
+        ensures err { OnErr result (IsTrue (has_sender (slice_get self.old.world.links.outputs (link_index link)))) }
+        ensures room { OnErr result (self.old.room ≡ 0) }
     {
         let Some(process) = self.output(link).waiting else {
-            return false;
+            return Ok(false);
         };
+        self.reserve()?;
         self.set_output(link, OutputLink { waiting: None });
         self.wake(process);
         self.dispatch(0);
-        true
+        Ok(true)
     }
 }

@@ -15,7 +15,6 @@ use crate::traffic::Traffic;
 use certificate::Tables;
 use machine_state::{
     Condition, Exchange, Fault, FaultKind, InputLink, Link, OutputLink, Registers, Store,
-    TaggedStore,
 };
 use process_queue::ListQueue;
 
@@ -88,7 +87,7 @@ impl<S: Store> Traffic<S, ListQueue> {
     }
 }
 
-impl Traffic<TaggedStore, ListQueue> {
+impl<S: Store> Traffic<S, ListQueue> {
     /// Receives a message from a link. Answers whether the process goes on: a byte that is kept there is the message's
     /// first, and if it is the last too, nothing is waited for.
     #[tactic(auto, unfolding(machine_state::specs::Moves::dispatch))]

@@ -32,8 +32,6 @@ impl Traffic<TaggedStore, ListQueue> {
     pub fn select(&mut self, process: u64)
         ensures { self.new ≡ record self.old { holding = holding_at self.old.world.roles process } }
     {
-        let cpu = self.cpu();
-        cpu.process = process;
-        cpu.store.select(process);
+        self.cpu.store.select(process);
     }
 }

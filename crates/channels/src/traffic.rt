@@ -226,6 +226,15 @@ impl<S: Store> Traffic<S, ListQueue> {
     {
         self.cpu.store.copy(from, to, count);
     }
+
+    /// The byte at the address is this, whoever holds it. Outside the memory nothing changes.
+    pub(crate) fn put_byte(&mut self, address: u32, byte: u8)
+        ensures { let w = self.old.world in
+            let memory = with_byte w.memory (place_of address) (Some byte) in
+            self.new ≡ record self.old { world = record w { memory = memory } } }
+    {
+        self.cpu.store.put_byte(address, byte);
+    }
 }
 
 impl Traffic<TaggedStore, ListQueue> {
@@ -255,14 +264,5 @@ impl Traffic<TaggedStore, ListQueue> {
             outputs: [QUIET_OUTPUT; 4],
             channels: vec![in alloc; None; tables.data_words as usize]?,
         })
-    }
-
-    /// The byte at the address is this, whoever holds it. Outside the memory nothing changes.
-    pub(crate) fn put_byte(&mut self, address: u32, byte: u8)
-        ensures { let w = self.old.world in
-            let memory = with_byte w.memory (place_of address) (Some byte) in
-            self.new ≡ record self.old { world = record w { memory = memory } } }
-    {
-        self.cpu.store.put_byte(address, byte);
     }
 }

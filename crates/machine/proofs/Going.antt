@@ -1,5 +1,5 @@
 -- A run goes on, event by event.
-use Rattle.std.proofs.Common.{◌≡◌, ℕ, Bool, true, false, if◌then◌else◌, nat_eq, List, [], ◌∷◌, ◌++◌, None, Some, Ok}
+use Rattle.std.proofs.Common.{◌≡◌, ℕ, Bool, true, false, if◌then◌else◌, nat_eq, List, [], ◌∷◌, ◌++◌, Some, Ok}
 use Rattle.std.proofs.Common.{Err, refl, sym, ap, subst, ◌∙◌, append_assoc, slice_get, slice_set, eqb-true}
 use Rattle.std.proofs.lemmas.Bool.{eqb-false}
 use Rattle.std.proofs.lemmas.List.{append-nil}
@@ -20,7 +20,7 @@ use Rattle.std.proofs.lemmas.Grind.{not_there}
 use Rattle.verifier.specs.Headline.{IsEvent, RunsWell}
 use Rattle.machine.specs.Asking.{Execution}
 use Rattle.machine.specs.Replaying.{NeverFails, GoesOut, bytes_of, out_on}
-use Rattle.verifier.proofs.Lists.{got_set, got_other}
+use Rattle.machine_state.proofs.Lines.{got_set, got_other}
 
 -- no event that can happen is a fault
 pub no_fault : (m : Contents) (w : World) (e : Event) (f : Fault) → NeverFails m w → IsEvent e

@@ -1,11 +1,9 @@
 -- What a call for one event did, against the turn of the definitions.
-use Rattle.std.specs.Prelude.{◌≡◌, ℕ, ◌+◌, ℤ, Some, Result, Ok, Err}
+use Rattle.std.specs.Prelude.{◌≡◌, ℤ, Some, Result, Ok, Err}
 use Rattle.prefix_decoder.specs.declared.function.Fun.{Fun}
-use Rattle.module_format.specs.Contents.{Contents}
 use Rattle.machine_state.specs.declared.cpu.Flow.{Flow}
 use Rattle.machine_state.specs.declared.cpu.Flow.TheVariants.{Next, Jump, Land, Stop as Stops}
 use Rattle.machine_state.specs.declared.process.Registers.{Registers}
-use Rattle.machine_state.specs.declared.process.Task.{Task}
 use Rattle.machine_state.specs.declared.fault.Fault.{Fault}
 use Rattle.machine_state.specs.Memory.{Memory}
 use Rattle.machine_state.specs.World.{World}
@@ -18,7 +16,8 @@ use Rattle.machine.specs.declared.checked.act.Act.{Act}
 use Rattle.machine.specs.declared.checked.act.Act.TheVariants.{Ran, Idle, Taken, Kept, Busy, Acknowledged, Ignored}
 use Rattle.machine.specs.declared.checked.act.Stop.{Stop}
 use Rattle.machine.specs.declared.checked.act.Stop.TheVariants as stops
-use Rattle.machine.specs.Moment.{Moment}
+use Rattle.channels.specs.declared.here.Here.{Here as Instance}
+use Rattle.channels.specs.Moment.{Moment}
 
 -- what an act is in the definitions
 abbrev pub effect_of : Act → Effect
@@ -43,15 +42,10 @@ Applies before after (Err stops.Memory) turn = after ≡ before
 
 -- ---- one instruction
 
--- an instruction of this process, whose last byte it is at
-abbrev pub here_at : Contents → ℕ → Task → ℕ → Here
-here_at m p task pick =
-    record { contents = m; process = p; from = task; next = task.registers.at + 1; pick = pick }
-
--- the outcome of an instruction of this process
-abbrev pub outcome_at : Contents → ℕ → Task → Fun → ℤ → World → Outcome
-outcome_at m p task f operand w =
-    local_step (site_of (here_at m p task 0) w) f operand (record { registers = task.registers; memory = w.memory })
+-- the outcome of this instruction, of whichever module
+abbrev pub outcome_at : Here → Fun → ℤ → World → Outcome
+outcome_at h f operand w =
+    local_step (site_of h w) f operand (record { registers = h.from.registers; memory = w.memory })
 
 -- the outcome of an instruction after which its process goes on so
 abbrev pub outcome_by : Flow → Local → Outcome
@@ -64,11 +58,10 @@ outcome_by Stops l = stops l
 abbrev pub outcome_of : Flow → Registers → Memory → Outcome
 outcome_of flow registers memory = outcome_by flow (record { registers = registers; memory = memory })
 
--- The instruction of this process had this outcome: it changed memory alone, or it is at fault and
--- changed nothing.
-abbrev pub PerformsFor : ℕ → Task → Moment → Moment → Result (Flow × Registers) Fault → Outcome → Type 0
-PerformsFor p task before after (Ok gone_on) outcome =
+-- This instruction had this outcome: of the world it changed memory alone, or it is at fault and changed nothing.
+abbrev pub PerformsFor : Instance → Moment → Moment → Result (Flow × Registers) Fault → Outcome → Type 0
+PerformsFor here before after (Ok gone_on) outcome =
     (outcome ≡ outcome_of gone_on.0 gone_on.1 after.world.memory)
-    × (after ≡ record before { world = record before.world { memory = after.world.memory } })
-PerformsFor p task before after (Err fault) outcome =
-    (reported p task.registers.began outcome ≡ Some fault) × (after ≡ before)
+    × (after.world ≡ record before.world { memory = after.world.memory }) × (after.room ≡ before.room)
+PerformsFor here before after (Err fault) outcome =
+    (reported here.process here.task.registers.began outcome ≡ Some fault) × (after.world ≡ before.world)

@@ -1,5 +1,3 @@
-pub mod Moment
-pub mod Sound
 pub mod Asking
 pub mod Applying
 pub mod Lending

@@ -18,7 +18,6 @@ use machine::Machine;
 use machine_state::{Effect, Event, Link};
 use std::alloc::{AllocError, Global};
 use std::marker::Model;
-use step::Choice;
 
 /// A machine that runs a module, however faulty, and checks each rule at each instruction.
 #[derive(Drop)]
@@ -59,10 +58,7 @@ impl<'a> Checked<'a> {
             return Err(Stop::Fault(fault));
         }
         match event {
-            Event::Step { slice, pick } => {
-                self.machine
-                    .step(self.module.tables(), Choice { slice, pick })
-            }
+            Event::Step { slice, pick } => self.machine.step(self.module.tables(), slice, pick),
             Event::Arrive { link, byte } => self.machine.arrive(link, byte),
             Event::Acknowledge { link } => self.machine.acknowledge(link),
         }
@@ -112,14 +108,14 @@ impl<'a> Checked<'a> {
     pub fn running(&self) -> bool
         ensures { result ≡ is_running self.now.world }
     {
-        self.machine.running().is_some()
+        self.machine.traffic.running().is_some()
     }
 
     /// Whether some process waits for a byte on the link or has enabled it, and none is kept there.
     pub fn wants(&self, link: Link) -> bool
         ensures { result ≡ wants link self.now.world }
     {
-        let input = self.machine.input(link);
+        let input = self.machine.traffic.input(link);
         input.kept.is_none() && (input.waiting.is_some() || input.enabled.is_some())
     }
 }

@@ -1,6 +1,6 @@
 //! Memory as the running process may touch it.
 
-ghost use Rattle.std.specs.Prelude.{◌≡◌, IsTrue};
+ghost use Rattle.std.specs.Prelude.{◌≡◌, IsTrue, Some};
 ghost use Rattle.machine_state.specs.Holding.{Holding, may_write, may_read, may_write_word, may_read_word};
 ghost use Rattle.machine_state.specs.Spans.{all_places};
 ghost use Rattle.machine_state.specs.LocalStep.{copied};
@@ -65,6 +65,13 @@ pub trait Store {
     fn store_word(&mut self, address: u32, value: Word)
         requires { IsTrue (may_write_word (holding self.old) (place_of address)) }
         ensures memory { cells self.new ≡ with_word (cells self.old) (place_of address) value }
+        ensures holding { holding self.new ≡ holding self.old }
+        ensures roles { roles self.new ≡ roles self.old };
+
+    /// Writes the byte, whoever holds it: a byte that arrives on a link goes into the buffer of the process that waits
+    /// for it. Outside the memory nothing changes.
+    fn put_byte(&mut self, address: u32, byte: u8)
+        ensures memory { cells self.new ≡ with_byte (cells self.old) (place_of address) (Some byte) }
         ensures holding { holding self.new ≡ holding self.old }
         ensures roles { roles self.new ≡ roles self.old };
 

@@ -1,6 +1,6 @@
 //! Memory whose bytes carry tags, and what each process may touch of it.
 
-ghost use Rattle.std.specs.Prelude.{◌≡◌, ◌+◌, ◌*◌, ◌<◌, ◌^◌, Some, [], ◌∷◌, length, MatchOption, IfOk};
+ghost use Rattle.std.specs.Prelude.{◌≡◌, ◌+◌, ◌*◌, ◌<◌, ◌^◌, [], ◌∷◌, length, MatchOption, IfOk};
 
 use crate::address::place_of;
 use crate::holding::Holding;
@@ -43,7 +43,6 @@ impl TaggedStore {
     ghost use Rattle.module_format.specs.Contents.{contents_of};
     ghost use Rattle.machine_state.specs.World.{holding_at, IsLoadable, loaded_memory, root_role};
     ghost use Rattle.machine_state.specs.Views.{holding_view};
-    ghost use Rattle.machine_state.specs.Memory.{place_of, with_byte};
 
     /// The memory of a loaded module, with the root as the only process, whose holding counts.
     #[tactic(auto, using(crate::proofs::TaggedCells::tagged_cells_loaded))]
@@ -65,20 +64,6 @@ impl TaggedStore {
         ensures { self.new ≡ record self.old { holder = holder } }
     {
         self.holder = holder as usize;
-    }
-
-    /// Writes the byte, whoever holds it: a byte that arrives on a link goes into the buffer of the process
-    /// that waits for it. Outside the memory nothing changes.
-    pub fn put_byte(&mut self, address: u32, byte: u8)
-        ensures { let cells = with_byte self.old.cells (place_of address) (Some byte) in
-            self.new ≡ record self.old { cells = cells } }
-    {
-        cells::set_byte(
-            &mut self.bytes,
-            &mut self.tags,
-            place_of(address) as usize,
-            Some(byte),
-        );
     }
 
     /// What the selected process holds, if it is there.
@@ -164,6 +149,15 @@ impl Store for TaggedStore {
             &mut self.tags,
             place_of(address) as usize,
             value,
+        );
+    }
+
+    fn put_byte(&mut self, address: u32, byte: u8) {
+        cells::set_byte(
+            &mut self.bytes,
+            &mut self.tags,
+            place_of(address) as usize,
+            Some(byte),
         );
     }
 

@@ -3,7 +3,6 @@ pub mod Judging
 pub mod Reporting
 pub mod RowsLeft
 pub mod Passing
-pub mod Lists
 pub mod Steps
 pub mod Worlds
 pub mod Start

@@ -23,7 +23,8 @@ use Rattle.verifier.specs.Certified.{begins, IsCertified}
 use Rattle.facts.specs.Meaning.{Activation, means_unknown, nothing_known, IsOwnWord, HasFrame, both_plain, IsWellFormed}
 use Rattle.verifier.specs.Point.{Decodes}
 use Rattle.machine_state.specs.Apart.{AllApart}
-use Rattle.verifier.specs.Invariant.{Meets, it_lives, Waiters, Holds}
+use Rattle.verifier.specs.Invariant.{Meets, it_lives, Holds}
+use Rattle.machine_state.specs.Waiting.{Waiters}
 use Rattle.verifier.specs.Headline.{RunsWell}
 use Rattle.facts.specs.Fitting.{After}
 use Rattle.facts.proofs.Local.{readable}
@@ -134,7 +135,6 @@ root_apart m = record {
 
 no_waiters : (m : Contents) → Waiters (root_task m ∷ []) quiet_links
 no_waiters m = record {
-  few = omega arith;
   inputs = λ k l q a b.
       let quiet : InputLink = record { kept = None; waiting = None; enabled = None } in
       let same : quiet ≡ l = equal_at 4 quiet l k a in
@@ -190,6 +190,7 @@ module _ (m : Contents) (d : Decodes m) (wf : IsWellFormed m) (c : IsCertified m
               };
         };
         line = record { ready = (record { task = root_task m; here = refl; ready = refl }, tt); once = (tt, tt) };
+        few = omega arith;
         waiters = no_waiters m;
         apart = root_apart m;
         owed = omega (arith, en.paid);

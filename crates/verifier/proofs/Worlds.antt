@@ -29,7 +29,7 @@ use Rattle.machine_state.specs.Site.{Local, Outcome}
 use Rattle.machine_state.specs.Instructions.{has_body}
 use Rattle.machine_state.specs.LocalStep.{local_step}
 use Rattle.machine_state.specs.Moves.{counted, finished_where, put, leave, enqueue, wake, dispatch, link_index}
-use Rattle.machine_state.specs.Moves.{with_input, with_output, fill, fill_condition, rouse, rouse_task, rouse_enabling, on_task}
+use Rattle.machine_state.specs.Moves.{with_input, with_output, fill, fill_condition, rouse, rouse_task, rouse_enabling}
 use Rattle.machine_state.specs.Moves.{with_condition}
 use Rattle.machine_state.specs.Happens.{Here, Turn, answered, turn_by, idle, ran, most_executed, failed, between, settled, prefix_turn}
 use Rattle.machine_state.specs.Happens.{site_of, byte_turn, task_turn, step_turn, arrive_at, arrive_turn}
@@ -44,12 +44,12 @@ use Rattle.std.proofs.lemmas.List.{length-set}
 use Rattle.machine_state.proofs.Reading.{length-with_byte, byte_at-with_byte, byte_at-with_byte_other}
 use Rattle.facts.proofs.Local.{readable_byte}
 use Rattle.verifier.specs.Invariant.{awaits, is_filled, message_place, IsByte, Lives, Meets, it_lives, it_stopped}
-use Rattle.verifier.specs.Invariant.{it_ended, Process, Table, IsReadyAt, AllReady, IsAbsent, line_of, line, Line}
-use Rattle.verifier.specs.Invariant.{WaitsOn, Waiters, total, Holds}
+use Rattle.verifier.specs.Invariant.{it_ended, Process, Table, total, Holds}
+use Rattle.machine_state.specs.Waiting.{IsReadyAt, AllReady, IsAbsent, line_of, line, Line, WaitsOn, Waiters}
 use Rattle.verifier.specs.Headline.{IsEvent, AreEvents}
 use Rattle.facts.proofs.Words.{bool_cases}
-use Rattle.verifier.proofs.Lists.{got_set, got_other, total_set, all_ready_same, all_ready_without, absent_by_condition}
-use Rattle.verifier.proofs.Lists.{leave_line, push_line, pick_line}
+use Rattle.machine_state.proofs.Lines.{got_set, got_other, all_ready_same, all_ready_without, absent_by_condition}
+use Rattle.machine_state.proofs.Lines.{leave_line, push_line, pick_line}
 use Rattle.verifier.proofs.Given.{or_left, or_right}
 use Rattle.verifier.proofs.Steps.{site_in, byte_here, owes, prefixed_stands, Comes, comes_on, comes_to, comes_down}
 use Rattle.verifier.proofs.Steps.{comes_last}
@@ -145,7 +145,6 @@ not_waiting tasks p q word t here ready w e =
 waiters_same : (tasks : List Task) (links : Links) (p : ℕ) (t u : Task) → slice_get tasks p ≡ Some t
     → t.condition ≡ Ready → Waiters tasks links → Waiters (slice_set tasks p u) links
 waiters_same tasks links p t u here ready w = record {
-  few = w.few;
   inputs = λ k l q a b. let old = w.inputs k l q a b in
       waits_same tasks p q (input_word k) u (not_waiting tasks p q (input_word k) t here ready old) old;
   outputs = λ k l q a b. let old = w.outputs k l q a b in
@@ -190,6 +189,12 @@ runs m w h p e =
 
 -- ---- the parts after a step of the running process
 
+total_set : (dues : List ℕ) (p d e : ℕ) → slice_get dues p ≡ Some d
+    → total (slice_set dues p e) + d ≡ total dues + e
+total_set [] p d e h = absurd (cc)
+total_set (x ∷ xs) zero d e h = let same : x ≡ d = cc in omega arith
+total_set (x ∷ xs) (suc p) d e h = let rest = total_set xs p d e h in omega arith
+
 counted_owed : (dues : List ℕ) (p due later executed budget : ℕ) → slice_get dues p ≡ Some due → later + 1 ≤ due
     → total dues + executed ≤ budget → total (slice_set dues p later) + (executed + 1) ≤ budget
 counted_owed dues p due later executed budget has less owed = let t = total_set dues p due later has in omega arith
@@ -210,6 +215,7 @@ module _ (m : Contents) (w : World) (h : Holds m w) (p : ℕ) (r : Runs m w h.du
     dues = slice_set h.dues p later;
     table = put_table new u later changes (it_lives lives);
     line = record { ready = all_ready_same w.tasks p u (line w.queue) ready h.line.ready; once = h.line.once };
+    few = h.few;
     waiters = waiters_same w.tasks w.links p r.task u r.here r.ready h.waiters;
     owed = counted_owed h.dues p r.row.due later w.counters.executed m.budget r.row.has_due less h.owed;
     apart = h.apart;
@@ -235,6 +241,7 @@ module _ (m : Contents) (w : World) (h : Holds m w) (p : ℕ) (r : Runs m w h.du
         dues = there.dues;
         table = there.table;
         line = pick_line (slice_set w.tasks p u) None (w.queue.ready ++ p ∷ []) pick pushed;
+        few = there.few;
         waiters = there.waiters;
         owed = there.owed;
         apart = there.apart;
@@ -255,6 +262,7 @@ module _ (m : Contents) (w : World) (h : Holds m w) (p : ℕ) (r : Runs m w h.du
         table = put_table new u 0 changes (it_stopped stopped);
         line = pick_line (slice_set w.tasks p u) None w.queue.ready pick
             (record { ready = all_ready_without w.tasks p u w.queue.ready left.1 left.0.ready; once = left.0.once });
+        few = h.few;
         waiters = waiters_same w.tasks w.links p r.task u r.here r.ready h.waiters;
         owed = counted_owed h.dues p r.row.due 0 w.counters.executed m.budget r.row.has_due (omega arith) h.owed;
         apart = h.apart;
@@ -436,6 +444,7 @@ dispatch_holds m pick w h = record {
   dues = h.dues;
   table = h.table;
   line = pick_line w.tasks w.queue.running w.queue.ready pick h.line;
+  few = h.few;
   waiters = h.waiters;
   apart = h.apart;
   owed = h.owed;
@@ -475,14 +484,15 @@ module _ (m : Contents) (w : World) (h : Holds m w) (p : ℕ) (t : Task) (r : Wa
   absent = absent_by_condition w.tasks p t (line w.queue) r.here r.waits h.line.ready
 
   -- it goes on waiting, for something else
-  waits_on : (u : Task) (new : Memory) (links : Links) → ChangesOwn (held r.row.role) w.memory new
+  waits_on : (u : Task) (new : Memory) (links : Links) → length links.outputs ≤ 4 → ChangesOwn (held r.row.role) w.memory new
       → Lives m (held r.row.role) new u r.row.due → Waiters (slice_set w.tasks p u) links
       → Holds m (record w { memory = new; tasks = slice_set w.tasks p u; links = links })
-  waits_on u new links changes lives waiters = record {
+  waits_on u new links few changes lives waiters = record {
     dues = slice_set h.dues p r.row.due;
     table = table_put m w.memory new w.tasks w.roles h.dues p t u r.row.due r.row.due r.row.role h.apart.processes
         h.table r.here r.row.has_role r.row.has_due changes (it_lives lives);
     line = record { ready = all_ready_without w.tasks p u (line w.queue) absent h.line.ready; once = h.line.once };
+    few = few;
     waiters = waiters;
     owed = rw (same_total h.dues p r.row.due r.row.has_due) h.owed;
     apart = h.apart;
@@ -490,7 +500,7 @@ module _ (m : Contents) (w : World) (h : Holds m w) (p : ℕ) (t : Task) (r : Wa
   }
 
   -- it becomes ready
-  woken : (new : Memory) (links : Links) → ChangesOwn (held r.row.role) w.memory new
+  woken : (new : Memory) (links : Links) → length links.outputs ≤ 4 → ChangesOwn (held r.row.role) w.memory new
       → Lives m (held r.row.role) new (record t { condition = Ready }) r.row.due
       → Waiters (slice_set w.tasks p (record t { condition = Ready })) links
       → Holds m (record w {
@@ -499,14 +509,15 @@ module _ (m : Contents) (w : World) (h : Holds m w) (p : ℕ) (t : Task) (r : Wa
         links = links;
         queue = record w.queue { ready = w.queue.ready ++ p ∷ [] };
       })
-  woken new links changes lives waiters =
+  woken new links few changes lives waiters =
       let u : Task = record t { condition = Ready } in
-      let there = waits_on u new links changes lives waiters in
+      let there = waits_on u new links few changes lives waiters in
       record {
         dues = there.dues;
         table = there.table;
         line = push_line (slice_set w.tasks p u) w.queue.running w.queue.ready p there.line
             (record { task = u; here = got_set w.tasks p t u r.here; ready = refl }) absent;
+        few = few;
         waiters = waiters;
         owed = there.owed;
         apart = h.apart;
@@ -550,13 +561,13 @@ apart_by_word tasks p q word other v w differ e =
 
 -- the waiters after the process on output k went on
 after_ack : (tasks : List Task) (links : Links) (k p : ℕ) (l : OutputLink) (u : Task)
-    → slice_get links.outputs k ≡ Some l → Waiters tasks links → WaitsOn tasks p (output_word k)
+    → slice_get links.outputs k ≡ Some l → length links.outputs ≤ 4 → Waiters tasks links
+    → WaitsOn tasks p (output_word k)
     → Waiters (slice_set tasks p u) (record links { outputs = slice_set links.outputs k (record { waiting = None }) })
-after_ack tasks links k p l u here w v = record {
-  few = rw (length-set) w.few;
+after_ack tasks links k p l u here few w v = record {
   inputs = λ j x q a b.
       let old = w.inputs j x q a b in
-      let low : k < 4 = omega (arith, slice_get_within links.outputs k l here, w.few) in
+      let low : k < 4 = omega (arith, slice_get_within links.outputs k l here, few) in
       waits_same tasks p q (input_word j) u
       (apart_by_word tasks p q (output_word k) (input_word j) v old (λ e. omega arith)) old;
   outputs = λ j x q a b. elim (cases_eq k j) [
@@ -602,15 +613,15 @@ module _ (m : Contents) where
   acknowledged_holds k w h l p here waiting =
       let v = h.waiters.outputs k l p here waiting in
       let r = waits_at m w h p v.task (OnLink v.exchange v.done) v.here v.waits (λ e. cc) (λ e. cc) (λ e. cc) in
-      let low : k < 4 = omega (arith, slice_get_within w.links.outputs k l here, h.waiters.few) in
+      let low : k < 4 = omega (arith, slice_get_within w.links.outputs k l here, h.few) in
       let channel : v.exchange.channel < input_word 0 = omega (arith, v.on) in
       let woke = woken m w h p v.task r w.memory (record w.links {
         outputs = slice_set w.links.outputs k
             (record { waiting = None });
-      }) (record { size = refl; others = λ place e. refl })
+      }) (rw (length-set) h.few) (record { size = refl; others = λ place e. refl })
       (lives_ready m (held r.row.role) w.memory v.task r.row.due
       (λ place. awaits_no_input v.task.condition v.exchange v.done place v.waits channel) r.lives)
-      (after_ack w.tasks w.links k p l (record v.task { condition = Ready }) here h.waiters v) in
+      (after_ack w.tasks w.links k p l (record v.task { condition = Ready }) here h.few h.waiters v) in
       dispatch_holds m 0 (wake p (with_output k (record { waiting = None }) w))
       (subst (λ x. Holds m x) (sym (wake_is (with_output k (record { waiting = None }) w) p v.task v.here)) woke)
 
@@ -644,7 +655,6 @@ module _ (m : Contents) where
       → l.waiting ≡ None → Waiters tasks links
       → Waiters tasks (record links { inputs = slice_set links.inputs k (record l { kept = Some byte }) })
   kept_waiters tasks links k byte l here none w = record {
-    few = w.few;
     inputs = λ j x q a b. elim (cases_eq k j) [
       | inl e ↦
           let n : InputLink = record l { kept = Some byte } in
@@ -735,8 +745,8 @@ module _ (m : Contents) where
         dues = h.dues;
         table = record { each = λ i v e. each i v e };
         line = record { ready = all_ready_again w.tasks p t u (line w.queue) here refl h.line.ready; once = h.line.once };
+        few = h.few;
         waiters = record {
-          few = h.waiters.few;
           inputs = λ k l i a b. waits_again w.tasks p i (input_word k) t u here refl (h.waiters.inputs k l i a b);
           outputs = λ k l i a b. waits_again w.tasks p i (output_word k) t u here refl (h.waiters.outputs k l i a b);
         };
@@ -789,10 +799,9 @@ module _ (m : Contents) where
           let r = waits_at m w h p t Alternating here e (λ x. cc) (λ x. cc) (λ x. cc) in
           let u : Task = record t { condition = Ready } in
           subst (λ x. Holds m x) (sym (wake_is w p t here))
-          (woken m w h p t r w.memory w.links (record { size = refl; others = λ place e. refl })
+          (woken m w h p t r w.memory w.links h.few (record { size = refl; others = λ place e. refl })
           (lives_ready m (held r.row.role) w.memory t r.row.due (λ place. ap (λ c. awaits c place) e) r.lives)
           (record {
-            few = h.waiters.few;
             inputs = λ k l q a b. let old = h.waiters.inputs k l q a b in
                 waits_same w.tasks p q (input_word k) u (alternating_apart w.tasks p q (input_word k) t here e old) old;
             outputs = λ k l q a b. let old = h.waiters.outputs k l q a b in
@@ -819,6 +828,7 @@ module _ (m : Contents) where
         dues = h.dues;
         table = h.table;
         line = h.line;
+        few = h.few;
         waiters = kept_waiters w.tasks w.links k byte l here none h.waiters;
         apart = h.apart;
         owed = h.owed;
@@ -934,7 +944,7 @@ module _ (m : Contents) (k byte : ℕ) (small : byte < 256) (w : World) (h : Hol
       → WaitsOn (slice_set w.tasks p u) q (output_word j)
   outputs_wait u j q x a b =
       let old = h.waiters.outputs j x q a b in
-      let low : j < 4 = omega (arith, slice_get_within w.links.outputs j x a, h.waiters.few) in
+      let low : j < 4 = omega (arith, slice_get_within w.links.outputs j x a, h.few) in
       waits_same w.tasks p q (output_word j) u
       (apart_by_word w.tasks p q (input_word k) (output_word j) v old (λ e. omega arith)) old
 
@@ -945,12 +955,11 @@ module _ (m : Contents) (k byte : ℕ) (small : byte < 256) (w : World) (h : Hol
       let u : Task = record v.task { condition = Ready } in
       let n : InputLink = record l { waiting = None } in
       subst (λ x. Holds m x) (sym (wake_is (with_input k n (record w { memory = filled })) p v.task v.here))
-      (woken m w h p v.task r filled (record w.links { inputs = slice_set w.links.inputs k n }) changes
+      (woken m w h p v.task r filled (record w.links { inputs = slice_set w.links.inputs k n }) h.few changes
       (claim_after Ready (λ place. false) (λ place. refl)
       (λ place. awaited place ∙ ap (λ i. eqb place goal_place || is_filled v.exchange
       (v.done + 1) i place) nothing_left))
       (record {
-        few = h.waiters.few;
         inputs = λ j x q a b. elim (cases_eq k j) [
           | inl e ↦
               let there : slice_get (slice_set w.links.inputs k n) j ≡ Some n =
@@ -982,12 +991,11 @@ module _ (m : Contents) (k byte : ℕ) (small : byte < 256) (w : World) (h : Hol
                   (record task { condition = OnLink v.exchange (v.done + 1) });
             }
       ]) v.here))
-      (waits_on m w h p v.task r u filled w.links changes
+      (waits_on m w h p v.task r u filled w.links h.few changes
       (claim_after (OnLink v.exchange (v.done + 1)) (λ place. is_filled v.exchange (v.done + 1) behind_it place)
       (λ place. ap (λ (b : Bool). b && is_filled v.exchange (v.done + 1) behind_it place)
       (le-leb (input_word 0) v.exchange.channel (omega (arith, v.on)))) awaited)
       (record {
-        few = h.waiters.few;
         inputs = λ j x q a b. elim (cases_eq k j) [
           | inl e ↦
               let old : slice_get w.links.inputs j ≡ Some l = subst (λ i. slice_get w.links.inputs i ≡ Some l) e here in

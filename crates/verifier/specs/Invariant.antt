@@ -1,5 +1,5 @@
 -- What holds of every world that a certified module comes to, in parts: each reads only some parts of the world.
-use Rattle.std.specs.Prelude.{◌≡◌, ◌≢◌, ℕ, zero, suc, ◌+◌, ◌-◌, ◌==◌, nat_le, ◌&&◌, ◌||◌, ◌%◌, ◌^◌, ◌≤◌, ◌<◌, Bool}
+use Rattle.std.specs.Prelude.{◌≡◌, ℕ, zero, suc, ◌+◌, ◌-◌, ◌==◌, nat_le, ◌&&◌, ◌||◌, ◌%◌, ◌^◌, ◌≤◌, ◌<◌, Bool}
 use Rattle.std.specs.Prelude.{true, false, List, [], ◌∷◌, length, Option, Some, None, slice_get}
 use Rattle.module_format.specs.Contents.{Contents}
 use Rattle.machine_state.specs.declared.process.Task.{Task}
@@ -7,12 +7,11 @@ use Rattle.machine_state.specs.declared.process.Exchange.{Exchange}
 use Rattle.machine_state.specs.declared.process.Condition.{Condition}
 use Rattle.machine_state.specs.declared.process.Condition.TheVariants.{Ready, Sending, Receiving, OnLink, Alternating}
 use Rattle.machine_state.specs.declared.process.Condition.TheVariants.{Stopped, Ended}
-use Rattle.machine_state.specs.declared.link.InputLink.{InputLink}
-use Rattle.machine_state.specs.declared.link.OutputLink.{OutputLink}
 use Rattle.machine_state.specs.Memory.{Memory, byte_at, place_of}
 use Rattle.machine_state.specs.Holding.{Holding, may_write, may_read}
 use Rattle.machine_state.specs.Apart.{AllApart}
-use Rattle.machine_state.specs.World.{World, Role, Queue, Links, held, input_word, output_word}
+use Rattle.machine_state.specs.Waiting.{Line, Waiters}
+use Rattle.machine_state.specs.World.{World, Role, held, input_word}
 use Rattle.verifier.specs.Point.{Stands}
 
 -- ---- processes
@@ -66,57 +65,6 @@ pub record Process (m : Contents) (memory : Memory) (roles : List Role) (dues : 
 pub record Table (m : Contents) (memory : Memory) (tasks : List Task) (roles : List Role) (dues : List ℕ) : Type 0 where
   pub each : (p : ℕ) (t : Task) → slice_get tasks p ≡ Some t → Process m memory roles dues p t
 
--- ---- the queue
-
-pub record IsReadyAt (tasks : List Task) (p : ℕ) : Type 0 where
-  pub task : Task
-  pub here : slice_get tasks p ≡ Some task
-  pub ready : task.condition ≡ Ready
-
--- each in a list, and none of them twice
-abbrev pub AllReady : List Task → List ℕ → Type 0
-AllReady tasks [] = Unit {0}
-AllReady tasks (p ∷ ps) = IsReadyAt tasks p × AllReady tasks ps
-
-abbrev pub IsAbsent : ℕ → List ℕ → Type 0
-IsAbsent p [] = Unit {0}
-IsAbsent p (q ∷ qs) = (p ≢ q) × IsAbsent p qs
-
-abbrev pub AllDiffer : List ℕ → Type 0
-AllDiffer [] = Unit {0}
-AllDiffer (p ∷ ps) = IsAbsent p ps × AllDiffer ps
-
--- who runs, in front of those who wait for their turn
-abbrev pub line_of : Option ℕ → List ℕ → List ℕ
-line_of None ready = ready
-line_of (Some p) ready = p ∷ ready
-
-abbrev pub line : Queue → List ℕ
-line queue = line_of queue.running queue.ready
-
-pub record Line (tasks : List Task) (queue : Queue) : Type 0 where
-  pub ready : AllReady tasks (line queue)
-  pub once : AllDiffer (line queue)
-
--- ---- links
-
--- a process waits on the link with this word
-pub record WaitsOn (tasks : List Task) (p word : ℕ) : Type 0 where
-  pub task : Task
-  pub here : slice_get tasks p ≡ Some task
-  pub exchange : Exchange
-  pub done : ℕ
-  pub waits : task.condition ≡ OnLink exchange done
-  pub on : exchange.channel ≡ word
-  pub more : done < exchange.length
-
-pub record Waiters (tasks : List Task) (links : Links) : Type 0 where
-  pub few : length links.outputs ≤ 4
-  pub inputs : (k : ℕ) (l : InputLink) (p : ℕ) → slice_get links.inputs k ≡ Some l → l.waiting ≡ Some p
-      → WaitsOn tasks p (input_word k)
-  pub outputs : (k : ℕ) (l : OutputLink) (p : ℕ) → slice_get links.outputs k ≡ Some l → l.waiting ≡ Some p
-      → WaitsOn tasks p (output_word k)
-
 -- ---- all of it
 
 abbrev pub total : List ℕ → ℕ
@@ -127,6 +75,7 @@ pub record Holds (m : Contents) (w : World) : Type 0 where
   pub dues : List ℕ
   pub table : Table m w.memory w.tasks w.roles dues
   pub line : Line w.tasks w.queue
+  pub few : length w.links.outputs ≤ 4
   pub waiters : Waiters w.tasks w.links
   pub apart : AllApart w.roles w.channels
   pub owed : total dues + w.counters.executed ≤ m.budget

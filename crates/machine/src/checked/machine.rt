@@ -1,74 +1,41 @@
-//! The whole machine at a moment, and the moves that its events are made of.
+//! The whole machine at a moment, and what its events change besides the traffic of its processes.
 
-ghost use Rattle.std.specs.Prelude.{◌≡◌, ◌+◌, ◌*◌, ◌<◌, ◌^◌, Some, length, slice_get, IfOk, IfSome, OnOk};
+ghost use Rattle.std.specs.Prelude.{◌≡◌, ◌+◌, ◌*◌, ◌<◌, ◌^◌, length, IfOk};
 ghost use Rattle.module_format.specs.Contents.{contents_of};
 ghost use Rattle.machine_state.specs.World.{IsLoadable, loaded};
-ghost use Rattle.machine_state.specs.Memory.{data_start, place_of, with_byte};
+ghost use Rattle.machine_state.specs.Memory.{data_start};
 ghost use Rattle.machine_state.specs.Happens.{most_executed};
-ghost use Rattle.machine_state.specs.Moves.{counted, finished_where, faulty, put, with_condition, leave, enqueue};
-ghost use Rattle.machine_state.specs.Moves.{wake, dispatch, link_index, with_input, with_output};
+ghost use Rattle.machine_state.specs.Moves.{counted, finished_where, faulty};
+ghost use Rattle.channels.specs.Settling.{here_in};
 ghost use Rattle.machine.specs.Applying.{PerformsFor, outcome_at};
-ghost use Rattle.machine.specs.Moment.{IsSteady, WaitsForMore};
 
 use certificate::Tables;
+use channels::{Here, Traffic};
 use direct_functions::direct;
-use machine_state::{
-    Channel, Condition, Cpu, DATA_START, Fault, Flow, InputLink, Link, OutputLink, Registers,
-    TaggedStore, Task,
-};
+use machine_state::{DATA_START, Fault, Flow, Registers, TaggedStore};
 use prefix_decoder::Fun;
+use process_queue::ListQueue;
 use std::alloc::{AllocError, Global};
 use std::marker::Model;
-
-/// An input link on which nothing has come and no process waits.
-const QUIET_INPUT: InputLink = InputLink {
-    kept: None,
-    waiting: None,
-    enabled: None,
-};
-
-/// An output link on which no process waits.
-const QUIET_OUTPUT: OutputLink = OutputLink { waiting: None };
 
 /// The whole machine at a moment, apart from its module.
 #[derive(Drop)]
 pub(crate) struct Machine {
-    /// It runs the instructions of whichever process runs. Between two instructions only its store counts.
-    cpu: Cpu<TaggedStore>,
-    tasks: Vec<Task>,
-    running: Option<u64>,
-    ready: Vec<u64>,
-    inputs: [InputLink; 4],
-    outputs: [OutputLink; 4],
-    channels: Vec<Option<Channel>>,
+    pub(crate) traffic: Traffic<TaggedStore, ListQueue>,
     executed: u64,
     is_finished: bool,
     fault: Option<Fault>,
 }
 
 impl Model for Machine {
-    ghost use Rattle.std.specs.Prelude.{◌-◌, vec_len, vec_capacity};
-    ghost use Rattle.machine.specs.Moment.{Moment};
+    ghost use Rattle.channels.specs.Beside.{beside};
+    ghost use Rattle.channels.specs.Moment.{Moment};
 
     ghost Value = { Moment };
 
-    ghost view = { λ m. record {
-      world = record {
-        memory = m.cpu.store.cells;
-        tasks = m.tasks.items;
-        roles = m.cpu.store.roles;
-        queue = record { running = m.running; ready = m.ready.items };
-        links = record { outputs = m.outputs; inputs = m.inputs };
-        channels = m.channels.items;
-        counters = record { executed = m.executed; is_finished = m.is_finished };
-        fault = m.fault;
-      };
-      room = vec_capacity m.ready - vec_len m.ready;
+    ghost view = { λ m. record m.traffic {
+      world = beside (record { executed = m.executed; is_finished = m.is_finished }) m.fault m.traffic.world;
     } };
-
-    ghost use Rattle.machine.specs.Sound.{IsSound};
-
-    ghost invariant = { IsSound };
 }
 
 impl Machine {
@@ -79,24 +46,8 @@ impl Machine {
         requires start { data_start + 4 * tables.now.data_words < 2 ^ 32 }
         ensures { IfOk result (λ m. m.world ≡ loaded (contents_of tables.now)) }
     {
-        let root = Task::root(tables);
-        let cpu = Cpu {
-            process: 0,
-            registers: root.registers,
-            mode: root.mode,
-            code_start: DATA_START + 4 * tables.data_words,
-            code_length: tables.code.len() as u32,
-            has_long_operations: tables.has_long_operations,
-            store: TaggedStore::load(alloc, tables)?,
-        };
         Ok(Machine {
-            cpu,
-            tasks: vec![in alloc; root]?,
-            running: Some(0),
-            ready: Vec::new(alloc),
-            inputs: [QUIET_INPUT; 4],
-            outputs: [QUIET_OUTPUT; 4],
-            channels: vec![in alloc; None; tables.data_words as usize]?,
+            traffic: Traffic::load(alloc, tables)?,
             executed: 0,
             is_finished: false,
             fault: None,
@@ -125,13 +76,6 @@ impl Machine {
         self.fault = Some(fault);
     }
 
-    /// The number of the process that runs.
-    pub(crate) fn running(&self) -> Option<u64>
-        ensures { result ≡ self.now.world.queue.running }
-    {
-        self.running
-    }
-
     /// How many bytes were executed.
     pub(crate) fn executed(&self) -> u64
         ensures { result ≡ self.now.world.counters.executed }
@@ -153,143 +97,29 @@ impl Machine {
         self.fault
     }
 
-    /// The process of this number, if there is one.
-    pub(crate) fn task(&self, process: u64) -> Option<Task>
-        ensures value { result ≡ slice_get self.now.world.tasks process }
-        ensures steady { IfSome result IsSteady }
-    {
-        self.tasks.get(process as usize).copied()
-    }
-
-    /// The process of this number, if there is one, goes on as this task.
-    pub(crate) fn put(&mut self, process: u64, task: Task)
-        requires { IsSteady task }
-        ensures { let w = self.old.world in
-            self.new ≡ record self.old { world = put process task w.memory w } }
-    {
-        if let Some(place) = self.tasks.get_mut(process as usize) {
-            *place = task;
-        }
-    }
-
-    /// The process of this number, if there is one, has this condition.
-    pub(crate) fn set_condition(&mut self, process: u64, condition: Condition)
-        requires { WaitsForMore condition }
-        ensures { self.new ≡ record self.old { world = with_condition process condition self.old.world } }
-    {
-        if let Some(task) = self.tasks.get_mut(process as usize) {
-            task.condition = condition;
-        }
-    }
-
-    /// The byte at the address is this, whoever holds it. Outside the memory nothing changes.
-    pub(crate) fn put_byte(&mut self, address: u32, byte: u8)
-        ensures { let w = self.old.world in
-            let memory = with_byte w.memory (place_of address) (Some byte) in
-            self.new ≡ record self.old { world = record w { memory = memory } } }
-    {
-        self.cpu.store.put_byte(address, byte);
-    }
-
-    /// Executes one instruction of this process, whose last byte it is at, and reports how the process goes on and
-    /// with which registers. All but memory stays as it is.
+    /// Executes this instruction of a process, whose last byte it is at, and reports how the process goes on and with
+    /// which registers. All but memory stays as it is.
     pub(crate) fn perform(
         &mut self,
         tables: &Tables,
-        process: u64,
-        task: &Task,
+        here: &Here,
         fun: Fun,
         operand: i32,
     ) -> Result<(Flow, Registers), Fault>
         requires code { length tables.now.code.now < 2 ^ 32 }
         requires start { data_start + 4 * tables.now.data_words < 2 ^ 32 }
-        ensures { let m = contents_of tables.now in
-            let outcome = outcome_at m process task.now fun operand self.old.world in
-            PerformsFor process task.now self.old self.new result outcome }
+        ensures { let outcome = outcome_at (here_in (contents_of tables.now) here.now) fun operand self.old.world in
+            PerformsFor here.now self.old self.new result outcome }
     {
-        self.cpu.process = process;
-        self.cpu.registers = task.registers;
-        self.cpu.mode = task.mode;
-        self.cpu.code_start = DATA_START + 4 * tables.data_words;
-        self.cpu.code_length = tables.code.len() as u32;
-        self.cpu.has_long_operations = tables.has_long_operations;
-        self.cpu.store.select(process);
-        let flow = direct(&mut self.cpu, fun, operand)?;
-        Ok((flow, self.cpu.registers))
-    }
-
-    /// No process is running.
-    pub(crate) fn leave(&mut self)
-        ensures { self.new ≡ record self.old { world = leave self.old.world } }
-    {
-        self.running = None;
-    }
-
-    /// Makes room for one more ready process, and shows no change.
-    pub(crate) fn reserve(&mut self) -> Result<(), AllocError>
-        ensures world { self.new.world ≡ self.old.world }
-        ensures room { OnOk result (0 < self.new.room) }
-    {
-        self.ready.reserve(1)
-    }
-
-    /// The process goes to the back of the ready list.
-    pub(crate) fn enqueue(&mut self, process: u64)
-        requires { 0 < self.old.room }
-        ensures { self.new.world ≡ enqueue process self.old.world }
-    {
-        self.ready.push(process).unwrap();
-    }
-
-    /// The process becomes ready, after all that are.
-    pub(crate) fn wake(&mut self, process: u64)
-        requires { 0 < self.old.room }
-        ensures { self.new.world ≡ wake process self.old.world }
-    {
-        self.set_condition(process, Condition::Ready);
-        self.enqueue(process);
-    }
-
-    /// If no process is running, the ready process number `pick`, counted round the list, is taken out and runs.
-    #[tactic(auto, unfolding(machine_state::specs::Moves::dispatch))]
-    pub(crate) fn dispatch(&mut self, pick: u64)
-        ensures { self.new.world ≡ dispatch pick self.old.world }
-    {
-        if self.running.is_none() && !self.ready.is_empty() {
-            let place = (pick % self.ready.len() as u64) as usize;
-            self.running = Some(self.ready.remove(place));
-        }
-    }
-
-    /// The input side of the link.
-    #[tactic(auto, using(std::proofs::lemmas::Option::slice_get_read))]
-    pub(crate) fn input(&self, link: Link) -> InputLink
-        ensures { slice_get self.now.world.links.inputs (link_index link) ≡ Some result }
-    {
-        self.inputs[link.index()]
-    }
-
-    /// The output side of the link.
-    #[tactic(auto, using(std::proofs::lemmas::Option::slice_get_read))]
-    pub(crate) fn output(&self, link: Link) -> OutputLink
-        ensures { slice_get self.now.world.links.outputs (link_index link) ≡ Some result }
-    {
-        self.outputs[link.index()]
-    }
-
-    /// The input side of the link is this.
-    pub(crate) fn set_input(&mut self, link: Link, input: InputLink)
-        ensures { let w = self.old.world in
-            self.new ≡ record self.old { world = with_input (link_index link) input w } }
-    {
-        self.inputs[link.index()] = input;
-    }
-
-    /// The output side of the link is this.
-    pub(crate) fn set_output(&mut self, link: Link, output: OutputLink)
-        ensures { let w = self.old.world in
-            self.new ≡ record self.old { world = with_output (link_index link) output w } }
-    {
-        self.outputs[link.index()] = output;
+        self.traffic.select(here.process);
+        let cpu = self.traffic.cpu();
+        cpu.process = here.process;
+        cpu.registers = here.task.registers;
+        cpu.mode = here.task.mode;
+        cpu.code_start = DATA_START + 4 * tables.data_words;
+        cpu.code_length = tables.code.len() as u32;
+        cpu.has_long_operations = tables.has_long_operations;
+        let flow = direct(cpu, fun, operand)?;
+        Ok((flow, cpu.registers))
     }
 }

@@ -1,4 +1,4 @@
-use Rattle.std.proofs.Common.{◌+◌, refl, ap, subst, drop, List, rules, ◌∷◌, ◌∙◌}
+use Rattle.std.proofs.Common.{◌+◌, refl, ap, subst, drop, List, rules, ◌∙◌}
 use Rattle.std.proofs.lemmas.List.{drop_all}
 use Rattle.module_format.proofs.Loop.{item_at}
 use Rattle.machine_state.specs.declared.event.Event.{Event}
