@@ -1,7 +1,7 @@
 -- What is written on lines is read again.
 use Rattle.std.proofs.Common.{◌≡◌, ℕ, zero, suc, ◌+◌, ◌<◌, ◌≤◌, Bool, true, false, cond, List, [], ◌∷◌, ◌++◌, length}
-use Rattle.std.proofs.Common.{map, nat_lt, ◌==◌, Option, Some, None, refl, sym, ap, subst, arith, append_assoc}
-use Rattle.std.proofs.Common.{append-nil, length-append, ◌∙◌}
+use Rattle.std.proofs.Common.{◌==◌, Option, Some, None, refl, sym, ap, subst, arith, append_assoc}
+use Rattle.std.proofs.Common.{length-append, ◌∙◌}
 use Rattle.std.proofs.lemmas.Bool.{eq-eqb}
 use Rattle.std.proofs.lemmas.Bool.Decides.{nat_tests}
 use Rattle.occam_parser.specs.declared.head.BlockKind.{BlockKind}
@@ -9,18 +9,18 @@ use Rattle.occam_parser.specs.declared.head.BlockKind.TheVariants as block
 use Rattle.occam_parser.specs.Expressions.{Expression, written}
 use Rattle.occam_parser.specs.Reading.{◌>>=◌}
 use Rattle.occam_parser.specs.Lines.{Declaration, Replicator, Action, Guard, Head, Declares, Acts, Opens}
-use Rattle.occam_parser.specs.Lines.{written_declaration, written_action, written_replicator, block_word, written_head}
-use Rattle.occam_parser.specs.Lines.{written_guard, IsWhole, FitsDeclaration, FitsAction, FitsReplicator, FitsHead}
+use Rattle.occam_parser.specs.Lines.{written_declaration, written_action, written_replicator, block_word}
+use Rattle.occam_parser.specs.Lines.{written_guard, IsWhole, FitsDeclaration, FitsAction, FitsReplicator}
 use Rattle.occam_parser.specs.Lines.{FitsGuard}
 use Rattle.occam_parser.specs.LineReading.{head_at, whole_at, guard_at}
 use Rattle.occam_parser.specs.Blocks.{Row, Process, Declared, Does, Construct, Act, Block, Components, NoComponent}
 use Rattle.occam_parser.specs.Blocks.{Further, Component, Plain, Chosen, Guarded, declaration_line, lines_of}
-use Rattle.occam_parser.specs.Blocks.{lines_of_construct, lines_of_components, lines_of_component, IsOne, HasRightCount}
+use Rattle.occam_parser.specs.Blocks.{lines_of_construct, lines_of_components, lines_of_component, HasRightCount}
 use Rattle.occam_parser.specs.Blocks.{IsOf, FitsProcess, FitsConstruct, FitComponents, FitsComponent}
-use Rattle.occam_parser.specs.BlockReading.{ReadsLines, is_at, first_row, begins_at, Beginning, begun, beginning_from}
-use Rattle.occam_parser.specs.BlockReading.{with_declarations, count_of, wants, components_of, is_some, block_with}
+use Rattle.occam_parser.specs.BlockReading.{ReadsLines, begins_at, Beginning, begun, beginning_from}
+use Rattle.occam_parser.specs.BlockReading.{with_declarations, count_of, components_of, is_some, block_with}
 use Rattle.occam_parser.specs.BlockReading.{process_behind, process_with, choice_with, branch_with, plain}
-use Rattle.occam_parser.specs.BlockReading.{component_with, process_at, component_at}
+use Rattle.occam_parser.specs.BlockReading.{process_at, component_at}
 use Rattle.occam_parser.proofs.LineAgain.{head_again, whole_line_again, guard_again}
 use Rattle.occam_parser.proofs.Turns.{ContinuesBlock, block_begins, block_goes_on, block_ends, at_again}
 use Rattle.occam_parser.proofs.Turns.{first_row_again, wants_more, wants_no_more}

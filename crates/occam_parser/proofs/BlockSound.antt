@@ -1,26 +1,26 @@
 -- What is read of lines is written so, and fits.
-use Rattle.std.proofs.Common.{◌≡◌, ℕ, zero, suc, ◌+◌, ◌<◌, ◌≤◌, Bool, true, false, cond, List, [], ◌∷◌, ◌++◌, length}
-use Rattle.std.proofs.Common.{map, nat_lt, ◌==◌, Option, Some, None, refl, sym, ap, subst, arith, append_assoc}
+use Rattle.std.proofs.Common.{◌≡◌, ℕ, zero, suc, ◌+◌, ◌≤◌, Bool, true, false, cond, List, [], ◌∷◌, ◌++◌, length}
+use Rattle.std.proofs.Common.{Option, Some, None, refl, sym, ap, subst, arith, append_assoc}
 use Rattle.std.proofs.Common.{append-nil, ◌∙◌}
 use Rattle.std.specs.List.{AllByRecursion}
 use Rattle.occam_parser.specs.declared.head.BlockKind.{BlockKind}
 use Rattle.occam_parser.specs.declared.head.BlockKind.TheVariants as block
 use Rattle.occam_parser.specs.Terminals.{Terminal}
-use Rattle.occam_parser.specs.Expressions.{Expression, written}
+use Rattle.occam_parser.specs.Expressions.{written}
 use Rattle.occam_parser.specs.Reading.{◌>>=◌}
-use Rattle.occam_parser.specs.Lines.{Declaration, Replicator, Action, Guard, Head, Declares, Acts, Opens}
-use Rattle.occam_parser.specs.Lines.{written_declaration, written_action, written_replicator, block_word, written_head}
-use Rattle.occam_parser.specs.Lines.{written_guard, IsWhole, FitsDeclaration, FitsAction, FitsReplicator, FitsHead}
-use Rattle.occam_parser.specs.Lines.{FitsGuard, Constants, Variables, Channels}
+use Rattle.occam_parser.specs.Lines.{Declaration, Replicator, Head, Declares, Acts, Opens}
+use Rattle.occam_parser.specs.Lines.{written_declaration, written_head}
+use Rattle.occam_parser.specs.Lines.{written_guard, FitsDeclaration, FitsHead}
+use Rattle.occam_parser.specs.Lines.{Constants, Variables, Channels}
 use Rattle.occam_parser.specs.LineReading.{head_at, whole_at, guard_at}
-use Rattle.occam_parser.specs.Blocks.{Row, Process, Declared, Does, Construct, Act, Block, Components, NoComponent}
+use Rattle.occam_parser.specs.Blocks.{Row, Process, Does, Construct, Act, Block, Components, NoComponent}
 use Rattle.occam_parser.specs.Blocks.{Further, Component, Plain, Chosen, Guarded, declaration_line, lines_of}
-use Rattle.occam_parser.specs.Blocks.{lines_of_construct, lines_of_components, lines_of_component, IsOne, HasRightCount}
-use Rattle.occam_parser.specs.Blocks.{IsOf, FitsProcess, FitsConstruct, FitComponents, FitsComponent}
+use Rattle.occam_parser.specs.Blocks.{lines_of_components, lines_of_component, IsOne, HasRightCount}
+use Rattle.occam_parser.specs.Blocks.{IsOf, FitsProcess, FitComponents, FitsComponent}
 use Rattle.occam_parser.specs.BlockReading.{ReadsLines, is_at, first_row, Beginning, begun, beginning_from}
 use Rattle.occam_parser.specs.BlockReading.{with_declarations, count_of, wants, component_step, components_from}
 use Rattle.occam_parser.specs.BlockReading.{components_of, is_some, block_with, process_behind, process_with}
-use Rattle.occam_parser.specs.BlockReading.{choice_with, branch_with, plain, component_with, no_lines, process_at}
+use Rattle.occam_parser.specs.BlockReading.{choice_with, branch_with, plain, component_with, process_at}
 use Rattle.occam_parser.specs.BlockReading.{component_at}
 use Rattle.occam_parser.proofs.Options.{bind_some, at_some}
 use Rattle.occam_parser.proofs.LineSound.{head_sound, whole_sound, guard_sound}

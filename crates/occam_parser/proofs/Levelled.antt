@@ -5,7 +5,7 @@ use Rattle.occam_parser.specs.declared.head.BlockKind.{BlockKind}
 use Rattle.occam_parser.specs.declared.head.BlockKind.TheVariants as block
 use Rattle.occam_parser.specs.Expressions.{Expression}
 use Rattle.occam_parser.specs.Reading.{◌>>=◌}
-use Rattle.occam_parser.specs.Lines.{Replicator, Guard, Head, Declaration, Acts, Opens}
+use Rattle.occam_parser.specs.Lines.{Replicator, Guard, Declaration, Opens}
 use Rattle.occam_parser.specs.LineReading.{whole_at, guard_at}
 use Rattle.occam_parser.specs.Blocks.{Row, Process, Does, Construct, Block, Components, Component, Plain, Chosen}
 use Rattle.occam_parser.specs.Blocks.{Guarded}

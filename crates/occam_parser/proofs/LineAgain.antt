@@ -1,6 +1,6 @@
 -- What one line says is read again from how it is written.
 use Rattle.std.proofs.Common.{◌≡◌, ℕ, Bool, true, false, cond, List, [], ◌∷◌, ◌++◌, Option, Some, None, refl, sym, ap}
-use Rattle.std.proofs.Common.{subst, append_assoc, append-nil, ◌∙◌}
+use Rattle.std.proofs.Common.{append_assoc, append-nil, ◌∙◌}
 use Rattle.std.specs.List.{AllByRecursion}
 use Rattle.occam_parser.specs.declared.symbol.Mark as mark_type
 use Rattle.occam_parser.specs.declared.symbol.Mark.TheVariants as mark
@@ -8,36 +8,34 @@ use Rattle.occam_parser.specs.declared.head.BlockKind.{BlockKind}
 use Rattle.occam_parser.specs.declared.head.BlockKind.TheVariants as block
 use Rattle.occam_parser.specs.declared.tree.FormalKind.{FormalKind}
 use Rattle.occam_parser.specs.declared.tree.FormalKind.TheVariants as formal_kind
-use Rattle.occam_parser.specs.declared.tree.PairOperator.{PairOperator}
 use Rattle.occam_parser.specs.declared.tree.PairOperator.TheVariants as pair
 use Rattle.occam_parser.specs.declared.tree.ChainOperator.{ChainOperator}
 use Rattle.occam_parser.specs.declared.tree.ValueType.{ValueType}
 use Rattle.occam_parser.specs.declared.tree.ValueType.TheVariants as value_type
-use Rattle.occam_parser.specs.Terminals.{Terminal, Name, Integer, Character, Text, Pair, Chain, Mark}
+use Rattle.occam_parser.specs.Terminals.{Terminal, Name, Pair, Chain, Mark}
 use Rattle.occam_parser.specs.Expressions.{Expression, Alone, Prefixed, Paired, Chained, Terms, First, Then, Term}
 use Rattle.occam_parser.specs.Expressions.{Number, Byte, Truth, MostPos, MostNeg, Named, Element, Bracketed, Converted}
-use Rattle.occam_parser.specs.Expressions.{prefix_sign, type_word, truth_word, written, written_terms, written_term}
-use Rattle.occam_parser.specs.Expressions.{Fits}
+use Rattle.occam_parser.specs.Expressions.{prefix_sign, type_word, written, written_terms, written_term}
 use Rattle.occam_parser.specs.declared.tree.PrefixOperator.TheVariants as prefix
-use Rattle.occam_parser.specs.Reading.{Reads, ◌>>=◌, behind, is_mark, up_to, begins_with_operator, expression_at}
+use Rattle.occam_parser.specs.Reading.{◌>>=◌, behind, is_mark, begins_with_operator, expression_at}
 use Rattle.occam_parser.specs.Reading.{list_of}
 use Rattle.occam_parser.specs.Laws.{Ends}
 use Rattle.occam_parser.specs.Lines.{Place, Replicator, Value, Scalar, Table, Bytes, Constant, Names, Declaration}
 use Rattle.occam_parser.specs.Lines.{Constants, Variables, Channels, Action, Skip, Stop, Assign, Input, Output}
 use Rattle.occam_parser.specs.Lines.{Instance, Guard, Receives, Skips, Formal, ProcHead, Head, Declares, Acts, Opens}
 use Rattle.occam_parser.specs.Lines.{in_brackets, written_place, separated, after_commas, written_name, size_of}
-use Rattle.occam_parser.specs.Lines.{written_value, written_constant, channel_words, written_names, written_declaration}
-use Rattle.occam_parser.specs.Lines.{written_action, written_replicator, block_word, written_head, written_guard}
-use Rattle.occam_parser.specs.Lines.{written_condition, written_formal, written_proc_head, IsWhole, AreWhole}
+use Rattle.occam_parser.specs.Lines.{written_value, written_constant, channel_words, written_names}
+use Rattle.occam_parser.specs.Lines.{written_replicator, block_word, written_head, written_guard}
+use Rattle.occam_parser.specs.Lines.{written_formal, written_proc_head, IsWhole, AreWhole}
 use Rattle.occam_parser.specs.Lines.{IsWholeIfAny, HasItem, FitsPlace, FitsValue, FitsConstant, FitsNames}
-use Rattle.occam_parser.specs.Lines.{FitsDeclaration, FitsAction, FitsReplicator, FitsHead, FitsGuard, FitsFormal}
+use Rattle.occam_parser.specs.Lines.{FitsReplicator, FitsHead, FitsGuard, FitsFormal}
 use Rattle.occam_parser.specs.Lines.{FitsProcHead}
-use Rattle.occam_parser.specs.LineReading.{ended, only, name_at, equals_at, bracketed_behind, bracketed_at, type_behind}
+use Rattle.occam_parser.specs.LineReading.{only, name_at, equals_at, bracketed_behind, bracketed_at}
 use Rattle.occam_parser.specs.LineReading.{type_at, shape_behind, shape_at, place_at, whole_at, whole_place, table_at}
 use Rattle.occam_parser.specs.LineReading.{value_at, constant_at, declared_as, names_at, formal_named, formal_kind_of}
 use Rattle.occam_parser.specs.LineReading.{formal_behind, formal_at, formals_behind, proc_head_at, actuals_behind}
 use Rattle.occam_parser.specs.LineReading.{actuals_at, placed_action, instance_or_other, action_at, counted_at}
-use Rattle.occam_parser.specs.LineReading.{replicator_at, block_at, declaration_at, marked_head, head_at, is_guard_sign}
+use Rattle.occam_parser.specs.LineReading.{replicator_at, block_at, declaration_at, marked_head, head_at}
 use Rattle.occam_parser.specs.LineReading.{has_condition, input_at, skips_or_receives, conditioned_at, guard_at}
 use Rattle.occam_parser.proofs.Marks.{behind_again, behind_other}
 use Rattle.occam_parser.proofs.Again.{up_to_again, expression_again}

@@ -6,17 +6,16 @@ use Rattle.occam_parser.specs.declared.symbol.Mark as mark_type
 use Rattle.occam_parser.specs.declared.symbol.Mark.TheVariants as mark
 use Rattle.occam_parser.specs.declared.head.BlockKind.{BlockKind}
 use Rattle.occam_parser.specs.declared.head.BlockKind.TheVariants as block
-use Rattle.occam_parser.specs.declared.tree.FormalKind.{FormalKind}
 use Rattle.occam_parser.specs.declared.tree.FormalKind.TheVariants as formal_kind
 use Rattle.occam_parser.specs.declared.tree.PairOperator.TheVariants as pair
 use Rattle.occam_parser.specs.declared.tree.ValueType.{ValueType}
 use Rattle.occam_parser.specs.declared.tree.ValueType.TheVariants as value_type
 use Rattle.occam_parser.specs.Terminals.{Terminal, Name, Integer, Character, Text, Pair, Chain, Mark}
-use Rattle.occam_parser.specs.Expressions.{Expression, written, type_word, Fits}
-use Rattle.occam_parser.specs.Reading.{Reads, ◌>>=◌, behind, up_to, expression_at, list_of}
+use Rattle.occam_parser.specs.Expressions.{Expression, written, type_word}
+use Rattle.occam_parser.specs.Reading.{◌>>=◌, behind, up_to, expression_at, list_of}
 use Rattle.occam_parser.specs.Laws.{Sound}
 use Rattle.occam_parser.specs.Lines.{Place, Replicator, Value, Scalar, Table, Bytes, Constant, Names, Declaration}
-use Rattle.occam_parser.specs.Lines.{Constants, Variables, Channels, Action, Skip, Stop, Assign, Input, Output}
+use Rattle.occam_parser.specs.Lines.{Constants, Action, Skip, Stop, Assign, Input, Output}
 use Rattle.occam_parser.specs.Lines.{Instance, Guard, Receives, Skips, Formal, ProcHead, Head, Declares, Acts, Opens}
 use Rattle.occam_parser.specs.Lines.{in_brackets, written_place, separated, written_name, size_of, written_value}
 use Rattle.occam_parser.specs.Lines.{written_constant, channel_words, written_names, written_declaration}
@@ -24,17 +23,17 @@ use Rattle.occam_parser.specs.Lines.{written_action, written_replicator, block_w
 use Rattle.occam_parser.specs.Lines.{written_formal, written_proc_head, IsWhole, AreWhole, IsWholeIfAny, HasItem}
 use Rattle.occam_parser.specs.Lines.{FitsPlace, FitsValue, FitsConstant, FitsNames, FitsDeclaration, FitsAction}
 use Rattle.occam_parser.specs.Lines.{FitsReplicator, FitsHead, FitsGuard, FitsFormal, FitsProcHead}
-use Rattle.occam_parser.specs.LineReading.{ended, only, name_at, equals_at, bracketed_behind, bracketed_at, type_behind}
+use Rattle.occam_parser.specs.LineReading.{only, name_at, equals_at, bracketed_behind, bracketed_at, type_behind}
 use Rattle.occam_parser.specs.LineReading.{type_at, shape_behind, shape_at, place_at, whole_at, whole_place, table_at}
 use Rattle.occam_parser.specs.LineReading.{value_at, constant_at, declared_as, names_at, formal_named, formal_kind_of}
 use Rattle.occam_parser.specs.LineReading.{formal_behind, formal_at, formals_behind, proc_head_at, actuals_behind}
 use Rattle.occam_parser.specs.LineReading.{actuals_at, placed_action, instance_or_other, action_at, counted_at}
 use Rattle.occam_parser.specs.LineReading.{replicator_at, block_at, declaration_at, marked_head, head_at, has_condition}
 use Rattle.occam_parser.specs.LineReading.{input_at, skips_or_receives, conditioned_at, guard_at}
-use Rattle.occam_parser.proofs.Options.{bind_some, at_some, chosen}
+use Rattle.occam_parser.proofs.Options.{bind_some, at_some}
 use Rattle.occam_parser.proofs.Marks.{behind_is}
 use Rattle.occam_parser.proofs.Sound.{up_to_is, expression_sound}
-use Rattle.occam_parser.proofs.ListLaws.{IsList, list_sound}
+use Rattle.occam_parser.proofs.ListLaws.{list_sound}
 
 -- ---- small parts
 

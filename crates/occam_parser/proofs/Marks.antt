@@ -1,5 +1,5 @@
 -- Marks and operators at the front.
-use Rattle.std.proofs.Common.{◌≡◌, Bool, true, false, cond, List, [], ◌∷◌, Option, Some, None, refl, sym, ap, rules}
+use Rattle.std.proofs.Common.{◌≡◌, false, cond, List, [], ◌∷◌, Some, None, refl, ap}
 use Rattle.std.proofs.Common.{◌∙◌}
 use denote.Enum.Bare.{same_true, true_same}
 use Rattle.occam_parser.specs.declared.symbol.Mark as mark_type

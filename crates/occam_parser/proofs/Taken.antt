@@ -1,5 +1,5 @@
 -- Components that the program reads into the body of a block, and a head beside what was read below it.
-use Rattle.std.proofs.Common.{◌≡◌, ◌⊎◌, inl, inr, ℕ, ◌+◌, ◌-◌, ◌<◌, Bool, true, List, [], ◌∷◌, ◌++◌, length, map}
+use Rattle.std.proofs.Common.{◌≡◌, ◌⊎◌, inl, ℕ, ◌-◌, ◌<◌, Bool, true, List, length, map}
 use Rattle.std.proofs.Common.{Option, Some, None, Result, Ok, Err, refl, sym, ap, subst, ◌∙◌}
 use Rattle.std.specs.Prelude.{IfOk}
 use Rattle.std.specs.Borrow.{Bor}
@@ -7,7 +7,6 @@ use Rattle.occam_layout.specs.declared.token.Line.{Line}
 use Rattle.occam_parser.specs.declared.fault.ParseFault.{ParseFault}
 use Rattle.occam_parser.specs.declared.head.BlockKind.{BlockKind}
 use Rattle.occam_parser.specs.declared.tree.Process.{Process as CodeProcess}
-use Rattle.occam_parser.specs.Reading.{◌>>=◌}
 use Rattle.occam_parser.specs.Told.{out_of_memory, Tells, Pushes, IsBeside, StandsAbove}
 use Rattle.occam_parser.specs.Blocks.{Row, rows_of, Process, Does, Construct, Component, Components, NoComponent, Further}
 use Rattle.occam_parser.specs.BlockReading.{ReadsLines, wants, count_of, further, components_of, process_at}

@@ -1,5 +1,5 @@
 -- The trees that values of the program are, for what stands on one line.
-use Rattle.std.specs.Prelude.{ℕ, List, map, Option, option_map}
+use Rattle.std.specs.Prelude.{ℕ, List, map, option_map}
 use Rattle.std.specs.Borrow.{Bor}
 use Rattle.occam_layout.specs.Kind.{bytes_of}
 use Rattle.occam_parser.specs.declared.tree.Place as place_type
@@ -21,7 +21,6 @@ use Rattle.occam_parser.specs.declared.head.Head.TheVariants as head
 use Rattle.occam_parser.specs.declared.head.Start as start_type
 use Rattle.occam_parser.specs.declared.head.Start.TheVariants as start
 use Rattle.occam_parser.specs.Views.{expression_of}
-use Rattle.occam_parser.specs.Expressions.{Expression}
 use Rattle.occam_parser.specs.Lines.{Place, Replicator, Value, Scalar, Table, Bytes, Constant, Names, Declaration}
 use Rattle.occam_parser.specs.Lines.{Constants, Variables, Channels, Action, Skip, Stop, Assign, Input, Output}
 use Rattle.occam_parser.specs.Lines.{Instance, Guard, Receives, Skips, Formal, ProcHead, Head, Declares, Acts, Opens}

@@ -1,11 +1,11 @@
-use Rattle.std.proofs.Common.{◌≡◌, ◌++◌, ◌∷◌, [], length, map, sym, refl, ap, subst, arith, ◌∙◌}
+use Rattle.std.proofs.Common.{map, sym, arith}
 use Rattle.std.proofs.lemmas.Result.{err_from_is_err_and}
 use Rattle.std.proofs.lemmas.List.{map_push}
 use Rattle.occam_parser.specs.Terminals.{terminals_of}
 use Rattle.occam_parser.specs.Views.{expression_of}
 use Rattle.occam_parser.specs.Reading.{expression_at}
 use Rattle.occam_parser.proofs.Levels.{fails_on}
-use Rattle.occam_parser.proofs.Lists.{Continues, list_begins, list_stops, list_goes_on, list_fails, list_ends}
+use Rattle.occam_parser.proofs.Lists.{list_begins, list_stops, list_goes_on, list_fails, list_ends}
 use Rattle.occam_parser.proofs.Seen.{no_more}
 use Rattle.occam_parser.proofs.expression.expressions.Goals as goal
 
