@@ -119,19 +119,24 @@ prefix_again prefix.Negate rest = refl
 prefix_again prefix.BitNot rest = refl
 prefix_again prefix.Not rest = refl
 
+-- no term begins with a prefix, or with a parenthesis that closes
+pub begins_no_other : (t : Term) (rest : List Terminal)
+    → (prefix_at (written_term t ++ rest) ≡ None) × (behind mark.CloseParenthesis (written_term t ++ rest) ≡ None)
+unfolding prefix_at behind
+begins_no_other (Number value) rest = (refl, refl)
+begins_no_other (Byte byte) rest = (refl, refl)
+begins_no_other (Truth true) rest = (refl, refl)
+begins_no_other (Truth false) rest = (refl, refl)
+begins_no_other MostPos rest = (refl, refl)
+begins_no_other MostNeg rest = (refl, refl)
+begins_no_other (Named name) rest = (refl, refl)
+begins_no_other (Element name e) rest = (refl, refl)
+begins_no_other (Bracketed e) rest = (refl, refl)
+begins_no_other (Converted value_type.Int t) rest = (refl, refl)
+begins_no_other (Converted value_type.Byte t) rest = (refl, refl)
+
 no_prefix : (t : Term) (rest : List Terminal) → prefix_at (written_term t ++ rest) ≡ None
-unfolding prefix_at
-no_prefix (Number value) rest = refl
-no_prefix (Byte byte) rest = refl
-no_prefix (Truth true) rest = refl
-no_prefix (Truth false) rest = refl
-no_prefix MostPos rest = refl
-no_prefix MostNeg rest = refl
-no_prefix (Named name) rest = refl
-no_prefix (Element name e) rest = refl
-no_prefix (Bracketed e) rest = refl
-no_prefix (Converted value_type.Int t) rest = refl
-no_prefix (Converted value_type.Byte t) rest = refl
+no_prefix t rest = (begins_no_other t rest).0
 
 after_alone : (p : Reads Term) (first : Term) (rest : List Terminal) → begins_with_operator rest ≡ false
     → after_first p first rest ≡ Some (Alone first, rest)

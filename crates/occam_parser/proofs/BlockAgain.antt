@@ -38,9 +38,6 @@ differs a b h = grind (arith, nat_tests)
 pub stops_at_row : (level : ℕ) (r : Row) (rest : List Row) → r.level ≡ level → Stops level (r ∷ rest)
 stops_at_row level r rest e k h = differs r.level k (omega arith)
 
-pub stops_at_end : (level : ℕ) → Stops level []
-stops_at_end level k h = refl
-
 -- ---- declarations
 
 beginning_row : (level : ℕ) (found : List Declaration) (r : Row) (rows : List Row) (h : Head) → r.level ≡ level

@@ -94,12 +94,6 @@ chain_begins operand op first start rest x e within =
           (Chained op z.0, z.1)) e;
     }
 
-pub chain_stops : (operand : Reads Term) (op : ChainOperator) (first : Term) (start : List Terminal)
-    → operand start ≡ None → chain operand op first start ≡ None
-unfolding chain
-chain_stops operand op first start e = ap (λ o. o >>= λ y. chain_from operand op (length start)
-    (Then (First first) y.0) y.1 >>= λ z. Some (Chained op z.0, z.1)) e
-
 pub chain_turn : (operand : Reads Term) (op : ChainOperator) (n : ℕ) (terms : Terms) (ts after : List Terminal)
     → behind_operator op ts ≡ Some after → length ts ≤ n
     → (m : ℕ) × (length after ≤ m) × (chain_from operand op n terms

@@ -22,12 +22,7 @@ behind_is m (Mark found ∷ ts) rest e =
     let h = chosen (is_mark found m) ts rest e in
     let same = same_true mark_contract.the_type tt found m h.0 in
     ap (λ k. Mark k ∷ ts) same ∙ ap (λ us. Mark m ∷ us) h.1
-behind_is m (Name text ∷ ts) rest e = absurd (cc)
-behind_is m (Integer value ∷ ts) rest e = absurd (cc)
-behind_is m (Character byte ∷ ts) rest e = absurd (cc)
-behind_is m (Text bytes ∷ ts) rest e = absurd (cc)
-behind_is m (Pair operator ∷ ts) rest e = absurd (cc)
-behind_is m (Chain operator ∷ ts) rest e = absurd (cc)
+behind_is m (t ∷ ts) rest e = absurd (cc)
 
 pub behind_again : (m : mark_type.Mark) (rest : List Terminal) → behind m (Mark m ∷ rest) ≡ Some rest
 unfolding behind
@@ -47,12 +42,7 @@ behind_operator_is op (Chain found ∷ ts) rest e =
     let h = chosen (is_chain found op) ts rest e in
     let same = same_true chain_contract.the_type tt found op h.0 in
     ap (λ k. Chain k ∷ ts) same ∙ ap (λ us. Chain op ∷ us) h.1
-behind_operator_is op (Name text ∷ ts) rest e = absurd (cc)
-behind_operator_is op (Integer value ∷ ts) rest e = absurd (cc)
-behind_operator_is op (Character byte ∷ ts) rest e = absurd (cc)
-behind_operator_is op (Text bytes ∷ ts) rest e = absurd (cc)
-behind_operator_is op (Pair operator ∷ ts) rest e = absurd (cc)
-behind_operator_is op (Mark m ∷ ts) rest e = absurd (cc)
+behind_operator_is op (t ∷ ts) rest e = absurd (cc)
 
 pub behind_operator_again : (op : ChainOperator) (rest : List Terminal)
     → behind_operator op (Chain op ∷ rest) ≡ Some rest

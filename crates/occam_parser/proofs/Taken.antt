@@ -66,13 +66,6 @@ pushed_tells f (Ok x) old new (Ok rest) got pushes told =
     ∙ ap (λ (cs : Components). Some (cs, rows_of x.1.now)) (sym (all_push f old new x.0 pushes.0))
     ∙ ap (λ (us : List Line). Some (all_of (map f new), rows_of us)) (sym pushes.1)
 
-pub pushed_within : {A : Type 0} (read : Result (A × Bor (List Line)) ParseFault) (old new : List A)
-    (answer : Result (Bor (List Line)) ParseFault) (n : ℕ) → Pushes read old new answer
-    → IfOk read (λ x. length x.1.now < n) → IfOk answer (λ rest. length rest.now < n)
-pushed_within read old new (Err t) n pushes less = tt
-pushed_within (Err e) old new (Ok rest) n pushes less = absurd (cc pushes)
-pushed_within (Ok x) old new (Ok rest) n pushes less = subst (λ (us : List Line). length us < n) (sym pushes.1) less
-
 -- ---- a turn of the loop over components
 
 further_none : (found : Components) (got : Option (Component × List Row)) → further found got ≡ None → got ≡ None

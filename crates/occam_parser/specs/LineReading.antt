@@ -86,6 +86,17 @@ whole_place ts = do
   x ← place_at name.0 name.1
   only x.0 x.1
 
+abbrev pub items_behind : {A : Type 0} → Reads A → List Terminal → Option (List Terminal) → Option (List A)
+items_behind item ts (Some rest) = only [] rest
+items_behind item ts None = do
+  x ← list_of item ts
+  rest ← behind mark.CloseParenthesis x.1
+  only x.0 rest
+
+-- items with commas between them, if any, behind the parenthesis that opens
+unfoldable pub in_parentheses : {A : Type 0} → Reads A → List Terminal → Option (List A)
+in_parentheses item ts = items_behind item ts (behind mark.CloseParenthesis ts)
+
 -- ---- constants and declarations
 
 abbrev pub items_at : Expression → Reads Value
@@ -155,32 +166,15 @@ formal_behind ts None = do
 unfoldable pub formal_at : Reads Formal
 formal_at ts = formal_behind ts (behind mark.Val ts)
 
-abbrev pub formals_behind : List Terminal → Option (List Terminal) → Option (List Formal)
-formals_behind ts (Some rest) = only [] rest
-formals_behind ts None = do
-  x ← list_of formal_at ts
-  rest ← behind mark.CloseParenthesis x.1
-  only x.0 rest
-
 -- behind the word PROC
 unfoldable pub proc_head_at : List Terminal → Option ProcHead
 proc_head_at ts = do
   name ← name_at ts
   opened ← behind mark.OpenParenthesis name.1
-  formals ← formals_behind opened (behind mark.CloseParenthesis opened)
+  formals ← in_parentheses formal_at opened
   Some (record { name = name.0; formals = formals })
 
 -- ---- actions
-
-abbrev pub actuals_behind : List Terminal → Option (List Terminal) → Option (List Expression)
-actuals_behind ts (Some rest) = only [] rest
-actuals_behind ts None = do
-  x ← list_of (expression_at 64) ts
-  rest ← behind mark.CloseParenthesis x.1
-  only x.0 rest
-
-unfoldable pub actuals_at : List Terminal → Option (List Expression)
-actuals_at ts = actuals_behind ts (behind mark.CloseParenthesis ts)
 
 abbrev pub assigned : Place → List Terminal → Option Action
 assigned place ts = do
@@ -206,7 +200,7 @@ placed_action place ts = None
 
 abbrev pub instance_or_other : List ℕ → List Terminal → Option (List Terminal) → Option Action
 instance_or_other name ts (Some rest) = do
-  actuals ← actuals_at rest
+  actuals ← in_parentheses (expression_at 64) rest
   Some (Instance name actuals)
 instance_or_other name ts None = do
   place ← place_at name ts

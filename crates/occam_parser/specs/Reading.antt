@@ -52,12 +52,7 @@ is_mark found wanted = sameb mark_contract.the_type found wanted
 unfoldable pub behind : mark_type.Mark → List Terminal → Option (List Terminal)
 behind wanted [] = None
 behind wanted (Mark found ∷ ts) = if is_mark found wanted then Some ts else None
-behind wanted (Name text ∷ ts) = None
-behind wanted (Integer value ∷ ts) = None
-behind wanted (Character byte ∷ ts) = None
-behind wanted (Text bytes ∷ ts) = None
-behind wanted (Pair operator ∷ ts) = None
-behind wanted (Chain operator ∷ ts) = None
+behind wanted (t ∷ ts) = None
 
 abbrev pub is_chain : ChainOperator → ChainOperator → Bool
 is_chain found wanted = sameb chain_contract.the_type found wanted
@@ -65,12 +60,7 @@ is_chain found wanted = sameb chain_contract.the_type found wanted
 unfoldable pub behind_operator : ChainOperator → List Terminal → Option (List Terminal)
 behind_operator wanted [] = None
 behind_operator wanted (Chain found ∷ ts) = if is_chain found wanted then Some ts else None
-behind_operator wanted (Name text ∷ ts) = None
-behind_operator wanted (Integer value ∷ ts) = None
-behind_operator wanted (Character byte ∷ ts) = None
-behind_operator wanted (Text bytes ∷ ts) = None
-behind_operator wanted (Pair operator ∷ ts) = None
-behind_operator wanted (Mark m ∷ ts) = None
+behind_operator wanted (t ∷ ts) = None
 
 -- an operator that may stand before an operand
 unfoldable pub prefix_at : Reads PrefixOperator

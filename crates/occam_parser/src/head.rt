@@ -9,13 +9,14 @@ ghost use Rattle.occam_parser.specs.Told.{IsAll, IsBeside};
 ghost use Rattle.occam_parser.specs.Lines.{Skips};
 ghost use Rattle.occam_parser.specs.LineReading.{ended, only, name_at, head_at, marked_head, block_at, replicator_at};
 ghost use Rattle.occam_parser.specs.LineReading.{counted_at, place_at, action_at, placed_action, assigned, received};
-ghost use Rattle.occam_parser.specs.LineReading.{sent, actuals_at, whole_at, whole_place, is_guard_sign, has_condition};
+ghost use Rattle.occam_parser.specs.LineReading.{sent, whole_at, whole_place, is_guard_sign, has_condition};
 ghost use Rattle.occam_parser.specs.LineReading.{guard_at, conditioned_at, received_if, input_at};
 
 use crate::declaration::{constant, typed_names};
-use crate::expression::{expect, expression, expressions, in_brackets, up_to};
+use crate::expression::{in_brackets, up_to};
 use crate::fault::{Fault, LineError};
-use crate::symbol::{Mark, Symbol, behind, first};
+use crate::list::{FromTokens, in_parentheses};
+use crate::symbol::{Mark, Read, Symbol, behind, first};
 use crate::tree::{Action, Declaration, Expr, Guard, PairOperator, Place, Replicator};
 use occam_layout::{Line, Token};
 use std::alloc::Global;
@@ -167,18 +168,14 @@ fn counted<'a>(
 ) -> Result<Replicator<'a>, LineError>
     ensures { Gives replicator_of result (counted_at name.now (terminals_of tokens.now)) }
 {
-    let (base, rest) = up_to(Mark::For, expression(alloc, tokens))?;
+    let (base, rest) = up_to(Mark::For, Expr::from_tokens(alloc, tokens))?;
     let (base, count) = beside(base, whole(alloc, rest))?;
     Ok(Replicator { name, base, count })
 }
 
 /// A variable or a channel whose name was read.
 #[tactic(auto, unfolding(crate::specs::LineReading::place_at))]
-fn place<'t, 'a>(
-    alloc: Global,
-    name: &'a [u8],
-    tokens: &'t [Token<'a>],
-) -> Result<(Place<'a>, &'t [Token<'a>]), LineError>
+fn place<'t, 'a>(alloc: Global, name: &'a [u8], tokens: &'t [Token<'a>]) -> Read<'t, 'a, Place<'a>>
     ensures found { Gives (λ x. (place_of x.0, terminals_of x.1.now)) result (place_at name.now (terminals_of tokens.now)) }
     ensures within { IfOk result (λ x. length x.1.now ≤ length tokens.now) }
 {
@@ -198,7 +195,7 @@ fn named_action<'a>(
     if let Some(rest) = behind(Mark::OpenParenthesis, tokens) {
         return Ok(Action::Instance {
             name,
-            actuals: actuals(alloc, rest)?,
+            actuals: in_parentheses(alloc, rest)?,
         });
     }
     let (place, rest) = place(alloc, name, tokens)?;
@@ -258,24 +255,12 @@ fn send<'a>(
     Ok(Action::Output { channel, value })
 }
 
-/// The actual parameters up to the end of the line.
-#[tactic(auto, unfolding(crate::specs::LineReading::actuals_at))]
-fn actuals<'a>(alloc: Global, tokens: &[Token<'a>]) -> Result<Vec<Expr<'a>>, LineError>
-    ensures { Gives (λ v. map expression_of v.items) result (actuals_at (terminals_of tokens.now)) }
-{
-    if let Some(rest) = behind(Mark::CloseParenthesis, tokens) {
-        expect_end(rest)?;
-        return Ok(Vec::new(alloc));
-    }
-    at_end(up_to(Mark::CloseParenthesis, expressions(alloc, tokens)))
-}
-
 /// An expression up to the end of the line.
 #[tactic(auto, unfolding(crate::specs::LineReading::whole_at))]
 pub(crate) fn whole<'a>(alloc: Global, tokens: &[Token<'a>]) -> Result<Expr<'a>, LineError>
     ensures { Gives expression_of result (whole_at (terminals_of tokens.now)) }
 {
-    at_end(expression(alloc, tokens))
+    at_end(Expr::from_tokens(alloc, tokens))
 }
 
 /// A variable up to the end of the line.
@@ -325,7 +310,7 @@ pub(crate) fn guard<'a>(alloc: Global, tokens: &[Token<'a>]) -> Result<Guard<'a>
 fn conditioned<'a>(alloc: Global, tokens: &[Token<'a>]) -> Result<Guard<'a>, LineError>
     ensures { Gives guard_of result (conditioned_at (terminals_of tokens.now)) }
 {
-    let (condition, rest) = up_to(Mark::Guard, expression(alloc, tokens))?;
+    let (condition, rest) = up_to(Mark::Guard, Expr::from_tokens(alloc, tokens))?;
     match behind(Mark::Skip, rest) {
         Some(rest) => skip_guard(condition, rest),
         None => input_guard(alloc, Some(condition), rest),
