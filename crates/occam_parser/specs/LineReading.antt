@@ -176,26 +176,17 @@ proc_head_at ts = do
 
 -- ---- actions
 
-abbrev pub assigned : Place → List Terminal → Option Action
-assigned place ts = do
-  value ← whole_at ts
-  Some (Assign place value)
-
-abbrev pub received : Place → List Terminal → Option Action
-received place ts = do
-  target ← whole_place ts
-  Some (Input place target)
-
-abbrev pub sent : Place → List Terminal → Option Action
-sent place ts = do
-  value ← whole_at ts
-  Some (Output place value)
-
 -- behind the place that it begins with
 abbrev pub placed_action : Place → List Terminal → Option Action
-placed_action place (Mark mark.Assign ∷ ts) = assigned place ts
-placed_action place (Mark mark.Input ∷ ts) = received place ts
-placed_action place (Mark mark.Output ∷ ts) = sent place ts
+placed_action place (Mark mark.Assign ∷ ts) = do
+  value ← whole_at ts
+  Some (Assign place value)
+placed_action place (Mark mark.Input ∷ ts) = do
+  target ← whole_place ts
+  Some (Input place target)
+placed_action place (Mark mark.Output ∷ ts) = do
+  value ← whole_at ts
+  Some (Output place value)
 placed_action place ts = None
 
 abbrev pub instance_or_other : List ℕ → List Terminal → Option (List Terminal) → Option Action

@@ -7,7 +7,7 @@ ghost use Rattle.occam_parser.specs.LineViews.{spelling_of, value_of, constant_o
 ghost use Rattle.occam_parser.specs.LineViews.{proc_head_of};
 ghost use Rattle.occam_parser.specs.Lines.{Formal as FormalTree};
 ghost use Rattle.occam_parser.specs.Reading.{Gives, Finds};
-ghost use Rattle.occam_parser.specs.LineReading.{type_at, shape_at, name_at, value_at, constant_at, table_at, items_at};
+ghost use Rattle.occam_parser.specs.LineReading.{type_at, shape_at, name_at, value_at, constant_at, table_at};
 ghost use Rattle.occam_parser.specs.LineReading.{names_at, value_formal_at, formal_at, proc_head_at};
 ghost use Rattle.occam_parser.specs.Told.{typed_name_at, shaped_name_at, shaped_names_at};
 
@@ -115,7 +115,7 @@ fn constant_value<'t, 'a>(
 }
 
 /// A table of this size: its items, or a string.
-#[tactic(auto, unfolding(crate::specs::LineReading::table_at))]
+#[tactic(auto, unfolding(crate::specs::LineReading::table_at, crate::specs::Reading::up_to))]
 fn table<'t, 'a>(
     alloc: Global,
     size: Expr<'a>,
@@ -125,23 +125,13 @@ fn table<'t, 'a>(
 {
     match first(tokens) {
         Some((Symbol::Text(text), rest)) => Ok((ConstantValue::Text { size, text }, rest)),
-        Some((Symbol::Mark(Mark::OpenBracket), rest)) => table_items(alloc, size, rest),
+        Some((Symbol::Mark(Mark::OpenBracket), rest)) => {
+            let items = up_to(Mark::CloseBracket, list(alloc, rest));
+            let (size, (items, rest)) = beside(size, items)?;
+            Ok((ConstantValue::Table { size, items }, rest))
+        }
         _ => Err(LineError::Fault(Fault::UnexpectedToken)),
     }
-}
-
-/// The items of a table of this size, behind the bracket that opens it.
-#[tactic(auto, unfolding(crate::specs::Reading::up_to))]
-fn table_items<'t, 'a>(
-    alloc: Global,
-    size: Expr<'a>,
-    tokens: &'t [Token<'a>],
-) -> Read<'t, 'a, ConstantValue<'a>>
-    ensures { Gives (λ x. (value_of x.0, terminals_of x.1.now)) result (items_at (expression_of size.entry) (terminals_of tokens.now)) }
-{
-    let items = up_to(Mark::CloseBracket, list(alloc, tokens));
-    let (size, (items, rest)) = beside(size, items)?;
-    Ok((ConstantValue::Table { size, items }, rest))
 }
 
 /// The declaration of variables or channels that a line is.
