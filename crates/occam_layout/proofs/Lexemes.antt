@@ -18,11 +18,7 @@ use Rattle.occam_layout.specs.Reading.{◌>>=◌, is_name_byte, value, word_at, 
 use Rattle.occam_layout.specs.Reading.{one_byte, character_at, string_at, single_at, pair_or, sign_at, token_at}
 use Rattle.occam_layout.specs.Tokens.{is_last, is_lexeme, IsLongest, in_int, bits_of, character_of, body_of, meaning}
 use Rattle.occam_layout.proofs.Scanning.{letter-name}
-use Rattle.occam_layout.proofs.Spelling.{bytes_eq-longer}
-
-and_false : (b : Bool) → (b && false) ≡ false
-and_false true = refl
-and_false false = refl
+use Rattle.occam_layout.proofs.Spelling.{and_false, bytes_eq-longer}
 
 and_true : (b : Bool) → (b && true) ≡ b
 and_true true = refl
@@ -178,10 +174,6 @@ meaning-word : (c : ℕ) (rest : List ℕ) → is_ascii_alphabetic c ≡ true
 unfolding meaning
 meaning-word c rest h = cond-true (is_ascii_alphabetic c) _ _ h
 
-token-word : (c : ℕ) (rest : List ℕ) → is_ascii_alphabetic c ≡ true → token_at (c ∷ rest) ≡ Ok (word_at (c ∷ rest))
-unfolding token_at
-token-word c rest h = cond-true (is_ascii_alphabetic c) _ _ h
-
 abbrev word : List ℕ → Kind
 word text = unwrap_or (keyword_among keywords text) (Name text)
 
@@ -206,10 +198,6 @@ lexeme-decimal c h rest = rw (h.no_letter, h.digit) refl
 meaning-decimal : (c : ℕ) (rest : List ℕ) → IsDecimal c → meaning (c ∷ rest) ≡ in_int (value 10 (c ∷ rest))
 unfolding meaning
 meaning-decimal c rest h = cond-false (is_ascii_alphabetic c) _ _ h.no_letter ∙ cond-true (is_ascii_digit c) _ _ h.digit
-
-token-decimal : (c : ℕ) (rest : List ℕ) → IsDecimal c → token_at (c ∷ rest) ≡ decimal_at (c ∷ rest)
-unfolding token_at
-token-decimal c rest h = cond-false (is_ascii_alphabetic c) _ _ h.no_letter ∙ cond-true (is_ascii_digit c) _ _ h.digit
 
 abbrev decimal_of : ℕ → List ℕ → Result (Kind × ℕ) Fault
 decimal_of n bytes = cond (nat_lt (value 10 (take n bytes)) (2 ^ 31))
@@ -242,11 +230,6 @@ lexeme-hexadecimal c h rest = rw (h.no_letter, h.no_digit, h.hash) refl
 meaning-hexadecimal : (c : ℕ) (rest : List ℕ) → IsHash c → meaning (c ∷ rest) ≡ bits_of rest
 unfolding meaning
 meaning-hexadecimal c rest h = cond-false (is_ascii_alphabetic c) _ _ h.no_letter ∙ cond-false (is_ascii_digit c) _ _
-    h.no_digit ∙ cond-true (eqb c 35) _ _ h.hash
-
-token-hexadecimal : (c : ℕ) (rest : List ℕ) → IsHash c → token_at (c ∷ rest) ≡ hexadecimal_at rest
-unfolding token_at
-token-hexadecimal c rest h = cond-false (is_ascii_alphabetic c) _ _ h.no_letter ∙ cond-false (is_ascii_digit c) _ _
     h.no_digit ∙ cond-true (eqb c 35) _ _ h.hash
 
 pub found-hexadecimal : (c : ℕ) (rest : List ℕ) → IsHash c → Agrees (c ∷ rest) (hexadecimal_at rest)
@@ -370,37 +353,39 @@ body_of-take len rest lt =
 
 -- ---- characters and strings
 
-pub record IsSingle (c : ℕ) : Type 0 where
+-- a byte that begins no name and no number
+pub record IsNoNumber (c : ℕ) : Type 0 where
   pub no_letter : is_ascii_alphabetic c ≡ false
   pub no_digit : is_ascii_digit c ≡ false
   pub no_hash : eqb c 35 ≡ false
+
+pub record IsSingle (c : ℕ) : Type 0 where
+  pub no_number : IsNoNumber c
   pub quote : eqb c 39 ≡ true
 
 pub record IsDouble (c : ℕ) : Type 0 where
-  pub no_letter : is_ascii_alphabetic c ≡ false
-  pub no_digit : is_ascii_digit c ≡ false
-  pub no_hash : eqb c 35 ≡ false
+  pub no_number : IsNoNumber c
   pub no_single : eqb c 39 ≡ false
   pub quote : eqb c 34 ≡ true
 
 lexeme-single : (c : ℕ) → IsSingle c → IsQuoted 39 c
 unfolding is_lexeme
-lexeme-single c h rest = rw (h.no_letter, h.no_digit, h.no_hash, h.quote) refl
+lexeme-single c h rest = rw (h.no_number.no_letter, h.no_number.no_digit, h.no_number.no_hash, h.quote) refl
 
 lexeme-double : (c : ℕ) → IsDouble c → IsQuoted 34 c
 unfolding is_lexeme
-lexeme-double c h rest = rw (h.no_letter, h.no_digit, h.no_hash, h.no_single, h.quote) refl
+lexeme-double c h rest = rw (h.no_number.no_letter, h.no_number.no_digit, h.no_number.no_hash, h.no_single, h.quote) refl
 
 meaning-single : (c : ℕ) (rest : List ℕ) → IsSingle c
     → meaning (c ∷ rest) ≡ option_and_then character_of (decoded 0 (body_of rest))
 unfolding meaning
-meaning-single c rest h = cond-false (is_ascii_alphabetic c) _ _ h.no_letter ∙ cond-false (is_ascii_digit c) _ _
-    h.no_digit ∙ cond-false (eqb c 35) _ _ h.no_hash ∙ cond-true (eqb c 39) _ _ h.quote
+meaning-single c rest h = cond-false (is_ascii_alphabetic c) _ _ h.no_number.no_letter ∙ cond-false (is_ascii_digit c) _ _
+    h.no_number.no_digit ∙ cond-false (eqb c 35) _ _ h.no_number.no_hash ∙ cond-true (eqb c 39) _ _ h.quote
 
 meaning-double : (c : ℕ) (rest : List ℕ) → IsDouble c → meaning (c ∷ rest) ≡ option_map Text (decoded 0 (body_of rest))
 unfolding meaning
-meaning-double c rest h = cond-false (is_ascii_alphabetic c) _ _ h.no_letter ∙ cond-false (is_ascii_digit c) _ _
-    h.no_digit ∙ cond-false (eqb c 35) _ _ h.no_hash ∙ cond-false (eqb c 39) _ _ h.no_single ∙ cond-true (eqb c 34) _
+meaning-double c rest h = cond-false (is_ascii_alphabetic c) _ _ h.no_number.no_letter ∙ cond-false (is_ascii_digit c) _ _
+    h.no_number.no_digit ∙ cond-false (eqb c 35) _ _ h.no_number.no_hash ∙ cond-false (eqb c 39) _ _ h.no_single ∙ cond-true (eqb c 34) _
     _ h.quote
 
 found_quoted : (quote c len : ℕ) (rest : List ℕ) (kind : Kind) → IsQuoted quote c
@@ -417,32 +402,47 @@ refused_quoted : (quote c len : ℕ) (rest : List ℕ) → IsQuoted quote c → 
 refused_quoted quote c len rest quoted e no_meaning =
     refused_by (c ∷ rest) (suc (len + 1)) (longest_quoted quote c len rest quoted e) no_meaning
 
+quoted_means : (quote c len : ℕ) (rest : List ℕ) (d : Option (List ℕ)) (mean : Option (List ℕ) → Option Kind)
+    → ((body : List ℕ) → meaning (c ∷ body) ≡ mean (decoded 0 (body_of body)))
+    → body_len quote false rest ≡ Some len → decoded 0 (take len rest) ≡ d
+    → meaning (c ∷ take (len + 1) rest) ≡ mean d
+quoted_means quote c len rest d mean means e f =
+    means (take (len + 1) rest)
+    ∙ ap (λ (body : List ℕ). mean (decoded 0 body)) (body_of-take len rest (body_len-within quote false rest len e))
+    ∙ ap mean f
+
 single-of : (c len : ℕ) (rest : List ℕ) (d : Option (List ℕ)) → IsSingle c → body_len 39 false rest ≡ Some len
     → decoded 0 (take len rest) ≡ d → meaning (c ∷ take (len + 1) rest) ≡ option_and_then character_of d
-single-of c len rest d h e f = meaning-single c (take (len + 1) rest) h ∙ ap
-    (λ (body : List ℕ). option_and_then character_of (decoded 0 body))
-    (body_of-take len rest (body_len-within 39 false rest len e)) ∙ ap (option_and_then character_of) f
+single-of c len rest d h e f =
+    quoted_means 39 c len rest d (option_and_then character_of) (λ body. meaning-single c body h) e f
 
 double-of : (c len : ℕ) (rest : List ℕ) (d : Option (List ℕ)) → IsDouble c → body_len 34 false rest ≡ Some len
     → decoded 0 (take len rest) ≡ d → meaning (c ∷ take (len + 1) rest) ≡ option_map Text d
-double-of c len rest d h e f = meaning-double c (take (len + 1) rest) h ∙ ap
-    (λ (body : List ℕ). option_map Text (decoded 0 body))
-    (body_of-take len rest (body_len-within 34 false rest len e)) ∙ ap (option_map Text) f
+double-of c len rest d h e f = quoted_means 34 c len rest d (option_map Text) (λ body. meaning-double c body h) e f
 
 abbrev meant_at : Option (List ℕ) → ℕ → Result (List ℕ × ℕ) Fault
 meant_at d len =
     let pair : List ℕ → Result (List ℕ × ℕ) Fault = λ meant. Ok (meant, len) in
     ok_or d faults.Literal >>= pair
 
-abbrev as_character : Result (List ℕ × ℕ) Fault → Result (Kind × ℕ) Fault
-as_character quoted = quoted >>= λ body. one_byte body.0 >>= λ byte. Ok (Character byte, body.1 + 2)
+abbrev as_character : List ℕ × ℕ → Result (Kind × ℕ) Fault
+as_character body = one_byte body.0 >>= λ byte. Ok (Character byte, body.1 + 2)
 
-abbrev as_string : Result (List ℕ × ℕ) Fault → Result (Kind × ℕ) Fault
-as_string quoted = quoted >>= λ body. Ok (Text body.0, body.1 + 2)
+abbrev as_string : List ℕ × ℕ → Result (Kind × ℕ) Fault
+as_string body = Ok (Text body.0, body.1 + 2)
+
+-- by what stands before the second quote, if there is one
+quoted_agrees : (quote c : ℕ) (rest : List ℕ) (read : List ℕ × ℕ → Result (Kind × ℕ) Fault) (o : Option ℕ)
+    → IsQuoted quote c → body_len quote false rest ≡ o
+    → ((len : ℕ) → body_len quote false rest ≡ Some len
+    → Agrees (c ∷ rest) (meant_at (decoded 0 (take len rest)) len >>= read))
+    → Agrees (c ∷ rest) (ok_or o faults.Literal >>= (λ len. meant_at (decoded 0 (take len rest)) len) >>= read)
+quoted_agrees quote c rest read None quoted e agrees = no_quoted quote c rest quoted e
+quoted_agrees quote c rest read (Some len) quoted e agrees = agrees len e
 
 character_with : (c len : ℕ) (rest : List ℕ) (d : Option (List ℕ)) → IsSingle c → body_len 39 false rest ≡ Some len
     → decoded 0 (take len rest) ≡ d
-    → Agrees (c ∷ rest) (as_character (meant_at d len))
+    → Agrees (c ∷ rest) (meant_at d len >>= as_character)
 character_with c len rest None h e f = refused_quoted 39 c len rest (lexeme-single c h) e
     (single-of c len rest None h e f)
 character_with c len rest (Some []) h e f = refused_quoted 39 c len rest (lexeme-single c h) e
@@ -452,50 +452,42 @@ character_with c len rest (Some (byte ∷ [])) h e f =
 character_with c len rest (Some (byte ∷ other ∷ others)) h e f =
     refused_quoted 39 c len rest (lexeme-single c h) e (single-of c len rest (Some (byte ∷ other ∷ others)) h e f)
 
-character_behind : (c : ℕ) (rest : List ℕ) (o : Option ℕ) → IsSingle c → body_len 39 false rest ≡ o
-    → Agrees (c ∷ rest) (as_character (ok_or o faults.Literal >>= λ len. meant_at (decoded 0 (take len rest)) len))
-character_behind c rest None h e = no_quoted 39 c rest (lexeme-single c h) e
-character_behind c rest (Some len) h e = character_with c len rest (decoded 0 (take len rest)) h e refl
-
 found-character : (c : ℕ) (rest : List ℕ) → IsSingle c → Agrees (c ∷ rest) (character_at rest)
 unfolding character_at quoted_at
-found-character c rest h = character_behind c rest (body_len 39 false rest) h refl
+found-character c rest h =
+    quoted_agrees 39 c rest as_character (body_len 39 false rest) (lexeme-single c h) refl
+    (λ len e. character_with c len rest (decoded 0 (take len rest)) h e refl)
 
 string_with : (c len : ℕ) (rest : List ℕ) (d : Option (List ℕ)) → IsDouble c → body_len 34 false rest ≡ Some len
     → decoded 0 (take len rest) ≡ d
-    → Agrees (c ∷ rest) (as_string (meant_at d len))
+    → Agrees (c ∷ rest) (meant_at d len >>= as_string)
 string_with c len rest None h e f = refused_quoted 34 c len rest (lexeme-double c h) e (double-of c len rest None h e f)
 string_with c len rest (Some bytes) h e f = found_quoted 34 c len rest (Text bytes) (lexeme-double c h) e
     (double-of c len rest (Some bytes) h e f)
 
-string_behind : (c : ℕ) (rest : List ℕ) (o : Option ℕ) → IsDouble c → body_len 34 false rest ≡ o
-    → Agrees (c ∷ rest) (as_string (ok_or o faults.Literal >>= λ len. meant_at (decoded 0 (take len rest)) len))
-string_behind c rest None h e = no_quoted 34 c rest (lexeme-double c h) e
-string_behind c rest (Some len) h e = string_with c len rest (decoded 0 (take len rest)) h e refl
-
 found-string : (c : ℕ) (rest : List ℕ) → IsDouble c → Agrees (c ∷ rest) (string_at rest)
 unfolding string_at quoted_at
-found-string c rest h = string_behind c rest (body_len 34 false rest) h refl
+found-string c rest h =
+    quoted_agrees 34 c rest as_string (body_len 34 false rest) (lexeme-double c h) refl
+    (λ len e. string_with c len rest (decoded 0 (take len rest)) h e refl)
 
 -- ---- signs
 
 pub record IsOther (c : ℕ) : Type 0 where
-  pub no_letter : is_ascii_alphabetic c ≡ false
-  pub no_digit : is_ascii_digit c ≡ false
-  pub no_hash : eqb c 35 ≡ false
+  pub no_number : IsNoNumber c
   pub no_single : eqb c 39 ≡ false
   pub no_double : eqb c 34 ≡ false
 
 lexeme-other : (c : ℕ) (rest : List ℕ) → IsOther c → is_lexeme (c ∷ rest) ≡ is_sign (c ∷ rest)
 unfolding is_lexeme
-lexeme-other c rest h = cond-false (is_ascii_alphabetic c) _ _ h.no_letter ∙ cond-false (is_ascii_digit c) _ _
-    h.no_digit ∙ cond-false (eqb c 35) _ _ h.no_hash ∙ cond-false (eqb c 39) _ _ h.no_single ∙ cond-false (eqb c 34)
+lexeme-other c rest h = cond-false (is_ascii_alphabetic c) _ _ h.no_number.no_letter ∙ cond-false (is_ascii_digit c) _ _
+    h.no_number.no_digit ∙ cond-false (eqb c 35) _ _ h.no_number.no_hash ∙ cond-false (eqb c 39) _ _ h.no_single ∙ cond-false (eqb c 34)
     _ _ h.no_double
 
 meaning-other : (c : ℕ) (rest : List ℕ) → IsOther c → meaning (c ∷ rest) ≡ Some (Sign (c ∷ rest))
 unfolding meaning
-meaning-other c rest h = cond-false (is_ascii_alphabetic c) _ _ h.no_letter ∙ cond-false (is_ascii_digit c) _ _
-    h.no_digit ∙ cond-false (eqb c 35) _ _ h.no_hash ∙ cond-false (eqb c 39) _ _ h.no_single ∙ cond-false (eqb c 34)
+meaning-other c rest h = cond-false (is_ascii_alphabetic c) _ _ h.no_number.no_letter ∙ cond-false (is_ascii_digit c) _ _
+    h.no_number.no_digit ∙ cond-false (eqb c 35) _ _ h.no_number.no_hash ∙ cond-false (eqb c 39) _ _ h.no_single ∙ cond-false (eqb c 34)
     _ _ h.no_double
 
 none_long : (text : List ℕ) (words : List (List ℕ)) → list_all (λ word. nat_lt (length word) 3) words ≡ true
@@ -603,28 +595,9 @@ token-found (c ∷ rest) =
     (λ h. found-decimal c rest (record { no_letter = no_letter; digit = h })) (λ no_digit.
     cond_both (eqb c 35) (hexadecimal_at rest) _ (Agrees (c ∷ rest))
     (λ h. found-hexadecimal c rest (record { no_letter = no_letter; no_digit = no_digit; hash = h })) (λ no_hash.
+    let no_number : IsNoNumber c = record { no_letter = no_letter; no_digit = no_digit; no_hash = no_hash } in
     cond_both (eqb c 39) (character_at rest) _ (Agrees (c ∷ rest))
-    (λ h. found-character c rest (record {
-      no_letter = no_letter;
-      no_digit = no_digit;
-      no_hash = no_hash;
-      quote =
-          h;
-    })) (λ no_single.
+    (λ h. found-character c rest (record { no_number = no_number; quote = h })) (λ no_single.
     cond_both (eqb c 34) (string_at rest) (sign_at (c ∷ rest)) (Agrees (c ∷ rest))
-    (λ h. found-string c rest (record {
-      no_letter = no_letter;
-      no_digit = no_digit;
-      no_hash =
-          no_hash;
-      no_single = no_single;
-      quote = h;
-    })) (λ no_double.
-    found-sign c rest (record {
-      no_letter = no_letter;
-      no_digit = no_digit;
-      no_hash = no_hash;
-      no_single =
-          no_single;
-      no_double = no_double;
-    }))))))
+    (λ h. found-string c rest (record { no_number = no_number; no_single = no_single; quote = h })) (λ no_double.
+    found-sign c rest (record { no_number = no_number; no_single = no_single; no_double = no_double }))))))

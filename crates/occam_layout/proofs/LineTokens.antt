@@ -9,18 +9,8 @@ use Rattle.occam_layout.specs.Reading.{◌>>=◌, token_at, Lexeme, begins_comme
 use Rattle.occam_layout.specs.Tokens.{is_lexeme, IsLongest, meaning, Tokens, Ends, Comment, Space, Token}
 use Rattle.occam_layout.proofs.Scanning.{HasLen, token-len, tokens_at-space, BeginsWithNoSpace, is_blank-cons}
 use Rattle.occam_layout.proofs.Scanning.{tokens_at-blank, and_others, tokens_at-token}
+use Rattle.occam_layout.proofs.Loop.{bind_ok, ok_is}
 use Rattle.occam_layout.proofs.Lexemes.{Finds, Agrees, unique, token-found}
-
-bind_ok : {A B : Type 0} (r : Result A Fault) (f : A → Result B Fault) (y : B) → (r >>= f) ≡ Ok y
-    → (x : A) × (r ≡ Ok x) × (f x ≡ Ok y)
-bind_ok (Ok x) f y e = (x, refl, e)
-bind_ok (Err d) f y e = absurd (cc e)
-
-abbrev done : List Lexeme → Result (List Lexeme) Fault
-done tokens = Ok tokens
-
-ok_is : (x y : List Lexeme) → done x ≡ done y → x ≡ y
-ok_is x y e = cc
 
 -- ---- what is read is there
 
@@ -49,7 +39,7 @@ token_read k offset body kind n tokens others_read short counts found some e =
     let two = subst (λ (m : ℕ). P (take n body ++ drop n body) m) len one in
     let three = subst (λ (bytes : List ℕ). P bytes n) whole two in
     subst (λ (all : List Lexeme). Tokens offset body all)
-    (ok_is (record { kind = kind; start = offset; end = offset + n } ∷ b.0) tokens b.2) three
+    (ok_is Fault (record { kind = kind; start = offset; end = offset + n } ∷ b.0) tokens b.2) three
 
 body_read : (k offset c : ℕ) (rest : List ℕ) (first : Result (Kind × ℕ) Fault) (tokens : List Lexeme) → Read k
     → length (c ∷ rest) ≤ suc k → begins_comment (c ∷ rest) ≡ false → Agrees (c ∷ rest) first → HasLen first

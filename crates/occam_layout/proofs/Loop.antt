@@ -34,3 +34,15 @@ pub Fails-bind : {A B : Type 0} (e : ScanError) (read : Result A Fault) (f : A �
     → Fails e (read >>= f)
 Fails-bind errors.Memory read f h = tt
 Fails-bind (errors.Fault fault) read f h = rw h refl
+
+-- what was read first where all was read, and what was read then
+pub bind_ok : {A B E : Type 0} (r : Result A E) (f : A → Result B E) (y : B) → (r >>= f) ≡ Ok y
+    → (x : A) × (r ≡ Ok x) × (f x ≡ Ok y)
+bind_ok (Ok x) f y e = (x, refl, e)
+bind_ok (Err d) f y e = absurd (cc e)
+
+abbrev done : {A : Type 0} → (E : Type 0) → A → Result A E
+done E x = Ok x
+
+pub ok_is : {A : Type 0} (E : Type 0) (x y : A) → done E x ≡ done E y → x ≡ y
+ok_is E x y e = cc

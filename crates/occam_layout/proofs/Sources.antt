@@ -17,6 +17,7 @@ use Rattle.occam_layout.specs.Reading.{joined, is_in_line, lines_of, told_at, de
 use Rattle.occam_layout.specs.Reading.{Answers}
 use Rattle.occam_layout.specs.Tokens.{Tokens, indent_of, behind_indent, Rows, NoLine, Blank, Counts, IsSource}
 use Rattle.occam_layout.specs.Tokens.{with_feeds, AreLines}
+use Rattle.occam_layout.proofs.Loop.{bind_ok, ok_is}
 use Rattle.occam_layout.proofs.Rows.{row_at-behind, row_behind-blank, row_behind-level, rows_at-first, read-rows, same}
 use Rattle.occam_layout.proofs.LineTokens.{tokens_found, tokens_only}
 
@@ -92,17 +93,6 @@ row_found number offset deepest line = all_is (list_all is_character line) numbe
 
 -- ---- one line after the other
 
-bind_ok : {A B : Type 0} (r : Result A LayoutFault) (f : A → Result B LayoutFault) (y : B) → (r >>= f) ≡ Ok y
-    → (x : A) × (r ≡ Ok x) × (f x ≡ Ok y)
-bind_ok (Ok x) f y e = (x, refl, e)
-bind_ok (Err d) f y e = absurd (cc e)
-
-abbrev done : List Row → Result (List Row) LayoutFault
-done rows = Ok rows
-
-ok_is : (x y : List Row) → done x ≡ done y → x ≡ y
-ok_is x y e = cc
-
 abbrev rows_behind : (number offset deepest : ℕ) (line : List ℕ) (lines : List (List ℕ)) (found : Option Row)
     → Result (List Row) LayoutFault
 rows_behind number offset deepest line lines found =
@@ -126,7 +116,7 @@ row_then number offset deepest line lines (Some row) rows others few is e =
     let behind = others (number + 1) (offset + length line + 1) (row.level + 1) b.0 b.1 in
     let one = Counts number offset deepest row.level line lines row.tokens b.0 few is.0 is.1 is.2 is.3 is.4 behind in
     let two = subst (λ (r : Row). Rows number offset deepest (line ∷ lines) (r ∷ b.0)) (sym is.5) one in
-    subst (λ (all : List Row). Rows number offset deepest (line ∷ lines) all) (ok_is (row ∷ b.0) rows b.2) two
+    subst (λ (all : List Row). Rows number offset deepest (line ∷ lines) all) (ok_is LayoutFault (row ∷ b.0) rows b.2) two
 
 told_then : (number offset deepest : ℕ) (line : List ℕ) (lines : List (List ℕ)) (read : Result (Option Row) Fault)
     (rows : List Row) → Reads lines → number ≤ MAX_LINES → IsRowIfOk number offset deepest line read
@@ -149,7 +139,7 @@ few_then false number offset deepest line lines rows others h e =
 rows_found : (lines : List (List ℕ)) → Reads lines
 unfolding rows_at
 rows_found [] number offset deepest rows e = subst (λ (all : List Row). Rows number offset deepest [] all)
-    (ok_is [] rows e) (NoLine number offset deepest)
+    (ok_is LayoutFault [] rows e) (NoLine number offset deepest)
 rows_found (line ∷ lines) number offset deepest rows e =
     few_then (nat_lt MAX_LINES number) number offset deepest line lines rows (rows_found lines) refl e
 
@@ -209,7 +199,7 @@ source_only source rows is = read-rows source is.small ∙ rows_only 1 0 0 (line
 
 pub one_reading : (source : List ℕ) (rows others : List Row) → IsSource source rows → IsSource source others
     → rows ≡ others
-one_reading source rows others a b = ok_is rows others (sym (source_only source rows a) ∙ source_only source others b)
+one_reading source rows others a b = ok_is LayoutFault rows others (sym (source_only source rows a) ∙ source_only source others b)
 
 -- ---- the lines of a text
 

@@ -4,7 +4,7 @@ ghost use Rattle.std.specs.Prelude.{◌≡◌};
 ghost use Rattle.occam_layout.specs.declared.fault.ScanError.TheVariants.{Memory};
 ghost use Rattle.occam_layout.specs.Fault.{number_of, refused, scan_refused};
 
-use std::alloc::{AllocError, AllocFailed};
+use std::alloc::AllocFailed;
 
 /// A line is indented by an odd number of spaces.
 pub const ODD_INDENTATION: u8 = 1;
@@ -94,14 +94,6 @@ impl ScanError {
             ScanError::Memory => OUT_OF_MEMORY,
             ScanError::Fault(fault) => fault.at(line),
         }
-    }
-}
-
-impl From<AllocError> for ScanError {
-    ghost from_gives = { λ _ e. e ≡ Memory };
-
-    fn from(_e: AllocError) -> ScanError {
-        ScanError::Memory
     }
 }
 

@@ -74,6 +74,7 @@ fn tokens_of(alloc: Global, offset: u32, line: &[u8]) -> Result<Vec<Token<'_>>, 
 }
 
 /// A line with its number and the offset where it begins, if it counts. It may be indented by `deepest` levels at most.
+#[tactic(auto, unfolding(crate::specs::Reading::row_at, crate::specs::Reading::row_behind))]
 fn row_of(
     alloc: Global,
     number: u32,

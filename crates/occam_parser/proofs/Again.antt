@@ -1,5 +1,5 @@
 -- What is written is read again.
-use Rattle.std.proofs.Common.{◌≡◌, ℕ, zero, suc, pred, ◌<◌, ◌≤◌, Bool, true, false, cond, List, [], ◌∷◌, ◌++◌, length}
+use Rattle.std.proofs.Common.{◌≡◌, ℕ, pred, ◌≤◌, Bool, true, false, cond, List, [], ◌∷◌, ◌++◌, length}
 use Rattle.std.proofs.Common.{Option, Some, None, refl, sym, ap, subst, arith, append_assoc, length-append, ◌∙◌}
 use Rattle.occam_parser.specs.declared.symbol.Mark as mark_type
 use Rattle.occam_parser.specs.declared.symbol.Mark.TheVariants as mark
@@ -9,14 +9,14 @@ use Rattle.occam_parser.specs.declared.tree.PrefixOperator.{PrefixOperator}
 use Rattle.occam_parser.specs.declared.tree.PrefixOperator.TheVariants as prefix
 use Rattle.occam_parser.specs.declared.tree.PairOperator.{PairOperator}
 use Rattle.occam_parser.specs.declared.tree.ChainOperator.{ChainOperator}
-use Rattle.occam_parser.specs.Terminals.{Terminal, Name, Integer, Character, Text, Pair, Chain, Mark}
+use Rattle.occam_parser.specs.Terminals.{Terminal, Name, Integer, Character, Pair, Chain, Mark}
 use Rattle.occam_parser.specs.Expressions.{Expression, Alone, Prefixed, Paired, Chained, Terms, First, Then, Term}
 use Rattle.occam_parser.specs.Expressions.{Number, Byte, Truth, MostPos, MostNeg, Named, Element, Bracketed, Converted}
 use Rattle.occam_parser.specs.Expressions.{prefix_sign, type_word, truth_word, written, written_terms, written_term}
 use Rattle.occam_parser.specs.Expressions.{IsChain, Fits, FitTerms, FitsTerm}
 use Rattle.occam_parser.specs.Reading.{Reads, ◌>>=◌, behind, behind_operator, prefix_at, begins_with_operator, up_to}
-use Rattle.occam_parser.specs.Reading.{named_behind, named, converted, marked, term_with, chain_step, chain_from, chain}
-use Rattle.occam_parser.specs.Reading.{after_first, one_behind, one_operator, alone, expression_with, nothing, term_at}
+use Rattle.occam_parser.specs.Reading.{named_behind, named, converted, marked, term_with, chain_from, chain}
+use Rattle.occam_parser.specs.Reading.{after_first, one_behind, one_operator, alone, expression_with, term_at}
 use Rattle.occam_parser.specs.Reading.{inner_at, operand_within, expression_at}
 use Rattle.occam_parser.specs.Laws.{Ends}
 use Rattle.occam_parser.proofs.Marks.{behind_again, behind_operator_again}
@@ -119,19 +119,24 @@ prefix_again prefix.Negate rest = refl
 prefix_again prefix.BitNot rest = refl
 prefix_again prefix.Not rest = refl
 
+-- no term begins with a prefix, or with a parenthesis that closes
+pub begins_no_other : (t : Term) (rest : List Terminal)
+    → (prefix_at (written_term t ++ rest) ≡ None) × (behind mark.CloseParenthesis (written_term t ++ rest) ≡ None)
+unfolding prefix_at behind
+begins_no_other (Number value) rest = (refl, refl)
+begins_no_other (Byte byte) rest = (refl, refl)
+begins_no_other (Truth true) rest = (refl, refl)
+begins_no_other (Truth false) rest = (refl, refl)
+begins_no_other MostPos rest = (refl, refl)
+begins_no_other MostNeg rest = (refl, refl)
+begins_no_other (Named name) rest = (refl, refl)
+begins_no_other (Element name e) rest = (refl, refl)
+begins_no_other (Bracketed e) rest = (refl, refl)
+begins_no_other (Converted value_type.Int t) rest = (refl, refl)
+begins_no_other (Converted value_type.Byte t) rest = (refl, refl)
+
 no_prefix : (t : Term) (rest : List Terminal) → prefix_at (written_term t ++ rest) ≡ None
-unfolding prefix_at
-no_prefix (Number value) rest = refl
-no_prefix (Byte byte) rest = refl
-no_prefix (Truth true) rest = refl
-no_prefix (Truth false) rest = refl
-no_prefix MostPos rest = refl
-no_prefix MostNeg rest = refl
-no_prefix (Named name) rest = refl
-no_prefix (Element name e) rest = refl
-no_prefix (Bracketed e) rest = refl
-no_prefix (Converted value_type.Int t) rest = refl
-no_prefix (Converted value_type.Byte t) rest = refl
+no_prefix t rest = (begins_no_other t rest).0
 
 after_alone : (p : Reads Term) (first : Term) (rest : List Terminal) → begins_with_operator rest ≡ false
     → after_first p first rest ≡ Some (Alone first, rest)

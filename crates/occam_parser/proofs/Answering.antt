@@ -1,5 +1,5 @@
 -- How the program answers.
-use Rattle.std.proofs.Common.{◌≡◌, ◌⊎◌, inl, inr, Option, Some, None, Result, Ok, Err, sym, ap, subst, ◌∙◌, refl}
+use Rattle.std.proofs.Common.{◌≡◌, ◌⊎◌, inl, inr, Option, Some, None, Result, Ok, Err, ap, subst, ◌∙◌}
 use Rattle.occam_parser.specs.declared.fault.LineError.{LineError}
 use Rattle.occam_parser.specs.declared.fault.LineError.TheVariants as errors
 use Rattle.occam_parser.specs.declared.fault.ParseFault.{ParseFault}

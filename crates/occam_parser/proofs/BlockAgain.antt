@@ -1,7 +1,7 @@
 -- What is written on lines is read again.
 use Rattle.std.proofs.Common.{◌≡◌, ℕ, zero, suc, ◌+◌, ◌<◌, ◌≤◌, Bool, true, false, cond, List, [], ◌∷◌, ◌++◌, length}
-use Rattle.std.proofs.Common.{map, nat_lt, ◌==◌, Option, Some, None, refl, sym, ap, subst, arith, append_assoc}
-use Rattle.std.proofs.Common.{append-nil, length-append, ◌∙◌}
+use Rattle.std.proofs.Common.{◌==◌, Option, Some, None, refl, sym, ap, subst, arith, append_assoc}
+use Rattle.std.proofs.Common.{length-append, ◌∙◌}
 use Rattle.std.proofs.lemmas.Bool.{eq-eqb}
 use Rattle.std.proofs.lemmas.Bool.Decides.{nat_tests}
 use Rattle.occam_parser.specs.declared.head.BlockKind.{BlockKind}
@@ -9,18 +9,20 @@ use Rattle.occam_parser.specs.declared.head.BlockKind.TheVariants as block
 use Rattle.occam_parser.specs.Expressions.{Expression, written}
 use Rattle.occam_parser.specs.Reading.{◌>>=◌}
 use Rattle.occam_parser.specs.Lines.{Declaration, Replicator, Action, Guard, Head, Declares, Acts, Opens}
-use Rattle.occam_parser.specs.Lines.{written_declaration, written_action, written_replicator, block_word, written_head}
-use Rattle.occam_parser.specs.Lines.{written_guard, IsWhole, FitsDeclaration, FitsAction, FitsReplicator, FitsHead}
+use Rattle.occam_parser.specs.Lines.{written_declaration, written_action, written_replicator, block_word}
+use Rattle.occam_parser.specs.Lines.{written_guard, IsWhole, FitsDeclaration, FitsAction, FitsReplicator}
 use Rattle.occam_parser.specs.Lines.{FitsGuard}
 use Rattle.occam_parser.specs.LineReading.{head_at, whole_at, guard_at}
 use Rattle.occam_parser.specs.Blocks.{Row, Process, Declared, Does, Construct, Act, Block, Components, NoComponent}
 use Rattle.occam_parser.specs.Blocks.{Further, Component, Plain, Chosen, Guarded, declaration_line, lines_of}
-use Rattle.occam_parser.specs.Blocks.{lines_of_construct, lines_of_components, lines_of_component, IsOne, HasRightCount}
+use Rattle.occam_parser.specs.Blocks.{lines_of_construct, lines_of_components, lines_of_component, HasRightCount}
 use Rattle.occam_parser.specs.Blocks.{IsOf, FitsProcess, FitsConstruct, FitComponents, FitsComponent}
-use Rattle.occam_parser.specs.BlockReading.{ReadsLines, is_at, first_row, begins_at, Beginning, begun, beginning_from}
-use Rattle.occam_parser.specs.BlockReading.{with_declarations, count_of, wants, components_of, is_some, block_with}
-use Rattle.occam_parser.specs.BlockReading.{process_behind, process_with, choice_with, branch_with, plain}
-use Rattle.occam_parser.specs.BlockReading.{component_with, process_at, component_at}
+use Rattle.occam_parser.specs.BlockReading.{ReadsLines, begins_at, Beginning, begun, beginning_from}
+use Rattle.occam_parser.specs.BlockReading.{with_declarations, count_of, components_of, is_some, block_with}
+use Rattle.occam_parser.specs.BlockReading.{process_behind, process_with, head_row, headed_with, plain}
+use Rattle.occam_parser.specs.BlockReading.{process_at, component_at}
+use Rattle.occam_parser.specs.Terminals.{Terminal}
+use Rattle.occam_parser.proofs.Levelled.{IsHeaded, choice_is, branch_is}
 use Rattle.occam_parser.proofs.LineAgain.{head_again, whole_line_again, guard_again}
 use Rattle.occam_parser.proofs.Turns.{ContinuesBlock, block_begins, block_goes_on, block_ends, at_again}
 use Rattle.occam_parser.proofs.Turns.{first_row_again, wants_more, wants_no_more}
@@ -37,9 +39,6 @@ differs a b h = grind (arith, nat_tests)
 
 pub stops_at_row : (level : ℕ) (r : Row) (rest : List Row) → r.level ≡ level → Stops level (r ∷ rest)
 stops_at_row level r rest e k h = differs r.level k (omega arith)
-
-pub stops_at_end : (level : ℕ) → Stops level []
-stops_at_end level k h = refl
 
 -- ---- declarations
 
@@ -132,54 +131,59 @@ plain_of m level block.Par p rows rest is e = ap plain e
 plain_of m level block.If p rows rest is e = absurd is
 plain_of m level block.Alt p rows rest is e = absurd is
 
-choice_again : (m level line : ℕ) (e : Expression) (p : Process) (rows rest : List Row) → level ≤ 64 → IsWhole e
-    → process_at m (level + 1) rows ≡ Some (p, rest)
-    → component_at (suc m) level block.If (record { number = line; level = level; terminals = written e } ∷ rows)
-    ≡ Some (Chosen line e p, rest)
-unfolding component_at choice_with
-choice_again m level line e p rows rest low fits h =
-    let r : Row = record { number = line; level = level; terminals = written e } in
-    ap (λ (o : Option (Row × List Row)). o >>= λ r. whole_at r.0.terminals >>= λ condition. process_at m (level + 1)
-    r.1 >>= λ p. Some (Chosen r.0.number condition p.0, p.1)) (first_row_again level r rows refl low)
-    ∙ ap (λ (o : Option Expression). o >>= λ condition. process_at m (level + 1) rows >>= λ p. Some
-    (Chosen line condition p.0, p.1)) (whole_line_again e fits)
-    ∙ ap (λ (o : Option (Process × List Row)). o >>= λ p. Some (Chosen line e p.0, p.1)) h
-
-branch_again : (m level line : ℕ) (g : Guard) (p : Process) (rows rest : List Row) → level ≤ 64 → FitsGuard g
-    → process_at m (level + 1) rows ≡ Some (p, rest)
-    → component_at (suc m) level block.Alt (record { number = line; level = level; terminals = written_guard g } ∷
-    rows) ≡ Some (Guarded line g p, rest)
-unfolding component_at branch_with
-branch_again m level line g p rows rest low fits h =
-    let r : Row = record { number = line; level = level; terminals = written_guard g } in
-    ap (λ (o : Option (Row × List Row)). o >>= λ r. guard_at r.0.terminals >>= λ guard. process_at m (level + 1) r.1
-    >>= λ p. Some (Guarded r.0.number guard p.0, p.1)) (first_row_again level r rows refl low)
-    ∙ ap (λ (o : Option Guard). o >>= λ guard. process_at m (level + 1) rows >>= λ p. Some
-    (Guarded line guard p.0, p.1)) (guard_again g fits)
-    ∙ ap (λ (o : Option (Process × List Row)). o >>= λ p. Some (Guarded line g p.0, p.1)) h
-
-chosen_of : (kind : BlockKind) (m level line : ℕ) (e : Expression) (p : Process) (rows rest : List Row)
-    → IsOf kind (Chosen line e p) → level ≤ 64 → IsWhole e → process_at m (level + 1) rows ≡ Some (p, rest)
-    → component_at (suc m) level kind (record { number = line; level = level; terminals = written e } ∷ rows) ≡ Some
-    (Chosen line e p, rest)
-chosen_of block.Seq m level line e p rows rest is low fits h = absurd is
-chosen_of block.Par m level line e p rows rest is low fits h = absurd is
-chosen_of block.If m level line e p rows rest is low fits h = choice_again m level line e p rows rest low fits h
-chosen_of block.Alt m level line e p rows rest is low fits h = absurd is
-
-guarded_of : (kind : BlockKind) (m level line : ℕ) (g : Guard) (p : Process) (rows rest : List Row)
-    → IsOf kind (Guarded line g p) → level ≤ 64 → FitsGuard g → process_at m (level + 1) rows ≡ Some (p, rest)
-    → component_at (suc m) level kind (record { number = line; level = level; terminals = written_guard g } ∷ rows)
-    ≡ Some (Guarded line g p, rest)
-guarded_of block.Seq m level line g p rows rest is low fits h = absurd is
-guarded_of block.Par m level line g p rows rest is low fits h = absurd is
-guarded_of block.If m level line g p rows rest is low fits h = absurd is
-guarded_of block.Alt m level line g p rows rest is low fits h = branch_again m level line g p rows rest low fits h
-
 -- the levels that are left
 left : (n level : ℕ) → n + level ≡ 65 → level ≤ 64 → (m : ℕ) × (n ≡ suc m) × (m + (level + 1) ≡ 65)
 left zero level e low = absurd (omega arith)
 left (suc m) level e low = (m, refl, omega arith)
+
+-- what stands below a head is read, one level deeper
+abbrev pub ReadsBelow : Process → ℕ → ℕ → List Row → Type 0
+ReadsBelow p m level rest =
+    (n : ℕ) × (m ≡ suc n) × (process_at n (level + 1) (lines_of p (level + 1) ++ rest) ≡ Some (p, rest))
+
+below_again : (p : Process) (m level : ℕ) (rest : List Row) → m + level ≡ 65 → level ≤ 64
+    → FitsProcess p (level + 1)
+    → ((k : ℕ) → k + (level + 1 + 1) ≡ 65
+    → (beginning_from (level + 1) [] (lines_of p (level + 1) ++ rest) >>= λ b. process_behind
+    (component_at k (level + 1 + 1)) (level + 1) b.0 b.1 b.0.start) ≡ Some (p, rest))
+    → ReadsBelow p m level rest
+below_again p m level rest e low fits reads =
+    let rows = lines_of p (level + 1) ++ rest in
+    let n = left m level e low in
+    let k = left n.0 (level + 1) n.2 (fits_low p (level + 1) fits) in
+    let one = process_one k.0 (level + 1) p rows rest (reads k.0 k.2) in
+    (n.0, n.1, ap (λ j. process_at j (level + 1) rows) k.1 ∙ one)
+
+-- the kind of a block with a component that has a head
+kind_of_headed : (kind : BlockKind) (line : ℕ) (p : Process)
+    → ((e : Expression) → IsOf kind (Chosen line e p) → kind ≡ block.If)
+    × ((g : Guard) → IsOf kind (Guarded line g p) → kind ≡ block.Alt)
+kind_of_headed block.Seq line p = ((λ e is. absurd is), (λ g is. absurd is))
+kind_of_headed block.Par line p = ((λ e is. absurd is), (λ g is. absurd is))
+kind_of_headed block.If line p = ((λ e is. refl), (λ g is. absurd is))
+kind_of_headed block.Alt line p = ((λ e is. absurd is), (λ g is. refl))
+
+headed_again : {A : Type 0} (says : List Terminal → Option A) (write : A → List Terminal)
+    (make : ℕ → A → Process → Component) (k kind : BlockKind) (m level line : ℕ) (head : A) (p : Process)
+    (rest : List Row) → IsHeaded says make k → kind ≡ k → level ≤ 64 → says (write head) ≡ Some head
+    → ReadsBelow p m level rest
+    → component_at m level kind
+    (record { number = line; level = level; terminals = write head } ∷ (lines_of p (level + 1) ++ rest))
+    ≡ Some (make line head p, rest)
+unfolding headed_with head_row
+headed_again {A} says write make k kind m level line head p rest is same low said below =
+    let r : Row = record { number = line; level = level; terminals = write head } in
+    let rows = lines_of p (level + 1) ++ rest in
+    let made : Option ((ℕ × A) × List Row) → Option (Component × List Row) =
+    λ o. o >>= λ h. process_at below.0 (level + 1) h.1 >>= λ q. Some (make h.0.0 h.0.1 q.0, q.1)
+    in
+    ap (λ (j : BlockKind). component_at m level j (r ∷ rows)) same
+    ∙ ap (λ n. component_at n level k (r ∷ rows)) below.1
+    ∙ ap (λ (item : ReadsLines Component). item (r ∷ rows)) (is below.0 level)
+    ∙ ap (λ (o : Option (Row × List Row)). made (o >>= λ q. says q.0.terminals >>= λ h. Some
+    ((q.0.number, h), q.1))) (first_row_again level r rows refl low)
+    ∙ ap (λ (o : Option A). made (o >>= λ h. Some ((line, h), rows))) said
+    ∙ ap (λ (o : Option (Process × List Row)). o >>= λ q. Some (make line head q.0, q.1)) below.2
 
 acts_again : (component : BlockKind → ReadsLines Component) (level : ℕ) (found : List Declaration) (line : ℕ)
     (a : Action) (rest : List Row) → level ≤ 64 → FitsAction a
@@ -282,23 +286,15 @@ mutual
       ∙ plain_of n.0 level kind p (lines_of p level ++ rest) rest is
       (process_one n.0 level p (lines_of p level ++ rest) rest (process_reads p n.0 level [] rest n.2 fits stops))
   component_reads (Chosen line x p) kind m level rest e is fits stops =
-      let n = left m level e fits.0 in
-      let k = left n.0 (level + 1) n.2 (fits_low p (level + 1) fits.2) in
-      let inner = ap (λ j. process_at j (level + 1) (lines_of p (level + 1) ++ rest)) k.1 ∙ process_one k.0
-      (level + 1) p (lines_of p (level + 1) ++ rest) rest
-      (process_reads p k.0 (level + 1) [] rest k.2 fits.2 (stops_deeper level rest stops)) in
-      ap (λ j. component_at j level kind (record { number = line; level = level; terminals = written x } ∷
-      (lines_of p (level + 1) ++ rest))) n.1
-      ∙ chosen_of kind n.0 level line x p (lines_of p (level + 1) ++ rest) rest is fits.0 fits.1 inner
+      headed_again whole_at written Chosen block.If kind m level line x p rest choice_is
+      ((kind_of_headed kind line p).0 x is) fits.0 (whole_line_again x fits.1)
+      (below_again p m level rest e fits.0 fits.2
+      (λ k l. process_reads p k (level + 1) [] rest l fits.2 (stops_deeper level rest stops)))
   component_reads (Guarded line g p) kind m level rest e is fits stops =
-      let n = left m level e fits.0 in
-      let k = left n.0 (level + 1) n.2 (fits_low p (level + 1) fits.2) in
-      let inner = ap (λ j. process_at j (level + 1) (lines_of p (level + 1) ++ rest)) k.1 ∙ process_one k.0
-      (level + 1) p (lines_of p (level + 1) ++ rest) rest
-      (process_reads p k.0 (level + 1) [] rest k.2 fits.2 (stops_deeper level rest stops)) in
-      ap (λ j. component_at j level kind (record { number = line; level = level; terminals = written_guard g } ∷
-      (lines_of p (level + 1) ++ rest))) n.1
-      ∙ guarded_of kind n.0 level line g p (lines_of p (level + 1) ++ rest) rest is fits.0 fits.1 inner
+      headed_again guard_at written_guard Guarded block.Alt kind m level line g p rest branch_is
+      ((kind_of_headed kind line p).1 g is) fits.0 (guard_again g fits.1)
+      (below_again p m level rest e fits.0 fits.2
+      (λ k l. process_reads p k (level + 1) [] rest l fits.2 (stops_deeper level rest stops)))
 
 pub process_again : (p : Process) (n level : ℕ) (rest : List Row) → n + level ≡ 65 → FitsProcess p level
     → Stops level rest → process_at n level (lines_of p level ++ rest) ≡ Some (p, rest)

@@ -1,26 +1,26 @@
 -- What is read of lines is written so, and fits.
-use Rattle.std.proofs.Common.{◌≡◌, ℕ, zero, suc, ◌+◌, ◌<◌, ◌≤◌, Bool, true, false, cond, List, [], ◌∷◌, ◌++◌, length}
-use Rattle.std.proofs.Common.{map, nat_lt, ◌==◌, Option, Some, None, refl, sym, ap, subst, arith, append_assoc}
+use Rattle.std.proofs.Common.{◌≡◌, ℕ, zero, suc, ◌+◌, ◌≤◌, Bool, true, false, cond, List, [], ◌∷◌, ◌++◌, length}
+use Rattle.std.proofs.Common.{Option, Some, None, refl, sym, ap, subst, arith, append_assoc}
 use Rattle.std.proofs.Common.{append-nil, ◌∙◌}
 use Rattle.std.specs.List.{AllByRecursion}
 use Rattle.occam_parser.specs.declared.head.BlockKind.{BlockKind}
 use Rattle.occam_parser.specs.declared.head.BlockKind.TheVariants as block
 use Rattle.occam_parser.specs.Terminals.{Terminal}
-use Rattle.occam_parser.specs.Expressions.{Expression, written}
+use Rattle.occam_parser.specs.Expressions.{written}
 use Rattle.occam_parser.specs.Reading.{◌>>=◌}
-use Rattle.occam_parser.specs.Lines.{Declaration, Replicator, Action, Guard, Head, Declares, Acts, Opens}
-use Rattle.occam_parser.specs.Lines.{written_declaration, written_action, written_replicator, block_word, written_head}
-use Rattle.occam_parser.specs.Lines.{written_guard, IsWhole, FitsDeclaration, FitsAction, FitsReplicator, FitsHead}
-use Rattle.occam_parser.specs.Lines.{FitsGuard, Constants, Variables, Channels}
+use Rattle.occam_parser.specs.Lines.{Declaration, Replicator, Head, Declares, Acts, Opens}
+use Rattle.occam_parser.specs.Lines.{written_declaration, written_head}
+use Rattle.occam_parser.specs.Lines.{written_guard, IsWhole, FitsGuard, FitsDeclaration, FitsHead}
+use Rattle.occam_parser.specs.Lines.{Constants, Variables, Channels}
 use Rattle.occam_parser.specs.LineReading.{head_at, whole_at, guard_at}
-use Rattle.occam_parser.specs.Blocks.{Row, Process, Declared, Does, Construct, Act, Block, Components, NoComponent}
+use Rattle.occam_parser.specs.Blocks.{Row, Process, Does, Construct, Act, Block, Components, NoComponent}
 use Rattle.occam_parser.specs.Blocks.{Further, Component, Plain, Chosen, Guarded, declaration_line, lines_of}
-use Rattle.occam_parser.specs.Blocks.{lines_of_construct, lines_of_components, lines_of_component, IsOne, HasRightCount}
-use Rattle.occam_parser.specs.Blocks.{IsOf, FitsProcess, FitsConstruct, FitComponents, FitsComponent}
+use Rattle.occam_parser.specs.Blocks.{lines_of_components, lines_of_component, IsOne, HasRightCount}
+use Rattle.occam_parser.specs.Blocks.{IsOf, FitsProcess, FitComponents, FitsComponent}
 use Rattle.occam_parser.specs.BlockReading.{ReadsLines, is_at, first_row, Beginning, begun, beginning_from}
 use Rattle.occam_parser.specs.BlockReading.{with_declarations, count_of, wants, component_step, components_from}
 use Rattle.occam_parser.specs.BlockReading.{components_of, is_some, block_with, process_behind, process_with}
-use Rattle.occam_parser.specs.BlockReading.{choice_with, branch_with, plain, component_with, no_lines, process_at}
+use Rattle.occam_parser.specs.BlockReading.{head_row, headed_with, plain, component_with, process_at}
 use Rattle.occam_parser.specs.BlockReading.{component_at}
 use Rattle.occam_parser.proofs.Options.{bind_some, at_some}
 use Rattle.occam_parser.proofs.LineSound.{head_sound, whole_sound, guard_sound}
@@ -280,39 +280,54 @@ process_with_sound component level s rows x rest e =
     behind_sound component level s b.0.0.declarations b.0.0.line b.0.0.start b.0.1 rows (x, rest) begins.low fits
     begins.start whole b.2
 
-choice_sound : (p : ReadsLines Process) (level : ℕ) → SoundProcess (level + 1) p
-    → SoundComponent block.If level (choice_with p level)
-unfolding choice_with
-choice_sound p level s rows x rest e =
-    let r = bind_some (first_row level rows) _ (x, rest) e in
-    let c = bind_some (whole_at r.0.0.terminals) _ (x, rest) r.2 in
-    let y = bind_some (p r.0.1) _ (x, rest) c.2 in
+-- a line that says something is written as it says
+head_row_sound : {A : Type 0} (says : List Terminal → Option A) (write : A → List Terminal) (fits : A → Type 0)
+    → ((ts : List Terminal) (head : A) → says ts ≡ Some head → (ts ≡ write head) × fits head)
+    → (level : ℕ) (rows : List Row) (x : (ℕ × A) × List Row) → head_row says level rows ≡ Some x
+    → (rows ≡ record { number = x.0.0; level = level; terminals = write x.0.1 } ∷ x.1) × (level ≤ 64) × fits x.0.1
+unfolding head_row
+head_row_sound {A} says write fits said level rows x e =
+    let r = bind_some (first_row level rows) _ x e in
+    let c = bind_some (says r.0.0.terminals) _ x r.2 in
     let first = first_row_is level rows r.0.0 r.0.1 r.1 in
     let at = at_is level r.0.0 first.1 in
-    let w = whole_sound r.0.0.terminals c.0 c.1 in
-    let h = s r.0.1 y.0.0 y.0.1 y.1 in
-    let row = row_eq r.0.0 level (written c.0) at.0 w.0 in
-    let whole = first.0 ∙ ap (λ q. q ∷ r.0.1) row ∙ ap
-    (λ us. record { number = r.0.0.number; level = level; terminals = written c.0 } ∷ us) h.0 in
-    at_some (λ (z : Component × List Row). (rows ≡ lines_of_component z.0 level ++ z.1) × IsOf block.If z.0 ×
-    FitsComponent z.0 level) (Chosen r.0.0.number c.0 y.0.0, y.0.1) (x, rest) y.2 (whole, tt, (at.1, w.1, h.1))
+    let w = said r.0.0.terminals c.0 c.1 in
+    let row = row_eq r.0.0 level (write c.0) at.0 w.0 in
+    at_some (λ (z : (ℕ × A) × List Row). (rows ≡ record
+    { number = z.0.0; level = level; terminals = write z.0.1 } ∷ z.1) × (level ≤ 64) × fits z.0.1)
+    ((r.0.0.number, c.0), r.0.1) x c.2 (first.0 ∙ ap (λ q. q ∷ r.0.1) row, at.1, w.1)
 
-branch_sound : (p : ReadsLines Process) (level : ℕ) → SoundProcess (level + 1) p
-    → SoundComponent block.Alt level (branch_with p level)
-unfolding branch_with
-branch_sound p level s rows x rest e =
-    let r = bind_some (first_row level rows) _ (x, rest) e in
-    let c = bind_some (guard_at r.0.0.terminals) _ (x, rest) r.2 in
-    let y = bind_some (p r.0.1) _ (x, rest) c.2 in
-    let first = first_row_is level rows r.0.0 r.0.1 r.1 in
-    let at = at_is level r.0.0 first.1 in
-    let w = guard_sound r.0.0.terminals c.0 c.1 in
-    let h = s r.0.1 y.0.0 y.0.1 y.1 in
-    let row = row_eq r.0.0 level (written_guard c.0) at.0 w.0 in
-    let whole = first.0 ∙ ap (λ q. q ∷ r.0.1) row ∙ ap
-    (λ us. record { number = r.0.0.number; level = level; terminals = written_guard c.0 } ∷ us) h.0 in
-    at_some (λ (z : Component × List Row). (rows ≡ lines_of_component z.0 level ++ z.1) × IsOf block.Alt z.0 ×
-    FitsComponent z.0 level) (Guarded r.0.0.number c.0 y.0.0, y.0.1) (x, rest) y.2 (whole, tt, (at.1, w.1, h.1))
+-- a component that is made of a head and a process is written as the head's line, and below it the process
+abbrev pub IsMadeOf : {A : Type 0} → (A → List Terminal) → (A → Type 0) → (ℕ → A → Process → Component)
+    → BlockKind → ℕ → Type 0
+IsMadeOf {A} write fits make kind level = (line : ℕ) (head : A) (p : Process) → level ≤ 64 → fits head
+    → FitsProcess p (level + 1)
+    → (lines_of_component (make line head p) level
+    ≡ record { number = line; level = level; terminals = write head } ∷ lines_of p (level + 1))
+    × IsOf kind (make line head p) × FitsComponent (make line head p) level
+
+headed_sound : {A : Type 0} (says : List Terminal → Option A) (write : A → List Terminal) (fits : A → Type 0)
+    (make : ℕ → A → Process → Component) (kind : BlockKind) (p : ReadsLines Process) (level : ℕ)
+    → ((ts : List Terminal) (head : A) → says ts ≡ Some head → (ts ≡ write head) × fits head)
+    → IsMadeOf write fits make kind level → SoundProcess (level + 1) p
+    → SoundComponent kind level (headed_with says make p level)
+unfolding headed_with
+headed_sound says write fits make kind p level said made s rows x rest e =
+    let h = bind_some (head_row says level rows) _ (x, rest) e in
+    let y = bind_some (p h.0.1) _ (x, rest) h.2 in
+    let f = head_row_sound says write fits said level rows h.0 h.1 in
+    let q = s h.0.1 y.0.0 y.0.1 y.1 in
+    let m = made h.0.0.0 h.0.0.1 y.0.0 f.1 f.2 q.1 in
+    let row : Row = record { number = h.0.0.0; level = level; terminals = write h.0.0.1 } in
+    let whole = f.0 ∙ ap (λ us. row ∷ us) q.0 ∙ ap (λ us. us ++ y.0.1) (sym m.0) in
+    at_some (λ (z : Component × List Row). (rows ≡ lines_of_component z.0 level ++ z.1) × IsOf kind z.0 ×
+    FitsComponent z.0 level) (make h.0.0.0 h.0.0.1 y.0.0, y.0.1) (x, rest) y.2 (whole, m.1, m.2)
+
+choice_made : (level : ℕ) → IsMadeOf written IsWhole Chosen block.If level
+choice_made level line e p low fits below = (refl, tt, (low, fits, below))
+
+branch_made : (level : ℕ) → IsMadeOf written_guard FitsGuard Guarded block.Alt level
+branch_made level line g p low fits below = (refl, tt, (low, fits, below))
 
 plain_sound : (kind : BlockKind) (level : ℕ) (p : ReadsLines Process) → ((q : Process) → IsOf kind (Plain q))
     → SoundProcess level p → SoundComponent kind level (λ rows. plain (p rows))
@@ -326,8 +341,10 @@ component_with_sound : (p q : ReadsLines Process) (level : ℕ) → SoundProcess
     → (kind : BlockKind) → SoundComponent kind level (component_with p q level kind)
 component_with_sound p q level s t block.Seq = plain_sound block.Seq level p (λ x. tt) s
 component_with_sound p q level s t block.Par = plain_sound block.Par level p (λ x. tt) s
-component_with_sound p q level s t block.If = choice_sound q level t
-component_with_sound p q level s t block.Alt = branch_sound q level t
+component_with_sound p q level s t block.If =
+    headed_sound whole_at written IsWhole Chosen block.If q level whole_sound (choice_made level) t
+component_with_sound p q level s t block.Alt =
+    headed_sound guard_at written_guard FitsGuard Guarded block.Alt q level guard_sound (branch_made level) t
 
 mutual
   unfolding process_at component_at

@@ -3,15 +3,15 @@ use Rattle.std.proofs.Common.{◌≡◌, ℕ, zero, suc, ◌+◌, ◌-◌, ◌�
 use Rattle.std.proofs.Common.{arith, ◌∙◌}
 use Rattle.occam_parser.specs.declared.head.BlockKind.{BlockKind}
 use Rattle.occam_parser.specs.declared.head.BlockKind.TheVariants as block
-use Rattle.occam_parser.specs.Expressions.{Expression}
+use Rattle.occam_parser.specs.Terminals.{Terminal}
 use Rattle.occam_parser.specs.Reading.{◌>>=◌}
-use Rattle.occam_parser.specs.Lines.{Replicator, Guard, Head, Declaration, Acts, Opens}
+use Rattle.occam_parser.specs.Lines.{Replicator, Guard, Declaration, Opens}
 use Rattle.occam_parser.specs.LineReading.{whole_at, guard_at}
 use Rattle.occam_parser.specs.Blocks.{Row, Process, Does, Construct, Block, Components, Component, Plain, Chosen}
 use Rattle.occam_parser.specs.Blocks.{Guarded}
 use Rattle.occam_parser.specs.BlockReading.{ReadsLines, first_row, Beginning, beginning_from, with_declarations}
 use Rattle.occam_parser.specs.BlockReading.{components_of, is_some, block_with, process_behind, process_with}
-use Rattle.occam_parser.specs.BlockReading.{choice_with, branch_with, plain, process_at, component_at, plain_at}
+use Rattle.occam_parser.specs.BlockReading.{head_row, headed_with, plain, process_at, component_at, plain_at}
 
 one_more : (level : ℕ) → level ≤ 64 → 65 - level ≡ suc (65 - (level + 1))
 one_more level low = omega arith
@@ -95,102 +95,53 @@ block_none_of kind r read e = ap (λ (o : Option (Components × List Row)). o >>
 
 -- ---- choices and branches
 
-choice_first : (n level : ℕ) (rows : List Row) → first_row level rows ≡ None → component_at n level block.If rows ≡ None
-unfolding component_at choice_with
-choice_first zero level rows e = refl
-choice_first (suc n) level rows e = ap (λ (o : Option (Row × List Row)). o >>= λ r. whole_at r.0.terminals >>=
-    λ condition. process_at n (level + 1) r.1 >>= λ p. Some (Chosen r.0.number condition p.0, p.1)) e
+-- a component of a kind is made of what its line says
+abbrev pub IsHeaded : {A : Type 0} → (List Terminal → Option A) → (ℕ → A → Process → Component) → BlockKind → Type 0
+IsHeaded says make kind = (n level : ℕ)
+    → component_at (suc n) level kind ≡ headed_with says make (process_at n (level + 1)) level
 
-pub choice_none : (level : ℕ) (rows : List Row) → first_row level rows ≡ None
-    → component_at (65 - level) level block.If rows ≡ None
-choice_none level rows e = choice_first (65 - level) level rows e
+pub choice_is : IsHeaded whole_at Chosen block.If
+unfolding component_at
+choice_is n level = refl
 
-choice_at : (n level : ℕ) (rows rest : List Row) (r : Row) → first_row level rows ≡ Some (r, rest)
-    → component_at (suc n) level block.If rows
-    ≡ (whole_at r.terminals >>= λ condition. process_at n (level + 1) rest >>= λ p. Some
-    (Chosen r.number condition p.0, p.1))
-unfolding component_at choice_with
-choice_at n level rows rest r e = ap (λ (o : Option (Row × List Row)). o >>= λ q. whole_at q.0.terminals >>=
-    λ condition. process_at n (level + 1) q.1 >>= λ p. Some (Chosen q.0.number condition p.0, p.1)) e
+pub branch_is : IsHeaded guard_at Guarded block.Alt
+unfolding component_at
+branch_is n level = refl
 
-pub choice_is : (level : ℕ) (rows rest : List Row) (r : Row) → level ≤ 64 → first_row level rows ≡ Some (r, rest)
-    → component_at (65 - level) level block.If
-    rows ≡ (whole_at r.terminals >>= λ condition. process_at (65 - (level + 1)) (level + 1) rest >>= λ p. Some
-    (Chosen r.number condition p.0, p.1))
-choice_is level rows rest r low e = ap (λ n. component_at n level block.If rows) (one_more level low) ∙ choice_at
-    (65 - (level + 1)) level rows rest r e
+headed_is : {A : Type 0} (says : List Terminal → Option A) (make : ℕ → A → Process → Component)
+    (p : ReadsLines Process) (level : ℕ) (rows : List Row) (h : Option ((ℕ × A) × List Row))
+    → head_row says level rows ≡ h
+    → headed_with says make p level rows
+    ≡ (h >>= λ head. p head.1 >>= λ q. Some (make head.0.0 head.0.1 q.0, q.1))
+unfolding headed_with
+headed_is {A} says make p level rows h e = ap (λ (o : Option ((ℕ × A) × List Row)). o >>= λ head. p head.1 >>= λ q.
+    Some (make head.0.0 head.0.1 q.0, q.1)) e
 
-branch_first : (n level : ℕ) (rows : List Row) → first_row level rows ≡ None
-    → component_at n level block.Alt rows ≡ None
-unfolding component_at branch_with
-branch_first zero level rows e = refl
-branch_first (suc n) level rows e = ap (λ (o : Option (Row × List Row)). o >>= λ r. guard_at r.0.terminals >>=
-    λ guard. process_at n (level + 1) r.1 >>= λ p. Some (Guarded r.0.number guard p.0, p.1)) e
+none_headed : {A : Type 0} (says : List Terminal → Option A) (make : ℕ → A → Process → Component)
+    (kind : BlockKind) (n level : ℕ) (rows : List Row) → IsHeaded says make kind → head_row says level rows ≡ None
+    → component_at n level kind rows ≡ None
+unfolding component_at
+none_headed says make kind zero level rows is e = refl
+none_headed says make kind (suc n) level rows is e =
+    ap (λ (item : ReadsLines Component). item rows) (is n level)
+    ∙ headed_is says make (process_at n (level + 1)) level rows None e
 
-pub branch_none : (level : ℕ) (rows : List Row) → first_row level rows ≡ None
-    → component_at (65 - level) level block.Alt rows ≡ None
-branch_none level rows e = branch_first (65 - level) level rows e
+pub head_none : {A : Type 0} (says : List Terminal → Option A) (make : ℕ → A → Process → Component)
+    (kind : BlockKind) (level : ℕ) (rows : List Row) → IsHeaded says make kind → head_row says level rows ≡ None
+    → component_at (65 - level) level kind rows ≡ None
+head_none says make kind level rows is e = none_headed says make kind (65 - level) level rows is e
 
-branch_at : (n level : ℕ) (rows rest : List Row) (r : Row) → first_row level rows ≡ Some (r, rest)
-    → component_at (suc n) level block.Alt rows
-    ≡ (guard_at r.terminals >>= λ guard. process_at n (level + 1) rest >>= λ p. Some
-    (Guarded r.number guard p.0, p.1))
-unfolding component_at branch_with
-branch_at n level rows rest r e = ap (λ (o : Option (Row × List Row)). o >>= λ q. guard_at q.0.terminals >>= λ guard.
-    process_at n (level + 1) q.1 >>= λ p. Some (Guarded q.0.number guard p.0, p.1)) e
-
-pub branch_is : (level : ℕ) (rows rest : List Row) (r : Row) → level ≤ 64 → first_row level rows ≡ Some (r, rest)
-    → component_at (65 - level) level block.Alt
-    rows ≡ (guard_at r.terminals >>= λ guard. process_at (65 - (level + 1)) (level + 1) rest >>= λ p. Some
-    (Guarded r.number guard p.0, p.1))
-branch_is level rows rest r low e = ap (λ n. component_at n level block.Alt rows) (one_more level low) ∙ branch_at
-    (65 - (level + 1)) level rows rest r e
-
-pub choice_unread : (level : ℕ) (rows rest : List Row) (r : Row) → level ≤ 64 → first_row level rows ≡ Some (r, rest)
-    → whole_at r.terminals ≡ None → component_at (65 - level) level block.If rows ≡ None
-choice_unread level rows rest r low e h = choice_is level rows rest r low e ∙ ap
-    (λ (o : Option Expression). o >>= λ condition. process_at (65 - (level + 1)) (level + 1) rest >>= λ p. Some
-    (Chosen r.number condition p.0, p.1)) h
-
-pub choice_empty : (level : ℕ) (rows rest : List Row) (r : Row) (x : Expression) → level ≤ 64
-    → first_row level rows ≡ Some (r, rest) → whole_at r.terminals ≡ Some x
-    → process_at (65 - (level + 1)) (level + 1) rest ≡ None → component_at (65 - level) level block.If rows ≡ None
-choice_empty level rows rest r x low e h p =
-    choice_is level rows rest r low e ∙ ap (λ (o : Option Expression). o >>= λ condition. process_at
-    (65 - (level + 1)) (level + 1) rest >>= λ p. Some (Chosen r.number condition p.0, p.1)) h
-    ∙ ap (λ (o : Option (Process × List Row)). o >>= λ p. Some (Chosen r.number x p.0, p.1)) p
-
-pub choice_found : (level : ℕ) (rows rest after : List Row) (r : Row) (x : Expression) (q : Process) → level ≤ 64
-    → first_row level rows ≡ Some (r, rest) → whole_at r.terminals ≡ Some x
-    → process_at (65 - (level + 1)) (level + 1) rest ≡ Some (q, after)
-    → component_at (65 - level) level block.If rows ≡ Some (Chosen r.number x q, after)
-choice_found level rows rest after r x q low e h p =
-    choice_is level rows rest r low e ∙ ap (λ (o : Option Expression). o >>= λ condition. process_at
-    (65 - (level + 1)) (level + 1) rest >>= λ p. Some (Chosen r.number condition p.0, p.1)) h
-    ∙ ap (λ (o : Option (Process × List Row)). o >>= λ p. Some (Chosen r.number x p.0, p.1)) p
-
-pub branch_unread : (level : ℕ) (rows rest : List Row) (r : Row) → level ≤ 64 → first_row level rows ≡ Some (r, rest)
-    → guard_at r.terminals ≡ None → component_at (65 - level) level block.Alt rows ≡ None
-branch_unread level rows rest r low e h = branch_is level rows rest r low e ∙ ap
-    (λ (o : Option Guard). o >>= λ guard. process_at (65 - (level + 1)) (level + 1) rest >>= λ p. Some
-    (Guarded r.number guard p.0, p.1)) h
-
-pub branch_empty : (level : ℕ) (rows rest : List Row) (r : Row) (g : Guard) → level ≤ 64
-    → first_row level rows ≡ Some (r, rest) → guard_at r.terminals ≡ Some g
-    → process_at (65 - (level + 1)) (level + 1) rest ≡ None → component_at (65 - level) level block.Alt rows ≡ None
-branch_empty level rows rest r g low e h p =
-    branch_is level rows rest r low e ∙ ap (λ (o : Option Guard). o >>= λ guard. process_at (65 - (level + 1))
-    (level + 1) rest >>= λ p. Some (Guarded r.number guard p.0, p.1)) h
-    ∙ ap (λ (o : Option (Process × List Row)). o >>= λ p. Some (Guarded r.number g p.0, p.1)) p
-
-pub branch_found : (level : ℕ) (rows rest after : List Row) (r : Row) (g : Guard) (q : Process) → level ≤ 64
-    → first_row level rows ≡ Some (r, rest) → guard_at r.terminals ≡ Some g
-    → process_at (65 - (level + 1)) (level + 1) rest ≡ Some (q, after)
-    → component_at (65 - level) level block.Alt rows ≡ Some (Guarded r.number g q, after)
-branch_found level rows rest after r g q low e h p =
-    branch_is level rows rest r low e ∙ ap (λ (o : Option Guard). o >>= λ guard. process_at (65 - (level + 1))
-    (level + 1) rest >>= λ p. Some (Guarded r.number guard p.0, p.1)) h
-    ∙ ap (λ (o : Option (Process × List Row)). o >>= λ p. Some (Guarded r.number g p.0, p.1)) p
+-- what is read below a head that was read
+pub below_is : {A : Type 0} (says : List Terminal → Option A) (make : ℕ → A → Process → Component)
+    (kind : BlockKind) (level : ℕ) (rows : List Row) (head : (ℕ × A) × List Row)
+    (p : Option (Process × List Row)) → IsHeaded says make kind → level ≤ 64
+    → head_row says level rows ≡ Some head → process_at (65 - (level + 1)) (level + 1) head.1 ≡ p
+    → component_at (65 - level) level kind rows ≡ (p >>= λ q. Some (make head.0.0 head.0.1 q.0, q.1))
+below_is says make kind level rows head p is low e below =
+    ap (λ n. component_at n level kind rows) (one_more level low)
+    ∙ ap (λ (item : ReadsLines Component). item rows) (is (65 - (level + 1)) level)
+    ∙ headed_is says make (process_at (65 - (level + 1)) (level + 1)) level rows (Some head) e
+    ∙ ap (λ (o : Option (Process × List Row)). o >>= λ q. Some (make head.0.0 head.0.1 q.0, q.1)) below
 
 -- ---- a block, by its kind
 

@@ -1,6 +1,6 @@
 -- What one line says is read again from how it is written.
 use Rattle.std.proofs.Common.{◌≡◌, ℕ, Bool, true, false, cond, List, [], ◌∷◌, ◌++◌, Option, Some, None, refl, sym, ap}
-use Rattle.std.proofs.Common.{subst, append_assoc, append-nil, ◌∙◌}
+use Rattle.std.proofs.Common.{append_assoc, append-nil, ◌∙◌}
 use Rattle.std.specs.List.{AllByRecursion}
 use Rattle.occam_parser.specs.declared.symbol.Mark as mark_type
 use Rattle.occam_parser.specs.declared.symbol.Mark.TheVariants as mark
@@ -8,39 +8,37 @@ use Rattle.occam_parser.specs.declared.head.BlockKind.{BlockKind}
 use Rattle.occam_parser.specs.declared.head.BlockKind.TheVariants as block
 use Rattle.occam_parser.specs.declared.tree.FormalKind.{FormalKind}
 use Rattle.occam_parser.specs.declared.tree.FormalKind.TheVariants as formal_kind
-use Rattle.occam_parser.specs.declared.tree.PairOperator.{PairOperator}
 use Rattle.occam_parser.specs.declared.tree.PairOperator.TheVariants as pair
 use Rattle.occam_parser.specs.declared.tree.ChainOperator.{ChainOperator}
 use Rattle.occam_parser.specs.declared.tree.ValueType.{ValueType}
 use Rattle.occam_parser.specs.declared.tree.ValueType.TheVariants as value_type
-use Rattle.occam_parser.specs.Terminals.{Terminal, Name, Integer, Character, Text, Pair, Chain, Mark}
+use Rattle.occam_parser.specs.Terminals.{Terminal, Name, Pair, Chain, Mark}
 use Rattle.occam_parser.specs.Expressions.{Expression, Alone, Prefixed, Paired, Chained, Terms, First, Then, Term}
 use Rattle.occam_parser.specs.Expressions.{Number, Byte, Truth, MostPos, MostNeg, Named, Element, Bracketed, Converted}
-use Rattle.occam_parser.specs.Expressions.{prefix_sign, type_word, truth_word, written, written_terms, written_term}
-use Rattle.occam_parser.specs.Expressions.{Fits}
+use Rattle.occam_parser.specs.Expressions.{prefix_sign, type_word, written, written_terms, written_term}
 use Rattle.occam_parser.specs.declared.tree.PrefixOperator.TheVariants as prefix
-use Rattle.occam_parser.specs.Reading.{Reads, ◌>>=◌, behind, is_mark, up_to, begins_with_operator, expression_at}
+use Rattle.occam_parser.specs.Reading.{Reads, ◌>>=◌, behind, is_mark, begins_with_operator, expression_at}
 use Rattle.occam_parser.specs.Reading.{list_of}
 use Rattle.occam_parser.specs.Laws.{Ends}
 use Rattle.occam_parser.specs.Lines.{Place, Replicator, Value, Scalar, Table, Bytes, Constant, Names, Declaration}
 use Rattle.occam_parser.specs.Lines.{Constants, Variables, Channels, Action, Skip, Stop, Assign, Input, Output}
 use Rattle.occam_parser.specs.Lines.{Instance, Guard, Receives, Skips, Formal, ProcHead, Head, Declares, Acts, Opens}
 use Rattle.occam_parser.specs.Lines.{in_brackets, written_place, separated, after_commas, written_name, size_of}
-use Rattle.occam_parser.specs.Lines.{written_value, written_constant, channel_words, written_names, written_declaration}
-use Rattle.occam_parser.specs.Lines.{written_action, written_replicator, block_word, written_head, written_guard}
-use Rattle.occam_parser.specs.Lines.{written_condition, written_formal, written_proc_head, IsWhole, AreWhole}
+use Rattle.occam_parser.specs.Lines.{written_value, written_constant, channel_words, written_names}
+use Rattle.occam_parser.specs.Lines.{written_replicator, block_word, written_head, written_guard}
+use Rattle.occam_parser.specs.Lines.{written_formal, written_proc_head, IsWhole, AreWhole}
 use Rattle.occam_parser.specs.Lines.{IsWholeIfAny, HasItem, FitsPlace, FitsValue, FitsConstant, FitsNames}
-use Rattle.occam_parser.specs.Lines.{FitsDeclaration, FitsAction, FitsReplicator, FitsHead, FitsGuard, FitsFormal}
+use Rattle.occam_parser.specs.Lines.{FitsReplicator, FitsHead, FitsGuard, FitsFormal}
 use Rattle.occam_parser.specs.Lines.{FitsProcHead}
-use Rattle.occam_parser.specs.LineReading.{ended, only, name_at, equals_at, bracketed_behind, bracketed_at, type_behind}
+use Rattle.occam_parser.specs.LineReading.{only, name_at, equals_at, bracketed_behind, bracketed_at}
 use Rattle.occam_parser.specs.LineReading.{type_at, shape_behind, shape_at, place_at, whole_at, whole_place, table_at}
 use Rattle.occam_parser.specs.LineReading.{value_at, constant_at, declared_as, names_at, formal_named, formal_kind_of}
-use Rattle.occam_parser.specs.LineReading.{formal_behind, formal_at, formals_behind, proc_head_at, actuals_behind}
-use Rattle.occam_parser.specs.LineReading.{actuals_at, placed_action, instance_or_other, action_at, counted_at}
-use Rattle.occam_parser.specs.LineReading.{replicator_at, block_at, declaration_at, marked_head, head_at, is_guard_sign}
+use Rattle.occam_parser.specs.LineReading.{formal_behind, formal_at, items_behind, in_parentheses, proc_head_at}
+use Rattle.occam_parser.specs.LineReading.{placed_action, instance_or_other, action_at, counted_at}
+use Rattle.occam_parser.specs.LineReading.{replicator_at, block_at, declaration_at, marked_head, head_at}
 use Rattle.occam_parser.specs.LineReading.{has_condition, input_at, skips_or_receives, conditioned_at, guard_at}
 use Rattle.occam_parser.proofs.Marks.{behind_again, behind_other}
-use Rattle.occam_parser.proofs.Again.{up_to_again, expression_again}
+use Rattle.occam_parser.proofs.Again.{up_to_again, begins_no_other, expression_again}
 use Rattle.occam_parser.proofs.ListLaws.{Again, list_again}
 use Rattle.occam_parser.proofs.LineSound.{formal_words_join}
 
@@ -149,6 +147,27 @@ expressions_again : (xs : List Expression) (m : mark_type.Mark) (rest : List Ter
 expressions_again xs m rest has all other h =
     list_again written IsWhole Ends (expression_at 64) (λ x us fits ends. expression_again x 64 us fits ends)
     (ends_by mark.Comma refl) xs (Mark m ∷ rest) has all (behind_other m mark.Comma other rest) (ends_by m h rest)
+
+-- items up to the parenthesis that ends the line, where none begins with it
+parentheses_again : {A : Type 0} (write : A → List Terminal) (fits : A → Type 0) (ends : List Terminal → Type 0)
+    (item : Reads A) → Again write fits ends item → ((us : List Terminal) → ends (Mark mark.Comma ∷ us))
+    → ends (Mark mark.CloseParenthesis ∷ [])
+    → ((x : A) (us : List Terminal) → behind mark.CloseParenthesis (write x ++ us) ≡ None)
+    → (xs : List A) → AllByRecursion fits xs
+    → in_parentheses item (separated write xs ++ Mark mark.CloseParenthesis ∷ []) ≡ Some xs
+unfolding in_parentheses
+parentheses_again write fits ends item again comma close no_close [] all =
+    ap (items_behind item (Mark mark.CloseParenthesis ∷ [])) (behind_again mark.CloseParenthesis [])
+parentheses_again {A} write fits ends item again comma close no_close (x ∷ xs) all =
+    let last = Mark mark.CloseParenthesis ∷ [] in
+    let none = ap (behind mark.CloseParenthesis) (append_assoc (write x) (after_commas write xs) last)
+    ∙ no_close x (after_commas write xs ++ last) in
+    let read = list_again write fits ends item again comma (x ∷ xs) last tt all
+    (behind_other mark.CloseParenthesis mark.Comma refl []) close in
+    ap (items_behind item (separated write (x ∷ xs) ++ last)) none
+    ∙ ap (λ (o : Option (List A × List Terminal)). o >>= λ y. behind mark.CloseParenthesis y.1 >>= λ rest. only y.0
+    rest) read
+    ∙ ap (λ (o : Option (List Terminal)). o >>= λ rest. only (x ∷ xs) rest) (behind_again mark.CloseParenthesis [])
 
 -- ---- constants and declarations
 
@@ -310,32 +329,20 @@ no_close_formal formal_kind.Variable None value_type.Byte name rest = refl
 no_close_formal formal_kind.Channel (Some e) t name rest = refl
 no_close_formal formal_kind.Channel None t name rest = refl
 
-formals_again : (fs : List Formal) → AllByRecursion FitsFormal fs → let ts =
-    separated written_formal fs ++ Mark mark.CloseParenthesis ∷ [] in formals_behind ts
-    (behind mark.CloseParenthesis ts) ≡ Some fs
-formals_again [] all = ap (formals_behind (Mark mark.CloseParenthesis ∷ [])) (behind_again mark.CloseParenthesis [])
-formals_again (f ∷ fs) all =
-    let close = Mark mark.CloseParenthesis ∷ [] in
-    let ts = separated written_formal (f ∷ fs) ++ close in
-    let none = ap (behind mark.CloseParenthesis)
-    (append_assoc (written_formal f) (after_commas written_formal fs) close) ∙ no_close_formal f.kind f.size
-    f.value_type f.name (after_commas written_formal fs ++ close) in
-    let read = list_again written_formal FitsFormal (λ (us : List Terminal). Unit {0}) formal_at formal_again
-    (λ us. tt) (f ∷ fs) close tt all (behind_other mark.CloseParenthesis mark.Comma refl []) tt in
-    ap (formals_behind ts) none
-    ∙ ap (λ (o : Option (List Formal × List Terminal)). o >>= λ x. behind mark.CloseParenthesis x.1 >>= λ rest. only
-    x.0 rest) read
-    ∙ ap (λ (o : Option (List Terminal)). o >>= λ rest. only (f ∷ fs) rest) (behind_again mark.CloseParenthesis [])
+formals_again : (fs : List Formal) → AllByRecursion FitsFormal fs
+    → in_parentheses formal_at (separated written_formal fs ++ Mark mark.CloseParenthesis ∷ []) ≡ Some fs
+formals_again fs all =
+    parentheses_again written_formal FitsFormal (λ (us : List Terminal). Unit {0}) formal_at formal_again (λ us. tt) tt
+    (λ f us. no_close_formal f.kind f.size f.value_type f.name us) fs all
 
 pub proc_head_again : (h : ProcHead) → FitsProcHead h → proc_head_at (written_proc_head h) ≡ Some h
 unfolding proc_head_at
 proc_head_again h fits =
     let ts = separated written_formal h.formals ++ Mark mark.CloseParenthesis ∷ [] in
-    let f1 = λ (o : Option (List Terminal)). o >>= λ opened. formals_behind opened
-    (behind mark.CloseParenthesis opened) >>= λ formals. Some (record { name = h.name; formals = formals }) in
+    let f1 = λ (o : Option (List Terminal)). o >>= λ opened. in_parentheses formal_at opened >>= λ formals. Some
+    (record { name = h.name; formals = formals }) in
     let f0 = λ (o : Option (List ℕ × List Terminal)). o >>= λ name. behind mark.OpenParenthesis name.1 >>= λ opened.
-    formals_behind opened (behind mark.CloseParenthesis opened) >>= λ formals. Some
-    (record { name = name.0; formals = formals }) in
+    in_parentheses formal_at opened >>= λ formals. Some (record { name = name.0; formals = formals }) in
     ap f0 (name_again h.name (Mark mark.OpenParenthesis ∷ ts))
     ∙ ap f1 (behind_again mark.OpenParenthesis ts)
     ∙ ap (λ (o : Option (List Formal)). o >>= λ formals. Some (record { name = h.name; formals = formals }))
@@ -344,18 +351,7 @@ proc_head_again h fits =
 -- ---- actions
 
 no_close_term : (t : Term) (rest : List Terminal) → behind mark.CloseParenthesis (written_term t ++ rest) ≡ None
-unfolding behind
-no_close_term (Number value) rest = refl
-no_close_term (Byte byte) rest = refl
-no_close_term (Truth true) rest = refl
-no_close_term (Truth false) rest = refl
-no_close_term MostPos rest = refl
-no_close_term MostNeg rest = refl
-no_close_term (Named name) rest = refl
-no_close_term (Element name e) rest = refl
-no_close_term (Bracketed e) rest = refl
-no_close_term (Converted value_type.Int t) rest = refl
-no_close_term (Converted value_type.Byte t) rest = refl
+no_close_term t rest = (begins_no_other t rest).1
 
 no_close_terms : (terms : Terms) (op : ChainOperator) (rest : List Terminal)
     → behind mark.CloseParenthesis (written_terms op terms ++ rest) ≡ None
@@ -379,18 +375,10 @@ no_close (Paired op a b) rest = ap (behind mark.CloseParenthesis)
 no_close (Chained op terms) rest = no_close_terms terms op rest
 
 actuals_again : (xs : List Expression) → AreWhole xs
-    → actuals_at (separated written xs ++ Mark mark.CloseParenthesis ∷ []) ≡ Some xs
-unfolding actuals_at
-actuals_again [] all = ap (actuals_behind (Mark mark.CloseParenthesis ∷ [])) (behind_again mark.CloseParenthesis [])
-actuals_again (x ∷ xs) all =
-    let close = Mark mark.CloseParenthesis ∷ [] in
-    let ts = separated written (x ∷ xs) ++ close in
-    let none = ap (behind mark.CloseParenthesis)
-    (append_assoc (written x) (after_commas written xs) close) ∙ no_close x (after_commas written xs ++ close) in
-    ap (actuals_behind ts) none
-    ∙ ap (λ (o : Option (List Expression × List Terminal)). o >>= λ y. behind mark.CloseParenthesis y.1 >>= λ rest.
-    only y.0 rest) (expressions_again (x ∷ xs) mark.CloseParenthesis [] tt all refl refl)
-    ∙ ap (λ (o : Option (List Terminal)). o >>= λ rest. only (x ∷ xs) rest) (behind_again mark.CloseParenthesis [])
+    → in_parentheses (expression_at 64) (separated written xs ++ Mark mark.CloseParenthesis ∷ []) ≡ Some xs
+actuals_again xs all =
+    parentheses_again written IsWhole Ends (expression_at 64) (λ x us fits ends. expression_again x 64 us fits ends)
+    (ends_by mark.Comma refl) (ends_by mark.CloseParenthesis refl []) no_close xs all
 
 no_open : (o : Option Expression) (m : mark_type.Mark) (rest : List Terminal)
     → behind mark.OpenParenthesis (Mark m ∷ rest) ≡ None

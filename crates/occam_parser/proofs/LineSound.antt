@@ -6,17 +6,16 @@ use Rattle.occam_parser.specs.declared.symbol.Mark as mark_type
 use Rattle.occam_parser.specs.declared.symbol.Mark.TheVariants as mark
 use Rattle.occam_parser.specs.declared.head.BlockKind.{BlockKind}
 use Rattle.occam_parser.specs.declared.head.BlockKind.TheVariants as block
-use Rattle.occam_parser.specs.declared.tree.FormalKind.{FormalKind}
 use Rattle.occam_parser.specs.declared.tree.FormalKind.TheVariants as formal_kind
 use Rattle.occam_parser.specs.declared.tree.PairOperator.TheVariants as pair
 use Rattle.occam_parser.specs.declared.tree.ValueType.{ValueType}
 use Rattle.occam_parser.specs.declared.tree.ValueType.TheVariants as value_type
 use Rattle.occam_parser.specs.Terminals.{Terminal, Name, Integer, Character, Text, Pair, Chain, Mark}
-use Rattle.occam_parser.specs.Expressions.{Expression, written, type_word, Fits}
+use Rattle.occam_parser.specs.Expressions.{Expression, written, type_word}
 use Rattle.occam_parser.specs.Reading.{Reads, ◌>>=◌, behind, up_to, expression_at, list_of}
 use Rattle.occam_parser.specs.Laws.{Sound}
 use Rattle.occam_parser.specs.Lines.{Place, Replicator, Value, Scalar, Table, Bytes, Constant, Names, Declaration}
-use Rattle.occam_parser.specs.Lines.{Constants, Variables, Channels, Action, Skip, Stop, Assign, Input, Output}
+use Rattle.occam_parser.specs.Lines.{Constants, Action, Skip, Stop, Assign, Input, Output}
 use Rattle.occam_parser.specs.Lines.{Instance, Guard, Receives, Skips, Formal, ProcHead, Head, Declares, Acts, Opens}
 use Rattle.occam_parser.specs.Lines.{in_brackets, written_place, separated, written_name, size_of, written_value}
 use Rattle.occam_parser.specs.Lines.{written_constant, channel_words, written_names, written_declaration}
@@ -24,17 +23,17 @@ use Rattle.occam_parser.specs.Lines.{written_action, written_replicator, block_w
 use Rattle.occam_parser.specs.Lines.{written_formal, written_proc_head, IsWhole, AreWhole, IsWholeIfAny, HasItem}
 use Rattle.occam_parser.specs.Lines.{FitsPlace, FitsValue, FitsConstant, FitsNames, FitsDeclaration, FitsAction}
 use Rattle.occam_parser.specs.Lines.{FitsReplicator, FitsHead, FitsGuard, FitsFormal, FitsProcHead}
-use Rattle.occam_parser.specs.LineReading.{ended, only, name_at, equals_at, bracketed_behind, bracketed_at, type_behind}
+use Rattle.occam_parser.specs.LineReading.{only, name_at, equals_at, bracketed_behind, bracketed_at, type_behind}
 use Rattle.occam_parser.specs.LineReading.{type_at, shape_behind, shape_at, place_at, whole_at, whole_place, table_at}
 use Rattle.occam_parser.specs.LineReading.{value_at, constant_at, declared_as, names_at, formal_named, formal_kind_of}
-use Rattle.occam_parser.specs.LineReading.{formal_behind, formal_at, formals_behind, proc_head_at, actuals_behind}
-use Rattle.occam_parser.specs.LineReading.{actuals_at, placed_action, instance_or_other, action_at, counted_at}
+use Rattle.occam_parser.specs.LineReading.{formal_behind, formal_at, items_behind, in_parentheses, proc_head_at}
+use Rattle.occam_parser.specs.LineReading.{placed_action, instance_or_other, action_at, counted_at}
 use Rattle.occam_parser.specs.LineReading.{replicator_at, block_at, declaration_at, marked_head, head_at, has_condition}
 use Rattle.occam_parser.specs.LineReading.{input_at, skips_or_receives, conditioned_at, guard_at}
-use Rattle.occam_parser.proofs.Options.{bind_some, at_some, chosen}
+use Rattle.occam_parser.proofs.Options.{bind_some, at_some}
 use Rattle.occam_parser.proofs.Marks.{behind_is}
 use Rattle.occam_parser.proofs.Sound.{up_to_is, expression_sound}
-use Rattle.occam_parser.proofs.ListLaws.{IsList, list_sound}
+use Rattle.occam_parser.proofs.ListLaws.{list_sound}
 
 -- ---- small parts
 
@@ -150,6 +149,32 @@ expressions_sound : (ts : List Terminal) (xs : List Expression) (rest : List Ter
     → list_of (expression_at 64) ts ≡ Some (xs, rest)
     → (ts ≡ separated written xs ++ rest) × (HasItem xs × AreWhole xs)
 expressions_sound ts xs rest e = list_sound written IsWhole (expression_at 64) (expression_sound 64) ts (xs, rest) e
+
+-- items up to the parenthesis that ends the line
+abbrev pub AreIn : {A : Type 0} → (A → List Terminal) → (A → Type 0) → List Terminal → List A → Type 0
+AreIn write fits ts xs = (ts ≡ separated write xs ++ Mark mark.CloseParenthesis ∷ []) × AllByRecursion fits xs
+
+items_found : {A : Type 0} (write : A → List Terminal) (fits : A → Type 0) (item : Reads A) → Sound write fits item
+    → (ts : List Terminal) (o : Option (List Terminal)) (xs : List A) → behind mark.CloseParenthesis ts ≡ o
+    → items_behind item ts o ≡ Some xs → AreIn write fits ts xs
+items_found write fits item s ts (Some rest) xs b e =
+    let o = only_is [] rest xs e in
+    let close = behind_is mark.CloseParenthesis ts rest b in
+    subst (AreIn write fits ts) o.1 (close ∙ ap (λ us. Mark mark.CloseParenthesis ∷ us) o.0, tt)
+items_found write fits item s ts None xs b e =
+    let x = bind_some (list_of item ts) _ xs e in
+    let rest = bind_some (behind mark.CloseParenthesis x.0.1) _ xs x.2 in
+    let h = list_sound write fits item s ts x.0 x.1 in
+    let o = only_is x.0.0 rest.0 xs rest.2 in
+    let close = behind_is mark.CloseParenthesis x.0.1 rest.0 rest.1 ∙ ap (λ us. Mark mark.CloseParenthesis ∷ us) o.0 in
+    subst (AreIn write fits ts) o.1 (h.0 ∙ ap (λ us. separated write x.0.0 ++ us) close, h.1.1)
+
+parentheses_sound : {A : Type 0} (write : A → List Terminal) (fits : A → Type 0) (item : Reads A)
+    → Sound write fits item → (ts : List Terminal) (xs : List A) → in_parentheses item ts ≡ Some xs
+    → AreIn write fits ts xs
+unfolding in_parentheses
+parentheses_sound write fits item s ts xs e =
+    items_found write fits item s ts (behind mark.CloseParenthesis ts) xs refl e
 
 -- ---- constants and declarations
 
@@ -297,25 +322,9 @@ formal_sound : Sound written_formal FitsFormal formal_at
 unfolding formal_at
 formal_sound ts f rest e = formal_found ts (behind mark.Val ts) (f, rest) refl e
 
-abbrev pub AreFormals : List Terminal → List Formal → Type 0
-AreFormals ts fs = (ts ≡ separated written_formal fs ++ Mark mark.CloseParenthesis ∷ []) × AllByRecursion FitsFormal fs
-
-formals_found : (ts : List Terminal) (o : Option (List Terminal)) (fs : List Formal)
-    → behind mark.CloseParenthesis ts ≡ o → formals_behind ts o ≡ Some fs → AreFormals ts fs
-formals_found ts (Some rest) fs b e =
-    let o = only_is [] rest fs e in
-    subst (AreFormals ts) o.1 (
-      behind_is mark.CloseParenthesis ts rest b ∙ ap (λ us. Mark mark.CloseParenthesis ∷ us)
-          o.0,
-      tt,
-    )
-formals_found ts None fs b e =
-    let x = bind_some (list_of formal_at ts) _ fs e in
-    let rest = bind_some (behind mark.CloseParenthesis x.0.1) _ fs x.2 in
-    let h = list_sound written_formal FitsFormal formal_at formal_sound ts x.0 x.1 in
-    let o = only_is x.0.0 rest.0 fs rest.2 in
-    let close = behind_is mark.CloseParenthesis x.0.1 rest.0 rest.1 ∙ ap (λ us. Mark mark.CloseParenthesis ∷ us) o.0 in
-    subst (AreFormals ts) o.1 (h.0 ∙ ap (λ us. separated written_formal x.0.0 ++ us) close, h.1.1)
+formals_sound : (ts : List Terminal) (fs : List Formal) → in_parentheses formal_at ts ≡ Some fs
+    → AreIn written_formal FitsFormal ts fs
+formals_sound ts fs e = parentheses_sound written_formal FitsFormal formal_at formal_sound ts fs e
 
 pub proc_head_sound : (ts : List Terminal) (h : ProcHead) → proc_head_at ts ≡ Some h
     → (ts ≡ written_proc_head h) × FitsProcHead h
@@ -323,38 +332,14 @@ unfolding proc_head_at
 proc_head_sound ts h e =
     let name = bind_some (name_at ts) _ h e in
     let opened = bind_some (behind mark.OpenParenthesis name.0.1) _ h name.2 in
-    let formals = bind_some (formals_behind opened.0 (behind mark.CloseParenthesis opened.0)) _ h opened.2 in
-    let f = formals_found opened.0 (behind mark.CloseParenthesis opened.0) formals.0 refl formals.1 in
+    let formals = bind_some (in_parentheses formal_at opened.0) _ h opened.2 in
+    let f = formals_sound opened.0 formals.0 formals.1 in
     let whole = name_is ts name.0.0 name.0.1 name.1 ∙ ap (λ us. Name name.0.0 ∷ us)
     (behind_is mark.OpenParenthesis name.0.1 opened.0 opened.1 ∙ ap (λ us. Mark mark.OpenParenthesis ∷ us) f.0) in
     at_some (λ g. (ts ≡ written_proc_head g) × FitsProcHead g) (record { name = name.0.0; formals = formals.0 }) h
     formals.2 (whole, f.1)
 
 -- ---- actions
-
-abbrev pub AreActuals : List Terminal → List Expression → Type 0
-AreActuals ts xs = (ts ≡ separated written xs ++ Mark mark.CloseParenthesis ∷ []) × AreWhole xs
-
-actuals_found : (ts : List Terminal) (o : Option (List Terminal)) (xs : List Expression)
-    → behind mark.CloseParenthesis ts ≡ o → actuals_behind ts o ≡ Some xs → AreActuals ts xs
-actuals_found ts (Some rest) xs b e =
-    let o = only_is [] rest xs e in
-    subst (AreActuals ts) o.1 (
-      behind_is mark.CloseParenthesis ts rest b ∙ ap (λ us. Mark mark.CloseParenthesis ∷ us)
-          o.0,
-      tt,
-    )
-actuals_found ts None xs b e =
-    let x = bind_some (list_of (expression_at 64) ts) _ xs e in
-    let rest = bind_some (behind mark.CloseParenthesis x.0.1) _ xs x.2 in
-    let h = expressions_sound ts x.0.0 x.0.1 x.1 in
-    let o = only_is x.0.0 rest.0 xs rest.2 in
-    let close = behind_is mark.CloseParenthesis x.0.1 rest.0 rest.1 ∙ ap (λ us. Mark mark.CloseParenthesis ∷ us) o.0 in
-    subst (AreActuals ts) o.1 (h.0 ∙ ap (λ us. separated written x.0.0 ++ us) close, h.1.1)
-
-actuals_sound : (ts : List Terminal) (xs : List Expression) → actuals_at ts ≡ Some xs → AreActuals ts xs
-unfolding actuals_at
-actuals_sound ts xs e = actuals_found ts (behind mark.CloseParenthesis ts) xs refl e
 
 -- a line that begins with a place
 abbrev pub IsAction : List Terminal → Action → Type 0
@@ -383,8 +368,8 @@ placed_sound whole (t ∷ ts) place a w f e = absurd (cc)
 instance_sound : (name : List ℕ) (ts : List Terminal) (o : Option (List Terminal)) (a : Action)
     → behind mark.OpenParenthesis ts ≡ o → instance_or_other name ts o ≡ Some a → IsAction (Name name ∷ ts) a
 instance_sound name ts (Some rest) a b e =
-    let xs = bind_some (actuals_at rest) _ a e in
-    let h = actuals_sound rest xs.0 xs.1 in
+    let xs = bind_some (in_parentheses (expression_at 64) rest) _ a e in
+    let h = parentheses_sound written IsWhole (expression_at 64) (expression_sound 64) rest xs.0 xs.1 in
     at_some (IsAction (Name name ∷ ts)) (Instance name xs.0) a xs.2 (
       ap (λ us. Name name ∷ us) (behind_is mark.OpenParenthesis ts rest b ∙ ap
           (λ us. Mark mark.OpenParenthesis ∷ us) h.0),

@@ -1,10 +1,10 @@
 -- A list that is read item by item, and a chain operand by operand.
-use Rattle.std.proofs.Common.{◌≡◌, ℕ, zero, suc, ◌+◌, ◌<◌, ◌≤◌, List, [], ◌∷◌, ◌++◌, length, Option, Some, None, refl}
-use Rattle.std.proofs.Common.{sym, ap, arith, rules, ◌∙◌}
+use Rattle.std.proofs.Common.{◌≡◌, ℕ, zero, suc, ◌≤◌, List, [], ◌∷◌, ◌++◌, length, Some, None, refl}
+use Rattle.std.proofs.Common.{ap, arith, ◌∙◌}
 use Rattle.occam_parser.specs.declared.symbol.Mark.TheVariants as mark
 use Rattle.occam_parser.specs.declared.tree.ChainOperator.{ChainOperator}
-use Rattle.occam_parser.specs.Terminals.{Terminal, Mark, Chain}
-use Rattle.occam_parser.specs.Expressions.{Expression, Chained, Terms, First, Then, Term}
+use Rattle.occam_parser.specs.Terminals.{Terminal}
+use Rattle.occam_parser.specs.Expressions.{Chained, Terms, First, Then, Term}
 use Rattle.occam_parser.specs.Reading.{Reads, ◌>>=◌, behind, behind_operator, list_step, list_from, list_of, chain_step}
 use Rattle.occam_parser.specs.Reading.{chain_from, chain}
 use Rattle.occam_parser.proofs.Marks.{behind_is, behind_operator_is}
@@ -93,12 +93,6 @@ chain_begins operand op first start rest x e within =
       so_far = ap (λ o. o >>= λ y. chain_from operand op (length start) (Then (First first) y.0) y.1 >>= λ z. Some
           (Chained op z.0, z.1)) e;
     }
-
-pub chain_stops : (operand : Reads Term) (op : ChainOperator) (first : Term) (start : List Terminal)
-    → operand start ≡ None → chain operand op first start ≡ None
-unfolding chain
-chain_stops operand op first start e = ap (λ o. o >>= λ y. chain_from operand op (length start)
-    (Then (First first) y.0) y.1 >>= λ z. Some (Chained op z.0, z.1)) e
 
 pub chain_turn : (operand : Reads Term) (op : ChainOperator) (n : ℕ) (terms : Terms) (ts after : List Terminal)
     → behind_operator op ts ≡ Some after → length ts ≤ n

@@ -1,5 +1,5 @@
 -- Marks and operators at the front.
-use Rattle.std.proofs.Common.{◌≡◌, Bool, true, false, cond, List, [], ◌∷◌, Option, Some, None, refl, sym, ap, rules}
+use Rattle.std.proofs.Common.{◌≡◌, Bool, true, false, cond, List, [], ◌∷◌, Some, None, refl, ap}
 use Rattle.std.proofs.Common.{◌∙◌}
 use denote.Enum.Bare.{same_true, true_same}
 use Rattle.occam_parser.specs.declared.symbol.Mark as mark_type
@@ -15,19 +15,19 @@ use Rattle.occam_parser.specs.Expressions.{prefix_sign}
 use Rattle.occam_parser.specs.Reading.{behind, behind_operator, prefix_at, is_mark, is_chain}
 use Rattle.occam_parser.proofs.Options.{chosen, at_some}
 
+-- what was found is what was wanted
+found_is : {A : Type 0} (make : A → Terminal) (found wanted : A) (ts rest : List Terminal) (b : Bool)
+    → (b ≡ true → found ≡ wanted) → cond b (Some ts) None ≡ Some rest → make found ∷ ts ≡ make wanted ∷ rest
+found_is make found wanted ts rest b same e =
+    let h = chosen b ts rest e in
+    ap (λ k. make k ∷ ts) (same h.0) ∙ ap (λ us. make wanted ∷ us) h.1
+
 pub behind_is : (m : mark_type.Mark) (ts rest : List Terminal) → behind m ts ≡ Some rest → ts ≡ Mark m ∷ rest
 unfolding behind
 behind_is m [] rest e = absurd (cc)
 behind_is m (Mark found ∷ ts) rest e =
-    let h = chosen (is_mark found m) ts rest e in
-    let same = same_true mark_contract.the_type tt found m h.0 in
-    ap (λ k. Mark k ∷ ts) same ∙ ap (λ us. Mark m ∷ us) h.1
-behind_is m (Name text ∷ ts) rest e = absurd (cc)
-behind_is m (Integer value ∷ ts) rest e = absurd (cc)
-behind_is m (Character byte ∷ ts) rest e = absurd (cc)
-behind_is m (Text bytes ∷ ts) rest e = absurd (cc)
-behind_is m (Pair operator ∷ ts) rest e = absurd (cc)
-behind_is m (Chain operator ∷ ts) rest e = absurd (cc)
+    found_is Mark found m ts rest (is_mark found m) (same_true mark_contract.the_type tt found m) e
+behind_is m (t ∷ ts) rest e = absurd (cc)
 
 pub behind_again : (m : mark_type.Mark) (rest : List Terminal) → behind m (Mark m ∷ rest) ≡ Some rest
 unfolding behind
@@ -44,15 +44,8 @@ pub behind_operator_is : (op : ChainOperator) (ts rest : List Terminal) → behi
 unfolding behind_operator
 behind_operator_is op [] rest e = absurd (cc)
 behind_operator_is op (Chain found ∷ ts) rest e =
-    let h = chosen (is_chain found op) ts rest e in
-    let same = same_true chain_contract.the_type tt found op h.0 in
-    ap (λ k. Chain k ∷ ts) same ∙ ap (λ us. Chain op ∷ us) h.1
-behind_operator_is op (Name text ∷ ts) rest e = absurd (cc)
-behind_operator_is op (Integer value ∷ ts) rest e = absurd (cc)
-behind_operator_is op (Character byte ∷ ts) rest e = absurd (cc)
-behind_operator_is op (Text bytes ∷ ts) rest e = absurd (cc)
-behind_operator_is op (Pair operator ∷ ts) rest e = absurd (cc)
-behind_operator_is op (Mark m ∷ ts) rest e = absurd (cc)
+    found_is Chain found op ts rest (is_chain found op) (same_true chain_contract.the_type tt found op) e
+behind_operator_is op (t ∷ ts) rest e = absurd (cc)
 
 pub behind_operator_again : (op : ChainOperator) (rest : List Terminal)
     → behind_operator op (Chain op ∷ rest) ≡ Some rest

@@ -1,9 +1,9 @@
 -- The lines before a construct, one by one.
-use Rattle.std.proofs.Common.{◌≡◌, ℕ, ◌<◌, ◌≤◌, Bool, true, false, cond, List, [], ◌∷◌, ◌++◌, Option, Some, None, refl}
-use Rattle.std.proofs.Common.{sym, ap, ◌∙◌}
+use Rattle.std.proofs.Common.{◌≡◌, ℕ, Bool, true, false, cond, List, [], ◌∷◌, ◌++◌, Option, Some, None, refl}
+use Rattle.std.proofs.Common.{ap, ◌∙◌}
 use Rattle.occam_parser.specs.declared.head.Start as start_type
 use Rattle.occam_parser.specs.declared.head.Start.TheVariants as start
-use Rattle.occam_parser.specs.Lines.{Declaration, Head, Declares}
+use Rattle.occam_parser.specs.Lines.{Declaration, Declares}
 use Rattle.occam_parser.specs.LineReading.{head_at}
 use Rattle.occam_parser.specs.LineViews.{start_of}
 use Rattle.occam_parser.specs.Blocks.{Row}

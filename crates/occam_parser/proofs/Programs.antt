@@ -1,11 +1,10 @@
 -- Programs: what is read is written so, and what is written is read again.
-use Rattle.std.proofs.Common.{◌≡◌, ℕ, zero, suc, ◌+◌, ◌<◌, ◌≤◌, Bool, true, false, ◌&&◌, cond, List, [], ◌∷◌, ◌++◌}
+use Rattle.std.proofs.Common.{◌≡◌, ℕ, zero, suc, ◌≤◌, Bool, true, false, ◌&&◌, cond, List, [], ◌∷◌, ◌++◌}
 use Rattle.std.proofs.Common.{length, nat_lt, ◌==◌, Option, Some, None, refl, sym, ap, subst, arith, append_assoc}
 use Rattle.std.proofs.Common.{append-nil, length-append, ◌∙◌}
-use Rattle.std.proofs.lemmas.Bool.{eqb-true, eq-eqb, ltb-false}
-use Rattle.occam_parser.specs.declared.symbol.Mark as mark_type
+use Rattle.std.proofs.lemmas.Bool.{eqb-true, ltb-false}
 use Rattle.occam_parser.specs.declared.symbol.Mark.TheVariants as mark
-use Rattle.occam_parser.specs.Terminals.{Terminal, Name, Integer, Character, Text, Pair, Chain, Mark}
+use Rattle.occam_parser.specs.Terminals.{Terminal, Mark}
 use Rattle.occam_parser.specs.Reading.{◌>>=◌, behind}
 use Rattle.occam_parser.specs.Lines.{Constant, ProcHead, written_constant, written_proc_head, FitsConstant}
 use Rattle.occam_parser.specs.Lines.{FitsProcHead}

@@ -1,12 +1,12 @@
 -- How the program's lists are seen.
-use Rattle.std.proofs.Common.{◌≡◌, ℕ, ◌≤◌, Bool, true, false, cond, Option, Some, None, ◌+◌, List, [], ◌∷◌, ◌++◌}
-use Rattle.std.proofs.Common.{length, map, refl, sym, ap, arith, ◌∙◌, rules, Vec, Box, Global}
+use Rattle.std.proofs.Common.{◌≡◌, ℕ, ◌≤◌, Bool, false, Option, Some, None, ◌+◌, List, [], ◌∷◌, ◌++◌}
+use Rattle.std.proofs.Common.{length, map, refl, ap, arith, ◌∙◌, rules, Vec, Box, Global}
 use Rattle.std.proofs.lemmas.List.{length-map, map_push}
 use Rattle.occam_layout.specs.declared.token.Token.{Token}
 use Rattle.occam_parser.specs.declared.tree.ChainOperator.{ChainOperator}
 use Rattle.occam_parser.specs.declared.tree.ValueType.{ValueType}
 use Rattle.occam_parser.specs.declared.tree.Operand.{Operand, Converted}
-use Rattle.occam_parser.specs.declared.tree.Operation.{Operation, Chain}
+use Rattle.occam_parser.specs.declared.tree.Operation.{Chain}
 use Rattle.occam_parser.specs.declared.tree.Operand.TheFolds.{the_lemmas}
 use Rattle.occam_parser.specs.Terminals.{Terminal, terminal_of, terminals_of, seen_symbol}
 use Rattle.occam_parser.specs.Expressions.{Terms, First, Then, Term, Chained, Converted as Conversion}

@@ -1,6 +1,6 @@
 -- How the program's components are seen.
-use Rattle.std.proofs.Common.{◌≡◌, ℕ, ◌+◌, ◌<◌, Bool, true, false, List, [], ◌∷◌, ◌++◌, length, map, fold, Option, Some}
-use Rattle.std.proofs.Common.{None, refl, sym, ap, subst, arith, ◌∙◌, rules, Vec, Global}
+use Rattle.std.proofs.Common.{◌≡◌, ℕ, ◌+◌, ◌<◌, Bool, List, [], ◌∷◌, ◌++◌, length, map, fold, Option, Some}
+use Rattle.std.proofs.Common.{None, refl, ap, arith, ◌∙◌, rules, Vec, Global}
 use Rattle.std.proofs.lemmas.List.{length-map, map_push}
 use Rattle.occam_layout.specs.declared.token.Line.{Line}
 use Rattle.std.specs.Prelude.{option_map, is_some as std_is_some}
@@ -10,22 +10,21 @@ use Rattle.occam_parser.specs.declared.tree.Process.{Process as CodeProcess}
 use Rattle.occam_parser.specs.declared.tree.Choice.{Choice as CodeChoice}
 use Rattle.occam_parser.specs.declared.tree.Branch.{Branch as CodeBranch}
 use Rattle.occam_parser.specs.declared.tree.Action.{Action as CodeAction}
-use Rattle.occam_parser.specs.declared.tree.Declaration.{Declaration as CodeDeclaration}
-use Rattle.occam_parser.specs.declared.tree.Construct.{Construct as CodeConstruct, Action, Seq, Par, If, Alt}
+use Rattle.occam_parser.specs.declared.tree.Construct.{Action, Seq, Par, If, Alt}
 use Rattle.occam_parser.specs.declared.tree.Construct.{the_lemmas}
 use Rattle.occam_parser.specs.declared.tree.Construct.TheViews.{roll-Choice, roll-Branch}
 use Rattle.occam_parser.specs.declared.tree.Expr.{Expr}
 use Rattle.occam_parser.specs.declared.tree.Guard.{Guard as CodeGuard}
 use Rattle.occam_parser.specs.Views.{expression_of}
-use Rattle.occam_parser.specs.LineViews.{replicator_of, action_of, declaration_of, guard_of, start_of}
+use Rattle.occam_parser.specs.LineViews.{replicator_of, action_of, guard_of, start_of}
 use Rattle.occam_parser.specs.Lines.{Declaration}
 use Rattle.occam_parser.specs.declared.head.Start as start_type
 use Rattle.occam_parser.specs.Blocks.{Row, row_of, rows_of, Block, Components, NoComponent, Further, Component, Plain}
-use Rattle.occam_parser.specs.Blocks.{Chosen, Guarded, Act, Does}
-use Rattle.occam_parser.specs.BlockReading.{ReadsLines, count_of, wants, components_of, is_some, with_declarations}
+use Rattle.occam_parser.specs.Blocks.{Chosen, Guarded, Act}
+use Rattle.occam_parser.specs.BlockReading.{ReadsLines, count_of, wants, components_of, is_some}
 use Rattle.occam_parser.specs.BlockReading.{Beginning}
 use Rattle.occam_parser.specs.BlockViews.{all_of, process_of, construct_of, choice_of, branch_of, plain_component}
-use Rattle.occam_parser.proofs.Turns.{ContinuesBlock, block_begins, block_goes_on, block_fails, block_ends, block_stops}
+use Rattle.occam_parser.proofs.Turns.{block_begins, block_stops}
 
 fold_push : (found : Components) (cs : List Component) (c : Component)
     → fold Further found (cs ++ c ∷ []) ≡ Further (fold Further found cs) c

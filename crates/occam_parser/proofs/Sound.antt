@@ -1,6 +1,6 @@
 -- What is read is written so.
-use Rattle.std.proofs.Common.{◌≡◌, ℕ, zero, suc, pred, ◌<◌, Bool, true, false, cond, List, [], ◌∷◌, ◌++◌, length}
-use Rattle.std.proofs.Common.{Option, Some, None, refl, sym, ap, subst, arith, append_assoc, ◌∙◌}
+use Rattle.std.proofs.Common.{◌≡◌, ℕ, zero, suc, pred, ◌<◌, true, false, List, [], ◌∷◌, ◌++◌, length}
+use Rattle.std.proofs.Common.{Option, Some, None, refl, sym, ap, arith, append_assoc, ◌∙◌}
 use Rattle.occam_parser.specs.declared.symbol.Mark as mark_type
 use Rattle.occam_parser.specs.declared.symbol.Mark.TheVariants as mark
 use Rattle.occam_parser.specs.declared.tree.ValueType.{ValueType}

@@ -1,23 +1,22 @@
 -- Components that the program reads into the body of a block, and a head beside what was read below it.
-use Rattle.std.proofs.Common.{◌≡◌, ◌⊎◌, inl, inr, ℕ, ◌+◌, ◌-◌, ◌<◌, Bool, true, List, [], ◌∷◌, ◌++◌, length, map}
+use Rattle.std.proofs.Common.{◌≡◌, ◌⊎◌, inl, ℕ, ◌+◌, ◌-◌, ◌<◌, ◌≤◌, Bool, true, List, length, map}
 use Rattle.std.proofs.Common.{Option, Some, None, Result, Ok, Err, refl, sym, ap, subst, ◌∙◌}
-use Rattle.std.specs.Prelude.{IfOk}
+use Rattle.occam_parser.specs.Terminals.{Terminal}
 use Rattle.std.specs.Borrow.{Bor}
 use Rattle.occam_layout.specs.declared.token.Line.{Line}
 use Rattle.occam_parser.specs.declared.fault.ParseFault.{ParseFault}
 use Rattle.occam_parser.specs.declared.head.BlockKind.{BlockKind}
 use Rattle.occam_parser.specs.declared.tree.Process.{Process as CodeProcess}
-use Rattle.occam_parser.specs.Reading.{◌>>=◌}
 use Rattle.occam_parser.specs.Told.{out_of_memory, Tells, Pushes, IsBeside, StandsAbove}
 use Rattle.occam_parser.specs.Blocks.{Row, rows_of, Process, Does, Construct, Component, Components, NoComponent, Further}
 use Rattle.occam_parser.specs.BlockReading.{ReadsLines, wants, count_of, further, components_of, process_at}
-use Rattle.occam_parser.specs.BlockReading.{component_at, plain_at, with_declarations}
+use Rattle.occam_parser.specs.BlockReading.{component_at, head_row, plain_at, with_declarations}
 use Rattle.occam_parser.specs.BlockViews.{all_of, process_of, plain_component, IsProcessOf}
 use Rattle.occam_parser.specs.Lines.{Declaration}
 use Rattle.occam_parser.proofs.Answering.{passed_on}
 use Rattle.occam_parser.proofs.Turns.{ContinuesBlock, block_begins, block_goes_on, block_fails}
 use Rattle.occam_parser.proofs.SeenBlocks.{all_push, rows_less}
-use Rattle.occam_parser.proofs.Levelled.{plain_none, plain_found}
+use Rattle.occam_parser.proofs.Levelled.{plain_none, plain_found, IsHeaded, head_none, below_is}
 
 -- a process that was made of what was read
 pub told_made : (declarations : List Declaration) (line : ℕ) (made tree : Construct) (rest : Bor (List Line))
@@ -66,13 +65,6 @@ pushed_tells f (Ok x) old new (Ok rest) got pushes told =
     ap (further (all_of (map f old))) told
     ∙ ap (λ (cs : Components). Some (cs, rows_of x.1.now)) (sym (all_push f old new x.0 pushes.0))
     ∙ ap (λ (us : List Line). Some (all_of (map f new), rows_of us)) (sym pushes.1)
-
-pub pushed_within : {A : Type 0} (read : Result (A × Bor (List Line)) ParseFault) (old new : List A)
-    (answer : Result (Bor (List Line)) ParseFault) (n : ℕ) → Pushes read old new answer
-    → IfOk read (λ x. length x.1.now < n) → IfOk answer (λ rest. length rest.now < n)
-pushed_within read old new (Err t) n pushes less = tt
-pushed_within (Err e) old new (Ok rest) n pushes less = absurd (cc pushes)
-pushed_within (Ok x) old new (Ok rest) n pushes less = subst (λ (us : List Line). length us < n) (sym pushes.1) less
 
 -- ---- a turn of the loop over components
 
@@ -172,9 +164,38 @@ below_head head h x rest (Err e) stands = absurd (cc stands)
 below_head {A} {B} head h x rest (Ok y) stands = let same : ((head, y.0), y.1) ≡ ((h, x), rest) =
     cc stands in ap (λ (z : (A × B) × Bor (List Line)). z.0.0) same
 
-pub below_keeps : {A B : Type 0} (P : B × Bor (List Line) → Type 0) (head h : A) (x : B) (rest : Bor (List Line))
-    (read : Result (B × Bor (List Line)) ParseFault) → StandsAbove head read (Ok ((h, x), rest)) → IfOk read P
-    → P (x, rest)
-below_keeps P head h x rest (Err e) stands kept = absurd (cc stands)
-below_keeps {A} {B} P head h x rest (Ok y) stands kept = let same : ((head, y.0), y.1) ≡ ((h, x), rest) =
-    cc stands in subst (λ (z : (A × B) × Bor (List Line)). P (z.0.1, z.1)) same kept
+-- ---- a component that has a head
+
+pub head_lost : {A : Type 0} (says : List Terminal → Option A) (make : ℕ → A → Process → Component) (kind : BlockKind)
+    (level : ℕ) (rows : List Row) (old : Components) (t : ParseFault) → IsHeaded says make kind
+    → (t ≡ out_of_memory) ⊎ (head_row says level rows ≡ None)
+    → (t ≡ out_of_memory) ⊎ (further old (component_at (65 - level) level kind rows) ≡ None)
+head_lost says make kind level rows old t is lost =
+    passed_on t _ _ (λ none. ap (further old) (head_none says make kind level rows is none)) lost
+
+-- a process below a head, as the program reads it
+abbrev pub ReadsProcess : ℕ → List Row → Result (CodeProcess × Bor (List Line)) ParseFault → Type 0
+ReadsProcess level rows read =
+    Tells (λ x. (process_of x.0, rows_of x.1.now)) read (process_at (65 - (level + 1)) (level + 1) rows)
+
+pub headed_lost : {A H : Type 0} (says : List Terminal → Option A) (make : ℕ → A → Process → Component)
+    (kind : BlockKind) (level : ℕ) (rows after : List Row) (old : Components) (line : ℕ) (saying : A) (head : H)
+    (read : Result (CodeProcess × Bor (List Line)) ParseFault) (t : ParseFault) → IsHeaded says make kind
+    → level ≤ 64 → head_row says level rows ≡ Some ((line, saying), after) → StandsAbove head read (Err t)
+    → ReadsProcess level after read
+    → (t ≡ out_of_memory) ⊎ (further old (component_at (65 - level) level kind rows) ≡ None)
+headed_lost says make kind level rows after old line saying head read t is low e stands told =
+    passed_on t _ _
+    (λ none. ap (further old) (below_is says make kind level rows ((line, saying), after) None is low e none))
+    (below_lost (λ x. (process_of x.0, rows_of x.1.now)) head read t _ stands told)
+
+pub headed_found : {A H : Type 0} (says : List Terminal → Option A) (make : ℕ → A → Process → Component)
+    (kind : BlockKind) (view : H → A) (level : ℕ) (rows after : List Row) (line : ℕ) (head h : H) (p : CodeProcess)
+    (rest : Bor (List Line)) (read : Result (CodeProcess × Bor (List Line)) ParseFault) → IsHeaded says make kind
+    → level ≤ 64 → head_row says level rows ≡ Some ((line, view head), after)
+    → StandsAbove head read (Ok ((h, p), rest)) → ReadsProcess level after read
+    → component_at (65 - level) level kind rows ≡ Some (make line (view h) (process_of p), rows_of rest.now)
+headed_found says make kind view level rows after line head h p rest read is low e stands told =
+    below_is says make kind level rows ((line, view head), after) _ is low e
+    (below_found (λ x. (process_of x.0, rows_of x.1.now)) head h p rest read _ stands told)
+    ∙ ap (λ z. Some (make line (view z) (process_of p), rows_of rest.now)) (below_head head h p rest read stands)

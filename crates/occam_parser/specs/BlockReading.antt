@@ -1,13 +1,12 @@
 -- Reading processes and programs line by line.
-use Rattle.std.specs.Prelude.{◌≡◌, ◌⊎◌, ℕ, zero, suc, ◌+◌, ◌-◌, Bool, true, false, not, ◌&&◌, List, [], ◌∷◌, ◌++◌}
-use Rattle.std.specs.Prelude.{length, map, nat_lt, ◌==◌, if◌then◌else◌, Option, Some, None, Result, Ok, Err}
+use Rattle.std.specs.Prelude.{ℕ, zero, suc, ◌+◌, Bool, true, false, not, ◌&&◌, List, [], ◌∷◌, ◌++◌}
+use Rattle.std.specs.Prelude.{length, nat_lt, ◌==◌, if◌then◌else◌, Option, Some, None}
 use Rattle.occam_parser.specs.declared.symbol.Mark.TheVariants as mark
 use Rattle.occam_parser.specs.declared.head.BlockKind.{BlockKind}
 use Rattle.occam_parser.specs.declared.head.BlockKind.TheVariants as block
-use Rattle.occam_parser.specs.Terminals.{Terminal, Name, Integer, Character, Text, Pair, Chain, Mark}
-use Rattle.occam_parser.specs.Expressions.{Expression}
+use Rattle.occam_parser.specs.Terminals.{Terminal, Mark}
 use Rattle.occam_parser.specs.Reading.{◌>>=◌, behind}
-use Rattle.occam_parser.specs.Lines.{Declaration, Replicator, Guard, Head, Declares, Acts, Opens}
+use Rattle.occam_parser.specs.Lines.{Declaration, Replicator, Head, Declares, Acts, Opens}
 use Rattle.occam_parser.specs.LineReading.{ended, head_at, whole_at, guard_at, constant_at, proc_head_at}
 use Rattle.occam_parser.specs.Blocks.{Row, Process, Declared, Does, Construct, Act, Block, Components, NoComponent}
 use Rattle.occam_parser.specs.Blocks.{Further, Component, Plain, Chosen, Guarded, Procedure, ProgramItem}
@@ -114,19 +113,20 @@ process_with component level rows = do
   b ← beginning_from level [] rows
   process_behind component level b.0 b.1 b.0.start
 
-unfoldable pub choice_with : ReadsLines Process → ℕ → ReadsLines Component
-choice_with process level rows = do
+-- the number of a line at a level, and what it says
+unfoldable pub head_row : {A : Type 0} → (List Terminal → Option A) → ℕ → ReadsLines (ℕ × A)
+head_row says level rows = do
   r ← first_row level rows
-  condition ← whole_at r.0.terminals
-  p ← process r.1
-  Some (Chosen r.0.number condition p.0, p.1)
+  head ← says r.0.terminals
+  Some ((r.0.number, head), r.1)
 
-unfoldable pub branch_with : ReadsLines Process → ℕ → ReadsLines Component
-branch_with process level rows = do
-  r ← first_row level rows
-  guard ← guard_at r.0.terminals
-  p ← process r.1
-  Some (Guarded r.0.number guard p.0, p.1)
+-- a component that is made of what its line says, and of the process below
+unfoldable pub headed_with : {A : Type 0} → (List Terminal → Option A) → (ℕ → A → Process → Component)
+    → ReadsLines Process → ℕ → ReadsLines Component
+headed_with says make process level rows = do
+  head ← head_row says level rows
+  p ← process head.1
+  Some (make head.0.0 head.0.1 p.0, p.1)
 
 abbrev pub plain : Option (Process × List Row) → Option (Component × List Row)
 plain read = read >>= λ p. Some (Plain p.0, p.1)
@@ -134,8 +134,8 @@ plain read = read >>= λ p. Some (Plain p.0, p.1)
 abbrev pub component_with : (process deeper : ReadsLines Process) → ℕ → BlockKind → ReadsLines Component
 component_with process deeper level block.Seq rows = plain (process rows)
 component_with process deeper level block.Par rows = plain (process rows)
-component_with process deeper level block.If rows = choice_with deeper level rows
-component_with process deeper level block.Alt rows = branch_with deeper level rows
+component_with process deeper level block.If rows = headed_with whole_at Chosen deeper level rows
+component_with process deeper level block.Alt rows = headed_with guard_at Guarded deeper level rows
 
 abbrev pub no_lines : {A : Type 0} → ReadsLines A
 no_lines rows = None

@@ -1,5 +1,5 @@
 -- The trees that processes and programs of the program are.
-use Rattle.std.specs.Prelude.{◌≡◌, ℕ, List, [], ◌∷◌, map, fold, Option, option_map, Result, Ok, Err}
+use Rattle.std.specs.Prelude.{◌≡◌, ℕ, List, map, fold, option_map, Result, Ok, Err}
 use Rattle.std.specs.Borrow.{Bor}
 use Rattle.occam_layout.specs.declared.token.Line.{Line}
 use Rattle.occam_parser.specs.declared.fault.ParseFault.{ParseFault}
@@ -23,7 +23,7 @@ use Rattle.occam_parser.specs.declared.tree.Item.TheVariants as item
 use Rattle.occam_parser.specs.Views.{expression_of}
 use Rattle.occam_parser.specs.LineViews.{declaration_of, action_of, replicator_of, guard_of, formal_of, constant_of}
 use Rattle.occam_parser.specs.LineViews.{start_of}
-use Rattle.occam_parser.specs.Blocks.{Process, Declared, Does, Construct, Act, Block, Components, NoComponent, Further}
+use Rattle.occam_parser.specs.Blocks.{Process, Does, Construct, Act, Block, Components, NoComponent, Further}
 use Rattle.occam_parser.specs.Blocks.{Component, Plain, Chosen, Guarded, Procedure, ProgramItem, GlobalConstant}
 use Rattle.occam_parser.specs.Blocks.{GlobalProcedure}
 use Rattle.occam_parser.specs.BlockReading.{Beginning, with_declarations}

@@ -1,6 +1,6 @@
 -- The tree of an expression, and how it is written. The operators and operands are those of the occam 2 reference
 -- manual that this profile has; that a chain of one associative operator needs no brackets is our own choice.
-use Rattle.std.specs.Prelude.{ℕ, ℤ, Bool, true, false, suc, pred, ◌<◌, List, [], ◌∷◌, ◌++◌}
+use Rattle.std.specs.Prelude.{ℕ, ℤ, Bool, true, false, pred, ◌<◌, List, [], ◌∷◌, ◌++◌}
 use Rattle.occam_parser.specs.declared.symbol.Mark.TheVariants as mark
 use Rattle.occam_parser.specs.declared.tree.ValueType.{ValueType}
 use Rattle.occam_parser.specs.declared.tree.ValueType.TheVariants as value_type

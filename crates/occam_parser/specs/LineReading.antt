@@ -1,5 +1,5 @@
 -- Reading what one line says from left to right, on lists.
-use Rattle.std.specs.Prelude.{ℕ, Bool, true, false, List, [], ◌∷◌, ◌++◌, if◌then◌else◌, Option, Some, None}
+use Rattle.std.specs.Prelude.{ℕ, Bool, true, false, List, [], ◌∷◌, if◌then◌else◌, Option, Some, None}
 use Rattle.occam_parser.specs.declared.symbol.Mark as mark_type
 use Rattle.occam_parser.specs.declared.symbol.Mark.TheVariants as mark
 use Rattle.occam_parser.specs.declared.head.BlockKind.{BlockKind}
@@ -9,7 +9,7 @@ use Rattle.occam_parser.specs.declared.tree.FormalKind.TheVariants as formal_kin
 use Rattle.occam_parser.specs.declared.tree.PairOperator.TheVariants as pair
 use Rattle.occam_parser.specs.declared.tree.ValueType.{ValueType}
 use Rattle.occam_parser.specs.declared.tree.ValueType.TheVariants as value_type
-use Rattle.occam_parser.specs.Terminals.{Terminal, Name, Integer, Character, Text, Pair, Chain, Mark}
+use Rattle.occam_parser.specs.Terminals.{Terminal, Name, Text, Pair, Mark}
 use Rattle.occam_parser.specs.Expressions.{Expression}
 use Rattle.occam_parser.specs.Reading.{Reads, ◌>>=◌, behind, up_to, expression_at, list_of}
 use Rattle.occam_parser.specs.Lines.{Place, Replicator, Value, Scalar, Table, Bytes, Constant, Names, Declaration}
@@ -86,6 +86,17 @@ whole_place ts = do
   x ← place_at name.0 name.1
   only x.0 x.1
 
+abbrev pub items_behind : {A : Type 0} → Reads A → List Terminal → Option (List Terminal) → Option (List A)
+items_behind item ts (Some rest) = only [] rest
+items_behind item ts None = do
+  x ← list_of item ts
+  rest ← behind mark.CloseParenthesis x.1
+  only x.0 rest
+
+-- items with commas between them, if any, behind the parenthesis that opens
+unfoldable pub in_parentheses : {A : Type 0} → Reads A → List Terminal → Option (List A)
+in_parentheses item ts = items_behind item ts (behind mark.CloseParenthesis ts)
+
 -- ---- constants and declarations
 
 abbrev pub items_at : Expression → Reads Value
@@ -155,58 +166,32 @@ formal_behind ts None = do
 unfoldable pub formal_at : Reads Formal
 formal_at ts = formal_behind ts (behind mark.Val ts)
 
-abbrev pub formals_behind : List Terminal → Option (List Terminal) → Option (List Formal)
-formals_behind ts (Some rest) = only [] rest
-formals_behind ts None = do
-  x ← list_of formal_at ts
-  rest ← behind mark.CloseParenthesis x.1
-  only x.0 rest
-
 -- behind the word PROC
 unfoldable pub proc_head_at : List Terminal → Option ProcHead
 proc_head_at ts = do
   name ← name_at ts
   opened ← behind mark.OpenParenthesis name.1
-  formals ← formals_behind opened (behind mark.CloseParenthesis opened)
+  formals ← in_parentheses formal_at opened
   Some (record { name = name.0; formals = formals })
 
 -- ---- actions
 
-abbrev pub actuals_behind : List Terminal → Option (List Terminal) → Option (List Expression)
-actuals_behind ts (Some rest) = only [] rest
-actuals_behind ts None = do
-  x ← list_of (expression_at 64) ts
-  rest ← behind mark.CloseParenthesis x.1
-  only x.0 rest
-
-unfoldable pub actuals_at : List Terminal → Option (List Expression)
-actuals_at ts = actuals_behind ts (behind mark.CloseParenthesis ts)
-
-abbrev pub assigned : Place → List Terminal → Option Action
-assigned place ts = do
-  value ← whole_at ts
-  Some (Assign place value)
-
-abbrev pub received : Place → List Terminal → Option Action
-received place ts = do
-  target ← whole_place ts
-  Some (Input place target)
-
-abbrev pub sent : Place → List Terminal → Option Action
-sent place ts = do
-  value ← whole_at ts
-  Some (Output place value)
-
 -- behind the place that it begins with
 abbrev pub placed_action : Place → List Terminal → Option Action
-placed_action place (Mark mark.Assign ∷ ts) = assigned place ts
-placed_action place (Mark mark.Input ∷ ts) = received place ts
-placed_action place (Mark mark.Output ∷ ts) = sent place ts
+placed_action place (Mark mark.Assign ∷ ts) = do
+  value ← whole_at ts
+  Some (Assign place value)
+placed_action place (Mark mark.Input ∷ ts) = do
+  target ← whole_place ts
+  Some (Input place target)
+placed_action place (Mark mark.Output ∷ ts) = do
+  value ← whole_at ts
+  Some (Output place value)
 placed_action place ts = None
 
 abbrev pub instance_or_other : List ℕ → List Terminal → Option (List Terminal) → Option Action
 instance_or_other name ts (Some rest) = do
-  actuals ← actuals_at rest
+  actuals ← in_parentheses (expression_at 64) rest
   Some (Instance name actuals)
 instance_or_other name ts None = do
   place ← place_at name ts

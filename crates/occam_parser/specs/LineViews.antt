@@ -1,7 +1,8 @@
 -- The trees that values of the program are, for what stands on one line.
-use Rattle.std.specs.Prelude.{ℕ, List, map, Option, option_map}
+use Rattle.std.specs.Prelude.{ℕ, List, Option, map, option_map}
 use Rattle.std.specs.Borrow.{Bor}
 use Rattle.occam_layout.specs.Kind.{bytes_of}
+use Rattle.occam_parser.specs.declared.tree.Expr.{Expr}
 use Rattle.occam_parser.specs.declared.tree.Place as place_type
 use Rattle.occam_parser.specs.declared.tree.Replicator as replicator_type
 use Rattle.occam_parser.specs.declared.tree.ConstantValue as value_type
@@ -20,8 +21,8 @@ use Rattle.occam_parser.specs.declared.head.Head as head_type
 use Rattle.occam_parser.specs.declared.head.Head.TheVariants as head
 use Rattle.occam_parser.specs.declared.head.Start as start_type
 use Rattle.occam_parser.specs.declared.head.Start.TheVariants as start
-use Rattle.occam_parser.specs.Views.{expression_of}
 use Rattle.occam_parser.specs.Expressions.{Expression}
+use Rattle.occam_parser.specs.Views.{expression_of}
 use Rattle.occam_parser.specs.Lines.{Place, Replicator, Value, Scalar, Table, Bytes, Constant, Names, Declaration}
 use Rattle.occam_parser.specs.Lines.{Constants, Variables, Channels, Action, Skip, Stop, Assign, Input, Output}
 use Rattle.occam_parser.specs.Lines.{Instance, Guard, Receives, Skips, Formal, ProcHead, Head, Declares, Acts, Opens}
@@ -29,8 +30,11 @@ use Rattle.occam_parser.specs.Lines.{Instance, Guard, Receives, Skips, Formal, P
 abbrev pub spelling_of : Bor (List ℕ) → List ℕ
 spelling_of name = name.now
 
+abbrev pub any_of : Option Expr → Option Expression
+any_of e = option_map expression_of e
+
 abbrev pub place_of : place_type.Place → Place
-place_of p = record { name = p.name.now; subscript = option_map expression_of p.subscript }
+place_of p = record { name = p.name.now; subscript = any_of p.subscript }
 
 abbrev pub replicator_of : replicator_type.Replicator → Replicator
 replicator_of r = record { name = r.name.now; base = expression_of r.base; count = expression_of r.count }
@@ -46,7 +50,7 @@ constant_of c = record { line = c.line; value_type = c.value_type; name = c.name
 abbrev pub names_of : names_type.Names → Names
 names_of n = record {
   line = n.line;
-  size = option_map expression_of n.size;
+  size = any_of n.size;
   value_type = n.value_type;
   names =
       map spelling_of n.names.items;
@@ -67,17 +71,11 @@ action_of (action.Instance name actuals) = Instance name.now (map expression_of 
 
 abbrev pub guard_of : guard_type.Guard → Guard
 guard_of (guard.Input condition channel target) =
-    Receives (option_map expression_of condition) (place_of channel) (place_of target)
+    Receives (any_of condition) (place_of channel) (place_of target)
 guard_of (guard.Skip condition) = Skips (expression_of condition)
 
 abbrev pub formal_of : formal_type.Formal → Formal
-formal_of f = record {
-  kind = f.kind;
-  size = option_map expression_of f.size;
-  value_type = f.value_type;
-  name =
-      f.name.now;
-}
+formal_of f = record { kind = f.kind; size = any_of f.size; value_type = f.value_type; name = f.name.now }
 
 abbrev pub proc_head_of : proc_head_type.ProcHead → ProcHead
 proc_head_of h = record { name = h.name.now; formals = map formal_of h.formals.items }

@@ -1,9 +1,7 @@
 -- Reading an expression from left to right, on lists.
-use Rattle.std.specs.Prelude.{◌≡◌, ℕ, zero, suc, Bool, true, false, List, [], ◌∷◌, ◌++◌, length, fold, map}
-use Rattle.std.specs.Prelude.{if◌then◌else◌, Option, Some, None, option_map, Result, Ok, Err}
-use Rattle.std.specs.Borrow.{Bor}
+use Rattle.std.specs.Prelude.{◌≡◌, ℕ, zero, suc, Bool, true, false, List, [], ◌∷◌, ◌++◌, length}
+use Rattle.std.specs.Prelude.{if◌then◌else◌, Option, Some, None, Result, Ok, Err}
 use denote.Enum.Bare.{sameb}
-use Rattle.occam_layout.specs.declared.token.Token.{Token}
 use Rattle.occam_parser.specs.declared.fault.LineError.{LineError}
 use Rattle.occam_parser.specs.declared.fault.LineError.TheVariants as errors
 use Rattle.occam_parser.specs.declared.symbol.Mark as mark_type
@@ -17,7 +15,7 @@ use Rattle.occam_parser.specs.declared.tree.PairOperator.{PairOperator}
 use Rattle.occam_parser.specs.declared.tree.PairOperator.TheVariants as pair_operator
 use Rattle.occam_parser.specs.declared.tree.ChainOperator.{ChainOperator}
 use Rattle.occam_parser.specs.contracts.tree.ChainOperator as chain_contract
-use Rattle.occam_parser.specs.Terminals.{Terminal, Name, Integer, Character, Text, Pair, Chain, Mark, terminals_of}
+use Rattle.occam_parser.specs.Terminals.{Terminal, Name, Integer, Character, Text, Pair, Chain, Mark}
 use Rattle.occam_parser.specs.Expressions.{Expression, Alone, Prefixed, Paired, Chained, Terms, First, Then, Term}
 use Rattle.occam_parser.specs.Expressions.{Number, Byte, Truth, MostPos, MostNeg, Named, Element, Bracketed, Converted}
 
@@ -54,12 +52,7 @@ is_mark found wanted = sameb mark_contract.the_type found wanted
 unfoldable pub behind : mark_type.Mark → List Terminal → Option (List Terminal)
 behind wanted [] = None
 behind wanted (Mark found ∷ ts) = if is_mark found wanted then Some ts else None
-behind wanted (Name text ∷ ts) = None
-behind wanted (Integer value ∷ ts) = None
-behind wanted (Character byte ∷ ts) = None
-behind wanted (Text bytes ∷ ts) = None
-behind wanted (Pair operator ∷ ts) = None
-behind wanted (Chain operator ∷ ts) = None
+behind wanted (t ∷ ts) = None
 
 abbrev pub is_chain : ChainOperator → ChainOperator → Bool
 is_chain found wanted = sameb chain_contract.the_type found wanted
@@ -67,12 +60,7 @@ is_chain found wanted = sameb chain_contract.the_type found wanted
 unfoldable pub behind_operator : ChainOperator → List Terminal → Option (List Terminal)
 behind_operator wanted [] = None
 behind_operator wanted (Chain found ∷ ts) = if is_chain found wanted then Some ts else None
-behind_operator wanted (Name text ∷ ts) = None
-behind_operator wanted (Integer value ∷ ts) = None
-behind_operator wanted (Character byte ∷ ts) = None
-behind_operator wanted (Text bytes ∷ ts) = None
-behind_operator wanted (Pair operator ∷ ts) = None
-behind_operator wanted (Mark m ∷ ts) = None
+behind_operator wanted (t ∷ ts) = None
 
 -- an operator that may stand before an operand
 unfoldable pub prefix_at : Reads PrefixOperator

@@ -1,5 +1,5 @@
 -- How a fault of one line is told.
-use Rattle.std.specs.Prelude.{◌≡◌, ◌⊎◌, ℕ, ◌+◌, Bool, List, [], ◌∷◌, ◌++◌, length, ◌<◌, ◌≤◌, Option, Some, None, Result}
+use Rattle.std.specs.Prelude.{◌≡◌, ◌⊎◌, ℕ, Bool, List, [], ◌∷◌, ◌++◌, length, ◌<◌, ◌≤◌, Option, Some, None, Result}
 use Rattle.std.specs.Prelude.{Ok, Err}
 use Rattle.std.specs.Borrow.{Bor}
 use Rattle.occam_layout.specs.declared.token.Line.{Line}
@@ -18,7 +18,7 @@ use Rattle.occam_parser.specs.Views.{expression_of, operation_of}
 use Rattle.occam_parser.specs.Reading.{Reads, ◌>>=◌, Fails, Gives, behind, list_of}
 use Rattle.occam_parser.specs.LineReading.{type_at, shape_at, name_at, only}
 use Rattle.occam_parser.specs.Blocks.{Row, rows_of, Procedure, ProgramItem, GlobalProcedure}
-use Rattle.occam_parser.specs.BlockReading.{wants, behind_colon}
+use Rattle.occam_parser.specs.BlockReading.{behind_colon}
 
 -- want of memory, which no line is to blame for
 abbrev pub out_of_memory : ParseFault

@@ -1,5 +1,5 @@
 -- The tree that a value of the program is.
-use Rattle.std.specs.Prelude.{List, map, fold}
+use Rattle.std.specs.Prelude.{List, fold}
 use Rattle.occam_parser.specs.declared.tree.Expr.{Expr}
 use Rattle.occam_parser.specs.declared.tree.Operation.{Operation}
 use Rattle.occam_parser.specs.declared.tree.Operand.{Operand}

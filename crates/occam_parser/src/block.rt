@@ -3,17 +3,16 @@
 ghost use Rattle.std.specs.Prelude.{◌≡◌, ◌≤◌, ◌<◌, ◌-◌, [], ◌∷◌, length, map, option_map, IfOk, OnOk};
 ghost use Rattle.occam_parser.specs.Told.{Tells, Pushes, StandsAbove};
 ghost use Rattle.occam_parser.specs.BlockViews.{IsProcessOf};
-ghost use Rattle.occam_parser.specs.declared.head.BlockKind.TheVariants.{If, Alt};
 ghost use Rattle.occam_parser.specs.LineViews.{declaration_of, replicator_of};
 ghost use Rattle.occam_parser.specs.Reading.{Finds};
 ghost use Rattle.occam_parser.specs.Blocks.{row_of, rows_of, Block, NoComponent};
-ghost use Rattle.occam_parser.specs.BlockReading.{first_row, beginning_from, count_of, wants, further, components_of};
+ghost use Rattle.occam_parser.specs.BlockReading.{first_row, head_row, beginning_from, count_of, wants, further, components_of};
 ghost use Rattle.occam_parser.specs.BlockReading.{process_at, component_at};
-ghost use Rattle.occam_parser.specs.BlockViews.{process_of, construct_of, choice_of, branch_of, beginning_of, kind_of};
+ghost use Rattle.occam_parser.specs.BlockViews.{process_of, construct_of, beginning_of, kind_of};
 ghost use Rattle.occam_parser.specs.BlockViews.{components_in};
 
 use crate::fault::{Fault, ParseFault, at_line};
-use crate::head::{BlockKind, Head, Start, beside, guard, head_of, whole};
+use crate::head::{BlockKind, FromLine, Head, Start, beside, head_of};
 use crate::tree::{Branch, Choice, Construct, Declaration, Process, Replicator};
 use occam_layout::Line;
 use std::alloc::Global;
@@ -44,6 +43,24 @@ fn first_at<'l, 'a>(
         return Err(Fault::UnexpectedToken.at(line.number));
     }
     Ok((line, rest))
+}
+
+/// What the first line says, which has to be at this level: the number of the line, what it says, and the lines behind
+/// it. It belongs to the head on another line.
+#[tactic(auto, unfolding(crate::specs::BlockReading::head_row))]
+fn headed<'l, 'a, H: FromLine<'a>>(
+    alloc: Global,
+    owner: u32,
+    level: u32,
+    lines: &'l [Line<'a>],
+) -> Result<((u32, H), &'l [Line<'a>]), ParseFault>
+    ensures found { Tells (λ x. ((x.0.0, H.tree x.0.1), rows_of x.1.now)) result (head_row H.reads level (rows_of lines.now)) }
+    ensures within { IfOk result (λ x. length x.1.now < length lines.now) }
+    ensures level { OnOk result (level ≤ 64) }
+{
+    let (first, rest) = first_at(owner, level, lines)?;
+    let head = at_line(H::from_line(alloc, &first.tokens), first.number)?;
+    Ok(((first.number, head), rest))
 }
 
 /// Pushes what was read, and tells the lines behind it.
@@ -291,57 +308,27 @@ fn component<'l, 'a>(
     match found {
         Body::Seq(found) => push(found, process(alloc, owner, level, lines)),
         Body::Par(found) => push(found, process(alloc, owner, level, lines)),
-        Body::If(found) => push(found, choice(alloc, owner, level, lines)),
-        Body::Alt(found) => push(found, branch(alloc, owner, level, lines)),
+        Body::If(found) => {
+            let ((line, condition), rest) = headed(alloc, owner, level, lines)?;
+            let read = below(condition, process(alloc, line, level + 1, rest));
+            let ((condition, process), rest) = read?;
+            let choice = Choice {
+                line,
+                condition,
+                process,
+            };
+            push(found, Ok((choice, rest)))
+        }
+        Body::Alt(found) => {
+            let ((line, guard), rest) = headed(alloc, owner, level, lines)?;
+            let read = below(guard, process(alloc, line, level + 1, rest));
+            let ((guard, process), rest) = read?;
+            let branch = Branch {
+                line,
+                guard,
+                process,
+            };
+            push(found, Ok((branch, rest)))
+        }
     }
-}
-
-/// A condition, and the process below it.
-#[cycle(process)]
-fn choice<'l, 'a>(
-    alloc: Global,
-    owner: u32,
-    level: u32,
-    lines: &'l [Line<'a>],
-) -> Result<(Choice<'a>, &'l [Line<'a>]), ParseFault>
-    ensures found { Tells (λ x. (choice_of x.0, rows_of x.1.now)) result (component_at (65 - level) level If (rows_of lines.now)) }
-    ensures within { IfOk result (λ x. length x.1.now < length lines.now) }
-{
-    let (first, rest) = first_at(owner, level, lines)?;
-    let line = first.number;
-    let condition = at_line(whole(alloc, &first.tokens), line)?;
-    let ((condition, process), rest) = below(condition, process(alloc, line, level + 1, rest))?;
-    Ok((
-        Choice {
-            line,
-            condition,
-            process,
-        },
-        rest,
-    ))
-}
-
-/// A guard, and the process below it.
-#[cycle(process)]
-fn branch<'l, 'a>(
-    alloc: Global,
-    owner: u32,
-    level: u32,
-    lines: &'l [Line<'a>],
-) -> Result<(Branch<'a>, &'l [Line<'a>]), ParseFault>
-    ensures found { Tells (λ x. (branch_of x.0, rows_of x.1.now)) result (component_at (65 - level) level Alt (rows_of lines.now)) }
-    ensures within { IfOk result (λ x. length x.1.now < length lines.now) }
-{
-    let (first, rest) = first_at(owner, level, lines)?;
-    let line = first.number;
-    let guard = at_line(guard(alloc, &first.tokens), line)?;
-    let ((guard, process), rest) = below(guard, process(alloc, line, level + 1, rest))?;
-    Ok((
-        Branch {
-            line,
-            guard,
-            process,
-        },
-        rest,
-    ))
 }

@@ -1,19 +1,21 @@
 //! Constants, declarations and the heads of procedures, within one line.
 
-ghost use Rattle.std.specs.Prelude.{◌≡◌, ◌≤◌, ◌<◌, length, map, option_map, IfOk};
+ghost use Rattle.std.specs.Prelude.{◌≡◌, ◌≤◌, ◌<◌, ℕ, List, length, map, option_map, IfOk};
 ghost use Rattle.occam_parser.specs.Terminals.{terminals_of};
 ghost use Rattle.occam_parser.specs.Views.{expression_of};
 ghost use Rattle.occam_parser.specs.LineViews.{spelling_of, value_of, constant_of, declaration_of, formal_of};
 ghost use Rattle.occam_parser.specs.LineViews.{proc_head_of};
-ghost use Rattle.occam_parser.specs.Reading.{Gives, Finds, list_of};
-ghost use Rattle.occam_parser.specs.LineReading.{type_at, shape_at, name_at, value_at, constant_at, table_at, items_at};
+ghost use Rattle.occam_parser.specs.Lines.{Formal as FormalTree};
+ghost use Rattle.occam_parser.specs.Reading.{Gives, Finds};
+ghost use Rattle.occam_parser.specs.LineReading.{type_at, shape_at, name_at, value_at, constant_at, table_at};
 ghost use Rattle.occam_parser.specs.LineReading.{names_at, value_formal_at, formal_at, proc_head_at};
 ghost use Rattle.occam_parser.specs.Told.{typed_name_at, shaped_name_at, shaped_names_at};
 
-use crate::expression::{expect, expression, expressions, in_brackets, up_to};
+use crate::expression::{expect, in_brackets, up_to};
 use crate::fault::{Fault, LineError};
-use crate::head::{at_end, beside, expect_end, name};
-use crate::symbol::{Mark, Symbol, behind, first};
+use crate::head::{at_end, beside, name};
+use crate::list::{FromTokens, in_parentheses, list};
+use crate::symbol::{Mark, Read, Symbol, behind, first};
 use crate::tree::{
     Constant, ConstantValue, Declaration, Expr, Formal, FormalKind, Names, ValueType,
 };
@@ -42,9 +44,7 @@ fn value_type<'t, 'a>(tokens: &'t [Token<'a>]) -> Result<(ValueType, &'t [Token<
 
 /// `type name`, and the tokens behind it.
 #[tactic(auto, unfolding(crate::specs::Told::typed_name_at))]
-fn typed_name<'t, 'a>(
-    tokens: &'t [Token<'a>],
-) -> Result<((ValueType, &'a [u8]), &'t [Token<'a>]), LineError>
+fn typed_name<'t, 'a>(tokens: &'t [Token<'a>]) -> Read<'t, 'a, (ValueType, &'a [u8])>
     ensures found { Gives (λ x. ((x.0.0, x.0.1.now), terminals_of x.1.now)) result (typed_name_at (terminals_of tokens.now)) }
     ensures within { IfOk result (λ x. length x.1.now ≤ length tokens.now) }
 {
@@ -69,9 +69,7 @@ fn shape<'t, 'a>(tokens: &'t [Token<'a>]) -> Result<((bool, ValueType), &'t [Tok
 
 /// `type name` or `CHAN OF type name`, and the tokens behind it.
 #[tactic(auto, unfolding(crate::specs::Told::shaped_name_at))]
-fn shaped_name<'t, 'a>(
-    tokens: &'t [Token<'a>],
-) -> Result<(((bool, ValueType), &'a [u8]), &'t [Token<'a>]), LineError>
+fn shaped_name<'t, 'a>(tokens: &'t [Token<'a>]) -> Read<'t, 'a, ((bool, ValueType), &'a [u8])>
     ensures found { Gives (λ x. ((x.0.0, x.0.1.now), terminals_of x.1.now)) result (shaped_name_at (terminals_of tokens.now)) }
     ensures within { IfOk result (λ x. length x.1.now ≤ length tokens.now) }
 {
@@ -106,44 +104,34 @@ fn constant_value<'t, 'a>(
     alloc: Global,
     size: Option<Expr<'a>>,
     tokens: &'t [Token<'a>],
-) -> Result<(ConstantValue<'a>, &'t [Token<'a>]), LineError>
+) -> Read<'t, 'a, ConstantValue<'a>>
     ensures { Gives (λ x. (value_of x.0, terminals_of x.1.now)) result (value_at (option_map expression_of size.entry) (terminals_of tokens.now)) }
 {
     let Some(size) = size else {
-        let (value, rest) = expression(alloc, tokens)?;
+        let (value, rest) = Expr::from_tokens(alloc, tokens)?;
         return Ok((ConstantValue::Scalar(value), rest));
     };
     table(alloc, size, tokens)
 }
 
 /// A table of this size: its items, or a string.
-#[tactic(auto, unfolding(crate::specs::LineReading::table_at))]
+#[tactic(auto, unfolding(crate::specs::LineReading::table_at, crate::specs::Reading::up_to))]
 fn table<'t, 'a>(
     alloc: Global,
     size: Expr<'a>,
     tokens: &'t [Token<'a>],
-) -> Result<(ConstantValue<'a>, &'t [Token<'a>]), LineError>
+) -> Read<'t, 'a, ConstantValue<'a>>
     ensures { Gives (λ x. (value_of x.0, terminals_of x.1.now)) result (table_at (expression_of size.entry) (terminals_of tokens.now)) }
 {
     match first(tokens) {
         Some((Symbol::Text(text), rest)) => Ok((ConstantValue::Text { size, text }, rest)),
-        Some((Symbol::Mark(Mark::OpenBracket), rest)) => table_items(alloc, size, rest),
+        Some((Symbol::Mark(Mark::OpenBracket), rest)) => {
+            let items = up_to(Mark::CloseBracket, list(alloc, rest));
+            let (size, (items, rest)) = beside(size, items)?;
+            Ok((ConstantValue::Table { size, items }, rest))
+        }
         _ => Err(LineError::Fault(Fault::UnexpectedToken)),
     }
-}
-
-/// The items of a table of this size, behind the bracket that opens it.
-#[tactic(auto, unfolding(crate::specs::Reading::up_to))]
-fn table_items<'t, 'a>(
-    alloc: Global,
-    size: Expr<'a>,
-    tokens: &'t [Token<'a>],
-) -> Result<(ConstantValue<'a>, &'t [Token<'a>]), LineError>
-    ensures { Gives (λ x. (value_of x.0, terminals_of x.1.now)) result (items_at (expression_of size.entry) (terminals_of tokens.now)) }
-{
-    let items = up_to(Mark::CloseBracket, expressions(alloc, tokens));
-    let (size, (items, rest)) = beside(size, items)?;
-    Ok((ConstantValue::Table { size, items }, rest))
 }
 
 /// The declaration of variables or channels that a line is.
@@ -175,27 +163,21 @@ fn shaped_names<'a>(
     ensures { Gives (λ x. (x.0, map spelling_of x.1.items)) result (shaped_names_at (terminals_of tokens.now)) }
 {
     let (shape, rest) = shape(tokens)?;
-    let names = at_end(up_to(Mark::Colon, names(alloc, rest)))?;
+    let names = at_end(up_to(Mark::Colon, list(alloc, rest)))?;
     Ok((shape, names))
 }
 
-/// Names with commas between them, one at least.
-fn names<'t, 'a>(
-    alloc: Global,
-    tokens: &'t [Token<'a>],
-) -> Result<(Vec<&'a [u8]>, &'t [Token<'a>]), LineError>
-    ensures found { Gives (λ x. (map spelling_of x.0.items, terminals_of x.1.now)) result (list_of name_at (terminals_of tokens.now)) }
-    ensures within { IfOk result (λ x. length x.1.now ≤ length tokens.now) }
-{
-    let (first, mut rest) = name(tokens)?;
-    let mut found = Vec::new(alloc);
-    found.push(first)?;
-    while let Some(after) = behind(Mark::Comma, rest) {
-        let (next, behind) = name(after)?;
-        found.push(next)?;
-        rest = behind;
+/// A name, and the tokens behind it.
+impl<'a> FromTokens<'a> for &'a [u8] {
+    ghost Tree = { List ℕ };
+
+    ghost tree = { spelling_of };
+
+    ghost reads = { name_at };
+
+    fn from_tokens<'t>(_alloc: Global, tokens: &'t [Token<'a>]) -> Read<'t, 'a, &'a [u8]> {
+        Ok(name(tokens)?)
     }
-    Ok((found, rest))
 }
 
 /// The head of a procedure, behind its `PROC`.
@@ -205,72 +187,47 @@ pub(crate) fn proc_head<'a>(alloc: Global, tokens: &[Token<'a>]) -> Result<ProcH
 {
     let (name, rest) = name(tokens)?;
     let rest = expect(Mark::OpenParenthesis, rest)?;
-    if let Some(rest) = behind(Mark::CloseParenthesis, rest) {
-        expect_end(rest)?;
-        return Ok(ProcHead {
-            name,
-            formals: Vec::new(alloc),
-        });
-    }
-    let formals = at_end(up_to(Mark::CloseParenthesis, formals(alloc, rest)))?;
-    Ok(ProcHead { name, formals })
-}
-
-/// Formal parameters with commas between them, one at least.
-fn formals<'t, 'a>(
-    alloc: Global,
-    tokens: &'t [Token<'a>],
-) -> Result<(Vec<Formal<'a>>, &'t [Token<'a>]), LineError>
-    ensures found { Gives (λ x. (map formal_of x.0.items, terminals_of x.1.now)) result (list_of formal_at (terminals_of tokens.now)) }
-    ensures within { IfOk result (λ x. length x.1.now ≤ length tokens.now) }
-{
-    let (first, mut rest) = formal(alloc, tokens)?;
-    let mut found = Vec::new(alloc);
-    found.push(first)?;
-    while let Some(after) = behind(Mark::Comma, rest) {
-        let (next, behind) = formal(alloc, after)?;
-        found.push(next)?;
-        rest = behind;
-    }
-    Ok((found, rest))
+    Ok(ProcHead {
+        name,
+        formals: in_parentheses(alloc, rest)?,
+    })
 }
 
 /// A formal parameter, and the tokens behind it.
-#[tactic(auto, unfolding(crate::specs::LineReading::formal_at, crate::specs::LineReading::formal_named, crate::specs::Told::shaped_name_at))]
-fn formal<'t, 'a>(
-    alloc: Global,
-    tokens: &'t [Token<'a>],
-) -> Result<(Formal<'a>, &'t [Token<'a>]), LineError>
-    ensures found { Gives (λ x. (formal_of x.0, terminals_of x.1.now)) result (formal_at (terminals_of tokens.now)) }
-    ensures within { IfOk result (λ x. length x.1.now ≤ length tokens.now) }
-{
-    if let Some(rest) = behind(Mark::Val, tokens) {
-        return value_formal(alloc, rest);
+impl<'a> FromTokens<'a> for Formal<'a> {
+    ghost Tree = { FormalTree };
+
+    ghost tree = { formal_of };
+
+    ghost reads = { formal_at };
+
+    #[tactic(auto, unfolding(crate::specs::LineReading::formal_at, crate::specs::LineReading::formal_named, crate::specs::Told::shaped_name_at))]
+    fn from_tokens<'t>(alloc: Global, tokens: &'t [Token<'a>]) -> Read<'t, 'a, Formal<'a>> {
+        if let Some(rest) = behind(Mark::Val, tokens) {
+            return value_formal(alloc, rest);
+        }
+        let (size, rest) = in_brackets(alloc, tokens)?;
+        let (size, (((is_channel, value_type), name), rest)) = beside(size, shaped_name(rest))?;
+        let kind = if is_channel {
+            FormalKind::Channel
+        } else {
+            FormalKind::Variable
+        };
+        Ok((
+            Formal {
+                kind,
+                size,
+                value_type,
+                name,
+            },
+            rest,
+        ))
     }
-    let (size, rest) = in_brackets(alloc, tokens)?;
-    let (size, (((is_channel, value_type), name), rest)) = beside(size, shaped_name(rest))?;
-    let kind = if is_channel {
-        FormalKind::Channel
-    } else {
-        FormalKind::Variable
-    };
-    Ok((
-        Formal {
-            kind,
-            size,
-            value_type,
-            name,
-        },
-        rest,
-    ))
 }
 
 /// A formal parameter that is a value, behind its `VAL`.
 #[tactic(auto, unfolding(crate::specs::LineReading::formal_named, crate::specs::Told::typed_name_at))]
-fn value_formal<'t, 'a>(
-    alloc: Global,
-    tokens: &'t [Token<'a>],
-) -> Result<(Formal<'a>, &'t [Token<'a>]), LineError>
+fn value_formal<'t, 'a>(alloc: Global, tokens: &'t [Token<'a>]) -> Read<'t, 'a, Formal<'a>>
     ensures found { Gives (λ x. (formal_of x.0, terminals_of x.1.now)) result (value_formal_at (terminals_of tokens.now)) }
     ensures within { IfOk result (λ x. length x.1.now ≤ length tokens.now) }
 {

@@ -1,17 +1,19 @@
 //! Expressions, within one line.
 
-ghost use Rattle.std.specs.Prelude.{◌≡◌, ◌≤◌, ◌<◌, length, map, option_map, IfOk, IfSome};
+ghost use Rattle.std.specs.Prelude.{◌≡◌, ◌≤◌, ◌<◌, length, option_map, IfOk, IfSome};
 ghost use Rattle.occam_parser.specs.Terminals.{terminals_of};
+ghost use Rattle.occam_parser.specs.Expressions.{Expression};
 ghost use Rattle.occam_parser.specs.Views.{expression_of, term_of};
 ghost use Rattle.occam_parser.specs.Reading.{Gives, Finds, behind, behind_operator, prefix_at, begins_with_operator};
 ghost use Rattle.occam_parser.specs.Reading.{expression_at, one_operator, pair, chain, term_at, marked, named, converted};
-ghost use Rattle.occam_parser.specs.Reading.{up_to, inner_at, operand_within, list_of};
+ghost use Rattle.occam_parser.specs.Reading.{up_to, inner_at, operand_within};
 ghost use Rattle.occam_parser.specs.LineReading.{bracketed_at};
 ghost use Rattle.occam_parser.specs.Told.{GoesUpTo, IsMadeOf};
 
 use crate::fault::{Fault, LineError};
 use crate::head::beside;
-use crate::symbol::{Mark, Symbol, behind, first};
+use crate::list::FromTokens;
+use crate::symbol::{Mark, Read, Symbol, behind, first};
 use crate::tree::{
     ChainOperator, Expr, Operand, Operation, PairOperator, PrefixOperator, ValueType,
 };
@@ -30,10 +32,7 @@ pub(crate) fn expect<'t, 'a>(mark: Mark, tokens: &'t [Token<'a>]) -> Result<&'t 
 }
 
 /// What was read, where this mark has to follow it, and the tokens behind the mark.
-pub(crate) fn up_to<'t, 'a, T: Drop>(
-    mark: Mark,
-    read: Result<(T, &'t [Token<'a>]), LineError>,
-) -> Result<(T, &'t [Token<'a>]), LineError>
+pub(crate) fn up_to<'t, 'a, T: Drop>(mark: Mark, read: Read<'t, 'a, T>) -> Read<'t, 'a, T>
     ensures { GoesUpTo mark read.entry result }
 {
     let (found, rest) = read?;
@@ -78,25 +77,23 @@ fn begins_with_operator(tokens: &[Token<'_>]) -> bool
     matches!(first(tokens), Some((Symbol::Pair(_) | Symbol::Chain(_), _)))
 }
 
-/// The expression at the front of some tokens, and the tokens behind it.
-pub(crate) fn expression<'t, 'a>(
-    alloc: Global,
-    tokens: &'t [Token<'a>],
-) -> Result<(Expr<'a>, &'t [Token<'a>]), LineError>
-    ensures found { Gives (λ x. (expression_of x.0, terminals_of x.1.now)) result (expression_at 64 (terminals_of tokens.now)) }
-    ensures within { IfOk result (λ x. length x.1.now ≤ length tokens.now) }
-{
-    nested(alloc, MAX_NESTING, tokens)
+/// An expression, and the tokens behind it.
+impl<'a> FromTokens<'a> for Expr<'a> {
+    ghost Tree = { Expression };
+
+    ghost tree = { expression_of };
+
+    ghost reads = { expression_at 64 };
+
+    fn from_tokens<'t>(alloc: Global, tokens: &'t [Token<'a>]) -> Read<'t, 'a, Expr<'a>> {
+        nested(alloc, MAX_NESTING, tokens)
+    }
 }
 
 /// An expression in which so many levels may still be nested.
 #[cycle(expression)]
 #[tactic(auto, unfolding(crate::specs::Reading::expression_at, crate::specs::Reading::expression_with))]
-fn nested<'t, 'a>(
-    alloc: Global,
-    levels: u32,
-    tokens: &'t [Token<'a>],
-) -> Result<(Expr<'a>, &'t [Token<'a>]), LineError>
+fn nested<'t, 'a>(alloc: Global, levels: u32, tokens: &'t [Token<'a>]) -> Read<'t, 'a, Expr<'a>>
     ensures found { Gives (λ x. (expression_of x.0, terminals_of x.1.now)) result (expression_at levels (terminals_of tokens.now)) }
     ensures within { IfOk result (λ x. length x.1.now ≤ length tokens.now) }
 {
@@ -112,7 +109,7 @@ fn made_of<'t, 'a>(
     alloc: Global,
     operation: Operation<'a>,
     rest: &'t [Token<'a>],
-) -> Result<(Expr<'a>, &'t [Token<'a>]), LineError>
+) -> Read<'t, 'a, Expr<'a>>
     ensures { IsMadeOf operation.entry rest.entry result }
 {
     let operation = Box::new(alloc, operation)?;
@@ -126,7 +123,7 @@ fn one_operator<'t, 'a>(
     alloc: Global,
     levels: u32,
     tokens: &'t [Token<'a>],
-) -> Result<(Expr<'a>, &'t [Token<'a>]), LineError>
+) -> Read<'t, 'a, Expr<'a>>
     ensures found { Gives (λ x. (expression_of x.0, terminals_of x.1.now)) result (one_operator (term_at levels) (terminals_of tokens.now)) }
     ensures within { IfOk result (λ x. length x.1.now ≤ length tokens.now) }
 {
@@ -150,7 +147,7 @@ fn pair<'t, 'a>(
     operator: PairOperator,
     left: Operand<'a>,
     tokens: &'t [Token<'a>],
-) -> Result<(Expr<'a>, &'t [Token<'a>]), LineError>
+) -> Read<'t, 'a, Expr<'a>>
     ensures found { Gives (λ x. (expression_of x.0, terminals_of x.1.now)) result (pair (term_at levels) operator (term_of left.entry) (terminals_of tokens.now)) }
     ensures within { IfOk result (λ x. length x.1.now ≤ length tokens.now) }
 {
@@ -172,7 +169,7 @@ fn chain<'t, 'a>(
     operator: ChainOperator,
     first: Operand<'a>,
     tokens: &'t [Token<'a>],
-) -> Result<(Expr<'a>, &'t [Token<'a>]), LineError>
+) -> Read<'t, 'a, Expr<'a>>
     ensures found { Gives (λ x. (expression_of x.0, terminals_of x.1.now)) result (chain (term_at levels) operator (term_of first.entry) (terminals_of tokens.now)) }
     ensures within { IfOk result (λ x. length x.1.now ≤ length tokens.now) }
 {
@@ -195,11 +192,7 @@ fn chain<'t, 'a>(
 /// What operators stand between.
 #[cycle(expression)]
 #[tactic(auto, unfolding(crate::specs::Reading::term_at, crate::specs::Reading::term_with))]
-fn operand<'t, 'a>(
-    alloc: Global,
-    levels: u32,
-    tokens: &'t [Token<'a>],
-) -> Result<(Operand<'a>, &'t [Token<'a>]), LineError>
+fn operand<'t, 'a>(alloc: Global, levels: u32, tokens: &'t [Token<'a>]) -> Read<'t, 'a, Operand<'a>>
     ensures found { Gives (λ x. (term_of x.0, terminals_of x.1.now)) result (term_at levels (terminals_of tokens.now)) }
     ensures within { IfOk result (λ x. length x.1.now ≤ length tokens.now) }
 {
@@ -221,7 +214,7 @@ fn marked<'t, 'a>(
     levels: u32,
     mark: Mark,
     tokens: &'t [Token<'a>],
-) -> Result<(Operand<'a>, &'t [Token<'a>]), LineError>
+) -> Read<'t, 'a, Operand<'a>>
     ensures found { Gives (λ x. (term_of x.0, terminals_of x.1.now)) result (marked (inner_at levels) (operand_within levels) mark (terminals_of tokens.now)) }
     ensures within { IfOk result (λ x. length x.1.now ≤ length tokens.now) }
 {
@@ -249,7 +242,7 @@ fn named<'t, 'a>(
     levels: u32,
     name: &'a [u8],
     tokens: &'t [Token<'a>],
-) -> Result<(Operand<'a>, &'t [Token<'a>]), LineError>
+) -> Read<'t, 'a, Operand<'a>>
     ensures found { Gives (λ x. (term_of x.0, terminals_of x.1.now)) result (named (inner_at levels) name.now (terminals_of tokens.now)) }
     ensures within { IfOk result (λ x. length x.1.now ≤ length tokens.now) }
 {
@@ -268,7 +261,7 @@ fn converted<'t, 'a>(
     levels: u32,
     to: ValueType,
     tokens: &'t [Token<'a>],
-) -> Result<(Operand<'a>, &'t [Token<'a>]), LineError>
+) -> Read<'t, 'a, Operand<'a>>
     ensures found { Gives (λ x. (term_of x.0, terminals_of x.1.now)) result (converted (operand_within levels) to (terminals_of tokens.now)) }
     ensures within { IfOk result (λ x. length x.1.now ≤ length tokens.now) }
 {
@@ -288,7 +281,7 @@ fn deeper<'t, 'a>(
     levels: u32,
     close: Mark,
     tokens: &'t [Token<'a>],
-) -> Result<(Expr<'a>, &'t [Token<'a>]), LineError>
+) -> Read<'t, 'a, Expr<'a>>
     ensures found { Gives (λ x. (expression_of x.0, terminals_of x.1.now)) result (up_to close (inner_at levels (terminals_of tokens.now))) }
     ensures within { IfOk result (λ x. length x.1.now ≤ length tokens.now) }
 {
@@ -303,32 +296,13 @@ fn deeper<'t, 'a>(
 pub(crate) fn in_brackets<'t, 'a>(
     alloc: Global,
     tokens: &'t [Token<'a>],
-) -> Result<(Option<Expr<'a>>, &'t [Token<'a>]), LineError>
+) -> Read<'t, 'a, Option<Expr<'a>>>
     ensures found { Gives (λ x. (option_map expression_of x.0, terminals_of x.1.now)) result (bracketed_at (terminals_of tokens.now)) }
     ensures within { IfOk result (λ x. length x.1.now ≤ length tokens.now) }
 {
     let Some(after) = behind(Mark::OpenBracket, tokens) else {
         return Ok((None, tokens));
     };
-    let (inner, rest) = up_to(Mark::CloseBracket, expression(alloc, after))?;
+    let (inner, rest) = up_to(Mark::CloseBracket, Expr::from_tokens(alloc, after))?;
     Ok((Some(inner), rest))
-}
-
-/// Expressions with commas between them, one at least.
-pub(crate) fn expressions<'t, 'a>(
-    alloc: Global,
-    tokens: &'t [Token<'a>],
-) -> Result<(Vec<Expr<'a>>, &'t [Token<'a>]), LineError>
-    ensures found { Gives (λ x. (map expression_of x.0.items, terminals_of x.1.now)) result (list_of (expression_at 64) (terminals_of tokens.now)) }
-    ensures within { IfOk result (λ x. length x.1.now ≤ length tokens.now) }
-{
-    let (first, mut rest) = expression(alloc, tokens)?;
-    let mut found = Vec::new(alloc);
-    found.push(first)?;
-    while let Some(after) = behind(Mark::Comma, rest) {
-        let (next, behind) = expression(alloc, after)?;
-        found.push(next)?;
-        rest = behind;
-    }
-    Ok((found, rest))
 }

@@ -4,7 +4,7 @@ ghost use Rattle.std.specs.Prelude.{◌≡◌};
 ghost use Rattle.occam_parser.specs.Told.{out_of_memory, IsTold, IsToldOf};
 ghost use Rattle.occam_parser.specs.declared.fault.LineError.TheVariants.{Memory, Fault as at_fault};
 
-use std::alloc::{AllocError, AllocFailed};
+use std::alloc::AllocFailed;
 
 /// A token, or a line, stands where the grammar has another or none.
 pub const UNEXPECTED_TOKEN: u8 = 5;
@@ -94,14 +94,6 @@ pub(crate) fn at_line<T>(gave: Result<T, LineError>, line: u32) -> Result<T, Par
     ensures { IsToldOf gave result }
 {
     gave.map_err(|error| error.at(line))
-}
-
-impl From<AllocError> for LineError {
-    ghost from_gives = { λ _ e. e ≡ Memory };
-
-    fn from(_e: AllocError) -> LineError {
-        LineError::Memory
-    }
 }
 
 impl<T: Drop> From<AllocFailed<T>> for LineError {

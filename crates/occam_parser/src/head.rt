@@ -1,21 +1,23 @@
 //! What one line of a process says.
 
-ghost use Rattle.std.specs.Prelude.{◌≡◌, ◌≤◌, ◌<◌, true, false, length, map, option_map, IfOk, OnOk, OnErr};
-ghost use Rattle.occam_parser.specs.Terminals.{terminals_of, seen_symbol};
+ghost use Rattle.std.specs.Prelude.{◌≡◌, ◌≤◌, ◌<◌, true, false, List, Option, length, option_map, IfOk, OnOk, OnErr};
+ghost use Rattle.occam_parser.specs.Terminals.{Terminal, terminals_of, seen_symbol};
+ghost use Rattle.occam_parser.specs.Expressions.{Expression};
 ghost use Rattle.occam_parser.specs.Views.{expression_of};
 ghost use Rattle.occam_parser.specs.LineViews.{place_of, replicator_of, action_of, guard_of, head_of};
 ghost use Rattle.occam_parser.specs.Reading.{Gives, Finds};
 ghost use Rattle.occam_parser.specs.Told.{IsAll, IsBeside};
-ghost use Rattle.occam_parser.specs.Lines.{Skips};
+ghost use Rattle.occam_parser.specs.Lines.{Place as PlaceTree, Guard as GuardTree, Skips};
 ghost use Rattle.occam_parser.specs.LineReading.{ended, only, name_at, head_at, marked_head, block_at, replicator_at};
-ghost use Rattle.occam_parser.specs.LineReading.{counted_at, place_at, action_at, placed_action, assigned, received};
-ghost use Rattle.occam_parser.specs.LineReading.{sent, actuals_at, whole_at, whole_place, is_guard_sign, has_condition};
+ghost use Rattle.occam_parser.specs.LineReading.{counted_at, place_at, action_at, placed_action};
+ghost use Rattle.occam_parser.specs.LineReading.{whole_at, whole_place, is_guard_sign, has_condition};
 ghost use Rattle.occam_parser.specs.LineReading.{guard_at, conditioned_at, received_if, input_at};
 
 use crate::declaration::{constant, typed_names};
-use crate::expression::{expect, expression, expressions, in_brackets, up_to};
+use crate::expression::{in_brackets, up_to};
 use crate::fault::{Fault, LineError};
-use crate::symbol::{Mark, Symbol, behind, first};
+use crate::list::{FromTokens, in_parentheses};
+use crate::symbol::{Mark, Read, Symbol, behind, first};
 use crate::tree::{Action, Declaration, Expr, Guard, PairOperator, Place, Replicator};
 use occam_layout::{Line, Token};
 use std::alloc::Global;
@@ -41,6 +43,18 @@ pub(crate) enum BlockKind {
     Par,
     If,
     Alt,
+}
+
+/// What all that is left of a line can say.
+pub(crate) trait FromLine<'a>: Sized + Drop {
+    ghost Tree: { Type 0 };
+
+    ghost tree: { Self → Tree };
+
+    ghost reads: { List Terminal → Option Tree };
+
+    fn from_line(alloc: Global, tokens: &[Token<'a>]) -> Result<Self, LineError>
+        ensures { Gives tree result (reads (terminals_of tokens.now)) };
 }
 
 /// Nothing more may stand on the line.
@@ -167,18 +181,14 @@ fn counted<'a>(
 ) -> Result<Replicator<'a>, LineError>
     ensures { Gives replicator_of result (counted_at name.now (terminals_of tokens.now)) }
 {
-    let (base, rest) = up_to(Mark::For, expression(alloc, tokens))?;
-    let (base, count) = beside(base, whole(alloc, rest))?;
+    let (base, rest) = up_to(Mark::For, Expr::from_tokens(alloc, tokens))?;
+    let (base, count) = beside(base, Expr::from_line(alloc, rest))?;
     Ok(Replicator { name, base, count })
 }
 
 /// A variable or a channel whose name was read.
 #[tactic(auto, unfolding(crate::specs::LineReading::place_at))]
-fn place<'t, 'a>(
-    alloc: Global,
-    name: &'a [u8],
-    tokens: &'t [Token<'a>],
-) -> Result<(Place<'a>, &'t [Token<'a>]), LineError>
+fn place<'t, 'a>(alloc: Global, name: &'a [u8], tokens: &'t [Token<'a>]) -> Read<'t, 'a, Place<'a>>
     ensures found { Gives (λ x. (place_of x.0, terminals_of x.1.now)) result (place_at name.now (terminals_of tokens.now)) }
     ensures within { IfOk result (λ x. length x.1.now ≤ length tokens.now) }
 {
@@ -198,7 +208,7 @@ fn named_action<'a>(
     if let Some(rest) = behind(Mark::OpenParenthesis, tokens) {
         return Ok(Action::Instance {
             name,
-            actuals: actuals(alloc, rest)?,
+            actuals: in_parentheses(alloc, rest)?,
         });
     }
     let (place, rest) = place(alloc, name, tokens)?;
@@ -215,76 +225,49 @@ fn placed_action<'a>(
     ensures { Gives action_of result (placed_action (place_of place.entry) (terminals_of tokens.now)) }
 {
     match first(tokens) {
-        Some((Symbol::Mark(Mark::Assign), rest)) => assign(alloc, place, rest),
-        Some((Symbol::Mark(Mark::Input), rest)) => receive(alloc, place, rest),
-        Some((Symbol::Mark(Mark::Output), rest)) => send(alloc, place, rest),
+        Some((Symbol::Mark(Mark::Assign), rest)) => {
+            let (target, value) = beside(place, Expr::from_line(alloc, rest))?;
+            Ok(Action::Assign { target, value })
+        }
+        Some((Symbol::Mark(Mark::Input), rest)) => {
+            let (channel, target) = beside(place, Place::from_line(alloc, rest))?;
+            Ok(Action::Input { channel, target })
+        }
+        Some((Symbol::Mark(Mark::Output), rest)) => {
+            let (channel, value) = beside(place, Expr::from_line(alloc, rest))?;
+            Ok(Action::Output { channel, value })
+        }
         _ => Err(LineError::Fault(Fault::UnexpectedToken)),
     }
 }
 
-/// An assignment to a place, behind its `:=`.
-fn assign<'a>(
-    alloc: Global,
-    target: Place<'a>,
-    tokens: &[Token<'a>],
-) -> Result<Action<'a>, LineError>
-    ensures { Gives action_of result (assigned (place_of target.entry) (terminals_of tokens.now)) }
-{
-    let (target, value) = beside(target, whole(alloc, tokens))?;
-    Ok(Action::Assign { target, value })
-}
-
-/// An input on a channel, behind its `?`.
-fn receive<'a>(
-    alloc: Global,
-    channel: Place<'a>,
-    tokens: &[Token<'a>],
-) -> Result<Action<'a>, LineError>
-    ensures { Gives action_of result (received (place_of channel.entry) (terminals_of tokens.now)) }
-{
-    let (channel, target) = beside(channel, whole_place(alloc, tokens))?;
-    Ok(Action::Input { channel, target })
-}
-
-/// An output on a channel, behind its `!`.
-fn send<'a>(
-    alloc: Global,
-    channel: Place<'a>,
-    tokens: &[Token<'a>],
-) -> Result<Action<'a>, LineError>
-    ensures { Gives action_of result (sent (place_of channel.entry) (terminals_of tokens.now)) }
-{
-    let (channel, value) = beside(channel, whole(alloc, tokens))?;
-    Ok(Action::Output { channel, value })
-}
-
-/// The actual parameters up to the end of the line.
-#[tactic(auto, unfolding(crate::specs::LineReading::actuals_at))]
-fn actuals<'a>(alloc: Global, tokens: &[Token<'a>]) -> Result<Vec<Expr<'a>>, LineError>
-    ensures { Gives (λ v. map expression_of v.items) result (actuals_at (terminals_of tokens.now)) }
-{
-    if let Some(rest) = behind(Mark::CloseParenthesis, tokens) {
-        expect_end(rest)?;
-        return Ok(Vec::new(alloc));
-    }
-    at_end(up_to(Mark::CloseParenthesis, expressions(alloc, tokens)))
-}
-
 /// An expression up to the end of the line.
-#[tactic(auto, unfolding(crate::specs::LineReading::whole_at))]
-pub(crate) fn whole<'a>(alloc: Global, tokens: &[Token<'a>]) -> Result<Expr<'a>, LineError>
-    ensures { Gives expression_of result (whole_at (terminals_of tokens.now)) }
-{
-    at_end(expression(alloc, tokens))
+impl<'a> FromLine<'a> for Expr<'a> {
+    ghost Tree = { Expression };
+
+    ghost tree = { expression_of };
+
+    ghost reads = { whole_at };
+
+    #[tactic(auto, unfolding(crate::specs::LineReading::whole_at))]
+    fn from_line(alloc: Global, tokens: &[Token<'a>]) -> Result<Expr<'a>, LineError> {
+        at_end(Expr::from_tokens(alloc, tokens))
+    }
 }
 
 /// A variable up to the end of the line.
-#[tactic(auto, unfolding(crate::specs::LineReading::whole_place))]
-fn whole_place<'a>(alloc: Global, tokens: &[Token<'a>]) -> Result<Place<'a>, LineError>
-    ensures { Gives place_of result (whole_place (terminals_of tokens.now)) }
-{
-    let (name, rest) = name(tokens)?;
-    at_end(place(alloc, name, rest))
+impl<'a> FromLine<'a> for Place<'a> {
+    ghost Tree = { PlaceTree };
+
+    ghost tree = { place_of };
+
+    ghost reads = { whole_place };
+
+    #[tactic(auto, unfolding(crate::specs::LineReading::whole_place))]
+    fn from_line(alloc: Global, tokens: &[Token<'a>]) -> Result<Place<'a>, LineError> {
+        let (name, rest) = name(tokens)?;
+        at_end(place(alloc, name, rest))
+    }
 }
 
 fn is_guard(symbol: Symbol<'_>) -> bool
@@ -309,14 +292,20 @@ fn has_condition(tokens: &[Token<'_>]) -> bool
 }
 
 /// The guard that a line of an `ALT` is.
-#[tactic(auto, unfolding(crate::specs::LineReading::guard_at))]
-pub(crate) fn guard<'a>(alloc: Global, tokens: &[Token<'a>]) -> Result<Guard<'a>, LineError>
-    ensures { Gives guard_of result (guard_at (terminals_of tokens.now)) }
-{
-    if has_condition(tokens) {
-        conditioned(alloc, tokens)
-    } else {
-        input_guard(alloc, None, tokens)
+impl<'a> FromLine<'a> for Guard<'a> {
+    ghost Tree = { GuardTree };
+
+    ghost tree = { guard_of };
+
+    ghost reads = { guard_at };
+
+    #[tactic(auto, unfolding(crate::specs::LineReading::guard_at))]
+    fn from_line(alloc: Global, tokens: &[Token<'a>]) -> Result<Guard<'a>, LineError> {
+        if has_condition(tokens) {
+            conditioned(alloc, tokens)
+        } else {
+            input_guard(alloc, None, tokens)
+        }
     }
 }
 
@@ -325,7 +314,7 @@ pub(crate) fn guard<'a>(alloc: Global, tokens: &[Token<'a>]) -> Result<Guard<'a>
 fn conditioned<'a>(alloc: Global, tokens: &[Token<'a>]) -> Result<Guard<'a>, LineError>
     ensures { Gives guard_of result (conditioned_at (terminals_of tokens.now)) }
 {
-    let (condition, rest) = up_to(Mark::Guard, expression(alloc, tokens))?;
+    let (condition, rest) = up_to(Mark::Guard, Expr::from_tokens(alloc, tokens))?;
     match behind(Mark::Skip, rest) {
         Some(rest) => skip_guard(condition, rest),
         None => input_guard(alloc, Some(condition), rest),
@@ -363,5 +352,5 @@ fn input<'a>(alloc: Global, tokens: &[Token<'a>]) -> Result<(Place<'a>, Place<'a
 {
     let (name, rest) = name(tokens)?;
     let (channel, rest) = up_to(Mark::Input, place(alloc, name, rest))?;
-    beside(channel, whole_place(alloc, rest))
+    beside(channel, Place::from_line(alloc, rest))
 }

@@ -6,6 +6,7 @@ mod declaration;
 mod expression;
 mod fault;
 mod head;
+mod list;
 mod program;
 mod symbol;
 mod tree;

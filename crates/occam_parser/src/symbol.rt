@@ -4,8 +4,12 @@ ghost use Rattle.std.specs.Prelude.{◌≡◌, [], ◌∷◌, option_map, length
 ghost use Rattle.occam_parser.specs.Terminals.{terminal_of, terminals_of, seen_symbol};
 ghost use Rattle.occam_parser.specs.Reading.{behind};
 
+use crate::fault::LineError;
 use crate::tree::{ChainOperator, PairOperator};
 use occam_layout::{Text, Token, TokenKind};
+
+/// What was read from the front of some tokens, and the tokens behind it.
+pub(crate) type Read<'t, 'a, T> = Result<(T, &'t [Token<'a>]), LineError>;
 
 /// A token by its part in the grammar.
 #[derive(Clone, Copy)]

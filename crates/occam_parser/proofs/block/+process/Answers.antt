@@ -1,26 +1,26 @@
-use Rattle.std.proofs.Common.{◌≡◌, ◌-◌, ◌+◌, ◌∷◌, ◌<◌, [], Some, None, length, map, sym, refl, ap, subst, arith, ◌∙◌}
-use Rattle.std.proofs.Common.{inl, inr, rules}
+use Rattle.std.proofs.Common.{◌≡◌, ◌-◌, ◌+◌, ◌<◌, Some, None, length, map, sym, refl, ap, subst, arith, ◌∙◌}
+use Rattle.std.proofs.Common.{inr, Ok}
 use Rattle.std.specs.Prelude.{option_map}
 use Rattle.std.proofs.lemmas.Result.{err_from_is_err_and}
 use Rattle.occam_parser.specs.declared.head.BlockKind.TheVariants as block
 use Rattle.occam_parser.specs.LineViews.{replicator_of, declaration_of, guard_of, start_of}
 use Rattle.occam_parser.specs.declared.head.Start.TheVariants as start
+use Rattle.occam_parser.specs.declared.tree.Construct.TheViews.{roll-Choice, roll-Branch}
 use Rattle.occam_parser.specs.Terminals.{terminals_of}
 use Rattle.occam_parser.specs.LineReading.{whole_at, guard_at}
 use Rattle.occam_parser.specs.Views.{expression_of}
-use Rattle.occam_parser.specs.Blocks.{row_of, rows_of, Block}
+use Rattle.occam_parser.specs.Blocks.{rows_of, Block, Chosen, Guarded}
 use Rattle.occam_parser.specs.BlockReading.{component_at, wants}
-use Rattle.occam_parser.specs.BlockViews.{process_of, plain_component, kind_of, components_in}
-use Rattle.occam_parser.proofs.Answering.{told_found, told_lost, passed_on}
+use Rattle.occam_parser.specs.BlockViews.{process_of, choice_of, branch_of, plain_component, kind_of, components_in}
+use Rattle.occam_parser.proofs.Answering.{passed_on}
 use Rattle.occam_parser.proofs.Turns.{block_stops, block_ends}
 use Rattle.occam_parser.proofs.Levelled.{process_none, process_is, block_found, block_lost, body_found, body_none}
-use Rattle.occam_parser.proofs.Levelled.{seq_is, par_is, kind_reads, choice_none, choice_unread, choice_empty}
-use Rattle.occam_parser.proofs.Levelled.{choice_found, branch_none, branch_unread, branch_empty, branch_found}
+use Rattle.occam_parser.proofs.Levelled.{seq_is, par_is, kind_reads, choice_is, branch_is}
 use Rattle.occam_parser.proofs.SeenBlocks.{first_stops, single_is, view-Action, view-Choice, view-Branch}
 use Rattle.occam_parser.proofs.SeenBlocks.{started}
 use Rattle.occam_parser.proofs.Taken.{kind_tells, pushed_tells, turn_begins, turn_goes_on, turn_fails, beside_lost}
 use Rattle.occam_parser.proofs.Taken.{told_made}
-use Rattle.occam_parser.proofs.Taken.{beside_found, beside_head, below_lost, below_found, below_head, below_keeps}
+use Rattle.occam_parser.proofs.Taken.{beside_found, beside_head, head_lost, headed_lost, headed_found}
 use Rattle.occam_parser.proofs.block.+process.Goals as goal
 
 pub component-returns-in-Seq-clause-found : goal.component-returns-in-Seq-clause-found
@@ -42,6 +42,56 @@ component-returns-in-Par-clause-found t c =
     rw c.in-Par.is
     (pushed_tells plain_component read c.in-Par.found.items c.push-in-Par.new.found.items c.push-in-Par.result
     (component_at n c.args.level block.Par rows) c.push-in-Par.ensures told)
+
+pub component-returns-in_err-line-in-If-clause-found : goal.component-returns-in_err-line-in-If-clause-found
+component-returns-in_err-line-in-If-clause-found t c =
+    let p = err_from_is_err_and c.from_residual.result c.from_residual.ensures.1 in
+    rw (p.1, p.2, c.in-If.is) (head_lost whole_at Chosen block.If c.args.level _ _ _ choice_is c.in_err-line-in-If.ensures.found)
+
+pub component-returns-in_err-condition-in-If-clause-found : goal.component-returns-in_err-condition-in-If-clause-found
+component-returns-in_err-condition-in-If-clause-found t c =
+    let p = err_from_is_err_and c.from_residual-in_err-condition-in-If.result c.from_residual-in_err-condition-in-If.ensures.1 in
+    let head = c.in_ok-line-in-If in
+    rw (p.1, p.2, c.in-If.is)
+    (headed_lost whole_at Chosen block.If c.args.level _ _ _ head.line (expression_of head.condition) head.condition c.process-in-If.result _
+    choice_is head.ensures.level head.ensures.found c.in_err-condition-in-If.ensures c.process-in-If.ensures.found)
+
+pub component-returns-in_ok-condition-in-If-clause-found : goal.component-returns-in_ok-condition-in-If-clause-found
+component-returns-in_ok-condition-in-If-clause-found t c =
+    let head = c.in_ok-line-in-If in
+    let y = c.in_ok-condition-in-If in
+    let made = headed_found whole_at Chosen block.If expression_of c.args.level (rows_of c.args.lines.now) _ head.line head.condition
+    y.condition y.process y.rest c.process-in-If.result choice_is head.ensures.level head.ensures.found y.ensures
+    c.process-in-If.ensures.found in
+    rw c.in-If.is
+    (pushed_tells choice_of (Ok (roll-Choice (record { line = head.line; condition = y.condition; process = y.process }), y.rest))
+    c.in-If.found.items c.push-in-If.new.found.items c.push-in-If.result _ c.push-in-If.ensures
+    (made ∙ ap (λ z. Some (z, rows_of y.rest.now)) (sym (view-Choice head.line y.condition y.process))))
+
+pub component-returns-in_err-line-in-Alt-clause-found : goal.component-returns-in_err-line-in-Alt-clause-found
+component-returns-in_err-line-in-Alt-clause-found t c =
+    let p = err_from_is_err_and c.from_residual-in_err-line-in-Alt.result c.from_residual-in_err-line-in-Alt.ensures.1 in
+    rw (p.1, p.2, c.in-Alt.is) (head_lost guard_at Guarded block.Alt c.args.level _ _ _ branch_is c.in_err-line-in-Alt.ensures.found)
+
+pub component-returns-in_err-guard-in-Alt-clause-found : goal.component-returns-in_err-guard-in-Alt-clause-found
+component-returns-in_err-guard-in-Alt-clause-found t c =
+    let p = err_from_is_err_and c.from_residual-in_err-guard-in-Alt.result c.from_residual-in_err-guard-in-Alt.ensures.1 in
+    let head = c.in_ok-line-in-Alt in
+    rw (p.1, p.2, c.in-Alt.is)
+    (headed_lost guard_at Guarded block.Alt c.args.level _ _ _ head.line (guard_of head.guard) head.guard c.process-in-Alt.result _
+    branch_is head.ensures.level head.ensures.found c.in_err-guard-in-Alt.ensures c.process-in-Alt.ensures.found)
+
+pub component-returns-in_ok-guard-in-Alt-clause-found : goal.component-returns-in_ok-guard-in-Alt-clause-found
+component-returns-in_ok-guard-in-Alt-clause-found t c =
+    let head = c.in_ok-line-in-Alt in
+    let y = c.in_ok-guard-in-Alt in
+    let made = headed_found guard_at Guarded block.Alt guard_of c.args.level (rows_of c.args.lines.now) _ head.line head.guard
+    y.guard y.process y.rest c.process-in-Alt.result branch_is head.ensures.level head.ensures.found y.ensures
+    c.process-in-Alt.ensures.found in
+    rw c.in-Alt.is
+    (pushed_tells branch_of (Ok (roll-Branch (record { line = head.line; guard = y.guard; process = y.process }), y.rest))
+    c.in-Alt.found.items c.push-in-Alt.new.found.items c.push-in-Alt.result _ c.push-in-Alt.ensures
+    (made ∙ ap (λ z. Some (z, rows_of y.rest.now)) (sym (view-Branch head.line y.guard y.process))))
 
 pub components-returns-in_err-goes_on-clause-found : goal.components-returns-in_err-goes_on-clause-found
 components-returns-in_err-goes_on-clause-found t c =
@@ -194,102 +244,6 @@ process-returns-in_ok-replicator-in-Block-clause-found t c =
     (block_found c.args.level (rows_of c.args.lines.now) rest _ ds o.line kind r _ c.in_ok-opening.ensures.level began
     (body_found kind _ (component_at (65 - level) level kind) level r single rest _ _ _
     (single_is head _ c.is_some-single.ensures) (is ∙ found) made (read.ensures.kind ∙ c.new-body.ensures.kind)))
-
-pub choice-returns-in_err-first-clause-found : goal.choice-returns-in_err-first-clause-found
-choice-returns-in_err-first-clause-found t c =
-    let p = err_from_is_err_and c.from_residual.result c.from_residual.ensures.1 in
-    rw (p.1, p.2) (passed_on _ _ _ (choice_none c.args.level (rows_of c.args.lines.now)) c.in_err-first.ensures.found)
-
-pub choice-returns-in_err-condition-clause-found : goal.choice-returns-in_err-condition-clause-found
-choice-returns-in_err-condition-clause-found t c =
-    let p = err_from_is_err_and c.from_residual-in_err-condition.result c.from_residual-in_err-condition.ensures.1 in
-    rw (p.1, p.2)
-    (told_lost expression_of c.whole.result _ (whole_at (terminals_of c.deref.result.now)) _
-    c.in_err-condition.ensures c.whole.ensures
-    (λ none. choice_unread c.args.level (rows_of c.args.lines.now) (rows_of c.in_ok-first.rest.now)
-    (row_of c.in_ok-first.first.now) c.in_ok-first.ensures.level c.in_ok-first.ensures.found
-    (ap (λ ts. whole_at (terminals_of ts)) (sym c.deref.ensures.value) ∙ none)))
-
-pub choice-returns-in_err-condition-2-clause-found : goal.choice-returns-in_err-condition-2-clause-found
-choice-returns-in_err-condition-2-clause-found t c =
-    let p = err_from_is_err_and c.from_residual-in_err-condition-2.result
-    c.from_residual-in_err-condition-2.ensures.1 in
-    rw (p.1, p.2)
-    (passed_on _ _ _ (choice_empty c.args.level (rows_of c.args.lines.now) (rows_of c.in_ok-first.rest.now)
-    (row_of c.in_ok-first.first.now) (expression_of c.in_ok-condition.condition) c.in_ok-first.ensures.level
-    c.in_ok-first.ensures.found (ap (λ ts. whole_at (terminals_of ts)) (sym c.deref.ensures.value) ∙ told_found
-    expression_of c.whole.result c.in_ok-condition.condition (whole_at (terminals_of c.deref.result.now))
-    c.in_ok-condition.ensures c.whole.ensures))
-    (below_lost (λ x. (process_of x.0, rows_of x.1.now)) c.in_ok-condition.condition c.process.result _ _
-    c.in_err-condition-2.ensures c.process.ensures.found))
-
-pub choice-returns-clause-found : goal.choice-returns-clause-found
-choice-returns-clause-found t c =
-    let y = c.in_ok-condition-2 in
-    let same = below_head c.in_ok-condition.condition y.condition y.process y.rest c.process.result y.ensures in
-    let read = ap (λ ts. whole_at (terminals_of ts)) (sym c.deref.ensures.value) ∙ told_found expression_of
-    c.whole.result c.in_ok-condition.condition (whole_at (terminals_of c.deref.result.now))
-    c.in_ok-condition.ensures c.whole.ensures in
-    rw view-Choice
-    (choice_found c.args.level (rows_of c.args.lines.now) (rows_of c.in_ok-first.rest.now) _
-    (row_of c.in_ok-first.first.now) (expression_of y.condition) _ c.in_ok-first.ensures.level
-    c.in_ok-first.ensures.found
-    (read ∙ ap (λ e. Some (expression_of e)) same)
-    (below_found (λ x. (process_of x.0, rows_of x.1.now)) c.in_ok-condition.condition y.condition y.process y.rest
-    c.process.result _ y.ensures c.process.ensures.found))
-
-pub choice-returns-clause-within : goal.choice-returns-clause-within
-choice-returns-clause-within t c =
-    let y = c.in_ok-condition-2 in
-    let less = below_keeps (λ x. length x.1.now < length c.in_ok-first.rest.now) c.in_ok-condition.condition
-    y.condition y.process y.rest c.process.result y.ensures c.process.ensures.within in
-    omega (arith, less, c.in_ok-first.ensures.within)
-
-pub branch-returns-in_err-first-clause-found : goal.branch-returns-in_err-first-clause-found
-branch-returns-in_err-first-clause-found t c =
-    let p = err_from_is_err_and c.from_residual.result c.from_residual.ensures.1 in
-    rw (p.1, p.2) (passed_on _ _ _ (branch_none c.args.level (rows_of c.args.lines.now)) c.in_err-first.ensures.found)
-
-pub branch-returns-in_err-guard-clause-found : goal.branch-returns-in_err-guard-clause-found
-branch-returns-in_err-guard-clause-found t c =
-    let p = err_from_is_err_and c.from_residual-in_err-guard.result c.from_residual-in_err-guard.ensures.1 in
-    rw (p.1, p.2)
-    (told_lost guard_of c.guard.result _ (guard_at (terminals_of c.deref.result.now)) _ c.in_err-guard.ensures
-    c.guard.ensures (λ none. branch_unread c.args.level (rows_of c.args.lines.now)
-    (rows_of c.in_ok-first.rest.now) (row_of c.in_ok-first.first.now) c.in_ok-first.ensures.level
-    c.in_ok-first.ensures.found (ap (λ ts. guard_at (terminals_of ts)) (sym c.deref.ensures.value) ∙ none)))
-
-pub branch-returns-in_err-guard-2-clause-found : goal.branch-returns-in_err-guard-2-clause-found
-branch-returns-in_err-guard-2-clause-found t c =
-    let p = err_from_is_err_and c.from_residual-in_err-guard-2.result c.from_residual-in_err-guard-2.ensures.1 in
-    rw (p.1, p.2)
-    (passed_on _ _ _ (branch_empty c.args.level (rows_of c.args.lines.now) (rows_of c.in_ok-first.rest.now)
-    (row_of c.in_ok-first.first.now) (guard_of c.in_ok-guard.guard) c.in_ok-first.ensures.level
-    c.in_ok-first.ensures.found (ap (λ ts. guard_at (terminals_of ts)) (sym c.deref.ensures.value) ∙ told_found
-    guard_of c.guard.result c.in_ok-guard.guard (guard_at (terminals_of c.deref.result.now))
-    c.in_ok-guard.ensures c.guard.ensures))
-    (below_lost (λ x. (process_of x.0, rows_of x.1.now)) c.in_ok-guard.guard c.process.result _ _
-    c.in_err-guard-2.ensures c.process.ensures.found))
-
-pub branch-returns-clause-found : goal.branch-returns-clause-found
-branch-returns-clause-found t c =
-    let y = c.in_ok-guard-2 in
-    let same = below_head c.in_ok-guard.guard y.guard y.process y.rest c.process.result y.ensures in
-    let read = ap (λ ts. guard_at (terminals_of ts)) (sym c.deref.ensures.value) ∙ told_found guard_of c.guard.result
-    c.in_ok-guard.guard (guard_at (terminals_of c.deref.result.now)) c.in_ok-guard.ensures c.guard.ensures in
-    rw view-Branch
-    (branch_found c.args.level (rows_of c.args.lines.now) (rows_of c.in_ok-first.rest.now) _
-    (row_of c.in_ok-first.first.now) (guard_of y.guard) _ c.in_ok-first.ensures.level c.in_ok-first.ensures.found
-    (read ∙ ap (λ g. Some (guard_of g)) same)
-    (below_found (λ x. (process_of x.0, rows_of x.1.now)) c.in_ok-guard.guard y.guard y.process y.rest
-    c.process.result _ y.ensures c.process.ensures.found))
-
-pub branch-returns-clause-within : goal.branch-returns-clause-within
-branch-returns-clause-within t c =
-    let y = c.in_ok-guard-2 in
-    let less = below_keeps (λ x. length x.1.now < length c.in_ok-first.rest.now) c.in_ok-guard.guard y.guard
-    y.process y.rest c.process.result y.ensures c.process.ensures.within in
-    omega (arith, less, c.in_ok-first.ensures.within)
 
 pub process-returns-in_err-opening-clause-found : goal.process-returns-in_err-opening-clause-found
 process-returns-in_err-opening-clause-found t c =

@@ -14,12 +14,6 @@ decreases-components l = 3 * (66 - l.level) + 2
 abbrev pub decreases-component : goal.decreases-component
 decreases-component l = 3 * (66 - l.level) + 1
 
-abbrev pub decreases-choice : goal.decreases-choice
-decreases-choice l = 3 * (66 - l.level)
-
-abbrev pub decreases-branch : goal.decreases-branch
-decreases-branch l = 3 * (66 - l.level)
-
 abbrev pub invariant-components-loop-goes_on : goal.invariant-components-loop-goes_on
 invariant-components-loop-goes_on l =
     let item = component_at (65 - l.level) l.level (kind_of l.fn.found) in

@@ -1,11 +1,10 @@
-use Rattle.std.proofs.Common.{◌≡◌, ◌∷◌, ◌++◌, [], map, sym, ap, arith, ◌∙◌}
+use Rattle.std.proofs.Common.{◌∷◌, ◌++◌, [], map, arith, ◌∙◌}
 use Rattle.std.proofs.lemmas.Result.{err_from_is_err_and}
 use Rattle.std.proofs.lemmas.List.{map_push}
 use Rattle.occam_parser.specs.LineViews.{declaration_of, head_of}
 use Rattle.occam_parser.specs.Terminals.{terminals_of}
 use Rattle.occam_parser.specs.LineReading.{head_at}
 use Rattle.occam_parser.specs.Blocks.{row_of, rows_of}
-use Rattle.occam_parser.specs.BlockReading.{beginning_from}
 use Rattle.occam_parser.proofs.Answering.{told_found, told_lost, passed_on}
 use Rattle.occam_parser.proofs.Openings.{opening_none, opening_starts, opening_declares, opening_fails, opening_first}
 use Rattle.occam_parser.proofs.block.read_opening.Goals as goal

@@ -1,10 +1,10 @@
-use Rattle.std.proofs.Common.{◌≡◌, ◌++◌, ◌-◌, ◌∷◌, [], Some, None, Ok, Err, length, map, sym, refl, ap, subst, rules}
+use Rattle.std.proofs.Common.{◌≡◌, ◌++◌, ◌-◌, ◌∷◌, [], map, sym, refl, ap, subst}
 use Rattle.std.proofs.Common.{arith, ◌∙◌}
 use Rattle.std.proofs.lemmas.Result.{err_from_is_err_and}
 use Rattle.occam_parser.specs.Terminals.{terminals_of}
 use Rattle.occam_parser.specs.Expressions.{First}
 use Rattle.occam_parser.specs.Views.{expression_of, term_of, with_others}
-use Rattle.occam_parser.specs.Reading.{up_to, term_at, inner_at, operand_within, expression_at}
+use Rattle.occam_parser.specs.Reading.{up_to, term_at, operand_within, expression_at}
 use Rattle.occam_parser.proofs.Levels.{inner_below, inner_none, operand_below, fails_on, up_to_none, converted_fails}
 use Rattle.occam_parser.proofs.Levels.{converted_found}
 use Rattle.occam_parser.proofs.Carried.{seen_up_to, made_gives}

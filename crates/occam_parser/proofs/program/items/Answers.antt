@@ -1,12 +1,12 @@
-use Rattle.std.proofs.Common.{◌≡◌, ◌∷◌, ◌++◌, [], Some, None, length, map, sym, refl, ap, subst, arith, ◌∙◌}
+use Rattle.std.proofs.Common.{◌∷◌, ◌++◌, [], length, map, sym, subst, arith}
 use Rattle.std.proofs.lemmas.Result.{err_from_is_err_and}
-use Rattle.std.proofs.lemmas.List.{map_push, length-map}
+use Rattle.std.proofs.lemmas.List.{map_push}
 use Rattle.occam_parser.specs.Blocks.{row_of, rows_of}
 use Rattle.occam_parser.specs.BlockViews.{item_of}
 use Rattle.occam_parser.proofs.Answering.{passed_on}
 use Rattle.occam_parser.proofs.Programs.{ContinuesProgram, program_begins, program_goes_on, program_fails, program_ends}
 use Rattle.occam_parser.proofs.Items.{pushed_lost, pushed_found}
-use Rattle.occam_parser.proofs.SeenItems.{rows_left, left_is, left_len_is, rows_no_more}
+use Rattle.occam_parser.proofs.SeenItems.{left_is, left_len_is, rows_no_more}
 use Rattle.occam_parser.proofs.program.items.Goals as goal
 
 pub loop-next-init : goal.loop-next-init

@@ -1,4 +1,4 @@
-use Rattle.std.proofs.Common.{◌≡◌, ◌∙◌, Some, sym, ap}
+use Rattle.std.proofs.Common.{◌∙◌, sym}
 use Rattle.std.proofs.lemmas.Result.{err_from_is_err_and}
 use Rattle.occam_parser.specs.Blocks.{rows_of}
 use Rattle.occam_parser.proofs.Programs.{program_sound, program_again, one_program}
