@@ -11,7 +11,7 @@ mod returning;
 mod stopping;
 mod subscripts;
 
-ghost use Rattle.machine_state.specs.Performing.{Performs, IsSameElsewhere, operation_outcome};
+ghost use Rattle.machine_state.specs.Performing.{PerformsOperation};
 
 use machine_state::{Cpu, Fault, FaultKind, Flow, Op, Store};
 
@@ -19,9 +19,7 @@ use machine_state::{Cpu, Fault, FaultKind, Flow, Op, Store};
 /// the caller says where the next instruction begins. An operation that has no body yet is unknown. After a fault
 /// nothing has changed.
 pub fn operate<S: Store>(cpu: &mut Cpu<S>, op: Op) -> Result<Flow, Fault>
-    ensures performs { let outcome = operation_outcome S.cells S.holding cpu.old op in
-        Performs S.cells cpu.old cpu.new result outcome }
-    ensures elsewhere { IsSameElsewhere S.holding S.roles cpu.old cpu.new }
+    ensures { PerformsOperation S.Store op cpu.old cpu.new result }
 {
     match op {
         Op::Reverse => registers::reverse(cpu),
