@@ -75,9 +75,10 @@ pub record IsSameElsewhere {S : Type 0} (ghosts : Ghosts S) (before after : Cpu 
   pub others : ghosts.roles after.store ≡ ghosts.roles before.store
 
 -- the call has this outcome, and changes nothing but the registers and the memory
-abbrev pub Performs : {S : Type 0} → Ghosts S → Outcome → Cpu S → Cpu S → Result Flow Fault → Type 0
-Performs ghosts outcome before after result =
-    HasOutcome ghosts before after result outcome × IsSameElsewhere ghosts before after
+pub record Performs {S : Type 0} (ghosts : Ghosts S) (outcome : Outcome) (before after : Cpu S)
+    (result : Result Flow Fault) : Type 0 where
+  pub performed : HasOutcome ghosts before after result outcome
+  pub elsewhere : IsSameElsewhere ghosts before after
 
 -- of an operation, of an instruction with its operand, and of a function with its operand
 abbrev pub PerformsOperation : {S : Type 0} → Ghosts S → Op → Cpu S → Cpu S → Result Flow Fault → Type 0
