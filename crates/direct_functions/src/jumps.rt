@@ -1,5 +1,4 @@
 //! Jumps.
-#![tactic(auto, using(machine_state::proofs::Scheduling::schedules_is), unfolding(machine_state::specs::LocalStep::instruction_step, machine_state::specs::LocalStep::leads_to))]
 
 ghost use Rattle.machine_state.specs.declared.instruction.Instruction.TheVariants as instruction;
 ghost use Rattle.machine_state.specs.Performing.{PerformsInstruction};

@@ -1,5 +1,5 @@
 //! The functions of an instruction byte: one instruction of one process alone.
-#![tactic(auto)]
+#![tactic(auto, using(machine_state::proofs::Scheduling::schedules_is), unfolding(machine_state::specs::LocalStep::instruction_step, machine_state::specs::LocalStep::uses, machine_state::specs::LocalStep::computes, machine_state::specs::LocalStep::aligned, machine_state::specs::LocalStep::reads, machine_state::specs::LocalStep::writes, machine_state::specs::LocalStep::leads_to, machine_state::specs::LocalStep::lands_at, machine_state::specs::LocalStep::goes_on))]
 
 mod arithmetic;
 mod jumps;

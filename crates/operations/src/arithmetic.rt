@@ -1,5 +1,4 @@
 //! Operations that compute with words of the evaluation stack.
-#![tactic(auto, unfolding(machine_state::specs::LocalStep::operation_step, machine_state::specs::LocalStep::uses, machine_state::specs::LocalStep::computes, machine_state::specs::LocalStep::goes_on))]
 
 ghost use Rattle.machine_state.specs.declared.op.Op.TheVariants as operation;
 ghost use Rattle.machine_state.specs.Performing.{PerformsOperation};

@@ -1,5 +1,4 @@
 //! How a loop turns.
-#![tactic(auto, using(machine_state::proofs::Scheduling::schedules_is), unfolding(machine_state::specs::LocalStep::operation_step, machine_state::specs::LocalStep::holds, machine_state::specs::LocalStep::uses, machine_state::specs::LocalStep::aligned, machine_state::specs::LocalStep::leads_to))]
 
 ghost use Rattle.std.specs.Prelude.{◌≡◌, IsTrue, nat_lt};
 ghost use Rattle.machine_state.specs.LocalStep.{holds_scheduling_words, turned};

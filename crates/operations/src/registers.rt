@@ -1,5 +1,4 @@
 //! Operations on the evaluation stack alone.
-#![tactic(auto, unfolding(machine_state::specs::LocalStep::operation_step, machine_state::specs::LocalStep::goes_on))]
 
 ghost use Rattle.machine_state.specs.declared.op.Op.TheVariants.{Reverse, MinimumInteger};
 ghost use Rattle.machine_state.specs.Performing.{PerformsOperation};

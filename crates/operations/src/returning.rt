@@ -1,5 +1,4 @@
 //! How a procedure returns.
-#![tactic(auto, unfolding(machine_state::specs::LocalStep::operation_step, machine_state::specs::LocalStep::uses, machine_state::specs::LocalStep::reads, machine_state::specs::LocalStep::lands_at))]
 
 ghost use Rattle.machine_state.specs.declared.op.Op.TheVariants as operation;
 ghost use Rattle.machine_state.specs.Performing.{PerformsOperation};

@@ -6,7 +6,6 @@ ghost use Rattle.machine_state.specs.Performing.{PerformsOperation};
 use machine_state::{Cpu, Fault, Flow, Store};
 
 /// `stopp`: the process stops for good. The words that scheduling takes are undefined then.
-#[tactic(auto, using(machine_state::proofs::Scheduling::schedules_is), unfolding(machine_state::specs::LocalStep::operation_step))]
 pub(crate) fn stop_process<S: Store>(cpu: &mut Cpu<S>) -> Result<Flow, Fault>
     ensures { PerformsOperation S.Store StopProcess cpu.old cpu.new result }
 {

@@ -1,5 +1,4 @@
 //! Addresses that are computed, and checks of subscripts and counts.
-#![tactic(auto, unfolding(machine_state::specs::LocalStep::operation_step, machine_state::specs::LocalStep::holds, machine_state::specs::LocalStep::uses, machine_state::specs::LocalStep::goes_on))]
 
 ghost use Rattle.machine_state.specs.declared.op.Op.TheVariants as operation;
 ghost use Rattle.machine_state.specs.Performing.{PerformsOperation};
