@@ -544,30 +544,21 @@ input_words k = omega arith
 output_words : (k : ℕ) → output_word 0 + 4 * k ≡ output_word k
 output_words k = omega arith
 
--- the role of who has a join open, and of who has an opener
-opened_tells : (w : World) (p : ℕ) (j : Join) → opened_by w p ≡ Some j
-    → (r : Role) × (slice_get w.roles p ≡ Some r) × (r.opened ≡ Some j)
-opened_tells w p j is = on (slice_get w.roles p) refl is
+-- the role of a process of which something is told
+role_tells : {A : Type 0} (told : Role → Option A) (w : World) (p : ℕ) (x : A)
+    → elim (slice_get w.roles p) as (λ o. Option A) [ None ↦ None | Some role ↦ told role ] ≡ Some x
+    → (r : Role) × (slice_get w.roles p ≡ Some r) × (told r ≡ Some x)
+role_tells {A = A} told w p x is = on (slice_get w.roles p) refl is
   where
     on : (o : Option Role) → slice_get w.roles p ≡ o
-        → elim o as (λ o. Option Join) [ None ↦ None | Some role ↦ role.opened ] ≡ Some j
-        → (r : Role) × (slice_get w.roles p ≡ Some r) × (r.opened ≡ Some j)
+        → elim o as (λ o. Option A) [ None ↦ None | Some role ↦ told role ] ≡ Some x
+        → (r : Role) × (slice_get w.roles p ≡ Some r) × (told r ≡ Some x)
     on None here is = absurd (cc)
     on (Some r) here is = (r, here, is)
 
 opened_is : (w : World) (p : ℕ) (r : Role) → slice_get w.roles p ≡ Some r → opened_by w p ≡ r.opened
 opened_is w p r here = ap (λ (o : Option Role). elim o as (λ o. Option Join)
     [ None ↦ None | Some role ↦ role.opened ]) here
-
-opener_tells : (w : World) (p q : ℕ) → opener_of w p ≡ Some q
-    → (r : Role) × (slice_get w.roles p ≡ Some r) × (r.opener ≡ Some q)
-opener_tells w p q is = on (slice_get w.roles p) refl is
-  where
-    on : (o : Option Role) → slice_get w.roles p ≡ o
-        → elim o as (λ o. Option ℕ) [ None ↦ None | Some role ↦ role.opener ] ≡ Some q
-        → (r : Role) × (slice_get w.roles p ≡ Some r) × (r.opener ≡ Some q)
-    on None here is = absurd (cc)
-    on (Some r) here is = (r, here, is)
 
 some_role : (roles : List Role) (p : ℕ) → p < length roles → (r : Role) × (slice_get roles p ≡ Some r)
 some_role [] p h = absurd (omega arith)
@@ -1126,7 +1117,7 @@ module _ (h : Here) (w : World) (runs : w.queue.running ≡ Some h.process)
   -- it is a member of its own join
   own_member : (j : Join) → opened_by w h.process ≡ Some j → is_member j.members h.process ≡ true
   own_member j is =
-      let r = opened_tells w h.process j is in
+      let r = role_tells (λ role. role.opened) w h.process j is in
       elim (keeps.rest.joins h.process r.0 j r.1 r.2) [
         | inl member ↦ member
         | inr over ↦ absurd (
@@ -1221,13 +1212,13 @@ module _ (h : Here) (w : World) (runs : w.queue.running ≡ Some h.process)
       let same_one : j ≡ k = cc in ap (λ (x : Join). x.members) same_one)
   moved_keeps o after (turns.joins_own block l j par is row all) long =
       let u = record h.from { registers = between h.next l.registers; mode = Plain; condition = Ended } in
-      let r = opened_tells w h.process j is in
+      let r = role_tells (λ role. role.opened) w h.process j is in
       ended_keeps u refl l.memory w.roles (rest u) h.process r.0 j par r.1 r.2
       (λ x a b. absurd (let low = keeps.rest.openers h.process x h.process a b in omega arith))
   moved_keeps o after (turns.joins_opener block l opener j par none by is row same) long =
       let u = record h.from { registers = between h.next l.registers; mode = Plain; condition = Ended } in
-      let mine = opener_tells w h.process opener by in
-      let r = opened_tells w opener j is in
+      let mine = role_tells (λ role. role.opener) w h.process opener by in
+      let r = role_tells (λ role. role.opened) w opener j is in
       let below = keeps.rest.openers h.process mine.0 opener mine.1 mine.2 in
       let gone = record mine.0 { own = nothing } in
       let roles = slice_set w.roles h.process gone in
