@@ -107,15 +107,16 @@ all_at test place (suc n) (suc i) all inside =
     let e : place + suc i ≡ place + 1 + i = omega arith in
     rw e (all_at test (place + 1) n i (and_true _ _ all).1 (omega arith))
 
--- ---- what an outcome says of a message
+-- ---- what an outcome says of a message: it has a byte at least
 
-abbrev Message : Site → Memory → Outcome → Type 0
+abbrev pub Message : Site → Memory → Outcome → Type 0
 Message s old (receives e l) = all_places (may_write s.holding) (place_of e.address) e.length ≡ true × (1 ≤ e.length)
 Message s old (sends e l) =
-    (i : ℕ) → i < e.length → byte_at l.memory (place_of e.address + i) ≡ byte_at old (place_of e.address + i)
+    ((i : ℕ) → i < e.length → byte_at l.memory (place_of e.address + i) ≡ byte_at old (place_of e.address + i))
+    × (1 ≤ e.length)
 Message s old _ = ⊤
 
-messages : (s : Site) (r : Registers) (old : Memory)
+pub messages : (s : Site) (r : Registers) (old : Memory)
     → Wants s r old old (λ r m n. m ≡ n) (λ o other. Message s old o)
 messages s r old = record {
   same_word = λ r m n place k own. ap (λ (m : Memory). word_at m place) k;
@@ -131,8 +132,9 @@ messages s r old = record {
   at_lands = λ to r m n k. tt;
   at_stops = λ r m n k. tt;
   at_receives = λ e asked own k. (own, asked.some);
-  at_sends = λ e asked own defined k i inside. kept_scheduled r old (place_of e.address + i)
-      (all_at (λ place. is_some (byte_at (scheduled r old) place)) (place_of e.address) e.length i defined inside);
+  at_sends = λ e asked own defined k. ((λ i inside. kept_scheduled r old (place_of e.address + i)
+      (all_at (λ place. is_some (byte_at (scheduled r old) place)) (place_of e.address) e.length i defined inside)),
+      asked.some);
   at_starts = λ to workspace r m n even k. tt;
   at_joins = λ block r m n k. tt;
   at_begins = λ r m n k. tt;
@@ -385,7 +387,7 @@ module _ (h : Here) (w : World) where
       (rouse_only c.enabled (waits_at h (Sending e) e.channel c l w)).memory
   moved_writes o after (turns.sends_to e l c other wanted inside there partner is same) own says =
       delivers hold (delivery_on w e) e wanted w.memory l.memory _ own
-      (of_waiting_is _ w e (delivered_to e) c (Some other) inside there partner ∙ ap (delivered_to e) is) says (wake_only other
+      (of_waiting_is _ w e (delivered_to e) c (Some other) inside there partner ∙ ap (delivered_to e) is) says.0 (wake_only other
       (with_channel e.channel (record c { waiting = None }) (continued h h.next
       (record l {
         memory = step.copied l.memory (place_of e.address) (place_of wanted.address) e.length l.memory;
