@@ -132,9 +132,11 @@ messages s r old = record {
   at_lands = λ to r m n k. tt;
   at_stops = λ r m n k. tt;
   at_receives = λ e asked own k. (own, asked.some);
-  at_sends = λ e asked own defined k. ((λ i inside. kept_scheduled r old (place_of e.address + i)
-      (all_at (λ place. is_some (byte_at (scheduled r old) place)) (place_of e.address) e.length i defined inside)),
-      asked.some);
+  at_sends = λ e asked own defined k. (
+    (λ i inside. kept_scheduled r old (place_of e.address + i)
+        (all_at (λ place. is_some (byte_at (scheduled r old) place)) (place_of e.address) e.length i defined inside)),
+    asked.some,
+  );
   at_starts = λ to workspace r m n even k. tt;
   at_joins = λ block r m n k. tt;
   at_begins = λ r m n k. tt;
