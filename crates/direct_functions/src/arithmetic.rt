@@ -1,8 +1,7 @@
 //! Arithmetic on A.
-#![tactic(auto, unfolding(machine_state::specs::LocalStep::instruction_step, machine_state::specs::LocalStep::uses, machine_state::specs::LocalStep::computes, machine_state::specs::LocalStep::goes_on))]
 
 ghost use Rattle.machine_state.specs.declared.instruction.Instruction.TheVariants as instruction;
-ghost use Rattle.machine_state.specs.Performing.{Performs, IsSameElsewhere, instruction_outcome};
+ghost use Rattle.machine_state.specs.Performing.{PerformsInstruction};
 
 use machine_state::{Cpu, Fault, FaultKind, Flow, Store};
 use word_arithmetic::Binary;
@@ -13,10 +12,7 @@ pub(crate) fn with_constant<S: Store>(
     op: Binary,
     operand: i32,
 ) -> Result<Flow, Fault>
-    ensures performs { let computing = instruction.WithConstant op in
-        let outcome = instruction_outcome S.cells S.holding cpu.old computing operand in
-        Performs S.cells cpu.old cpu.new result outcome }
-    ensures elsewhere { IsSameElsewhere S.holding S.roles cpu.old cpu.new }
+    ensures { PerformsInstruction S.Store (instruction.WithConstant op) operand cpu.old cpu.new result }
 {
     cpu.alone()?;
     let left = cpu.used(cpu.registers.stack.a)?;

@@ -1,8 +1,7 @@
 //! Jumps.
-#![tactic(auto, using(machine_state::proofs::Scheduling::schedules_is), unfolding(machine_state::specs::LocalStep::instruction_step, machine_state::specs::LocalStep::leads_to))]
 
 ghost use Rattle.machine_state.specs.declared.instruction.Instruction.TheVariants as instruction;
-ghost use Rattle.machine_state.specs.Performing.{Performs, IsSameElsewhere, instruction_outcome};
+ghost use Rattle.machine_state.specs.Performing.{PerformsInstruction};
 
 use certificate::Stack;
 use machine_state::{Cpu, Fault, Flow, Store};
@@ -10,9 +9,7 @@ use machine_state::{Cpu, Fault, Flow, Store};
 /// `j`: the process goes on at the distance of the operand from the next instruction. It may be sent to the
 /// back of the ready list, so the words that scheduling takes and the registers are undefined then.
 pub(crate) fn jump<S: Store>(cpu: &mut Cpu<S>, operand: i32) -> Result<Flow, Fault>
-    ensures performs { let outcome = instruction_outcome S.cells S.holding cpu.old instruction.Jump operand in
-        Performs S.cells cpu.old cpu.new result outcome }
-    ensures elsewhere { IsSameElsewhere S.holding S.roles cpu.old cpu.new }
+    ensures { PerformsInstruction S.Store instruction.Jump operand cpu.old cpu.new result }
 {
     cpu.alone()?;
     cpu.schedulable()?;

@@ -1,8 +1,7 @@
 //! Landings: jumps by which a process keeps its turn.
-#![tactic(auto, unfolding(machine_state::specs::LocalStep::instruction_step, machine_state::specs::LocalStep::uses, machine_state::specs::LocalStep::writes, machine_state::specs::LocalStep::lands_at, machine_state::specs::LocalStep::goes_on))]
 
 ghost use Rattle.machine_state.specs.declared.instruction.Instruction.TheVariants as instruction;
-ghost use Rattle.machine_state.specs.Performing.{Performs, IsSameElsewhere, instruction_outcome};
+ghost use Rattle.machine_state.specs.Performing.{PerformsInstruction};
 
 use certificate::Stack;
 use machine_state::{Cpu, Fault, Flow, Store, local_address};
@@ -10,10 +9,7 @@ use machine_state::{Cpu, Fault, Flow, Store, local_address};
 /// `cj`: where A is 0, the process goes on at the distance of the operand from the next instruction, and the registers
 /// stay. Otherwise A is popped.
 pub(crate) fn conditional_jump<S: Store>(cpu: &mut Cpu<S>, operand: i32) -> Result<Flow, Fault>
-    ensures performs { let done = instruction.ConditionalJump in
-        let outcome = instruction_outcome S.cells S.holding cpu.old done operand in
-        Performs S.cells cpu.old cpu.new result outcome }
-    ensures elsewhere { IsSameElsewhere S.holding S.roles cpu.old cpu.new }
+    ensures { PerformsInstruction S.Store instruction.ConditionalJump operand cpu.old cpu.new result }
 {
     cpu.alone()?;
     let condition = cpu.used(cpu.registers.stack.a)?;
@@ -29,10 +25,7 @@ pub(crate) fn conditional_jump<S: Store>(cpu: &mut Cpu<S>, operand: i32) -> Resu
 
 /// `ajw`: the workspace moves by this number of words.
 pub(crate) fn adjust_workspace<S: Store>(cpu: &mut Cpu<S>, operand: i32) -> Result<Flow, Fault>
-    ensures performs { let done = instruction.AdjustWorkspace in
-        let outcome = instruction_outcome S.cells S.holding cpu.old done operand in
-        Performs S.cells cpu.old cpu.new result outcome }
-    ensures elsewhere { IsSameElsewhere S.holding S.roles cpu.old cpu.new }
+    ensures { PerformsInstruction S.Store instruction.AdjustWorkspace operand cpu.old cpu.new result }
 {
     cpu.alone()?;
     cpu.in_code(cpu.next())?;
@@ -43,10 +36,7 @@ pub(crate) fn adjust_workspace<S: Store>(cpu: &mut Cpu<S>, operand: i32) -> Resu
 /// `call`: the four words below the workspace take C, B, A and the address of the next instruction. The process goes on
 /// at the distance of the operand from it, with the lowest of them as its workspace.
 pub(crate) fn call<S: Store>(cpu: &mut Cpu<S>, operand: i32) -> Result<Flow, Fault>
-    ensures performs { let done = instruction.Call in
-        let outcome = instruction_outcome S.cells S.holding cpu.old done operand in
-        Performs S.cells cpu.old cpu.new result outcome }
-    ensures elsewhere { IsSameElsewhere S.holding S.roles cpu.old cpu.new }
+    ensures { PerformsInstruction S.Store instruction.Call operand cpu.old cpu.new result }
 {
     cpu.alone()?;
     let workspace = cpu.registers.workspace;

@@ -1,5 +1,5 @@
 //! The functions of an instruction byte: one instruction of one process alone.
-#![tactic(auto)]
+#![tactic(auto, using(machine_state::proofs::Scheduling::schedules_is), unfolding(machine_state::specs::LocalStep::instruction_step, machine_state::specs::LocalStep::uses, machine_state::specs::LocalStep::computes, machine_state::specs::LocalStep::aligned, machine_state::specs::LocalStep::reads, machine_state::specs::LocalStep::writes, machine_state::specs::LocalStep::leads_to, machine_state::specs::LocalStep::lands_at, machine_state::specs::LocalStep::goes_on))]
 
 mod arithmetic;
 mod jumps;
@@ -8,7 +8,7 @@ mod locals;
 mod pointers;
 
 ghost use Rattle.std.specs.Prelude.{◌≡◌};
-ghost use Rattle.machine_state.specs.Performing.{Performs, IsSameElsewhere, direct_outcome};
+ghost use Rattle.machine_state.specs.Performing.{PerformsFunction};
 
 use machine_state::{Cpu, Fault, FaultKind, Flow, Instruction, Store};
 use operations::operate;
@@ -19,9 +19,7 @@ use prefix_decoder::Fun;
 /// begins. An operation that has no body yet is unknown. After a fault nothing has changed.
 #[tactic(auto, unfolding(machine_state::specs::LocalStep::step_by, machine_state::specs::LocalStep::step_of, machine_state::specs::LocalStep::instruction_step))]
 pub fn direct<S: Store>(cpu: &mut Cpu<S>, fun: Fun, operand: i32) -> Result<Flow, Fault>
-    ensures performs { let outcome = direct_outcome S.cells S.holding cpu.old fun operand in
-        Performs S.cells cpu.old cpu.new result outcome }
-    ensures elsewhere { IsSameElsewhere S.holding S.roles cpu.old cpu.new }
+    ensures { PerformsFunction S.Store fun operand cpu.old cpu.new result }
 {
     match Instruction::of(fun, operand) {
         Some(Instruction::LoadConstant) => locals::load_constant(cpu, operand),

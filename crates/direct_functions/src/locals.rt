@@ -1,16 +1,13 @@
 //! Constants, and the words of the workspace.
-#![tactic(auto, unfolding(machine_state::specs::LocalStep::instruction_step, machine_state::specs::LocalStep::uses, machine_state::specs::LocalStep::reads, machine_state::specs::LocalStep::writes, machine_state::specs::LocalStep::goes_on))]
 
 ghost use Rattle.machine_state.specs.declared.instruction.Instruction.TheVariants as instruction;
-ghost use Rattle.machine_state.specs.Performing.{Performs, IsSameElsewhere, instruction_outcome};
+ghost use Rattle.machine_state.specs.Performing.{PerformsInstruction};
 
 use machine_state::{Cpu, Fault, Flow, Store, local_address};
 
 /// `ldc`: the operand is pushed.
 pub(crate) fn load_constant<S: Store>(cpu: &mut Cpu<S>, operand: i32) -> Result<Flow, Fault>
-    ensures performs { let outcome = instruction_outcome S.cells S.holding cpu.old instruction.LoadConstant operand in
-        Performs S.cells cpu.old cpu.new result outcome }
-    ensures elsewhere { IsSameElsewhere S.holding S.roles cpu.old cpu.new }
+    ensures { PerformsInstruction S.Store instruction.LoadConstant operand cpu.old cpu.new result }
 {
     cpu.in_code(cpu.next())?;
     cpu.registers.stack.push(Some(operand));
@@ -19,9 +16,7 @@ pub(crate) fn load_constant<S: Store>(cpu: &mut Cpu<S>, operand: i32) -> Result<
 
 /// `ldl`: the word with this number from the workspace is pushed.
 pub(crate) fn load_local<S: Store>(cpu: &mut Cpu<S>, operand: i32) -> Result<Flow, Fault>
-    ensures performs { let outcome = instruction_outcome S.cells S.holding cpu.old instruction.LoadLocal operand in
-        Performs S.cells cpu.old cpu.new result outcome }
-    ensures elsewhere { IsSameElsewhere S.holding S.roles cpu.old cpu.new }
+    ensures { PerformsInstruction S.Store instruction.LoadLocal operand cpu.old cpu.new result }
 {
     cpu.outside_starts()?;
     let word = cpu.read(local_address(cpu.registers.workspace, operand))?;
@@ -32,9 +27,7 @@ pub(crate) fn load_local<S: Store>(cpu: &mut Cpu<S>, operand: i32) -> Result<Flo
 
 /// `stl`: A goes to the word with this number from the workspace, and is popped.
 pub(crate) fn store_local<S: Store>(cpu: &mut Cpu<S>, operand: i32) -> Result<Flow, Fault>
-    ensures performs { let outcome = instruction_outcome S.cells S.holding cpu.old instruction.StoreLocal operand in
-        Performs S.cells cpu.old cpu.new result outcome }
-    ensures elsewhere { IsSameElsewhere S.holding S.roles cpu.old cpu.new }
+    ensures { PerformsInstruction S.Store instruction.StoreLocal operand cpu.old cpu.new result }
 {
     cpu.alone()?;
     let value = cpu.used(cpu.registers.stack.a)?;

@@ -1,17 +1,13 @@
 //! Pointers, and the words that they lead to.
-#![tactic(auto, unfolding(machine_state::specs::LocalStep::instruction_step, machine_state::specs::LocalStep::uses, machine_state::specs::LocalStep::aligned, machine_state::specs::LocalStep::reads, machine_state::specs::LocalStep::writes, machine_state::specs::LocalStep::goes_on))]
 
 ghost use Rattle.machine_state.specs.declared.instruction.Instruction.TheVariants as instruction;
-ghost use Rattle.machine_state.specs.Performing.{Performs, IsSameElsewhere, instruction_outcome};
+ghost use Rattle.machine_state.specs.Performing.{PerformsInstruction};
 
 use machine_state::{Cpu, Fault, Flow, Store, local_address};
 
 /// `ldlp`: the address of the word with this number from the workspace is pushed.
 pub(crate) fn load_local_pointer<S: Store>(cpu: &mut Cpu<S>, operand: i32) -> Result<Flow, Fault>
-    ensures performs { let done = instruction.LoadLocalPointer in
-        let outcome = instruction_outcome S.cells S.holding cpu.old done operand in
-        Performs S.cells cpu.old cpu.new result outcome }
-    ensures elsewhere { IsSameElsewhere S.holding S.roles cpu.old cpu.new }
+    ensures { PerformsInstruction S.Store instruction.LoadLocalPointer operand cpu.old cpu.new result }
 {
     cpu.in_code(cpu.next())?;
     let address = local_address(cpu.registers.workspace, operand);
@@ -24,10 +20,7 @@ pub(crate) fn load_non_local_pointer<S: Store>(
     cpu: &mut Cpu<S>,
     operand: i32,
 ) -> Result<Flow, Fault>
-    ensures performs { let done = instruction.LoadNonLocalPointer in
-        let outcome = instruction_outcome S.cells S.holding cpu.old done operand in
-        Performs S.cells cpu.old cpu.new result outcome }
-    ensures elsewhere { IsSameElsewhere S.holding S.roles cpu.old cpu.new }
+    ensures { PerformsInstruction S.Store instruction.LoadNonLocalPointer operand cpu.old cpu.new result }
 {
     cpu.outside_starts()?;
     let base = cpu.used(cpu.registers.stack.a)?;
@@ -39,10 +32,7 @@ pub(crate) fn load_non_local_pointer<S: Store>(
 
 /// `ldnl`: A becomes the word with this number from A.
 pub(crate) fn load_non_local<S: Store>(cpu: &mut Cpu<S>, operand: i32) -> Result<Flow, Fault>
-    ensures performs { let done = instruction.LoadNonLocal in
-        let outcome = instruction_outcome S.cells S.holding cpu.old done operand in
-        Performs S.cells cpu.old cpu.new result outcome }
-    ensures elsewhere { IsSameElsewhere S.holding S.roles cpu.old cpu.new }
+    ensures { PerformsInstruction S.Store instruction.LoadNonLocal operand cpu.old cpu.new result }
 {
     cpu.alone()?;
     let base = cpu.used(cpu.registers.stack.a)?;
@@ -55,10 +45,7 @@ pub(crate) fn load_non_local<S: Store>(cpu: &mut Cpu<S>, operand: i32) -> Result
 
 /// `stnl`: B goes to the word with this number from A, and both are popped.
 pub(crate) fn store_non_local<S: Store>(cpu: &mut Cpu<S>, operand: i32) -> Result<Flow, Fault>
-    ensures performs { let done = instruction.StoreNonLocal in
-        let outcome = instruction_outcome S.cells S.holding cpu.old done operand in
-        Performs S.cells cpu.old cpu.new result outcome }
-    ensures elsewhere { IsSameElsewhere S.holding S.roles cpu.old cpu.new }
+    ensures { PerformsInstruction S.Store instruction.StoreNonLocal operand cpu.old cpu.new result }
 {
     cpu.alone()?;
     let base = cpu.used(cpu.registers.stack.a)?;

@@ -1,5 +1,5 @@
 -- What comes of the instructions that have a body: none asks anything of another process.
-use Rattle.std.proofs.Common.{refl, ℕ, ℤ, negsuc, Bool, cond, ◌%◌, Option, Some, None}
+use Rattle.std.proofs.Common.{refl, ℕ, ℤ, negsuc, Bool, cond, Option, Some, None}
 use Rattle.std.specs.Prelude.{◌==◌}
 use Rattle.prefix_decoder.specs.declared.function.Fun.{Fun}
 use Rattle.machine_state.specs.declared.process.Mode.{Mode}

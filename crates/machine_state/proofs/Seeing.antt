@@ -43,7 +43,7 @@ use Rattle.prefix_decoder.specs.Functions.{fun_of, function_code, nibble}
 use Rattle.prefix_decoder.specs.Operand.{with_nibble}
 use Rattle.std.proofs.lemmas.Bool.{le-leb, lt-ltb}
 use Rattle.machine_state.proofs.SpanLaws.{both_true, or_left, or_right}
-use Rattle.machine_state.proofs.Writing.{outcome_is}
+use Rattle.machine_state.proofs.Writing.{outcome_is, of_waiting_is}
 use Rattle.machine_state.specs.Spans.{less}
 use Rattle.std.specs.Option.{option_map}
 use Rattle.std.specs.List.{list_all}
@@ -170,28 +170,6 @@ joined_blind h opener j par w n = on (length (filter (λ q. not (q == h.process)
 and_same : {a b c d : Bool} → a ≡ b → c ≡ d → (a && c) ≡ (b && d)
 and_same p q = rw (p, q)
 
--- what is sent on a channel, by who waits there
-sent_is : (w : World) (e : Exchange) (c : Channel) (o : Option ℕ) → input_link e.channel ≡ None
-    → channel_at w e.channel ≡ Some c → c.waiting ≡ o
-    → sent_on w e ≡ elim o as (λ o. Option Exchange)
-    [ None ↦ None | Some other ↦ sent_by (condition_of w other) ]
-sent_is w e c o inside there is =
-    ap (λ (k : Option ℕ). elim k as (λ k. Option Exchange) [
-      | Some k ↦ None
-      | None ↦ elim (channel_at w e.channel) as (λ c. Option Exchange) [
-        | None ↦ None
-        | Some channel ↦ elim channel.waiting as (λ o. Option Exchange)
-            [ None ↦ None | Some other ↦ sent_by (condition_of w other) ]
-      ]
-    ]) inside
-    ∙ (ap (λ (c : Option Channel). elim c as (λ c. Option Exchange) [
-      | None ↦ None
-      | Some channel ↦ elim channel.waiting as (λ o. Option Exchange)
-          [ None ↦ None | Some other ↦ sent_by (condition_of w other) ]
-    ]) there
-    ∙ ap (λ (o : Option ℕ). elim o as (λ o. Option Exchange)
-    [ None ↦ None | Some other ↦ sent_by (condition_of w other) ]) is)
-
 -- ---- turns
 
 module _ (seen : ℕ → Bool) where
@@ -271,7 +249,7 @@ module _ (seen : ℕ → Bool) where
             (with_channel e.channel (record c { waiting = Some h.process })) (λ v n. refl))
         on_waiting c inside there (Some other) is =
             received_from e c r m n agree other (condition_of w other)
-            (λ sent by. covers sent (sent_is w e c (Some other) inside there is ∙ by))
+            (λ sent by. covers sent (of_waiting_is _ w e sent_by c (Some other) inside there is ∙ by))
 
         on_channel : input_link e.channel ≡ None → (c : Option Channel) → channel_at w e.channel ≡ c
             → SameTurn seen

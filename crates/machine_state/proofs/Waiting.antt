@@ -5,7 +5,7 @@ use Rattle.std.proofs.Common.{refl, sym, ap, ◌∙◌, subst, slice_get, arith,
 use Rattle.std.proofs.lemmas.Bool.{cases_eq, eqb-false}
 use Rattle.std.proofs.lemmas.List.{length-set, length-append}
 use Rattle.std.proofs.lemmas.Option.{slice_get_within}
-use Rattle.std.specs.Prelude.{◌%◌, ◌^◌, replicate, ⊤, ◌==◌, filter, not, slice_set}
+use Rattle.std.specs.Prelude.{◌%◌, ◌^◌, replicate, ◌==◌, filter, not, slice_set}
 use Rattle.module_format.specs.Contents.{Contents, Par}
 use Rattle.machine_state.specs.declared.event.Event.{Event}
 use Rattle.machine_state.specs.declared.instruction.Instruction.{Instruction}
@@ -19,9 +19,9 @@ use Rattle.machine_state.specs.declared.process.Condition.{Condition}
 use Rattle.machine_state.specs.declared.process.Condition.TheVariants.{Ready, Sending, Receiving, OnLink, Alternating}
 use Rattle.machine_state.specs.declared.process.Condition.TheVariants.{Stopped, Ended}
 use Rattle.machine_state.specs.declared.process.Exchange.{Exchange}
-use Rattle.machine_state.specs.Memory.{Memory, place_of, byte_at, with_byte, word_at, with_word}
+use Rattle.machine_state.specs.Memory.{Memory, place_of, with_byte}
 use Rattle.machine_state.specs.World.{World, Queue, Links, Role, Join, input_word, output_word, loaded, root_task, root_role}
-use Rattle.machine_state.specs.Site.{Site, Local, Outcome, receives, sends}
+use Rattle.machine_state.specs.Site.{Local, Outcome}
 use Rattle.machine_state.specs.LocalStep.{copied, with_a_alone}
 use Rattle.machine_state.specs.Moves.{on_task, wake, enqueue, leave, dispatch, rouse, rouse_task, rouse_enabling}
 use Rattle.machine_state.specs.Moves.{fill, fill_condition, with_condition, link_index, finished_where, with_channel, with_input, with_output, cell_of}
@@ -43,7 +43,8 @@ use Rattle.machine_state.specs.declared.process.Channel.{Channel}
 use Rattle.machine_state.specs.Holding.{Holding, nothing}
 use Rattle.machine_state.proofs.SpanLaws.{or_true, or_left, or_right}
 use Rattle.machine_state.specs.Waiting.{IsReadyAt, AllReady, IsAbsent, line, Line, WaitsOn, Waiters}
-use Rattle.machine_state.proofs.EveryInstruction.{Wants, each_step}
+use Rattle.machine_state.proofs.EveryInstruction.{each_step}
+use Rattle.machine_state.proofs.Writing.{Message, messages}
 use Rattle.machine_state.proofs.Lines.{got_set, got_other, all_ready_without, absent_by_condition, push_line}
 use Rattle.machine_state.proofs.Lines.{pick_line, got_before, got_last, got_either, all_ready_before, new_absent}
 
@@ -487,41 +488,6 @@ calm_sending e = record { link = λ x done is. absurd (cc); over = λ is. absurd
 calm_receiving : (e : Exchange) → Calm (Receiving e) Ready
 calm_receiving e = record { link = λ x done is. absurd (cc); over = λ is. absurd (cc) }
 
--- ---- messages have a byte at least
-
-abbrev LongEnough : Outcome → Type 0
-LongEnough (receives e l) = 1 ≤ e.length
-LongEnough (sends e l) = 1 ≤ e.length
-LongEnough _ = ⊤
-
-long_enough : (s : Site) (r : Registers) (old : Memory)
-    → Wants s r old old (λ r m n. m ≡ n) (λ o other. LongEnough o)
-long_enough s r old = record {
-  same_word = λ r m n place k own. ap (λ (m : Memory). word_at m place) k;
-  same_byte = λ r m n place k own. ap (λ (m : Memory). byte_at m place) k;
-  stack = λ r m n stack k. k;
-  workspace = λ r m n e k. k;
-  word = λ r m n place v k own. ap (λ (m : Memory). with_word m place v) k;
-  byte = λ r m n place v k own. ap (λ (m : Memory). with_byte m place v) k;
-  copy = λ r m n source to count k read own. ap (λ (m : Memory). copied m source to count m) k;
-  at_fault = λ kind. tt;
-  at_goes = λ r m n k. tt;
-  at_jumps = λ to r m n k. tt;
-  at_lands = λ to r m n k. tt;
-  at_stops = λ r m n k. tt;
-  at_receives = λ e asked own k. asked.some;
-  at_sends = λ e asked own defined k. asked.some;
-  at_starts = λ to workspace r m n even k. tt;
-  at_joins = λ block r m n k. tt;
-  at_begins = λ r m n k. tt;
-  at_enables_channel = λ guard at r m n k held. tt;
-  at_enables_skip = λ guard r m n k. tt;
-  at_waits = λ r m n k. tt;
-  at_disables_channel = λ guard at distance r m n k held. tt;
-  at_disables_skip = λ guard distance r m n k. tt;
-  at_ends_alternation = λ to r m n k. tt;
-}
-
 -- the link whose word is at an address
 link_found : (first address k : ℕ) → link_from first address ≡ Some k → address ≡ first + 4 * k
 link_found first address k is =
@@ -544,30 +510,21 @@ input_words k = omega arith
 output_words : (k : ℕ) → output_word 0 + 4 * k ≡ output_word k
 output_words k = omega arith
 
--- the role of who has a join open, and of who has an opener
-opened_tells : (w : World) (p : ℕ) (j : Join) → opened_by w p ≡ Some j
-    → (r : Role) × (slice_get w.roles p ≡ Some r) × (r.opened ≡ Some j)
-opened_tells w p j is = on (slice_get w.roles p) refl is
+-- the role of a process of which something is told
+role_tells : {A : Type 0} (told : Role → Option A) (w : World) (p : ℕ) (x : A)
+    → elim (slice_get w.roles p) as (λ o. Option A) [ None ↦ None | Some role ↦ told role ] ≡ Some x
+    → (r : Role) × (slice_get w.roles p ≡ Some r) × (told r ≡ Some x)
+role_tells {A = A} told w p x is = on (slice_get w.roles p) refl is
   where
     on : (o : Option Role) → slice_get w.roles p ≡ o
-        → elim o as (λ o. Option Join) [ None ↦ None | Some role ↦ role.opened ] ≡ Some j
-        → (r : Role) × (slice_get w.roles p ≡ Some r) × (r.opened ≡ Some j)
+        → elim o as (λ o. Option A) [ None ↦ None | Some role ↦ told role ] ≡ Some x
+        → (r : Role) × (slice_get w.roles p ≡ Some r) × (told r ≡ Some x)
     on None here is = absurd (cc)
     on (Some r) here is = (r, here, is)
 
 opened_is : (w : World) (p : ℕ) (r : Role) → slice_get w.roles p ≡ Some r → opened_by w p ≡ r.opened
 opened_is w p r here = ap (λ (o : Option Role). elim o as (λ o. Option Join)
     [ None ↦ None | Some role ↦ role.opened ]) here
-
-opener_tells : (w : World) (p q : ℕ) → opener_of w p ≡ Some q
-    → (r : Role) × (slice_get w.roles p ≡ Some r) × (r.opener ≡ Some q)
-opener_tells w p q is = on (slice_get w.roles p) refl is
-  where
-    on : (o : Option Role) → slice_get w.roles p ≡ o
-        → elim o as (λ o. Option ℕ) [ None ↦ None | Some role ↦ role.opener ] ≡ Some q
-        → (r : Role) × (slice_get w.roles p ≡ Some r) × (r.opener ≡ Some q)
-    on None here is = absurd (cc)
-    on (Some r) here is = (r, here, is)
 
 some_role : (roles : List Role) (p : ℕ) → p < length roles → (r : Role) × (slice_get roles p ≡ Some r)
 some_role [] p h = absurd (omega arith)
@@ -1126,7 +1083,7 @@ module _ (h : Here) (w : World) (runs : w.queue.running ≡ Some h.process)
   -- it is a member of its own join
   own_member : (j : Join) → opened_by w h.process ≡ Some j → is_member j.members h.process ≡ true
   own_member j is =
-      let r = opened_tells w h.process j is in
+      let r = role_tells (λ role. role.opened) w h.process j is in
       elim (keeps.rest.joins h.process r.0 j r.1 r.2) [
         | inl member ↦ member
         | inr over ↦ absurd (
@@ -1158,76 +1115,76 @@ module _ (h : Here) (w : World) (runs : w.queue.running ≡ Some h.process)
       })
       (without_words (scheduling_addresses workspace) m) channels
 
-  moved_keeps : (o : Outcome) (after : World) → Moved h w o after → LongEnough o → WaitsIn after
+  moved_keeps : (o : Outcome) (after : World) → Moved h w o after → Message (site_of h w) w.memory o → WaitsIn after
   unfolding dispatch
-  moved_keeps o after (turns.it_goes l) long = goes (between h.next l.registers) h.from.mode l.memory w.channels
-  moved_keeps o after (turns.it_jumps to l) long = goes (between to l.registers) h.from.mode l.memory w.channels
-  moved_keeps o after (turns.it_is_sliced to l) long =
+  moved_keeps o after (turns.it_goes l) says = goes (between h.next l.registers) h.from.mode l.memory w.channels
+  moved_keeps o after (turns.it_jumps to l) says = goes (between to l.registers) h.from.mode l.memory w.channels
+  moved_keeps o after (turns.it_is_sliced to l) says =
       let u = record h.from { registers = between to l.registers } in
       dispatch_keeps h.pick (enqueue h.process (leave (continued h to l w)))
       (enqueue_keeps h.process (leave (continued h to l w))
       (record { task = u; here = it_is u; ready = is_ready }) absent (record { line = others u; rest = rest u }))
-  moved_keeps o after (turns.it_lands to l) long = goes (between to l.registers) h.from.mode l.memory w.channels
-  moved_keeps o after (turns.it_stops l) long =
+  moved_keeps o after (turns.it_lands to l) says = goes (between to l.registers) h.from.mode l.memory w.channels
+  moved_keeps o after (turns.it_stops l) says =
       let u = record h.from { registers = between h.next l.registers; condition = Stopped } in
       leaves u (leave (finished_where (h.next == h.contents.finish) (turns.stopped_here h l w))) refl refl (rest u)
-  moved_keeps o after (turns.receives_first e l c inside here nobody) long =
+  moved_keeps o after (turns.receives_first e l c inside here nobody) says =
       let u = record h.from { registers = between h.next l.registers; condition = Receiving e } in
       leaves u (leave (waits_at h (Receiving e) e.channel c l w)) refl refl (rest u)
-  moved_keeps o after (turns.receives_from e l c other sent inside here partner is same) long =
+  moved_keeps o after (turns.receives_from e l c other sent inside here partner is same) says =
       meets (record h.from { registers = between h.next l.registers }) refl other (Sending sent) is (λ e. cc)
       (calm_sending sent) (copied l.memory (place_of sent.address) (place_of e.address) sent.length l.memory)
       (slice_set w.channels (cell_of sent.channel) (Some (record c { waiting = None })))
-  moved_keeps o after (turns.receives_none e l k link on here none) long =
+  moved_keeps o after (turns.receives_none e l k link on here none) says =
       let u = record h.from { registers = between h.next l.registers; condition = OnLink e 0 } in
-      let some : 1 ≤ e.length = long in
+      let some : 1 ≤ e.length = says.1 in
       leaves u (leave (with_input k (record link { waiting = Some h.process }) (waiting h (OnLink e 0) l w))) refl refl
       (rest_input (slice_set w.tasks h.process u) w.roles w.links k (record link { waiting = Some h.process })
       (waits_on u e 0 (input_word k) refl (link_found (input_word 0) e.channel k on ∙ input_words k) (omega arith))
       (rest u))
-  moved_keeps o after (turns.receives_last e l k link byte on here kept one) long =
+  moved_keeps o after (turns.receives_last e l k link byte on here kept one) says =
       goes_with (between h.next l.registers) h.from.mode (turns.with_first e byte l).memory k link
       (record link { kept = None }) here refl
-  moved_keeps o after (turns.receives_one e l k link byte on here kept more) long =
+  moved_keeps o after (turns.receives_one e l k link byte on here kept more) says =
       let u = record h.from { registers = between h.next l.registers; condition = OnLink e 1 } in
       let other : e.length ≢ 1 = eqb-false e.length 1 more in
-      let some : 1 ≤ e.length = long in
+      let some : 1 ≤ e.length = says.1 in
       leaves u (leave (with_input k (record link { kept = None; waiting = Some h.process })
       (waiting h (OnLink e 1) (turns.with_first e byte l) w))) refl refl
       (rest_input (slice_set w.tasks h.process u) w.roles w.links k
       (record link { kept = None; waiting = Some h.process })
       (waits_on u e 1 (input_word k) refl (link_found (input_word 0) e.channel k on ∙ input_words k) (omega arith))
       (rest u))
-  moved_keeps o after (turns.sends_first e l c inside here nobody) long =
+  moved_keeps o after (turns.sends_first e l c inside here nobody) says =
       let u = record h.from { registers = between h.next l.registers; condition = Sending e } in
       let v = waits_at h (Sending e) e.channel c l w in
       dispatch_keeps h.pick (leave (rouse c.enabled v)) (subst (λ (x : World). WaitsIn x) (sym (leave_rouse c.enabled v))
       (rouse_keeps c.enabled (leave v) (record { line = others u; rest = rest u })))
-  moved_keeps o after (turns.sends_to e l c other wanted inside here partner is same) long =
+  moved_keeps o after (turns.sends_to e l c other wanted inside here partner is same) says =
       meets (record h.from { registers = between h.next l.registers }) refl other (Receiving wanted) is (λ e. cc)
       (calm_receiving wanted) (copied l.memory (place_of e.address) (place_of wanted.address) e.length l.memory)
       (slice_set w.channels (cell_of e.channel) (Some (record c { waiting = None })))
-  moved_keeps o after (turns.starts_first target workspace l found is none tests) long =
+  moved_keeps o after (turns.starts_first target workspace l found is none tests) says =
       let plan = turns.plan_of h w found in
       begins_branch plan found workspace l.registers (opened h plan l w).0.memory
       (with_channels h.process plan.base plan.par.channels w.channels) (or_left _ _ (is_itself h.process))
       (λ role j here shown. absurd (
       let e : None ≡ Some j = sym none ∙ (opened_is w h.process role here ∙ shown) in cc))
-  moved_keeps o after (turns.starts_later target workspace l found j is is_open same tests) long =
+  moved_keeps o after (turns.starts_later target workspace l found j is is_open same tests) says =
       begins_branch (later_plan h.contents j found.par) found workspace l.registers l.memory w.channels
       (own_member j is_open)
       (λ role k here shown.
       let e : Some j ≡ Some k = sym is_open ∙ (opened_is w h.process role here ∙ shown) in
       let same_one : j ≡ k = cc in ap (λ (x : Join). x.members) same_one)
-  moved_keeps o after (turns.joins_own block l j par is row all) long =
+  moved_keeps o after (turns.joins_own block l j par is row all) says =
       let u = record h.from { registers = between h.next l.registers; mode = Plain; condition = Ended } in
-      let r = opened_tells w h.process j is in
+      let r = role_tells (λ role. role.opened) w h.process j is in
       ended_keeps u refl l.memory w.roles (rest u) h.process r.0 j par r.1 r.2
       (λ x a b. absurd (let low = keeps.rest.openers h.process x h.process a b in omega arith))
-  moved_keeps o after (turns.joins_opener block l opener j par none by is row same) long =
+  moved_keeps o after (turns.joins_opener block l opener j par none by is row same) says =
       let u = record h.from { registers = between h.next l.registers; mode = Plain; condition = Ended } in
-      let mine = opener_tells w h.process opener by in
-      let r = opened_tells w opener j is in
+      let mine = role_tells (λ role. role.opener) w h.process opener by in
+      let r = role_tells (λ role. role.opened) w opener j is in
       let below = keeps.rest.openers h.process mine.0 opener mine.1 mine.2 in
       let gone = record mine.0 { own = nothing } in
       let roles = slice_set w.roles h.process gone in
@@ -1242,48 +1199,48 @@ module _ (h : Here) (w : World) (runs : w.queue.running ≡ Some h.process)
       let same_one : gone ≡ x = same_some (slice_get roles h.process) gone x
       (got_set w.roles h.process mine.0 gone mine.1) a in
       sym (ap (λ (z : Role). z.opened) same_one) ∙ (sym (opened_is w h.process mine.0 mine.1) ∙ none)))
-  moved_keeps o after (turns.it_begins l) long =
+  moved_keeps o after (turns.it_begins l) says =
       goes (between h.next l.registers) (Enabling false) l.memory w.channels
-  moved_keeps o after (turns.it_enables guard address l s holds (turns.on_channel c inside here) once) long =
+  moved_keeps o after (turns.it_enables guard address l s holds (turns.on_channel c inside here) once) says =
       goes (between h.next l.registers) (ready_or h.from.mode (is_some c.waiting)) l.memory
       (slice_set w.channels (cell_of address) (Some (record c { enabled = Some h.process })))
-  moved_keeps o after (turns.it_enables guard address l s holds (turns.on_link k link on here) once) long =
+  moved_keeps o after (turns.it_enables guard address l s holds (turns.on_link k link on here) once) says =
       goes_with (between h.next l.registers) (ready_or h.from.mode (is_some link.kept)) l.memory k link
       (record link { enabled = Some h.process }) here refl
-  moved_keeps o after (turns.it_enables_nothing guard address l off) long =
+  moved_keeps o after (turns.it_enables_nothing guard address l off) says =
       goes (between h.next l.registers) h.from.mode l.memory w.channels
-  moved_keeps o after (turns.it_enables_a_skip guard l) long =
+  moved_keeps o after (turns.it_enables_a_skip guard l) says =
       goes (between h.next l.registers) (ready_or h.from.mode guard) l.memory w.channels
-  moved_keeps o after (turns.it_is_ready l is) long =
+  moved_keeps o after (turns.it_is_ready l is) says =
       goes (between h.next l.registers) (Disabling None) l.memory w.channels
-  moved_keeps o after (turns.it_waits l is) long =
+  moved_keeps o after (turns.it_waits l is) says =
       let u = record h.from {
         registers = between h.next l.registers;
         mode = Disabling None;
         condition = Alternating;
       } in
       leaves u (leave (turns.alternating_here h l w)) refl refl (rest u)
-  moved_keeps o after (turns.it_disables guard address distance l s holds (turns.on_channel c inside here) mine) long =
+  moved_keeps o after (turns.it_disables guard address distance l s holds (turns.on_channel c inside here) mine) says =
       chosen_keeps (with_channel address (record c { enabled = None }))
       (λ r mode m. goes r mode m (slice_set w.channels (cell_of address) (Some (record c { enabled = None }))))
       (is_some c.waiting) distance l
-  moved_keeps o after (turns.it_disables guard address distance l s holds (turns.on_link k link on here) mine) long =
+  moved_keeps o after (turns.it_disables guard address distance l s holds (turns.on_link k link on here) mine) says =
       chosen_keeps (with_input k (record link { enabled = None }))
       (λ r mode m. goes_with r mode m k link (record link { enabled = None }) here refl) (is_some link.kept) distance l
-  moved_keeps o after (turns.it_disables_nothing guard address distance l off) long =
+  moved_keeps o after (turns.it_disables_nothing guard address distance l off) says =
       chosen_keeps (λ v. v) (λ r mode m. goes r mode m w.channels) false distance l
-  moved_keeps o after (turns.it_disables_a_skip guard distance l) long =
+  moved_keeps o after (turns.it_disables_a_skip guard distance l) says =
       chosen_keeps (λ v. v) (λ r mode m. goes r mode m w.channels) guard distance l
-  moved_keeps o after (turns.it_ends_alternation to l none) long =
+  moved_keeps o after (turns.it_ends_alternation to l none) says =
       goes (between to l.registers) Plain l.memory w.channels
 
-  pub end_keeps : (o : Outcome) (t : Turn) → Ends h w o t → LongEnough o → WaitsIn t.world
-  end_keeps o t (turns.at_fault kind) long = record { line = keeps.line; rest = keeps.rest }
-  end_keeps o t (turns.has_run {after = after} moved) long =
-      let kept = moved_keeps o after moved long in record { line = kept.line; rest = kept.rest }
-  end_keeps o t (turns.has_emitted e l k on same) long =
+  pub end_keeps : (o : Outcome) (t : Turn) → Ends h w o t → Message (site_of h w) w.memory o → WaitsIn t.world
+  end_keeps o t (turns.at_fault kind) says = record { line = keeps.line; rest = keeps.rest }
+  end_keeps o t (turns.has_run {after = after} moved) says =
+      let kept = moved_keeps o after moved says in record { line = kept.line; rest = kept.rest }
+  end_keeps o t (turns.has_emitted e l k on same) says =
       let u = record h.from { registers = between h.next l.registers; condition = OnLink e 0 } in
-      let some : 1 ≤ e.length = long in
+      let some : 1 ≤ e.length = says.1 in
       let kept = leaves u
       (leave (with_output k (record { waiting = Some h.process }) (waiting h (OnLink e 0) l w))) refl refl
       (rest_output (slice_set w.tasks h.process u) w.roles w.links k (record { waiting = Some h.process })
@@ -1471,8 +1428,8 @@ module _ (w : World) (keeps : WaitsIn w) where
   turn_keeps executes m e t (turns.is_step {pick = pick} p task byte f runs here at is ends) =
       let h = at_here m p task pick in
       end_keeps h w runs here keeps _ t ends
-      (each_step (site_of h w) task.registers w.memory w.memory (λ r m n. m ≡ n) (λ o other. LongEnough o)
-      (long_enough (site_of h w) task.registers w.memory) refl executes f
+      (each_step (site_of h w) task.registers w.memory w.memory (λ r m n. m ≡ n)
+      (λ o other. Message (site_of h w) w.memory o) (messages (site_of h w) task.registers w.memory) refl executes f
       (with_nibble task.registers.operand (nibble byte)))
   turn_keeps executes m e t (turns.is_taken {link = link} {byte = byte} input p here waiting) =
       dispatch_keeps 0 (fill p (link_index link) byte input w) (fill_keeps p (link_index link) byte input here waiting)

@@ -42,7 +42,8 @@ use Rattle.machine_state.specs.Joins.{join_after, frame_address, named_from}
 use Rattle.machine_state.specs.Happens as happens
 use Rattle.machine_state.specs.Happens.{site_of, between, turn_by}
 use Rattle.machine_state.specs.Frame.{ChangesOwn, LeavesOthers}
-use Rattle.machine_state.specs.Writing.{outcome_of, Delivery, delivered_to, delivery_on, delivery_by, delivery, is_delivered}
+use Rattle.machine_state.specs.Writing.{outcome_of, of_waiting, Delivery, delivered_to, delivery_on, delivery_by}
+use Rattle.machine_state.specs.Writing.{delivery, is_delivered}
 use Rattle.machine_state.specs.Writing.{is_own, WritesWell, StepWrites, StepsWriteOwn, wanted_by, wanted_on, ArriveWrites}
 use Rattle.machine_state.specs.Writing.{ArrivalsWriteOne, AcknowledgementsWriteNothing}
 use Rattle.machine_state.proofs.Reading.{length-with_byte, byte_at-with_byte, byte_at-with_byte_other}
@@ -106,15 +107,16 @@ all_at test place (suc n) (suc i) all inside =
     let e : place + suc i ≡ place + 1 + i = omega arith in
     rw e (all_at test (place + 1) n i (and_true _ _ all).1 (omega arith))
 
--- ---- what an outcome says of a message
+-- ---- what an outcome says of a message: it has a byte at least
 
-abbrev Message : Site → Memory → Outcome → Type 0
+abbrev pub Message : Site → Memory → Outcome → Type 0
 Message s old (receives e l) = all_places (may_write s.holding) (place_of e.address) e.length ≡ true × (1 ≤ e.length)
 Message s old (sends e l) =
-    (i : ℕ) → i < e.length → byte_at l.memory (place_of e.address + i) ≡ byte_at old (place_of e.address + i)
+    ((i : ℕ) → i < e.length → byte_at l.memory (place_of e.address + i) ≡ byte_at old (place_of e.address + i))
+    × (1 ≤ e.length)
 Message s old _ = ⊤
 
-messages : (s : Site) (r : Registers) (old : Memory)
+pub messages : (s : Site) (r : Registers) (old : Memory)
     → Wants s r old old (λ r m n. m ≡ n) (λ o other. Message s old o)
 messages s r old = record {
   same_word = λ r m n place k own. ap (λ (m : Memory). word_at m place) k;
@@ -130,8 +132,11 @@ messages s r old = record {
   at_lands = λ to r m n k. tt;
   at_stops = λ r m n k. tt;
   at_receives = λ e asked own k. (own, asked.some);
-  at_sends = λ e asked own defined k i inside. kept_scheduled r old (place_of e.address + i)
-      (all_at (λ place. is_some (byte_at (scheduled r old) place)) (place_of e.address) e.length i defined inside);
+  at_sends = λ e asked own defined k. (
+    (λ i inside. kept_scheduled r old (place_of e.address + i)
+        (all_at (λ place. is_some (byte_at (scheduled r old) place)) (place_of e.address) e.length i defined inside)),
+    asked.some,
+  );
   at_starts = λ to workspace r m n even k. tt;
   at_joins = λ block r m n k. tt;
   at_begins = λ r m n k. tt;
@@ -251,36 +256,22 @@ holds_rest w p j is = on (slice_get w.roles p) is
 
 -- ---- by the way in which the world has moved
 
-delivery_is : (w : World) (e : Exchange) (c : Channel) (o : Option ℕ) → output_link e.channel ≡ None
-    → channel_at w e.channel ≡ Some c → c.waiting ≡ o
-    → delivery_on w e ≡ elim o as (λ o. Option Delivery)
-    [ None ↦ None | Some other ↦ delivered_to e (condition_of w other) ]
-delivery_is w e c o inside there is =
-    ap (λ (k : Option ℕ). elim k as (λ k. Option Delivery) [
-      | Some k ↦ None
-      | None ↦ elim (channel_at w e.channel) as (λ c. Option Delivery) [
-        | None ↦ None
-        | Some channel ↦ elim channel.waiting as (λ o. Option Delivery)
-            [ None ↦ None | Some other ↦ delivered_to e (condition_of w other) ]
-      ]
-    ]) inside
-    ∙ (ap (λ (c : Option Channel). elim c as (λ c. Option Delivery) [
+-- what there is of who waits on an internal channel
+pub of_waiting_is : {A : Type 0} (link : Option ℕ) (w : World) (e : Exchange) (find : Condition → Option A)
+    (c : Channel) (o : Option ℕ) → link ≡ None → channel_at w e.channel ≡ Some c → c.waiting ≡ o
+    → of_waiting link w e find ≡ elim o as (λ o. Option A) [ None ↦ None | Some other ↦ find (condition_of w other) ]
+of_waiting_is {A = A} link w e find c o inside there is =
+    ap (λ (k : Option ℕ). of_waiting k w e find) inside
+    ∙ (ap (λ (c : Option Channel). elim c as (λ c. Option A) [
       | None ↦ None
-      | Some channel ↦ elim channel.waiting as (λ o. Option Delivery)
-          [ None ↦ None | Some other ↦ delivered_to e (condition_of w other) ]
+      | Some channel ↦ elim channel.waiting as (λ o. Option A)
+          [ None ↦ None | Some other ↦ find (condition_of w other) ]
     ]) there
-    ∙ ap (λ (o : Option ℕ). elim o as (λ o. Option Delivery)
-    [ None ↦ None | Some other ↦ delivered_to e (condition_of w other) ]) is)
+    ∙ ap (λ (o : Option ℕ). elim o as (λ o. Option A)
+    [ None ↦ None | Some other ↦ find (condition_of w other) ]) is)
 
 nothing_on_a_link : (w : World) (e : Exchange) (k : ℕ) → output_link e.channel ≡ Some k → delivery_on w e ≡ None
-nothing_on_a_link w e k is = ap (λ (k : Option ℕ). elim k as (λ k. Option Delivery) [
-  | Some k ↦ None
-  | None ↦ elim (channel_at w e.channel) as (λ c. Option Delivery) [
-    | None ↦ None
-    | Some channel ↦ elim channel.waiting as (λ o. Option Delivery)
-        [ None ↦ None | Some other ↦ delivered_to e (condition_of w other) ]
-  ]
-]) is
+nothing_on_a_link w e k is = ap (λ (k : Option ℕ). of_waiting k w e (delivered_to e)) is
 
 -- no message is delivered: only own bytes have changed
 only_own : (h : Holding) (d : Option Delivery) (old middle new : Memory) → ChangesOwn h old middle → d ≡ None
@@ -394,11 +385,11 @@ module _ (h : Here) (w : World) where
       (changes_more hold w.memory l.memory _ own
       (byte_is_own hold l.memory (place_of e.address) (Some byte) (first_is_own e says.0 says.1))) refl refl
   moved_writes o after (turns.sends_first e l c inside there nobody) own says =
-      only_own hold (delivery_on w e) w.memory l.memory _ own (delivery_is w e c None inside there nobody)
+      only_own hold (delivery_on w e) w.memory l.memory _ own (of_waiting_is _ w e (delivered_to e) c None inside there nobody)
       (rouse_only c.enabled (waits_at h (Sending e) e.channel c l w)).memory
   moved_writes o after (turns.sends_to e l c other wanted inside there partner is same) own says =
       delivers hold (delivery_on w e) e wanted w.memory l.memory _ own
-      (delivery_is w e c (Some other) inside there partner ∙ ap (delivered_to e) is) says (wake_only other
+      (of_waiting_is _ w e (delivered_to e) c (Some other) inside there partner ∙ ap (delivered_to e) is) says.0 (wake_only other
       (with_channel e.channel (record c { waiting = None }) (continued h h.next
       (record l {
         memory = step.copied l.memory (place_of e.address) (place_of wanted.address) e.length l.memory;

@@ -6,9 +6,7 @@ use Rattle.machine_state.specs.declared.cpu.Flow.TheVariants.{Next, Jump, Land, 
 use Rattle.machine_state.specs.declared.fault.Fault.{Fault}
 use Rattle.machine_state.specs.declared.fault.FaultKind.{FaultKind}
 use Rattle.machine_state.specs.Faults.{fault_in}
-use Rattle.machine_state.specs.Memory.{Memory}
-use Rattle.machine_state.specs.Holding.{Holding}
-use Rattle.machine_state.specs.World.{Roles}
+use Rattle.machine_state.specs.declared.store.Store.{Ghosts}
 use Rattle.machine_state.specs.Site.{Site, Local, Outcome, goes, jumps, lands, stops, fails}
 use Rattle.machine_state.specs.Instructions.{op_has_body}
 use Rattle.machine_state.specs.LocalStep.{local_step, instruction_step, operation_step}
@@ -17,32 +15,23 @@ use Rattle.machine_state.specs.declared.op.Op.{Op}
 use Rattle.machine_state.specs.declared.instruction.Instruction.{Instruction}
 use Rattle.prefix_decoder.specs.declared.function.Fun.{Fun}
 
--- what an instruction may change of a processor, whose store has these cells
-abbrev pub local_of : {S : Type 0} → (S → Memory) → Cpu S → Local
-local_of cells cpu = record { registers = cpu.registers; memory = cells cpu.store }
+-- What the trait Store shows of a store, its ghosts, is the first argument of what follows: its memory, what the
+-- running process may touch, and what each may.
+
+-- what an instruction may change of a processor
+abbrev pub local_of : {S : Type 0} → Ghosts S → Cpu S → Local
+local_of ghosts cpu = record { registers = cpu.registers; memory = ghosts.cells cpu.store }
 
 -- what it finds there and does not change
-abbrev pub site_of : {S : Type 0} → (S → Holding) → Cpu S → Site
-site_of holding cpu = record {
+abbrev pub site_of : {S : Type 0} → Ghosts S → Cpu S → Site
+site_of ghosts cpu = record {
   code_start = cpu.code_start;
   code_length = cpu.code_length;
   next = cpu.registers.at + 1;
   mode = cpu.mode;
-  holding = holding cpu.store;
+  holding = ghosts.holding cpu.store;
   has_long_operations = cpu.has_long_operations;
 }
-
--- the outcome of a function with its operand, of an instruction with its operand, and of an operation, there
-abbrev pub direct_outcome : {S : Type 0} → (S → Memory) → (S → Holding) → Cpu S → Fun → ℤ → Outcome
-direct_outcome cells holding cpu f operand = local_step (site_of holding cpu) f operand (local_of cells cpu)
-
-abbrev pub instruction_outcome : {S : Type 0} → (S → Memory) → (S → Holding) → Cpu S → Instruction → ℤ → Outcome
-instruction_outcome cells holding cpu instruction operand =
-    instruction_step (site_of holding cpu) instruction operand (local_of cells cpu)
-
-abbrev pub operation_outcome : {S : Type 0} → (S → Memory) → (S → Holding) → Cpu S → Op → Outcome
-operation_outcome cells holding cpu op =
-    if op_has_body op then operation_step (site_of holding cpu) op (local_of cells cpu) else fails UnknownOperation
 
 -- a fault in the present instruction
 abbrev pub fault_of : {S : Type 0} → Cpu S → FaultKind → Fault
@@ -67,21 +56,43 @@ Admits cpu (Ok passed) test = (after : Outcome) → test after ≡ after
 Admits cpu (Err fault) test = (after : Outcome) → faulted cpu (test after) ≡ Some fault
 
 -- by the answer: where the process goes on, or that it stops; a fault changes nothing
-abbrev pub Performs : {S : Type 0} → (S → Memory) → Cpu S → Cpu S → Result Flow Fault → Outcome → Type 0
-Performs cells before after (Ok Next) outcome = outcome ≡ goes (local_of cells after)
-Performs cells before after (Ok (Jump to)) outcome = outcome ≡ jumps to (local_of cells after)
-Performs cells before after (Ok (Land to)) outcome = outcome ≡ lands to (local_of cells after)
-Performs cells before after (Ok Stop) outcome = outcome ≡ stops (local_of cells after)
-Performs cells before after (Err fault) outcome =
-    (faulted before outcome ≡ Some fault) × (local_of cells after ≡ local_of cells before)
+abbrev pub HasOutcome : {S : Type 0} → Ghosts S → Cpu S → Cpu S → Result Flow Fault → Outcome → Type 0
+HasOutcome ghosts before after (Ok Next) outcome = outcome ≡ goes (local_of ghosts after)
+HasOutcome ghosts before after (Ok (Jump to)) outcome = outcome ≡ jumps to (local_of ghosts after)
+HasOutcome ghosts before after (Ok (Land to)) outcome = outcome ≡ lands to (local_of ghosts after)
+HasOutcome ghosts before after (Ok Stop) outcome = outcome ≡ stops (local_of ghosts after)
+HasOutcome ghosts before after (Err fault) outcome =
+    (faulted before outcome ≡ Some fault) × (local_of ghosts after ≡ local_of ghosts before)
 
 -- all but the registers and the memory stays
-pub record IsSameElsewhere {S : Type 0} (holding : S → Holding) (roles : S → Roles)
-    (before after : Cpu S) : Type 0 where
+pub record IsSameElsewhere {S : Type 0} (ghosts : Ghosts S) (before after : Cpu S) : Type 0 where
   pub process : after.process ≡ before.process
   pub mode : after.mode ≡ before.mode
   pub code_start : after.code_start ≡ before.code_start
   pub code_length : after.code_length ≡ before.code_length
   pub has_long_operations : after.has_long_operations ≡ before.has_long_operations
-  pub held : holding after.store ≡ holding before.store
-  pub others : roles after.store ≡ roles before.store
+  pub held : ghosts.holding after.store ≡ ghosts.holding before.store
+  pub others : ghosts.roles after.store ≡ ghosts.roles before.store
+
+-- the call has this outcome, and changes nothing but the registers and the memory
+pub record Performs {S : Type 0} (ghosts : Ghosts S) (outcome : Outcome) (before after : Cpu S)
+    (result : Result Flow Fault) : Type 0 where
+  pub performed : HasOutcome ghosts before after result outcome
+  pub elsewhere : IsSameElsewhere ghosts before after
+
+-- of an operation, of an instruction with its operand, and of a function with its operand
+abbrev pub PerformsOperation : {S : Type 0} → Ghosts S → Op → Cpu S → Cpu S → Result Flow Fault → Type 0
+PerformsOperation ghosts op before after result =
+    let step = operation_step (site_of ghosts before) op (local_of ghosts before) in
+    Performs ghosts (if op_has_body op then step else fails UnknownOperation) before after result
+
+abbrev pub PerformsInstruction : {S : Type 0} → Ghosts S → Instruction → ℤ → Cpu S → Cpu S → Result Flow Fault
+    → Type 0
+PerformsInstruction ghosts instruction operand before after result =
+    let step = instruction_step (site_of ghosts before) instruction operand (local_of ghosts before) in
+    Performs ghosts step before after result
+
+abbrev pub PerformsFunction : {S : Type 0} → Ghosts S → Fun → ℤ → Cpu S → Cpu S → Result Flow Fault → Type 0
+PerformsFunction ghosts f operand before after result =
+    let step = local_step (site_of ghosts before) f operand (local_of ghosts before) in
+    Performs ghosts step before after result

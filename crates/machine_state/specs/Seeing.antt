@@ -10,11 +10,10 @@ use Rattle.machine_state.specs.Memory.{Memory, place_of, byte_at}
 use Rattle.machine_state.specs.Holding.{may_read}
 use Rattle.machine_state.specs.World.{World, holding_at}
 use Rattle.machine_state.specs.Site.{Outcome, receives}
-use Rattle.machine_state.specs.Moves.{channel_at}
 use Rattle.machine_state.specs.Turn.{Turn}
-use Rattle.machine_state.specs.Exchanges.{input_link, condition_of}
+use Rattle.machine_state.specs.Exchanges.{input_link}
 use Rattle.machine_state.specs.Happens.{turn_by}
-use Rattle.machine_state.specs.Writing.{outcome_of}
+use Rattle.machine_state.specs.Writing.{outcome_of, of_waiting}
 
 abbrev pub sent_by : Condition → Option Exchange
 sent_by (Sending e) = Some e
@@ -22,13 +21,7 @@ sent_by _ = None
 
 -- what a sender that waits on the channel sends
 abbrev pub sent_on : World → Exchange → Option Exchange
-sent_on w e = elim (input_link e.channel) [
-  | Some k ↦ None
-  | None ↦ elim (channel_at w e.channel) [
-    | None ↦ None
-    | Some channel ↦ elim channel.waiting [ None ↦ None | Some other ↦ sent_by (condition_of w other) ]
-  ]
-]
+sent_on w e = of_waiting (input_link e.channel) w e sent_by
 
 abbrev pub supply_by : World → Outcome → Option Exchange
 supply_by w (receives e l) = sent_on w e

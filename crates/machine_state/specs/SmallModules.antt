@@ -2,13 +2,14 @@
 use Rattle.std.specs.Prelude.{◌≡◌, ℕ, ◌+◌, pos, negsuc, true, false, List, [], ◌∷◌, ◌++◌, Some, None, replicate}
 use Rattle.std.specs.Prelude.{slice_set}
 use Rattle.module_format.specs.declared.tables.Version.TheVariants.{One}
-use Rattle.module_format.specs.Contents.{Contents}
+use Rattle.module_format.specs.Contents.{Branch, Par, Contents}
 use Rattle.machine_state.specs.declared.event.Event.{Event}
 use Rattle.machine_state.specs.declared.event.Event.TheVariants.{Step, Arrive, Acknowledge}
 use Rattle.machine_state.specs.declared.link.Link.TheVariants.{Zero, One as FirstLink}
+use Rattle.module_format.specs.declared.rows.ChannelRow.{ChannelRow}
 use Rattle.module_format.specs.declared.rows.EndKind.TheVariants.{FrameWord}
+use Rattle.module_format.specs.declared.rows.EndRow.{EndRow}
 use Rattle.module_format.specs.declared.rows.Direction.TheVariants.{In, Out}
-use Rattle.module_format.specs.Contents.{Par}
 use Rattle.machine_state.specs.World.{World}
 use Rattle.machine_state.specs.Happens.{world_by}
 
@@ -95,34 +96,34 @@ loop = sized 7 3 (of_code (0x40 ∷ 0xd1 ∷ 0x43 ∷ 0xd2 ∷ 0x47 ∷ 0xd3 ∷
 abbrev pub LoopEnds : Type 0
 LoopEnds = IsFinished (whole_world loop (steps 24)) 24
 
--- two branches, each of which writes a word
-abbrev pub pair_row : ℕ → Par
-pair_row word = record {
+-- a branch whose workspace is so many words below the frame: with the three words below it one word of the frame is
+-- its own
+abbrev pub branch_with : ℕ → ℕ → ℕ → List EndRow → Branch
+branch_with entry below word ends = record {
+  entry = entry;
+  workspace = negsuc below;
+  writes =
+      record { lo = negsuc (below + 3); hi = negsuc below } ∷ record { lo = pos word; hi = pos (word + 1) } ∷ [];
+  reads = [];
+  written_parameters = [];
+  read_parameters = [];
+  ends = ends;
+}
+
+-- the root's row of these channels and branches
+abbrev pub row_of : ℕ → List ChannelRow → List Branch → Par
+row_of successor channels branches = record {
   context = 0;
   depth = pos 0;
   block = pos 0;
-  successor = 25;
-  channels = [];
-  branches =
-      record {
-        entry = 17;
-        workspace = negsuc 5;
-        writes = record { lo = negsuc 8; hi = negsuc 5 } ∷ record { lo = pos 2; hi = pos 3 } ∷ [];
-        reads = [];
-        written_parameters = [];
-        read_parameters = [];
-        ends = [];
-      }
-      ∷ record {
-        entry = 21;
-        workspace = negsuc 8;
-        writes = record { lo = negsuc 11; hi = negsuc 8 } ∷ record { lo = pos word; hi = pos (word + 1) } ∷ [];
-        reads = [];
-        written_parameters = [];
-        read_parameters = [];
-        ends = [];
-      } ∷ [];
+  successor = successor;
+  channels = channels;
+  branches = branches;
 }
+
+-- two branches, each of which writes a word
+abbrev pub pair_row : ℕ → Par
+pair_row word = row_of 25 [] (branch_with 17 5 2 [] ∷ branch_with 21 8 word [] ∷ [])
 
 abbrev pub pair_code : List ℕ
 pair_code =
@@ -158,32 +159,9 @@ EchoWaits =
 
 -- one branch sends a word to the other
 abbrev pub channel_row : Par
-channel_row = record {
-  context = 0;
-  depth = pos 0;
-  block = pos 0;
-  successor = 34;
-  channels = record { word = pos 2; length = 4 } ∷ [];
-  branches =
-      record {
-        entry = 20;
-        workspace = negsuc 5;
-        writes = record { lo = negsuc 8; hi = negsuc 5 } ∷ record { lo = pos 4; hi = pos 5 } ∷ [];
-        reads = [];
-        written_parameters = [];
-        read_parameters = [];
-        ends = record { kind = FrameWord (pos 2); direction = Out } ∷ [];
-      }
-      ∷ record {
-        entry = 28;
-        workspace = negsuc 8;
-        writes = record { lo = negsuc 11; hi = negsuc 8 } ∷ record { lo = pos 3; hi = pos 4 } ∷ [];
-        reads = [];
-        written_parameters = [];
-        read_parameters = [];
-        ends = record { kind = FrameWord (pos 2); direction = In } ∷ [];
-      } ∷ [];
-}
+channel_row = row_of 34 (record { word = pos 2; length = 4 } ∷ [])
+    (branch_with 20 5 4 (record { kind = FrameWord (pos 2); direction = Out } ∷ [])
+    ∷ branch_with 28 8 3 (record { kind = FrameWord (pos 2); direction = In } ∷ []) ∷ [])
 
 abbrev pub channel_code : List ℕ
 channel_code =

@@ -48,15 +48,17 @@ abbrev pub delivered_to : Exchange → Condition → Option Delivery
 delivered_to e (Receiving wanted) = Some (record { sent = e; wanted = wanted })
 delivered_to e _ = None
 
+-- what there is of the process that waits on the channel of a message: nothing where that is a link
+abbrev pub of_waiting : {A : Type 0} → Option ℕ → World → Exchange → (Condition → Option A) → Option A
+of_waiting (Some k) w e find = None
+of_waiting None w e find = elim (channel_at w e.channel) [
+  | None ↦ None
+  | Some channel ↦ elim channel.waiting [ None ↦ None | Some other ↦ find (condition_of w other) ]
+]
+
 -- what is sent to a receiver that waits on the channel
 abbrev pub delivery_on : World → Exchange → Option Delivery
-delivery_on w e = elim (output_link e.channel) [
-  | Some k ↦ None
-  | None ↦ elim (channel_at w e.channel) [
-    | None ↦ None
-    | Some channel ↦ elim channel.waiting [ None ↦ None | Some other ↦ delivered_to e (condition_of w other) ]
-  ]
-]
+delivery_on w e = of_waiting (output_link e.channel) w e (delivered_to e)
 
 abbrev pub delivery_by : World → Outcome → Option Delivery
 delivery_by w (sends e l) = delivery_on w e

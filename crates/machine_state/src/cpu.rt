@@ -97,11 +97,8 @@ impl<S> Cpu<S> {
             result ≡ value_or_fault self.now (at % 4 == 0) at FaultKind.Unaligned }
     {
         let address = value.cast_unsigned();
-        if address % 4 == 0 {
-            Ok(address)
-        } else {
-            Err(self.fault(FaultKind::Unaligned))
-        }
+        self.check(address % 4 == 0, FaultKind::Unaligned)?;
+        Ok(address)
     }
 
     /// A count from the least to the most, else `CountRange`.
@@ -111,22 +108,16 @@ impl<S> Cpu<S> {
         ensures bound { IfOk result (λ n. n ≤ most) }
     {
         let number = i64::from(value);
-        if i64::from(least) <= number && number <= i64::from(most) {
-            Ok(value.unsigned_abs())
-        } else {
-            Err(self.fault(FaultKind::CountRange))
-        }
+        let is_between = i64::from(least) <= number && number <= i64::from(most);
+        self.check(is_between, FaultKind::CountRange)?;
+        Ok(value.unsigned_abs())
     }
 
     /// Passes where the offset lies in the code, else `OutsideCode`.
     pub fn in_code(&self, offset: u64) -> Result<(), Fault>
         ensures { result ≡ value_or_fault self.now (nat_lt offset self.now.code_length) tt FaultKind.OutsideCode }
     {
-        if offset < u64::from(self.code_length) {
-            Ok(())
-        } else {
-            Err(self.fault(FaultKind::OutsideCode))
-        }
+        self.check(offset < u64::from(self.code_length), FaultKind::OutsideCode)
     }
 
     /// Passes outside alternations, else `AlternationOrder`.
@@ -193,11 +184,8 @@ impl<S: Store> Cpu<S> {
             let can_load = may_read_word (S.holding self.now.store) place in
             result ≡ value_or_fault self.now can_load (word_at (S.cells self.now.store) place) FaultKind.NotOwn }
     {
-        if self.store.can_load_word(address) {
-            Ok(self.store.load_word(address))
-        } else {
-            Err(self.fault(FaultKind::NotOwn))
-        }
+        self.check(self.store.can_load_word(address), FaultKind::NotOwn)?;
+        Ok(self.store.load_word(address))
     }
 
     /// The byte at an address that may be read, else `NotOwn`.
@@ -206,11 +194,8 @@ impl<S: Store> Cpu<S> {
             let can_load = may_read (S.holding self.now.store) place in
             result ≡ value_or_fault self.now can_load (byte_at (S.cells self.now.store) place) FaultKind.NotOwn }
     {
-        if self.store.can_load_byte(address) {
-            Ok(self.store.load_byte(address))
-        } else {
-            Err(self.fault(FaultKind::NotOwn))
-        }
+        self.check(self.store.can_load_byte(address), FaultKind::NotOwn)?;
+        Ok(self.store.load_byte(address))
     }
 
     /// Passes where the byte at an address may be written, else `NotOwn`.
@@ -247,11 +232,7 @@ impl<S: Store> Cpu<S> {
         ensures { let can_store = may_write_word (S.holding self.now.store) (place_of address) in
             result ≡ value_or_fault self.now can_store tt FaultKind.NotOwn }
     {
-        if self.store.can_store_word(address) {
-            Ok(())
-        } else {
-            Err(self.fault(FaultKind::NotOwn))
-        }
+        self.check(self.store.can_store_word(address), FaultKind::NotOwn)
     }
 
     /// Passes where the process may write the three words below its workspace, which scheduling takes, else

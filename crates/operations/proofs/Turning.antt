@@ -1,26 +1,22 @@
 -- The step of lend, test by test.
-use Rattle.std.proofs.Common.{◌≡◌, ℕ, ◌%◌, ℤ, pos, Bool, true, ◌&&◌, cond, Option, Some, Result, sym, ap, ◌∙◌}
+use Rattle.std.proofs.Common.{◌≡◌, ℕ, ◌%◌, ℤ, Bool, true, cond, Option, Some, Result, sym, ap, ◌∙◌}
 use Rattle.std.proofs.Common.{subst}
 use Rattle.std.specs.Prelude.{◌==◌}
 use Rattle.machine_state.specs.declared.cpu.Cpu.{Cpu}
 use Rattle.machine_state.specs.declared.cpu.Flow.{Flow}
 use Rattle.machine_state.specs.declared.fault.Fault.{Fault}
 use Rattle.machine_state.specs.declared.op.Op.TheVariants as ops
-use Rattle.machine_state.specs.Memory.{Memory, place_of, local_address}
-use Rattle.machine_state.specs.Holding.{may_write_word}
+use Rattle.machine_state.specs.declared.store.Store.{Ghosts}
 use Rattle.machine_state.specs.Site.{Site, Local, Outcome, fails}
-use Rattle.machine_state.specs.declared.fault.FaultKind.{FaultKind}
-use Rattle.machine_state.specs.declared.fault.FaultKind.TheVariants.{NotOwn, Unaligned}
-use Rattle.machine_state.specs.LocalStep.{alone, uses, aligned, holds, address, operation_step, loop_end_step}
-use Rattle.machine_state.specs.LocalStep.{holds_scheduling_words}
+use Rattle.machine_state.specs.declared.fault.FaultKind.TheVariants.{Unaligned}
+use Rattle.machine_state.specs.LocalStep.{alone, uses, aligned, address, operation_step, loop_end_step}
 use Rattle.machine_state.specs.Performing.{Performs}
-use Rattle.machine_state.proofs.Scheduling.{schedules-is}
-use Rattle.operations.specs.Loops.{turns_block, tests_block}
+use Rattle.operations.specs.Loops.{tests_block}
 
 -- what was performed for one outcome is performed for an equal one
-pub performs-by : {S : Type 0} → (cells : S → Memory) (before after : Cpu S) (r : Result Flow Fault) (o p : Outcome)
-    → o ≡ p → Performs cells before after r p → Performs cells before after r o
-performs-by cells before after r o p same h = subst (λ x. Performs cells before after r x) (sym same) h
+pub performs-by : {S : Type 0} → (ghosts : Ghosts S) (before after : Cpu S) (r : Result Flow Fault) (o p : Outcome)
+    → o ≡ p → Performs ghosts p before after r → Performs ghosts o before after r
+performs-by ghosts before after r o p same h = subst (λ x. Performs ghosts x before after r) (sym same) h
 
 uses-some : (v : Option ℤ) (x : ℤ) (k : ℤ → Outcome) → v ≡ Some x → uses v k ≡ k x
 unfolding uses
@@ -29,20 +25,6 @@ uses-some v x k is = ap (λ (o : Option ℤ). uses o k) is
 aligned-fits : (v : ℤ) (k : ℕ → Outcome) → (address v % 4 == 0) ≡ true → aligned v k ≡ k (address v)
 unfolding aligned
 aligned-fits v k fits = ap (λ (b : Bool). cond b (k (address v)) (fails Unaligned)) fits
-
-holds-true : (b : Bool) (kind : FaultKind) (o : Outcome) → b ≡ true → holds b kind o ≡ o
-unfolding holds
-holds-true b kind o is = ap (λ (x : Bool). holds x kind o) is
-
-pub tested-block : (s : Site) (distance : ℤ) (block : ℕ) (l : Local)
-    → (may_write_word s.holding (place_of block)
-    && may_write_word s.holding (place_of (local_address block (pos 1)))) ≡ true
-    → holds_scheduling_words s.holding l.registers.workspace ≡ true
-    → tests_block s distance block l ≡ turns_block s distance block l
-tested-block s distance block l own scheduled =
-    holds-true _ NotOwn _ own
-    ∙ (schedules-is s l (λ later. turns_block s distance block l)
-    ∙ ap (λ (b : Bool). cond b (turns_block s distance block l) (fails NotOwn)) scheduled)
 
 pub tested-registers : (s : Site) (l : Local) (a b : ℤ) (block : ℕ) → ((o : Outcome) → alone s.mode o ≡ o)
     → l.registers.stack.a ≡ Some a → l.registers.stack.b ≡ Some b → (address b % 4 == 0) ≡ true → block ≡ address b

@@ -1,11 +1,16 @@
 -- The parts of the step of lend, behind its first tests.
-use Rattle.std.specs.Prelude.{ℕ, ◌-◌, ◌%◌, ◌^◌, ◌&&◌, if◌then◌else◌, ℤ, pos, int_lt}
+use Rattle.std.specs.Prelude.{ℕ, ◌-◌, ◌%◌, ◌^◌, ◌&&◌, Bool, if◌then◌else◌, ℤ, pos, int_lt}
 use Rattle.machine_state.specs.declared.fault.FaultKind.TheVariants.{NotOwn}
-use Rattle.machine_state.specs.Holding.{may_write_word}
+use Rattle.machine_state.specs.Holding.{Holding, may_write_word}
 use Rattle.machine_state.specs.Memory.{place_of, local_address, word_at}
 use Rattle.machine_state.specs.Site.{Site, Local, Outcome}
 use Rattle.machine_state.specs.LocalStep.{address, word_of, target, uses, holds, schedules, leads_to}
 use Rattle.machine_state.specs.LocalStep.{without_registers, turned}
+
+-- the two words of a block, its index and its count, may be written
+abbrev pub holds_block : Holding → ℕ → Bool
+holds_block h block =
+    may_write_word h (place_of block) && may_write_word h (place_of (local_address block (pos 1)))
 
 -- where the process goes on, as many bytes back as this word says, or after the instruction
 abbrev pub loop_target : Site → ℤ → ℤ → ℕ
@@ -27,6 +32,5 @@ turns_block s distance block l =
 -- with the block's address
 abbrev pub tests_block : Site → ℤ → ℕ → Local → Outcome
 tests_block s distance block l =
-    let second = local_address block (pos 1) in
-    holds (may_write_word s.holding (place_of block) && may_write_word s.holding (place_of second)) NotOwn
+    holds (holds_block s.holding block) NotOwn
     (schedules s l (λ later. turns_block s distance block l))

@@ -1,8 +1,7 @@
 //! Operations that compute with words of the evaluation stack.
-#![tactic(auto, unfolding(machine_state::specs::LocalStep::operation_step, machine_state::specs::LocalStep::uses, machine_state::specs::LocalStep::computes, machine_state::specs::LocalStep::goes_on))]
 
 ghost use Rattle.machine_state.specs.declared.op.Op.TheVariants as operation;
-ghost use Rattle.machine_state.specs.Performing.{Performs, IsSameElsewhere, operation_outcome};
+ghost use Rattle.machine_state.specs.Performing.{PerformsOperation};
 
 use machine_state::{Cpu, Fault, Flow, Store};
 use word_arithmetic::{Binary, Unary};
@@ -10,9 +9,7 @@ use word_arithmetic::{Binary, Unary};
 /// An operation of two operands: A and B are popped, and the result of B and A is pushed, unless that sets the error
 /// flag.
 pub(crate) fn binary<S: Store>(cpu: &mut Cpu<S>, op: Binary) -> Result<Flow, Fault>
-    ensures performs { let outcome = operation_outcome S.cells S.holding cpu.old (operation.Binary op) in
-        Performs S.cells cpu.old cpu.new result outcome }
-    ensures elsewhere { IsSameElsewhere S.holding S.roles cpu.old cpu.new }
+    ensures { PerformsOperation S.Store (operation.Binary op) cpu.old cpu.new result }
 {
     cpu.alone()?;
     let right = cpu.used(cpu.registers.stack.a)?;
@@ -26,9 +23,7 @@ pub(crate) fn binary<S: Store>(cpu: &mut Cpu<S>, op: Binary) -> Result<Flow, Fau
 
 /// An operation of one operand: A becomes the result of A, unless that sets the error flag.
 pub(crate) fn unary<S: Store>(cpu: &mut Cpu<S>, op: Unary) -> Result<Flow, Fault>
-    ensures performs { let outcome = operation_outcome S.cells S.holding cpu.old (operation.Unary op) in
-        Performs S.cells cpu.old cpu.new result outcome }
-    ensures elsewhere { IsSameElsewhere S.holding S.roles cpu.old cpu.new }
+    ensures { PerformsOperation S.Store (operation.Unary op) cpu.old cpu.new result }
 {
     cpu.alone()?;
     let operand = cpu.used(cpu.registers.stack.a)?;

@@ -1,16 +1,13 @@
 //! Bytes of memory.
-#![tactic(auto, unfolding(machine_state::specs::LocalStep::operation_step, machine_state::specs::LocalStep::uses, machine_state::specs::LocalStep::reads_byte, machine_state::specs::LocalStep::writes_byte, machine_state::specs::LocalStep::goes_on))]
 
 ghost use Rattle.machine_state.specs.declared.op.Op.TheVariants as operation;
-ghost use Rattle.machine_state.specs.Performing.{Performs, IsSameElsewhere, operation_outcome};
+ghost use Rattle.machine_state.specs.Performing.{PerformsOperation};
 
 use machine_state::{Cpu, Fault, Flow, Store};
 
 /// `lb`: A becomes the byte at A.
 pub(crate) fn load_byte<S: Store>(cpu: &mut Cpu<S>) -> Result<Flow, Fault>
-    ensures performs { let outcome = operation_outcome S.cells S.holding cpu.old operation.LoadByte in
-        Performs S.cells cpu.old cpu.new result outcome }
-    ensures elsewhere { IsSameElsewhere S.holding S.roles cpu.old cpu.new }
+    ensures { PerformsOperation S.Store operation.LoadByte cpu.old cpu.new result }
 {
     cpu.alone()?;
     let address = cpu.used(cpu.registers.stack.a)?.cast_unsigned();
@@ -22,9 +19,7 @@ pub(crate) fn load_byte<S: Store>(cpu: &mut Cpu<S>) -> Result<Flow, Fault>
 
 /// `sb`: the byte at A becomes the low byte of B, and both are popped.
 pub(crate) fn store_byte<S: Store>(cpu: &mut Cpu<S>) -> Result<Flow, Fault>
-    ensures performs { let outcome = operation_outcome S.cells S.holding cpu.old operation.StoreByte in
-        Performs S.cells cpu.old cpu.new result outcome }
-    ensures elsewhere { IsSameElsewhere S.holding S.roles cpu.old cpu.new }
+    ensures { PerformsOperation S.Store operation.StoreByte cpu.old cpu.new result }
 {
     cpu.alone()?;
     let address = cpu.used(cpu.registers.stack.a)?.cast_unsigned();

@@ -1,5 +1,5 @@
 //! The operations of the T414 that touch no other process.
-#![tactic(auto)]
+#![tactic(auto, using(machine_state::proofs::Scheduling::schedules_is), unfolding(machine_state::specs::LocalStep::operation_step, machine_state::specs::LocalStep::holds, machine_state::specs::LocalStep::uses, machine_state::specs::LocalStep::computes, machine_state::specs::LocalStep::counts, machine_state::specs::LocalStep::aligned, machine_state::specs::LocalStep::reads, machine_state::specs::LocalStep::reads_byte, machine_state::specs::LocalStep::writes_byte, machine_state::specs::LocalStep::leads_to, machine_state::specs::LocalStep::lands_at, machine_state::specs::LocalStep::goes_on))]
 
 mod arithmetic;
 mod bytes;
@@ -11,17 +11,16 @@ mod returning;
 mod stopping;
 mod subscripts;
 
-ghost use Rattle.machine_state.specs.Performing.{Performs, IsSameElsewhere, operation_outcome};
+ghost use Rattle.machine_state.specs.Performing.{PerformsOperation};
 
 use machine_state::{Cpu, Fault, FaultKind, Flow, Op, Store};
 
 /// Executes one operation of the running process. The registers `at`, `began` and `operand` stay as they are:
 /// the caller says where the next instruction begins. An operation that has no body yet is unknown. After a fault
 /// nothing has changed.
+#[tactic(auto)]
 pub fn operate<S: Store>(cpu: &mut Cpu<S>, op: Op) -> Result<Flow, Fault>
-    ensures performs { let outcome = operation_outcome S.cells S.holding cpu.old op in
-        Performs S.cells cpu.old cpu.new result outcome }
-    ensures elsewhere { IsSameElsewhere S.holding S.roles cpu.old cpu.new }
+    ensures { PerformsOperation S.Store op cpu.old cpu.new result }
 {
     match op {
         Op::Reverse => registers::reverse(cpu),

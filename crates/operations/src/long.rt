@@ -1,8 +1,7 @@
 //! Shifts, and operations of two words at a time.
-#![tactic(auto, unfolding(machine_state::specs::LocalStep::operation_step, machine_state::specs::LocalStep::holds, machine_state::specs::LocalStep::uses, machine_state::specs::LocalStep::counts, machine_state::specs::LocalStep::goes_on))]
 
 ghost use Rattle.machine_state.specs.declared.op.Op.TheVariants as operation;
-ghost use Rattle.machine_state.specs.Performing.{Performs, IsSameElsewhere, operation_outcome};
+ghost use Rattle.machine_state.specs.Performing.{PerformsOperation};
 
 use certificate::Stack;
 use machine_state::{Cpu, Fault, FaultKind, Flow, LongOp, Shift, Store};
@@ -12,9 +11,7 @@ const MOST_SHIFT: u32 = 31;
 
 /// `shl`, `shr`: A and B are popped, and B, shifted by A bits, is pushed.
 pub(crate) fn shift<S: Store>(cpu: &mut Cpu<S>, op: Shift) -> Result<Flow, Fault>
-    ensures performs { let outcome = operation_outcome S.cells S.holding cpu.old (operation.Shift op) in
-        Performs S.cells cpu.old cpu.new result outcome }
-    ensures elsewhere { IsSameElsewhere S.holding S.roles cpu.old cpu.new }
+    ensures { PerformsOperation S.Store (operation.Shift op) cpu.old cpu.new result }
 {
     cpu.alone()?;
     let count = cpu.used(cpu.registers.stack.a)?;
@@ -29,9 +26,7 @@ pub(crate) fn shift<S: Store>(cpu: &mut Cpu<S>, op: Shift) -> Result<Flow, Fault
 
 /// `lsum`, `ldiff`, `lmul`: A becomes the low word of the result of B, A and C, and B the high one or the carry.
 pub(crate) fn long<S: Store>(cpu: &mut Cpu<S>, op: LongOp) -> Result<Flow, Fault>
-    ensures performs { let outcome = operation_outcome S.cells S.holding cpu.old (operation.Long op) in
-        Performs S.cells cpu.old cpu.new result outcome }
-    ensures elsewhere { IsSameElsewhere S.holding S.roles cpu.old cpu.new }
+    ensures { PerformsOperation S.Store (operation.Long op) cpu.old cpu.new result }
 {
     cpu.check(cpu.has_long_operations, FaultKind::UnknownOperation)?;
     cpu.alone()?;

@@ -1,14 +1,11 @@
 //! How a loop turns.
-#![tactic(auto, using(machine_state::proofs::Scheduling::schedules_is), unfolding(machine_state::specs::LocalStep::operation_step, machine_state::specs::LocalStep::holds, machine_state::specs::LocalStep::uses, machine_state::specs::LocalStep::aligned, machine_state::specs::LocalStep::leads_to))]
 
-ghost use Rattle.std.specs.Prelude.{◌≡◌, ◌&&◌, IsTrue, nat_lt, pos};
-ghost use Rattle.machine_state.specs.Holding.{may_write_word};
+ghost use Rattle.std.specs.Prelude.{◌≡◌, IsTrue, nat_lt};
 ghost use Rattle.machine_state.specs.LocalStep.{holds_scheduling_words, turned};
-ghost use Rattle.machine_state.specs.Memory.{place_of, local_address};
 ghost use Rattle.machine_state.specs.declared.op.Op.TheVariants as operation;
-ghost use Rattle.machine_state.specs.Performing.{Performs, IsSameElsewhere, operation_outcome, value_or_fault};
-ghost use Rattle.machine_state.specs.Performing.{site_of, local_of};
-ghost use Rattle.operations.specs.Loops.{loop_target, counts_turn, turns_block, tests_block};
+ghost use Rattle.machine_state.specs.Performing.{Performs, PerformsOperation, IsSameElsewhere};
+ghost use Rattle.machine_state.specs.Performing.{site_of, local_of, value_or_fault};
+ghost use Rattle.operations.specs.Loops.{holds_block, loop_target, counts_turn, turns_block, tests_block};
 
 use certificate::Stack;
 use machine_state::{Cpu, Fault, FaultKind, Flow, Store, local_address};
@@ -28,7 +25,7 @@ fn landing<S>(cpu: &Cpu<S>, offset: u64) -> Result<u32, Fault>
 /// Where the process goes on: as many bytes back as the distance says while turns are left, else after the
 /// instruction.
 fn loop_target<S: Store>(cpu: &Cpu<S>, distance: i32, count: i32) -> u64
-    ensures { result ≡ loop_target (site_of S.holding cpu.now) distance count }
+    ensures { result ≡ loop_target (site_of S.Store cpu.now) distance count }
 {
     if count > 1 {
         let back = distance.cast_unsigned().wrapping_neg();
@@ -40,11 +37,9 @@ fn loop_target<S: Store>(cpu: &Cpu<S>, distance: i32, count: i32) -> u64
 
 /// Counts a turn: the count of the block goes down, and while turns are left its index goes up.
 fn count_turn<S: Store>(cpu: &mut Cpu<S>, block: u32, index: i32, count: i32)
-    requires first { IsTrue (may_write_word (S.holding cpu.old.store) (place_of block)) }
-    requires second { let second = local_address block (pos 1) in
-        IsTrue (may_write_word (S.holding cpu.old.store) (place_of second)) }
-    ensures turned { local_of S.cells cpu.new ≡ turned block index count (local_of S.cells cpu.old) }
-    ensures elsewhere { IsSameElsewhere S.holding S.roles cpu.old cpu.new }
+    requires block { IsTrue (holds_block (S.holding cpu.old.store) block) }
+    ensures turned { local_of S.Store cpu.new ≡ turned block index count (local_of S.Store cpu.old) }
+    ensures elsewhere { IsSameElsewhere S.Store cpu.old cpu.new }
 {
     let left = count.cast_unsigned().wrapping_sub(1);
     cpu.store
@@ -63,14 +58,10 @@ fn turn<S: Store>(
     index: i32,
     count: i32,
 ) -> Result<Flow, Fault>
-    requires first { IsTrue (may_write_word (S.holding cpu.old.store) (place_of block)) }
-    requires second { let second = local_address block (pos 1) in
-        IsTrue (may_write_word (S.holding cpu.old.store) (place_of second)) }
+    requires block { IsTrue (holds_block (S.holding cpu.old.store) block) }
     requires scheduling { IsTrue (holds_scheduling_words (S.holding cpu.old.store) cpu.old.registers.workspace) }
-    ensures performs { let site = site_of S.holding cpu.old in
-        let outcome = counts_turn site distance block index count (local_of S.cells cpu.old) in
-        Performs S.cells cpu.old cpu.new result outcome }
-    ensures elsewhere { IsSameElsewhere S.holding S.roles cpu.old cpu.new }
+    ensures { let step = counts_turn (site_of S.Store cpu.old) distance block index count (local_of S.Store cpu.old) in
+        Performs S.Store step cpu.old cpu.new result }
 {
     let to = landing(cpu, loop_target(cpu, distance, count))?;
     count_turn(cpu, block, index, count);
@@ -81,14 +72,10 @@ fn turn<S: Store>(
 
 /// Turns the loop of a block, or ends it.
 fn turn_block<S: Store>(cpu: &mut Cpu<S>, distance: i32, block: u32) -> Result<Flow, Fault>
-    requires first { IsTrue (may_write_word (S.holding cpu.old.store) (place_of block)) }
-    requires second { let second = local_address block (pos 1) in
-        IsTrue (may_write_word (S.holding cpu.old.store) (place_of second)) }
+    requires block { IsTrue (holds_block (S.holding cpu.old.store) block) }
     requires scheduling { IsTrue (holds_scheduling_words (S.holding cpu.old.store) cpu.old.registers.workspace) }
-    ensures performs { let site = site_of S.holding cpu.old in
-        let outcome = turns_block site distance block (local_of S.cells cpu.old) in
-        Performs S.cells cpu.old cpu.new result outcome }
-    ensures elsewhere { IsSameElsewhere S.holding S.roles cpu.old cpu.new }
+    ensures { let step = turns_block (site_of S.Store cpu.old) distance block (local_of S.Store cpu.old) in
+        Performs S.Store step cpu.old cpu.new result }
 {
     let index = cpu.own_word(block)?;
     let count = cpu.own_word(local_address(block, 1))?;
@@ -97,10 +84,8 @@ fn turn_block<S: Store>(cpu: &mut Cpu<S>, distance: i32, block: u32) -> Result<F
 
 /// Turns the loop of a block, or ends it, where its words and those that scheduling takes may be written.
 fn test_block<S: Store>(cpu: &mut Cpu<S>, distance: i32, block: u32) -> Result<Flow, Fault>
-    ensures performs { let site = site_of S.holding cpu.old in
-        let outcome = tests_block site distance block (local_of S.cells cpu.old) in
-        Performs S.cells cpu.old cpu.new result outcome }
-    ensures elsewhere { IsSameElsewhere S.holding S.roles cpu.old cpu.new }
+    ensures { let step = tests_block (site_of S.Store cpu.old) distance block (local_of S.Store cpu.old) in
+        Performs S.Store step cpu.old cpu.new result }
 {
     let second = local_address(block, 1);
     let is_own = cpu.store.can_store_word(block) && cpu.store.can_store_word(second);
@@ -112,9 +97,7 @@ fn test_block<S: Store>(cpu: &mut Cpu<S>, distance: i32, block: u32) -> Result<F
 /// `lend`: the loop of block B, its index and its count, turns at A bytes back, or ends. It may be sent to the back of
 /// the ready list, so the words that scheduling takes and the registers are undefined then.
 pub(crate) fn loop_end<S: Store>(cpu: &mut Cpu<S>) -> Result<Flow, Fault>
-    ensures performs { let outcome = operation_outcome S.cells S.holding cpu.old operation.LoopEnd in
-        Performs S.cells cpu.old cpu.new result outcome }
-    ensures elsewhere { IsSameElsewhere S.holding S.roles cpu.old cpu.new }
+    ensures { PerformsOperation S.Store operation.LoopEnd cpu.old cpu.new result }
 {
     cpu.alone()?;
     let distance = cpu.used(cpu.registers.stack.a)?;

@@ -1,8 +1,7 @@
 //! Blocks of bytes that move.
-#![tactic(auto, unfolding(machine_state::specs::LocalStep::operation_step, machine_state::specs::LocalStep::uses, machine_state::specs::LocalStep::counts, machine_state::specs::LocalStep::holds, machine_state::specs::LocalStep::goes_on))]
 
 ghost use Rattle.machine_state.specs.declared.op.Op.TheVariants as operation;
-ghost use Rattle.machine_state.specs.Performing.{Performs, IsSameElsewhere, operation_outcome};
+ghost use Rattle.machine_state.specs.Performing.{PerformsOperation};
 
 use certificate::Stack;
 use machine_state::{Cpu, Fault, FaultKind, Flow, Store};
@@ -12,9 +11,7 @@ const MOST_MOVED: u32 = 65_536;
 
 /// `move`: A bytes go from C to B. The two blocks do not meet, and undefined bytes stay undefined.
 pub(crate) fn move_bytes<S: Store>(cpu: &mut Cpu<S>) -> Result<Flow, Fault>
-    ensures performs { let outcome = operation_outcome S.cells S.holding cpu.old operation.Move in
-        Performs S.cells cpu.old cpu.new result outcome }
-    ensures elsewhere { IsSameElsewhere S.holding S.roles cpu.old cpu.new }
+    ensures { PerformsOperation S.Store operation.Move cpu.old cpu.new result }
 {
     cpu.alone()?;
     let count = cpu.used(cpu.registers.stack.a)?;

@@ -1,16 +1,13 @@
 //! Operations on the evaluation stack alone.
-#![tactic(auto, unfolding(machine_state::specs::LocalStep::operation_step, machine_state::specs::LocalStep::goes_on))]
 
 ghost use Rattle.machine_state.specs.declared.op.Op.TheVariants.{Reverse, MinimumInteger};
-ghost use Rattle.machine_state.specs.Performing.{Performs, IsSameElsewhere, operation_outcome};
+ghost use Rattle.machine_state.specs.Performing.{PerformsOperation};
 
 use machine_state::{Cpu, Fault, Flow, Store};
 
 /// `rev`: A and B change places.
 pub(crate) fn reverse<S: Store>(cpu: &mut Cpu<S>) -> Result<Flow, Fault>
-    ensures performs { let outcome = operation_outcome S.cells S.holding cpu.old Reverse in
-        Performs S.cells cpu.old cpu.new result outcome }
-    ensures elsewhere { IsSameElsewhere S.holding S.roles cpu.old cpu.new }
+    ensures { PerformsOperation S.Store Reverse cpu.old cpu.new result }
 {
     cpu.alone()?;
     cpu.in_code(cpu.next())?;
@@ -20,9 +17,7 @@ pub(crate) fn reverse<S: Store>(cpu: &mut Cpu<S>) -> Result<Flow, Fault>
 
 /// `mint`: the least word is pushed.
 pub(crate) fn minimum_integer<S: Store>(cpu: &mut Cpu<S>) -> Result<Flow, Fault>
-    ensures performs { let outcome = operation_outcome S.cells S.holding cpu.old MinimumInteger in
-        Performs S.cells cpu.old cpu.new result outcome }
-    ensures elsewhere { IsSameElsewhere S.holding S.roles cpu.old cpu.new }
+    ensures { PerformsOperation S.Store MinimumInteger cpu.old cpu.new result }
 {
     cpu.outside_starts()?;
     cpu.in_code(cpu.next())?;

@@ -1,8 +1,7 @@
 //! How a procedure returns.
-#![tactic(auto, unfolding(machine_state::specs::LocalStep::operation_step, machine_state::specs::LocalStep::uses, machine_state::specs::LocalStep::reads, machine_state::specs::LocalStep::lands_at))]
 
 ghost use Rattle.machine_state.specs.declared.op.Op.TheVariants as operation;
-ghost use Rattle.machine_state.specs.Performing.{Performs, IsSameElsewhere, operation_outcome};
+ghost use Rattle.machine_state.specs.Performing.{PerformsOperation};
 
 use certificate::Stack;
 use machine_state::{Cpu, Fault, Flow, Store, local_address};
@@ -10,9 +9,7 @@ use machine_state::{Cpu, Fault, Flow, Store, local_address};
 /// `ret`: the process goes on at the address in the word at its workspace, and leaves four words. No register is
 /// handed back.
 pub(crate) fn return_from_call<S: Store>(cpu: &mut Cpu<S>) -> Result<Flow, Fault>
-    ensures performs { let outcome = operation_outcome S.cells S.holding cpu.old operation.Return in
-        Performs S.cells cpu.old cpu.new result outcome }
-    ensures elsewhere { IsSameElsewhere S.holding S.roles cpu.old cpu.new }
+    ensures { PerformsOperation S.Store operation.Return cpu.old cpu.new result }
 {
     cpu.alone()?;
     let workspace = cpu.registers.workspace;

@@ -1,16 +1,13 @@
 //! How a process stops.
 
 ghost use Rattle.machine_state.specs.declared.op.Op.TheVariants.{StopProcess};
-ghost use Rattle.machine_state.specs.Performing.{Performs, IsSameElsewhere, operation_outcome};
+ghost use Rattle.machine_state.specs.Performing.{PerformsOperation};
 
 use machine_state::{Cpu, Fault, Flow, Store};
 
 /// `stopp`: the process stops for good. The words that scheduling takes are undefined then.
-#[tactic(auto, using(machine_state::proofs::Scheduling::schedules_is), unfolding(machine_state::specs::LocalStep::operation_step))]
 pub(crate) fn stop_process<S: Store>(cpu: &mut Cpu<S>) -> Result<Flow, Fault>
-    ensures performs { let outcome = operation_outcome S.cells S.holding cpu.old StopProcess in
-        Performs S.cells cpu.old cpu.new result outcome }
-    ensures elsewhere { IsSameElsewhere S.holding S.roles cpu.old cpu.new }
+    ensures { PerformsOperation S.Store StopProcess cpu.old cpu.new result }
 {
     cpu.alone()?;
     cpu.schedulable()?;

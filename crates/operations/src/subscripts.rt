@@ -1,17 +1,14 @@
 //! Addresses that are computed, and checks of subscripts and counts.
-#![tactic(auto, unfolding(machine_state::specs::LocalStep::operation_step, machine_state::specs::LocalStep::holds, machine_state::specs::LocalStep::uses, machine_state::specs::LocalStep::goes_on))]
 
 ghost use Rattle.machine_state.specs.declared.op.Op.TheVariants as operation;
-ghost use Rattle.machine_state.specs.Performing.{Performs, IsSameElsewhere, operation_outcome};
+ghost use Rattle.machine_state.specs.Performing.{PerformsOperation};
 
 use machine_state::{Cpu, Fault, FaultKind, Flow, Store, local_address};
 use word_arithmetic::is_below_unsigned;
 
 /// `bsub`: A and B are popped, and the address B bytes after A is pushed.
 pub(crate) fn byte_subscript<S: Store>(cpu: &mut Cpu<S>) -> Result<Flow, Fault>
-    ensures performs { let outcome = operation_outcome S.cells S.holding cpu.old operation.ByteSubscript in
-        Performs S.cells cpu.old cpu.new result outcome }
-    ensures elsewhere { IsSameElsewhere S.holding S.roles cpu.old cpu.new }
+    ensures { PerformsOperation S.Store operation.ByteSubscript cpu.old cpu.new result }
 {
     cpu.alone()?;
     let base = cpu.used(cpu.registers.stack.a)?;
@@ -25,9 +22,7 @@ pub(crate) fn byte_subscript<S: Store>(cpu: &mut Cpu<S>) -> Result<Flow, Fault>
 
 /// `wsub`: A and B are popped, and the address B words after A is pushed.
 pub(crate) fn word_subscript<S: Store>(cpu: &mut Cpu<S>) -> Result<Flow, Fault>
-    ensures performs { let outcome = operation_outcome S.cells S.holding cpu.old operation.WordSubscript in
-        Performs S.cells cpu.old cpu.new result outcome }
-    ensures elsewhere { IsSameElsewhere S.holding S.roles cpu.old cpu.new }
+    ensures { PerformsOperation S.Store operation.WordSubscript cpu.old cpu.new result }
 {
     cpu.alone()?;
     let base = cpu.used(cpu.registers.stack.a)?;
@@ -41,9 +36,7 @@ pub(crate) fn word_subscript<S: Store>(cpu: &mut Cpu<S>) -> Result<Flow, Fault>
 
 /// `csub0`: A is popped, unless B is not below it, which sets the error flag.
 pub(crate) fn check_subscript<S: Store>(cpu: &mut Cpu<S>) -> Result<Flow, Fault>
-    ensures performs { let outcome = operation_outcome S.cells S.holding cpu.old operation.CheckSubscript in
-        Performs S.cells cpu.old cpu.new result outcome }
-    ensures elsewhere { IsSameElsewhere S.holding S.roles cpu.old cpu.new }
+    ensures { PerformsOperation S.Store operation.CheckSubscript cpu.old cpu.new result }
 {
     cpu.alone()?;
     let bound = cpu.used(cpu.registers.stack.a)?;
@@ -56,9 +49,7 @@ pub(crate) fn check_subscript<S: Store>(cpu: &mut Cpu<S>) -> Result<Flow, Fault>
 
 /// `ccnt1`: A is popped, unless B is 0 or above it, which sets the error flag.
 pub(crate) fn check_count<S: Store>(cpu: &mut Cpu<S>) -> Result<Flow, Fault>
-    ensures performs { let outcome = operation_outcome S.cells S.holding cpu.old operation.CheckCount in
-        Performs S.cells cpu.old cpu.new result outcome }
-    ensures elsewhere { IsSameElsewhere S.holding S.roles cpu.old cpu.new }
+    ensures { PerformsOperation S.Store operation.CheckCount cpu.old cpu.new result }
 {
     cpu.alone()?;
     let most = cpu.used(cpu.registers.stack.a)?;
@@ -74,9 +65,7 @@ pub(crate) fn check_count<S: Store>(cpu: &mut Cpu<S>) -> Result<Flow, Fault>
 
 /// `ldpi`: A becomes the address A bytes after the instruction.
 pub(crate) fn load_pointer_to_instruction<S: Store>(cpu: &mut Cpu<S>) -> Result<Flow, Fault>
-    ensures performs { let outcome = operation_outcome S.cells S.holding cpu.old operation.LoadPointerToInstruction in
-        Performs S.cells cpu.old cpu.new result outcome }
-    ensures elsewhere { IsSameElsewhere S.holding S.roles cpu.old cpu.new }
+    ensures { PerformsOperation S.Store operation.LoadPointerToInstruction cpu.old cpu.new result }
 {
     cpu.alone()?;
     let distance = cpu.used(cpu.registers.stack.a)?;
