@@ -1,6 +1,6 @@
 //! A process at an instruction, and how it goes on.
 
-ghost use Rattle.std.specs.Prelude.{◌≡◌, ◌+◌, ◌<◌, ◌^◌, nat_lt, length};
+ghost use Rattle.std.specs.Prelude.{◌≡◌, ◌+◌, ◌<◌, ◌^◌, if◌then◌else◌, nat_lt, length};
 ghost use Rattle.machine_state.specs.Faults.{fault_in};
 ghost use Rattle.machine_state.specs.Turn.{between};
 ghost use Rattle.machine_state.specs.Moves.{put, leave, dispatch};
@@ -30,6 +30,14 @@ impl Here {
         Fault::new(kind, self.process, self.task.registers.began)
     }
 
+    /// Passes where a test holds, else this fault.
+    pub fn check(&self, holds: bool, kind: FaultKind) -> Result<(), Fault>
+        ensures { let fault = fault_in self.now.process self.now.task.registers.began kind in
+            result ≡ (if holds then Ok tt else Err fault) }
+    {
+        if holds { Ok(()) } else { Err(self.fault(kind)) }
+    }
+
     /// Whether code follows the instruction.
     pub fn is_followed(&self, tables: &Tables) -> bool
         ensures { result ≡ nat_lt (self.now.task.registers.at + 1) (length tables.now.code.now) }
@@ -44,17 +52,21 @@ impl Here {
     {
         self.task.registers.at + 1
     }
-}
 
-/// The registers between two instructions, the next of which begins at this offset.
-fn between(at: u32, registers: Registers) -> Registers
-    ensures { result ≡ between at registers }
-{
-    Registers {
-        at,
-        began: at,
-        operand: 0,
-        ..registers
+    /// The process with these registers, between two instructions, the next of which begins at this offset.
+    pub fn continued(&self, at: u32, registers: Registers) -> Task
+        ensures { result ≡ record self.now.task { registers = between at registers } }
+    {
+        let registers = Registers {
+            at,
+            began: at,
+            operand: 0,
+            ..registers
+        };
+        Task {
+            registers,
+            ..self.task
+        }
     }
 }
 
@@ -67,15 +79,8 @@ impl<S: Store> Traffic<S, ListQueue> {
             let task = record here.now.task { registers = between at registers; condition = condition } in
             self.new ≡ record self.old { world = put here.now.process task w.memory w } }
     {
-        let registers = between(at, registers);
-        self.put(
-            here.process,
-            Task {
-                registers,
-                condition,
-                ..here.task
-            },
-        );
+        let task = here.continued(at, registers);
+        self.put(here.process, Task { condition, ..task });
     }
 
     /// The process is after the instruction, with these registers and in this condition.

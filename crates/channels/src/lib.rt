@@ -1,6 +1,7 @@
 //! Processes that wait for one another and for the links.
 #![tactic(auto)]
 
+mod enabled;
 mod here;
 mod inside;
 mod laws;

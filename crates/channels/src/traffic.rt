@@ -5,10 +5,12 @@ ghost use Rattle.module_format.specs.Contents.{contents_of};
 ghost use Rattle.machine_state.specs.World.{IsLoadable, loaded};
 ghost use Rattle.machine_state.specs.Moves.{put, with_condition, leave, enqueue, wake, dispatch, link_index};
 ghost use Rattle.machine_state.specs.Moves.{with_input, with_output, cell_of, channel_at, with_channel};
+ghost use Rattle.machine_state.specs.Alternations.{has_enabled};
 ghost use Rattle.machine_state.specs.LocalStep.{holds_scheduling_words, without_scheduling_words, copied};
 ghost use Rattle.machine_state.specs.Memory.{data_start, place_of, with_byte};
 ghost use Rattle.channels.specs.Moment.{IsSteady, WaitsForMore};
 
+use crate::enabled::{any_channel, any_input};
 use certificate::Tables;
 use machine_state::{
     Channel, Condition, Cpu, DATA_START, InputLink, Link, OutputLink, Registers, Store,
@@ -205,8 +207,15 @@ impl<S: Store> Traffic<S, ListQueue> {
         }
     }
 
+    /// Whether the alternation of this process has something enabled.
+    pub fn has_enabled(&self, process: u64) -> bool
+        ensures { result ≡ has_enabled self.now.world process }
+    {
+        any_input(&self.inputs, process) || any_channel(&self.channels, process)
+    }
+
     /// The three words below the workspace are undefined, as scheduling leaves them.
-    pub(crate) fn clear_scheduling_words(&mut self, registers: Registers)
+    pub fn clear_scheduling_words(&mut self, registers: Registers)
         requires { IsTrue (holds_scheduling_words self.old.holding registers.workspace) }
         ensures { let w = self.old.world in
             let memory = without_scheduling_words w.memory registers.workspace in

@@ -1,0 +1,3 @@
+pub mod Locals
+pub mod Ready
+pub mod Sources

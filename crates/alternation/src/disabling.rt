@@ -1,0 +1,185 @@
+//! From `altwt` to `altend`: the process waits until something is ready, and what it has enabled is disabled.
+
+ghost use Rattle.std.specs.Prelude.{◌≡◌, ◌+◌, ◌<◌, ◌^◌, if◌then◌else◌, Some, IsTrue, length, ℤ, pos};
+ghost use Rattle.module_format.specs.Contents.{Contents, contents_of};
+ghost use Rattle.machine_state.specs.declared.process.Mode.TheVariants.{Disabling};
+ghost use Rattle.machine_state.specs.Holding.{may_write_word};
+ghost use Rattle.machine_state.specs.LocalStep.{holds_scheduling_words, with_a_alone};
+ghost use Rattle.machine_state.specs.Memory.{place_of};
+ghost use Rattle.machine_state.specs.Moves.{counted};
+ghost use Rattle.machine_state.specs.Turn.{ran, answered};
+ghost use Rattle.machine_state.specs.Alternations.{selected, waited};
+ghost use Rattle.machine_state.specs.Alternations.{skip_disabled, channel_disabled, alternation_ended};
+ghost use Rattle.channels.specs.Moment.{IsSteady};
+ghost use Rattle.channels.specs.Settling.{here_in, scheduled, Settles};
+ghost use Rattle.alternation.specs.Locals.{untouched, without_selection_word, after_in};
+ghost use Rattle.alternation.specs.Ready.{is_ready_in};
+
+use crate::moves::{clear_selection_word, go_on};
+use crate::source::Source;
+use certificate::{Stack, Tables};
+use channels::{Here, Traffic};
+use machine_state::{Condition, Fault, FaultKind, Mode, Registers, Store, Task};
+use process_queue::ListQueue;
+
+/// Waits until something that is enabled is ready. Answers whether the process goes on: it does if something is ready
+/// already.
+#[tactic(auto, unfolding(machine_state::specs::Moves::dispatch))]
+pub fn wait<S: Store>(
+    traffic: &mut Traffic<S, ListQueue>,
+    here: &Here,
+    registers: Registers,
+) -> bool
+    requires next { here.now.task.registers.at + 1 < 2 ^ 32 }
+    requires task { IsSteady here.now.task }
+    requires words { IsTrue (holds_scheduling_words traffic.old.holding registers.workspace) }
+    requires word { IsTrue (may_write_word traffic.old.holding (place_of registers.workspace)) }
+    ensures turn { (m : Contents) → let w = traffic.old.world in
+        let l = without_selection_word (scheduled registers w) in
+        waited (here_in m here.now) l w ≡ answered ran (counted traffic.new.world) }
+    ensures goes_on { result ≡ is_ready_in here.now.task.mode }
+    ensures holding { traffic.new.holding ≡ traffic.old.holding }
+{
+    traffic.clear_scheduling_words(registers);
+    clear_selection_word(traffic, registers.workspace);
+    let mode = Mode::Disabling { selection: None };
+    if let Mode::Enabling { is_ready: true } = here.task.mode {
+        go_on(traffic, here, mode, registers);
+        return true;
+    }
+    let condition = Condition::Alternating;
+    let task = here.continued(here.next(), registers);
+    traffic.put(
+        here.process,
+        Task {
+            mode,
+            condition,
+            ..task
+        },
+    );
+    traffic.give_way(here);
+    false
+}
+
+/// Whether a process in this mode selects what it disables.
+fn selects(mode: Mode, is_ready: bool) -> bool
+    ensures { (distance : ℤ) → result ≡ selected mode is_ready distance }
+{
+    is_ready && matches!(mode, Mode::Disabling { selection: None })
+}
+
+/// Selects this distance, if what is disabled is ready and nothing is selected yet. A tells whether it is selected.
+fn choose<S: Store>(
+    traffic: &mut Traffic<S, ListQueue>,
+    here: &Here,
+    is_ready: bool,
+    distance: i32,
+    registers: Registers,
+)
+    requires next { here.now.task.registers.at + 1 < 2 ^ 32 }
+    requires task { IsSteady here.now.task }
+    requires word { IsTrue (may_write_word traffic.old.holding (place_of registers.workspace)) }
+    ensures { let w = traffic.old.world in
+        let l = without_selection_word (untouched registers w) in
+        let mode = here.now.task.mode in
+        traffic.new ≡ record traffic.old {
+          world =
+              (if selected mode is_ready distance
+              then after_in here.now (Disabling (Some distance)) (with_a_alone (Some (pos 1)) l) w
+              else after_in here.now mode (with_a_alone (Some (pos 0)) l) w);
+        } }
+{
+    let is_selected = selects(here.task.mode, is_ready);
+    let mode = if is_selected {
+        Mode::Disabling {
+            selection: Some(distance),
+        }
+    } else {
+        here.task.mode
+    };
+    let stack = Stack {
+        a: Some(i32::from(is_selected)),
+        b: None,
+        c: None,
+    };
+    clear_selection_word(traffic, registers.workspace);
+    go_on(traffic, here, mode, Registers { stack, ..registers });
+}
+
+/// Disables a skip, which is ready if the guard holds. If nothing is selected yet, it is selected by its distance.
+pub fn disable_skip<S: Store>(
+    traffic: &mut Traffic<S, ListQueue>,
+    here: &Here,
+    guard: bool,
+    distance: i32,
+    registers: Registers,
+)
+    requires next { here.now.task.registers.at + 1 < 2 ^ 32 }
+    requires task { IsSteady here.now.task }
+    requires word { IsTrue (may_write_word traffic.old.holding (place_of registers.workspace)) }
+    ensures turn { (m : Contents) → let w = traffic.old.world in
+        let l = without_selection_word (untouched registers w) in
+        skip_disabled (here_in m here.now) guard distance l w ≡ answered ran (counted traffic.new.world) }
+    ensures rest { traffic.new ≡ record traffic.old { world = traffic.new.world } }
+{
+    choose(traffic, here, guard, distance, registers);
+}
+
+/// Disables the link or channel at the address, if the guard holds. The process must have enabled it. If it is ready
+/// and nothing is selected yet, it is selected by its distance.
+pub fn disable_channel<S: Store>(
+    traffic: &mut Traffic<S, ListQueue>,
+    tables: &Tables,
+    here: &Here,
+    guard: bool,
+    address: u32,
+    distance: i32,
+    registers: Registers,
+) -> Result<(), Fault>
+    requires code { length tables.now.code.now < 2 ^ 32 }
+    requires task { IsSteady here.now.task }
+    requires word { IsTrue (may_write_word traffic.old.holding (place_of registers.workspace)) }
+    ensures settles { let h = here_in (contents_of tables.now) here.now in
+        let w = traffic.old.world in
+        let l = without_selection_word (untouched registers w) in
+        Settles w traffic.new.world ran result (channel_disabled h guard address distance l w) }
+    ensures rest { traffic.new ≡ record traffic.old { world = traffic.new.world } }
+{
+    if !guard {
+        here.check(here.is_followed(tables), FaultKind::OutsideCode)?;
+        choose(traffic, here, false, distance, registers);
+        return Ok(());
+    }
+    let source = Source::at(traffic, address).ok_or(here.fault(FaultKind::EndNotHeld))?;
+    here.check(
+        source.enabled() == Some(here.process),
+        FaultKind::AlternationOrder,
+    )?;
+    here.check(here.is_followed(tables), FaultKind::OutsideCode)?;
+    choose(traffic, here, source.is_ready(), distance, registers);
+    source.set_enabled(traffic, None);
+    Ok(())
+}
+
+/// Ends the alternation, and goes on at this code offset. Nothing may be left enabled.
+pub fn end<S: Store>(
+    traffic: &mut Traffic<S, ListQueue>,
+    tables: &Tables,
+    here: &Here,
+    to: u32,
+    registers: Registers,
+) -> Result<(), Fault>
+    requires { IsSteady here.now.task }
+    ensures settles { let h = here_in (contents_of tables.now) here.now in
+        let w = traffic.old.world in
+        Settles w traffic.new.world ran result (alternation_ended h to (untouched registers w) w) }
+    ensures rest { traffic.new ≡ record traffic.old { world = traffic.new.world } }
+{
+    let is_disabled = !traffic.has_enabled(here.process);
+    here.check(is_disabled, FaultKind::AlternationOrder)?;
+    here.check((to as usize) < tables.code.len(), FaultKind::OutsideCode)?;
+    let mode = Mode::Plain;
+    let task = here.continued(to, registers);
+    traffic.put(here.process, Task { mode, ..task });
+    Ok(())
+}
