@@ -1,6 +1,6 @@
 -- Testing whether items keep their rules, one after the other.
-use Rattle.std.proofs.Common.{◌≡◌, ℕ, ◌+◌, ◌≤◌, Bool, true, false, ◌↔◌, List, [], ◌∷◌, ◌++◌, length, drop, map, refl}
-use Rattle.std.proofs.Common.{sym, ap, subst, ◌∙◌, append_assoc}
+use Rattle.std.proofs.Common.{◌≡◌, ℕ, ◌+◌, ◌≤◌, Bool, true, false, ◌↔◌, List, [], ◌∷◌, ◌++◌, length, drop, refl}
+use Rattle.std.proofs.Common.{sym, subst, ◌∙◌, append_assoc}
 use Rattle.std.specs.Prelude.{IsTrue}
 use Rattle.std.specs.List.{AllByRecursion}
 use Rattle.std.proofs.lemmas.List.{drop_all}
@@ -55,18 +55,6 @@ pub behind_last : {A S : Type 0} (next : S → A → S) (low : S) (xs : List A) 
     → behind_all next low (xs ++ x ∷ []) ≡ next (behind_all next low xs) x
 behind_last next low [] x = refl
 behind_last next low (y ∷ xs) x = behind_last next (next low y) xs x
-
--- the order of items as they are seen by f
-module _ {A B S : Type 0} (K : S → B → Type 0) (next : S → B → S) (f : A → B) where
-  seen : (low : S) (xs : List A)
-      → InOrder (λ s x. K s (f x)) (λ s x. next s (f x)) low xs ≡ InOrder K next low (map f xs)
-  seen low [] = refl
-  seen low (x ∷ xs) = ap (λ (P : Type 0). K low (f x) × P) (seen (next low (f x)) xs)
-
-  -- a test of the one is a test of the other
-  pub kept_seen : (b : Bool) (low : S) (xs : List A)
-      → IsTrue b ↔ InOrder (λ s x. K s (f x)) (λ s x. next s (f x)) low xs → IsTrue b ↔ InOrder K next low (map f xs)
-  kept_seen b low xs h = subst (λ (P : Type 0). IsTrue b ↔ P) (seen low xs) h
 
 -- the entries that branches leave
 pub behind_branches : (before : Before) (bs : List Branch)

@@ -12,6 +12,8 @@ use Rattle.module_format.specs.declared.rows.Direction.TheVariants as directions
 use Rattle.module_format.specs.declared.rows.EndRow.{EndRow}
 use Rattle.module_format.specs.declared.rows.EndKey.{EndKey}
 use Rattle.module_format.specs.declared.limits.TheConstants.{MAX_BRANCHES, MAX_MESSAGE}
+use Rattle.module_format.specs.declared.tags.TheConstants.{END_FRAME_WORD, END_PARAMETER, END_LINK}
+use Rattle.module_format.specs.declared.tags.TheConstants.{DIRECTION_IN, DIRECTION_OUT}
 use Rattle.module_format.specs.Order.{InOrder, least_word}
 use Rattle.module_format.specs.Contents.{Branch, Par}
 
@@ -60,9 +62,9 @@ abbrev pub behind_number : ℕ → ℕ → ℕ
 behind_number low number = number + 1
 
 abbrev pub kind_of : EndKind → ℕ
-kind_of (ends.FrameWord word) = 0
-kind_of (ends.Parameter number element) = 1
-kind_of (ends.Link link) = 2
+kind_of (ends.FrameWord word) = END_FRAME_WORD
+kind_of (ends.Parameter number element) = END_PARAMETER
+kind_of (ends.Link link) = END_LINK
 
 abbrev pub number_of : EndKind → ℤ
 number_of (ends.FrameWord word) = word
@@ -75,8 +77,8 @@ element_of (ends.Parameter number element) = element
 element_of (ends.Link link) = 0
 
 abbrev pub direction_number : Direction → ℕ
-direction_number directions.In = 1
-direction_number directions.Out = 2
+direction_number directions.In = DIRECTION_IN
+direction_number directions.Out = DIRECTION_OUT
 
 -- the four fields by which ends rise
 abbrev pub key_of : EndRow → EndKey
@@ -90,7 +92,7 @@ key_of e =
 
 -- below every end
 abbrev pub first_key : EndKey
-first_key = record { kind = 0; number = least_word; element = 0; direction = 0 }
+first_key = record { kind = END_FRAME_WORD; number = least_word; element = 0; direction = 0 }
 
 -- the first field in which two ends differ is greater in the second
 abbrev pub is_below : EndKey → EndKey → Bool

@@ -4,12 +4,12 @@ use Rattle.std.proofs.lemmas.Int.{to_z-of_z}
 use Rattle.module_format.specs.Order.{is_multiple_of_four}
 use Rattle.module_format.specs.Procedures.{words_of}
 use Rattle.module_format.proofs.ProcedureLaws.{all_within, within_all}
-use Rattle.module_format.proofs.keeping.procedures.TableRuleRule.keeps.Goals as goal
+use Rattle.module_format.proofs.listed.TableRowListedConstants.keeps.Goals as goal
 
-pub returns-then-row : goal.returns-then-row
-returns-then-row c =
-    let row = c.args.row.now in
-    let constants = c.args.self.now.constants.now in
+pub returns-then-self : goal.returns-then-self
+returns-then-self c =
+    let row = c.args.self.now in
+    let constants = c.args.constants.now.0.now in
     let lo_fits : FitsSigned w32 row.lo = search rules in
     let hi_fits : FitsSigned w32 row.hi = search rules in
     let lo = to_z-of_z w32 row.lo lo_fits in
