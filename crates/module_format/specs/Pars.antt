@@ -15,7 +15,7 @@ use Rattle.module_format.specs.declared.limits.TheConstants.{MAX_BRANCHES, MAX_M
 use Rattle.module_format.specs.declared.tags.TheConstants.{END_FRAME_WORD, END_PARAMETER, END_LINK}
 use Rattle.module_format.specs.declared.tags.TheConstants.{DIRECTION_IN, DIRECTION_OUT}
 use Rattle.module_format.specs.Order.{InOrder, least_word}
-use Rattle.module_format.specs.Contents.{Branch, Par}
+use Rattle.module_format.specs.Contents.{Branch, counts_of, CountsFit, Par}
 
 -- ---- channels and intervals
 
@@ -132,11 +132,7 @@ pub record IsBranchEntry (code_len : ℕ) (before : Before) (entry : ℕ) : Type
 
 -- what a branch is given
 pub record GiftsKeep (b : Branch) : Type 0 where
-  pub write_count : length b.writes < 2 ^ 16
-  pub read_count : length b.reads < 2 ^ 16
-  pub written_count : length b.written_parameters < 2 ^ 16
-  pub read_parameter_count : length b.read_parameters < 2 ^ 16
-  pub end_count : length b.ends < 2 ^ 16
+  pub counts : CountsFit (counts_of b)
   pub writes : InOrder IntervalKeeps behind_interval least_word b.writes
   pub reads : InOrder (ReadKeeps b.writes) behind_interval least_word b.reads
   pub written_parameters : InOrder NumberKeeps behind_number 0 b.written_parameters

@@ -1,7 +1,7 @@
 //! PAR rows.
 
 ghost use Rattle.std.specs.Prelude.{◌≡◌, ◌↔◌, ◌+◌, ◌^◌, ◌<◌, ◌≤◌, ◌++◌, IsTrue, ℕ, List, map, length};
-ghost use Rattle.module_format.specs.Contents.{branch_of, par_of};
+ghost use Rattle.module_format.specs.Contents.{branch_of, counts_of, CountsFit, par_of};
 ghost use Rattle.module_format.specs.Order.{InOrder, least_word};
 ghost use Rattle.module_format.specs.OffsetSet.{IsSetOf};
 ghost use Rattle.module_format.specs.declared.limits.TheConstants.{MAX_LONG_CODE, MAX_PARS};
@@ -42,9 +42,7 @@ fn reads_keep(intervals: &[Interval], reads: &[Interval]) -> bool
 
 /// How long the lists of a branch are.
 fn counts_fit(row: &BranchRow) -> bool
-    ensures { IsTrue result ↔ ((length row.now.writes.items < 2 ^ 16) × (length row.now.reads.items < 2 ^ 16)
-        × (length row.now.written_parameters.items < 2 ^ 16) × (length row.now.read_parameters.items < 2 ^ 16)
-        × (length row.now.ends.items < 2 ^ 16)) }
+    ensures { IsTrue result ↔ CountsFit (counts_of (branch_of row.now)) }
 {
     const MOST: usize = u16::MAX as usize;
     row.writes.len() <= MOST

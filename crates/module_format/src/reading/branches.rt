@@ -19,18 +19,8 @@ use crate::reading::cursor::Cursor;
 use crate::reading::facts::{LEAST_WORD, read_first_word};
 use crate::reading::list::{Reader, fill, read_list};
 use crate::reading::taken::Taken;
-use crate::rows::{BranchRow, EndKey, EndRow, Interval};
+use crate::rows::{BranchCounts, BranchRow, EndKey, EndRow, Interval};
 use smallvec::SmallVec;
-
-/// How many intervals, parameters and ends a branch has.
-#[derive(Clone, Copy)]
-pub struct BranchCounts {
-    pub writes: u16,
-    pub reads: u16,
-    pub written_parameters: u16,
-    pub read_parameters: u16,
-    pub ends: u16,
-}
 
 /// The end of an interval, which is not empty.
 #[tactic(auto, unfolding(crate::specs::ReadingPars::interval_end_at, crate::specs::Reading::tested))]

@@ -4,10 +4,10 @@ ghost use Rattle.std.specs.Prelude.{◌++◌, ◌∷◌, ⊤};
 ghost use Rattle.module_format.specs.Contents.{branch_of, par_of};
 ghost use Rattle.module_format.specs.Meaning.{plain, viewed};
 ghost use Rattle.module_format.specs.Spelling.{u32_bytes, i32_bytes, channel_bytes, interval_bytes, end_bytes};
-ghost use Rattle.module_format.specs.Spelling.{branch_bytes, branch_head, par_bytes};
+ghost use Rattle.module_format.specs.Spelling.{counts_bytes, branch_bytes, branch_head, par_bytes};
 ghost use Rattle.module_format.specs.Writable.{Writes, BranchIsWritable, ParIsWritable};
 
-use crate::rows::{BranchRow, ChannelRow, EndRow, Interval, ParRow};
+use crate::rows::{BranchCounts, BranchRow, ChannelRow, EndRow, Interval, ParRow};
 use crate::tables::Version;
 use crate::writing::list::{Put, put_all};
 use crate::writing::writer::Writer;
@@ -52,6 +52,18 @@ impl Put for EndRow {
     }
 }
 
+/// How many intervals, parameters and ends a branch has.
+#[tactic(auto, unfolding(crate::specs::Spelling::counts_bytes))]
+fn put_counts(out: &mut Writer, counts: &BranchCounts)
+    ensures { Writes out.old (counts_bytes counts.now) out.new }
+{
+    out.u16(counts.writes);
+    out.u16(counts.reads);
+    out.u16(counts.written_parameters);
+    out.u16(counts.read_parameters);
+    out.u16(counts.ends);
+}
+
 /// A branch's entry, workspace and numbers of items.
 #[tactic(auto, unfolding(crate::specs::Spelling::branch_head))]
 fn put_branch_head(out: &mut Writer, row: &BranchRow)
@@ -60,11 +72,7 @@ fn put_branch_head(out: &mut Writer, row: &BranchRow)
 {
     out.u32(row.entry);
     out.i32(row.workspace);
-    out.u16(row.writes.len() as u16);
-    out.u16(row.reads.len() as u16);
-    out.u16(row.written_parameters.len() as u16);
-    out.u16(row.read_parameters.len() as u16);
-    out.u16(row.ends.len() as u16);
+    put_counts(out, &row.counts());
 }
 
 impl Put for BranchRow {

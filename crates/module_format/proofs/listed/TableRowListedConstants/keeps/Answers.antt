@@ -1,7 +1,5 @@
-use Rattle.std.proofs.Common.{◌-◌, sym, ◌∙◌, rules, take, drop, w32, FitsSigned, ◌<◌, ◌≤◌, length}
-use Rattle.std.specs.Prelude.{◌≤ℤ◌, IsTrue}
+use Rattle.std.proofs.Common.{◌-◌, sym, ◌∙◌, rules, take, drop, w32, FitsSigned}
 use Rattle.std.proofs.lemmas.Int.{to_z-of_z}
-use Rattle.module_format.specs.Order.{is_multiple_of_four}
 use Rattle.module_format.specs.Procedures.{words_of}
 use Rattle.module_format.proofs.ProcedureLaws.{all_within, within_all}
 use Rattle.module_format.proofs.listed.TableRowListedConstants.keeps.Goals as goal
@@ -14,21 +12,15 @@ returns-then-self c =
     let hi_fits : FitsSigned w32 row.hi = search rules in
     let lo = to_z-of_z w32 row.lo lo_fits in
     let hi = to_z-of_z w32 row.hi hi_fits in
-    let start_aligned : IsTrue (is_multiple_of_four row.start) = search rules in
-    let end_aligned : IsTrue (is_multiple_of_four row.end) = search rules in
-    let apart : c.args.low ≤ row.start = search rules in
-    let filled : row.start < row.end = search rules in
-    let inside : row.end ≤ length constants = search rules in
-    let ordered : row.lo ≤ℤ row.hi = search rules in
     let told = rw (lo, hi) at c.words_lie_within.ensures in
     let words = words_of (take (row.end - row.start) (drop row.start constants)) in (
       λ t. record {
-        start_aligned = start_aligned;
-        apart = apart;
-        end_aligned = end_aligned;
-        ordered = filled;
-        inside = inside;
-        range = record { lo_fits = lo_fits; hi_fits = hi_fits; ordered = ordered };
+        start_aligned = search rules;
+        apart = search rules;
+        end_aligned = search rules;
+        ordered = search rules;
+        inside = search rules;
+        range = record { lo_fits = lo_fits; hi_fits = hi_fits; ordered = search rules };
         words = all_within row.lo row.hi words (sym told ∙ t);
       },
       λ h. told ∙ within_all row.lo row.hi words h.words,
