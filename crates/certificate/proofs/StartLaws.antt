@@ -4,6 +4,7 @@ use Rattle.std.proofs.Common.{map, get_or, Some, None, refl, sym, ap, ◌∙◌,
 use Rattle.std.specs.Prelude.{find, is_some, ◌==◌, ◌||◌}
 use Rattle.std.specs.List.{list_any, flat_map}
 use Rattle.std.specs.List.Sorted.{IsNonDecreasingBy}
+use Rattle.std.proofs.Math.Bool.{or-false, or-true}
 use Rattle.std.proofs.lemmas.List.Folds.{list_any-append}
 use Rattle.std.proofs.lemmas.Bool.Decides.{nat_tests}
 use Rattle.module_format.specs.declared.rows.LabelRow.{LabelRow}
@@ -40,18 +41,9 @@ turned false false false d = refl
 
 -- or, of the four kinds
 four : (a b c d e : Bool) → e ≡ false → ((c || d) || (b || (a || e))) ≡ (((a || b) || c) || d)
-four true true true d e h = refl
-four true true false true e h = refl
-four true true false false e h = refl
-four true false true d e h = refl
-four true false false true e h = refl
-four true false false false e h = refl
-four false true true d e h = refl
-four false true false true e h = refl
-four false true false false e h = refl
-four false false true d e h = refl
-four false false false true e h = refl
-four false false false false e h = h
+four true b c d e h = rw (or-true b) (or-true (c || d))
+four false true c d e h = or-true (c || d)
+four false false c d e h = rw h (or-false (c || d))
 
 module _ (at : ℕ) where
   abbrev is : ℕ → Bool

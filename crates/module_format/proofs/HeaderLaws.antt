@@ -20,7 +20,7 @@ use Rattle.module_format.specs.Spelling.{u32_bytes, u64_bytes, magic_one, magic_
 use Rattle.module_format.specs.Reading.{fault}
 use Rattle.module_format.specs.ReadingFile.{magic_at, sizes_at, four_lengths_at, lengths_at, flag_at, extension_at}
 use Rattle.module_format.specs.ReadingFile.{counts_at, header_at}
-use Rattle.module_format.proofs.Tools.{Has, has_ok, has_then, has_if, has_cond, step, Spelled, join}
+use Rattle.module_format.proofs.Tools.{Has, has_ok, has_then, has_if, has_cond, step, Spelled, join, nothing_taken, field, all_taken}
 use Rattle.module_format.proofs.FieldLaws.{IsBytes-drop, wide32, wide64, limited_takes, limited_again, positive_takes}
 use Rattle.module_format.proofs.FieldLaws.{positive_again, at_most_takes, at_most_again}
 
@@ -72,34 +72,22 @@ module _ (size : ℕ) (version : Version) where
       → Has (sizes_at size version bytes) (Spelled bytes sizes_bytes (SizesFit version))
   unfolding sizes_at sizes_bytes
   sizes_take bytes fits =
-      has_then _ _ (positive_takes size (max_code version) bytes fits) (λ x0 h0.
-      has_then _ _ (limited_takes size 4 u32_bytes (2 ^ 32) wide32 MAX_CONSTANTS x0.1 h0.rest_fits) (λ x1 h1.
-      has_then _ _ (positive_takes size MAX_DATA_WORDS x1.1 h1.rest_fits) (λ x2 h2.
-      has_then _ _ (at_most_takes size x2.0 x2.1 h2.rest_fits) (λ x3 h3.
-      has_then _ _ (limited_takes size 8 u64_bytes (2 ^ 64) wide64 MAX_BUDGET x3.1 h3.rest_fits) (λ x4 h4.
-      has_then _ _ (at_most_takes size x0.0 x4.1 h4.rest_fits) (λ x5 h5.
-      let made : Sizes =
-      record { code_len = x0.0; const_len = x1.0; data_words = x2.0; base = x3.0; budget = x4.0; finish = x5.0 } in
-      let kept : SizesFit version made =
-      record {
-        has_code = h0.keeps.0;
-        code_limit = h0.keeps.1;
-        constants_limit = h1.keeps.1;
-        has_data = h2.keeps.0;
-        data_limit = h2.keeps.1;
-        base = h3.keeps.1;
-        budget = h4.keeps.1;
-        finish = h5.keeps.1;
-      } in
-      let j1 = join (u32_bytes x0.0) (u32_bytes x1.0) x1.1 h0.parts h1.parts in
-      let j2 = join (u32_bytes x0.0 ++ u32_bytes x1.0) (u32_bytes x2.0) x2.1 j1 h2.parts in
-      let j3 = join (u32_bytes x0.0 ++ u32_bytes x1.0 ++ u32_bytes x2.0) (u32_bytes x3.0) x3.1 j2 h3.parts in
-      let j4 = join (u32_bytes x0.0 ++ u32_bytes x1.0 ++ u32_bytes x2.0 ++ u32_bytes x3.0)
-      (u64_bytes x4.0) x4.1 j3 h4.parts in
-      let parts : bytes ≡ sizes_bytes made ++ x5.1 =
-      join (u32_bytes x0.0 ++ u32_bytes x1.0 ++ u32_bytes x2.0 ++ u32_bytes x3.0 ++ u64_bytes x4.0)
-      (u32_bytes x5.0) x5.1 j4 h5.parts in
-      has_ok (made, x5.1) (record { parts = parts; rest_fits = h5.rest_fits; keeps = kept })))))))
+      field (nothing_taken fits) (positive_takes size (max_code version) _) (λ x0 h0 t0.
+      field t0 (limited_takes size 4 u32_bytes (2 ^ 32) wide32 MAX_CONSTANTS _) (λ x1 h1 t1.
+      field t1 (positive_takes size MAX_DATA_WORDS _) (λ x2 h2 t2.
+      field t2 (at_most_takes size x2.0 _) (λ x3 h3 t3.
+      field t3 (limited_takes size 8 u64_bytes (2 ^ 64) wide64 MAX_BUDGET _) (λ x4 h4 t4.
+      field t4 (at_most_takes size x0.0 _) (λ x5 h5 t5.
+      all_taken t5 (record {
+        has_code = h0.0;
+        code_limit = h0.1;
+        constants_limit = h1.1;
+        has_data = h2.0;
+        data_limit = h2.1;
+        base = h3.1;
+        budget = h4.1;
+        finish = h5.1;
+      })))))))
 
   sizes_again : (s : Sizes) (rest : List ℕ) → SizesFit version s
       → sizes_at size version (sizes_bytes s ++ rest) ≡ Ok (s, rest)
@@ -137,19 +125,11 @@ module _ (size : ℕ) where
   four_takes : (bytes : List ℕ) → IsBytes bytes → Has (four_lengths_at size bytes) (Spelled bytes four_bytes IsFour)
   unfolding four_lengths_at IsFour
   four_takes bytes fits =
-      has_then _ _ (limited_takes size 4 u32_bytes (2 ^ 32) wide32 MAX_MESSAGE bytes fits) (λ x0 h0.
-      has_then _ _ (limited_takes size 4 u32_bytes (2 ^ 32) wide32 MAX_MESSAGE x0.1 h0.rest_fits) (λ x1 h1.
-      has_then _ _ (limited_takes size 4 u32_bytes (2 ^ 32) wide32 MAX_MESSAGE x1.1 h1.rest_fits) (λ x2 h2.
-      has_then _ _ (limited_takes size 4 u32_bytes (2 ^ 32) wide32 MAX_MESSAGE x2.1 h2.rest_fits) (λ x3 h3.
-      let j1 = join (u32_bytes x0.0) (u32_bytes x1.0) x1.1 h0.parts h1.parts in
-      let j2 = join (u32_bytes x0.0 ++ u32_bytes x1.0) (u32_bytes x2.0) x2.1 j1 h2.parts in
-      let parts = join (u32_bytes x0.0 ++ u32_bytes x1.0 ++ u32_bytes x2.0) (u32_bytes x3.0) x3.1 j2 h3.parts in
-      has_ok ((x0.0, x1.0, x2.0, x3.0), x3.1)
-      (record {
-        parts = parts;
-        rest_fits = h3.rest_fits;
-        keeps = (h0.keeps.1, h1.keeps.1, h2.keeps.1, h3.keeps.1);
-      })))))
+      field (nothing_taken fits) (limited_takes size 4 u32_bytes (2 ^ 32) wide32 MAX_MESSAGE _) (λ x0 h0 t0.
+      field t0 (limited_takes size 4 u32_bytes (2 ^ 32) wide32 MAX_MESSAGE _) (λ x1 h1 t1.
+      field t1 (limited_takes size 4 u32_bytes (2 ^ 32) wide32 MAX_MESSAGE _) (λ x2 h2 t2.
+      field t2 (limited_takes size 4 u32_bytes (2 ^ 32) wide32 MAX_MESSAGE _) (λ x3 h3 t3.
+      all_taken t3 (h0.1, h1.1, h2.1, h3.1)))))
 
   four_again : (a b c d : ℕ) (rest : List ℕ)
       → a ≤ MAX_MESSAGE → b ≤ MAX_MESSAGE → c ≤ MAX_MESSAGE → d ≤ MAX_MESSAGE
@@ -307,26 +287,17 @@ module _ (size : ℕ) (version : Version) where
       → Has (counts_at size version bytes) (Spelled bytes (counts_bytes version) (CountsFit version))
   unfolding counts_at
   counts_take bytes fits =
-      has_then _ _ (limited_takes size 4 u32_bytes (2 ^ 32) wide32 MAX_PROCEDURES bytes fits) (λ x0 h0.
-      has_then _ _ (limited_takes size 4 u32_bytes (2 ^ 32) wide32 MAX_LABELS x0.1 h0.rest_fits) (λ x1 h1.
-      has_then _ _ (limited_takes size 4 u32_bytes (2 ^ 32) wide32 MAX_PARS x1.1 h1.rest_fits) (λ x2 h2.
-      has_then _ _ (extension_takes size version x2.1 h2.rest_fits) (λ x3 h3.
-      let made : RowCounts =
-      record { procedures = x0.0; labels = x1.0; pars = x2.0; has_long_operations = x3.0.0; table_rows = x3.0.1 } in
-      let kept : CountsFit version made =
-      record {
-        procedures = h0.keeps.1;
-        labels = h1.keeps.1;
-        pars = h2.keeps.1;
-        table_rows = h3.keeps.limit;
-        flag = h3.keeps.flag;
-      } in
-      let j1 = join (u32_bytes x0.0) (u32_bytes x1.0) x1.1 h0.parts h1.parts in
-      let j2 = join (u32_bytes x0.0 ++ u32_bytes x1.0) (u32_bytes x2.0) x2.1 j1 h2.parts in
-      let parts : bytes ≡ counts_bytes version made ++ x3.1 =
-      join (u32_bytes x0.0 ++ u32_bytes x1.0 ++ u32_bytes x2.0)
-      (flag_bytes version x3.0.0 x3.0.1) x3.1 j2 h3.parts in
-      has_ok (made, x3.1) (record { parts = parts; rest_fits = h3.rest_fits; keeps = kept })))))
+      field (nothing_taken fits) (limited_takes size 4 u32_bytes (2 ^ 32) wide32 MAX_PROCEDURES _) (λ x0 h0 t0.
+      field t0 (limited_takes size 4 u32_bytes (2 ^ 32) wide32 MAX_LABELS _) (λ x1 h1 t1.
+      field t1 (limited_takes size 4 u32_bytes (2 ^ 32) wide32 MAX_PARS _) (λ x2 h2 t2.
+      field t2 (extension_takes size version _) (λ x3 h3 t3.
+      all_taken t3 (record {
+        procedures = h0.1;
+        labels = h1.1;
+        pars = h2.1;
+        table_rows = h3.limit;
+        flag = h3.flag;
+      })))))
 
   counts_again : (n : RowCounts) (rest : List ℕ) → CountsFit version n
       → counts_at size version (counts_bytes version n ++ rest) ≡ Ok (n, rest)
@@ -360,17 +331,11 @@ pub header_takes : (bytes : List ℕ) → IsBytes bytes → Has (header_at bytes
 unfolding header_at head_bytes
 header_takes bytes fits =
     let size = length bytes in
-    has_then _ _ (magic_takes bytes fits) (λ x0 h0.
-    has_then _ _ (sizes_take size x0.0 x0.1 h0.rest_fits) (λ x1 h1.
-    has_then _ _ (lengths_take size x1.1 h1.rest_fits) (λ x2 h2.
-    has_then _ _ (counts_take size x0.0 x2.1 h2.rest_fits) (λ x3 h3.
-    let made : Header = record { version = x0.0; sizes = x1.0; lengths = x2.0; counts = x3.0 } in
-    let kept : HeaderFits made = record { sizes = h1.keeps; lengths = h2.keeps; counts = h3.keeps } in
-    let j1 = join (magic_of x0.0) (sizes_bytes x1.0) x1.1 h0.parts h1.parts in
-    let j2 = join (magic_of x0.0 ++ sizes_bytes x1.0) (flat_map u32_bytes x2.0) x2.1 j1 h2.parts in
-    let parts : bytes ≡ head_bytes made ++ x3.1 =
-    join (magic_of x0.0 ++ sizes_bytes x1.0 ++ flat_map u32_bytes x2.0) (counts_bytes x0.0 x3.0) x3.1 j2 h3.parts in
-    has_ok (made, x3.1) (record { parts = parts; rest_fits = h3.rest_fits; keeps = kept })))))
+    field (nothing_taken fits) (magic_takes _) (λ x0 h0 t0.
+    field t0 (sizes_take size x0.0 _) (λ x1 h1 t1.
+    field t1 (lengths_take size _) (λ x2 h2 t2.
+    field t2 (counts_take size x0.0 _) (λ x3 h3 t3.
+    all_taken t3 (record { sizes = h1; lengths = h2; counts = h3 })))))
 
 pub header_again : (h : Header) (rest : List ℕ) → HeaderFits h → header_at (head_bytes h ++ rest) ≡ Ok (h, rest)
 unfolding header_at head_bytes

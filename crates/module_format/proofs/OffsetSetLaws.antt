@@ -67,13 +67,3 @@ pub one_more : (old new : List ℕ) (at : ℕ) (offsets : List ℕ)
     → ((n : ℕ) → has_offset new n ≡ (has_offset old n || (at == n)))
     → IsSetOf old offsets → IsSetOf new (offsets ++ at ∷ [])
 one_more old new at offsets added has = record { each = λ n. rw (added n, has.each n) (sym (any_more at n offsets)) }
-
--- words of which some more are 0
-padded : (words : List ℕ) (n i : ℕ) → slice_index (words ++ replicate n 0) i ≡ slice_index words i
-padded [] n i = zeros n i
-padded (w ∷ words) n zero = refl
-padded (w ∷ words) n (suc i) = padded words n i
-
-pub still_set : (words : List ℕ) (n : ℕ) (offsets : List ℕ) → IsSetOf words offsets
-    → IsSetOf (words ++ replicate n 0) offsets
-still_set words n offsets has = record { each = λ at. rw (padded words n (at / 64)) (has.each at) }

@@ -1,34 +1,35 @@
 -- Testing whether items keep their rules, one after the other.
-use Rattle.std.proofs.Common.{◌≡◌, ℕ, ◌+◌, ◌≤◌, Bool, true, false, ◌↔◌, List, [], ◌∷◌, ◌++◌, length, drop, map, refl}
-use Rattle.std.proofs.Common.{sym, ap, subst, ◌∙◌, append_assoc}
+use Rattle.std.proofs.Common.{◌≡◌, ℕ, ◌+◌, ◌<◌, ◌≤◌, Bool, true, false, ◌↔◌, List, [], ◌∷◌, ◌++◌, length, drop, map, get_or, refl}
+use Rattle.std.proofs.Common.{sym, subst, ◌∙◌, append_assoc}
 use Rattle.std.specs.Prelude.{IsTrue}
 use Rattle.std.specs.List.{AllByRecursion}
-use Rattle.std.proofs.lemmas.List.{drop_all}
-use Rattle.std.proofs.lemmas.List.{append-nil}
+use Rattle.std.proofs.lemmas.List.{append-nil, drop_all, length-map}
 use Rattle.module_format.specs.Contents.{Branch}
 use Rattle.module_format.specs.Order.{InOrder, behind_all}
 use Rattle.module_format.specs.Pars.{Before, behind_branch, entries_of}
+use Rattle.module_format.proofs.Loop.{mapped_item_at}
 
-module _ {A S : Type 0} (Keeps : S → A → Type 0) (next : S → A → S) (Whole : Type 0) where
-  -- the item here keeps its rules, so all do exactly where those behind it do
-  pub order_goes_on : (xs : List A) (i : ℕ) (low : S) (x : A) → drop i xs ≡ x ∷ drop (i + 1) xs → Keeps low x
-      → Whole ↔ InOrder Keeps next low (drop i xs) → Whole ↔ InOrder Keeps next (next low x) (drop (i + 1) xs)
-  order_goes_on xs i low x here kept same =
-      let split = subst (λ (ys : List A). Whole ↔ InOrder Keeps next low ys) here same in
-      (λ h. (split.0 h).1, λ h. split.1 (kept, h))
+-- rules of items that are seen by f, in a loop over the items
+module _ {A B S : Type 0} (Keeps : S → B → Type 0) (next : S → B → S) (f : A → B) {Whole : Type 0} (xs : List A)
+    (i : ℕ) (low : S) (so_far : Whole ↔ InOrder Keeps next low (drop i (map f xs))) where
+  module _ (x : A) (there : i < length xs) (is : x ≡ get_or xs i x) where
+    split : Whole ↔ InOrder Keeps next low (f x ∷ drop (i + 1) (map f xs))
+    split = subst (λ (ys : List B). Whole ↔ InOrder Keeps next low ys) (mapped_item_at f xs xs i x refl there is) so_far
 
-  -- the item here doesn't
-  pub order_fails : (xs : List A) (i : ℕ) (low : S) (x : A) → drop i xs ≡ x ∷ drop (i + 1) xs → (Keeps low x → ⊥)
-      → Whole ↔ InOrder Keeps next low (drop i xs) → Whole → ⊥
-  order_fails xs i low x here broken same h =
-      let split = subst (λ (ys : List A). Whole ↔ InOrder Keeps next low ys) here same in
-      broken (split.0 h).0
+    -- the item here keeps its rules, so all do exactly where those behind it do
+    pub order_goes_on : Keeps low (f x) → Whole ↔ InOrder Keeps next (next low (f x)) (drop (i + 1) (map f xs))
+    order_goes_on kept = (λ h. (split.0 h).1, λ h. split.1 (kept, h))
+
+    -- the item here doesn't
+    pub order_fails : (Keeps low (f x) → ⊥) → IsTrue false ↔ Whole
+    order_fails broken = (λ e. absurd cc, λ h. absurd (broken (split.0 h).0))
 
   -- no item is left
-  pub order_is_done : (xs : List A) (i : ℕ) (low : S) → length xs ≤ i → Whole ↔ InOrder Keeps next low (drop i xs)
-      → Whole
-  order_is_done xs i low past same =
-      (subst (λ (ys : List A). Whole ↔ InOrder Keeps next low ys) (drop_all i xs past) same).1 tt
+  pub order_is_done : length xs ≤ i → IsTrue true ↔ Whole
+  order_is_done past =
+      let long : length (map f xs) ≤ i = rw length-map past in
+      let whole = (subst (λ (ys : List B). Whole ↔ InOrder Keeps next low ys) (drop_all i (map f xs) long) so_far).1 tt in
+      (λ _. whole, λ _. refl)
 
 -- a test that failed, and what it tests
 pub is_broken : {P : Type 0} (b : Bool) → b ≡ false → IsTrue b ↔ P → P → ⊥
@@ -37,12 +38,6 @@ is_broken false e same h = absurd (let t = same.1 h in cc)
 
 pub is_kept : {P : Type 0} (b : Bool) → b ≡ true → IsTrue b ↔ P → P
 is_kept b e same = same.0 e
-
-pub never : {P : Type 0} → (P → ⊥) → IsTrue false ↔ P
-never f = (λ e. absurd cc, λ h. absurd (f h))
-
-pub always : {P : Type 0} → P → IsTrue true ↔ P
-always h = (λ _. h, λ _. refl)
 
 -- what each item keeps wherever it stands
 pub each : {A S : Type 0} (K : S → A → Type 0) (next : S → A → S) (P : A → Type 0) → ((low : S) (x : A) → K low x → P x)
@@ -55,18 +50,6 @@ pub behind_last : {A S : Type 0} (next : S → A → S) (low : S) (xs : List A) 
     → behind_all next low (xs ++ x ∷ []) ≡ next (behind_all next low xs) x
 behind_last next low [] x = refl
 behind_last next low (y ∷ xs) x = behind_last next (next low y) xs x
-
--- the order of items as they are seen by f
-module _ {A B S : Type 0} (K : S → B → Type 0) (next : S → B → S) (f : A → B) where
-  seen : (low : S) (xs : List A)
-      → InOrder (λ s x. K s (f x)) (λ s x. next s (f x)) low xs ≡ InOrder K next low (map f xs)
-  seen low [] = refl
-  seen low (x ∷ xs) = ap (λ (P : Type 0). K low (f x) × P) (seen (next low (f x)) xs)
-
-  -- a test of the one is a test of the other
-  pub kept_seen : (b : Bool) (low : S) (xs : List A)
-      → IsTrue b ↔ InOrder (λ s x. K s (f x)) (λ s x. next s (f x)) low xs → IsTrue b ↔ InOrder K next low (map f xs)
-  kept_seen b low xs h = subst (λ (P : Type 0). IsTrue b ↔ P) (seen low xs) h
 
 -- the entries that branches leave
 pub behind_branches : (before : Before) (bs : List Branch)

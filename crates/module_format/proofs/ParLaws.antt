@@ -12,7 +12,7 @@ use Rattle.module_format.specs.Spelling.{u16_bytes, u32_bytes, i32_bytes, channe
 use Rattle.module_format.specs.Reading.{list_at}
 use Rattle.module_format.specs.ReadingPars.{channel_at, branch_at, context_number_at, branch_count_at, par_row_at}
 use Rattle.module_format.specs.ReadingPars.{par_rows_at}
-use Rattle.module_format.proofs.Tools.{Has, has_ok, has_then, step, Spelled, join, tested_takes, tested_again}
+use Rattle.module_format.proofs.Tools.{Has, has_ok, step, Spelled, nothing_taken, field, all_taken, tested_takes, tested_again}
 use Rattle.module_format.proofs.Tools.{list_takes, list_again}
 use Rattle.module_format.proofs.FieldLaws.{wide16, limited_takes, limited_again, positive_takes, positive_again}
 use Rattle.module_format.proofs.FieldLaws.{in_code_takes, in_code_again, int_takes, int_again, u16_takes, u16_again}
@@ -27,14 +27,9 @@ module _ (size : ℕ) where
       → Has (channel_at size low bytes) (Spelled bytes channel_bytes (ChannelKeeps low))
   unfolding channel_at channel_bytes
   channel_takes low bytes fits =
-      has_then _ _ (first_word_takes size low bytes fits) (λ word h.
-      has_then _ _ (positive_takes size MAX_MESSAGE word.1 h.rest_fits) (λ len g.
-      let made : ChannelRow = record { word = word.0; length = len.0 } in
-      let kept : ChannelKeeps low made =
-      record { word_fits = h.keeps.0; rises = h.keeps.1; has_length = g.keeps.0; limit = g.keeps.1 } in
-      let parts : bytes ≡ channel_bytes made ++ len.1 =
-      join (i32_bytes word.0) (u32_bytes len.0) len.1 h.parts g.parts in
-      has_ok (made, len.1) (record { parts = parts; rest_fits = g.rest_fits; keeps = kept })))
+      field (nothing_taken fits) (first_word_takes size low _) (λ word h t.
+      field t (positive_takes size MAX_MESSAGE _) (λ len g u.
+      all_taken u (record { word_fits = h.0; rises = h.1; has_length = g.0; limit = g.1 })))
 
   channel_again : (low : ℤ) (c : ChannelRow) (rest : List ℕ) → ChannelKeeps low c
       → channel_at size low (channel_bytes c ++ rest) ≡ Ok (c, rest)
@@ -100,54 +95,31 @@ module _ (size own code_len : ℕ) where
       → Has (par_row_at size own code_len before bytes) (Spelled bytes par_bytes (ParKeeps own code_len before))
   unfolding par_row_at par_bytes
   par_takes before bytes fits =
-      has_then _ _ (context_number_takes size (own + length before.entries) bytes fits) (λ context h0.
-      has_then _ _ (int_takes size context.1 h0.rest_fits) (λ depth h1.
-      has_then _ _ (int_takes size depth.1 h1.rest_fits) (λ block h2.
-      has_then _ _ (in_code_takes size code_len block.1 h2.rest_fits) (λ successor h3.
-      has_then _ _ (u16_takes size successor.1 h3.rest_fits) (λ channel_count h4.
-      has_then _ _ (branch_count_takes size channel_count.1 h4.rest_fits) (λ branch_count h5.
-      has_then _ _ (channels_take size channel_count.0 branch_count.1 h5.rest_fits) (λ channels h6.
-      has_then _ _ (branches_take before branch_count.0 channels.1 h6.rest_fits) (λ branches h7.
-      let made : Par =
-      record {
-        context = context.0;
-        depth = depth.0;
-        block = block.0;
-        successor = successor.0;
-        channels = channels.0;
-        branches = branches.0;
-      } in
-      let kept : ParKeeps own code_len before made = record {
-        context_fits = h0.keeps.0;
-        context = h0.keeps.1;
-        depth_fits = h1.keeps;
-        block_fits = h2.keeps;
-        successor_some = h3.keeps.0;
-        successor_in_code = h3.keeps.1;
-        channel_count = rw h6.keeps.0 h4.keeps;
-        has_branch = rw h7.keeps.0 h5.keeps.0;
-        branch_limit = rw h7.keeps.0 h5.keeps.1;
-        channels = h6.keeps.1;
-        branches = h7.keeps.1;
-      } in
-      let p1 = u16_bytes context.0 ++ i32_bytes depth.0 in
-      let p2 = p1 ++ i32_bytes block.0 in
-      let p3 = p2 ++ u32_bytes successor.0 in
-      let p4 = p3 ++ u16_bytes (length channels.0) in
-      let p5 = p4 ++ u16_bytes (length branches.0) in
-      let p6 = p5 ++ flat_map channel_bytes channels.0 in
-      let channels_counted : successor.1 ≡ u16_bytes (length channels.0) ++ channel_count.1 = rw h6.keeps.0 h4.parts in
-      let branches_counted : channel_count.1 ≡ u16_bytes (length branches.0) ++ branch_count.1 =
-      rw h7.keeps.0 h5.parts in
-      let j1 = join (u16_bytes context.0) (i32_bytes depth.0) depth.1 h0.parts h1.parts in
-      let j2 = join p1 (i32_bytes block.0) block.1 j1 h2.parts in
-      let j3 = join p2 (u32_bytes successor.0) successor.1 j2 h3.parts in
-      let j4 = join p3 (u16_bytes (length channels.0)) channel_count.1 j3 channels_counted in
-      let j5 = join p4 (u16_bytes (length branches.0)) branch_count.1 j4 branches_counted in
-      let j6 = join p5 (flat_map channel_bytes channels.0) channels.1 j5 h6.parts in
-      let parts : bytes ≡ par_bytes made ++ branches.1 =
-      join p6 (flat_map branch_bytes branches.0) branches.1 j6 h7.parts in
-      has_ok (made, branches.1) (record { parts = parts; rest_fits = h7.rest_fits; keeps = kept })))))))))
+      field (nothing_taken fits) (context_number_takes size (own + length before.entries) _) (λ context h0 t0.
+      field t0 (int_takes size _) (λ depth h1 t1.
+      field t1 (int_takes size _) (λ block h2 t2.
+      field t2 (in_code_takes size code_len _) (λ successor h3 t3.
+      field t3 (u16_takes size _) (λ channel_count h4 t4.
+      field t4 (branch_count_takes size _) (λ branch_count h5 t5.
+      field t5 (channels_take size channel_count.0 _) (λ channels h6 t6.
+      field t6 (branches_take before branch_count.0 _) (λ branches h7 t7.
+      has_ok _ (record {
+        parts = rw (h6.0, h7.0) t7.parts;
+        rest_fits = t7.rest_fits;
+        keeps = record {
+          context_fits = h0.0;
+          context = h0.1;
+          depth_fits = h1;
+          block_fits = h2;
+          successor_some = h3.0;
+          successor_in_code = h3.1;
+          channel_count = rw h6.0 h4;
+          has_branch = rw h7.0 h5.0;
+          branch_limit = rw h7.0 h5.1;
+          channels = h6.1;
+          branches = h7.1;
+        };
+      })))))))))
 
   par_again : code_len < 2 ^ 32 → (before : Before) (row : Par) (rest : List ℕ) → ParKeeps own code_len before row
       → par_row_at size own code_len before (par_bytes row ++ rest) ≡ Ok (row, rest)

@@ -29,6 +29,7 @@ use Rattle.module_format.specs.ReadingRows.{kind_at, parameter_word_at, paramete
 use Rattle.module_format.specs.ReadingRows.{frame_end_at, rising_at, procedure_row_at, procedure_rows_at}
 use Rattle.module_format.specs.ReadingRows.{table_start_at, table_end_at, is_within, table_row_at, table_rows_at}
 use Rattle.module_format.proofs.Tools.{Has, has_ok, has_err, has_then, has_if, has_cond, has_weaker, step, Spelled}
+use Rattle.module_format.proofs.Tools.{nothing_taken, field, regroup, all_taken}
 use Rattle.module_format.proofs.Tools.{join, tested_takes, tested_again, list_takes, list_again}
 use Rattle.module_format.proofs.FieldLaws.{IsBytes-rest, wide16, wide64, number_takes, number_again, limited_takes}
 use Rattle.module_format.proofs.FieldLaws.{limited_again, u32_takes, u32_again, positive_takes, positive_again}
@@ -212,17 +213,9 @@ module _ (size : ℕ) (version : Version) (hi : ℤ) where
       (Spelled bytes (parameter_bytes version) (ParameterKeeps version hi low))
   unfolding parameter_at parameter_bytes
   parameter_takes low bytes fits =
-      has_then _ _ (parameter_word_takes low bytes fits) (λ word h.
-      has_then _ _ (kind_takes size version word.1 h.rest_fits) (λ kind g.
-      let made : Parameter = record { word = word.0; kind = kind.0 } in
-      let kept : ParameterKeeps version hi low made =
-      record { rises = h.keeps.0; inside = h.keeps.1; kind = g.keeps } in
-      has_ok (made, kind.1) (record {
-        parts = join (u16_bytes word.0)
-            (kind_bytes version kind.0) kind.1 h.parts g.parts;
-        rest_fits = g.rest_fits;
-        keeps = kept;
-      })))
+      field (nothing_taken fits) (parameter_word_takes low _) (λ word h t.
+      field t (kind_takes size version _) (λ kind g u.
+      all_taken u (record { rises = h.0; inside = h.1; kind = g })))
 
   parameters_take : (bytes : List ℕ) → IsBytes bytes
       → Has (parameters_at size version hi bytes)
@@ -289,26 +282,6 @@ module _ (size : ℕ) where
     bounded_again n rest fits above below =
         tested_again _ _ _ _ (int_again size n rest fits) (rw (int_le-le _ _ above, int_le-le _ _ below) refl)
 
-  frame_start_takes : (bytes : List ℕ) → IsBytes bytes
-      → Has (frame_start_at size bytes) (Spelled bytes i32_bytes (λ lo. (negsuc 16383 ≤ℤ lo) × (lo ≤ℤ pos 0)))
-  unfolding frame_start_at
-  frame_start_takes bytes fits = bounded_takes (negsuc 16383) (pos 0) bytes fits
-
-  frame_start_again : (lo : ℤ) (rest : List ℕ) → FitsSigned w32 lo → negsuc 16383 ≤ℤ lo → lo ≤ℤ pos 0
-      → frame_start_at size (i32_bytes lo ++ rest) ≡ Ok (lo, rest)
-  unfolding frame_start_at
-  frame_start_again lo rest fits above below = bounded_again (negsuc 16383) (pos 0) lo rest fits above below
-
-  frame_end_takes : (bytes : List ℕ) → IsBytes bytes
-      → Has (frame_end_at size bytes) (Spelled bytes i32_bytes (λ hi. (pos 4 ≤ℤ hi) × (hi ≤ℤ pos 16384)))
-  unfolding frame_end_at
-  frame_end_takes bytes fits = bounded_takes (pos 4) (pos 16384) bytes fits
-
-  frame_end_again : (hi : ℤ) (rest : List ℕ) → FitsSigned w32 hi → pos 4 ≤ℤ hi → hi ≤ℤ pos 16384
-      → frame_end_at size (i32_bytes hi ++ rest) ≡ Ok (hi, rest)
-  unfolding frame_end_at
-  frame_end_again hi rest fits above below = bounded_again (pos 4) (pos 16384) hi rest fits above below
-
   rising_takes : (code_len low : ℕ) (bytes : List ℕ) → IsBytes bytes
       → Has (rising_at size code_len low bytes) (Spelled bytes u32_bytes (λ n. (low < n) × (n < code_len)))
   unfolding rising_at
@@ -326,34 +299,24 @@ module _ (size : ℕ) (version : Version) (code_len : ℕ) where
   procedure_takes : (low : ℕ) (bytes : List ℕ) → IsBytes bytes
       → Has (procedure_row_at size version code_len low bytes)
       (Spelled bytes (procedure_bytes version) (ProcedureKeeps version code_len low))
-  unfolding procedure_row_at procedure_bytes
+  unfolding procedure_row_at frame_start_at frame_end_at procedure_bytes
   procedure_takes low bytes fits =
-      has_then _ _ (rising_takes size code_len low bytes fits) (λ entry h0.
-      has_then _ _ (frame_start_takes size entry.1 h0.rest_fits) (λ lo h1.
-      has_then _ _ (frame_end_takes size lo.1 h1.rest_fits) (λ hi h2.
-      has_then _ _ (number_takes size 8 u64_bytes (2 ^ 64) wide64 hi.1 h2.rest_fits) (λ number h3.
-      has_then _ _ (parameters_take size version hi.0 number.1 h3.rest_fits) (λ ps h4.
-      let made : Procedure = record { entry = entry.0; lo = lo.0; hi = hi.0; number = number.0; parameters = ps.0 } in
-      let kept : ProcedureKeeps version code_len low made = record {
-        rises = h0.keeps.0;
-        in_code = h0.keeps.1;
-        lo_low = h1.keeps.0;
-        lo_high = h1.keeps.1;
-        hi_low = h2.keeps.0;
-        hi_high = h2.keeps.1;
-        number_fits = h3.keeps;
-        few = h4.keeps.0;
-        parameters = h4.keeps.1;
-      } in
-      let j1 = join (u32_bytes entry.0) (i32_bytes lo.0) lo.1 h0.parts h1.parts in
-      let j2 = join (u32_bytes entry.0 ++ i32_bytes lo.0) (i32_bytes hi.0) hi.1 j1 h2.parts in
-      let j3 = join (u32_bytes entry.0 ++ i32_bytes lo.0 ++ i32_bytes hi.0) (u64_bytes number.0) number.1 j2 h3.parts in
-      let front = u32_bytes entry.0 ++ i32_bytes lo.0 ++ i32_bytes hi.0 ++ u64_bytes number.0 in
-      let last = u16_bytes (length ps.0) ++ flat_map (parameter_bytes version) ps.0 in
-      let j4 = join front last ps.1 j3 h4.parts in
-      let regrouped : front ++ last ≡ procedure_bytes version made = simp append_assoc in
-      let parts : bytes ≡ procedure_bytes version made ++ ps.1 = j4 ∙ ap (λ (t : List ℕ). t ++ ps.1) regrouped in
-      has_ok (made, ps.1) (record { parts = parts; rest_fits = h4.rest_fits; keeps = kept }))))))
+      field (nothing_taken fits) (rising_takes size code_len low _) (λ entry h0 t0.
+      field t0 (bounded_takes size (negsuc 16383) (pos 0) _) (λ lo h1 t1.
+      field t1 (bounded_takes size (pos 4) (pos 16384) _) (λ hi h2 t2.
+      field t2 (number_takes size 8 u64_bytes (2 ^ 64) wide64 _) (λ number h3 t3.
+      field t3 (parameters_take size version hi.0 _) (λ ps h4 t4.
+      all_taken (regroup (simp append_assoc) t4) (record {
+        rises = h0.0;
+        in_code = h0.1;
+        lo_low = h1.0;
+        lo_high = h1.1;
+        hi_low = h2.0;
+        hi_high = h2.1;
+        number_fits = h3;
+        few = h4.0;
+        parameters = h4.1;
+      }))))))
 
   pub procedures_take : (count : ℕ) (bytes : List ℕ) → IsBytes bytes
       → Has (procedure_rows_at size version code_len count bytes)
@@ -366,7 +329,7 @@ module _ (size : ℕ) (version : Version) (code_len : ℕ) where
   module _ (small : code_len < 2 ^ 32) where
     procedure_again : (low : ℕ) (row : Procedure) (rest : List ℕ) → ProcedureKeeps version code_len low row
         → procedure_row_at size version code_len low (procedure_bytes version row ++ rest) ≡ Ok (row, rest)
-    unfolding procedure_row_at procedure_bytes
+    unfolding procedure_row_at frame_start_at frame_end_at procedure_bytes
     procedure_again low row rest h =
         let tail4 = u16_bytes (length row.parameters) ++ (flat_map (parameter_bytes version) row.parameters ++ rest) in
         let tail3 = u64_bytes row.number ++ tail4 in
@@ -378,8 +341,8 @@ module _ (size : ℕ) (version : Version) (code_len : ℕ) where
         let hi_fits : FitsSigned w32 row.hi = let low = h.hi_low in let high = h.hi_high in omega (arith, ints) in
         ap (procedure_row_at size version code_len low) regrouped
         ∙ step _ (rising_again size code_len low row.entry tail1 fits h.rises h.in_code)
-        (step _ (frame_start_again size row.lo tail2 lo_fits h.lo_low h.lo_high)
-        (step _ (frame_end_again size row.hi tail3 hi_fits h.hi_low h.hi_high)
+        (step _ (bounded_again size (negsuc 16383) (pos 0) row.lo tail2 lo_fits h.lo_low h.lo_high)
+        (step _ (bounded_again size (pos 4) (pos 16384) row.hi tail3 hi_fits h.hi_low h.hi_high)
         (step _ (number_again size 8 u64_bytes (2 ^ 64) wide64 row.number tail4 h.number_fits)
         (step _ (parameters_again size version row.hi h.hi_high row.parameters rest h.few h.parameters) refl))))
 
@@ -443,29 +406,22 @@ module _ (size : ℕ) (constants : List ℕ) where
       → Has (table_row_at size constants low bytes) (Spelled bytes table_row_bytes (TableKeeps constants low))
   unfolding table_row_at table_row_bytes
   table_takes low bytes fits =
-      has_then _ _ (table_start_takes size low bytes fits) (λ start h0.
-      has_then _ _ (table_end_takes size (length constants) start.0 start.1 h0.rest_fits) (λ end h1.
+      field (nothing_taken fits) (table_start_takes size low _) (λ start h0 t0.
+      field t0 (table_end_takes size (length constants) start.0 _) (λ end h1 t1.
       let words = words_of (take (end.0 - start.0) (drop start.0 constants)) in
-      let read = tested_takes {Q = λ r. IsInterval r.0 r.1 × AllByRecursion (IsWithin r.0 r.1) words} _ _ _ _
-      (interval_takes size end.1 h1.rest_fits) (λ r ordered within. (ordered, all_within r.0 r.1 words within)) in
-      has_then _ _ read (λ range h2.
-      let made : TableRow = record { start = start.0; end = end.0; lo = range.0.0; hi = range.0.1 } in
-      let kept : TableKeeps constants low made = record {
-        start_aligned = h0.keeps.0;
-        apart = h0.keeps.1;
-        end_aligned = h1.keeps.0;
-        ordered = h1.keeps.1;
-        inside = h1.keeps.2;
-        range = h2.keeps.0;
-        words = h2.keeps.1;
-      } in
-      let front = join (u32_bytes start.0) (u32_bytes end.0) end.1 h0.parts h1.parts in
-      let whole = join (u32_bytes start.0 ++ u32_bytes end.0)
-      (i32_bytes range.0.0 ++ i32_bytes range.0.1) range.1 front h2.parts in
-      let regrouped : (u32_bytes start.0 ++ u32_bytes end.0) ++ (i32_bytes range.0.0 ++ i32_bytes range.0.1)
-      ≡ table_row_bytes made = simp append_assoc in
-      let parts : bytes ≡ table_row_bytes made ++ range.1 = whole ∙ ap (λ (t : List ℕ). t ++ range.1) regrouped in
-      has_ok (made, range.1) (record { parts = parts; rest_fits = h2.rest_fits; keeps = kept }))))
+      let range_takes = λ (some : IsBytes end.1).
+      tested_takes {Q = λ r. IsInterval r.0 r.1 × AllByRecursion (IsWithin r.0 r.1) words} _ _ _ _
+      (interval_takes size end.1 some) (λ r ordered within. (ordered, all_within r.0 r.1 words within)) in
+      field t1 range_takes (λ range h2 t2.
+      all_taken (regroup (simp append_assoc) t2) (record {
+        start_aligned = h0.0;
+        apart = h0.1;
+        end_aligned = h1.0;
+        ordered = h1.1;
+        inside = h1.2;
+        range = h2.0;
+        words = h2.1;
+      }))))
 
   pub tables_take : (count : ℕ) (bytes : List ℕ) → IsBytes bytes
       → Has (table_rows_at size constants count bytes)

@@ -23,6 +23,7 @@ use Rattle.module_format.specs.Reading.{and_then, fault, place, byte_at, list_at
 use Rattle.module_format.specs.ReadingRows.{range_at, step_at, pointer_at, code_address_at, count_at, loop_at, fact_at}
 use Rattle.module_format.specs.ReadingRows.{register_at, word_at, first_word_at, span_at, entry_at, entries_at}
 use Rattle.module_format.specs.ReadingRows.{label_offset_at, registers_at, label_row_at, label_rows_at}
+use Rattle.module_format.proofs.Tools.{nothing_taken, field, regroup, all_taken}
 use Rattle.module_format.proofs.Tools.{Has, has_ok, has_err, has_then, has_if, has_cond, has_weaker, step, Spelled}
 use Rattle.module_format.proofs.Tools.{join, tested_takes, tested_again, list_takes, list_again}
 use Rattle.module_format.proofs.FieldLaws.{IsBytes-rest, eqb-false, eqb-differ, int_le-true, int_le-le, wide16, wide64}
@@ -296,22 +297,10 @@ module _ (size code_len : ℕ) where
       → Has (entry_at size code_len low bytes) (Spelled bytes entry_bytes (EntryKeeps code_len low))
   unfolding entry_at entry_bytes
   entry_takes low bytes fits =
-      has_then _ _ (first_word_takes size low bytes fits) (λ word h.
-      has_then _ _ (span_takes size word.1 h.rest_fits) (λ span g.
-      has_then _ _ (word_takes size code_len span.0 span.1 g.rest_fits) (λ fact k.
-      let made : Entry = record { word = word.0; span = span.0; fact = fact.0 } in
-      let kept : EntryKeeps code_len low made =
-      record {
-        word_fits = h.keeps.0;
-        apart = h.keeps.1;
-        span_fits = g.keeps.0;
-        spans = g.keeps.1;
-        fact = k.keeps;
-      } in
-      let front = join (i32_bytes word.0) (u32_bytes span.0) span.1 h.parts g.parts in
-      let parts : bytes ≡ entry_bytes made ++ fact.1 =
-      join (i32_bytes word.0 ++ u32_bytes span.0) (fact_bytes fact.0) fact.1 front k.parts in
-      has_ok (made, fact.1) (record { parts = parts; rest_fits = k.rest_fits; keeps = kept }))))
+      field (nothing_taken fits) (first_word_takes size low _) (λ word h t.
+      field t (span_takes size _) (λ span g u.
+      field u (word_takes size code_len span.0 _) (λ fact k v.
+      all_taken v (record { word_fits = h.0; apart = h.1; span_fits = g.0; spans = g.1; fact = k }))))
 
   entries_take : (bytes : List ℕ) → IsBytes bytes
       → Has (entries_at size code_len bytes)
@@ -391,59 +380,28 @@ module _ (size code_len : ℕ) (procedures : List Procedure) where
       (λ s. RegisterKeeps code_len s.a × RegisterKeeps code_len s.b × RegisterKeeps code_len s.c))
   unfolding registers_at
   registers_take bytes fits =
-      has_then _ _ (register_takes size code_len bytes fits) (λ a h.
-      has_then _ _ (register_takes size code_len a.1 h.rest_fits) (λ b g.
-      has_then _ _ (register_takes size code_len b.1 g.rest_fits) (λ c k.
-      let front = join (fact_bytes a.0) (fact_bytes b.0) b.1 h.parts g.parts in
-      let parts : bytes ≡ (fact_bytes a.0 ++ fact_bytes b.0 ++ fact_bytes c.0) ++ c.1 =
-      join (fact_bytes a.0 ++ fact_bytes b.0) (fact_bytes c.0) c.1 front k.parts in
-      let stack : Stack Fact = record { a = a.0; b = b.0; c = c.0 } in
-      has_ok (stack, c.1) (record { parts = parts; rest_fits = k.rest_fits; keeps = (h.keeps, g.keeps, k.keeps) }))))
+      field (nothing_taken fits) (register_takes size code_len _) (λ a h t.
+      field t (register_takes size code_len _) (λ b g u.
+      field u (register_takes size code_len _) (λ c k v. all_taken v (h, g, k))))
 
   label_takes : (low : ℕ) (bytes : List ℕ) → IsBytes bytes
       → Has (label_row_at size code_len procedures low bytes)
       (Spelled bytes label_bytes (LabelKeeps code_len procedures low))
   unfolding label_row_at label_bytes
   label_takes low bytes fits =
-      has_then _ _ (label_offset_takes low bytes fits) (λ offset h0.
-      has_then _ _ (number_takes size 2 u16_bytes (2 ^ 16) wide16 offset.1 h0.rest_fits) (λ context h1.
-      has_then _ _ (int_takes size context.1 h1.rest_fits) (λ depth h2.
-      has_then _ _ (number_takes size 8 u64_bytes (2 ^ 64) wide64 depth.1 h2.rest_fits) (λ number h3.
-      has_then _ _ (registers_take number.1 h3.rest_fits) (λ r h4.
-      has_then _ _ (entries_take size code_len r.1 h4.rest_fits) (λ es h5.
-      let made : Label = record {
-        offset = offset.0;
-        context = context.0;
-        depth = depth.0;
-        number = number.0;
-        stack = r.0;
-        entries = es.0;
-      } in
-      let kept : LabelKeeps code_len procedures low made = record {
-        offset = h0.keeps;
-        context_fits = h1.keeps;
-        depth_fits = h2.keeps;
-        number_fits = h3.keeps;
-        facts = record {
-          a = h4.keeps.0;
-          b = h4.keeps.1;
-          c = h4.keeps.2;
-          count_fits = h5.keeps.0;
-          entries = h5.keeps.1;
-        };
-      } in
-      let j1 = join (u32_bytes offset.0) (u16_bytes context.0) context.1 h0.parts h1.parts in
-      let j2 = join (u32_bytes offset.0 ++ u16_bytes context.0) (i32_bytes depth.0) depth.1 j1 h2.parts in
-      let j3 = join (u32_bytes offset.0 ++ u16_bytes context.0 ++ i32_bytes depth.0)
-      (u64_bytes number.0) number.1 j2 h3.parts in
-      let front = u32_bytes offset.0 ++ u16_bytes context.0 ++ i32_bytes depth.0 ++ u64_bytes number.0 in
-      let facts3 = fact_bytes r.0.a ++ fact_bytes r.0.b ++ fact_bytes r.0.c in
-      let last = u16_bytes (length es.0) ++ flat_map entry_bytes es.0 in
-      let j4 = join front facts3 r.1 j3 h4.parts in
-      let j5 = join (front ++ facts3) last es.1 j4 h5.parts in
-      let regrouped : (front ++ facts3) ++ last ≡ label_bytes made = simp append_assoc in
-      let parts : bytes ≡ label_bytes made ++ es.1 = j5 ∙ ap (λ (t : List ℕ). t ++ es.1) regrouped in
-      has_ok (made, es.1) (record { parts = parts; rest_fits = h5.rest_fits; keeps = kept })))))))
+      field (nothing_taken fits) (label_offset_takes low _) (λ offset h0 t0.
+      field t0 (number_takes size 2 u16_bytes (2 ^ 16) wide16 _) (λ context h1 t1.
+      field t1 (int_takes size _) (λ depth h2 t2.
+      field t2 (number_takes size 8 u64_bytes (2 ^ 64) wide64 _) (λ number h3 t3.
+      field t3 (registers_take _) (λ r h4 t4.
+      field t4 (entries_take size code_len _) (λ es h5 t5.
+      all_taken (regroup (simp append_assoc) t5) (record {
+        offset = h0;
+        context_fits = h1;
+        depth_fits = h2;
+        number_fits = h3;
+        facts = record { a = h4.0; b = h4.1; c = h4.2; count_fits = h5.0; entries = h5.1 };
+      })))))))
 
   pub labels_take : (count : ℕ) (bytes : List ℕ) → IsBytes bytes
       → Has (label_rows_at size code_len procedures count bytes)

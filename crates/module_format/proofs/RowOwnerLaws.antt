@@ -1,6 +1,6 @@
 -- What the branches of each PAR row belong to.
 use Rattle.std.proofs.Common.{◌≡◌, ℕ, zero, suc, ◌+◌, ◌-◌, ◌^◌, ◌<◌, ◌≤◌, leb, true, false, List, [], ◌∷◌, ◌++◌, length}
-use Rattle.std.proofs.Common.{vec_len, take, get_or, Some, refl, sym, ap, subst, ◌∙◌, inl, inr, add-one, arith}
+use Rattle.std.proofs.Common.{vec_len, take, get_or, Some, refl, sym, subst, ◌∙◌, inl, inr, add-one, arith}
 use Rattle.std.specs.Prelude.{slice_get}
 use Rattle.std.specs.List.Sorted.{IsNonDecreasingBy, IsPartitionPoint}
 use Rattle.std.proofs.lemmas.Bool.{cases_lt, leb-true, leb-false}
@@ -30,9 +30,6 @@ rows_end_few c k few =
     let all : take (k + length c.pars) c.pars ≡ c.pars = take_all (k + length c.pars) c.pars (omega arith) in
     let most = rw all at (count_rises k (k + length c.pars) c.pars (omega arith)) in
     omega (arith, most, few)
-
-pub rows_end_all : (c : Contents) (k : ℕ) → k ≡ length c.pars → rows_end c k ≡ first_branch c + branch_count c.pars
-rows_end_all c k is = ap (λ (rows : List Par). first_branch c + branch_count rows) (take_all k c.pars (omega arith))
 
 -- ---- the row of a context
 

@@ -14,7 +14,7 @@ use Rattle.module_format.specs.Contents.{Label, Branch, Par}
 use Rattle.module_format.specs.Writable.{BranchIsWritable, ParIsWritable}
 use Rattle.module_format.specs.Spelling.{u16_bytes, u32_bytes, u64_bytes, i32_bytes, fact_bytes, entry_bytes}
 use Rattle.module_format.specs.Spelling.{label_bytes, channel_bytes, interval_bytes, end_kind_bytes, direction_byte}
-use Rattle.module_format.specs.Spelling.{end_bytes, branch_head, branch_bytes, par_bytes}
+use Rattle.module_format.specs.Spelling.{end_bytes, counts_bytes, branch_head, branch_bytes, par_bytes}
 
 -- a fact has its tag at least, and at most the bytes of a loop
 fact_spans : (f : Fact) → (1 ≤ length (fact_bytes f)) × (length (fact_bytes f) ≤ 17)
@@ -81,7 +81,7 @@ pub channels_size : (cs : List ChannelRow) → length (flat_map channel_bytes cs
 channels_size cs = all_sizes channel_bytes 8 channel_size cs
 
 head_size : (b : Branch) → length (branch_head b) ≡ 18
-unfolding branch_head u32_bytes i32_bytes u16_bytes
+unfolding branch_head counts_bytes u32_bytes i32_bytes u16_bytes
 head_size b = refl
 
 -- where the parameters and ends of a branch stand

@@ -86,6 +86,33 @@ tested_again read test kind at e passed = rw (e, passed) refl
 pub join : (a b s : List ℕ) {bytes r : List ℕ} → bytes ≡ a ++ r → r ≡ b ++ s → bytes ≡ (a ++ b) ++ s
 join a b s p q = p ∙ ap (λ (t : List ℕ). a ++ t) q ∙ sym (append_assoc a b s)
 
+-- what was taken from the front of bytes so far, and what is left
+pub record Taken (bytes taken rest : List ℕ) : Type 0 where
+  pub parts : bytes ≡ taken ++ rest
+  pub rest_fits : IsBytes rest
+
+pub nothing_taken : {bytes : List ℕ} → IsBytes bytes → Taken bytes [] bytes
+nothing_taken fits = record { parts = refl; rest_fits = fits }
+
+-- one field more
+pub field : {A B : Type 0} {bytes taken rest : List ℕ} {spelling : A → List ℕ} {P : A → Type 0} {R : B → Type 0}
+    {r : Read A} {k : A × List ℕ → Result B FormatFault}
+    → Taken bytes taken rest → (IsBytes rest → Has r (Spelled rest spelling P))
+    → ((x : A × List ℕ) → P x.0 → Taken bytes (taken ++ spelling x.0) x.1 → Has (k x) R) → Has (and_then r k) R
+field {taken = taken} {spelling = spelling} t one next =
+    has_then _ _ (one t.rest_fits) (λ x h.
+    next x h.keeps (record { parts = join taken (spelling x.0) x.1 t.parts h.parts; rest_fits = h.rest_fits }))
+
+-- what was taken, in other groups
+pub regroup : {bytes taken other rest : List ℕ} → taken ≡ other → Taken bytes taken rest → Taken bytes other rest
+regroup {rest = rest} same t =
+    record { parts = t.parts ∙ ap (λ (front : List ℕ). front ++ rest) same; rest_fits = t.rest_fits }
+
+-- and no more
+pub all_taken : {A : Type 0} {bytes rest : List ℕ} {spelling : A → List ℕ} {P : A → Type 0} {x : A}
+    → Taken bytes (spelling x) rest → P x → Has (Ok (x, rest)) (Spelled bytes spelling P)
+all_taken t kept = has_ok _ (record { parts = t.parts; rest_fits = t.rest_fits; keeps = kept })
+
 module _ {A S : Type 0} (item : S → List ℕ → Read A) (next : S → A → S) (spelling : A → List ℕ)
     (Keeps : S → A → Type 0) where
   -- a list of what an item's reader takes

@@ -3,7 +3,7 @@ use Rattle.std.proofs.Common.{◌≡◌, ℕ, ◌<◌, ◌^◌, arith, length, L
 use Rattle.std.specs.Prelude.{⊤}
 use Rattle.std.specs.List.{AllByRecursion}
 use Rattle.std.proofs.lemmas.List.Elements.{All-from_recursion}
-use Rattle.module_format.specs.Contents.{Procedure, Label, Branch, Par, Contents}
+use Rattle.module_format.specs.Contents.{Procedure, Label, Par, Contents}
 use Rattle.module_format.specs.Contexts.{first_branch}
 use Rattle.module_format.specs.Facts.{LabelKeeps, behind_label}
 use Rattle.module_format.specs.Procedures.{ProcedureKeeps, behind_procedure}
@@ -49,24 +49,13 @@ pub labels_writable : (c : Contents) → RowsKeep c
 labels_writable c k = each (LabelKeeps (length c.code) c.procedures) behind_label (λ row. length row.entries < 2 ^ 16)
     (λ low row h. h.facts.count_fits) 0 c.labels k.labels
 
-branch_writable : (code_len : ℕ) (before : Before) (b : Branch) → BranchKeeps code_len before b → BranchIsWritable b
-branch_writable code_len before b h =
-    let g = h.gifts in
-    record {
-      writes = g.write_count;
-      reads = g.read_count;
-      written_parameters = g.written_count;
-      read_parameters = g.read_parameter_count;
-      ends = g.end_count;
-    }
-
 par_writable : (own code_len : ℕ) (before : Before) (row : Par) → ParKeeps own code_len before row → ParIsWritable row
 par_writable own code_len before row h =
     record {
       channels = h.channel_count;
       branch_count = omega (arith, h.branch_limit);
       branches = each (BranchKeeps code_len) behind_branch BranchIsWritable
-          (branch_writable code_len) before row.branches h.branches;
+          (λ low b kept. kept.gifts.counts) before row.branches h.branches;
     }
 
 pub pars_writable : (c : Contents) → RowsKeep c → AllByRecursion ParIsWritable c.pars

@@ -1,6 +1,6 @@
 -- What a module file says, as plain data of lists and numbers. The fields are those of the tables in
 -- memory; facts, entries, parameters, channels, intervals, ends and table rows are the program's own types.
-use Rattle.std.specs.Prelude.{ℕ, ℤ, Bool, List, map, find, get_or, Option, ◌==◌}
+use Rattle.std.specs.Prelude.{ℕ, ◌^◌, ◌<◌, ℤ, Bool, List, map, length, find, get_or, Option, ◌==◌}
 use Rattle.module_format.specs.declared.fact.Fact.{Fact}
 use Rattle.module_format.specs.declared.stack.Stack.{Stack}
 use Rattle.module_format.specs.declared.rows.Parameter.{Parameter}
@@ -12,6 +12,7 @@ use Rattle.module_format.specs.declared.rows.TableRow.{TableRow}
 use Rattle.module_format.specs.declared.rows.ProcedureRow.{ProcedureRow}
 use Rattle.module_format.specs.declared.rows.LabelRow.{LabelRow}
 use Rattle.module_format.specs.declared.rows.BranchRow.{BranchRow}
+use Rattle.module_format.specs.declared.rows.BranchCounts.{BranchCounts}
 use Rattle.module_format.specs.declared.rows.ParRow.{ParRow}
 use Rattle.module_format.specs.declared.tables.Version.{Version}
 use Rattle.module_format.specs.declared.tables.Tables.{Tables}
@@ -42,6 +43,24 @@ pub record Branch : Type 0 where
   pub written_parameters : List ℕ
   pub read_parameters : List ℕ
   pub ends : List EndRow
+
+-- how many intervals, parameters and ends a branch has
+abbrev pub counts_of : Branch → BranchCounts
+counts_of b = record {
+  writes = length b.writes;
+  reads = length b.reads;
+  written_parameters = length b.written_parameters;
+  read_parameters = length b.read_parameters;
+  ends = length b.ends;
+}
+
+-- each of these numbers is written in two bytes
+pub record CountsFit (c : BranchCounts) : Type 0 where
+  pub writes : c.writes < 2 ^ 16
+  pub reads : c.reads < 2 ^ 16
+  pub written_parameters : c.written_parameters < 2 ^ 16
+  pub read_parameters : c.read_parameters < 2 ^ 16
+  pub ends : c.ends < 2 ^ 16
 
 -- a PAR
 pub record Par : Type 0 where

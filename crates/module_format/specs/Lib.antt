@@ -12,6 +12,7 @@ pub mod Procedures
 pub mod Pars
 pub mod Keeping
 pub mod Reading
+pub mod Meaning
 pub mod Taking
 pub mod ReadingRows
 pub mod ReadingPars

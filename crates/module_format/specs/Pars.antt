@@ -12,8 +12,10 @@ use Rattle.module_format.specs.declared.rows.Direction.TheVariants as directions
 use Rattle.module_format.specs.declared.rows.EndRow.{EndRow}
 use Rattle.module_format.specs.declared.rows.EndKey.{EndKey}
 use Rattle.module_format.specs.declared.limits.TheConstants.{MAX_BRANCHES, MAX_MESSAGE}
+use Rattle.module_format.specs.declared.tags.TheConstants.{END_FRAME_WORD, END_PARAMETER, END_LINK}
+use Rattle.module_format.specs.declared.tags.TheConstants.{DIRECTION_IN, DIRECTION_OUT}
 use Rattle.module_format.specs.Order.{InOrder, least_word}
-use Rattle.module_format.specs.Contents.{Branch, Par}
+use Rattle.module_format.specs.Contents.{Branch, counts_of, CountsFit, Par}
 
 -- ---- channels and intervals
 
@@ -60,9 +62,9 @@ abbrev pub behind_number : ℕ → ℕ → ℕ
 behind_number low number = number + 1
 
 abbrev pub kind_of : EndKind → ℕ
-kind_of (ends.FrameWord word) = 0
-kind_of (ends.Parameter number element) = 1
-kind_of (ends.Link link) = 2
+kind_of (ends.FrameWord word) = END_FRAME_WORD
+kind_of (ends.Parameter number element) = END_PARAMETER
+kind_of (ends.Link link) = END_LINK
 
 abbrev pub number_of : EndKind → ℤ
 number_of (ends.FrameWord word) = word
@@ -75,8 +77,8 @@ element_of (ends.Parameter number element) = element
 element_of (ends.Link link) = 0
 
 abbrev pub direction_number : Direction → ℕ
-direction_number directions.In = 1
-direction_number directions.Out = 2
+direction_number directions.In = DIRECTION_IN
+direction_number directions.Out = DIRECTION_OUT
 
 -- the four fields by which ends rise
 abbrev pub key_of : EndRow → EndKey
@@ -90,7 +92,7 @@ key_of e =
 
 -- below every end
 abbrev pub first_key : EndKey
-first_key = record { kind = 0; number = least_word; element = 0; direction = 0 }
+first_key = record { kind = END_FRAME_WORD; number = least_word; element = 0; direction = 0 }
 
 -- the first field in which two ends differ is greater in the second
 abbrev pub is_below : EndKey → EndKey → Bool
@@ -130,11 +132,7 @@ pub record IsBranchEntry (code_len : ℕ) (before : Before) (entry : ℕ) : Type
 
 -- what a branch is given
 pub record GiftsKeep (b : Branch) : Type 0 where
-  pub write_count : length b.writes < 2 ^ 16
-  pub read_count : length b.reads < 2 ^ 16
-  pub written_count : length b.written_parameters < 2 ^ 16
-  pub read_parameter_count : length b.read_parameters < 2 ^ 16
-  pub end_count : length b.ends < 2 ^ 16
+  pub counts : CountsFit (counts_of b)
   pub writes : InOrder IntervalKeeps behind_interval least_word b.writes
   pub reads : InOrder (ReadKeeps b.writes) behind_interval least_word b.reads
   pub written_parameters : InOrder NumberKeeps behind_number 0 b.written_parameters

@@ -12,7 +12,7 @@ use Rattle.module_format.specs.declared.rows.Direction.{Direction}
 use Rattle.module_format.specs.declared.rows.Direction.TheVariants as directions
 use Rattle.module_format.specs.declared.rows.EndRow.{EndRow}
 use Rattle.module_format.specs.declared.rows.EndKey.{EndKey}
-use Rattle.module_format.specs.declared.reading.branches.BranchCounts.{BranchCounts}
+use Rattle.module_format.specs.declared.rows.BranchCounts.{BranchCounts}
 use Rattle.module_format.specs.declared.limits.TheConstants.{MAX_BRANCHES, MAX_MESSAGE}
 use Rattle.module_format.specs.Order.{least_word}
 use Rattle.module_format.specs.Contents.{Branch, Par}

@@ -24,10 +24,11 @@ use Rattle.module_format.specs.declared.rows.EndKind.TheVariants as ends
 use Rattle.module_format.specs.declared.rows.Direction.{Direction}
 use Rattle.module_format.specs.declared.rows.Direction.TheVariants as directions
 use Rattle.module_format.specs.declared.rows.EndRow.{EndRow}
+use Rattle.module_format.specs.declared.rows.BranchCounts.{BranchCounts}
 use Rattle.module_format.specs.declared.rows.TableRow.{TableRow}
 use Rattle.module_format.specs.declared.tables.Version.{Version}
 use Rattle.module_format.specs.declared.tables.Version.TheVariants as versions
-use Rattle.module_format.specs.Contents.{Procedure, Label, Branch, Par, Contents}
+use Rattle.module_format.specs.Contents.{Procedure, Label, Branch, counts_of, Par, Contents}
 
 unfoldable pub u16_bytes : ℕ → List ℕ
 u16_bytes n = to_le_bytes w16 n
@@ -109,13 +110,15 @@ direction_byte directions.Out = DIRECTION_OUT
 unfoldable pub end_bytes : EndRow → List ℕ
 end_bytes e = end_kind_bytes e.kind ++ direction_byte e.direction ∷ []
 
+-- how many intervals, parameters and ends a branch has
+unfoldable pub counts_bytes : BranchCounts → List ℕ
+counts_bytes c =
+    u16_bytes c.writes ++ u16_bytes c.reads ++ u16_bytes c.written_parameters ++ u16_bytes c.read_parameters
+    ++ u16_bytes c.ends
+
 -- a branch's entry, workspace and numbers of items
 unfoldable pub branch_head : Branch → List ℕ
-branch_head row =
-    u32_bytes row.entry ++ i32_bytes row.workspace
-    ++ u16_bytes (length row.writes) ++ u16_bytes (length row.reads)
-    ++ u16_bytes (length row.written_parameters) ++ u16_bytes (length row.read_parameters)
-    ++ u16_bytes (length row.ends)
+branch_head row = u32_bytes row.entry ++ i32_bytes row.workspace ++ counts_bytes (counts_of row)
 
 unfoldable pub branch_bytes : Branch → List ℕ
 branch_bytes row =

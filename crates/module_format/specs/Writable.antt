@@ -2,18 +2,14 @@
 use Rattle.std.specs.Prelude.{◌≡◌, ◌<◌, ◌^◌, ℕ, false, List, ◌++◌, length}
 use Rattle.std.specs.List.{AllByRecursion}
 use Rattle.module_format.specs.declared.writing.writer.Writer.{Writer}
-use Rattle.module_format.specs.Contents.{Branch, Par}
+use Rattle.module_format.specs.Contents.{Branch, counts_of, CountsFit, Par}
 
 -- where memory has not run out after the bytes were written, it had not run out before, and they are at the end
 abbrev pub Writes : Writer → List ℕ → Writer → Type 0
 Writes old bytes new = new.failed ≡ false → (old.failed ≡ false) × (new.bytes.items ≡ old.bytes.items ++ bytes)
 
-pub record BranchIsWritable (b : Branch) : Type 0 where
-  pub writes : length b.writes < 2 ^ 16
-  pub reads : length b.reads < 2 ^ 16
-  pub written_parameters : length b.written_parameters < 2 ^ 16
-  pub read_parameters : length b.read_parameters < 2 ^ 16
-  pub ends : length b.ends < 2 ^ 16
+abbrev pub BranchIsWritable : Branch → Type 0
+BranchIsWritable b = CountsFit (counts_of b)
 
 pub record ParIsWritable (row : Par) : Type 0 where
   pub channels : length row.channels < 2 ^ 16

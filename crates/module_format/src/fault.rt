@@ -4,7 +4,7 @@ ghost use Rattle.std.specs.Prelude.{◌≡◌};
 ghost use Rattle.module_format.specs.declared.fault.ReadError.TheVariants.{Memory, Fault};
 ghost use Rattle.module_format.specs.Reading.{number_of, fault, out_of_memory, fault_of};
 
-use std::alloc::{AllocError, AllocFailed};
+use std::alloc::AllocError;
 
 /// A rule of the format that a file breaks.
 #[derive(Clone, Copy)]
@@ -121,14 +121,6 @@ impl From<AllocError> for ReadError {
     ghost from_gives = { λ _ e. e ≡ Memory };
 
     fn from(_e: AllocError) -> ReadError {
-        ReadError::Memory
-    }
-}
-
-impl<T: Drop> From<AllocFailed<T>> for ReadError {
-    ghost from_gives = { λ _ e. e ≡ Memory };
-
-    fn from(_e: AllocFailed<T>) -> ReadError {
         ReadError::Memory
     }
 }

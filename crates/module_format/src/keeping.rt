@@ -5,23 +5,29 @@ mod list;
 mod pars;
 mod procedures;
 
-ghost use Rattle.std.specs.Prelude.{◌≡◌, ◌↔◌, ◌≤◌, IsTrue, length};
+ghost use Rattle.std.specs.Prelude.{◌≡◌, ◌↔◌, ◌≤◌, IsTrue, map, length};
 ghost use Rattle.std.specs.List.{AllByRecursion};
-ghost use Rattle.module_format.specs.Contents.{contents_of};
-ghost use Rattle.module_format.specs.Order.{IsBytes};
+ghost use Rattle.module_format.specs.Contents.{contents_of, label_of, procedure_of};
+ghost use Rattle.module_format.specs.Facts.{LabelKeeps, behind_label};
+ghost use Rattle.module_format.specs.Offsets.{EntriesRise};
+ghost use Rattle.module_format.specs.Order.{InOrder, IsBytes};
 ghost use Rattle.module_format.specs.Keeping.{VersionKeeps, SizesKeep, BoundsKeep, LimitsKeep, RowsKeep, NamesAreThere};
 ghost use Rattle.module_format.specs.Keeping.{Keeps};
 
 use crate::contexts::Contexts;
-use crate::keeping::labels::labels_keep;
+pub(crate) use crate::keeping::labels::{facts_keep, offset_keeps, word_keeps};
+pub(crate) use crate::keeping::list::all_keep;
+pub(crate) use crate::keeping::pars::end_kind_keeps;
 use crate::keeping::pars::pars_keep;
-use crate::keeping::procedures::{procedures_keep, tables_keep};
+pub(crate) use crate::keeping::procedures::kind_keeps;
 use crate::limits::{
     MAX_BUDGET, MAX_CONSTANTS, MAX_DATA_WORDS, MAX_LABELS, MAX_MESSAGE, MAX_PARS, MAX_PROCEDURES,
     MAX_TABLES,
 };
+use crate::listed::{Code, Constants, Labelled};
 use crate::reading::{late_rows, max_code};
 use crate::row_owners::row_owners;
+use crate::rows::{LabelRow, ProcedureRow};
 use crate::tables::{Tables, Version};
 
 /// Whether there are no more bytes than a limit.
@@ -84,6 +90,19 @@ fn limits_keep(tables: &Tables) -> bool
         && tables.table_rows.len() <= MAX_TABLES as usize
 }
 
+/// The label rows.
+fn labels_keep(code_len: usize, procedures: &[ProcedureRow], rows: &[LabelRow]) -> bool
+    requires { EntriesRise procedures.now }
+    ensures { IsTrue result
+        ↔ InOrder (LabelKeeps code_len (map procedure_of procedures.now)) behind_label 0 (map label_of rows.now) }
+{
+    let code = Labelled {
+        code_len,
+        procedures,
+    };
+    all_keep(&code, 0, rows)
+}
+
 /// The rows, each by itself.
 fn rows_keep(tables: &Tables) -> bool
     requires sizes { SizesKeep (contents_of tables.now) }
@@ -91,10 +110,14 @@ fn rows_keep(tables: &Tables) -> bool
     ensures { IsTrue result ↔ RowsKeep (contents_of tables.now) }
 {
     let code_len = tables.code.len();
-    procedures_keep(tables.version, code_len, &tables.procedures)
+    let code = Code {
+        version: tables.version,
+        len: code_len,
+    };
+    all_keep(&code, 0, &tables.procedures)
         && labels_keep(code_len, &tables.procedures, &tables.labels)
         && pars_keep(tables.first_branch(), code_len, &tables.pars)
-        && tables_keep(tables.constants, &tables.table_rows)
+        && all_keep(&Constants(tables.constants), 0, &tables.table_rows)
 }
 
 /// What the rows name is there.

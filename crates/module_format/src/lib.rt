@@ -7,6 +7,7 @@ mod fault;
 mod keeping;
 mod laws;
 mod limits;
+mod listed;
 mod offset_set;
 mod offsets;
 mod places;

@@ -28,13 +28,24 @@ use crate::fault::FormatFault;
 use crate::places::Place;
 use crate::reading::file::tables_of;
 use crate::tables::Tables;
-pub use branches::meets_any;
-pub use facts::end_of;
+pub(crate) use branches::{meets_any, read_words};
+pub(crate) use cursor::Cursor;
+pub(crate) use ends::{
+    direction_of, end_kind, read_end_direction, read_end_element, read_end_kind, read_end_number,
+};
+pub(crate) use facts::{
+    LEAST_WORD, end_of, read_entries, read_first_word, read_registers, read_span, read_word_fact,
+};
 pub use header::max_code;
+pub(crate) use labels::read_label_offset;
 pub use late::late_rows;
 pub use pars::first_entry;
+pub(crate) use procedures::{
+    read_frame_end, read_frame_start, read_parameter_kind, read_parameter_word, read_parameters,
+    read_procedure_entry,
+};
 use std::alloc::Global;
-pub use table_rows::words_lie_within;
+pub(crate) use table_rows::{read_table_end, read_table_start, words_lie_within};
 
 /// What the bytes say, with the places of the branches, or the first fault in the order of the fields; but
 /// whether what rows name is there is looked at once all rows are read.

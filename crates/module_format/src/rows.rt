@@ -147,6 +147,35 @@ pub struct BranchRow {
     pub ends: Vec<EndRow>,
 }
 
+/// How many intervals, parameters and ends a branch has.
+#[derive(Clone, Copy)]
+pub struct BranchCounts {
+    pub writes: u16,
+    pub reads: u16,
+    pub written_parameters: u16,
+    pub read_parameters: u16,
+    pub ends: u16,
+}
+
+impl BranchRow {
+    ghost use Rattle.std.specs.Prelude.{◌≡◌};
+    ghost use Rattle.module_format.specs.Contents.{branch_of, counts_of, CountsFit};
+
+    /// How many of each it has.
+    pub(crate) fn counts(&self) -> BranchCounts
+        requires { CountsFit (counts_of (branch_of self.now)) }
+        ensures { result ≡ counts_of (branch_of self.now) }
+    {
+        BranchCounts {
+            writes: self.writes.len() as u16,
+            reads: self.reads.len() as u16,
+            written_parameters: self.written_parameters.len() as u16,
+            read_parameters: self.read_parameters.len() as u16,
+            ends: self.ends.len() as u16,
+        }
+    }
+}
+
 /// A PAR: the context and depth at which it stands, its join block's frame word, the code offset
 /// behind it, its channels and its branches.
 #[derive(Drop)]

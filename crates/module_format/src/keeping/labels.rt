@@ -1,17 +1,15 @@
-//! Facts, entries and label rows.
+//! Facts and the fields of label rows.
 
 ghost use Rattle.std.specs.Prelude.{◌≡◌, ◌↔◌, IsTrue, map};
 ghost use Rattle.module_format.specs.Contents.{label_of, procedure_of};
-ghost use Rattle.module_format.specs.Order.{InOrder, least_word};
 ghost use Rattle.module_format.specs.Offsets.{EntriesRise};
-ghost use Rattle.module_format.specs.Facts.{IsPointer, ValueKeeps, RegisterKeeps, WordKeeps, EntryKeeps, IsLabelOffset};
-ghost use Rattle.module_format.specs.Facts.{FactsKeep, LabelKeeps, behind_entry, behind_label};
+ghost use Rattle.module_format.specs.Facts.{IsPointer, ValueKeeps, RegisterKeeps, WordKeeps, IsLabelOffset, FactsKeep};
 
 use crate::fact::{Fact, Step};
-use crate::keeping::list::{Rule, all_keep};
+use crate::keeping::list::all_keep;
 use crate::offsets::is_entry;
-use crate::reading::end_of;
-use crate::rows::{Entry, LabelRow, ProcedureRow};
+use crate::reading::LEAST_WORD;
+use crate::rows::{LabelRow, ProcedureRow};
 use crate::rules::{is_loop_length, is_stepped, lies_after};
 
 /// A pointer's bounds and step.
@@ -50,7 +48,7 @@ fn register_keeps(code_len: usize, fact: &Fact) -> bool
 }
 
 /// A fact of `span` frame words.
-fn word_keeps(code_len: usize, span: u32, fact: &Fact) -> bool
+pub(crate) fn word_keeps(code_len: usize, span: u32, fact: &Fact) -> bool
     ensures { IsTrue result ↔ WordKeeps code_len span fact.now }
 {
     match *fact {
@@ -64,40 +62,13 @@ fn word_keeps(code_len: usize, span: u32, fact: &Fact) -> bool
     }
 }
 
-/// Entries, of words that no entry before has.
-#[derive(Drop)]
-struct EntryRule {
-    code_len: usize,
-}
-
-impl Rule for EntryRule {
-    type Item = Entry;
-
-    type Low = i64;
-
-    ghost Kept = { λ rule. EntryKeeps rule.code_len };
-
-    ghost behind = { behind_entry };
-
-    fn keeps(&self, low: i64, entry: &Entry) -> bool {
-        low <= i64::from(entry.word)
-            && entry.span > 0
-            && word_keeps(self.code_len, entry.span, &entry.fact)
-    }
-
-    fn after(&self, entry: &Entry) -> i64 {
-        end_of(entry)
-    }
-}
-
-fn entries_keep(code_len: usize, entries: &[Entry]) -> bool
-    ensures { IsTrue result ↔ InOrder (EntryKeeps code_len) behind_entry least_word entries.now }
-{
-    all_keep(&EntryRule { code_len }, i64::from(i32::MIN), entries)
-}
-
 /// The offset of a label row after one at offset `low`.
-fn offset_keeps(code_len: usize, procedures: &[ProcedureRow], low: u32, offset: u32) -> bool
+pub(crate) fn offset_keeps(
+    code_len: usize,
+    procedures: &[ProcedureRow],
+    low: u32,
+    offset: u32,
+) -> bool
     requires { EntriesRise procedures.now }
     ensures { IsTrue result ↔ IsLabelOffset code_len (map procedure_of procedures.now) low offset }
 {
@@ -105,52 +76,12 @@ fn offset_keeps(code_len: usize, procedures: &[ProcedureRow], low: u32, offset: 
 }
 
 /// The facts of a label row.
-fn facts_keep(code_len: usize, row: &LabelRow) -> bool
+pub(crate) fn facts_keep(code_len: usize, row: &LabelRow) -> bool
     ensures { IsTrue result ↔ FactsKeep code_len (label_of row.now) }
 {
     register_keeps(code_len, &row.stack.a)
         && register_keeps(code_len, &row.stack.b)
         && register_keeps(code_len, &row.stack.c)
         && row.entries.len() <= usize::from(u16::MAX)
-        && entries_keep(code_len, &row.entries)
-}
-
-/// Label rows in code of a module with these procedures.
-#[derive(Drop)]
-struct LabelRule<'p> {
-    code_len: usize,
-    procedures: &'p [ProcedureRow],
-    ghost rise: { EntriesRise procedures.now },
-}
-
-impl Rule for LabelRule<'_> {
-    type Item = LabelRow;
-
-    type Low = u32;
-
-    ghost Kept = { λ rule low row. LabelKeeps rule.code_len (map procedure_of rule.procedures.now) low (label_of row) };
-
-    ghost behind = { λ low row. behind_label low (label_of row) };
-
-    fn keeps(&self, low: u32, row: &LabelRow) -> bool {
-        let (_context, _depth, _number) = (row.context, row.depth, row.number);
-        offset_keeps(self.code_len, self.procedures, low, row.offset)
-            && facts_keep(self.code_len, row)
-    }
-
-    fn after(&self, row: &LabelRow) -> u32 {
-        row.offset
-    }
-}
-
-pub(crate) fn labels_keep(code_len: usize, procedures: &[ProcedureRow], rows: &[LabelRow]) -> bool
-    requires { EntriesRise procedures.now }
-    ensures { IsTrue result
-        ↔ InOrder (LabelKeeps code_len (map procedure_of procedures.now)) behind_label 0 (map label_of rows.now) }
-{
-    let rule = LabelRule {
-        code_len,
-        procedures,
-    };
-    all_keep(&rule, 0, rows)
+        && all_keep(&code_len, LEAST_WORD, &row.entries)
 }

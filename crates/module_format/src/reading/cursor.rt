@@ -4,10 +4,12 @@ ghost use Rattle.module_format.specs.Order.{IsBytes};
 
 use crate::fault::{FormatFault, FormatFaultKind, ReadError};
 use byteorder::{ByteOrder, LittleEndian};
+use std::alloc::Global;
 
 /// What is left of a file. Once it has failed, it reads nothing and keeps that failure.
 #[derive(Drop)]
 pub(crate) struct Cursor<'a> {
+    alloc: Global,
     failure: Option<ReadError>,
     rest: &'a [u8],
     size: usize,
@@ -23,16 +25,24 @@ impl<'a> Cursor<'a> {
     ghost use Rattle.module_format.specs.Reading.{place, number_at, int_at, byte_at, bytes_at};
 
     /// At the front of a file.
-    pub(crate) fn new(bytes: &'a [u8]) -> Cursor<'a>
+    pub(crate) fn new(alloc: Global, bytes: &'a [u8]) -> Cursor<'a>
         ensures failure { result.failure ≡ None }
         ensures size { result.size ≡ length bytes.now }
         ensures rest { result.rest.now ≡ bytes.now }
     {
         Cursor {
+            alloc,
             failure: None,
             rest: bytes,
             size: bytes.len(),
         }
+    }
+
+    /// The allocator of what is read.
+    pub(crate) fn alloc(&self) -> Global
+        ensures { result ≡ self.now.alloc }
+    {
+        self.alloc
     }
 
     /// The offset in the file of what is left of it.

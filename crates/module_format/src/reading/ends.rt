@@ -1,22 +1,18 @@
 //! Channel ends that a branch is given.
 
-ghost use Rattle.std.specs.Prelude.{◌≡◌, ⊤, true};
-ghost use Rattle.module_format.specs.declared.rows.EndKey.{EndKey};
-ghost use Rattle.module_format.specs.declared.rows.EndRow.{EndRow};
-ghost use Rattle.module_format.specs.Pars.{behind_end};
+ghost use Rattle.std.specs.Prelude.{◌≡◌, true};
 ghost use Rattle.module_format.specs.ReadingPars.{end_kind_at, is_number_of, end_number_at, end_element_at};
-ghost use Rattle.module_format.specs.ReadingPars.{end_direction_at, end_kind, direction_of, end_at};
+ghost use Rattle.module_format.specs.ReadingPars.{end_direction_at, end_kind, direction_of};
 ghost use Rattle.module_format.specs.Taking.{Takes};
 
 use crate::fault::FormatFaultKind;
 use crate::reading::cursor::Cursor;
-use crate::reading::list::Reader;
-use crate::rows::{Direction, EndKey, EndKind, EndRow};
+use crate::rows::{Direction, EndKey, EndKind};
 use crate::tags::{DIRECTION_IN, DIRECTION_OUT, END_FRAME_WORD, END_LINK, END_PARAMETER};
 
 /// A kind of end, which is not below that of the end before.
 #[tactic(auto, unfolding(crate::specs::ReadingPars::end_kind_at, crate::specs::Reading::tested))]
-fn read_end_kind(before: EndKey, from: &mut Cursor<'_>) -> u8
+pub(crate) fn read_end_kind(before: EndKey, from: &mut Cursor<'_>) -> u8
     ensures { Takes (λ size. end_kind_at size before) from.old result from.new }
 {
     let at = from.place();
@@ -35,7 +31,7 @@ fn is_number_of(kind: u8, number: i32) -> bool
 
 /// The number of an end of this kind.
 #[tactic(auto, unfolding(crate::specs::ReadingPars::end_number_at, crate::specs::Reading::tested))]
-fn read_end_number(before: EndKey, kind: u8, from: &mut Cursor<'_>) -> i32
+pub(crate) fn read_end_number(before: EndKey, kind: u8, from: &mut Cursor<'_>) -> i32
     ensures takes { Takes (λ size. end_number_at size before kind) from.old result from.new }
     ensures number { is_number_of kind result ≡ true }
 {
@@ -53,7 +49,7 @@ fn read_end_number(before: EndKey, kind: u8, from: &mut Cursor<'_>) -> i32
 
 /// The element of an end: only a parameter's has one.
 #[tactic(auto, unfolding(crate::specs::ReadingPars::end_element_at, crate::specs::Reading::tested))]
-fn read_end_element(before: EndKey, kind: u8, number: i32, from: &mut Cursor<'_>) -> u32
+pub(crate) fn read_end_element(before: EndKey, kind: u8, number: i32, from: &mut Cursor<'_>) -> u32
     ensures { Takes (λ size. end_element_at size before kind number) from.old result from.new }
 {
     let at = from.place();
@@ -72,7 +68,7 @@ fn read_end_element(before: EndKey, kind: u8, number: i32, from: &mut Cursor<'_>
 
 /// The direction of an end, behind its other fields.
 #[tactic(auto, unfolding(crate::specs::ReadingPars::end_direction_at, crate::specs::Reading::tested))]
-fn read_end_direction(
+pub(crate) fn read_end_direction(
     before: EndKey,
     kind: u8,
     number: i32,
@@ -96,7 +92,7 @@ fn read_end_direction(
 }
 
 /// What the fields of an end name.
-fn end_kind(kind: u8, number: i32, element: u32) -> EndKind
+pub(crate) fn end_kind(kind: u8, number: i32, element: u32) -> EndKind
     requires { is_number_of kind number ≡ true }
     ensures { result ≡ end_kind kind number element }
 {
@@ -107,52 +103,12 @@ fn end_kind(kind: u8, number: i32, element: u32) -> EndKind
     }
 }
 
-fn direction_of(direction: u8) -> Direction
+pub(crate) fn direction_of(direction: u8) -> Direction
     ensures { result ≡ direction_of direction }
 {
     if direction == DIRECTION_IN {
         Direction::In
     } else {
         Direction::Out
-    }
-}
-
-/// Ends, behind one with this key.
-#[derive(Drop)]
-pub(crate) struct EndRows {
-    pub before: EndKey,
-}
-
-impl Reader for EndRows {
-    type Item = EndRow;
-
-    ghost Fixed = { ⊤ };
-
-    ghost fixed = { λ r. tt };
-
-    ghost State = { EndKey };
-
-    ghost state = { λ r. r.before };
-
-    ghost Value = { EndRow };
-
-    ghost view = { λ e. e };
-
-    ghost reads = { λ f. end_at };
-
-    ghost behind = { behind_end };
-
-    #[tactic(auto, unfolding(crate::specs::ReadingPars::end_at, crate::specs::Reading::and_then))]
-    fn read(&mut self, from: &mut Cursor<'_>) -> EndRow {
-        let kind = read_end_kind(self.before, from);
-        let number = read_end_number(self.before, kind, from);
-        let element = read_end_element(self.before, kind, number, from);
-        let direction = read_end_direction(self.before, kind, number, element, from);
-        let end = EndRow {
-            kind: end_kind(kind, number, element),
-            direction: direction_of(direction),
-        };
-        self.before = end.key();
-        end
     }
 }

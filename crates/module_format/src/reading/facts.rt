@@ -1,24 +1,22 @@
 //! Facts and entries.
 
-ghost use Rattle.std.specs.Prelude.{◌≡◌, ℕ, ℤ};
-ghost use Rattle.module_format.specs.declared.rows.Entry.{Entry};
-ghost use Rattle.module_format.specs.Facts.{end_of, behind_entry};
+ghost use Rattle.std.specs.Prelude.{◌≡◌};
+ghost use Rattle.module_format.specs.Facts.{end_of};
 ghost use Rattle.module_format.specs.ReadingRows.{range_at, step_at, pointer_at, code_address_at, count_at, loop_at};
-ghost use Rattle.module_format.specs.ReadingRows.{fact_at, register_at, word_at, first_word_at, span_at, entry_at};
+ghost use Rattle.module_format.specs.ReadingRows.{fact_at, register_at, word_at, first_word_at, span_at};
 ghost use Rattle.module_format.specs.ReadingRows.{entries_at, registers_at};
 ghost use Rattle.module_format.specs.Taking.{Takes};
 
 use crate::fact::{Fact, Step};
 use crate::fault::FormatFaultKind;
 use crate::reading::cursor::Cursor;
-use crate::reading::list::{Reader, fill};
+use crate::reading::list::read_list;
 use crate::rows::Entry;
 use crate::rules::{is_loop_length, is_stepped};
 use crate::stack::Stack;
 use crate::tags::{
     TAG_CODE_ADDRESS, TAG_LOOP, TAG_NUMBER, TAG_POINTER, TAG_RETURN_ADDRESS, TAG_UNKNOWN,
 };
-use std::alloc::Global;
 
 /// No word is below it.
 pub(crate) const LEAST_WORD: i64 = -2_147_483_648;
@@ -68,7 +66,7 @@ fn read_pointer(from: &mut Cursor<'_>) -> Fact
 
 /// A code offset, the end of the code included.
 #[tactic(auto, unfolding(crate::specs::ReadingRows::code_address_at, crate::specs::Reading::and_then))]
-fn read_code_address(code_len: u32, from: &mut Cursor<'_>) -> Fact
+fn read_code_address(code_len: usize, from: &mut Cursor<'_>) -> Fact
     ensures { Takes (λ size. code_address_at size code_len) from.old result from.new }
 {
     let offset = from.at_most(code_len);
@@ -103,7 +101,7 @@ fn read_loop(from: &mut Cursor<'_>) -> Fact
 
 /// A fact that registers and words have alike, behind its tag at an offset.
 #[tactic(auto, unfolding(crate::specs::ReadingRows::fact_at))]
-fn read_common_fact(code_len: u32, at: usize, tag: u8, from: &mut Cursor<'_>) -> Fact
+fn read_common_fact(code_len: usize, at: usize, tag: u8, from: &mut Cursor<'_>) -> Fact
     ensures { Takes (λ size. fact_at size code_len at tag) from.old result from.new }
 {
     match tag {
@@ -119,7 +117,7 @@ fn read_common_fact(code_len: u32, at: usize, tag: u8, from: &mut Cursor<'_>) ->
 
 /// A fact of a register.
 #[tactic(auto, unfolding(crate::specs::ReadingRows::register_at, crate::specs::Reading::and_then))]
-fn read_register(code_len: u32, from: &mut Cursor<'_>) -> Fact
+fn read_register(code_len: usize, from: &mut Cursor<'_>) -> Fact
     ensures { Takes (λ size. register_at size code_len) from.old result from.new }
 {
     let at = from.place();
@@ -132,7 +130,7 @@ fn read_register(code_len: u32, from: &mut Cursor<'_>) -> Fact
 
 /// A fact of so many frame words.
 #[tactic(auto, unfolding(crate::specs::ReadingRows::word_at, crate::specs::Reading::and_then))]
-fn read_word_fact(code_len: u32, span: u32, from: &mut Cursor<'_>) -> Fact
+pub(crate) fn read_word_fact(code_len: usize, span: u32, from: &mut Cursor<'_>) -> Fact
     ensures { Takes (λ size. word_at size code_len span) from.old result from.new }
 {
     let at = from.place();
@@ -166,45 +164,8 @@ pub fn read_span(from: &mut Cursor<'_>) -> u32
     span
 }
 
-/// Entries of a label row.
-#[derive(Drop)]
-struct Entries {
-    code_len: u32,
-    low: i64,
-}
-
-impl Reader for Entries {
-    type Item = Entry;
-
-    ghost Fixed = { ℕ };
-
-    ghost fixed = { λ r. r.code_len };
-
-    ghost State = { ℤ };
-
-    ghost state = { λ r. r.low };
-
-    ghost Value = { Entry };
-
-    ghost view = { λ e. e };
-
-    ghost reads = { λ code_len size. entry_at size code_len };
-
-    ghost behind = { behind_entry };
-
-    #[tactic(auto, unfolding(crate::specs::ReadingRows::entry_at, crate::specs::Reading::and_then))]
-    fn read(&mut self, from: &mut Cursor<'_>) -> Entry {
-        let word = read_first_word(self.low, from);
-        let span = read_span(from);
-        let fact = read_word_fact(self.code_len, span, from);
-        let entry = Entry { word, span, fact };
-        self.low = end_of(&entry);
-        entry
-    }
-}
-
 /// The first word behind an entry.
-pub fn end_of(entry: &Entry) -> i64
+pub(crate) fn end_of(entry: &Entry) -> i64
     ensures { result ≡ end_of entry.now }
 {
     i64::from(entry.word) + i64::from(entry.span)
@@ -212,22 +173,16 @@ pub fn end_of(entry: &Entry) -> i64
 
 /// The entries of a label row, behind their number.
 #[tactic(auto, unfolding(crate::specs::ReadingRows::entries_at, crate::specs::Reading::and_then))]
-pub fn read_entries(alloc: Global, code_len: u32, from: &mut Cursor<'_>) -> Vec<Entry>
+pub fn read_entries(code_len: usize, from: &mut Cursor<'_>) -> Vec<Entry>
     ensures { Takes (λ size. entries_at size code_len) from.old result.items from.new }
 {
     let count = from.u16();
-    let mut reader = Entries {
-        code_len,
-        low: LEAST_WORD,
-    };
-    let mut entries = Vec::new(alloc);
-    fill(&mut reader, u32::from(count), &mut entries, from);
-    entries
+    read_list(&code_len, LEAST_WORD, u32::from(count), from)
 }
 
 /// The facts of A, B and C.
 #[tactic(auto, unfolding(crate::specs::ReadingRows::registers_at, crate::specs::Reading::and_then))]
-pub fn read_registers(code_len: u32, from: &mut Cursor<'_>) -> Stack<Fact>
+pub fn read_registers(code_len: usize, from: &mut Cursor<'_>) -> Stack<Fact>
     ensures { Takes (λ size. registers_at size code_len) from.old result from.new }
 {
     let a = read_register(code_len, from);

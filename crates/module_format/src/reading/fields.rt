@@ -53,23 +53,24 @@ impl Cursor<'_> {
 
     /// A u32 of which no value above `most` is allowed.
     #[tactic(auto, unfolding(crate::specs::Reading::at_most_at, crate::specs::Reading::tested))]
-    pub(crate) fn at_most(&mut self, most: u32) -> u32
+    pub(crate) fn at_most(&mut self, most: usize) -> u32
         ensures { Takes (λ size. at_most_at size most) self.old result self.new }
     {
         let at = self.place();
         let value = self.u32();
-        self.check(at, value <= most, FormatFaultKind::Range);
+        self.check(at, value as usize <= most, FormatFaultKind::Range);
         value
     }
 
     /// An offset in the code that isn't its first.
     #[tactic(auto, unfolding(crate::specs::Reading::in_code_at, crate::specs::Reading::tested))]
-    pub(crate) fn in_code(&mut self, code_len: u32) -> u32
+    pub(crate) fn in_code(&mut self, code_len: usize) -> u32
         ensures { Takes (λ size. in_code_at size code_len) self.old result self.new }
     {
         let at = self.place();
         let offset = self.u32();
-        self.check(at, offset != 0 && offset < code_len, FormatFaultKind::Range);
+        let is_inside = offset != 0 && (offset as usize) < code_len;
+        self.check(at, is_inside, FormatFaultKind::Range);
         offset
     }
 

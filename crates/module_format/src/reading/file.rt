@@ -10,6 +10,7 @@ ghost use Rattle.module_format.specs.Taking.{Takes, Concludes};
 
 use crate::contexts::Contexts;
 use crate::fault::{FormatFault, FormatFaultKind, ReadError};
+use crate::listed::Code;
 use crate::places::{Place, places_of};
 use crate::reading::cursor::Cursor;
 use crate::reading::header::{Header, read_header};
@@ -23,7 +24,7 @@ use std::alloc::Global;
 
 /// The code, the constants and the rows, with the offset of the label rows.
 #[tactic(auto, unfolding(crate::specs::ReadingFile::tables_at, crate::specs::Reading::and_then))]
-fn read_tables<'a>(alloc: Global, header: &Header, from: &mut Cursor<'a>) -> (Tables<'a>, usize)
+fn read_tables<'a>(header: &Header, from: &mut Cursor<'a>) -> (Tables<'a>, usize)
     ensures { Takes (λ size. tables_at size header.now) from.old (contents_of result.0, result.1) from.new }
 {
     let Header {
@@ -32,15 +33,19 @@ fn read_tables<'a>(alloc: Global, header: &Header, from: &mut Cursor<'a>) -> (Ta
         lengths,
         counts,
     } = *header;
-    let code_len = sizes.code_len;
-    let code = from.bytes(code_len);
+    let code = from.bytes(sizes.code_len);
+    let code_len = sizes.code_len as usize;
     let constants = from.bytes(sizes.const_len);
-    let procedures = read_procedure_rows(alloc, version, code_len, counts.procedures, from);
+    let place = Code {
+        version,
+        len: code_len,
+    };
+    let procedures = read_procedure_rows(&place, counts.procedures, from);
     let rows = from.place();
-    let labels = read_label_rows(alloc, code_len, &procedures, counts.labels, from);
+    let labels = read_label_rows(code_len, &procedures, counts.labels, from);
     let own = first_branch(&procedures);
-    let pars = read_par_rows(alloc, own, code_len, counts.pars, from);
-    let table_rows = read_table_rows(alloc, constants, counts.table_rows, from);
+    let pars = read_par_rows(own, code_len, counts.pars, from);
+    let table_rows = read_table_rows(constants, counts.table_rows, from);
     let tables = Tables {
         version,
         code,
@@ -90,9 +95,9 @@ pub fn tables_of(alloc: Global, bytes: &[u8]) -> Result<(Tables<'_>, Vec<Place>)
     ensures gives { Gives (λ x. contents_of x.0) result (read_contents bytes.now) }
     ensures places { IfOk result (λ x. ArePlaces (contents_of x.0) (branch_count (contents_of x.0).pars) x.1.items) }
 {
-    let mut from = Cursor::new(bytes);
+    let mut from = Cursor::new(alloc, bytes);
     let header = read_header(&mut from);
-    let (tables, rows) = read_tables(alloc, &header, &mut from);
+    let (tables, rows) = read_tables(&header, &mut from);
     let places = conclude(alloc, &tables, rows, &from)?;
     Ok((tables, places))
 }

@@ -57,9 +57,9 @@ fn read_sizes(version: Version, from: &mut Cursor<'_>) -> Sizes
     let code_len = from.positive(max_code(version));
     let const_len = from.limited_u32(MAX_CONSTANTS);
     let data_words = from.positive(MAX_DATA_WORDS);
-    let base = from.at_most(data_words);
+    let base = from.at_most(data_words as usize);
     let budget = from.limited_u64(MAX_BUDGET);
-    let finish = from.at_most(code_len);
+    let finish = from.at_most(code_len as usize);
     Sizes {
         code_len,
         const_len,

@@ -4,8 +4,8 @@ ghost use Rattle.std.specs.Prelude.{◌≡◌, ◌+◌, ◌^◌, ◌<◌, ◌≤
 ghost use Rattle.std.specs.List.{flat_map};
 ghost use Rattle.module_format.specs.declared.fault.FormatFault.{FormatFault};
 ghost use Rattle.module_format.specs.declared.fault.FormatFaultKind.TheVariants.{Range};
-ghost use Rattle.module_format.specs.declared.rows.Entry.{Entry};
-ghost use Rattle.module_format.specs.Contents.{Label, label_of};
+ghost use Rattle.module_format.specs.Contents.{label_of};
+ghost use Rattle.module_format.specs.Meaning.{Naming, naming};
 ghost use Rattle.module_format.specs.Spelling.{fact_bytes, entry_bytes, label_bytes, par_bytes};
 ghost use Rattle.module_format.specs.Reading.{fault, Tells};
 ghost use Rattle.module_format.specs.Late.{late_fact, late_entry, late_list, late_row, late_label, late_at};
@@ -26,22 +26,14 @@ pub(crate) fn not_there(offset: usize) -> FormatFault
 
 /// An item of a list, which is looked at in a context.
 pub(crate) trait Late<C>: Drop {
-    /// What an item says, apart from where it lies in memory.
-    ghost Value: { Type 0 };
-
-    ghost view: { Self → Value };
-
-    /// The bytes of an item in the file.
-    ghost spelled: { Value → List ℕ };
-
     /// Whether what the item at an offset names is there.
-    ghost looked: { C → ℕ → Value → Result ⊤ FormatFault };
+    ghost naming: { Naming C Self };
 
     /// Answers the offset behind the item.
     fn late(&self, context: &C, at: usize) -> Result<usize, FormatFault>
-        requires { at + length (spelled (view self.now)) < 2 ^ 64 }
-        ensures gives { Tells result (looked context.now at (view self.now)) }
-        ensures behind { IfOk result (λ end. end ≡ at + length (spelled (view self.now))) };
+        requires { at + length (naming.bytes (naming.view self.now)) < 2 ^ 64 }
+        ensures gives { Tells result (naming.looked context.now at (naming.view self.now)) }
+        ensures behind { IfOk result (λ end. end ≡ at + length (naming.bytes (naming.view self.now))) };
 }
 
 /// Each item in turn, the first of them at offset `start`. Answers the offset behind the last.
@@ -50,9 +42,10 @@ pub(crate) fn late_list<C, T: Late<C>>(
     start: usize,
     items: &[T],
 ) -> Result<usize, FormatFault>
-    requires { start + length (flat_map T.spelled (map T.view items.now)) < 2 ^ 64 }
-    ensures gives { Tells result (late_list (T.looked context.now) T.spelled start (map T.view items.now)) }
-    ensures behind { IfOk result (λ end. end ≡ start + length (flat_map T.spelled (map T.view items.now))) }
+    requires { start + length (flat_map T.naming.bytes (map T.naming.view items.now)) < 2 ^ 64 }
+    ensures gives { Tells result
+        (late_list (T.naming.looked context.now) T.naming.bytes start (map T.naming.view items.now)) }
+    ensures behind { IfOk result (λ end. end ≡ start + length (flat_map T.naming.bytes (map T.naming.view items.now))) }
 {
     let mut at = start;
     for item in items {
@@ -95,13 +88,7 @@ fn late_fact(parameters: usize, at: usize, fact: &Fact) -> Result<(), FormatFaul
 }
 
 impl Late<Context> for Entry {
-    ghost Value = { Entry };
-
-    ghost view = { λ e. e };
-
-    ghost spelled = { entry_bytes };
-
-    ghost looked = { late_entry };
+    ghost naming = { naming (λ e. e) entry_bytes late_entry };
 
     #[tactic(auto, using(crate::proofs::Sizes::entry_size), unfolding(crate::specs::Late::late_entry))]
     fn late(&self, context: &Context, at: usize) -> Result<usize, FormatFault> {
@@ -131,13 +118,7 @@ fn late_row(context: &Context, at: usize, row: &LabelRow) -> Result<usize, Forma
 }
 
 impl Late<Contexts<'_, '_>> for LabelRow {
-    ghost Value = { Label };
-
-    ghost view = { label_of };
-
-    ghost spelled = { label_bytes };
-
-    ghost looked = { late_label };
+    ghost naming = { naming label_of label_bytes late_label };
 
     #[tactic(auto, using(crate::proofs::Sizes::label_size), unfolding(crate::specs::Late::late_label))]
     fn late(&self, contexts: &Contexts<'_, '_>, at: usize) -> Result<usize, FormatFault> {

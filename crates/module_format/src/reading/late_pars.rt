@@ -2,10 +2,10 @@
 
 ghost use Rattle.std.specs.Prelude.{◌≡◌, ◌+◌, ⊤, ℕ, length, map};
 ghost use Rattle.std.specs.List.{flat_map};
-ghost use Rattle.module_format.specs.declared.rows.EndRow.{EndRow};
-ghost use Rattle.module_format.specs.Contents.{Branch, Par, branch_of, par_of};
+ghost use Rattle.module_format.specs.Contents.{branch_of, par_of};
 ghost use Rattle.module_format.specs.Keeping.{is_region, has_element, names, names_end};
 ghost use Rattle.module_format.specs.Spelling.{u16_bytes, end_bytes, branch_bytes, par_bytes};
+ghost use Rattle.module_format.specs.Meaning.{naming};
 ghost use Rattle.module_format.specs.Late.{late_parameter, late_end, late_branch, late_par};
 
 use crate::contexts::Contexts;
@@ -56,13 +56,7 @@ impl ContextParameters<'_> {
 }
 
 impl<'p> Late<ContextParameters<'p>> for u16 {
-    ghost Value = { ℕ };
-
-    ghost view = { λ n. n };
-
-    ghost spelled = { u16_bytes };
-
-    ghost looked = { λ parameters. late_parameter parameters.0.now };
+    ghost naming = { naming (λ n. n) u16_bytes (λ parameters. late_parameter parameters.0.now) };
 
     #[tactic(auto, unfolding(crate::specs::Late::late_parameter, crate::specs::Spelling::u16_bytes))]
     fn late(&self, parameters: &ContextParameters<'p>, at: usize) -> Result<usize, FormatFault> {
@@ -74,13 +68,7 @@ impl<'p> Late<ContextParameters<'p>> for u16 {
 }
 
 impl<'p> Late<ContextParameters<'p>> for EndRow {
-    ghost Value = { EndRow };
-
-    ghost view = { λ e. e };
-
-    ghost spelled = { end_bytes };
-
-    ghost looked = { λ parameters. late_end parameters.0.now };
+    ghost naming = { naming (λ e. e) end_bytes (λ parameters. late_end parameters.0.now) };
 
     #[tactic(auto, using(crate::proofs::Sizes::end_size), unfolding(crate::specs::Late::late_end))]
     fn late(&self, parameters: &ContextParameters<'p>, at: usize) -> Result<usize, FormatFault> {
@@ -92,13 +80,7 @@ impl<'p> Late<ContextParameters<'p>> for EndRow {
 }
 
 impl<'p> Late<ContextParameters<'p>> for BranchRow {
-    ghost Value = { Branch };
-
-    ghost view = { branch_of };
-
-    ghost spelled = { branch_bytes };
-
-    ghost looked = { λ parameters. late_branch parameters.0.now };
+    ghost naming = { naming branch_of branch_bytes (λ parameters. late_branch parameters.0.now) };
 
     #[tactic(auto, using(crate::proofs::Sizes::branch_size), unfolding(crate::specs::Late::late_branch, crate::specs::Reading::and_then))]
     fn late(&self, parameters: &ContextParameters<'p>, at: usize) -> Result<usize, FormatFault> {
@@ -113,13 +95,7 @@ impl<'p> Late<ContextParameters<'p>> for BranchRow {
 }
 
 impl Late<Contexts<'_, '_>> for ParRow {
-    ghost Value = { Par };
-
-    ghost view = { par_of };
-
-    ghost spelled = { par_bytes };
-
-    ghost looked = { late_par };
+    ghost naming = { naming par_of par_bytes late_par };
 
     #[tactic(auto, using(crate::proofs::Sizes::par_size), unfolding(crate::specs::Late::late_par))]
     fn late(&self, contexts: &Contexts<'_, '_>, at: usize) -> Result<usize, FormatFault> {

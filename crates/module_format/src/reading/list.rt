@@ -1,10 +1,12 @@
 //! Lists of items that stand one behind the other.
 
-ghost use Rattle.std.specs.Prelude.{◌≡◌, ◌++◌, ℕ, List, [], ◌∷◌, IfOk, None, map};
+ghost use Rattle.std.specs.Prelude.{◌≡◌, ◌++◌, List, [], ◌∷◌, IfOk, None, map};
 ghost use Rattle.module_format.specs.Order.{behind_all};
-ghost use Rattle.module_format.specs.Reading.{Read, list_at};
+ghost use Rattle.module_format.specs.Meaning.{Walk, walk};
+ghost use Rattle.module_format.specs.Reading.{list_at};
 ghost use Rattle.module_format.specs.Taking.{Takes};
 
+use crate::listed::Listed;
 use crate::reading::cursor::Cursor;
 use smallvec::SmallVec;
 use std::alloc::{AllocFailed, Global};
@@ -14,12 +16,19 @@ use std::default::MadeWith;
 pub(crate) trait Items<T: Drop>: Drop {
     ghost items: { Self → List T };
 
+    fn empty(alloc: Global) -> Self
+        ensures { items result ≡ [] };
+
     fn add(&mut self, item: T) -> Result<(), AllocFailed<T>>
         ensures { IfOk result (λ _. items self.new ≡ items self.old ++ item ∷ []) };
 }
 
 impl<T: Drop> Items<T> for Vec<T> {
     ghost items = { λ v. v.items };
+
+    fn empty(alloc: Global) -> Vec<T> {
+        Vec::new(alloc)
+    }
 
     fn add(&mut self, item: T) -> Result<(), AllocFailed<T>> {
         self.push(item)
@@ -28,6 +37,10 @@ impl<T: Drop> Items<T> for Vec<T> {
 
 impl<T: MadeWith<Global> + Drop, const N: usize> Items<T> for SmallVec<T, N> {
     ghost items = { λ v. v.items };
+
+    fn empty(alloc: Global) -> SmallVec<T, N> {
+        SmallVec::new(alloc)
+    }
 
     fn add(&mut self, item: T) -> Result<(), AllocFailed<T>> {
         self.push(item)
@@ -38,31 +51,14 @@ impl<T: MadeWith<Global> + Drop, const N: usize> Items<T> for SmallVec<T, N> {
 pub(crate) trait Reader {
     type Item: Drop;
 
-    /// What is the same for each item.
-    ghost Fixed: { Type 0 };
-
-    ghost fixed: { Self → Fixed };
-
-    /// What is known of the items before.
-    ghost State: { Type 0 };
-
-    ghost state: { Self → State };
-
-    /// What an item says, apart from where it lies in memory.
-    ghost Value: { Type 0 };
-
-    ghost view: { Self.Item → Value };
-
-    /// What the item at the front of these bytes is, in a file of this length.
-    ghost reads: { Fixed → ℕ → State → List ℕ → Read Value };
-
-    /// What is known behind an item.
-    ghost behind: { State → Value → State };
+    ghost walk: { Walk Self Self.Item };
 
     fn read(&mut self, from: &mut Cursor<'_>) -> Self::Item
-        ensures takes { Takes (λ size. reads (fixed self.old) size (state self.old)) from.old (view result) from.new }
-        ensures next { from.new.failure ≡ None → state self.new ≡ behind (state self.old) (view result) }
-        ensures same { fixed self.new ≡ fixed self.old };
+        ensures takes { Takes (λ size. walk.listing.reads (walk.context self.old) size (walk.state self.old))
+            from.old (walk.listing.view result) from.new }
+        ensures next { from.new.failure ≡ None
+            → walk.state self.new ≡ walk.listing.behind (walk.state self.old) (walk.listing.view result) }
+        ensures same { walk.context self.new ≡ walk.context self.old };
 }
 
 /// Adds as many items as a number says to a list that is empty, as long as none fails.
@@ -73,11 +69,11 @@ pub(crate) fn fill<R: Reader, L: Items<R::Item>>(
     from: &mut Cursor<'_>,
 )
     requires { L.items items.old ≡ [] }
-    ensures takes { Takes (λ size. list_at (R.reads (R.fixed reader.old) size) R.behind count (R.state reader.old))
-        from.old (map R.view (L.items items.new)) from.new }
-    ensures last { from.new.failure ≡ None
-        → R.state reader.new ≡ behind_all R.behind (R.state reader.old) (map R.view (L.items items.new)) }
-    ensures same { R.fixed reader.new ≡ R.fixed reader.old }
+    ensures takes { Takes (λ size. list_at (R.walk.listing.reads (R.walk.context reader.old) size) R.walk.listing.behind
+        count (R.walk.state reader.old)) from.old (map R.walk.listing.view (L.items items.new)) from.new }
+    ensures last { from.new.failure ≡ None → R.walk.state reader.new
+        ≡ behind_all R.walk.listing.behind (R.walk.state reader.old) (map R.walk.listing.view (L.items items.new)) }
+    ensures same { R.walk.context reader.new ≡ R.walk.context reader.old }
 {
     if from.has_failed() {
         return;
@@ -92,4 +88,39 @@ pub(crate) fn fill<R: Reader, L: Items<R::Item>>(
             return;
         }
     }
+}
+
+/// Items that are each read by itself, behind one that left `low`.
+#[derive(Drop)]
+struct Behind<'c, C, T: Listed<C>> {
+    context: &'c C,
+    low: T::Low,
+}
+
+impl<C, T: Listed<C>> Reader for Behind<'_, C, T> {
+    type Item = T;
+
+    ghost walk = { walk (λ r. r.context.now) (λ r. r.low) T.listing };
+
+    fn read(&mut self, from: &mut Cursor<'_>) -> T {
+        let item = T::read(self.context, self.low, from);
+        self.low = item.after();
+        item
+    }
+}
+
+/// As many items as a number says, the first of them behind `low`.
+pub(crate) fn read_list<C, T: Listed<C>, L: Items<T>>(
+    context: &C,
+    low: T::Low,
+    count: u32,
+    from: &mut Cursor<'_>,
+) -> L
+    ensures { Takes (λ size. list_at (T.listing.reads context.now size) T.listing.behind count low)
+        from.old (map T.listing.view (L.items result)) from.new }
+{
+    let mut reader = Behind { context, low };
+    let mut items = L::empty(from.alloc());
+    fill(&mut reader, count, &mut items, from);
+    items
 }

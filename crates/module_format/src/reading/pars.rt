@@ -1,67 +1,29 @@
 //! PAR rows.
 
-ghost use Rattle.std.specs.Prelude.{◌≡◌, ⊤, ◌<◌, ◌^◌, ℕ, ℤ, map};
-ghost use Rattle.module_format.specs.Contents.{Par, par_of, branch_of};
-ghost use Rattle.module_format.specs.declared.rows.ChannelRow.{ChannelRow};
+ghost use Rattle.std.specs.Prelude.{◌≡◌, ◌<◌, ◌^◌, ℕ, map};
+ghost use Rattle.module_format.specs.Contents.{par_of, branch_of};
+ghost use Rattle.module_format.specs.Meaning.{walk, listed_as};
 ghost use Rattle.module_format.specs.Order.{least_word};
-ghost use Rattle.module_format.specs.Pars.{Before, behind_channel, behind_par, first_entry};
+ghost use Rattle.module_format.specs.Pars.{behind_channel, behind_par, first_entry};
 ghost use Rattle.module_format.specs.Reading.{list_at};
 ghost use Rattle.module_format.specs.ReadingPars.{channel_at, context_number_at, branch_count_at, par_row_at};
 ghost use Rattle.module_format.specs.ReadingPars.{par_rows_at};
 ghost use Rattle.module_format.specs.Taking.{Takes};
 
 use crate::fault::FormatFaultKind;
-use crate::limits::{MAX_BRANCHES, MAX_MESSAGE};
+use crate::limits::MAX_BRANCHES;
 use crate::reading::branches::Branches;
 use crate::reading::cursor::Cursor;
-use crate::reading::facts::{LEAST_WORD, read_first_word};
-use crate::reading::list::{Reader, fill};
+use crate::reading::facts::LEAST_WORD;
+use crate::reading::list::{Reader, fill, read_list};
 use crate::reading::taken::Taken;
 use crate::rows::{BranchRow, ChannelRow, ParRow};
-use std::alloc::Global;
-
-/// Channels of a PAR, in frame words from `low` on.
-#[derive(Drop)]
-struct Channels {
-    low: i64,
-}
-
-impl Reader for Channels {
-    type Item = ChannelRow;
-
-    ghost Fixed = { ⊤ };
-
-    ghost fixed = { λ r. tt };
-
-    ghost State = { ℤ };
-
-    ghost state = { λ r. r.low };
-
-    ghost Value = { ChannelRow };
-
-    ghost view = { λ channel. channel };
-
-    ghost reads = { λ f. channel_at };
-
-    ghost behind = { behind_channel };
-
-    #[tactic(auto, unfolding(crate::specs::ReadingPars::channel_at, crate::specs::Reading::and_then))]
-    fn read(&mut self, from: &mut Cursor<'_>) -> ChannelRow {
-        let word = read_first_word(self.low, from);
-        let length = from.positive(MAX_MESSAGE);
-        self.low = i64::from(word) + 1;
-        ChannelRow { word, length }
-    }
-}
 
 /// So many channels of a PAR.
-fn read_channels(alloc: Global, count: u16, from: &mut Cursor<'_>) -> Vec<ChannelRow>
+fn read_channels(count: u16, from: &mut Cursor<'_>) -> Vec<ChannelRow>
     ensures { Takes (λ size. list_at (channel_at size) behind_channel count least_word) from.old result.items from.new }
 {
-    let mut reader = Channels { low: LEAST_WORD };
-    let mut channels = Vec::new(alloc);
-    fill(&mut reader, u32::from(count), &mut channels, from);
-    channels
+    read_list(&(), LEAST_WORD, u32::from(count), from)
 }
 
 /// A context of which there are so many.
@@ -107,21 +69,9 @@ struct Pars {
 impl Reader for Pars {
     type Item = ParRow;
 
-    ghost Fixed = { ℕ × ℕ };
-
-    ghost fixed = { λ r. (r.own, r.branches.code_len) };
-
-    ghost State = { Before };
-
-    ghost state = { λ r. record { low = r.branches.low; entries = r.branches.taken.entries.items } };
-
-    ghost Value = { Par };
-
-    ghost view = { par_of };
-
-    ghost reads = { λ f size. par_row_at size f.0 f.1 };
-
-    ghost behind = { behind_par };
+    ghost walk = { walk {C = ℕ × ℕ} (λ r. (r.own, r.branches.code_len))
+        (λ r. record { low = r.branches.low; entries = r.branches.taken.entries.items })
+        (listed_as par_of (λ f size. par_row_at size f.0 f.1) behind_par) };
 
     #[tactic(auto, unfolding(crate::specs::ReadingPars::par_row_at, crate::specs::Reading::and_then))]
     fn read(&mut self, from: &mut Cursor<'_>) -> ParRow {
@@ -132,7 +82,7 @@ impl Reader for Pars {
         let successor = from.in_code(self.branches.code_len);
         let channel_count = from.u16();
         let branch_count = read_branch_count(from);
-        let channels = read_channels(self.branches.alloc, channel_count, from);
+        let channels = read_channels(channel_count, from);
         let branches = self.branches.branches(branch_count, from);
         self.branches.low = first_entry(&branches);
         ParRow {
@@ -149,26 +99,19 @@ impl Reader for Pars {
 /// As many PAR rows as a number says, of a module in which the root and the procedures have the
 /// contexts below `own`.
 #[tactic(auto, unfolding(crate::specs::ReadingPars::par_rows_at))]
-pub fn read_par_rows(
-    alloc: Global,
-    own: usize,
-    code_len: u32,
-    count: u32,
-    from: &mut Cursor<'_>,
-) -> Vec<ParRow>
+pub fn read_par_rows(own: usize, code_len: usize, count: u32, from: &mut Cursor<'_>) -> Vec<ParRow>
     requires { own < 2 ^ 63 }
     ensures { Takes (λ size. par_rows_at size own code_len count) from.old (map par_of result.items) from.new }
 {
     let mut reader = Pars {
         own,
         branches: Branches {
-            alloc,
             code_len,
             low: 0,
-            taken: Taken::new(alloc),
+            taken: Taken::new(from.alloc()),
         },
     };
-    let mut pars = Vec::new(alloc);
+    let mut pars = Vec::new(from.alloc());
     fill(&mut reader, count, &mut pars, from);
     pars
 }

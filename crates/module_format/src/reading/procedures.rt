@@ -1,28 +1,25 @@
 //! Procedure rows.
 
-ghost use Rattle.std.specs.Prelude.{◌≡◌, ℕ, ℤ, None, map};
-ghost use Rattle.module_format.specs.Contents.{Procedure, procedure_of};
-ghost use Rattle.module_format.specs.declared.rows.Parameter.{Parameter};
-ghost use Rattle.module_format.specs.declared.tables.Version.{Version};
-ghost use Rattle.module_format.specs.Procedures.{behind_parameter, behind_procedure};
+ghost use Rattle.std.specs.Prelude.{◌≡◌, None, map};
+ghost use Rattle.module_format.specs.Contents.{procedure_of};
 ghost use Rattle.module_format.specs.Offsets.{EntriesRise};
 ghost use Rattle.module_format.specs.ReadingRows.{words_range_at, region_size_at, region_kind, region_at, ends_at};
-ghost use Rattle.module_format.specs.ReadingRows.{channels_at, value_at, kind_at, parameter_word_at, parameter_at};
+ghost use Rattle.module_format.specs.ReadingRows.{channels_at, value_at, kind_at, parameter_word_at};
 ghost use Rattle.module_format.specs.ReadingRows.{parameters_at, frame_start_at, frame_end_at, rising_at};
-ghost use Rattle.module_format.specs.ReadingRows.{procedure_row_at, procedure_rows_at};
+ghost use Rattle.module_format.specs.ReadingRows.{procedure_rows_at};
 ghost use Rattle.module_format.specs.Taking.{Takes};
 
 use crate::fault::FormatFaultKind;
 use crate::limits::{MAX_MESSAGE, MAX_PARAMETERS};
+use crate::listed::{Code, Frame};
 use crate::reading::cursor::Cursor;
 use crate::reading::facts::read_span;
-use crate::reading::list::{Reader, fill};
+use crate::reading::list::read_list;
 use crate::rows::{Ends, Parameter, ParameterKind, ProcedureRow};
 use crate::rules::{are_ends, is_frame_end, is_frame_start, is_region_size};
 use crate::tables::Version;
 use crate::tags::{KIND_CHANNELS, KIND_READ_REGION, KIND_VALUE, KIND_WRITTEN_REGION};
 use bitflags::Flags;
-use std::alloc::Global;
 
 /// The range of a region's words, which is the whole word in version 1.
 #[tactic(auto, unfolding(crate::specs::ReadingRows::words_range_at))]
@@ -112,7 +109,7 @@ fn read_value(from: &mut Cursor<'_>) -> ParameterKind
 
 /// What a parameter word holds.
 #[tactic(auto, unfolding(crate::specs::ReadingRows::kind_at, crate::specs::Reading::and_then))]
-fn read_parameter_kind(version: Version, from: &mut Cursor<'_>) -> ParameterKind
+pub(crate) fn read_parameter_kind(version: Version, from: &mut Cursor<'_>) -> ParameterKind
     ensures { Takes (λ size. kind_at size version) from.old result from.new }
 {
     let at = from.place();
@@ -131,7 +128,7 @@ fn read_parameter_kind(version: Version, from: &mut Cursor<'_>) -> ParameterKind
 
 /// The word of a parameter: below word `hi`, and behind the parameter before, in word `low`.
 #[tactic(auto, unfolding(crate::specs::ReadingRows::parameter_word_at, crate::specs::Reading::tested))]
-fn read_parameter_word(hi: i32, low: u16, from: &mut Cursor<'_>) -> u16
+pub(crate) fn read_parameter_word(hi: i32, low: u16, from: &mut Cursor<'_>) -> u16
     ensures { Takes (λ size. parameter_word_at size hi low) from.old result from.new }
 {
     let at = from.place();
@@ -145,66 +142,18 @@ fn read_parameter_word(hi: i32, low: u16, from: &mut Cursor<'_>) -> u16
     word
 }
 
-/// Parameters of a procedure whose frame ends at word `hi`.
-#[derive(Drop)]
-struct Parameters {
-    version: Version,
-    hi: i32,
-    low: u16,
-}
-
-impl Reader for Parameters {
-    type Item = Parameter;
-
-    ghost Fixed = { Version × ℤ };
-
-    ghost fixed = { λ r. (r.version, r.hi) };
-
-    ghost State = { ℕ };
-
-    ghost state = { λ r. r.low };
-
-    ghost Value = { Parameter };
-
-    ghost view = { λ p. p };
-
-    ghost reads = { λ f size. parameter_at size f.0 f.1 };
-
-    ghost behind = { behind_parameter };
-
-    #[tactic(auto, unfolding(crate::specs::ReadingRows::parameter_at, crate::specs::Reading::and_then))]
-    fn read(&mut self, from: &mut Cursor<'_>) -> Parameter {
-        let word = read_parameter_word(self.hi, self.low, from);
-        let kind = read_parameter_kind(self.version, from);
-        self.low = word;
-        Parameter { word, kind }
-    }
-}
-
 /// The parameters of a procedure, behind their number.
 #[tactic(auto, unfolding(crate::specs::ReadingRows::parameters_at, crate::specs::Reading::and_then))]
-fn read_parameters(
-    alloc: Global,
-    version: Version,
-    hi: i32,
-    from: &mut Cursor<'_>,
-) -> Vec<Parameter>
+pub(crate) fn read_parameters(version: Version, hi: i32, from: &mut Cursor<'_>) -> Vec<Parameter>
     ensures { Takes (λ size. parameters_at size version hi) from.old result.items from.new }
 {
     let count = from.limited_u16(MAX_PARAMETERS);
-    let mut reader = Parameters {
-        version,
-        hi,
-        low: 0,
-    };
-    let mut parameters = Vec::new(alloc);
-    fill(&mut reader, u32::from(count), &mut parameters, from);
-    parameters
+    read_list(&Frame { version, hi }, 0, u32::from(count), from)
 }
 
 /// The first word of a frame.
 #[tactic(auto, unfolding(crate::specs::ReadingRows::frame_start_at, crate::specs::Reading::tested))]
-fn read_frame_start(from: &mut Cursor<'_>) -> i32
+pub(crate) fn read_frame_start(from: &mut Cursor<'_>) -> i32
     ensures { Takes frame_start_at from.old result from.new }
 {
     let at = from.place();
@@ -215,7 +164,7 @@ fn read_frame_start(from: &mut Cursor<'_>) -> i32
 
 /// The first word behind a frame.
 #[tactic(auto, unfolding(crate::specs::ReadingRows::frame_end_at, crate::specs::Reading::tested))]
-fn read_frame_end(from: &mut Cursor<'_>) -> i32
+pub(crate) fn read_frame_end(from: &mut Cursor<'_>) -> i32
     ensures { Takes frame_end_at from.old result from.new }
 {
     let at = from.place();
@@ -226,7 +175,7 @@ fn read_frame_end(from: &mut Cursor<'_>) -> i32
 
 /// An offset in the code behind `low`.
 #[tactic(auto, unfolding(crate::specs::ReadingRows::rising_at, crate::specs::Reading::tested))]
-fn read_procedure_entry(code_len: u32, low: u32, from: &mut Cursor<'_>) -> u32
+pub(crate) fn read_procedure_entry(code_len: usize, low: u32, from: &mut Cursor<'_>) -> u32
     ensures { Takes (λ size. rising_at size code_len low) from.old result from.new }
 {
     let at = from.place();
@@ -235,72 +184,12 @@ fn read_procedure_entry(code_len: u32, low: u32, from: &mut Cursor<'_>) -> u32
     offset
 }
 
-/// Procedure rows of so much code, behind a row with its entry at `low`.
-#[derive(Drop)]
-struct Procedures {
-    alloc: Global,
-    version: Version,
-    code_len: u32,
-    low: u32,
-}
-
-impl Reader for Procedures {
-    type Item = ProcedureRow;
-
-    ghost Fixed = { Version × ℕ };
-
-    ghost fixed = { λ r. (r.version, r.code_len) };
-
-    ghost State = { ℕ };
-
-    ghost state = { λ r. r.low };
-
-    ghost Value = { Procedure };
-
-    ghost view = { procedure_of };
-
-    ghost reads = { λ f size. procedure_row_at size f.0 f.1 };
-
-    ghost behind = { behind_procedure };
-
-    #[tactic(auto, unfolding(crate::specs::ReadingRows::procedure_row_at, crate::specs::Reading::and_then))]
-    fn read(&mut self, from: &mut Cursor<'_>) -> ProcedureRow {
-        let entry = read_procedure_entry(self.code_len, self.low, from);
-        let lo = read_frame_start(from);
-        let hi = read_frame_end(from);
-        let number = from.u64();
-        let parameters = read_parameters(self.alloc, self.version, hi, from);
-        self.low = entry;
-        ProcedureRow {
-            entry,
-            lo,
-            hi,
-            number,
-            parameters,
-        }
-    }
-}
-
 /// As many procedure rows as a number says.
 #[tactic(auto, unfolding(crate::specs::ReadingRows::procedure_rows_at))]
-pub fn read_procedure_rows(
-    alloc: Global,
-    version: Version,
-    code_len: u32,
-    count: u32,
-    from: &mut Cursor<'_>,
-) -> Vec<ProcedureRow>
-    ensures takes { Takes (λ size. procedure_rows_at size version code_len count)
+pub fn read_procedure_rows(code: &Code, count: u32, from: &mut Cursor<'_>) -> Vec<ProcedureRow>
+    ensures takes { Takes (λ size. procedure_rows_at size code.now.version code.now.len count)
         from.old (map procedure_of result.items) from.new }
     ensures rise { from.new.failure ≡ None → EntriesRise result.items }
 {
-    let mut reader = Procedures {
-        alloc,
-        version,
-        code_len,
-        low: 0,
-    };
-    let mut procedures = Vec::new(alloc);
-    fill(&mut reader, count, &mut procedures, from);
-    procedures
+    read_list(code, 0, count, from)
 }

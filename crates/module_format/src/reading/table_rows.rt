@@ -1,23 +1,22 @@
 //! Table rows.
 
-ghost use Rattle.std.specs.Prelude.{◌≡◌, ◌≤◌, ◌<◌, ℕ, List, None};
+ghost use Rattle.std.specs.Prelude.{◌≡◌, ◌≤◌, ◌<◌, None};
 ghost use Rattle.std.specs.List.{list_all};
-ghost use Rattle.module_format.specs.declared.rows.TableRow.{TableRow};
-ghost use Rattle.module_format.specs.Procedures.{words_of, behind_table};
-ghost use Rattle.module_format.specs.ReadingRows.{table_start_at, table_end_at, is_within, table_row_at, table_rows_at};
+ghost use Rattle.module_format.specs.Procedures.{words_of};
+ghost use Rattle.module_format.specs.ReadingRows.{table_start_at, table_end_at, is_within, table_rows_at};
 ghost use Rattle.module_format.specs.Taking.{Takes};
 
 use crate::fault::FormatFaultKind;
+use crate::listed::Constants;
 use crate::reading::cursor::Cursor;
-use crate::reading::list::{Reader, fill};
+use crate::reading::list::read_list;
 use crate::rows::TableRow;
 use crate::rules::is_multiple_of_four;
 use byteorder::{ByteOrder, LittleEndian};
-use std::alloc::Global;
 
 /// The first byte of a table, behind those that end at `low`.
 #[tactic(auto, unfolding(crate::specs::ReadingRows::table_start_at, crate::specs::Reading::tested))]
-fn read_table_start(low: u32, from: &mut Cursor<'_>) -> u32
+pub(crate) fn read_table_start(low: u32, from: &mut Cursor<'_>) -> u32
     ensures { Takes (λ size. table_start_at size low) from.old result from.new }
 {
     let at = from.place();
@@ -29,7 +28,7 @@ fn read_table_start(low: u32, from: &mut Cursor<'_>) -> u32
 
 /// The end of a table in so many bytes of constants.
 #[tactic(auto, unfolding(crate::specs::ReadingRows::table_end_at, crate::specs::Reading::tested))]
-fn read_table_end(const_len: usize, start: u32, from: &mut Cursor<'_>) -> u32
+pub(crate) fn read_table_end(const_len: usize, start: u32, from: &mut Cursor<'_>) -> u32
     ensures takes { Takes (λ size. table_end_at size const_len start) from.old result from.new }
     ensures inside { from.new.failure ≡ None → (start < result) × (result ≤ const_len) }
 {
@@ -56,60 +55,10 @@ pub fn words_lie_within(bytes: &[u8], lo: i32, hi: i32) -> bool
     true
 }
 
-/// Table rows over constants, behind a table that ends at `low`.
-#[derive(Drop)]
-struct TableRows<'c> {
-    constants: &'c [u8],
-    low: u32,
-}
-
-impl Reader for TableRows<'_> {
-    type Item = TableRow;
-
-    ghost Fixed = { List ℕ };
-
-    ghost fixed = { λ r. r.constants.now };
-
-    ghost State = { ℕ };
-
-    ghost state = { λ r. r.low };
-
-    ghost Value = { TableRow };
-
-    ghost view = { λ row. row };
-
-    ghost reads = { λ constants size. table_row_at size constants };
-
-    ghost behind = { behind_table };
-
-    #[tactic(auto, unfolding(crate::specs::ReadingRows::table_row_at, crate::specs::Reading::tested, crate::specs::Reading::and_then))]
-    fn read(&mut self, from: &mut Cursor<'_>) -> TableRow {
-        let start = read_table_start(self.low, from);
-        let end = read_table_end(self.constants.len(), start, from);
-        let at = from.place();
-        let (lo, hi) = from.interval();
-        self.low = end;
-        if from.has_failed() {
-            return TableRow { start, end, lo, hi };
-        }
-        let words = &self.constants[start as usize..end as usize];
-        from.check(at, words_lie_within(words, lo, hi), FormatFaultKind::Range);
-        TableRow { start, end, lo, hi }
-    }
-}
-
 /// As many table rows as a number says.
 #[tactic(auto, unfolding(crate::specs::ReadingRows::table_rows_at))]
-pub fn read_table_rows(
-    alloc: Global,
-    constants: &[u8],
-    count: u32,
-    from: &mut Cursor<'_>,
-) -> Vec<TableRow>
+pub fn read_table_rows(constants: &[u8], count: u32, from: &mut Cursor<'_>) -> Vec<TableRow>
     ensures { Takes (λ size. table_rows_at size constants.now count) from.old result.items from.new }
 {
-    let mut reader = TableRows { constants, low: 0 };
-    let mut rows = Vec::new(alloc);
-    fill(&mut reader, count, &mut rows, from);
-    rows
+    read_list(&Constants(constants), 0, count, from)
 }

@@ -2,8 +2,8 @@
 
 ghost use Rattle.std.specs.Prelude.{◌≡◌, ◌^◌, ◌<◌, ⊤, length};
 ghost use Rattle.module_format.specs.declared.fact.Fact.TheVariants.{Pointer};
-ghost use Rattle.module_format.specs.declared.rows.Entry.{Entry};
-ghost use Rattle.module_format.specs.Contents.{Label, label_of};
+ghost use Rattle.module_format.specs.Contents.{label_of};
+ghost use Rattle.module_format.specs.Meaning.{plain, viewed};
 ghost use Rattle.module_format.specs.Spelling.{step_size, fact_bytes, entry_bytes, label_bytes};
 ghost use Rattle.module_format.specs.Writable.{Writes};
 
@@ -13,7 +13,7 @@ use crate::tables::Version;
 use crate::tags::{
     TAG_CODE_ADDRESS, TAG_LOOP, TAG_NUMBER, TAG_POINTER, TAG_RETURN_ADDRESS, TAG_UNKNOWN,
 };
-use crate::writing::list::{Row, put_all};
+use crate::writing::list::{Put, put_all};
 use crate::writing::writer::Writer;
 
 /// A pointer's step, in bytes.
@@ -74,14 +74,8 @@ fn put_fact(out: &mut Writer, fact: &Fact)
     }
 }
 
-impl Row for Entry {
-    ghost Value = { Entry };
-
-    ghost view = { λ e. e };
-
-    ghost spelled = { λ _. entry_bytes };
-
-    ghost Fits = { λ _. ⊤ };
+impl Put for Entry {
+    ghost meaning = { plain entry_bytes };
 
     #[tactic(auto, unfolding(crate::specs::Spelling::entry_bytes))]
     fn put(&self, _version: Version, out: &mut Writer) {
@@ -91,14 +85,8 @@ impl Row for Entry {
     }
 }
 
-impl Row for LabelRow {
-    ghost Value = { Label };
-
-    ghost view = { label_of };
-
-    ghost spelled = { λ _. label_bytes };
-
-    ghost Fits = { λ row. length row.entries < 2 ^ 16 };
+impl Put for LabelRow {
+    ghost meaning = { viewed label_of (λ _. label_bytes) (λ row. length row.entries < 2 ^ 16) };
 
     #[tactic(auto, unfolding(crate::specs::Spelling::label_bytes))]
     fn put(&self, version: Version, out: &mut Writer) {

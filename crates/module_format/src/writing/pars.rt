@@ -1,27 +1,19 @@
 //! PAR rows.
 
 ghost use Rattle.std.specs.Prelude.{◌++◌, ◌∷◌, ⊤};
-ghost use Rattle.module_format.specs.declared.rows.ChannelRow.{ChannelRow};
-ghost use Rattle.module_format.specs.declared.rows.Interval.{Interval};
-ghost use Rattle.module_format.specs.declared.rows.EndRow.{EndRow};
-ghost use Rattle.module_format.specs.Contents.{Branch, Par, branch_of, par_of};
+ghost use Rattle.module_format.specs.Contents.{branch_of, par_of};
+ghost use Rattle.module_format.specs.Meaning.{plain, viewed};
 ghost use Rattle.module_format.specs.Spelling.{u32_bytes, i32_bytes, channel_bytes, interval_bytes, end_bytes};
-ghost use Rattle.module_format.specs.Spelling.{branch_bytes, branch_head, par_bytes};
+ghost use Rattle.module_format.specs.Spelling.{counts_bytes, branch_bytes, branch_head, par_bytes};
 ghost use Rattle.module_format.specs.Writable.{Writes, BranchIsWritable, ParIsWritable};
 
-use crate::rows::{BranchRow, ChannelRow, EndRow, Interval, ParRow};
+use crate::rows::{BranchCounts, BranchRow, ChannelRow, EndRow, Interval, ParRow};
 use crate::tables::Version;
-use crate::writing::list::{Row, put_all};
+use crate::writing::list::{Put, put_all};
 use crate::writing::writer::Writer;
 
-impl Row for ChannelRow {
-    ghost Value = { ChannelRow };
-
-    ghost view = { λ channel. channel };
-
-    ghost spelled = { λ _. channel_bytes };
-
-    ghost Fits = { λ _. ⊤ };
+impl Put for ChannelRow {
+    ghost meaning = { plain channel_bytes };
 
     #[tactic(auto, unfolding(crate::specs::Spelling::channel_bytes))]
     fn put(&self, _version: Version, out: &mut Writer) {
@@ -30,14 +22,8 @@ impl Row for ChannelRow {
     }
 }
 
-impl Row for Interval {
-    ghost Value = { Interval };
-
-    ghost view = { λ i. i };
-
-    ghost spelled = { λ _. interval_bytes };
-
-    ghost Fits = { λ _. ⊤ };
+impl Put for Interval {
+    ghost meaning = { plain interval_bytes };
 
     #[tactic(auto, unfolding(crate::specs::Spelling::interval_bytes))]
     fn put(&self, _version: Version, out: &mut Writer) {
@@ -55,14 +41,8 @@ fn put_end_fields(out: &mut Writer, kind: u8, number: i32, element: u32)
     out.u32(element);
 }
 
-impl Row for EndRow {
-    ghost Value = { EndRow };
-
-    ghost view = { λ e. e };
-
-    ghost spelled = { λ _. end_bytes };
-
-    ghost Fits = { λ _. ⊤ };
+impl Put for EndRow {
+    ghost meaning = { plain end_bytes };
 
     #[tactic(auto, unfolding(crate::specs::Spelling::end_bytes))]
     fn put(&self, _version: Version, out: &mut Writer) {
@@ -70,6 +50,18 @@ impl Row for EndRow {
         put_end_fields(out, key.kind, key.number, key.element);
         out.u8(key.direction);
     }
+}
+
+/// How many intervals, parameters and ends a branch has.
+#[tactic(auto, unfolding(crate::specs::Spelling::counts_bytes))]
+fn put_counts(out: &mut Writer, counts: &BranchCounts)
+    ensures { Writes out.old (counts_bytes counts.now) out.new }
+{
+    out.u16(counts.writes);
+    out.u16(counts.reads);
+    out.u16(counts.written_parameters);
+    out.u16(counts.read_parameters);
+    out.u16(counts.ends);
 }
 
 /// A branch's entry, workspace and numbers of items.
@@ -80,21 +72,11 @@ fn put_branch_head(out: &mut Writer, row: &BranchRow)
 {
     out.u32(row.entry);
     out.i32(row.workspace);
-    out.u16(row.writes.len() as u16);
-    out.u16(row.reads.len() as u16);
-    out.u16(row.written_parameters.len() as u16);
-    out.u16(row.read_parameters.len() as u16);
-    out.u16(row.ends.len() as u16);
+    put_counts(out, &row.counts());
 }
 
-impl Row for BranchRow {
-    ghost Value = { Branch };
-
-    ghost view = { branch_of };
-
-    ghost spelled = { λ _. branch_bytes };
-
-    ghost Fits = { BranchIsWritable };
+impl Put for BranchRow {
+    ghost meaning = { viewed branch_of (λ _. branch_bytes) BranchIsWritable };
 
     #[tactic(auto, unfolding(crate::specs::Spelling::branch_bytes))]
     fn put(&self, version: Version, out: &mut Writer) {
@@ -107,14 +89,8 @@ impl Row for BranchRow {
     }
 }
 
-impl Row for ParRow {
-    ghost Value = { Par };
-
-    ghost view = { par_of };
-
-    ghost spelled = { λ _. par_bytes };
-
-    ghost Fits = { ParIsWritable };
+impl Put for ParRow {
+    ghost meaning = { viewed par_of (λ _. par_bytes) ParIsWritable };
 
     #[tactic(auto, unfolding(crate::specs::Spelling::par_bytes))]
     fn put(&self, version: Version, out: &mut Writer) {

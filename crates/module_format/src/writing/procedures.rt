@@ -1,9 +1,8 @@
 //! Procedure rows and table rows.
 
 ghost use Rattle.std.specs.Prelude.{◌++◌, ◌^◌, ◌<◌, ⊤, length};
-ghost use Rattle.module_format.specs.declared.rows.Parameter.{Parameter};
-ghost use Rattle.module_format.specs.declared.rows.TableRow.{TableRow};
-ghost use Rattle.module_format.specs.Contents.{Procedure, procedure_of};
+ghost use Rattle.module_format.specs.Contents.{procedure_of};
+ghost use Rattle.module_format.specs.Meaning.{plain, viewed};
 ghost use Rattle.module_format.specs.Spelling.{u32_bytes, range_bytes, kind_bytes, parameter_bytes, procedure_bytes};
 ghost use Rattle.module_format.specs.Spelling.{table_row_bytes};
 ghost use Rattle.module_format.specs.Writable.{Writes};
@@ -11,7 +10,7 @@ ghost use Rattle.module_format.specs.Writable.{Writes};
 use crate::rows::{Parameter, ParameterKind, ProcedureRow, TableRow};
 use crate::tables::Version;
 use crate::tags::{KIND_CHANNELS, KIND_READ_REGION, KIND_VALUE, KIND_WRITTEN_REGION};
-use crate::writing::list::{Row, put_all};
+use crate::writing::list::{Put, put_all};
 use crate::writing::writer::Writer;
 use bitflags::Flags;
 
@@ -67,14 +66,8 @@ fn put_kind(out: &mut Writer, version: Version, kind: &ParameterKind)
     }
 }
 
-impl Row for Parameter {
-    ghost Value = { Parameter };
-
-    ghost view = { λ p. p };
-
-    ghost spelled = { parameter_bytes };
-
-    ghost Fits = { λ _. ⊤ };
+impl Put for Parameter {
+    ghost meaning = { viewed (λ p. p) parameter_bytes (λ _. ⊤) };
 
     #[tactic(auto, unfolding(crate::specs::Spelling::parameter_bytes))]
     fn put(&self, version: Version, out: &mut Writer) {
@@ -83,14 +76,8 @@ impl Row for Parameter {
     }
 }
 
-impl Row for ProcedureRow {
-    ghost Value = { Procedure };
-
-    ghost view = { procedure_of };
-
-    ghost spelled = { procedure_bytes };
-
-    ghost Fits = { λ row. length row.parameters < 2 ^ 16 };
+impl Put for ProcedureRow {
+    ghost meaning = { viewed procedure_of procedure_bytes (λ row. length row.parameters < 2 ^ 16) };
 
     #[tactic(auto, unfolding(crate::specs::Spelling::procedure_bytes))]
     fn put(&self, version: Version, out: &mut Writer) {
@@ -103,14 +90,8 @@ impl Row for ProcedureRow {
     }
 }
 
-impl Row for TableRow {
-    ghost Value = { TableRow };
-
-    ghost view = { λ row. row };
-
-    ghost spelled = { λ _. table_row_bytes };
-
-    ghost Fits = { λ _. ⊤ };
+impl Put for TableRow {
+    ghost meaning = { plain table_row_bytes };
 
     #[tactic(auto, unfolding(crate::specs::Spelling::table_row_bytes))]
     fn put(&self, _version: Version, out: &mut Writer) {

@@ -31,20 +31,16 @@ overflow_cast-first c =
 pub index-row-requires : goal.index-row-requires
 unfolding nowhere
 index-row-requires c =
-    let places = c.args.places.now in
-    let i = c.loop-index.index in
-    let is = stands_at places i c.loop-index-test.true in
-    let inside = par_inside c.args.tables.now places i _ c.requires.places c.loop-index-test.true is in
+    let is = stands_at c.args.places.now c.loop-index.index c.loop-index-test.true in
+    let inside = par_inside c.args.tables.now _ _ _ c.requires.places c.loop-index-test.true is in
     search (rules, inside)
 
 pub index-branch-requires : goal.index-branch-requires
 unfolding nowhere
 index-branch-requires c =
-    let places = c.args.places.now in
-    let i = c.loop-index.index in
-    let is = stands_at places i c.loop-index-test.true in
+    let is = stands_at c.args.places.now c.loop-index.index c.loop-index-test.true in
     let inside =
-    branch_inside c.args.tables.now places i _ c.requires.places c.loop-index-test.true is
+    branch_inside c.args.tables.now _ _ _ c.requires.places c.loop-index-test.true is
     c.index-row.result.now (rw c.from.ensures at c.index-row.ensures) in
     search (rules, inside)
 

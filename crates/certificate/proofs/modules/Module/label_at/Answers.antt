@@ -8,15 +8,13 @@ row_at-requires c = rw c.deref.ensures.value (module_labels c.self.inside.tables
 
 pub returns-in_err-_index : goal.returns-in_err-_index
 returns-in_err-_index c =
-    let at = c.args.offset in
-    rw c.from_residual.ensures (ap (λ m. label_at m at) (sym c.self.view_is)
-    ∙ label_missing at c.self.inside.tables.labels.items (rw c.deref.ensures.value at c.in_err-_index.ensures))
+    rw c.from_residual.ensures (ap (λ m. label_at m c.args.offset) (sym c.self.view_is)
+    ∙ label_missing c.args.offset c.self.inside.tables.labels.items
+    (rw c.deref.ensures.value at c.in_err-_index.ensures))
 
 pub returns : goal.returns
 returns c =
-    let at = c.args.offset in
     let first = rw c.deref.ensures.value at c.in_ok-_index.ensures in
-    let row = c.in_ok-_index.row.now in
-    ap (λ m. label_at m at) (sym c.self.view_is)
-    ∙ label_is at c.self.inside.tables.labels.items c.in_ok-_index._index row first.inside
-    (λ k lt. first.before k row lt) first.is first.here
+    ap (λ m. label_at m c.args.offset) (sym c.self.view_is)
+    ∙ label_is c.args.offset c.self.inside.tables.labels.items c.in_ok-_index._index c.in_ok-_index.row.now first.inside
+    (λ k lt. first.before k c.in_ok-_index.row.now lt) first.is first.here

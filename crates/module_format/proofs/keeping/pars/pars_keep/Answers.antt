@@ -1,4 +1,4 @@
-use Rattle.std.proofs.Common.{◌≡◌, ℕ, ◌+◌, ◌≤◌, ◌<◌, List, [], ◌∷◌, ◌++◌, length, take, map, get_or, refl, sym, ap, ◌∙◌}
+use Rattle.std.proofs.Common.{◌≡◌, ℕ, ◌+◌, ◌≤◌, ◌<◌, List, [], ◌∷◌, ◌++◌, length, take, map, get_or, sym, ap, ◌∙◌}
 use Rattle.std.proofs.Common.{arith}
 use Rattle.std.specs.List.{flat_map}
 use Rattle.std.proofs.lemmas.List.{append-nil, map_more, length-append, length-map}
@@ -7,10 +7,8 @@ use Rattle.std.proofs.lemmas.List.Concat.{flat_map-cons}
 use Rattle.module_format.specs.declared.limits.TheConstants.{MAX_BRANCHES}
 use Rattle.module_format.specs.declared.rows.ParRow.{ParRow}
 use Rattle.module_format.specs.Contents.{Par, branch_of, par_of}
-use Rattle.module_format.specs.Order.{InOrder}
-use Rattle.module_format.specs.Pars.{Before, ParKeeps, behind_par, no_branches, entries_of, entries_of_rows}
-use Rattle.module_format.proofs.Loop.{mapped_item_at}
-use Rattle.module_format.proofs.OrderLaws.{order_goes_on, order_fails, order_is_done, is_broken, is_kept, never, always}
+use Rattle.module_format.specs.Pars.{Before, ParKeeps, behind_par, entries_of, entries_of_rows}
+use Rattle.module_format.proofs.OrderLaws.{order_goes_on, order_fails, order_is_done, is_broken, is_kept}
 use Rattle.module_format.proofs.keeping.pars.pars_keep.Goals as goal
 
 -- one more row
@@ -39,17 +37,12 @@ loop-row-init c = record {
 
 pub returns-then-not-par_keeps : goal.returns-then-not-par_keeps
 returns-then-not-par_keeps c =
-    let rows = c.args.rows.now in
-    let i = c.loop-row.row-index in
-    let row = c.row-item.result in
     let so_far = c.loop-row.invariant in
-    let xs = map par_of rows in
-    let K = ParKeeps c.args.own c.args.code_len in
-    let state = before c.loop-row.low rows i in
-    let here = mapped_item_at par_of rows rows i row refl c.loop-row-test.true c.row-item.is in
+    let state = before c.loop-row.low c.args.rows.now c.loop-row.row-index in
     let same = c.par_keeps.ensures.kept c.args.own state.entries so_far.contexts so_far.taken in
-    never (order_fails K behind_par (InOrder K behind_par no_branches xs) xs i state (par_of row) here
-    (is_broken c.par_keeps.result c.if-not-par_keeps.true same) so_far.rest)
+    order_fails (ParKeeps c.args.own c.args.code_len) behind_par par_of c.args.rows.now c.loop-row.row-index state
+    so_far.rest c.row-item.result c.loop-row-test.true c.row-item.is
+    (is_broken c.par_keeps.result c.if-not-par_keeps.true same)
 
 pub overflow_add-contexts : goal.overflow_add-contexts
 overflow_add-contexts c =
@@ -69,10 +62,7 @@ loop-row-preserved c =
     let i = c.loop-row.row-index in
     let row = c.row-item.result in
     let so_far = c.loop-row.invariant in
-    let xs = map par_of rows in
-    let K = ParKeeps c.args.own c.args.code_len in
     let state = before c.loop-row.low rows i in
-    let here = mapped_item_at par_of rows rows i row refl c.loop-row-test.true c.row-item.is in
     let kept = is_kept c.par_keeps.result c.if-not-par_keeps.false
     (c.par_keeps.ensures.kept c.args.own state.entries so_far.contexts so_far.taken) in
     let more = row_entries_more rows i row c.loop-row-test.true c.row-item.is in
@@ -86,8 +76,8 @@ loop-row-preserved c =
     let few = so_far.few in
     record {
       rest = rw (c.first_entry-low.ensures, c.deref.ensures.value, more)
-          (order_goes_on K behind_par (InOrder K behind_par no_branches xs) xs i state (par_of row) here kept
-          so_far.rest);
+          (order_goes_on (ParKeeps c.args.own c.args.code_len) behind_par par_of rows i state so_far.rest row
+          c.loop-row-test.true c.row-item.is kept);
       taken = rw more (c.par_keeps.ensures.taken state.entries so_far.taken c.if-not-par_keeps.false);
       contexts = omega arith;
       few = omega arith;
@@ -95,10 +85,5 @@ loop-row-preserved c =
 
 pub returns : goal.returns
 returns c =
-    let rows = c.args.rows.now in
-    let i = c.loop-row.row-index in
-    let xs = map par_of rows in
-    let K = ParKeeps c.args.own c.args.code_len in
-    let past : length xs ≤ i = rw length-map c.loop-row-test.false in
-    always (order_is_done K behind_par (InOrder K behind_par no_branches xs) xs i (before c.loop-row.low rows i) past
-    c.loop-row.invariant.rest)
+    order_is_done (ParKeeps c.args.own c.args.code_len) behind_par par_of c.args.rows.now c.loop-row.row-index
+    (before c.loop-row.low c.args.rows.now c.loop-row.row-index) c.loop-row.invariant.rest c.loop-row-test.false

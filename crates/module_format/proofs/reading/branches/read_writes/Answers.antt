@@ -10,9 +10,9 @@ use Rattle.module_format.proofs.reading.branches.read_writes.Goals as goal
 pub returns-clause-rise : goal.returns-clause-rise
 returns-clause-rise c = λ still.
     let from = c.args.from.now in
-    let new = c.fill.new.from in
-    let took = rw (c.from.ensures, map-id _) at c.fill.ensures.takes.took in
+    let new = c.read_list.new.from in
+    let took = rw (c.from.ensures, map-id _) at c.read_list.ensures.took in
     (took_has
     (list_at (words_at from.size) behind_interval c.args.count least_word) from.failure from.rest.now
-    c.fill.new.items.items new.failure new.rest.now still took
+    c.read_list.result.items new.failure new.rest.now still took
     (writes_take from.size c.args.count from.rest.now from.fits)).keeps.1

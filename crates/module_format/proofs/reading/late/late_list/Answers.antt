@@ -9,13 +9,13 @@ use Rattle.module_format.proofs.reading.late.late_list.Goals as goal
 pub late-requires : goal.late-requires
 late-requires g c =
     let T = g.T.Late in
-    let xs = map T.view c.args.items.now in
+    let xs = map T.naming.view c.args.items.now in
     let here =
-    mapped_item_at T.view c.args.items.now c.args.items.now c.loop-item.item-index c.item-item.result refl
+    mapped_item_at T.naming.view c.args.items.now c.args.items.now c.loop-item.item-index c.item-item.result refl
     c.loop-item-test.true c.item-item.is in
     omega (
       arith,
-      length-left T.spelled xs c.loop-item.item-index (T.view c.item-item.result) here,
+      length-left T.naming.bytes xs c.loop-item.item-index (T.naming.view c.item-item.result) here,
       c.loop-item.invariant.place,
       c.requires,
     )
@@ -24,48 +24,48 @@ pub returns-in_err-at-clause-gives : goal.returns-in_err-at-clause-gives
 returns-in_err-at-clause-gives g c =
     let T = g.T.Late in
     let p = err_from_is_err_and c.from_residual.result c.from_residual.ensures.1 in
-    let xs = map T.view c.args.items.now in
-    let item = T.looked c.args.context.now in
+    let xs = map T.naming.view c.args.items.now in
+    let item = T.naming.looked c.args.context.now in
     let here =
-    mapped_item_at T.view c.args.items.now c.args.items.now c.loop-item.item-index c.item-item.result refl
+    mapped_item_at T.naming.view c.args.items.now c.args.items.now c.loop-item.item-index c.item-item.result refl
     c.loop-item-test.true c.item-item.is in
-    rw (p.1, p.2) (late_ends item T.spelled c.in_err-at.field-0.0 xs c.loop-item.item-index c.loop-item.at
-    (T.view c.item-item.result)
-    (late_list item T.spelled c.args.start xs) here c.in_err-at.ensures.gives c.loop-item.invariant.rest)
+    rw (p.1, p.2) (late_ends item T.naming.bytes c.in_err-at.field-0.0 xs c.loop-item.item-index c.loop-item.at
+    (T.naming.view c.item-item.result)
+    (late_list item T.naming.bytes c.args.start xs) here c.in_err-at.ensures.gives c.loop-item.invariant.rest)
 
 pub loop-item-preserved : goal.loop-item-preserved
 loop-item-preserved g c =
     let T = g.T.Late in
-    let xs = map T.view c.args.items.now in
-    let item = T.looked c.args.context.now in
+    let xs = map T.naming.view c.args.items.now in
+    let item = T.naming.looked c.args.context.now in
     let i = c.loop-item.item-index in
-    let x = T.view c.item-item.result in
+    let x = T.naming.view c.item-item.result in
     let here =
-    mapped_item_at T.view c.args.items.now c.args.items.now i c.item-item.result refl c.loop-item-test.true
+    mapped_item_at T.naming.view c.args.items.now c.args.items.now i c.item-item.result refl c.loop-item-test.true
     c.item-item.is in
     let behind = c.in_ok-at.ensures.behind in
-    let left = length-left T.spelled xs i x here in
+    let left = length-left T.naming.bytes xs i x here in
     let place = c.loop-item.invariant.place in
     record {
-      rest = rw behind (late_goes_on item T.spelled xs i c.loop-item.at x tt
-          (late_list item T.spelled c.args.start xs) here c.in_ok-at.ensures.gives c.loop-item.invariant.rest);
+      rest = rw behind (late_goes_on item T.naming.bytes xs i c.loop-item.at x tt
+          (late_list item T.naming.bytes c.args.start xs) here c.in_ok-at.ensures.gives c.loop-item.invariant.rest);
       place = omega (arith, behind, left, place);
     }
 
 pub returns-clause-gives : goal.returns-clause-gives
 returns-clause-gives g c =
     let T = g.T.Late in
-    let xs = map T.view c.args.items.now in
-    let item = T.looked c.args.context.now in
+    let xs = map T.naming.view c.args.items.now in
+    let item = T.naming.looked c.args.context.now in
     let past : length xs ≤ c.loop-item.item-index = rw length-map c.loop-item-test.false in
-    late_is_done item T.spelled xs c.loop-item.item-index c.loop-item.at
-    (late_list item T.spelled c.args.start xs) past c.loop-item.invariant.rest
+    late_is_done item T.naming.bytes xs c.loop-item.item-index c.loop-item.at
+    (late_list item T.naming.bytes c.args.start xs) past c.loop-item.invariant.rest
 
 pub returns-clause-behind : goal.returns-clause-behind
 returns-clause-behind g c =
     let T = g.T.Late in
-    let xs = map T.view c.args.items.now in
+    let xs = map T.naming.view c.args.items.now in
     let past : length xs ≤ c.loop-item.item-index = rw length-map c.loop-item-test.false in
-    let nothing : length (flat_map T.spelled (drop c.loop-item.item-index xs)) ≡ 0 =
+    let nothing : length (flat_map T.naming.bytes (drop c.loop-item.item-index xs)) ≡ 0 =
     rw (drop_all c.loop-item.item-index xs past) refl in
     omega (arith, c.loop-item.invariant.place, nothing)

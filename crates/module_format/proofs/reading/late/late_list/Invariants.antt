@@ -6,9 +6,9 @@ use Rattle.module_format.proofs.reading.late.late_list.Given as goal
 abbrev pub invariant-loop-item : goal.invariant-loop-item
 invariant-loop-item g l =
     let T = g.T.Late in
-    let xs = map T.view l.items in
+    let xs = map T.naming.view l.items in
     record {
-      rest : late_list (T.looked l.context) T.spelled l.at (drop l.item-index xs)
-          ≡ late_list (T.looked l.context) T.spelled l.start xs;
-      place : l.at + length (flat_map T.spelled (drop l.item-index xs)) ≡ l.start + length (flat_map T.spelled xs);
+      rest : late_list (T.naming.looked l.context) T.naming.bytes l.at (drop l.item-index xs)
+          ≡ late_list (T.naming.looked l.context) T.naming.bytes l.start xs;
+      place : l.at + length (flat_map T.naming.bytes (drop l.item-index xs)) ≡ l.start + length (flat_map T.naming.bytes xs);
     }

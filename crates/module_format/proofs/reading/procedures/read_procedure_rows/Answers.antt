@@ -10,11 +10,11 @@ pub returns-clause-rise : goal.returns-clause-rise
 unfolding procedure_rows_at
 returns-clause-rise c = λ still.
     let from = c.args.from.now in
-    let new = c.fill.new.from in
-    let rows = c.fill.new.items.items in
-    let taken = procedures_take from.size c.args.version c.args.code_len c.args.count from.rest.now from.fits in
+    let new = c.read_list.new.from in
+    let rows = c.read_list.result.items in
+    let taken = procedures_take from.size c.args.code.now.version c.args.code.now.len c.args.count from.rest.now from.fits in
     let kept =
-    took_has (procedure_rows_at from.size c.args.version c.args.code_len c.args.count) from.failure from.rest.now
+    took_has (procedure_rows_at from.size c.args.code.now.version c.args.code.now.len c.args.count) from.failure from.rest.now
     (map procedure_of rows) new.failure new.rest.now still
-    c.fill.ensures.takes.took taken in
-    rows_rise c.args.version c.args.code_len rows kept.keeps.1
+    c.read_list.ensures.took taken in
+    rows_rise c.args.code.now.version c.args.code.now.len rows kept.keeps.1

@@ -5,7 +5,7 @@ use Rattle.std.proofs.lemmas.List.{map-id}
 use Rattle.module_format.specs.Spelling.{u16_bytes, u32_bytes, u64_bytes, i32_bytes, fact_bytes, entry_bytes}
 use Rattle.module_format.specs.Spelling.{label_bytes}
 use Rattle.module_format.proofs.WritingLaws.{grows}
-use Rattle.module_format.proofs.writing.labels.LabelRowRow.put.Goals as goal
+use Rattle.module_format.proofs.writing.labels.LabelRowPut.put.Goals as goal
 
 pub returns : goal.returns
 unfolding label_bytes

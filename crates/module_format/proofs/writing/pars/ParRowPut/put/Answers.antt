@@ -5,7 +5,7 @@ use Rattle.std.specs.List.{flat_map}
 use Rattle.module_format.specs.Contents.{branch_of}
 use Rattle.module_format.specs.Spelling.{u16_bytes, u32_bytes, i32_bytes, channel_bytes, branch_bytes, par_bytes}
 use Rattle.module_format.proofs.WritingLaws.{grows}
-use Rattle.module_format.proofs.writing.pars.ParRowRow.put.Goals as goal
+use Rattle.module_format.proofs.writing.pars.ParRowPut.put.Goals as goal
 
 pub returns : goal.returns
 unfolding par_bytes

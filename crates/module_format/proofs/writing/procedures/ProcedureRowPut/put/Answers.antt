@@ -4,7 +4,7 @@ use Rattle.std.proofs.lemmas.List.{map-id}
 use Rattle.std.specs.List.{flat_map}
 use Rattle.module_format.specs.Spelling.{u16_bytes, u32_bytes, u64_bytes, i32_bytes, parameter_bytes, procedure_bytes}
 use Rattle.module_format.proofs.WritingLaws.{grows}
-use Rattle.module_format.proofs.writing.procedures.ProcedureRowRow.put.Goals as goal
+use Rattle.module_format.proofs.writing.procedures.ProcedureRowPut.put.Goals as goal
 
 pub returns : goal.returns
 unfolding procedure_bytes

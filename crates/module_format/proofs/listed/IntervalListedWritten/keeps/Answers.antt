@@ -9,7 +9,7 @@ use Rattle.module_format.specs.Pars.{IntervalKeeps, meet, ReadKeeps}
 use Rattle.module_format.proofs.OrderLaws.{is_kept}
 use Rattle.module_format.proofs.IntervalLaws.{intervals_prop}
 use Rattle.module_format.proofs.BranchLaws.{none_pass, pass_none}
-use Rattle.module_format.proofs.keeping.pars.ReadRuleRule.keeps.Goals as goal
+use Rattle.module_format.proofs.listed.IntervalListedWritten.keeps.Goals as goal
 
 -- an interval that is apart from all that are written
 read_is : (writes : List Interval) (low : ℤ) (i : Interval) (b : Bool) → IntervalKeeps low i
@@ -19,10 +19,10 @@ read_is writes low i false kept e =
     (λ _. record { interval = kept; apart = none_pass (meet i) writes (sym e) }, λ _. refl)
 
 pub meets_any-requires : goal.meets_any-requires
-meets_any-requires c = ∥∥₁_elim c.args.self.now.sorted (intervals_prop least_word c.args.self.now.writes.now) (λ h. h)
+meets_any-requires c = ∥∥₁_elim c.args.written.now.sorted (intervals_prop least_word c.args.written.now.intervals.now) (λ h. h)
 
 pub returns-then-keeps : goal.returns-then-keeps
 returns-then-keeps c =
     let low : to_z w64 (of_z w64 c.args.low) ≡ c.args.low = search (rules, ints) in
     let kept = rw low at (is_kept c.keeps.result c.if-keeps.true c.keeps.ensures) in
-    read_is c.args.self.now.writes.now c.args.low c.args.interval.now c.meets_any.result kept c.meets_any.ensures
+    read_is c.args.written.now.intervals.now c.args.low c.args.self.now c.meets_any.result kept c.meets_any.ensures
