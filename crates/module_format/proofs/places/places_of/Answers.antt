@@ -31,23 +31,18 @@ overflow_cast-branch c =
 
 pub loop-branch-preserved : goal.loop-branch-preserved
 loop-branch-preserved c =
-    let m = contents_of c.args.tables.now in
     let row = par_of c.index-row.result.now in
     let is = item_there par_of c.args.tables.now.pars.items c.loop-par.par c.index-row.result.now
     (search rules) c.index-row.ensures in
-    let long = length-map c.index-row.result.now.branches.items branch_of in
-    let inside : c.loop-branch.branch < length c.index-row.result.now.branches.items = search rules in
+    let inside : c.loop-branch.branch < length row.branches = rw length-map (search rules) in
     rw (c.in_ok-push.ensures.items)
-    (more_places m c.loop-par.par c.loop-branch.branch row c.loop-branch.places.items _ c.requires.rows is
-    (omega arith) refl refl (rw c.from.ensures at c.owner_of-owner.ensures) c.loop-branch.invariant)
+    (more_places (contents_of c.args.tables.now) c.loop-par.par c.loop-branch.branch row c.loop-branch.places.items _
+    c.requires.rows is inside refl refl (rw c.from.ensures at c.owner_of-owner.ensures) c.loop-branch.invariant)
 
 pub loop-par-preserved : goal.loop-par-preserved
 loop-par-preserved c =
-    let m = contents_of c.args.tables.now in
-    let row = par_of c.index-row.result.now in
     let is = item_there par_of c.args.tables.now.pars.items c.loop-par.par c.index-row.result.now
     (search rules) c.index-row.ensures in
-    let long = length-map c.index-row.result.now.branches.items branch_of in
     let past : c.loop-branch.branch ≡ length c.index-row.result.now.branches.items = search rules in
-    row_placed m c.loop-par.par c.loop-branch.branch row c.loop-branch.places.items is
-    (past ∙ sym long) c.loop-branch.invariant
+    row_placed (contents_of c.args.tables.now) c.loop-par.par c.loop-branch.branch _ c.loop-branch.places.items is
+    (past ∙ sym (length-map c.index-row.result.now.branches.items branch_of)) c.loop-branch.invariant
