@@ -9,23 +9,19 @@ use Rattle.module_format.proofs.places.places_of.Goals as goal
 pub owner_of-owner-requires-clause-there : goal.owner_of-owner-requires-clause-there
 owner_of-owner-requires-clause-there c =
     let m = contents_of c.args.tables.now in
-    let row = par_of c.index-row.result.now in
     let is = item_there par_of c.args.tables.now.pars.items c.loop-par.par c.index-row.result.now
     (search rules) c.index-row.ensures in
-    let known =
-    context_before (first_branch m) (length m.code) no_branches m.pars c.loop-par.par row c.requires.rows.pars is in
-    let many = c.loop-par.invariant.many in
-    let same = ap length c.deref.ensures.value in
-    omega arith
+    let known = context_before (first_branch m) (length m.code) no_branches m.pars c.loop-par.par
+    (par_of c.index-row.result.now) c.requires.rows.pars is in
+    omega (arith, known, c.loop-par.invariant.many, ap length c.deref.ensures.value)
 
 pub overflow_cast-branch : goal.overflow_cast-branch
 overflow_cast-branch c =
     let m = contents_of c.args.tables.now in
-    let row = par_of c.index-row.result.now in
-    let is = item_there par_of c.args.tables.now.pars.items c.loop-par.par c.index-row.result.now
-    (search rules) c.index-row.ensures in
-    let few =
-    branches_few (first_branch m) (length m.code) no_branches m.pars c.loop-par.par row c.requires.rows.pars is in
+    let few = branches_few (first_branch m) (length m.code) no_branches m.pars c.loop-par.par
+    (par_of c.index-row.result.now) c.requires.rows.pars
+    (item_there par_of c.args.tables.now.pars.items c.loop-par.par c.index-row.result.now
+    (search rules) c.index-row.ensures) in
     let long = length-map c.index-row.result.now.branches.items branch_of in
     omega (arith, c.loop-branch-test.true)
 

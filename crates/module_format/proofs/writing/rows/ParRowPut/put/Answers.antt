@@ -1,4 +1,4 @@
-use Rattle.std.proofs.Common.{◌≡◌, length, map, refl, FitsSigned, rules, arith, vec_len, w32}
+use Rattle.std.proofs.Common.{◌≡◌, length, map, refl, rules, arith, vec_len, w32}
 use Rattle.std.proofs.lemmas.Int.{to_z-of_z}
 use Rattle.std.proofs.lemmas.List.{map-id, length-map}
 use Rattle.module_format.specs.Contents.{branch_of}
@@ -10,10 +10,8 @@ pub returns : goal.returns
 unfolding par_bytes
 returns c =
     let row = c.args.self.now in
-    let depth_fits : FitsSigned w32 row.depth = search rules in
-    let block_fits : FitsSigned w32 row.block = search rules in
-    let depth = rw (to_z-of_z w32 row.depth depth_fits) at c.i32.ensures in
-    let block = rw (to_z-of_z w32 row.block block_fits) at c.i32-2.ensures in
+    let depth = rw (to_z-of_z w32 row.depth (search rules)) at c.i32.ensures in
+    let block = rw (to_z-of_z w32 row.block (search rules)) at c.i32-2.ensures in
     let branches = map branch_of row.branches.items in
     let channel_len : vec_len row.channels ≡ length row.channels.items = omega (arith, row.channels.ok.0) in
     let mapped : length branches ≡ length row.branches.items = rw length-map refl in

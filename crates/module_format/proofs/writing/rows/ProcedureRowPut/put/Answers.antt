@@ -1,4 +1,4 @@
-use Rattle.std.proofs.Common.{◌≡◌, length, FitsSigned, rules, arith, vec_len, w32}
+use Rattle.std.proofs.Common.{◌≡◌, length, rules, arith, vec_len, w32}
 use Rattle.std.proofs.lemmas.Int.{to_z-of_z}
 use Rattle.std.proofs.lemmas.List.{map-id}
 use Rattle.module_format.specs.Spelling.{procedure_bytes}
@@ -9,10 +9,8 @@ pub returns : goal.returns
 unfolding procedure_bytes
 returns c =
     let row = c.args.self.now in
-    let lo_fits : FitsSigned w32 row.lo = search rules in
-    let hi_fits : FitsSigned w32 row.hi = search rules in
     let len : vec_len row.parameters ≡ length row.parameters.items = omega (arith, row.parameters.ok.0) in
-    (piece _ _ c.u32.ensures >> piece _ _ (rw (to_z-of_z w32 row.lo lo_fits) at c.i32.ensures)
-    >> piece _ _ (rw (to_z-of_z w32 row.hi hi_fits) at c.i32-2.ensures) >> piece _ _ c.u64.ensures
+    (piece _ _ c.u32.ensures >> piece _ _ (rw (to_z-of_z w32 row.lo (search rules)) at c.i32.ensures)
+    >> piece _ _ (rw (to_z-of_z w32 row.hi (search rules)) at c.i32-2.ensures) >> piece _ _ c.u64.ensures
     >> piece _ _ (rw (c.len.ensures, len) at c.u16.ensures)
     >> piece _ _ (rw (c.deref.ensures.value, map-id row.parameters.items) at c.put_all.ensures)).wrote
