@@ -1,5 +1,5 @@
 -- The laws of frame words, parameters and branches.
-use Rattle.std.proofs.Common.{◌≡◌, ℕ, ◌^◌, ◌<◌, ◌≤◌, ℤ, ◌<ℤ◌, false, Bool, List, [], ◌∷◌, ◌++◌, length, Ok, refl, ap}
+use Rattle.std.proofs.Common.{◌≡◌, ℕ, ◌^◌, ◌<◌, ◌≤◌, ℤ, ◌<ℤ◌, false, Bool, List, [], ◌∷◌, ◌++◌, Ok, refl, ap}
 use Rattle.std.proofs.Common.{◌∙◌, append_assoc, arith, FitsSigned}
 use Rattle.std.specs.Int.{w32}
 use Rattle.std.specs.List.{flat_map, list_any, AllByRecursion}
@@ -7,12 +7,11 @@ use Rattle.std.proofs.lemmas.Bool.{ltb-true, lt-ltb, leb-true, le-leb, not-true,
 use Rattle.module_format.specs.declared.rows.Interval.{Interval}
 use Rattle.module_format.specs.declared.rows.BranchCounts.{BranchCounts}
 use Rattle.module_format.specs.Contents.{Branch, counts_of, CountsFit}
-use Rattle.module_format.specs.Order.{IsBytes, InOrder, least_word}
-use Rattle.module_format.specs.Pars.{IntervalKeeps, behind_interval, meet, ReadKeeps, NumberKeeps, behind_number}
-use Rattle.module_format.specs.Pars.{Before, IsBranchEntry, BranchKeeps}
+use Rattle.module_format.specs.Order.{IsBytes, least_word}
+use Rattle.module_format.specs.Pars.{IntervalKeeps, meet, ReadKeeps, NumberKeeps}
+use Rattle.module_format.specs.Pars.{first_key, Before, IsBranchEntry, BranchKeeps}
 use Rattle.module_format.specs.Spelling.{u16_bytes, u32_bytes, i32_bytes, interval_bytes, end_bytes, counts_bytes}
 use Rattle.module_format.specs.Spelling.{branch_head, branch_bytes}
-use Rattle.module_format.specs.Reading.{list_at}
 use Rattle.module_format.specs.ReadingPars.{interval_end_at, words_at, read_words_at, parameter_number_at}
 use Rattle.module_format.specs.ReadingPars.{branch_entry_at, branch_counts_at, branch_at}
 use Rattle.module_format.proofs.Tools.{Has, has_ok, step, Spelled, tested_takes, tested_again}
@@ -21,7 +20,7 @@ use Rattle.module_format.proofs.Tools.{list_takes, list_again}
 use Rattle.module_format.proofs.FieldLaws.{int_lt-true, int_lt-holds, u16_takes, u16_again, in_code_takes}
 use Rattle.module_format.proofs.FieldLaws.{in_code_again, int_takes, int_again}
 use Rattle.module_format.proofs.RowLaws.{first_word_takes, first_word_again}
-use Rattle.module_format.proofs.EndLaws.{ends_take, ends_again}
+use Rattle.module_format.proofs.EndLaws.{end_takes, end_again}
 
 -- ---- frame words
 
@@ -48,7 +47,7 @@ module _ (size : ℕ) where
   unfolding interval_end_at
   interval_end_again lo hi rest fits some = tested_again _ _ _ _ (int_again size hi rest fits) (int_lt-holds _ _ some)
 
-  words_take : (low : ℤ) (bytes : List ℕ) → IsBytes bytes
+  pub words_take : (low : ℤ) (bytes : List ℕ) → IsBytes bytes
       → Has (words_at size low bytes) (Spelled bytes interval_bytes (IntervalKeeps low))
   unfolding words_at interval_bytes
   words_take low bytes fits =
@@ -64,19 +63,6 @@ module _ (size : ℕ) where
       ∙ step _ (first_word_again size low i.lo (i32_bytes i.hi ++ rest) h.lo_fits h.apart)
       (step _ (interval_end_again i.lo i.hi rest h.hi_fits h.some) refl)
 
-  pub writes_take : (count : ℕ) (bytes : List ℕ) → IsBytes bytes
-      → Has (list_at (words_at size) behind_interval count least_word bytes)
-      (Spelled bytes (flat_map interval_bytes)
-      (λ is. (length is ≡ count) × InOrder IntervalKeeps behind_interval least_word is))
-  writes_take count bytes fits =
-      list_takes (words_at size) behind_interval interval_bytes IntervalKeeps words_take count least_word bytes fits
-
-  writes_again : (is : List Interval) (rest : List ℕ) → InOrder IntervalKeeps behind_interval least_word is
-      → list_at (words_at size) behind_interval (length is) least_word (flat_map interval_bytes is ++ rest)
-      ≡ Ok (is, rest)
-  writes_again is rest h =
-      list_again (words_at size) behind_interval interval_bytes IntervalKeeps words_again is least_word rest h
-
   module _ (writes : List Interval) where
     read_words_take : (low : ℤ) (bytes : List ℕ) → IsBytes bytes
         → Has (read_words_at size writes low bytes) (Spelled bytes interval_bytes (ReadKeeps writes low))
@@ -91,19 +77,6 @@ module _ (size : ℕ) where
     read_words_again low i rest h =
         tested_again _ _ _ _ (words_again low i rest h.interval) (rw (pass_none (meet i) writes h.apart) refl)
 
-    reads_take : (count : ℕ) (bytes : List ℕ) → IsBytes bytes
-        → Has (list_at (read_words_at size writes) behind_interval count least_word bytes)
-        (Spelled bytes (flat_map interval_bytes)
-        (λ is. (length is ≡ count) × InOrder (ReadKeeps writes) behind_interval least_word is))
-    reads_take count bytes fits = list_takes (read_words_at size writes) behind_interval interval_bytes
-        (ReadKeeps writes) read_words_take count least_word bytes fits
-
-    reads_again : (is : List Interval) (rest : List ℕ) → InOrder (ReadKeeps writes) behind_interval least_word is
-        → list_at (read_words_at size writes) behind_interval (length is) least_word
-        (flat_map interval_bytes is ++ rest) ≡ Ok (is, rest)
-    reads_again is rest h = list_again (read_words_at size writes) behind_interval interval_bytes
-        (ReadKeeps writes) read_words_again is least_word rest h
-
   -- ---- parameters
 
   parameter_number_takes : (low : ℕ) (bytes : List ℕ) → IsBytes bytes
@@ -117,18 +90,6 @@ module _ (size : ℕ) where
       → parameter_number_at size low (u16_bytes n ++ rest) ≡ Ok (n, rest)
   unfolding parameter_number_at
   parameter_number_again low n rest h = tested_again _ _ _ _ (u16_again size n rest h.fits) (le-leb _ _ h.rises)
-
-  numbers_take : (count : ℕ) (bytes : List ℕ) → IsBytes bytes
-      → Has (list_at (parameter_number_at size) behind_number count 0 bytes)
-      (Spelled bytes (flat_map u16_bytes) (λ ns. (length ns ≡ count) × InOrder NumberKeeps behind_number 0 ns))
-  numbers_take count bytes fits =
-      list_takes
-      (parameter_number_at size) behind_number u16_bytes NumberKeeps parameter_number_takes count 0 bytes fits
-
-  numbers_again : (ns : List ℕ) (rest : List ℕ) → InOrder NumberKeeps behind_number 0 ns
-      → list_at (parameter_number_at size) behind_number (length ns) 0 (flat_map u16_bytes ns ++ rest) ≡ Ok (ns, rest)
-  numbers_again ns rest h =
-      list_again (parameter_number_at size) behind_number u16_bytes NumberKeeps parameter_number_again ns 0 rest h
 
 -- ---- branches
 
@@ -185,11 +146,11 @@ module _ (size code_len : ℕ) where
       field (nothing_taken fits) (branch_entry_takes before _) (λ entry h0 t0.
       field t0 (int_takes size _) (λ workspace h1 t1.
       field t1 (branch_counts_take size _) (λ counts h2 t2.
-      field t2 (writes_take size counts.0.writes _) (λ writes h3 t3.
-      field t3 (reads_take size writes.0 counts.0.reads _) (λ reads h4 t4.
-      field t4 (numbers_take size counts.0.written_parameters _) (λ written h5 t5.
-      field t5 (numbers_take size counts.0.read_parameters _) (λ read h6 t6.
-      field t6 (ends_take size counts.0.ends _) (λ ends h7 t7.
+      field t2 (list_takes (words_take size) counts.0.writes least_word _) (λ writes h3 t3.
+      field t3 (list_takes (read_words_take size writes.0) counts.0.reads least_word _) (λ reads h4 t4.
+      field t4 (list_takes (parameter_number_takes size) counts.0.written_parameters 0 _) (λ written h5 t5.
+      field t5 (list_takes (parameter_number_takes size) counts.0.read_parameters 0 _) (λ read h6 t6.
+      field t6 (list_takes (end_takes size) counts.0.ends first_key _) (λ ends h7 t7.
       has_ok _ (record {
         parts = rw (h3.0, h4.0, h5.0, h6.0, h7.0) t7.parts;
         rest_fits = t7.rest_fits;
@@ -226,8 +187,8 @@ module _ (size code_len : ℕ) where
       ∙ step _ (branch_entry_again before b.entry tail1 fits h.entry)
       (step _ (int_again size b.workspace tail2 h.workspace_fits)
       (step _ (branch_counts_again size counts tail3 g.counts)
-      (step _ (writes_again size b.writes tail4 g.writes)
-      (step _ (reads_again size b.writes b.reads tail5 g.reads)
-      (step _ (numbers_again size b.written_parameters tail6 g.written_parameters)
-      (step _ (numbers_again size b.read_parameters tail7 g.read_parameters)
-      (step _ (ends_again size b.ends rest g.ends) refl)))))))
+      (step _ (list_again _ _ _ (words_again size) b.writes least_word tail4 g.writes)
+      (step _ (list_again _ _ _ (read_words_again size b.writes) b.reads least_word tail5 g.reads)
+      (step _ (list_again _ _ _ (parameter_number_again size) b.written_parameters 0 tail6 g.written_parameters)
+      (step _ (list_again _ _ _ (parameter_number_again size) b.read_parameters 0 tail7 g.read_parameters)
+      (step _ (list_again _ _ _ (end_again size) b.ends first_key rest g.ends) refl)))))))

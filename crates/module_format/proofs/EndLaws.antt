@@ -1,10 +1,9 @@
 -- The laws of the channel ends that a branch is given.
 use Rattle.std.proofs.Common.{◌≡◌, ◌≢◌, ℕ, zero, suc, ◌^◌, ◌<◌, ◌≤◌, ℤ, pos, negsuc, Bool, true, false, ◌&&◌, ◌||◌}
-use Rattle.std.proofs.Common.{unsigned_abs, ltb, leb, eqb, IsTrue, List, [], ◌∷◌, ◌++◌, length, Ok, refl, sym, ap, ap₂}
+use Rattle.std.proofs.Common.{unsigned_abs, ltb, leb, eqb, IsTrue, List, [], ◌∷◌, ◌++◌, Ok, refl, sym, ap, ap₂}
 use Rattle.std.proofs.Common.{subst, ◌∙◌, append_assoc, arith, inl, inr, FitsSigned}
 use Rattle.std.specs.Prelude.{int_lt, int_le}
 use Rattle.std.specs.Int.{w32}
-use Rattle.std.specs.List.{flat_map}
 use Rattle.std.proofs.lemmas.Bool.{leb-true, le-leb, eqb-true, not-true, or_cases}
 use Rattle.std.proofs.lemmas.Bool.Decides.{nat_tests}
 use Rattle.std.proofs.lemmas.Int.{ints}
@@ -14,15 +13,14 @@ use Rattle.module_format.specs.declared.rows.Direction.{Direction}
 use Rattle.module_format.specs.declared.rows.Direction.TheVariants as directions
 use Rattle.module_format.specs.declared.rows.EndRow.{EndRow}
 use Rattle.module_format.specs.declared.rows.EndKey.{EndKey}
-use Rattle.module_format.specs.Order.{IsBytes, InOrder}
-use Rattle.module_format.specs.Pars.{EndKindKeeps, EndKeeps, behind_end, kind_of, number_of, element_of}
-use Rattle.module_format.specs.Pars.{direction_number, key_of, first_key, is_below}
+use Rattle.module_format.specs.Order.{IsBytes}
+use Rattle.module_format.specs.Pars.{EndKindKeeps, EndKeeps, kind_of, number_of, element_of}
+use Rattle.module_format.specs.Pars.{direction_number, key_of, is_below}
 use Rattle.module_format.specs.Spelling.{u32_bytes, i32_bytes, end_kind_bytes, end_bytes, direction_byte}
-use Rattle.module_format.specs.Reading.{byte_at, list_at}
+use Rattle.module_format.specs.Reading.{byte_at}
 use Rattle.module_format.specs.ReadingPars.{end_kind_at, is_number_of, end_number_at, end_element_at, end_direction_at}
 use Rattle.module_format.specs.ReadingPars.{end_kind, direction_of, end_at}
 use Rattle.module_format.proofs.Tools.{Has, has_ok, has_then, step, Spelled, join, tested_takes, tested_again}
-use Rattle.module_format.proofs.Tools.{list_takes, list_again}
 use Rattle.module_format.proofs.FieldLaws.{u32_takes, u32_again, int_takes, int_again, byte_takes}
 
 -- ---- the four tests by which ends rise
@@ -323,13 +321,3 @@ module _ (size : ℕ) where
       (step _ (end_direction_again size before kind number element direction rest (direction_tested e.direction)
       (direction_rises before y h.rises))
       (ap (λ (x : EndRow). Ok (x, rest)) (made_again e)))))
-
-  pub ends_take : (count : ℕ) (bytes : List ℕ) → IsBytes bytes
-      → Has (list_at (end_at size) behind_end count first_key bytes)
-      (Spelled bytes (flat_map end_bytes) (λ es. (length es ≡ count) × InOrder EndKeeps behind_end first_key es))
-  ends_take count bytes fits =
-      list_takes (end_at size) behind_end end_bytes EndKeeps end_takes count first_key bytes fits
-
-  pub ends_again : (es : List EndRow) (rest : List ℕ) → InOrder EndKeeps behind_end first_key es
-      → list_at (end_at size) behind_end (length es) first_key (flat_map end_bytes es ++ rest) ≡ Ok (es, rest)
-  ends_again es rest h = list_again (end_at size) behind_end end_bytes EndKeeps end_again es first_key rest h

@@ -260,33 +260,10 @@ header_of c = record {
   };
 }
 
--- a header with these lengths
-with_lengths : Header → ℕ → ℕ → ℕ → ℕ → ℕ → ℕ → Header
-with_lengths h code constants procedures labels pars table_rows = record {
-  version = h.version;
-  sizes = record {
-    code_len = code;
-    const_len = constants;
-    data_words = h.sizes.data_words;
-    base = h.sizes.base;
-    budget = h.sizes.budget;
-    finish = h.sizes.finish;
-  };
-  lengths = h.lengths;
-  counts = record {
-    procedures = procedures;
-    labels = labels;
-    pars = pars;
-    has_long_operations = h.counts.has_long_operations;
-    table_rows = table_rows;
-  };
-}
-
 header_is : (h : Header) (c : Contents) → IsFrom h c → header_of c ≡ h
-unfolding header_of with_lengths
+unfolding header_of
 header_is h c e =
-    let same : with_lengths h (length c.code) (length c.constants) (length c.procedures) (length c.labels)
-    (length c.pars) (length c.table_rows) ≡ h =
+    let same : header_of (contents_from h c.code c.constants c.procedures c.labels c.pars c.table_rows) ≡ h =
     rw (e.code, e.constants, e.procedures, e.labels, e.pars, e.table_rows) refl in
     ap header_of e.made ∙ same
 

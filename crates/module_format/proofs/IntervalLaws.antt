@@ -1,8 +1,9 @@
 -- Intervals that rise: which of them can have a word of another.
 use Rattle.std.proofs.Common.{◌≡◌, ℕ, zero, suc, ◌<◌, ◌≤◌, ℤ, ◌≤ℤ◌, Bool, true, false, List, [], ◌∷◌, length, get_or}
-use Rattle.std.proofs.Common.{refl, sym, arith, inl, inr}
+use Rattle.std.proofs.Common.{refl, sym, subst, arith, inl, inr}
 use Rattle.std.specs.Prelude.{◌<ℤ◌, int_lt, int_le}
 use Rattle.std.specs.List.{list_any}
+use Rattle.std.specs.List.Sorted.{IsPartitionPoint}
 use Rattle.std.proofs.lemmas.Bool.{cases_lt}
 use Rattle.std.proofs.Math.Bool.{or-true, and-false}
 use Rattle.std.specs.Coded.{×_prop, Unit-prop}
@@ -73,7 +74,7 @@ module _ (d : Interval) where
     passed : (w : Interval) → int_le w.hi i.lo ≡ true → meet i w ≡ false
     passed w e = rw (int_le-lt i.lo w.hi (int_le-true w.hi i.lo e)) refl
 
-    pub one_tells : (low : ℤ) (ws : List Interval) (n : ℕ) → InOrder IntervalKeeps behind_interval low ws
+    one_tells : (low : ℤ) (ws : List Interval) (n : ℕ) → InOrder IntervalKeeps behind_interval low ws
         → n < length ws
         → ((k : ℕ) → k < n → int_le (get_or ws k d).hi i.lo ≡ true) → int_le (get_or ws n d).hi i.lo ≡ false
         → int_lt (get_or ws n d).lo i.hi ≡ list_any (meet i) ws
@@ -98,6 +99,13 @@ module _ (d : Interval) where
                 rw (int_le-lt (get_or ws k d).lo i.hi behind) (and-false (int_lt i.lo (get_or ws k d).hi))
           ]))
         ] refl
+
+    pub first_tells : (low : ℤ) (ws : List Interval) (n : ℕ) → InOrder IntervalKeeps behind_interval low ws
+        → IsPartitionPoint (λ (w : Interval). int_le w.hi i.lo ≡ true) (λ (w : Interval). int_le w.hi i.lo ≡ false) ws n
+        → n < length ws → d ≡ get_or ws n d → int_lt d.lo i.hi ≡ list_any (meet i) ws
+    first_tells low ws n h point inside is =
+        subst (λ (w : Interval). int_lt w.lo i.hi ≡ list_any (meet i) ws) (sym is)
+        (one_tells low ws n h inside (λ k lt. point.0 k d (omega arith) lt) (point.1 n d (omega arith) inside))
 
     pub none_tells : (ws : List Interval) → ((k : ℕ) → k < length ws → int_le (get_or ws k d).hi i.lo ≡ true)
         → false ≡ list_any (meet i) ws

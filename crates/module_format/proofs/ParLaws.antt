@@ -6,11 +6,10 @@ use Rattle.module_format.specs.declared.limits.TheConstants.{MAX_BRANCHES, MAX_M
 use Rattle.module_format.specs.declared.rows.ChannelRow.{ChannelRow}
 use Rattle.module_format.specs.Contents.{Par}
 use Rattle.module_format.specs.Order.{IsBytes, InOrder, least_word}
-use Rattle.module_format.specs.Pars.{ChannelKeeps, behind_channel, Before, BranchKeeps, behind_branch, ParKeeps}
+use Rattle.module_format.specs.Pars.{ChannelKeeps, Before, ParKeeps}
 use Rattle.module_format.specs.Pars.{behind_par, no_branches}
 use Rattle.module_format.specs.Spelling.{u16_bytes, u32_bytes, i32_bytes, channel_bytes, branch_bytes, par_bytes}
-use Rattle.module_format.specs.Reading.{list_at}
-use Rattle.module_format.specs.ReadingPars.{channel_at, branch_at, context_number_at, branch_count_at, par_row_at}
+use Rattle.module_format.specs.ReadingPars.{channel_at, context_number_at, branch_count_at, par_row_at}
 use Rattle.module_format.specs.ReadingPars.{par_rows_at}
 use Rattle.module_format.proofs.Tools.{Has, has_ok, step, Spelled, nothing_taken, field, all_taken, tested_takes, tested_again}
 use Rattle.module_format.proofs.Tools.{list_takes, list_again}
@@ -18,7 +17,6 @@ use Rattle.module_format.proofs.FieldLaws.{wide16, limited_takes, limited_again,
 use Rattle.module_format.proofs.FieldLaws.{in_code_takes, in_code_again, int_takes, int_again, u16_takes, u16_again}
 use Rattle.module_format.proofs.BranchLaws.{branch_takes, branch_again}
 use Rattle.module_format.proofs.RowLaws.{first_word_takes, first_word_again}
-pub use Rattle.module_format.proofs.BranchLaws.{writes_take}
 
 -- ---- channels
 
@@ -39,19 +37,6 @@ module _ (size : ℕ) where
       ap (channel_at size low) (append_assoc (i32_bytes c.word) (u32_bytes c.length) rest)
       ∙ step _ (first_word_again size low c.word (u32_bytes c.length ++ rest) h.word_fits h.rises)
       (step _ (positive_again size MAX_MESSAGE c.length rest small h.has_length h.limit) refl)
-
-  channels_take : (count : ℕ) (bytes : List ℕ) → IsBytes bytes
-      → Has (list_at (channel_at size) behind_channel count least_word bytes)
-      (Spelled bytes (flat_map channel_bytes)
-      (λ cs. (length cs ≡ count) × InOrder ChannelKeeps behind_channel least_word cs))
-  channels_take count bytes fits =
-      list_takes (channel_at size) behind_channel channel_bytes ChannelKeeps channel_takes count least_word bytes fits
-
-  channels_again : (cs : List ChannelRow) (rest : List ℕ) → InOrder ChannelKeeps behind_channel least_word cs
-      → list_at (channel_at size) behind_channel (length cs) least_word (flat_map channel_bytes cs ++ rest)
-      ≡ Ok (cs, rest)
-  channels_again cs rest h =
-      list_again (channel_at size) behind_channel channel_bytes ChannelKeeps channel_again cs least_word rest h
 
   -- ---- the fields of a row
 
@@ -83,14 +68,6 @@ module _ (size : ℕ) where
 -- ---- rows
 
 module _ (size own code_len : ℕ) where
-  branches_take : (before : Before) (count : ℕ) (bytes : List ℕ) → IsBytes bytes
-      → Has (list_at (branch_at size code_len) behind_branch count before bytes)
-      (Spelled bytes (flat_map branch_bytes)
-      (λ bs. (length bs ≡ count) × InOrder (BranchKeeps code_len) behind_branch before bs))
-  branches_take before count bytes fits =
-      list_takes (branch_at size code_len) behind_branch branch_bytes (BranchKeeps code_len)
-      (branch_takes size code_len) count before bytes fits
-
   par_takes : (before : Before) (bytes : List ℕ) → IsBytes bytes
       → Has (par_row_at size own code_len before bytes) (Spelled bytes par_bytes (ParKeeps own code_len before))
   unfolding par_row_at par_bytes
@@ -101,8 +78,8 @@ module _ (size own code_len : ℕ) where
       field t2 (in_code_takes size code_len _) (λ successor h3 t3.
       field t3 (u16_takes size _) (λ channel_count h4 t4.
       field t4 (branch_count_takes size _) (λ branch_count h5 t5.
-      field t5 (channels_take size channel_count.0 _) (λ channels h6 t6.
-      field t6 (branches_take before branch_count.0 _) (λ branches h7 t7.
+      field t5 (list_takes (channel_takes size) channel_count.0 least_word _) (λ channels h6 t6.
+      field t6 (list_takes (branch_takes size code_len) branch_count.0 before _) (λ branches h7 t7.
       has_ok _ (record {
         parts = rw (h6.0, h7.0) t7.parts;
         rest_fits = t7.rest_fits;
@@ -141,21 +118,18 @@ module _ (size own code_len : ℕ) where
       (step _ (in_code_again size code_len row.successor tail4 fits h.successor_some h.successor_in_code)
       (step _ (u16_again size (length row.channels) tail5 h.channel_count)
       (step _ (branch_count_again size (length row.branches) tail6 h.has_branch h.branch_limit)
-      (step _ (channels_again size row.channels tail7 h.channels)
-      (step _ (list_again (branch_at size code_len) behind_branch branch_bytes (BranchKeeps code_len)
-      (branch_again size code_len small) row.branches before rest h.branches) refl)))))))
+      (step _ (list_again _ _ _ (channel_again size) row.channels least_word tail7 h.channels)
+      (step _ (list_again _ _ _ (branch_again size code_len small) row.branches before rest h.branches) refl)))))))
 
   pub pars_take : (count : ℕ) (bytes : List ℕ) → IsBytes bytes
       → Has (par_rows_at size own code_len count bytes)
       (Spelled bytes (flat_map par_bytes)
       (λ rows. (length rows ≡ count) × InOrder (ParKeeps own code_len) behind_par no_branches rows))
   unfolding par_rows_at
-  pars_take count bytes fits = list_takes (par_row_at size own code_len) behind_par par_bytes
-      (ParKeeps own code_len) par_takes count no_branches bytes fits
+  pars_take count bytes fits = list_takes par_takes count no_branches bytes fits
 
   pub pars_again : code_len < 2 ^ 32 → (rows : List Par) (rest : List ℕ)
       → InOrder (ParKeeps own code_len) behind_par no_branches rows
       → par_rows_at size own code_len (length rows) (flat_map par_bytes rows ++ rest) ≡ Ok (rows, rest)
   unfolding par_rows_at
-  pars_again small rows rest h = list_again (par_row_at size own code_len) behind_par par_bytes (ParKeeps own code_len)
-      (par_again small) rows no_branches rest h
+  pars_again small rows rest h = list_again _ _ _ (par_again small) rows no_branches rest h

@@ -119,6 +119,19 @@ with_item P [] i lt f = absurd (omega arith)
 with_item P (x ∷ xs) zero lt f = f x refl
 with_item P (x ∷ xs) (suc i) lt f = with_item P xs i (omega arith) f
 
+-- what holds of each item and of one more
+pub each_more : {X : Type 0} (P : ℕ → X → Type 0) (xs : List X) (x : X)
+    → ((i : ℕ) (d : X) → i < length xs → P i (get_or xs i d)) → P (length xs) x
+    → (i : ℕ) (d : X) → i < length (xs ++ x ∷ []) → P i (get_or (xs ++ x ∷ []) i d)
+each_more {X = X} P xs x each last i d lt =
+    let longer = length-append xs (x ∷ []) in
+    elim (cases_lt i (length xs)) [
+      | inl less ↦ subst (λ (y : X). P i y) (sym (get_or_append_left xs (x ∷ []) d i less)) (each i d less)
+      | inr ge ↦
+          let at_end : i ≡ length xs = omega arith in
+          rw at_end (subst (λ (y : X). P (length xs) y) (sym (get_or_push xs x d (length xs) refl)) last)
+    ]
+
 -- one place more
 pub more_places : (c : Contents) (k b : ℕ) (row : Par) (places : List Place) (place : Place) → RowsKeep c
     → slice_get c.pars k ≡ Some row → b < length row.branches
@@ -137,15 +150,7 @@ more_places c k b row places place keeps is inside par branch owns h =
     let longer = length-append places (place ∷ []) in
     record {
       many = omega arith;
-      each = λ i d lt. elim (cases_lt i (length places)) [
-        | inl less ↦ subst (λ (p : Place). IsPlace c i p) (sym (get_or_append_left places (place ∷ []) d i less))
-            (h.each i d less)
-        | inr ge ↦
-            let last : i ≡ branch_count (take k c.pars) + b = omega arith in
-            let at_end : i ≡ length places = omega arith in
-            rw at_end (subst (λ (p : Place). IsPlace c (length places) p)
-            (sym (get_or_push places place d (length places) refl)) (rw count here))
-      ];
+      each = each_more (IsPlace c) places place h.each (rw count here);
     }
 
 -- the branches of one row more

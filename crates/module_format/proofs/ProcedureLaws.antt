@@ -1,6 +1,6 @@
 -- The laws of parameters, procedure rows and table rows.
 use Rattle.std.proofs.Common.{◌≡◌, ℕ, ◌-◌, ◌^◌, ◌<◌, ◌≤◌, ℤ, pos, negsuc, ◌≤ℤ◌, ◌<ℤ◌, true, ◌&&◌, cond, ltb, eqb, List}
-use Rattle.std.proofs.Common.{[], ◌∷◌, ◌++◌, length, take, drop, Ok, Err, refl, ap, ◌∙◌, append_assoc, arith}
+use Rattle.std.proofs.Common.{[], ◌∷◌, ◌++◌, length, take, drop, Ok, Err, refl, sym, ap, ◌∙◌, append_assoc, arith}
 use Rattle.std.proofs.Common.{FitsSigned}
 use Rattle.std.specs.Prelude.{IsTrue, nat_le, int_lt, int_le}
 use Rattle.std.specs.Int.{w32}
@@ -29,14 +29,14 @@ use Rattle.module_format.specs.ReadingRows.{kind_at, parameter_word_at, paramete
 use Rattle.module_format.specs.ReadingRows.{frame_end_at, rising_at, procedure_row_at, procedure_rows_at}
 use Rattle.module_format.specs.ReadingRows.{table_start_at, table_end_at, is_within, table_row_at, table_rows_at}
 use Rattle.module_format.proofs.Tools.{Has, has_ok, has_err, has_then, has_if, has_cond, has_weaker, step, Spelled}
-use Rattle.module_format.proofs.Tools.{nothing_taken, field, regroup, all_taken}
+use Rattle.module_format.proofs.Tools.{nothing_taken, tag_taken, field, regroup, all_taken}
 use Rattle.module_format.proofs.Tools.{join, tested_takes, tested_again, list_takes, list_again}
 use Rattle.module_format.proofs.FieldLaws.{IsBytes-rest, wide16, wide64, number_takes, number_again, limited_takes}
 use Rattle.module_format.proofs.FieldLaws.{limited_again, u32_takes, u32_again, positive_takes, positive_again}
 use Rattle.module_format.proofs.FieldLaws.{in_code_takes, in_code_again, int_takes, int_again, interval_takes}
 use Rattle.module_format.proofs.FieldLaws.{interval_again, byte_takes, int_le-true, int_le-le, int_lt-true}
 use Rattle.module_format.proofs.FieldLaws.{int_lt-holds}
-use Rattle.module_format.proofs.RowLaws.{tagged, span_takes, span_again}
+use Rattle.module_format.proofs.RowLaws.{span_takes, span_again}
 
 -- tests
 
@@ -83,16 +83,10 @@ module _ (size : ℕ) where
       (Spelled (tag ∷ bytes) (kind_bytes version) (KindKeeps version))
   unfolding region_at
   region_takes version kind tag n bytes spelled kept fits e =
-      has_then _ _ (region_size_takes bytes fits) (λ region h.
-      has_then _ _ (words_range_takes version region.1 h.rest_fits) (λ range g.
-      let whole : IsRegion version region.0 range.0.0 range.0.1 =
-      record { size_fits = h.keeps.0; some = h.keeps.1; words = h.keeps.2; range = g.keeps } in
-      let both = join (u32_bytes region.0) (range_bytes version range.0.0 range.0.1) range.1 h.parts g.parts in
-      has_ok (kind region.0 range.0.0 range.0.1, range.1) (record {
-        parts = rw (spelled region.0 range.0.0 range.0.1) (tagged tag n e both);
-        rest_fits = g.rest_fits;
-        keeps = kept region.0 range.0.0 range.0.1 whole;
-      })))
+      field (tag_taken e fits) (region_size_takes _) (λ region h t.
+      field t (words_range_takes version _) (λ range g u.
+      all_taken (regroup (sym (spelled region.0 range.0.0 range.0.1)) u) (kept region.0 range.0.0 range.0.1
+      (record { size_fits = h.0; some = h.1; words = h.2; range = g }))))
 
   region_again : (version : Version) (kind : ℕ → ℤ → ℤ → ParameterKind) (n : ℕ) (lo hi : ℤ) (rest : List ℕ)
       → IsRegion version n lo hi → region_at size version kind ((u32_bytes n ++ range_bytes version lo hi) ++ rest) ≡ Ok
@@ -122,22 +116,11 @@ module _ (size : ℕ) where
       → Has (channels_at size bytes) (Spelled (tag ∷ bytes) (kind_bytes version) (KindKeeps version))
   unfolding channels_at
   channels_take version tag bytes fits e =
-      has_then _ _ (span_takes size bytes fits) (λ count h.
-      has_then _ _ (positive_takes size MAX_MESSAGE count.1 h.rest_fits) (λ len g.
-      has_then _ _ (ends_take len.1 g.rest_fits) (λ ends k.
-      let kept : AreChannels count.0 len.0 ends.0.0 =
-      record {
-        count_fits = h.keeps.0;
-        some = h.keeps.1;
-        has_length = g.keeps.0;
-        limit = g.keeps.1;
-        has_end = k.keeps.0;
-        no_more = k.keeps.1;
-      } in
-      let front = join (u32_bytes count.0) (u32_bytes len.0) len.1 h.parts g.parts in
-      let whole = join (u32_bytes count.0 ++ u32_bytes len.0) (ends.0.0 ∷ []) ends.1 front k.parts in
-      has_ok (kinds.Channels count.0 len.0 ends.0, ends.1)
-      (record { parts = tagged tag 3 e whole; rest_fits = k.rest_fits; keeps = kept }))))
+      field (tag_taken e fits) (span_takes size _) (λ count h t.
+      field t (positive_takes size MAX_MESSAGE _) (λ len g u.
+      field u (ends_take _) (λ ends k v.
+      all_taken v
+      (record { count_fits = h.0; some = h.1; has_length = g.0; limit = g.1; has_end = k.0; no_more = k.1 }))))
 
   channels_again : (count len : ℕ) (ends : Ends) (rest : List ℕ) → AreChannels count len ends.0
       → channels_at size ((u32_bytes count ++ u32_bytes len ++ ends.0 ∷ []) ++ rest)
@@ -156,9 +139,7 @@ module _ (size : ℕ) where
       → Has (value_at size bytes) (Spelled (tag ∷ bytes) (kind_bytes version) (KindKeeps version))
   unfolding value_at
   value_takes version tag bytes fits e =
-      has_then _ _ (interval_takes size bytes fits) (λ range h.
-      has_ok (kinds.Value range.0.0 range.0.1, range.1)
-      (record { parts = tagged tag 0 e h.parts; rest_fits = h.rest_fits; keeps = h.keeps }))
+      field (tag_taken e fits) (interval_takes size _) (λ range h t. all_taken t h)
 
   value_again : (lo hi : ℤ) (rest : List ℕ) → IsInterval lo hi
       → value_at size ((i32_bytes lo ++ i32_bytes hi) ++ rest) ≡ Ok (kinds.Value lo hi, rest)
@@ -225,8 +206,7 @@ module _ (size : ℕ) (version : Version) (hi : ℤ) where
   parameters_take bytes fits =
       has_then _ _ (limited_takes size 2 u16_bytes (2 ^ 16) wide16 MAX_PARAMETERS bytes fits) (λ count h.
       has_weaker (list_at (parameter_at size version hi) behind_parameter count.0 0 count.1)
-      (list_takes (parameter_at size version hi) behind_parameter (parameter_bytes version)
-      (ParameterKeeps version hi) parameter_takes count.0 0 count.1 h.rest_fits) (λ ps g.
+      (list_takes parameter_takes count.0 0 count.1 h.rest_fits) (λ ps g.
       let parts : bytes ≡ (u16_bytes (length ps.0) ++ flat_map (parameter_bytes version) ps.0) ++ ps.1 =
       join (u16_bytes (length ps.0)) (flat_map (parameter_bytes version) ps.0) ps.1
       (rw g.keeps.0 h.parts) g.parts in
@@ -260,8 +240,7 @@ module _ (size : ℕ) (version : Version) (hi : ℤ) where
         let lt : length ps < 2 ^ 16 = omega arith in
         step _ (limited_again size 2 u16_bytes (2 ^ 16) wide16 MAX_PARAMETERS (length ps)
         (flat_map (parameter_bytes version) ps ++ rest) lt few)
-        (list_again (parameter_at size version hi) behind_parameter (parameter_bytes version)
-        (ParameterKeeps version hi) parameter_again ps 0 rest h)
+        (list_again _ _ _ parameter_again ps 0 rest h)
 
 -- ---- procedure rows
 
@@ -323,8 +302,7 @@ module _ (size : ℕ) (version : Version) (code_len : ℕ) where
       (Spelled bytes (flat_map (procedure_bytes version))
       (λ rows. (length rows ≡ count) × InOrder (ProcedureKeeps version code_len) behind_procedure 0 rows))
   unfolding procedure_rows_at
-  procedures_take count bytes fits = list_takes (procedure_row_at size version code_len) behind_procedure
-      (procedure_bytes version) (ProcedureKeeps version code_len) procedure_takes count 0 bytes fits
+  procedures_take count bytes fits = list_takes procedure_takes count 0 bytes fits
 
   module _ (small : code_len < 2 ^ 32) where
     procedure_again : (low : ℕ) (row : Procedure) (rest : List ℕ) → ProcedureKeeps version code_len low row
@@ -351,8 +329,7 @@ module _ (size : ℕ) (version : Version) (code_len : ℕ) where
         → procedure_rows_at size version code_len (length rows) (flat_map (procedure_bytes version) rows ++ rest)
         ≡ Ok (rows, rest)
     unfolding procedure_rows_at
-    procedures_again rows rest h = list_again (procedure_row_at size version code_len) behind_procedure
-        (procedure_bytes version) (ProcedureKeeps version code_len) procedure_again rows 0 rest h
+    procedures_again rows rest h = list_again _ _ _ procedure_again rows 0 rest h
 
 -- ---- table rows
 
@@ -428,8 +405,7 @@ module _ (size : ℕ) (constants : List ℕ) where
       (Spelled bytes (flat_map table_row_bytes)
       (λ rows. (length rows ≡ count) × InOrder (TableKeeps constants) behind_table 0 rows))
   unfolding table_rows_at
-  tables_take count bytes fits = list_takes (table_row_at size constants) behind_table table_row_bytes
-      (TableKeeps constants) table_takes count 0 bytes fits
+  tables_take count bytes fits = list_takes table_takes count 0 bytes fits
 
   module _ (small : length constants < 2 ^ 32) where
     table_again : (low : ℕ) (row : TableRow) (rest : List ℕ) → TableKeeps constants low row
@@ -452,5 +428,4 @@ module _ (size : ℕ) (constants : List ℕ) where
     pub tables_again : (rows : List TableRow) (rest : List ℕ) → InOrder (TableKeeps constants) behind_table 0 rows
         → table_rows_at size constants (length rows) (flat_map table_row_bytes rows ++ rest) ≡ Ok (rows, rest)
     unfolding table_rows_at
-    tables_again rows rest h = list_again (table_row_at size constants) behind_table table_row_bytes
-        (TableKeeps constants) table_again rows 0 rest h
+    tables_again rows rest h = list_again _ _ _ table_again rows 0 rest h

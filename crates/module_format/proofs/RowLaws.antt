@@ -23,7 +23,7 @@ use Rattle.module_format.specs.Reading.{and_then, fault, place, byte_at, list_at
 use Rattle.module_format.specs.ReadingRows.{range_at, step_at, pointer_at, code_address_at, count_at, loop_at, fact_at}
 use Rattle.module_format.specs.ReadingRows.{register_at, word_at, first_word_at, span_at, entry_at, entries_at}
 use Rattle.module_format.specs.ReadingRows.{label_offset_at, registers_at, label_row_at, label_rows_at}
-use Rattle.module_format.proofs.Tools.{nothing_taken, field, regroup, all_taken}
+use Rattle.module_format.proofs.Tools.{nothing_taken, tag_taken, field, regroup, all_taken}
 use Rattle.module_format.proofs.Tools.{Has, has_ok, has_err, has_then, has_if, has_cond, has_weaker, step, Spelled}
 use Rattle.module_format.proofs.Tools.{join, tested_takes, tested_again, list_takes, list_again}
 use Rattle.module_format.proofs.FieldLaws.{IsBytes-rest, eqb-false, eqb-differ, int_le-true, int_le-le, wide16, wide64}
@@ -32,10 +32,6 @@ use Rattle.module_format.proofs.FieldLaws.{byte_takes, at_most_takes, at_most_ag
 use Rattle.module_format.proofs.FieldLaws.{in_code_takes, in_code_again}
 
 -- ---- facts
-
--- a tag, and what stands behind it
-pub tagged : (tag n : ℕ) {bytes behind : List ℕ} → tag ≡ n → bytes ≡ behind → tag ∷ bytes ≡ n ∷ behind
-tagged tag n e parts = rw e (ap (λ (t : List ℕ). n ∷ t) parts)
 
 -- a fact that registers and words have alike
 record IsCommon (code_len : ℕ) (f : Fact) : Type 0 where
@@ -132,43 +128,26 @@ module _ (size code_len : ℕ) where
       → Has (range_at size bytes) (Spelled (tag ∷ bytes) fact_bytes (IsCommon code_len))
   unfolding range_at fact_bytes
   range_takes tag bytes fits e =
-      has_then _ _ (interval_takes size bytes fits) (λ range h.
-      has_ok (facts.Number range.0.0 range.0.1, range.1) (record {
-        parts = tagged tag 1 e h.parts;
-        rest_fits = h.rest_fits;
-        keeps = record { register = h.keeps; word = λ span. h.keeps };
-      }))
+      field (tag_taken e fits) (interval_takes size _) (λ range h t.
+      all_taken t (record { register = h; word = λ span. h }))
 
   pointer_takes : (tag : ℕ) (bytes : List ℕ) → IsBytes bytes → tag ≡ 2
       → Has (pointer_at size bytes) (Spelled (tag ∷ bytes) fact_bytes (IsCommon code_len))
   unfolding pointer_at fact_bytes
   pointer_takes tag bytes fits e =
-      has_then _ _ (number_takes size 2 u16_bytes (2 ^ 16) wide16 bytes fits) (λ region h.
-      has_then _ _ (interval_takes size region.1 h.rest_fits) (λ range g.
-      has_then _ _ (step_takes size range.0.0 range.0.1 range.1 g.rest_fits) (λ s k.
+      field (tag_taken e fits) (number_takes size 2 u16_bytes (2 ^ 16) wide16 _) (λ region h t.
+      field t (interval_takes size _) (λ range g u.
+      field u (step_takes size range.0.0 range.0.1 _) (λ s k v.
       let kept : IsPointer region.0 range.0.0 range.0.1 s.0 =
-      record { region_fits = h.keeps; interval = g.keeps; stepped = k.keeps } in
-      let both = i32_bytes range.0.0 ++ i32_bytes range.0.1 in
-      let front = join (u16_bytes region.0) both range.1 h.parts g.parts in
-      let whole = join (u16_bytes region.0 ++ both) (step_size s.0 ∷ []) s.1 front k.parts in
-      let regrouped : (u16_bytes region.0 ++ both) ++ step_size s.0 ∷ [] ≡ u16_bytes region.0 ++ i32_bytes range.0.0
-      ++ i32_bytes range.0.1 ++ step_size s.0 ∷ [] = simp append_assoc in
-      has_ok (facts.Pointer region.0 range.0.0 range.0.1 s.0, s.1) (record {
-        parts = tagged tag 2 e (whole ∙ ap (λ (t : List ℕ). t ++ s.1) regrouped);
-        rest_fits = k.rest_fits;
-        keeps = record { register = kept; word = λ span. kept };
-      }))))
+      record { region_fits = h; interval = g; stepped = k } in
+      all_taken (regroup (simp append_assoc) v) (record { register = kept; word = λ span. kept }))))
 
   code_address_takes : (tag : ℕ) (bytes : List ℕ) → IsBytes bytes → tag ≡ 3
       → Has (code_address_at size code_len bytes) (Spelled (tag ∷ bytes) fact_bytes (IsCommon code_len))
   unfolding code_address_at fact_bytes
   code_address_takes tag bytes fits e =
-      has_then _ _ (at_most_takes size code_len bytes fits) (λ offset h.
-      has_ok (facts.CodeAddress offset.0, offset.1) (record {
-        parts = tagged tag 3 e h.parts;
-        rest_fits = h.rest_fits;
-        keeps = record { register = h.keeps.1; word = λ span. h.keeps.1 };
-      }))
+      field (tag_taken e fits) (at_most_takes size code_len _) (λ offset h t.
+      all_taken t (record { register = h.1; word = λ span. h.1 }))
 
   fact_takes : (at tag : ℕ) (bytes : List ℕ) → IsBytes bytes
       → Has (fact_at size code_len at tag bytes) (Spelled (tag ∷ bytes) fact_bytes (IsCommon code_len))
@@ -201,24 +180,10 @@ module _ (size code_len : ℕ) where
       → Has (loop_at size bytes) (Spelled (tag ∷ bytes) fact_bytes (WordKeeps code_len span))
   unfolding loop_at fact_bytes
   loop_takes tag span bytes fits e two =
-      has_then _ _ (int_takes size bytes fits) (λ base h.
-      has_then _ _ (count_takes size base.0 base.1 h.rest_fits) (λ count g.
-      has_then _ _ (number_takes size 8 u64_bytes (2 ^ 64) wide64 count.1 g.rest_fits) (λ weight k.
-      let kept : IsLoop base.0 count.0 weight.0 =
-      record {
-        base_fits = h.keeps;
-        some = g.keeps.0;
-        limit = g.keeps.1;
-        last = g.keeps.2;
-        weight_fits = k.keeps;
-      } in
-      let front = join (i32_bytes base.0) (u32_bytes count.0) count.1 h.parts g.parts in
-      has_ok (facts.Loop base.0 count.0 weight.0, weight.1) (record {
-        parts = tagged tag 4 e (join (i32_bytes base.0 ++ u32_bytes count.0)
-            (u64_bytes weight.0) weight.1 front k.parts);
-        rest_fits = k.rest_fits;
-        keeps = (two, kept);
-      }))))
+      field (tag_taken e fits) (int_takes size _) (λ base h t.
+      field t (count_takes size base.0 _) (λ count g u.
+      field u (number_takes size 8 u64_bytes (2 ^ 64) wide64 _) (λ weight k v.
+      all_taken v (two, record { base_fits = h; some = g.0; limit = g.1; last = g.2; weight_fits = k }))))
 
   word_takes : (span : ℕ) (bytes : List ℕ) → IsBytes bytes
       → Has (word_at size code_len span bytes) (Spelled bytes fact_bytes (WordKeeps code_len span))
@@ -310,8 +275,7 @@ module _ (size code_len : ℕ) where
   entries_take bytes fits =
       has_then _ _ (number_takes size 2 u16_bytes (2 ^ 16) wide16 bytes fits) (λ count h.
       has_weaker (list_at (entry_at size code_len) behind_entry count.0 least_word count.1)
-      (list_takes (entry_at size code_len) behind_entry entry_bytes
-      (EntryKeeps code_len) entry_takes count.0 least_word count.1 h.rest_fits) (λ es g.
+      (list_takes entry_takes count.0 least_word count.1 h.rest_fits) (λ es g.
       let parts : bytes ≡ (u16_bytes (length es.0) ++ flat_map entry_bytes es.0) ++ es.1 =
       join (u16_bytes (length es.0)) (flat_map entry_bytes es.0) es.1 (rw g.keeps.0 h.parts) g.parts in
       record { parts = parts; rest_fits = g.rest_fits; keeps = (rw g.keeps.0 h.keeps, g.keeps.1) }))
@@ -334,8 +298,7 @@ module _ (size code_len : ℕ) (small : code_len < 2 ^ 32) where
   unfolding entries_at
   entries_again es rest lt h =
       step _ (number_again size 2 u16_bytes (2 ^ 16) wide16 (length es) (flat_map entry_bytes es ++ rest) lt)
-      (list_again (entry_at size code_len) behind_entry entry_bytes
-      (EntryKeeps code_len) entry_again es least_word rest h)
+      (list_again _ _ _ entry_again es least_word rest h)
 
 -- ---- label rows
 
@@ -408,8 +371,7 @@ module _ (size code_len : ℕ) (procedures : List Procedure) where
       (Spelled bytes (flat_map label_bytes)
       (λ rows. (length rows ≡ count) × InOrder (LabelKeeps code_len procedures) behind_label 0 rows))
   unfolding label_rows_at
-  labels_take count bytes fits = list_takes (label_row_at size code_len procedures) behind_label label_bytes
-      (LabelKeeps code_len procedures) label_takes count 0 bytes fits
+  labels_take count bytes fits = list_takes label_takes count 0 bytes fits
 
   module _ (small : code_len < 2 ^ 32) where
     registers_again : (s : Stack Fact) (rest : List ℕ)
@@ -445,5 +407,4 @@ module _ (size code_len : ℕ) (procedures : List Procedure) where
         → InOrder (LabelKeeps code_len procedures) behind_label 0 rows
         → label_rows_at size code_len procedures (length rows) (flat_map label_bytes rows ++ rest) ≡ Ok (rows, rest)
     unfolding label_rows_at
-    labels_again rows rest h = list_again (label_row_at size code_len procedures) behind_label label_bytes
-        (LabelKeeps code_len procedures) label_again rows 0 rest h
+    labels_again rows rest h = list_again _ _ _ label_again rows 0 rest h

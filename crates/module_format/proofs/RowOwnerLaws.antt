@@ -1,10 +1,10 @@
 -- What the branches of each PAR row belong to.
 use Rattle.std.proofs.Common.{◌≡◌, ℕ, zero, suc, ◌+◌, ◌-◌, ◌^◌, ◌<◌, ◌≤◌, leb, true, false, List, [], ◌∷◌, ◌++◌, length}
-use Rattle.std.proofs.Common.{vec_len, take, get_or, Some, refl, sym, subst, ◌∙◌, inl, inr, add-one, arith}
+use Rattle.std.proofs.Common.{vec_len, take, get_or, Some, sym, ◌∙◌, inl, inr, add-one, arith}
 use Rattle.std.specs.Prelude.{slice_get}
 use Rattle.std.specs.List.Sorted.{IsNonDecreasingBy, IsPartitionPoint}
 use Rattle.std.proofs.lemmas.Bool.{cases_lt, leb-true, leb-false}
-use Rattle.std.proofs.lemmas.List.{length-append, length-map, get_or_push, get_or_append_left, take_all}
+use Rattle.std.proofs.lemmas.List.{length-append, length-map, take_all}
 use Rattle.module_format.specs.declared.row_owners.RowOwner.{RowOwner}
 use Rattle.module_format.specs.declared.rows.ParRow.{ParRow}
 use Rattle.module_format.specs.declared.tables.Tables.{Tables}
@@ -13,7 +13,7 @@ use Rattle.module_format.specs.Contexts.{owner, branch_count, first_branch, HasF
 use Rattle.module_format.specs.Pars.{no_branches}
 use Rattle.module_format.specs.Keeping.{RowsKeep}
 use Rattle.module_format.specs.Places.{rows_end, IsRowOwner, AreRowOwners}
-use Rattle.module_format.proofs.PlaceLaws.{count_cons, count_more, context_before, owner_of_branch, item_there}
+use Rattle.module_format.proofs.PlaceLaws.{each_more, count_cons, count_more, context_before, owner_of_branch, item_there}
 
 -- ---- where rows end
 
@@ -103,12 +103,5 @@ more_row_owners c k row rows o keeps is end owns h =
     let longer = length-append rows (o ∷ []) in
     record {
       many = omega arith;
-      each = λ i d lt. elim (cases_lt i (length rows)) [
-        | inl less ↦ subst (λ (p : RowOwner). IsRowOwner c i p) (sym (get_or_append_left rows (o ∷ []) d i less))
-            (h.each i d less)
-        | inr ge ↦
-            let at_end : i ≡ length rows = omega arith in
-            rw at_end (subst (λ (p : RowOwner). IsRowOwner c (length rows) p)
-            (sym (get_or_push rows o d (length rows) refl)) (rw count here))
-      ];
+      each = each_more (IsRowOwner c) rows o h.each (rw count here);
     }

@@ -94,6 +94,10 @@ pub record Taken (bytes taken rest : List ℕ) : Type 0 where
 pub nothing_taken : {bytes : List ℕ} → IsBytes bytes → Taken bytes [] bytes
 nothing_taken fits = record { parts = refl; rest_fits = fits }
 
+-- a tag, which is known
+pub tag_taken : {bytes : List ℕ} {tag n : ℕ} → tag ≡ n → IsBytes bytes → Taken (tag ∷ bytes) (n ∷ []) bytes
+tag_taken {bytes = bytes} same fits = record { parts = ap (λ (t : ℕ). t ∷ bytes) same; rest_fits = fits }
+
 -- one field more
 pub field : {A B : Type 0} {bytes taken rest : List ℕ} {spelling : A → List ℕ} {P : A → Type 0} {R : B → Type 0}
     {r : Read A} {k : A × List ℕ → Result B FormatFault}
@@ -113,8 +117,8 @@ pub all_taken : {A : Type 0} {bytes rest : List ℕ} {spelling : A → List ℕ}
     → Taken bytes (spelling x) rest → P x → Has (Ok (x, rest)) (Spelled bytes spelling P)
 all_taken t kept = has_ok _ (record { parts = t.parts; rest_fits = t.rest_fits; keeps = kept })
 
-module _ {A S : Type 0} (item : S → List ℕ → Read A) (next : S → A → S) (spelling : A → List ℕ)
-    (Keeps : S → A → Type 0) where
+module _ {A S : Type 0} {item : S → List ℕ → Read A} {next : S → A → S} {spelling : A → List ℕ}
+    {Keeps : S → A → Type 0} where
   -- a list of what an item's reader takes
   pub list_takes : ((low : S) (bytes : List ℕ) → IsBytes bytes → Has (item low bytes)
       (Spelled bytes spelling (Keeps low)))
@@ -135,6 +139,8 @@ module _ {A S : Type 0} (item : S → List ℕ → Read A) (next : S → A → S
         keeps = (ap suc g.keeps.0, (h.keeps, g.keeps.1));
       })))
 
+module _ {A S : Type 0} (item : S → List ℕ → Read A) (next : S → A → S) (spelling : A → List ℕ)
+    {Keeps : S → A → Type 0} where
   -- and read again
   pub list_again : ((low : S) (x : A) (rest : List ℕ) → Keeps low x → item low (spelling x ++ rest) ≡ Ok (x, rest))
       → (xs : List A) (low : S) (rest : List ℕ) → InOrder Keeps next low xs

@@ -12,15 +12,24 @@ use Rattle.module_format.specs.Keeping.{RowsKeep}
 use Rattle.module_format.specs.Writable.{BranchIsWritable, ParIsWritable}
 use Rattle.module_format.proofs.OrderLaws.{each}
 
--- one piece written behind another
-pub grows : (before p q : List ℕ) {started half done : Bool} {between after : List ℕ}
-    → (half ≡ false → (started ≡ false) × (between ≡ before ++ p))
-    → (done ≡ false → (half ≡ false) × (after ≡ between ++ q))
-    → done ≡ false → (started ≡ false) × (after ≡ before ++ (p ++ q))
-grows before p q e f = λ ok.
-    let second = f ok in
-    let first = e second.0 in
-    (first.0, rw (second.1, first.1) (append_assoc before p q))
+-- what one call wrote behind the bytes from before, unless memory ran out
+pub record Piece (started : Bool) (before piece : List ℕ) (done : Bool) (after : List ℕ) : Type 0 where
+  pub wrote : done ≡ false → (started ≡ false) × (after ≡ before ++ piece)
+
+pub piece : (before p : List ℕ) {started done : Bool} {after : List ℕ}
+    → (done ≡ false → (started ≡ false) × (after ≡ before ++ p)) → Piece started before p done after
+piece before p wrote = record { wrote = wrote }
+
+-- one piece behind another
+infixl 10 ◌>>◌
+pub ◌>>◌ : {before p q between after : List ℕ} {started half done : Bool}
+    → Piece started before p half between → Piece half between q done after → Piece started before (p ++ q) done after
+◌>>◌ {before = before} {p = p} {q = q} e f = record {
+  wrote = λ ok.
+      let second = f.wrote ok in
+      let first = e.wrote second.0 in
+      (first.0, rw (second.1, first.1) (append_assoc before p q));
+}
 
 unmapped : {A B : Type 0} (view : A → B) (Fits : B → Type 0) (xs : List A) → AllByRecursion Fits (map view xs)
     → AllByRecursion (λ x. Fits (view x)) xs

@@ -45,14 +45,13 @@ pub record Branch : Type 0 where
   pub ends : List EndRow
 
 -- how many intervals, parameters and ends a branch has
+abbrev pub counts_with : ℕ → ℕ → ℕ → ℕ → ℕ → BranchCounts
+counts_with writes reads written read ends =
+    record { writes = writes; reads = reads; written_parameters = written; read_parameters = read; ends = ends }
+
 abbrev pub counts_of : Branch → BranchCounts
-counts_of b = record {
-  writes = length b.writes;
-  reads = length b.reads;
-  written_parameters = length b.written_parameters;
-  read_parameters = length b.read_parameters;
-  ends = length b.ends;
-}
+counts_of b = counts_with
+    (length b.writes) (length b.reads) (length b.written_parameters) (length b.read_parameters) (length b.ends)
 
 -- each of these numbers is written in two bytes
 pub record CountsFit (c : BranchCounts) : Type 0 where
@@ -87,41 +86,52 @@ pub record Contents : Type 0 where
   pub pars : List Par
   pub table_rows : List TableRow
 
--- the rows without where their lists lie in memory
+-- the rows of these fields, and without where their lists lie in memory
 abbrev pub procedure_of : ProcedureRow → Procedure
 procedure_of row =
     record { entry = row.entry; lo = row.lo; hi = row.hi; number = row.number; parameters = row.parameters.items }
 
+abbrev pub label_with : ℕ → ℕ → ℤ → ℕ → Stack Fact → List Entry → Label
+label_with offset context depth number stack entries = record {
+  offset = offset;
+  context = context;
+  depth = depth;
+  number = number;
+  stack = stack;
+  entries = entries;
+}
+
 abbrev pub label_of : LabelRow → Label
-label_of row = record {
-  offset = row.offset;
-  context = row.context;
-  depth = row.depth;
-  number = row.number;
-  stack = row.stack;
-  entries = row.entries.items;
+label_of row = label_with row.offset row.context row.depth row.number row.stack row.entries.items
+
+abbrev pub branch_with : ℕ → ℤ → List Interval → List Interval → List ℕ → List ℕ → List EndRow → Branch
+branch_with entry workspace writes reads written read ends = record {
+  entry = entry;
+  workspace = workspace;
+  writes = writes;
+  reads = reads;
+  written_parameters = written;
+  read_parameters = read;
+  ends = ends;
 }
 
 abbrev pub branch_of : BranchRow → Branch
-branch_of row = record {
-  entry = row.entry;
-  workspace = row.workspace;
-  writes = row.writes.items;
-  reads = row.reads.items;
-  written_parameters = row.written_parameters.items;
-  read_parameters = row.read_parameters.items;
-  ends = row.ends.items;
+branch_of row = branch_with row.entry row.workspace row.writes.items row.reads.items row.written_parameters.items
+    row.read_parameters.items row.ends.items
+
+abbrev pub par_with : ℕ → ℤ → ℤ → ℕ → List ChannelRow → List Branch → Par
+par_with context depth block successor channels branches = record {
+  context = context;
+  depth = depth;
+  block = block;
+  successor = successor;
+  channels = channels;
+  branches = branches;
 }
 
 abbrev pub par_of : ParRow → Par
-par_of row = record {
-  context = row.context;
-  depth = row.depth;
-  block = row.block;
-  successor = row.successor;
-  channels = row.channels.items;
-  branches = map branch_of row.branches.items;
-}
+par_of row =
+    par_with row.context row.depth row.block row.successor row.channels.items (map branch_of row.branches.items)
 
 -- what tables in memory say
 abbrev pub contents_of : Tables → Contents

@@ -15,7 +15,7 @@ use Rattle.module_format.specs.declared.rows.EndKey.{EndKey}
 use Rattle.module_format.specs.declared.rows.BranchCounts.{BranchCounts}
 use Rattle.module_format.specs.declared.limits.TheConstants.{MAX_BRANCHES, MAX_MESSAGE}
 use Rattle.module_format.specs.Order.{least_word}
-use Rattle.module_format.specs.Contents.{Branch, Par}
+use Rattle.module_format.specs.Contents.{Branch, counts_with, branch_with, Par, par_with}
 use Rattle.module_format.specs.Pars.{behind_channel, behind_interval, meet, behind_number, first_key, behind_end}
 use Rattle.module_format.specs.Pars.{Before, behind_branch, behind_par, no_branches}
 use Rattle.module_format.specs.Reading.{◌>>=◌, Read, tested, place, number_at, int_at, limited_at, positive_at, byte_at}
@@ -117,16 +117,7 @@ branch_counts_at size rest = do
   written ← number_at size 2 reads.1
   read ← number_at size 2 written.1
   ends ← number_at size 2 read.1
-  Ok (
-    record {
-      writes = writes.0;
-      reads = reads.0;
-      written_parameters = written.0;
-      read_parameters = read.0;
-      ends = ends.0;
-    },
-    ends.1,
-  )
+  Ok (counts_with writes.0 reads.0 written.0 read.0 ends.0, ends.1)
 
 unfoldable pub branch_at : ℕ → ℕ → Before → List ℕ → Read Branch
 branch_at size code_len before rest = do
@@ -138,18 +129,7 @@ branch_at size code_len before rest = do
   written ← list_at (parameter_number_at size) behind_number counts.0.written_parameters 0 reads.1
   read ← list_at (parameter_number_at size) behind_number counts.0.read_parameters 0 written.1
   ends ← list_at (end_at size) behind_end counts.0.ends first_key read.1
-  Ok (
-    record {
-      entry = entry.0;
-      workspace = workspace.0;
-      writes = writes.0;
-      reads = reads.0;
-      written_parameters = written.0;
-      read_parameters = read.0;
-      ends = ends.0;
-    },
-    ends.1,
-  )
+  Ok (branch_with entry.0 workspace.0 writes.0 reads.0 written.0 read.0 ends.0, ends.1)
 
 -- ---- rows
 
@@ -172,17 +152,7 @@ par_row_at size own code_len before rest = do
   branch_count ← branch_count_at size channel_count.1
   channels ← list_at (channel_at size) behind_channel channel_count.0 least_word branch_count.1
   branches ← list_at (branch_at size code_len) behind_branch branch_count.0 before channels.1
-  Ok (
-    record {
-      context = context.0;
-      depth = depth.0;
-      block = block.0;
-      successor = successor.0;
-      channels = channels.0;
-      branches = branches.0;
-    },
-    branches.1,
-  )
+  Ok (par_with context.0 depth.0 block.0 successor.0 channels.0 branches.0, branches.1)
 
 unfoldable pub par_rows_at : ℕ → ℕ → ℕ → ℕ → List ℕ → Read (List Par)
 par_rows_at size own code_len count rest = list_at (par_row_at size own code_len) behind_par count no_branches rest

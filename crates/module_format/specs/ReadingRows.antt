@@ -24,7 +24,7 @@ use Rattle.module_format.specs.declared.tables.Version.{Version}
 use Rattle.module_format.specs.declared.tables.Version.TheVariants as versions
 use Rattle.module_format.specs.declared.limits.TheConstants.{MAX_PARAMETERS, MAX_MESSAGE}
 use Rattle.module_format.specs.Order.{least_word, greatest_word, is_multiple_of_four, is_stepped}
-use Rattle.module_format.specs.Contents.{Procedure, Label}
+use Rattle.module_format.specs.Contents.{Procedure, Label, label_with}
 use Rattle.module_format.specs.Facts.{is_loop_length, behind_entry, behind_label}
 use Rattle.module_format.specs.Procedures.{is_region_size, are_ends, is_frame_start, is_frame_end, behind_parameter}
 use Rattle.module_format.specs.Procedures.{behind_procedure, words_of, behind_table}
@@ -136,17 +136,7 @@ label_row_at size code_len procedures low rest = do
   number ← number_at size 8 depth.1
   stack ← registers_at size code_len number.1
   entries ← entries_at size code_len stack.1
-  Ok (
-    record {
-      offset = offset.0;
-      context = context.0;
-      depth = depth.0;
-      number = number.0;
-      stack = stack.0;
-      entries = entries.0;
-    },
-    entries.1,
-  )
+  Ok (label_with offset.0 context.0 depth.0 number.0 stack.0 entries.0, entries.1)
 
 unfoldable pub label_rows_at : ℕ → ℕ → List Procedure → ℕ → List ℕ → Read (List Label)
 label_rows_at size code_len procedures count rest =

@@ -1,9 +1,10 @@
 //! From tables to bytes.
 
-mod labels;
+mod branches;
+mod facts;
+mod kinds;
 mod list;
-mod pars;
-mod procedures;
+mod rows;
 mod writer;
 
 ghost use Rattle.std.specs.Prelude.{◌≡◌, ◌++◌, IfOk, length};

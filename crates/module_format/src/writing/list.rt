@@ -2,8 +2,7 @@
 
 ghost use Rattle.std.specs.Prelude.{map};
 ghost use Rattle.std.specs.List.{flat_map, AllByRecursion};
-ghost use Rattle.module_format.specs.Meaning.{Meaning, plain};
-ghost use Rattle.module_format.specs.Spelling.{u16_bytes, u32_bytes};
+ghost use Rattle.module_format.specs.Meaning.{Meaning};
 ghost use Rattle.module_format.specs.Writable.{Writes};
 
 use crate::tables::Version;
@@ -24,21 +23,5 @@ pub(crate) fn put_all<T: Put>(out: &mut Writer, version: Version, items: &[T])
 {
     for item in items {
         item.put(version, out);
-    }
-}
-
-impl Put for u16 {
-    ghost meaning = { plain u16_bytes };
-
-    fn put(&self, _version: Version, out: &mut Writer) {
-        out.u16(*self);
-    }
-}
-
-impl Put for u32 {
-    ghost meaning = { plain u32_bytes };
-
-    fn put(&self, _version: Version, out: &mut Writer) {
-        out.u32(*self);
     }
 }

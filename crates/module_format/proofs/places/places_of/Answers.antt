@@ -9,45 +9,36 @@ use Rattle.module_format.proofs.places.places_of.Goals as goal
 pub owner_of-owner-requires-clause-there : goal.owner_of-owner-requires-clause-there
 owner_of-owner-requires-clause-there c =
     let m = contents_of c.args.tables.now in
-    let row = par_of c.index-row.result.now in
     let is = item_there par_of c.args.tables.now.pars.items c.loop-par.par c.index-row.result.now
     (search rules) c.index-row.ensures in
-    let known =
-    context_before (first_branch m) (length m.code) no_branches m.pars c.loop-par.par row c.requires.rows.pars is in
-    let many = c.loop-par.invariant.many in
-    let same = ap length c.deref.ensures.value in
-    omega arith
+    let known = context_before (first_branch m) (length m.code) no_branches m.pars c.loop-par.par
+    (par_of c.index-row.result.now) c.requires.rows.pars is in
+    omega (arith, known, c.loop-par.invariant.many, ap length c.deref.ensures.value)
 
 pub overflow_cast-branch : goal.overflow_cast-branch
 overflow_cast-branch c =
     let m = contents_of c.args.tables.now in
-    let row = par_of c.index-row.result.now in
-    let is = item_there par_of c.args.tables.now.pars.items c.loop-par.par c.index-row.result.now
-    (search rules) c.index-row.ensures in
-    let few =
-    branches_few (first_branch m) (length m.code) no_branches m.pars c.loop-par.par row c.requires.rows.pars is in
+    let few = branches_few (first_branch m) (length m.code) no_branches m.pars c.loop-par.par
+    (par_of c.index-row.result.now) c.requires.rows.pars
+    (item_there par_of c.args.tables.now.pars.items c.loop-par.par c.index-row.result.now
+    (search rules) c.index-row.ensures) in
     let long = length-map c.index-row.result.now.branches.items branch_of in
     omega (arith, c.loop-branch-test.true)
 
 pub loop-branch-preserved : goal.loop-branch-preserved
 loop-branch-preserved c =
-    let m = contents_of c.args.tables.now in
     let row = par_of c.index-row.result.now in
     let is = item_there par_of c.args.tables.now.pars.items c.loop-par.par c.index-row.result.now
     (search rules) c.index-row.ensures in
-    let long = length-map c.index-row.result.now.branches.items branch_of in
-    let inside : c.loop-branch.branch < length c.index-row.result.now.branches.items = search rules in
+    let inside : c.loop-branch.branch < length row.branches = rw length-map (search rules) in
     rw (c.in_ok-push.ensures.items)
-    (more_places m c.loop-par.par c.loop-branch.branch row c.loop-branch.places.items _ c.requires.rows is
-    (omega arith) refl refl (rw c.from.ensures at c.owner_of-owner.ensures) c.loop-branch.invariant)
+    (more_places (contents_of c.args.tables.now) c.loop-par.par c.loop-branch.branch row c.loop-branch.places.items _
+    c.requires.rows is inside refl refl (rw c.from.ensures at c.owner_of-owner.ensures) c.loop-branch.invariant)
 
 pub loop-par-preserved : goal.loop-par-preserved
 loop-par-preserved c =
-    let m = contents_of c.args.tables.now in
-    let row = par_of c.index-row.result.now in
     let is = item_there par_of c.args.tables.now.pars.items c.loop-par.par c.index-row.result.now
     (search rules) c.index-row.ensures in
-    let long = length-map c.index-row.result.now.branches.items branch_of in
     let past : c.loop-branch.branch ≡ length c.index-row.result.now.branches.items = search rules in
-    row_placed m c.loop-par.par c.loop-branch.branch row c.loop-branch.places.items is
-    (past ∙ sym long) c.loop-branch.invariant
+    row_placed (contents_of c.args.tables.now) c.loop-par.par c.loop-branch.branch _ c.loop-branch.places.items is
+    (past ∙ sym (length-map c.index-row.result.now.branches.items branch_of)) c.loop-branch.invariant

@@ -1,13 +1,11 @@
-use Rattle.std.proofs.Common.{◌≡◌, ◌<◌, ◌≤◌, length, get_or, sym, subst, rules, arith, w32, FitsSigned, pos}
-use Rattle.std.specs.Prelude.{int_lt, int_le}
-use Rattle.std.specs.List.{list_any}
+use Rattle.std.proofs.Common.{◌≤◌, length, sym, rules, arith, w32, FitsSigned, pos}
+use Rattle.std.specs.Prelude.{int_le}
 use Rattle.std.proofs.lemmas.Bool.{ltb-true, ltb-false}
 use Rattle.std.proofs.lemmas.Int.{to_z-of_z}
 use Rattle.std.proofs.lemmas.List.Sorted.{IsPartitionPoint-from_clause}
 use Rattle.module_format.specs.declared.rows.Interval.{Interval}
 use Rattle.module_format.specs.Order.{least_word}
-use Rattle.module_format.specs.Pars.{meet}
-use Rattle.module_format.proofs.IntervalLaws.{parted, one_tells, none_tells}
+use Rattle.module_format.proofs.IntervalLaws.{parted, first_tells, none_tells}
 use Rattle.module_format.proofs.reading.branches.meets_any.Goals as goal
 
 none : Interval
@@ -22,15 +20,10 @@ returns-in-Some c =
     let point = IsPartitionPoint-from_clause (λ (w : Interval).
     int_le w.hi i.lo) ws n c.partition_point-first.ensures.partitioned
     (λ j k e. parted e i least_word ws c.requires j k) (λ a r f' k. search rules) in
-    let inside : n < length ws = ltb-true n (length ws) (sym c.in-Some.ensures.lookup.0) in
-    let here : get_or ws n d ≡ d = sym c.in-Some.ensures.lookup.1 in
     let lo_fits : FitsSigned w32 d.lo = search rules in
     let hi_fits : FitsSigned w32 i.hi = search rules in
-    let one : int_lt (get_or ws n d).lo i.hi ≡ list_any (meet i) ws =
-    one_tells d i least_word ws n c.requires inside (λ k lt. point.0 k d (omega arith) lt)
-    (point.1 n d (omega arith) inside) in
-    let told : int_lt d.lo i.hi ≡ list_any (meet i) ws =
-    subst (λ (w : Interval). int_lt w.lo i.hi ≡ list_any (meet i) ws) here one in
+    let told = first_tells d i least_word ws n c.requires point (ltb-true _ _ (sym c.in-Some.ensures.lookup.0))
+    c.in-Some.ensures.lookup.1 in
     rw (to_z-of_z w32 d.lo lo_fits, to_z-of_z w32 i.hi hi_fits) told
 
 pub returns-in-None : goal.returns-in-None

@@ -3,7 +3,8 @@ use Rattle.module_format.specs.Order.{least_word}
 use Rattle.module_format.specs.Pars.{behind_interval}
 use Rattle.module_format.specs.Reading.{list_at}
 use Rattle.module_format.specs.ReadingPars.{words_at}
-use Rattle.module_format.proofs.BranchLaws.{writes_take}
+use Rattle.module_format.proofs.BranchLaws.{words_take}
+use Rattle.module_format.proofs.Tools.{list_takes}
 use Rattle.module_format.proofs.TakingLaws.{took_has}
 use Rattle.module_format.proofs.reading.branches.read_writes.Goals as goal
 
@@ -15,4 +16,4 @@ returns-clause-rise c = λ still.
     (took_has
     (list_at (words_at from.size) behind_interval c.args.count least_word) from.failure from.rest.now
     c.read_list.result.items new.failure new.rest.now still took
-    (writes_take from.size c.args.count from.rest.now from.fits)).keeps.1
+    (list_takes (words_take from.size) c.args.count least_word from.rest.now from.fits)).keeps.1

@@ -22,21 +22,15 @@ loop-init g c =
 pub returns-then-has_failed-2-clause-takes : goal.returns-then-has_failed-2-clause-takes
 returns-then-has_failed-2-clause-takes g c =
     let R = g.R.Reader.walk in
-    let from = c.args.from.now in
-    let left = c.read-item.new.from in
-    let item = R.listing.reads (R.context c.args.reader.now) from.size in
     let so_far = c.loop.invariant in
     let took = rw (so_far.fixed, so_far.size) at c.read-item.ensures.takes.took in
-    let unfailed = is_unfailed from.failure (sym c.has_failed.ensures ∙ c.if-has_failed.false) in
+    let unfailed = is_unfailed _ (sym c.has_failed.ensures ∙ c.if-has_failed.false) in
     let failed = sym c.has_failed-in-loop.ensures ∙ c.if-has_failed-2.true in
     let xs = map R.listing.view (g.L.Items.items c.loop.items) in
     record {
       same = c.read-item.ensures.takes.same ∙ so_far.size;
-      took = took_after _ from.failure from.rest.now xs left.failure left.rest.now unfailed
-          (stops item R.listing.behind c.loop.from.failure left.failure xs c.args.count c.loop.counter
-          (R.state c.loop.reader) c.loop.from.rest.now (R.listing.view c.read-item.result) left.rest.now xs
-          (list_at item R.listing.behind c.args.count
-          (R.state c.args.reader.now) from.rest.now) c.loop-test.true so_far.unfailed failed took so_far.gives);
+      took = took_after _ _ _ xs _ _ unfailed
+          (stops _ R.listing.behind _ _ xs _ _ _ _ _ _ xs _ c.loop-test.true so_far.unfailed failed took so_far.gives);
     }
 
 pub loop-preserved : goal.loop-preserved

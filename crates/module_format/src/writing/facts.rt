@@ -1,19 +1,14 @@
-//! Facts, entries and label rows.
+//! Facts.
 
-ghost use Rattle.std.specs.Prelude.{◌≡◌, ◌^◌, ◌<◌, ⊤, length};
+ghost use Rattle.std.specs.Prelude.{◌≡◌};
 ghost use Rattle.module_format.specs.declared.fact.Fact.TheVariants.{Pointer};
-ghost use Rattle.module_format.specs.Contents.{label_of};
-ghost use Rattle.module_format.specs.Meaning.{plain, viewed};
-ghost use Rattle.module_format.specs.Spelling.{step_size, fact_bytes, entry_bytes, label_bytes};
+ghost use Rattle.module_format.specs.Spelling.{step_size, fact_bytes};
 ghost use Rattle.module_format.specs.Writable.{Writes};
 
 use crate::fact::{Fact, Step};
-use crate::rows::{Entry, LabelRow};
-use crate::tables::Version;
 use crate::tags::{
     TAG_CODE_ADDRESS, TAG_LOOP, TAG_NUMBER, TAG_POINTER, TAG_RETURN_ADDRESS, TAG_UNKNOWN,
 };
-use crate::writing::list::{Put, put_all};
 use crate::writing::writer::Writer;
 
 /// A pointer's step, in bytes.
@@ -40,7 +35,7 @@ fn put_pointer(out: &mut Writer, region: u16, lo: i32, hi: i32, step: Step)
 
 /// A tag, and what belongs to it.
 #[tactic(auto, unfolding(crate::specs::Spelling::fact_bytes))]
-fn put_fact(out: &mut Writer, fact: &Fact)
+pub(crate) fn put_fact(out: &mut Writer, fact: &Fact)
     ensures { Writes out.old (fact_bytes fact.now) out.new }
 {
     match *fact {
@@ -71,33 +66,5 @@ fn put_fact(out: &mut Writer, fact: &Fact)
             out.u64(weight);
         }
         Fact::ReturnAddress => out.u8(TAG_RETURN_ADDRESS),
-    }
-}
-
-impl Put for Entry {
-    ghost meaning = { plain entry_bytes };
-
-    #[tactic(auto, unfolding(crate::specs::Spelling::entry_bytes))]
-    fn put(&self, _version: Version, out: &mut Writer) {
-        out.i32(self.word);
-        out.u32(self.span);
-        put_fact(out, &self.fact);
-    }
-}
-
-impl Put for LabelRow {
-    ghost meaning = { viewed label_of (λ _. label_bytes) (λ row. length row.entries < 2 ^ 16) };
-
-    #[tactic(auto, unfolding(crate::specs::Spelling::label_bytes))]
-    fn put(&self, version: Version, out: &mut Writer) {
-        out.u32(self.offset);
-        out.u16(self.context);
-        out.i32(self.depth);
-        out.u64(self.number);
-        put_fact(out, &self.stack.a);
-        put_fact(out, &self.stack.b);
-        put_fact(out, &self.stack.c);
-        out.u16(self.entries.len() as u16);
-        put_all(out, version, &self.entries);
     }
 }
