@@ -7,7 +7,7 @@ ghost use Rattle.occam_parser.specs.LineViews.{spelling_of, value_of, constant_o
 ghost use Rattle.occam_parser.specs.LineViews.{proc_head_of};
 ghost use Rattle.occam_parser.specs.Lines.{Formal as FormalTree};
 ghost use Rattle.occam_parser.specs.Reading.{Gives, Finds};
-ghost use Rattle.occam_parser.specs.LineReading.{type_at, shape_at, name_at, value_at, constant_at, table_at};
+ghost use Rattle.occam_parser.specs.LineReading.{type_at, shape_at, name_at, value_at, constant_at};
 ghost use Rattle.occam_parser.specs.LineReading.{names_at, value_formal_at, formal_at, proc_head_at};
 ghost use Rattle.occam_parser.specs.Told.{typed_name_at, shaped_name_at, shaped_names_at};
 
@@ -98,8 +98,8 @@ pub(crate) fn constant<'a>(
     })
 }
 
-/// What a constant stands for: a table where it has a size.
-#[tactic(auto, unfolding(crate::specs::LineReading::value_at))]
+/// What a constant stands for: a value or, where it has a size, a table of items or a string.
+#[tactic(auto, unfolding(crate::specs::LineReading::value_at, crate::specs::LineReading::table_at, crate::specs::Reading::up_to))]
 fn constant_value<'t, 'a>(
     alloc: Global,
     size: Option<Expr<'a>>,
@@ -111,18 +111,6 @@ fn constant_value<'t, 'a>(
         let (value, rest) = Expr::from_tokens(alloc, tokens)?;
         return Ok((ConstantValue::Scalar(value), rest));
     };
-    table(alloc, size, tokens)
-}
-
-/// A table of this size: its items, or a string.
-#[tactic(auto, unfolding(crate::specs::LineReading::table_at, crate::specs::Reading::up_to))]
-fn table<'t, 'a>(
-    alloc: Global,
-    size: Expr<'a>,
-    tokens: &'t [Token<'a>],
-) -> Read<'t, 'a, ConstantValue<'a>>
-    ensures { Gives (λ x. (value_of x.0, terminals_of x.1.now)) result (table_at (expression_of size.entry) (terminals_of tokens.now)) }
-{
     match first(tokens) {
         Some((Symbol::Text(text), rest)) => Ok((ConstantValue::Text { size, text }, rest)),
         Some((Symbol::Mark(Mark::OpenBracket), rest)) => {

@@ -1,4 +1,4 @@
-use Rattle.std.proofs.Common.{◌≡◌, ◌-◌, ◌+◌, ◌<◌, Some, None, length, map, sym, refl, ap, subst, arith, ◌∙◌}
+use Rattle.std.proofs.Common.{◌≡◌, ◌-◌, ◌+◌, Some, None, length, map, sym, refl, ap, subst, arith, ◌∙◌}
 use Rattle.std.proofs.Common.{inr, Ok}
 use Rattle.std.specs.Prelude.{option_map}
 use Rattle.std.proofs.lemmas.Result.{err_from_is_err_and}
@@ -6,12 +6,11 @@ use Rattle.occam_parser.specs.declared.head.BlockKind.TheVariants as block
 use Rattle.occam_parser.specs.LineViews.{replicator_of, declaration_of, guard_of, start_of}
 use Rattle.occam_parser.specs.declared.head.Start.TheVariants as start
 use Rattle.occam_parser.specs.declared.tree.Construct.TheViews.{roll-Choice, roll-Branch}
-use Rattle.occam_parser.specs.Terminals.{terminals_of}
 use Rattle.occam_parser.specs.LineReading.{whole_at, guard_at}
 use Rattle.occam_parser.specs.Views.{expression_of}
 use Rattle.occam_parser.specs.Blocks.{rows_of, Block, Chosen, Guarded}
 use Rattle.occam_parser.specs.BlockReading.{component_at, wants}
-use Rattle.occam_parser.specs.BlockViews.{process_of, choice_of, branch_of, plain_component, kind_of, components_in}
+use Rattle.occam_parser.specs.BlockViews.{choice_of, branch_of, plain_component, kind_of, components_in}
 use Rattle.occam_parser.proofs.Answering.{passed_on}
 use Rattle.occam_parser.proofs.Turns.{block_stops, block_ends}
 use Rattle.occam_parser.proofs.Levelled.{process_none, process_is, block_found, block_lost, body_found, body_none}
