@@ -43,13 +43,6 @@ abbrev pub Answers : {X Y : Type 0} → (X → Y) → Result X ParseFault → Y 
 Answers view (Ok x) y = view x ≡ y
 Answers view (Err e) y = e ≡ out_of_memory
 
--- a type, and a name behind it
-unfoldable pub typed_name_at : Reads (ValueType × List ℕ)
-typed_name_at ts = do
-  type ← type_at ts
-  name ← name_at type.1
-  Some ((type.0, name.0), name.1)
-
 -- a type, or CHAN OF a type, and a name behind it
 unfoldable pub shaped_name_at : Reads ((Bool × ValueType) × List ℕ)
 shaped_name_at ts = do
