@@ -2,7 +2,7 @@
 use Rattle.std.proofs.Common.{◌≡◌, ℕ, suc, ◌+◌, ◌-◌, ◌^◌, ◌<◌, ◌≤◌, Bool, true, false, cond, eqb, List, [], ◌∷◌, ◌++◌}
 use Rattle.std.proofs.Common.{length, take, drop, Option, Some, None, Result, Ok, Err, refl, sym, ap, subst, ◌∙◌, arith}
 use Rattle.std.proofs.Common.{inl, inr}
-use Rattle.std.specs.Prelude.{pos, ◌||◌, ◌&&◌, ◌==◌, nat_lt, bytes_eq, ok_or, unwrap_or, option_map, option_and_then}
+use Rattle.std.specs.Prelude.{pos, ◌||◌, ◌==◌, nat_lt, bytes_eq, ok_or, unwrap_or, option_map, option_and_then}
 use Rattle.std.specs.List.{prefix_len, list_all, list_any}
 use Rattle.std.specs.Char.{is_ascii_alphabetic, is_ascii_digit, is_ascii_hexdigit}
 use Rattle.std.specs.Int.{w32, cast_signed}
@@ -19,10 +19,6 @@ use Rattle.occam_layout.specs.Reading.{one_byte, character_at, string_at, single
 use Rattle.occam_layout.specs.Tokens.{is_last, is_lexeme, IsLongest, in_int, bits_of, character_of, body_of, meaning}
 use Rattle.occam_layout.proofs.Scanning.{letter-name}
 use Rattle.occam_layout.proofs.Spelling.{and_false, bytes_eq-longer}
-
-and_true : (b : Bool) → (b && true) ≡ b
-and_true true = refl
-and_true false = refl
 
 -- ---- runs of bytes
 

@@ -1,10 +1,7 @@
 -- Reading one thing after the other, as a loop does.
 use Rattle.std.proofs.Common.{◌≡◌, List, [], ◌∷◌, ◌++◌, Result, Ok, Err, refl, sym, ap, ◌∙◌, append_assoc}
 use Rattle.std.proofs.lemmas.List.{append-nil}
-use Rattle.occam_layout.specs.declared.fault.Fault.{Fault}
-use Rattle.occam_layout.specs.declared.fault.ScanError.{ScanError}
-use Rattle.occam_layout.specs.declared.fault.ScanError.TheVariants as errors
-use Rattle.occam_layout.specs.Reading.{◌>>=◌, Fails}
+use Rattle.occam_layout.specs.Reading.{◌>>=◌}
 
 -- what was read before, and what is still read
 abbrev pub with_front : {A E : Type 0} → List A → Result (List A) E → Result (List A) E
@@ -29,11 +26,6 @@ is_done front now total is_now so_far = sym so_far ∙ ap (with_front front) is_
 pub fails : {A E : Type 0} (front : List A) (e : E) (now total : Result (List A) E) → now ≡ Err e
     → with_front front now ≡ total → total ≡ Err e
 fails front e now total is_now so_far = sym so_far ∙ ap (with_front front) is_now
-
-pub Fails-bind : {A B : Type 0} (e : ScanError) (read : Result A Fault) (f : A → Result B Fault) → Fails e read
-    → Fails e (read >>= f)
-Fails-bind errors.Memory read f h = tt
-Fails-bind (errors.Fault fault) read f h = rw h refl
 
 -- what was read first where all was read, and what was read then
 pub bind_ok : {A B E : Type 0} (r : Result A E) (f : A → Result B E) (y : B) → (r >>= f) ≡ Ok y

@@ -15,11 +15,6 @@ use Rattle.occam_layout.specs.Reading.{is_in_line, lines_of, told_at, deepest_af
 use Rattle.occam_layout.specs.Fault.{refused, out_of_memory, scan_refused}
 use Rattle.occam_layout.proofs.Loop.{with_front, goes_on, fails}
 
-pub row_at-other : (number offset deepest : ℕ) (bytes : List ℕ) → list_all is_character bytes ≡ false
-    → row_at number offset deepest bytes ≡ Err faults.Character
-unfolding row_at
-row_at-other number offset deepest bytes other = rw other refl
-
 pub row_at-behind : (number offset deepest indent : ℕ) (bytes body : List ℕ) → list_all is_character bytes ≡ true
     → indent ≡ prefix_len is_space bytes → body ≡ drop indent bytes
     → row_at number offset deepest bytes ≡ row_behind number offset deepest indent body
@@ -30,16 +25,6 @@ pub row_behind-blank : (number offset deepest indent : ℕ) (body : List ℕ) �
     → row_behind number offset deepest indent body ≡ Ok None
 unfolding row_behind
 row_behind-blank number offset deepest indent body blank = rw blank refl
-
-pub row_behind-odd : (number offset deepest indent : ℕ) (body : List ℕ) → is_blank body ≡ false → indent % 2 ≡ 1
-    → row_behind number offset deepest indent body ≡ Err faults.OddIndentation
-unfolding row_behind
-row_behind-odd number offset deepest indent body counts odd = rw (counts, odd) refl
-
-pub row_behind-deep : (number offset deepest indent : ℕ) (body : List ℕ) → is_blank body ≡ false
-    → (indent % 2 ≡ 1 → ⊥) → deepest < indent / 2 → row_behind number offset deepest indent body ≡ Err faults.TooDeep
-unfolding row_behind
-row_behind-deep number offset deepest indent body counts even deep = rw (counts, ne_eqb _ _ even, lt-ltb _ _ deep) refl
 
 pub row_behind-level : (number offset deepest indent : ℕ) (body : List ℕ) → is_blank body ≡ false
     → (indent % 2 ≡ 1 → ⊥) → indent / 2 ≤ deepest

@@ -108,10 +108,6 @@ line_alone offset line tokens there all =
 
 -- ---- the indentation of a line
 
-Behind : List ℕ → List Lexeme → Type 0
-Behind line tokens = (offset : ℕ) → Tokens (offset + indent_of line) (behind_indent line) tokens
-    → Tokens offset line tokens
-
 one_space : (b : Bool) (c : ℕ) (rest : List ℕ) (tokens : List Lexeme) → eqb c 32 ≡ b
     → ((offset : ℕ) → Tokens (offset + prefix_len is_space rest) (drop (prefix_len is_space rest) rest) tokens
     → Tokens offset rest tokens)

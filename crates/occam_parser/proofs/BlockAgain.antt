@@ -10,8 +10,7 @@ use Rattle.occam_parser.specs.Expressions.{Expression, written}
 use Rattle.occam_parser.specs.Reading.{◌>>=◌}
 use Rattle.occam_parser.specs.Lines.{Declaration, Replicator, Action, Guard, Head, Declares, Acts, Opens}
 use Rattle.occam_parser.specs.Lines.{written_declaration, written_action, written_replicator, block_word}
-use Rattle.occam_parser.specs.Lines.{written_guard, IsWhole, FitsDeclaration, FitsAction, FitsReplicator}
-use Rattle.occam_parser.specs.Lines.{FitsGuard}
+use Rattle.occam_parser.specs.Lines.{written_guard, FitsDeclaration, FitsAction, FitsReplicator}
 use Rattle.occam_parser.specs.LineReading.{head_at, whole_at, guard_at}
 use Rattle.occam_parser.specs.Blocks.{Row, Process, Declared, Does, Construct, Act, Block, Components, NoComponent}
 use Rattle.occam_parser.specs.Blocks.{Further, Component, Plain, Chosen, Guarded, declaration_line, lines_of}

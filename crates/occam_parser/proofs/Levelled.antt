@@ -5,11 +5,11 @@ use Rattle.occam_parser.specs.declared.head.BlockKind.{BlockKind}
 use Rattle.occam_parser.specs.declared.head.BlockKind.TheVariants as block
 use Rattle.occam_parser.specs.Terminals.{Terminal}
 use Rattle.occam_parser.specs.Reading.{◌>>=◌}
-use Rattle.occam_parser.specs.Lines.{Replicator, Guard, Declaration, Opens}
+use Rattle.occam_parser.specs.Lines.{Replicator, Declaration, Opens}
 use Rattle.occam_parser.specs.LineReading.{whole_at, guard_at}
 use Rattle.occam_parser.specs.Blocks.{Row, Process, Does, Construct, Block, Components, Component, Plain, Chosen}
 use Rattle.occam_parser.specs.Blocks.{Guarded}
-use Rattle.occam_parser.specs.BlockReading.{ReadsLines, first_row, Beginning, beginning_from, with_declarations}
+use Rattle.occam_parser.specs.BlockReading.{ReadsLines, Beginning, beginning_from, with_declarations}
 use Rattle.occam_parser.specs.BlockReading.{components_of, is_some, block_with, process_behind, process_with}
 use Rattle.occam_parser.specs.BlockReading.{head_row, headed_with, plain, process_at, component_at, plain_at}
 

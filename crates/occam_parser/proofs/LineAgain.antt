@@ -17,7 +17,7 @@ use Rattle.occam_parser.specs.Expressions.{Expression, Alone, Prefixed, Paired, 
 use Rattle.occam_parser.specs.Expressions.{Number, Byte, Truth, MostPos, MostNeg, Named, Element, Bracketed, Converted}
 use Rattle.occam_parser.specs.Expressions.{prefix_sign, type_word, written, written_terms, written_term}
 use Rattle.occam_parser.specs.declared.tree.PrefixOperator.TheVariants as prefix
-use Rattle.occam_parser.specs.Reading.{Reads, ◌>>=◌, behind, is_mark, begins_with_operator, expression_at}
+use Rattle.occam_parser.specs.Reading.{Reads, up_to, ◌>>=◌, behind, is_mark, begins_with_operator, expression_at}
 use Rattle.occam_parser.specs.Reading.{list_of}
 use Rattle.occam_parser.specs.Laws.{Ends}
 use Rattle.occam_parser.specs.Lines.{Place, Replicator, Value, Scalar, Table, Bytes, Constant, Names, Declaration}
@@ -31,7 +31,8 @@ use Rattle.occam_parser.specs.Lines.{IsWholeIfAny, HasItem, FitsPlace, FitsValue
 use Rattle.occam_parser.specs.Lines.{FitsReplicator, FitsHead, FitsGuard, FitsFormal}
 use Rattle.occam_parser.specs.Lines.{FitsProcHead}
 use Rattle.occam_parser.specs.LineReading.{only, name_at, equals_at, bracketed_behind, bracketed_at}
-use Rattle.occam_parser.specs.LineReading.{type_at, shape_behind, shape_at, place_at, whole_at, whole_place, table_at}
+use Rattle.occam_parser.specs.LineReading.{type_at, typed_name_at, shape_behind, shape_at, place_at, whole_at}
+use Rattle.occam_parser.specs.LineReading.{whole_place, table_at}
 use Rattle.occam_parser.specs.LineReading.{value_at, constant_at, declared_as, names_at, formal_named, formal_kind_of}
 use Rattle.occam_parser.specs.LineReading.{formal_behind, formal_at, items_behind, in_parentheses, proc_head_at}
 use Rattle.occam_parser.specs.LineReading.{placed_action, instance_or_other, action_at, counted_at}
@@ -191,32 +192,32 @@ size_fits (Scalar e) fits = tt
 size_fits (Table size items) fits = fits.0
 size_fits (Bytes size bytes) fits = fits
 
+typed_name_again : (t : ValueType) (name : List ℕ) (rest : List Terminal)
+    → typed_name_at (type_word t ∷ Name name ∷ rest) ≡ Some ((t, name), rest)
+unfolding typed_name_at
+typed_name_again t name rest =
+    ap (λ (o : Option (ValueType × List Terminal)). o >>= λ type. name_at type.1 >>= λ n. Some
+    ((type.0, n.0), n.1)) (type_again t (Name name ∷ rest))
+    ∙ ap (λ (o : Option (List ℕ × List Terminal)). o >>= λ n. Some ((t, n.0), n.1)) (name_again name rest)
+
 pub constant_again : (line : ℕ) (c : Constant) → FitsConstant line c → constant_at line (written_constant c) ≡ Some c
 unfolding constant_at
 constant_again line c fits =
-    let t4 = written_value c.value ++ Mark mark.Colon ∷ [] in
-    let t3 = Mark mark.Is ∷ t4 in
-    let t2 = Name c.name ∷ t3 in
+    let t3 = written_value c.value ++ Mark mark.Colon ∷ [] in
+    let t2 = Name c.name ∷ Mark mark.Is ∷ t3 in
     let t1 = type_word c.value_type ∷ t2 in
-    let last = λ (type : ValueType) (name : List ℕ) (value : Value) (us : List Terminal). behind mark.Colon us >>=
-    λ rest. only (record { line = line; value_type = type; name = name; value = value }) rest in
-    let f4 = λ (o : Option (Value × List Terminal)). o >>= λ value. last c.value_type c.name value.0 value.1 in
-    let f3 = λ (o : Option (List Terminal)). o >>= λ is. f4 (value_at (size_of c.value) is) in
-    let f2 = λ (o : Option (List ℕ × List Terminal)). o >>= λ name. behind mark.Is name.1 >>= λ is. value_at
-    (size_of c.value) is >>= λ value. last c.value_type name.0 value.0 value.1 in
-    let f1 = λ (o : Option (ValueType × List Terminal)). o >>= λ type. name_at type.1 >>= λ name. behind mark.Is
-    name.1 >>= λ is. value_at (size_of c.value) is >>= λ value. last type.0 name.0 value.0 value.1 in
-    let f0 = λ (o : Option (Option Expression × List Terminal)). o >>= λ size. type_at size.1 >>= λ type. name_at
-    type.1 >>= λ name. behind mark.Is name.1 >>= λ is. value_at size.0 is >>= λ value. last type.0 name.0 value.0
-    value.1 in
-    ap f0 (bracketed_again (size_of c.value) t1 (size_fits c.value fits.1) (no_bracket_type c.value_type t2))
-    ∙ ap f1 (type_again c.value_type t2)
-    ∙ ap f2 (name_again c.name t3)
-    ∙ ap f3 (behind_again mark.Is t4)
-    ∙ ap f4 (value_again c.value [] fits.1)
-    ∙ ap (λ (o : Option (List Terminal)). o >>= λ rest. only
-    (record { line = line; value_type = c.value_type; name = c.name; value = c.value }) rest)
-    (behind_again mark.Colon [])
+    let last : ValueType → List ℕ → Option (Value × List Terminal) → Option Constant =
+    λ type name o. o >>= λ value. only
+    (record { line = line; value_type = type; name = name; value = value.0 }) value.1 in
+    let named : Option Expression → Option ((ValueType × List ℕ) × List Terminal) → Option Constant =
+    λ size o. o >>= λ x. last x.0.0 x.0.1 (up_to mark.Colon (value_at size x.1)) in
+    ap (λ (o : Option (Option Expression × List Terminal)). o >>= λ size. named size.0
+    (up_to mark.Is (typed_name_at size.1)))
+    (bracketed_again (size_of c.value) t1 (size_fits c.value fits.1) (no_bracket_type c.value_type t2))
+    ∙ ap (named (size_of c.value)) (up_to_again mark.Is (typed_name_at t1) (c.value_type, c.name) t3
+    (typed_name_again c.value_type c.name (Mark mark.Is ∷ t3)))
+    ∙ ap (last c.value_type c.name) (up_to_again mark.Colon (value_at (size_of c.value) t3) c.value []
+    (value_again c.value [] fits.1))
     ∙ ap (λ n. Some (record { line = n; value_type = c.value_type; name = c.name; value = c.value })) (sym fits.0)
 
 all_names : (names : List (List ℕ)) → AllByRecursion (λ (name : List ℕ). Unit {0}) names

@@ -24,7 +24,8 @@ use Rattle.occam_parser.specs.Lines.{written_formal, written_proc_head, IsWhole,
 use Rattle.occam_parser.specs.Lines.{FitsPlace, FitsValue, FitsConstant, FitsNames, FitsDeclaration, FitsAction}
 use Rattle.occam_parser.specs.Lines.{FitsReplicator, FitsHead, FitsGuard, FitsFormal, FitsProcHead}
 use Rattle.occam_parser.specs.LineReading.{only, name_at, equals_at, bracketed_behind, bracketed_at, type_behind}
-use Rattle.occam_parser.specs.LineReading.{type_at, shape_behind, shape_at, place_at, whole_at, whole_place, table_at}
+use Rattle.occam_parser.specs.LineReading.{type_at, typed_name_at, shape_behind, shape_at, place_at, whole_at}
+use Rattle.occam_parser.specs.LineReading.{whole_place, table_at}
 use Rattle.occam_parser.specs.LineReading.{value_at, constant_at, declared_as, names_at, formal_named, formal_kind_of}
 use Rattle.occam_parser.specs.LineReading.{formal_behind, formal_at, items_behind, in_parentheses, proc_head_at}
 use Rattle.occam_parser.specs.LineReading.{placed_action, instance_or_other, action_at, counted_at}
@@ -205,27 +206,36 @@ value_sound None ts x e =
     at_some (IsValue None ts) (Scalar y.0.0, y.0.1) x y.2 (h.0, (λ w. h.1), refl)
 value_sound (Some size) ts x e = table_sound size ts x e
 
+typed_name_is : (ts : List Terminal) (x : ValueType × List ℕ) (rest : List Terminal)
+    → typed_name_at ts ≡ Some (x, rest) → ts ≡ type_word x.0 ∷ Name x.1 ∷ rest
+unfolding typed_name_at
+typed_name_is ts x rest e =
+    let type = bind_some (type_at ts) _ (x, rest) e in
+    let name = bind_some (name_at type.0.1) _ (x, rest) type.2 in
+    at_some (λ (z : (ValueType × List ℕ) × List Terminal). ts ≡ type_word z.0.0 ∷ Name z.0.1 ∷ z.1)
+    ((type.0.0, name.0.0), name.0.1) (x, rest) name.2
+    (type_is ts type.0.0 type.0.1 type.1
+    ∙ ap (λ us. type_word type.0.0 ∷ us) (name_is type.0.1 name.0.0 name.0.1 name.1))
+
 pub constant_sound : (line : ℕ) (ts : List Terminal) (c : Constant) → constant_at line ts ≡ Some c
     → (ts ≡ written_constant c) × FitsConstant line c
 unfolding constant_at
 constant_sound line ts c e =
     let size = bind_some (bracketed_at ts) _ c e in
-    let type = bind_some (type_at size.0.1) _ c size.2 in
-    let name = bind_some (name_at type.0.1) _ c type.2 in
-    let is = bind_some (behind mark.Is name.0.1) _ c name.2 in
-    let value = bind_some (value_at size.0.0 is.0) _ c is.2 in
-    let rest = bind_some (behind mark.Colon value.0.1) _ c value.2 in
+    let named = bind_some (up_to mark.Is (typed_name_at size.0.1)) _ c size.2 in
+    let value = bind_some (up_to mark.Colon (value_at size.0.0 named.0.1)) _ c named.2 in
     let s = bracketed_sound ts size.0.0 size.0.1 size.1 in
-    let v = value_sound size.0.0 is.0 value.0 value.1 in
-    let o = only_is (record { line = line; value_type = type.0.0; name = name.0.0; value = value.0.0 }) rest.0 c
-    rest.2 in
-    let colon = behind_is mark.Colon value.0.1 rest.0 rest.1 ∙ ap (λ us. Mark mark.Colon ∷ us) o.0 in
-    let tail = v.0 ∙ ap (λ us. written_value value.0.0 ++ us) colon in
-    let behind_size = type_is size.0.1 type.0.0 type.0.1 type.1 ∙ ap (λ us. type_word type.0.0 ∷ us)
-    (name_is type.0.1 name.0.0 name.0.1 name.1 ∙ ap (λ us. Name name.0.0 ∷ us)
-    (behind_is mark.Is name.0.1 is.0 is.1 ∙ ap (λ us. Mark mark.Is ∷ us) tail)) in
+    let n = typed_name_is size.0.1 named.0.0 (Mark mark.Is ∷ named.0.1)
+    (up_to_is mark.Is (typed_name_at size.0.1) named.0.0 named.0.1 named.1) in
+    let v = value_sound size.0.0 named.0.1 (value.0.0, Mark mark.Colon ∷ value.0.1)
+    (up_to_is mark.Colon (value_at size.0.0 named.0.1) value.0.0 value.0.1 value.1) in
+    let found : Constant = record
+    { line = line; value_type = named.0.0.0; name = named.0.0.1; value = value.0.0 } in
+    let o = only_is found value.0.1 c value.2 in
+    let tail = v.0 ∙ ap (λ us. written_value value.0.0 ++ Mark mark.Colon ∷ us) o.0 in
+    let behind_size = n ∙ ap (λ us. type_word named.0.0.0 ∷ Name named.0.0.1 ∷ Mark mark.Is ∷ us) tail in
     let whole = s.0 ∙ ap (λ us. in_brackets size.0.0 ++ us) behind_size
-    ∙ ap (λ z. in_brackets z ++ (type_word type.0.0 ∷ Name name.0.0 ∷ Mark mark.Is ∷
+    ∙ ap (λ z. in_brackets z ++ (type_word named.0.0.0 ∷ Name named.0.0.1 ∷ Mark mark.Is ∷
     (written_value value.0.0 ++ Mark mark.Colon ∷ []))) v.2
     in
     subst (λ d. (ts ≡ written_constant d) × FitsConstant line d) o.1 (whole, (refl, v.1 s.1))

@@ -8,7 +8,8 @@ use Rattle.occam_parser.specs.declared.fault.ParseFault.{ParseFault}
 use Rattle.occam_parser.specs.declared.head.BlockKind.{BlockKind}
 use Rattle.occam_parser.specs.declared.tree.Process.{Process as CodeProcess}
 use Rattle.occam_parser.specs.Told.{out_of_memory, Tells, Pushes, IsBeside, StandsAbove}
-use Rattle.occam_parser.specs.Blocks.{Row, rows_of, Process, Does, Construct, Component, Components, NoComponent, Further}
+use Rattle.occam_parser.specs.Blocks.{Row, rows_of, Process, Does, Construct, Component, Components, NoComponent}
+use Rattle.occam_parser.specs.Blocks.{Further}
 use Rattle.occam_parser.specs.BlockReading.{ReadsLines, wants, count_of, further, components_of, process_at}
 use Rattle.occam_parser.specs.BlockReading.{component_at, head_row, plain_at, with_declarations}
 use Rattle.occam_parser.specs.BlockViews.{all_of, process_of, plain_component, IsProcessOf}

@@ -116,16 +116,20 @@ value_at None ts = do
   Some (Scalar x.0, x.1)
 value_at (Some size) ts = table_at size ts
 
+-- a type, and a name behind it
+unfoldable pub typed_name_at : Reads (ValueType × List ℕ)
+typed_name_at ts = do
+  type ← type_at ts
+  name ← name_at type.1
+  Some ((type.0, name.0), name.1)
+
 -- behind the word VAL
 unfoldable pub constant_at : ℕ → List Terminal → Option Constant
 constant_at line ts = do
   size ← bracketed_at ts
-  type ← type_at size.1
-  name ← name_at type.1
-  is ← behind mark.Is name.1
-  value ← value_at size.0 is
-  rest ← behind mark.Colon value.1
-  only (record { line = line; value_type = type.0; name = name.0; value = value.0 }) rest
+  named ← up_to mark.Is (typed_name_at size.1)
+  value ← up_to mark.Colon (value_at size.0 named.1)
+  only (record { line = line; value_type = named.0.0; name = named.0.1; value = value.0 }) value.1
 
 abbrev pub declared_as : Bool → Names → Declaration
 declared_as true n = Channels n

@@ -1,5 +1,5 @@
 -- How a fault of one line is told.
-use Rattle.std.specs.Prelude.{◌≡◌, ◌⊎◌, ℕ, Bool, List, [], ◌∷◌, ◌++◌, length, ◌<◌, ◌≤◌, Option, Some, None, Result}
+use Rattle.std.specs.Prelude.{◌≡◌, ◌⊎◌, ℕ, Bool, List, [], ◌∷◌, ◌++◌, length, ◌<◌, Option, Some, None, Result}
 use Rattle.std.specs.Prelude.{Ok, Err}
 use Rattle.std.specs.Borrow.{Bor}
 use Rattle.occam_layout.specs.declared.token.Line.{Line}
@@ -17,8 +17,7 @@ use Rattle.occam_parser.specs.Terminals.{Terminal, terminals_of}
 use Rattle.occam_parser.specs.Views.{expression_of, operation_of}
 use Rattle.occam_parser.specs.Reading.{Reads, ◌>>=◌, Fails, Gives, behind, list_of}
 use Rattle.occam_parser.specs.LineReading.{type_at, shape_at, name_at, only}
-use Rattle.occam_parser.specs.Blocks.{Row, rows_of, Procedure, ProgramItem, GlobalProcedure}
-use Rattle.occam_parser.specs.BlockReading.{behind_colon}
+use Rattle.occam_parser.specs.Blocks.{Row, Procedure, ProgramItem, GlobalProcedure}
 
 -- want of memory, which no line is to blame for
 abbrev pub out_of_memory : ParseFault
@@ -43,13 +42,6 @@ Tells view (Err e) read = (e ≡ out_of_memory) ⊎ (read ≡ None)
 abbrev pub Answers : {X Y : Type 0} → (X → Y) → Result X ParseFault → Y → Type 0
 Answers view (Ok x) y = view x ≡ y
 Answers view (Err e) y = e ≡ out_of_memory
-
--- a type, and a name behind it
-unfoldable pub typed_name_at : Reads (ValueType × List ℕ)
-typed_name_at ts = do
-  type ← type_at ts
-  name ← name_at type.1
-  Some ((type.0, name.0), name.1)
 
 -- a type, or CHAN OF a type, and a name behind it
 unfoldable pub shaped_name_at : Reads ((Bool × ValueType) × List ℕ)
@@ -88,13 +80,6 @@ IsBeside before (Ok x) answer = answer ≡ Ok (before, x)
 abbrev pub IsAll : {A : Type 0} → Result (A × Bor (List Token)) LineError → Result A LineError → Type 0
 IsAll (Err e) answer = answer ≡ Err e
 IsAll (Ok x) answer = Gives (λ y. y) answer (only x.0 (terminals_of x.1.now))
-
--- The lines behind what was read and the colon that ends it: the fault of either, or the same and those lines.
-abbrev pub GoesUpToColon : {A : Type 0} → (read answer : Result (A × Bor (List Line)) ParseFault) → Type 0
-GoesUpToColon (Err e) answer = answer ≡ Err e
-GoesUpToColon (Ok x) (Err e) = (e ≡ out_of_memory) ⊎ (behind_colon (rows_of x.1.now) ≡ None)
-GoesUpToColon (Ok x) (Ok y) =
-    (y.0 ≡ x.0) × (behind_colon (rows_of x.1.now) ≡ Some (rows_of y.1.now)) × (length y.1.now ≤ length x.1.now)
 
 -- What was read, pushed: its fault, or want of memory, or one item more and the lines behind.
 abbrev pub Pushes : {A : Type 0} → Result (A × Bor (List Line)) ParseFault → (old new : List A)

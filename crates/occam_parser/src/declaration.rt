@@ -7,9 +7,9 @@ ghost use Rattle.occam_parser.specs.LineViews.{spelling_of, value_of, constant_o
 ghost use Rattle.occam_parser.specs.LineViews.{proc_head_of};
 ghost use Rattle.occam_parser.specs.Lines.{Formal as FormalTree};
 ghost use Rattle.occam_parser.specs.Reading.{Gives, Finds};
-ghost use Rattle.occam_parser.specs.LineReading.{type_at, shape_at, name_at, value_at, constant_at, table_at};
+ghost use Rattle.occam_parser.specs.LineReading.{type_at, typed_name_at, shape_at, name_at, value_at, constant_at};
 ghost use Rattle.occam_parser.specs.LineReading.{names_at, value_formal_at, formal_at, proc_head_at};
-ghost use Rattle.occam_parser.specs.Told.{typed_name_at, shaped_name_at, shaped_names_at};
+ghost use Rattle.occam_parser.specs.Told.{shaped_name_at, shaped_names_at};
 
 use crate::expression::{expect, in_brackets, up_to};
 use crate::fault::{Fault, LineError};
@@ -43,7 +43,7 @@ fn value_type<'t, 'a>(tokens: &'t [Token<'a>]) -> Result<(ValueType, &'t [Token<
 }
 
 /// `type name`, and the tokens behind it.
-#[tactic(auto, unfolding(crate::specs::Told::typed_name_at))]
+#[tactic(auto, unfolding(crate::specs::LineReading::typed_name_at))]
 fn typed_name<'t, 'a>(tokens: &'t [Token<'a>]) -> Read<'t, 'a, (ValueType, &'a [u8])>
     ensures found { Gives (λ x. ((x.0.0, x.0.1.now), terminals_of x.1.now)) result (typed_name_at (terminals_of tokens.now)) }
     ensures within { IfOk result (λ x. length x.1.now ≤ length tokens.now) }
@@ -79,7 +79,7 @@ fn shaped_name<'t, 'a>(tokens: &'t [Token<'a>]) -> Read<'t, 'a, ((bool, ValueTyp
 }
 
 /// A constant, behind its `VAL`.
-#[tactic(auto, unfolding(crate::specs::LineReading::constant_at, crate::specs::Told::typed_name_at))]
+#[tactic(auto, unfolding(crate::specs::LineReading::constant_at, crate::specs::LineReading::typed_name_at, crate::specs::Reading::up_to))]
 pub(crate) fn constant<'a>(
     alloc: Global,
     line: u32,
@@ -98,8 +98,8 @@ pub(crate) fn constant<'a>(
     })
 }
 
-/// What a constant stands for: a table where it has a size.
-#[tactic(auto, unfolding(crate::specs::LineReading::value_at))]
+/// What a constant stands for: a value or, where it has a size, a table of items or a string.
+#[tactic(auto, unfolding(crate::specs::LineReading::value_at, crate::specs::LineReading::table_at, crate::specs::Reading::up_to))]
 fn constant_value<'t, 'a>(
     alloc: Global,
     size: Option<Expr<'a>>,
@@ -111,18 +111,6 @@ fn constant_value<'t, 'a>(
         let (value, rest) = Expr::from_tokens(alloc, tokens)?;
         return Ok((ConstantValue::Scalar(value), rest));
     };
-    table(alloc, size, tokens)
-}
-
-/// A table of this size: its items, or a string.
-#[tactic(auto, unfolding(crate::specs::LineReading::table_at, crate::specs::Reading::up_to))]
-fn table<'t, 'a>(
-    alloc: Global,
-    size: Expr<'a>,
-    tokens: &'t [Token<'a>],
-) -> Read<'t, 'a, ConstantValue<'a>>
-    ensures { Gives (λ x. (value_of x.0, terminals_of x.1.now)) result (table_at (expression_of size.entry) (terminals_of tokens.now)) }
-{
     match first(tokens) {
         Some((Symbol::Text(text), rest)) => Ok((ConstantValue::Text { size, text }, rest)),
         Some((Symbol::Mark(Mark::OpenBracket), rest)) => {
@@ -226,7 +214,7 @@ impl<'a> FromTokens<'a> for Formal<'a> {
 }
 
 /// A formal parameter that is a value, behind its `VAL`.
-#[tactic(auto, unfolding(crate::specs::LineReading::formal_named, crate::specs::Told::typed_name_at))]
+#[tactic(auto, unfolding(crate::specs::LineReading::formal_named, crate::specs::LineReading::typed_name_at))]
 fn value_formal<'t, 'a>(alloc: Global, tokens: &'t [Token<'a>]) -> Read<'t, 'a, Formal<'a>>
     ensures found { Gives (λ x. (formal_of x.0, terminals_of x.1.now)) result (value_formal_at (terminals_of tokens.now)) }
     ensures within { IfOk result (λ x. length x.1.now ≤ length tokens.now) }

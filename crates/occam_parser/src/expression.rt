@@ -5,7 +5,7 @@ ghost use Rattle.occam_parser.specs.Terminals.{terminals_of};
 ghost use Rattle.occam_parser.specs.Expressions.{Expression};
 ghost use Rattle.occam_parser.specs.Views.{expression_of, term_of};
 ghost use Rattle.occam_parser.specs.Reading.{Gives, Finds, behind, behind_operator, prefix_at, begins_with_operator};
-ghost use Rattle.occam_parser.specs.Reading.{expression_at, one_operator, pair, chain, term_at, marked, named, converted};
+ghost use Rattle.occam_parser.specs.Reading.{expression_at, one_operator, chain, term_at, marked, named, converted};
 ghost use Rattle.occam_parser.specs.Reading.{up_to, inner_at, operand_within};
 ghost use Rattle.occam_parser.specs.LineReading.{bracketed_at};
 ghost use Rattle.occam_parser.specs.Told.{GoesUpTo, IsMadeOf};
@@ -133,31 +133,21 @@ fn one_operator<'t, 'a>(
     }
     let (left, rest) = operand(alloc, levels, tokens)?;
     match first(rest) {
-        Some((Symbol::Pair(operator), after)) => pair(alloc, levels, operator, left, after),
+        Some((Symbol::Pair(operator), after)) => {
+            let (left, (right, rest)) = beside(left, operand(alloc, levels, after))?;
+            made_of(
+                alloc,
+                Operation::Pair {
+                    operator,
+                    left,
+                    right,
+                },
+                rest,
+            )
+        }
         Some((Symbol::Chain(operator), after)) => chain(alloc, levels, operator, left, after),
         _ => made_of(alloc, Operation::Operand(left), rest),
     }
-}
-
-/// Two operands, of which the first and the operator behind it were read.
-#[cycle(expression)]
-fn pair<'t, 'a>(
-    alloc: Global,
-    levels: u32,
-    operator: PairOperator,
-    left: Operand<'a>,
-    tokens: &'t [Token<'a>],
-) -> Read<'t, 'a, Expr<'a>>
-    ensures found { Gives (λ x. (expression_of x.0, terminals_of x.1.now)) result (pair (term_at levels) operator (term_of left.entry) (terminals_of tokens.now)) }
-    ensures within { IfOk result (λ x. length x.1.now ≤ length tokens.now) }
-{
-    let (left, (right, rest)) = beside(left, operand(alloc, levels, tokens))?;
-    let operation = Operation::Pair {
-        operator,
-        left,
-        right,
-    };
-    made_of(alloc, operation, rest)
 }
 
 /// A chain, of which the first operand and the operator behind it were read.

@@ -1,7 +1,7 @@
 //! Why some lines are no program.
 
 ghost use Rattle.std.specs.Prelude.{◌≡◌};
-ghost use Rattle.occam_parser.specs.Told.{out_of_memory, IsTold, IsToldOf};
+ghost use Rattle.occam_parser.specs.Told.{out_of_memory, IsToldOf};
 ghost use Rattle.occam_parser.specs.declared.fault.LineError.TheVariants.{Memory, Fault as at_fault};
 
 use std::alloc::AllocFailed;
@@ -36,21 +36,15 @@ pub(crate) enum Fault {
 }
 
 impl Fault {
-    fn number(self) -> u8 {
-        match self {
+    /// This fault, told at a line.
+    pub(crate) fn at(self, line: u32) -> ParseFault {
+        let number = match self {
             Fault::UnexpectedToken => UNEXPECTED_TOKEN,
             Fault::MissingBody => MISSING_BODY,
             Fault::Nesting => NESTING,
             Fault::Mixture => MIXTURE,
-        }
-    }
-
-    /// This fault, told at a line.
-    pub(crate) fn at(self, line: u32) -> ParseFault {
-        ParseFault {
-            number: self.number(),
-            line,
-        }
+        };
+        ParseFault { number, line }
     }
 }
 
@@ -77,23 +71,15 @@ pub(crate) enum LineError {
     Fault(Fault),
 }
 
-impl LineError {
-    /// This error, told at a line.
-    pub(crate) fn at(self, line: u32) -> ParseFault
-        ensures { IsTold self result }
-    {
-        match self {
-            LineError::Memory => OUT_OF_MEMORY,
-            LineError::Fault(fault) => fault.at(line),
-        }
-    }
-}
-
 /// What a line gave, with an error told at it.
 pub(crate) fn at_line<T>(gave: Result<T, LineError>, line: u32) -> Result<T, ParseFault>
     ensures { IsToldOf gave result }
 {
-    gave.map_err(|error| error.at(line))
+    match gave {
+        Ok(found) => Ok(found),
+        Err(LineError::Memory) => Err(OUT_OF_MEMORY),
+        Err(LineError::Fault(fault)) => Err(fault.at(line)),
+    }
 }
 
 impl<T: Drop> From<AllocFailed<T>> for LineError {

@@ -10,7 +10,7 @@ ghost use Rattle.occam_parser.specs.Told.{IsAll, IsBeside};
 ghost use Rattle.occam_parser.specs.Lines.{Place as PlaceTree, Guard as GuardTree, Skips};
 ghost use Rattle.occam_parser.specs.LineReading.{ended, only, name_at, head_at, marked_head, block_at, replicator_at};
 ghost use Rattle.occam_parser.specs.LineReading.{counted_at, place_at, action_at, placed_action};
-ghost use Rattle.occam_parser.specs.LineReading.{whole_at, whole_place, is_guard_sign, has_condition};
+ghost use Rattle.occam_parser.specs.LineReading.{whole_at, whole_place, has_condition};
 ghost use Rattle.occam_parser.specs.LineReading.{guard_at, conditioned_at, received_if, input_at};
 
 use crate::declaration::{constant, typed_names};
@@ -270,12 +270,6 @@ impl<'a> FromLine<'a> for Place<'a> {
     }
 }
 
-fn is_guard(symbol: Symbol<'_>) -> bool
-    ensures { result ≡ is_guard_sign (seen_symbol symbol.entry) }
-{
-    matches!(symbol, Symbol::Mark(Mark::Guard))
-}
-
 /// Whether a line has a condition before its guard.
 #[tactic(auto, using(crate::proofs::Seen::left_is))]
 fn has_condition(tokens: &[Token<'_>]) -> bool
@@ -283,7 +277,7 @@ fn has_condition(tokens: &[Token<'_>]) -> bool
 {
     let mut next = first(tokens);
     while let Some((symbol, rest)) = next {
-        if is_guard(symbol) {
+        if matches!(symbol, Symbol::Mark(Mark::Guard)) {
             return true;
         }
         next = first(rest);
@@ -316,17 +310,12 @@ fn conditioned<'a>(alloc: Global, tokens: &[Token<'a>]) -> Result<Guard<'a>, Lin
 {
     let (condition, rest) = up_to(Mark::Guard, Expr::from_tokens(alloc, tokens))?;
     match behind(Mark::Skip, rest) {
-        Some(rest) => skip_guard(condition, rest),
+        Some(rest) => {
+            expect_end(rest)?;
+            Ok(Guard::Skip { condition })
+        }
         None => input_guard(alloc, Some(condition), rest),
     }
-}
-
-/// A guard that is always ready, behind its `SKIP`.
-fn skip_guard<'a>(condition: Expr<'a>, rest: &[Token<'_>]) -> Result<Guard<'a>, LineError>
-    ensures { Gives guard_of result (only (Skips (expression_of condition.entry)) (terminals_of rest.now)) }
-{
-    let (condition, ()) = beside(condition, expect_end(rest))?;
-    Ok(Guard::Skip { condition })
 }
 
 /// A guard that waits for an input, behind its condition.

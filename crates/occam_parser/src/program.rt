@@ -1,7 +1,7 @@
 //! Programs: constants and procedures.
 
 ghost use Rattle.std.specs.Prelude.{◌≡◌, ◌≤◌, ◌<◌, List, length, map, IfOk};
-ghost use Rattle.occam_parser.specs.Told.{Tells, Answers, GoesUpToColon, as_item};
+ghost use Rattle.occam_parser.specs.Told.{Tells, Answers, as_item};
 ghost use Rattle.occam_parser.specs.Terminals.{terminals_of};
 ghost use Rattle.occam_parser.specs.Blocks.{Row, ProgramItem, row_of, rows_of, IsProgram};
 ghost use Rattle.occam_parser.specs.BlockReading.{behind_colon, procedure_at, item_at, program_at};
@@ -36,19 +36,8 @@ fn behind_colon<'l, 'a>(last: u32, lines: &'l [Line<'a>]) -> Result<&'l [Line<'a
     }
 }
 
-/// What was read, where a colon has to end it, and the lines behind the colon.
-fn up_to_colon<'l, 'a, T: Drop>(
-    last: u32,
-    read: Result<(T, &'l [Line<'a>]), ParseFault>,
-) -> Result<(T, &'l [Line<'a>]), ParseFault>
-    ensures { GoesUpToColon read.entry result }
-{
-    let (found, rest) = read?;
-    let rest = behind_colon(last, rest)?;
-    Ok((found, rest))
-}
-
 /// The item that is the procedure whose head is a line, behind its `PROC`, and the lines behind its colon.
+#[tactic(auto, unfolding(crate::specs::BlockReading::procedure_at))]
 fn proc<'l, 'a>(
     alloc: Global,
     last: u32,
@@ -60,7 +49,8 @@ fn proc<'l, 'a>(
     ensures within { IfOk result (λ x. length x.1.now ≤ length lines.now) }
 {
     let head = at_line(proc_head(alloc, tokens), line)?;
-    let (body, rest) = up_to_colon(last, process(alloc, line, 1, lines))?;
+    let (body, rest) = process(alloc, line, 1, lines)?;
+    let rest = behind_colon(last, rest)?;
     Ok((
         Item::Proc(Proc {
             line,

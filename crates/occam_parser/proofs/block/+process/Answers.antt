@@ -1,4 +1,4 @@
-use Rattle.std.proofs.Common.{◌≡◌, ◌-◌, ◌+◌, ◌<◌, Some, None, length, map, sym, refl, ap, subst, arith, ◌∙◌}
+use Rattle.std.proofs.Common.{◌≡◌, ◌-◌, ◌+◌, Some, None, length, map, sym, refl, ap, subst, arith, ◌∙◌}
 use Rattle.std.proofs.Common.{inr, Ok}
 use Rattle.std.specs.Prelude.{option_map}
 use Rattle.std.proofs.lemmas.Result.{err_from_is_err_and}
@@ -6,12 +6,11 @@ use Rattle.occam_parser.specs.declared.head.BlockKind.TheVariants as block
 use Rattle.occam_parser.specs.LineViews.{replicator_of, declaration_of, guard_of, start_of}
 use Rattle.occam_parser.specs.declared.head.Start.TheVariants as start
 use Rattle.occam_parser.specs.declared.tree.Construct.TheViews.{roll-Choice, roll-Branch}
-use Rattle.occam_parser.specs.Terminals.{terminals_of}
 use Rattle.occam_parser.specs.LineReading.{whole_at, guard_at}
 use Rattle.occam_parser.specs.Views.{expression_of}
 use Rattle.occam_parser.specs.Blocks.{rows_of, Block, Chosen, Guarded}
 use Rattle.occam_parser.specs.BlockReading.{component_at, wants}
-use Rattle.occam_parser.specs.BlockViews.{process_of, choice_of, branch_of, plain_component, kind_of, components_in}
+use Rattle.occam_parser.specs.BlockViews.{choice_of, branch_of, plain_component, kind_of, components_in}
 use Rattle.occam_parser.proofs.Answering.{passed_on}
 use Rattle.occam_parser.proofs.Turns.{block_stops, block_ends}
 use Rattle.occam_parser.proofs.Levelled.{process_none, process_is, block_found, block_lost, body_found, body_none}
@@ -46,50 +45,55 @@ component-returns-in-Par-clause-found t c =
 pub component-returns-in_err-line-in-If-clause-found : goal.component-returns-in_err-line-in-If-clause-found
 component-returns-in_err-line-in-If-clause-found t c =
     let p = err_from_is_err_and c.from_residual.result c.from_residual.ensures.1 in
-    rw (p.1, p.2, c.in-If.is) (head_lost whole_at Chosen block.If c.args.level _ _ _ choice_is c.in_err-line-in-If.ensures.found)
+    rw (p.1, p.2, c.in-If.is) (head_lost _ _ _ c.args.level _ _ _ choice_is c.in_err-line-in-If.ensures.found)
 
 pub component-returns-in_err-condition-in-If-clause-found : goal.component-returns-in_err-condition-in-If-clause-found
 component-returns-in_err-condition-in-If-clause-found t c =
-    let p = err_from_is_err_and c.from_residual-in_err-condition-in-If.result c.from_residual-in_err-condition-in-If.ensures.1 in
+    let lost = c.from_residual-in_err-condition-in-If in
+    let p = err_from_is_err_and lost.result lost.ensures.1 in
     let head = c.in_ok-line-in-If in
     rw (p.1, p.2, c.in-If.is)
-    (headed_lost whole_at Chosen block.If c.args.level _ _ _ head.line (expression_of head.condition) head.condition c.process-in-If.result _
-    choice_is head.ensures.level head.ensures.found c.in_err-condition-in-If.ensures c.process-in-If.ensures.found)
+    (headed_lost _ _ _ c.args.level _ _ _ head.line _ head.condition c.process-in-If.result _ choice_is
+    head.ensures.level head.ensures.found c.in_err-condition-in-If.ensures c.process-in-If.ensures.found)
 
 pub component-returns-in_ok-condition-in-If-clause-found : goal.component-returns-in_ok-condition-in-If-clause-found
 component-returns-in_ok-condition-in-If-clause-found t c =
     let head = c.in_ok-line-in-If in
     let y = c.in_ok-condition-in-If in
-    let made = headed_found whole_at Chosen block.If expression_of c.args.level (rows_of c.args.lines.now) _ head.line head.condition
-    y.condition y.process y.rest c.process-in-If.result choice_is head.ensures.level head.ensures.found y.ensures
-    c.process-in-If.ensures.found in
+    let read = c.process-in-If in
+    let made = headed_found _ _ _ expression_of c.args.level (rows_of c.args.lines.now) _ head.line head.condition
+    y.condition y.process y.rest read.result choice_is head.ensures.level head.ensures.found y.ensures read.ensures.found in
+    let pushed = roll-Choice (record { line = head.line; condition = y.condition; process = y.process }) in
     rw c.in-If.is
-    (pushed_tells choice_of (Ok (roll-Choice (record { line = head.line; condition = y.condition; process = y.process }), y.rest))
+    (pushed_tells choice_of (Ok (pushed, y.rest))
     c.in-If.found.items c.push-in-If.new.found.items c.push-in-If.result _ c.push-in-If.ensures
     (made ∙ ap (λ z. Some (z, rows_of y.rest.now)) (sym (view-Choice head.line y.condition y.process))))
 
 pub component-returns-in_err-line-in-Alt-clause-found : goal.component-returns-in_err-line-in-Alt-clause-found
 component-returns-in_err-line-in-Alt-clause-found t c =
-    let p = err_from_is_err_and c.from_residual-in_err-line-in-Alt.result c.from_residual-in_err-line-in-Alt.ensures.1 in
-    rw (p.1, p.2, c.in-Alt.is) (head_lost guard_at Guarded block.Alt c.args.level _ _ _ branch_is c.in_err-line-in-Alt.ensures.found)
+    let lost = c.from_residual-in_err-line-in-Alt in
+    let p = err_from_is_err_and lost.result lost.ensures.1 in
+    rw (p.1, p.2, c.in-Alt.is) (head_lost _ _ _ c.args.level _ _ _ branch_is c.in_err-line-in-Alt.ensures.found)
 
 pub component-returns-in_err-guard-in-Alt-clause-found : goal.component-returns-in_err-guard-in-Alt-clause-found
 component-returns-in_err-guard-in-Alt-clause-found t c =
-    let p = err_from_is_err_and c.from_residual-in_err-guard-in-Alt.result c.from_residual-in_err-guard-in-Alt.ensures.1 in
+    let lost = c.from_residual-in_err-guard-in-Alt in
+    let p = err_from_is_err_and lost.result lost.ensures.1 in
     let head = c.in_ok-line-in-Alt in
     rw (p.1, p.2, c.in-Alt.is)
-    (headed_lost guard_at Guarded block.Alt c.args.level _ _ _ head.line (guard_of head.guard) head.guard c.process-in-Alt.result _
-    branch_is head.ensures.level head.ensures.found c.in_err-guard-in-Alt.ensures c.process-in-Alt.ensures.found)
+    (headed_lost _ _ _ c.args.level _ _ _ head.line _ head.guard c.process-in-Alt.result _ branch_is
+    head.ensures.level head.ensures.found c.in_err-guard-in-Alt.ensures c.process-in-Alt.ensures.found)
 
 pub component-returns-in_ok-guard-in-Alt-clause-found : goal.component-returns-in_ok-guard-in-Alt-clause-found
 component-returns-in_ok-guard-in-Alt-clause-found t c =
     let head = c.in_ok-line-in-Alt in
     let y = c.in_ok-guard-in-Alt in
-    let made = headed_found guard_at Guarded block.Alt guard_of c.args.level (rows_of c.args.lines.now) _ head.line head.guard
-    y.guard y.process y.rest c.process-in-Alt.result branch_is head.ensures.level head.ensures.found y.ensures
-    c.process-in-Alt.ensures.found in
+    let read = c.process-in-Alt in
+    let made = headed_found _ _ _ guard_of c.args.level (rows_of c.args.lines.now) _ head.line head.guard
+    y.guard y.process y.rest read.result branch_is head.ensures.level head.ensures.found y.ensures read.ensures.found in
+    let pushed = roll-Branch (record { line = head.line; guard = y.guard; process = y.process }) in
     rw c.in-Alt.is
-    (pushed_tells branch_of (Ok (roll-Branch (record { line = head.line; guard = y.guard; process = y.process }), y.rest))
+    (pushed_tells branch_of (Ok (pushed, y.rest))
     c.in-Alt.found.items c.push-in-Alt.new.found.items c.push-in-Alt.result _ c.push-in-Alt.ensures
     (made ∙ ap (λ z. Some (z, rows_of y.rest.now)) (sym (view-Branch head.line y.guard y.process))))
 

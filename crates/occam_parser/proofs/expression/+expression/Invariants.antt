@@ -12,9 +12,6 @@ decreases-nested l = 6 * l.levels + 5
 abbrev pub decreases-one_operator : goal.decreases-one_operator
 decreases-one_operator l = 6 * l.levels + 4
 
-abbrev pub decreases-pair : goal.decreases-pair
-decreases-pair l = 6 * l.levels + 3
-
 abbrev pub decreases-chain : goal.decreases-chain
 decreases-chain l = 6 * l.levels + 3
 

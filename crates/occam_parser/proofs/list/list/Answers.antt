@@ -17,8 +17,8 @@ pub loop-after-init : goal.loop-after-init
 loop-after-init g c = record {
   within = c.in_ok-first.ensures.within;
   reads =
-      let begun = list_begins g.T.FromTokens.reads (terminals_of c.args.tokens.now) (terminals_of c.in_ok-first.rest.now)
-      (g.T.FromTokens.tree c.in_ok-first.first) c.in_ok-first.ensures.found
+      let begun = list_begins g.T.FromTokens.reads (terminals_of c.args.tokens.now)
+      (terminals_of c.in_ok-first.rest.now) (g.T.FromTokens.tree c.in_ok-first.first) c.in_ok-first.ensures.found
       (no_more c.in_ok-first.rest.now c.args.tokens.now c.in_ok-first.ensures.within) in
       rw (c.in_ok-push.ensures.items, c.new-found.ensures.items) begun;
 }
@@ -49,5 +49,6 @@ loop-after-preserved g c = record {
 }
 
 pub returns-clause-found : goal.returns-clause-found
-returns-clause-found g c = list_ends g.T.FromTokens.reads (terminals_of c.args.tokens.now) (terminals_of c.loop-after.rest.now) _
+returns-clause-found g c =
+    list_ends g.T.FromTokens.reads (terminals_of c.args.tokens.now) (terminals_of c.loop-after.rest.now) _
     (sym c.in_default.ensures.behind) c.loop-after.invariant.reads
