@@ -3,9 +3,9 @@ use Rattle.std.proofs.Common.{◌≡◌, ℕ, List, Option, Some, Result, Ok, Er
 use Rattle.tpm.specs.declared.files.FileFault.{FileFault}
 use Rattle.tpm.specs.declared.report.Failure.{Failure}
 use Rattle.tpm.specs.declared.report.Failure.TheVariants as failures
-use Rattle.tpm.specs.CommandLine.{Asked, line_of}
+use Rattle.tpm.specs.CommandLine.{Asked, path_of, line_of}
 use Rattle.tpm.specs.Texts.{status_of}
-use Rattle.tpm.specs.Acting.{Acts, Performs, malformed, uncertified, told, refused, unread, unwritten, starved}
+use Rattle.tpm.specs.Acting.{Acts, Performs, WasRead, IsRefusedBy, malformed, uncertified, told, refused, unread, unwritten, starved}
 
 module _ {F : Type 0} (reads : F → List ℕ → Result (List ℕ) FileFault → F → Type 0) (words : List (List ℕ))
     (asked : Asked)
@@ -15,25 +15,18 @@ module _ {F : Type 0} (reads : F → List ℕ → Result (List ℕ) FileFault �
       → Acts reads words before after out_before out_after 0
   acts_told line u performed = told asked performed.0 line performed.1 performed.2 refl
 
+  was_refused : {P : List ℕ → Type 0} → ((bytes : List ℕ) → P bytes → IsRefusedBy bytes)
+      → WasRead reads before (path_of asked) after P → WasRead reads before (path_of asked) after IsRefusedBy
+  was_refused refuses file =
+      record { bytes = file.bytes; read = file.read; holds = refuses file.bytes file.holds }
+
   pub acts_failed : (failure : Failure) (status : ℕ) → status ≡ status_of failure → line_of words ≡ Some asked
       → Performs reads asked before after out_before out_after (Err failure)
       → Acts reads words before after out_before out_after status
   acts_failed (failures.Malformed fault) status is line performed =
-      let file = performed.0 in
-      refused asked line (record {
-        bytes = file.bytes;
-        read = file.read;
-        holds =
-            malformed fault file.holds;
-      }) performed.1 is
+      refused asked line (was_refused (λ bytes. malformed fault) performed.0) performed.1 is
   acts_failed (failures.Uncertified refusal) status is line performed =
-      let file = performed.0 in
-      refused asked line (record {
-        bytes = file.bytes;
-        read = file.read;
-        holds =
-            uncertified refusal file.holds;
-      }) performed.1 is
+      refused asked line (was_refused (λ bytes. uncertified refusal) performed.0) performed.1 is
   acts_failed (failures.Unread path) status is line performed = unread asked line (performed.0).1 performed.1 is
   acts_failed failures.Unwritten status is line performed = unwritten asked performed.0 line performed.1 is
   acts_failed failures.Memory status is line performed = starved performed.1 is

@@ -3,15 +3,18 @@ use Rattle.std.proofs.Common.{◌≡◌, List, [], ◌∷◌, true, Option, Some
 use Rattle.std.proofs.Common.{inr, refl, ap, ap₂, sym, ◌∙◌, codes}
 use Rattle.std.specs.Prelude.{Box}
 use Rattle.std.specs.Box.{box_value}
-use Rattle.clap.specs.Walk.{Text, Row, first_of}
-use Rattle.clap.specs.Simple.{is_simple, subcommand_of, subcommand_rows}
+use Rattle.clap.specs.Matches.{found_of, first_value}
+use Rattle.clap.specs.Walk.{Text, Row, rows_of}
+use Rattle.clap.specs.Simple.{App, HasMatchesOf, is_simple, subcommand_of, subcommand_rows, subcommand_rows_of}
 use Rattle.clap.specs.Kinds.{Kinds, HasKind, IsAmong}
 use Rattle.clap.specs.Faults.{fault_of, is_simple_and_free}
 use Rattle.clap.specs.Values.{kind_of}
 use Rattle.clap.specs.declared.error.Error.{Error}
 use Rattle.clap.specs.declared.error.kind.ErrorKind.{ErrorKind}
 use Rattle.clap.specs.declared.parser.matches.SubCommand.{SubCommand}
-use Rattle.clap.specs.declared.parser.matches.ArgMatches.TheViews.{out-SubCommand}
+use Rattle.clap.specs.declared.parser.matches.ArgMatches.TheViews.{out-ArgMatches, out-SubCommand}
+use Rattle.clap.specs.declared.parser.matches.ArgMatches.{ArgMatches}
+use Rattle.clap.proofs.WalkLemmas.{first_value-rows}
 use Rattle.tpm.specs.declared.line.Line.{Line}
 use Rattle.tpm.specs.declared.line.LineFault.{LineFault}
 use Rattle.tpm.specs.declared.line.LineFault.TheVariants as faults
@@ -23,7 +26,7 @@ same_inside : {A : Type 0} (x y : A) → Some x ≡ Some y → x ≡ y
 same_inside x y e = cc
 
 -- a subcommand's name and rows, told apart, are told together
-pub entered_is : {Z : Type 0} (s : Option (Box SubCommand Z)) (name : Text) (rows : List Row)
+entered_is : {Z : Type 0} (s : Option (Box SubCommand Z)) (name : Text) (rows : List Row)
     → Some name ≡ option_map (λ b. (out-SubCommand (box_value b)).name.now) s
     → Some rows ≡ option_map (λ p. p.1) (subcommand_rows s)
     → subcommand_rows s ≡ Some (name, rows)
@@ -31,11 +34,16 @@ entered_is None name rows a b = absurd (cc)
 entered_is (Some box) name rows a b =
     ap₂ (λ (x : Text) (y : List Row). Some (x, y)) (sym (same_inside _ _ a)) (sym (same_inside _ _ b))
 
--- what is asked for by a subcommand with this name, these rows and this path
-pub asks_by : (found : Option (Text × List Row)) (name : Text) (rows : List Row) (path : Option Text)
-    → found ≡ Some (name, rows) → path ≡ first_of (codes "MOD") rows
-    → option_and_then (named name) path ≡ option_and_then entered_by found
-asks_by found name rows path is read = ap (option_and_then (named name)) read ∙ sym (ap (option_and_then entered_by) is)
+-- what is asked for by the subcommand that was met, with this name, what was given to it, and this path
+pub asks_by : (matches given : ArgMatches) (name : Text) (path : Option Text)
+    → Some name ≡ option_map (λ b. (out-SubCommand (box_value b)).name.now) (out-ArgMatches matches).subcommand
+    → Some (rows_of (found_of given)) ≡ option_map (λ p. p.1) (subcommand_rows_of matches)
+    → path ≡ first_value (found_of given) (codes "MOD")
+    → option_and_then (named name) path ≡ option_and_then entered_by (subcommand_rows_of matches)
+asks_by matches given name path called rows read =
+    ap (option_and_then (named name)) (read ∙ first_value-rows (found_of given) (codes "MOD"))
+    ∙ sym (ap (option_and_then entered_by)
+    (entered_is (out-ArgMatches matches).subcommand name (rows_of (found_of given)) called rows))
 
 -- ---- the whole line
 
@@ -51,19 +59,24 @@ misused words error faults.Memory has of = tt
 misused words error (faults.Usage shown) (inl starved) of = absurd (of.1 starved)
 misused words error (faults.Usage shown) (inr among) of = some_kind (kind_of error) (fault_of tpm words) _ among
 
--- what the words ask for, where the parser took them
-pub line_is : (words : List Text) (found : Option (Text × List Row)) (asked : Option Asked) → fault_of tpm words ≡ []
-    → found ≡ subcommand_of tpm words
-    → asked ≡ option_and_then entered_by found → line_of words ≡ asked
-line_is words found asked none is by =
-    ap (λ (kinds : Kinds). unless_faulty kinds (option_and_then entered_by (subcommand_of tpm words))) none
-    ∙ sym (ap (option_and_then entered_by) is) ∙ sym by
-
 pub tpm_is_simple : is_simple tpm ≡ true
 tpm_is_simple = refl
 
 pub tpm_is_free : is_simple_and_free tpm ≡ true
 tpm_is_free = refl
+
+-- what the words ask for, where the parser of the command took them
+pub line_is : (app : App) (words : List Text) (matches : ArgMatches) (asked : Option Asked) → app ≡ tpm
+    → (is_simple_and_free app ≡ true → fault_of app words ≡ []) → HasMatchesOf app words matches
+    → asked ≡ option_and_then entered_by (subcommand_rows_of matches)
+    → (fault_of tpm words ≡ []) × (line_of words ≡ asked)
+line_is app words matches asked is kinds has by =
+    let none : fault_of tpm words ≡ [] =
+    ap (λ (a : App). fault_of a words) (sym is) ∙ kinds (ap is_simple_and_free is ∙ tpm_is_free) in
+    let found : subcommand_rows_of matches ≡ subcommand_of tpm words =
+    (has (ap is_simple is ∙ tpm_is_simple)).1 ∙ ap (λ (a : App). subcommand_of a words) is in
+    (none, ap (λ (kinds : Kinds). unless_faulty kinds (option_and_then entered_by (subcommand_of tpm words))) none
+    ∙ sym (ap (option_and_then entered_by) found) ∙ sym by)
 
 -- what the parser took asks for something
 pub some_asked : (words : List Text) (asked : Option Line) → fault_of tpm words ≡ []
