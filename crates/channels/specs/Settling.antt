@@ -53,8 +53,12 @@ abbrev pub is_awaited : Option Channel → Bool
 is_awaited None = false
 is_awaited (Some channel) = is_some channel.waiting
 
--- By the answer: the instruction is executed, with this effect; or it is at fault, and nothing has changed.
-abbrev pub Settles : {A : Type 0} → World → World → Effect → Result A Fault → Turn → Type 0
-Settles before after effect (Ok goes_on) turn = turn ≡ answered effect (counted after)
-Settles before after effect (Err fault) turn =
+-- By the answer: the instruction is executed, with the effect of the answer; or it is at fault, and nothing has changed.
+abbrev pub SettlesBy : {A : Type 0} → (A → Effect) → World → World → Result A Fault → Turn → Type 0
+SettlesBy effect before after (Ok answer) turn = turn ≡ answered (effect answer) (counted after)
+SettlesBy effect before after (Err fault) turn =
     (turn ≡ record { world = faulty fault before; answer = Err fault }) × (after ≡ before)
+
+-- the same with one effect
+abbrev pub Settles : {A : Type 0} → World → World → Effect → Result A Fault → Turn → Type 0
+Settles before after effect result turn = SettlesBy (λ answer. effect) before after result turn

@@ -94,7 +94,7 @@ impl<S: Store> Traffic<S, ListQueue> {
     /// Receives a message from an internal channel. Answers whether the process goes on: it does if the sender waits
     /// there already.
     #[tactic(auto, unfolding(machine_state::specs::Moves::dispatch))]
-    pub fn receive_inside(
+    pub(crate) fn receive_inside(
         &mut self,
         tables: &Tables,
         here: &Here,
@@ -141,7 +141,7 @@ impl<S: Store> Traffic<S, ListQueue> {
     /// Sends a message on an internal channel. Answers whether the process goes on: it does if the receiver waits there
     /// already. If not, what has enabled the channel becomes ready.
     #[tactic(auto, unfolding(machine_state::specs::Moves::dispatch))]
-    pub fn send_inside(
+    pub(crate) fn send_inside(
         &mut self,
         tables: &Tables,
         here: &Here,

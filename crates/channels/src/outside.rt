@@ -6,7 +6,7 @@ ghost use Rattle.machine_state.specs.LocalStep.{holds_scheduling_words};
 ghost use Rattle.machine_state.specs.Memory.{place_of};
 ghost use Rattle.machine_state.specs.Moves.{link_index, with_input, put, leave, dispatch};
 ghost use Rattle.machine_state.specs.Turn.{ran, emitted, between};
-ghost use Rattle.machine_state.specs.Exchanges.{received_outside, sent_outside, link_of, bytes_at};
+ghost use Rattle.machine_state.specs.Exchanges.{received_outside, sent_outside, bytes_at};
 ghost use Rattle.channels.specs.Moment.{IsSteady, WaitsForMore};
 ghost use Rattle.channels.specs.Settling.{here_in, scheduled, is_complete, Settles};
 
@@ -50,8 +50,8 @@ impl<S: Store> Traffic<S, ListQueue> {
     }
 
     /// Sends a message on a link: it goes out at once, and its sender waits until it is acknowledged.
-    #[tactic(auto, unfolding(machine_state::specs::Moves::dispatch))]
-    pub fn send_on(
+    #[tactic(auto, using(crate::proofs::LinkNumbers::link_of_index), unfolding(machine_state::specs::Moves::dispatch))]
+    pub(crate) fn send_on(
         &mut self,
         tables: &Tables,
         here: &Here,
@@ -62,11 +62,10 @@ impl<S: Store> Traffic<S, ListQueue> {
         requires code { length tables.now.code.now < 2 ^ 32 }
         requires message { 0 < exchange.length }
         requires words { IsTrue (holds_scheduling_words self.old.holding registers.workspace) }
-        ensures { let k = link_index link in
-            let bytes = bytes_at self.new.world.memory (place_of exchange.address) exchange.length in
-            let turn = sent_outside (here_in (contents_of tables.now) here.now) k exchange
+        ensures { let bytes = bytes_at self.new.world.memory (place_of exchange.address) exchange.length in
+            let turn = sent_outside (here_in (contents_of tables.now) here.now) (link_index link) exchange
             (scheduled registers self.old.world) self.old.world in
-            Settles self.old.world self.new.world (emitted (link_of k) bytes) result turn }
+            Settles self.old.world self.new.world (emitted link bytes) result turn }
     {
         if tables.lengths[link.index()] != exchange.length {
             return Err(here.fault(FaultKind::UnequalLengths));
@@ -91,7 +90,7 @@ impl<S: Store> Traffic<S, ListQueue> {
     /// Receives a message from a link. Answers whether the process goes on: a byte that is kept there is the message's
     /// first, and if it is the last too, nothing is waited for.
     #[tactic(auto, unfolding(machine_state::specs::Moves::dispatch))]
-    pub fn receive_on(
+    pub(crate) fn receive_on(
         &mut self,
         tables: &Tables,
         here: &Here,
