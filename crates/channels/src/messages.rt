@@ -1,20 +1,18 @@
 //! Messages, over a link or an internal channel, by the address that names it.
 
-ghost use Rattle.std.specs.Prelude.{◌≡◌, ◌+◌, ◌<◌, ◌^◌, IsTrue, IfOk, length};
+ghost use Rattle.std.specs.Prelude.{◌≡◌, ◌+◌, ◌<◌, ◌^◌, IfOk, length};
 ghost use Rattle.std.specs.Option.{option_map};
 ghost use Rattle.module_format.specs.Contents.{contents_of};
-ghost use Rattle.machine_state.specs.LocalStep.{holds_scheduling_words};
 ghost use Rattle.machine_state.specs.Moves.{link_index};
 ghost use Rattle.machine_state.specs.Turn.{ran};
 ghost use Rattle.machine_state.specs.Exchanges.{link_from, input_link, output_link, received, sent};
-ghost use Rattle.channels.specs.Moment.{IsSteady};
-ghost use Rattle.channels.specs.Settling.{here_in, scheduled, Settles, SettlesBy};
+ghost use Rattle.channels.specs.Settling.{IsAsked, turn_for, Settles, SettlesBy};
 ghost use Rattle.channels.specs.Delivering.{effect_of, goes_on, receiver_goes_on, sender_goes_on};
 
-use crate::here::Here;
+use crate::message::Message;
 use crate::traffic::Traffic;
 use certificate::Tables;
-use machine_state::{Exchange, Fault, Link, Registers, Store};
+use machine_state::{Fault, Link, Store};
 use process_queue::ListQueue;
 
 /// The address of the word of output link 0, MostNeg. The words of the others follow it (T414 compiler writer's guide).
@@ -67,54 +65,37 @@ fn output_link(address: u32) -> Option<Link>
 }
 
 impl<S: Store> Traffic<S, ListQueue> {
-    /// Receives a message from the link or internal channel at the exchange's address. Answers whether the process
+    /// Receives a message from the link or internal channel at its exchange's address. Answers whether the process
     /// goes on.
-    pub fn receive(
-        &mut self,
-        tables: &Tables,
-        here: &Here,
-        exchange: Exchange,
-        registers: Registers,
-    ) -> Result<bool, Fault>
+    pub fn receive(&mut self, tables: &Tables, message: &Message) -> Result<bool, Fault>
         requires room { 0 < self.old.room }
         requires code { length tables.now.code.now < 2 ^ 32 }
-        requires task { IsSteady here.now.task }
-        requires message { 0 < exchange.length }
-        requires words { IsTrue (holds_scheduling_words self.old.holding registers.workspace) }
-        ensures settles { let turn = received (here_in (contents_of tables.now) here.now) exchange
-            (scheduled registers self.old.world) self.old.world in
+        requires message { IsAsked self.old.holding message.now }
+        ensures settles { let turn = turn_for received (contents_of tables.now) message.now self.old.world in
             Settles self.old.world self.new.world ran result turn }
-        ensures goes_on { IfOk result (λ goes_on. goes_on ≡ receiver_goes_on exchange self.old.world) }
+        ensures goes_on { IfOk result (λ goes_on. goes_on ≡ receiver_goes_on message.now.exchange self.old.world) }
     {
-        match input_link(exchange.channel) {
-            Some(link) => self.receive_on(tables, here, link, exchange, registers),
-            None => self.receive_inside(tables, here, exchange, registers),
+        match input_link(message.exchange.channel) {
+            Some(link) => self.receive_on(tables, message, link),
+            None => self.receive_inside(tables, message),
         }
     }
 
-    /// Sends a message on the link or internal channel at the exchange's address.
-    pub fn send(
-        &mut self,
-        tables: &Tables,
-        here: &Here,
-        exchange: Exchange,
-        registers: Registers,
-    ) -> Result<Delivery, Fault>
+    /// Sends a message on the link or internal channel at its exchange's address.
+    pub fn send(&mut self, tables: &Tables, message: &Message) -> Result<Delivery, Fault>
         requires room { 0 < self.old.room }
         requires code { length tables.now.code.now < 2 ^ 32 }
-        requires task { IsSteady here.now.task }
-        requires message { 0 < exchange.length }
-        requires words { IsTrue (holds_scheduling_words self.old.holding registers.workspace) }
-        ensures settles { let turn = sent (here_in (contents_of tables.now) here.now) exchange
-            (scheduled registers self.old.world) self.old.world in
-            SettlesBy (effect_of exchange self.new.world) self.old.world self.new.world result turn }
-        ensures goes_on { IfOk result (λ delivery. goes_on delivery ≡ sender_goes_on exchange self.old.world) }
+        requires message { IsAsked self.old.holding message.now }
+        ensures settles { let turn = turn_for sent (contents_of tables.now) message.now self.old.world in
+            SettlesBy (effect_of message.now.exchange self.new.world) self.old.world self.new.world result turn }
+        ensures goes_on { IfOk result (λ delivery.
+            goes_on delivery ≡ sender_goes_on message.now.exchange self.old.world) }
     {
-        if let Some(link) = output_link(exchange.channel) {
-            self.send_on(tables, here, link, exchange, registers)?;
+        if let Some(link) = output_link(message.exchange.channel) {
+            self.send_on(tables, message, link)?;
             return Ok(Delivery::Emitted(link));
         }
-        if self.send_inside(tables, here, exchange, registers)? {
+        if self.send_inside(tables, message)? {
             Ok(Delivery::Received)
         } else {
             Ok(Delivery::Awaited)
