@@ -83,18 +83,6 @@ impl<S: Store> Traffic<S, ListQueue> {
         self.put(here.process, Task { condition, ..task });
     }
 
-    /// The process is after the instruction, with these registers and in this condition.
-    pub(crate) fn put_after(&mut self, here: &Here, registers: Registers, condition: Condition)
-        requires next { here.now.task.registers.at + 1 < 2 ^ 32 }
-        requires condition { WaitsForMore condition }
-        ensures { let w = self.old.world in
-            let after = between (here.now.task.registers.at + 1) registers in
-            let task = record here.now.task { registers = after; condition = condition } in
-            self.new ≡ record self.old { world = put here.now.process task w.memory w } }
-    {
-        self.put_at(here, here.next(), registers, condition);
-    }
-
     /// The process gives way, and another may run.
     pub fn give_way(&mut self, here: &Here)
         ensures world { self.new.world ≡ dispatch here.now.pick (leave self.old.world) }

@@ -1,20 +1,20 @@
 //! Messages over internal channels: the first process to come waits for the second.
 
-ghost use Rattle.std.specs.Prelude.{◌≡◌, ◌+◌, ◌<◌, ◌^◌, IsTrue, IfOk, Some, None, length};
+ghost use Rattle.std.specs.Prelude.{◌≡◌, ◌+◌, ◌<◌, ◌^◌, IfOk, Some, None, length};
 ghost use Rattle.module_format.specs.Contents.{contents_of};
 ghost use Rattle.machine_state.specs.Exchanges.{condition_of};
-ghost use Rattle.machine_state.specs.LocalStep.{holds_scheduling_words, copied};
+ghost use Rattle.machine_state.specs.LocalStep.{copied};
 ghost use Rattle.machine_state.specs.Memory.{place_of};
-ghost use Rattle.machine_state.specs.Moves.{put, wake, with_channel, channel_at};
-ghost use Rattle.machine_state.specs.Turn.{ran, between};
+ghost use Rattle.machine_state.specs.Moves.{wake, with_channel, channel_at};
+ghost use Rattle.machine_state.specs.Turn.{ran};
 ghost use Rattle.channels.specs.Moment.{IsSteady, WaitsForMore};
-ghost use Rattle.channels.specs.Settling.{here_in, scheduled, is_awaited, Settles};
+ghost use Rattle.channels.specs.Settling.{IsAsked, turn_for, put_after, is_awaited, Settles};
 ghost use Rattle.channels.specs.Settling.{received_by_channel, sent_by_channel};
 
-use crate::here::Here;
+use crate::message::Message;
 use crate::traffic::Traffic;
 use certificate::Tables;
-use machine_state::{Channel, Condition, Exchange, Fault, FaultKind, Registers, Store};
+use machine_state::{Channel, Condition, Exchange, Fault, FaultKind, Store};
 use process_queue::ListQueue;
 
 impl<S: Store> Traffic<S, ListQueue> {
@@ -28,30 +28,20 @@ impl<S: Store> Traffic<S, ListQueue> {
         }
     }
 
-    /// The process waits on the channel in this condition.
-    fn wait_at(
-        &mut self,
-        here: &Here,
-        address: u32,
-        channel: Channel,
-        condition: Condition,
-        registers: Registers,
-    )
-        requires next { here.now.task.registers.at + 1 < 2 ^ 32 }
+    /// The process waits on the message's channel in this condition.
+    fn wait_at(&mut self, message: &Message, channel: Channel, condition: Condition)
+        requires next { message.now.here.task.registers.at + 1 < 2 ^ 32 }
         requires condition { WaitsForMore condition }
-        ensures { let w = self.old.world in
-            let after = between (here.now.task.registers.at + 1) registers in
-            let task = record here.now.task { registers = after; condition = condition } in
-            let waits = record channel { waiting = Some here.now.process } in
+        ensures { let waits = record channel { waiting = Some message.now.here.process } in
             self.new ≡ record self.old {
-              world = with_channel address waits (put here.now.process task w.memory w);
+              world = with_channel message.now.exchange.channel waits (put_after message.now condition self.old.world);
             } }
     {
-        self.put_after(here, registers, condition);
+        self.put_after(message, condition);
         self.set_channel(
-            address,
+            message.exchange.channel,
             Channel {
-                waiting: Some(here.process),
+                waiting: Some(message.here.process),
                 ..channel
             },
         );
@@ -62,25 +52,22 @@ impl<S: Store> Traffic<S, ListQueue> {
     /// The sender's bytes go to the receiver. The other process, which came first, becomes ready, and this one goes on.
     fn meet(
         &mut self,
-        here: &Here,
+        message: &Message,
         other: u64,
         source: Exchange,
         to: Exchange,
         channel: Channel,
-        registers: Registers,
     )
         requires room { 0 < self.old.room }
-        requires next { here.now.task.registers.at + 1 < 2 ^ 32 }
-        requires task { IsSteady here.now.task }
+        requires next { message.now.here.task.registers.at + 1 < 2 ^ 32 }
+        requires task { IsSteady message.now.here.task }
         ensures { let w = self.old.world in
             let memory = copied w.memory (place_of source.address) (place_of to.address) source.length w.memory in
-            let after = between (here.now.task.registers.at + 1) registers in
-            let task = record here.now.task { registers = after } in
-            self.new.world ≡ wake other (with_channel source.channel (record channel { waiting = None })
-            (put here.now.process task memory w)) }
+            let there = put_after message.now message.now.here.task.condition (record w { memory = memory }) in
+            self.new.world ≡ wake other (with_channel source.channel (record channel { waiting = None }) there) }
     {
         self.copy(source.address, to.address, source.length);
-        self.put_after(here, registers, here.task.condition);
+        self.put_after(message, message.here.task.condition);
         self.set_channel(
             source.channel,
             Channel {
@@ -94,23 +81,21 @@ impl<S: Store> Traffic<S, ListQueue> {
     /// Receives a message from an internal channel. Answers whether the process goes on: it does if the sender waits
     /// there already.
     #[tactic(auto, unfolding(machine_state::specs::Moves::dispatch))]
-    pub fn receive_inside(
+    pub(crate) fn receive_inside(
         &mut self,
         tables: &Tables,
-        here: &Here,
-        exchange: Exchange,
-        registers: Registers,
+        message: &Message,
     ) -> Result<bool, Fault>
         requires room { 0 < self.old.room }
         requires code { length tables.now.code.now < 2 ^ 32 }
-        requires task { IsSteady here.now.task }
-        requires words { IsTrue (holds_scheduling_words self.old.holding registers.workspace) }
-        ensures settles { let turn = received_by_channel (here_in (contents_of tables.now) here.now) exchange
-            (scheduled registers self.old.world) self.old.world in
+        requires message { IsAsked self.old.holding message.now }
+        ensures settles { let turn = turn_for received_by_channel (contents_of tables.now) message.now self.old.world in
             Settles self.old.world self.new.world ran result turn }
         ensures goes_on { IfOk result (λ goes_on.
-            goes_on ≡ is_awaited (channel_at self.old.world exchange.channel)) }
+            goes_on ≡ is_awaited (channel_at self.old.world message.now.exchange.channel)) }
     {
+        let here = &message.here;
+        let exchange = message.exchange;
         let Some(channel) = self.channel(exchange.channel) else {
             return Err(here.fault(FaultKind::EndNotHeld));
         };
@@ -118,9 +103,8 @@ impl<S: Store> Traffic<S, ListQueue> {
             if !here.is_followed(tables) {
                 return Err(here.fault(FaultKind::OutsideCode));
             }
-            self.clear_scheduling_words(registers);
-            let condition = Condition::Receiving(exchange);
-            self.wait_at(here, exchange.channel, channel, condition, registers);
+            self.clear_scheduling_words(message.registers);
+            self.wait_at(message, channel, Condition::Receiving(exchange));
             self.give_way(here);
             return Ok(false);
         };
@@ -133,31 +117,25 @@ impl<S: Store> Traffic<S, ListQueue> {
         if !here.is_followed(tables) {
             return Err(here.fault(FaultKind::OutsideCode));
         }
-        self.clear_scheduling_words(registers);
-        self.meet(here, other, sent, exchange, channel, registers);
+        self.clear_scheduling_words(message.registers);
+        self.meet(message, other, sent, exchange, channel);
         Ok(true)
     }
 
     /// Sends a message on an internal channel. Answers whether the process goes on: it does if the receiver waits there
     /// already. If not, what has enabled the channel becomes ready.
     #[tactic(auto, unfolding(machine_state::specs::Moves::dispatch))]
-    pub fn send_inside(
-        &mut self,
-        tables: &Tables,
-        here: &Here,
-        exchange: Exchange,
-        registers: Registers,
-    ) -> Result<bool, Fault>
+    pub(crate) fn send_inside(&mut self, tables: &Tables, message: &Message) -> Result<bool, Fault>
         requires room { 0 < self.old.room }
         requires code { length tables.now.code.now < 2 ^ 32 }
-        requires task { IsSteady here.now.task }
-        requires words { IsTrue (holds_scheduling_words self.old.holding registers.workspace) }
-        ensures settles { let turn = sent_by_channel (here_in (contents_of tables.now) here.now) exchange
-            (scheduled registers self.old.world) self.old.world in
+        requires message { IsAsked self.old.holding message.now }
+        ensures settles { let turn = turn_for sent_by_channel (contents_of tables.now) message.now self.old.world in
             Settles self.old.world self.new.world ran result turn }
         ensures goes_on { IfOk result (λ goes_on.
-            goes_on ≡ is_awaited (channel_at self.old.world exchange.channel)) }
+            goes_on ≡ is_awaited (channel_at self.old.world message.now.exchange.channel)) }
     {
+        let here = &message.here;
+        let exchange = message.exchange;
         let Some(channel) = self.channel(exchange.channel) else {
             return Err(here.fault(FaultKind::EndNotHeld));
         };
@@ -165,9 +143,8 @@ impl<S: Store> Traffic<S, ListQueue> {
             if !here.is_followed(tables) {
                 return Err(here.fault(FaultKind::OutsideCode));
             }
-            self.clear_scheduling_words(registers);
-            let condition = Condition::Sending(exchange);
-            self.wait_at(here, exchange.channel, channel, condition, registers);
+            self.clear_scheduling_words(message.registers);
+            self.wait_at(message, channel, Condition::Sending(exchange));
             self.rouse(channel.enabled);
             self.give_way(here);
             return Ok(false);
@@ -181,8 +158,8 @@ impl<S: Store> Traffic<S, ListQueue> {
         if !here.is_followed(tables) {
             return Err(here.fault(FaultKind::OutsideCode));
         }
-        self.clear_scheduling_words(registers);
-        self.meet(here, other, exchange, wanted, channel, registers);
+        self.clear_scheduling_words(message.registers);
+        self.meet(message, other, exchange, wanted, channel);
         Ok(true)
     }
 }

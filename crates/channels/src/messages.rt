@@ -1,0 +1,104 @@
+//! Messages, over a link or an internal channel, by the address that names it.
+
+ghost use Rattle.std.specs.Prelude.{◌≡◌, ◌+◌, ◌<◌, ◌^◌, IfOk, length};
+ghost use Rattle.std.specs.Option.{option_map};
+ghost use Rattle.module_format.specs.Contents.{contents_of};
+ghost use Rattle.machine_state.specs.Moves.{link_index};
+ghost use Rattle.machine_state.specs.Turn.{ran};
+ghost use Rattle.machine_state.specs.Exchanges.{link_from, input_link, output_link, received, sent};
+ghost use Rattle.channels.specs.Settling.{IsAsked, turn_for, Settles, SettlesBy};
+ghost use Rattle.channels.specs.Delivering.{effect_of, goes_on, receiver_goes_on, sender_goes_on};
+
+use crate::message::Message;
+use crate::traffic::Traffic;
+use certificate::Tables;
+use machine_state::{Fault, Link, Store};
+use process_queue::ListQueue;
+
+/// The address of the word of output link 0, MostNeg. The words of the others follow it (T414 compiler writer's guide).
+const OUTPUT_WORDS: u32 = 0x8000_0000;
+
+/// The address of the word of input link 0.
+const INPUT_WORDS: u32 = OUTPUT_WORDS + 16;
+
+/// What became of a message that was sent.
+#[derive(Clone, Copy, Debug, PartialEq, Eq)]
+pub enum Delivery {
+    /// It goes out on this link, and its sender waits for the acknowledgement.
+    Emitted(Link),
+    /// It went to a receiver that waited for it, and its sender goes on.
+    Received,
+    /// Its sender waits for a receiver.
+    Awaited,
+}
+
+/// The link whose word is at the address, of four whose words begin here.
+fn link_from(first: u32, address: u32) -> Option<Link>
+    requires { first + 12 < 2 ^ 32 }
+    ensures { option_map link_index result ≡ link_from first address }
+{
+    if address == first {
+        Some(Link::Zero)
+    } else if address == first + 4 {
+        Some(Link::One)
+    } else if address == first + 8 {
+        Some(Link::Two)
+    } else if address == first + 12 {
+        Some(Link::Three)
+    } else {
+        None
+    }
+}
+
+/// The link whose input word is at the address.
+fn input_link(address: u32) -> Option<Link>
+    ensures { option_map link_index result ≡ input_link address }
+{
+    link_from(INPUT_WORDS, address)
+}
+
+/// The link whose output word is at the address.
+fn output_link(address: u32) -> Option<Link>
+    ensures { option_map link_index result ≡ output_link address }
+{
+    link_from(OUTPUT_WORDS, address)
+}
+
+impl<S: Store> Traffic<S, ListQueue> {
+    /// Receives a message from the link or internal channel at its exchange's address. Answers whether the process
+    /// goes on.
+    pub fn receive(&mut self, tables: &Tables, message: &Message) -> Result<bool, Fault>
+        requires room { 0 < self.old.room }
+        requires code { length tables.now.code.now < 2 ^ 32 }
+        requires message { IsAsked self.old.holding message.now }
+        ensures settles { let turn = turn_for received (contents_of tables.now) message.now self.old.world in
+            Settles self.old.world self.new.world ran result turn }
+        ensures goes_on { IfOk result (λ goes_on. goes_on ≡ receiver_goes_on message.now.exchange self.old.world) }
+    {
+        match input_link(message.exchange.channel) {
+            Some(link) => self.receive_on(tables, message, link),
+            None => self.receive_inside(tables, message),
+        }
+    }
+
+    /// Sends a message on the link or internal channel at its exchange's address.
+    pub fn send(&mut self, tables: &Tables, message: &Message) -> Result<Delivery, Fault>
+        requires room { 0 < self.old.room }
+        requires code { length tables.now.code.now < 2 ^ 32 }
+        requires message { IsAsked self.old.holding message.now }
+        ensures settles { let turn = turn_for sent (contents_of tables.now) message.now self.old.world in
+            SettlesBy (effect_of message.now.exchange self.new.world) self.old.world self.new.world result turn }
+        ensures goes_on { IfOk result (λ delivery.
+            goes_on delivery ≡ sender_goes_on message.now.exchange self.old.world) }
+    {
+        if let Some(link) = output_link(message.exchange.channel) {
+            self.send_on(tables, message, link)?;
+            return Ok(Delivery::Emitted(link));
+        }
+        if self.send_inside(tables, message)? {
+            Ok(Delivery::Received)
+        } else {
+            Ok(Delivery::Awaited)
+        }
+    }
+}
