@@ -107,7 +107,8 @@ fn perform(traffic: &mut Tagged, tables: &Tables, step: Step) -> Option<Result<(
     Some(Ok(()))
 }
 
-/// The number of the fault of the first of these that is at fault; none if all are executed.
+/// The number of the fault of the first of these that is at fault, 0 for one that cannot be tried; none if all are
+/// executed.
 fn first_fault(traffic: &mut Tagged, tables: &Tables, steps: &[Step]) -> Option<u8>
     requires { length tables.now.code.now < 2 ^ 32 }
 {
