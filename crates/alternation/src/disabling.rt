@@ -125,8 +125,11 @@ pub fn disable_skip<S: Store>(
     choose(traffic, here, guard, distance, registers);
 }
 
-/// Disables the link or channel at the address, if the guard holds. The process must have enabled it. If it is ready
-/// and nothing is selected yet, it is selected by its distance.
+/// Disables the link or channel at the address, if the guard holds. If it is ready and nothing is selected yet, it is
+/// selected by its distance.
+///
+/// If there is no link or channel at the address, the fault is `EndNotHeld`; if the process has not enabled it,
+/// `AlternationOrder`. Then, if no code follows the instruction, it is `OutsideCode`.
 pub fn disable_channel<S: Store>(
     traffic: &mut Traffic<S, ListQueue>,
     tables: &Tables,
@@ -161,7 +164,10 @@ pub fn disable_channel<S: Store>(
     Ok(())
 }
 
-/// Ends the alternation, and goes on at this code offset. Nothing may be left enabled.
+/// Ends the alternation, and goes on at this code offset.
+///
+/// If the process has left something enabled, the fault is `AlternationOrder`. Then, if the offset lies outside the
+/// code, it is `OutsideCode`.
 pub fn end<S: Store>(
     traffic: &mut Traffic<S, ListQueue>,
     tables: &Tables,

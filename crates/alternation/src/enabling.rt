@@ -58,7 +58,10 @@ pub fn enable_skip<S: Store>(
     go_on(traffic, here, ready_or(here.task.mode, guard), registers);
 }
 
-/// Enables the link or channel at the address, if the guard holds. Nobody else may have enabled it.
+/// Enables the link or channel at the address, if the guard holds.
+///
+/// If there is no link or channel at the address, the fault is `EndNotHeld`; if it is enabled already,
+/// `AlternationOrder`. Then, if no code follows the instruction, it is `OutsideCode`.
 pub fn enable_channel<S: Store>(
     traffic: &mut Traffic<S, ListQueue>,
     tables: &Tables,

@@ -6,6 +6,8 @@ mod disabling;
 mod enabling;
 mod moves;
 mod source;
+#[cfg(test)]
+mod tests;
 
 pub use disabling::{disable_channel, disable_skip, end, wait};
 pub use enabling::{begin, enable_channel, enable_skip};

@@ -1,4 +1,4 @@
-//! What several instructions do.
+//! Changes that several instructions make.
 
 ghost use Rattle.std.specs.Prelude.{◌≡◌, ◌+◌, ◌<◌, ◌^◌, None, IsTrue};
 ghost use Rattle.machine_state.specs.Holding.{may_write_word};

@@ -1,6 +1,6 @@
 //! What a process can enable.
 
-ghost use Rattle.std.specs.Prelude.{◌≡◌, is_some};
+ghost use Rattle.std.specs.Prelude.{◌≡◌};
 ghost use Rattle.std.specs.Option.{option_map};
 ghost use Rattle.machine_state.specs.Moves.{link_index};
 ghost use Rattle.machine_state.specs.Exchanges.{input_link};
