@@ -2,30 +2,12 @@
 
 ghost use Rattle.std.specs.Prelude.{◌≡◌};
 ghost use Rattle.std.specs.Option.{option_map};
-ghost use Rattle.machine_state.specs.Moves.{link_index};
-ghost use Rattle.machine_state.specs.Exchanges.{input_link};
 ghost use Rattle.machine_state.specs.Alternations.{source_at};
 ghost use Rattle.alternation.specs.Sources.{definition_of};
 
-use channels::Traffic;
+use channels::{Traffic, input_link};
 use machine_state::{Channel, InputLink, Link, Store};
 use process_queue::ListQueue;
-
-/// The address of the word of input link 0. Those of input links 1 to 3 follow it.
-const INPUT_WORDS: u32 = 0x8000_0010;
-
-/// The link whose input has its word at the address.
-fn input_link(address: u32) -> Option<Link>
-    ensures { option_map link_index result ≡ input_link address }
-{
-    match address.checked_sub(INPUT_WORDS)? {
-        0 => Some(Link::Zero),
-        4 => Some(Link::One),
-        8 => Some(Link::Two),
-        12 => Some(Link::Three),
-        _ => None,
-    }
-}
 
 /// Something that can be enabled, as it was when it was looked up.
 #[derive(Clone, Copy)]

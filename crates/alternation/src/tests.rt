@@ -142,8 +142,7 @@ fn first_disabled_is_selected(rt: HostRuntime) -> Result<(), Fail> {
     ];
     assert_eq!(rt; first_fault(&mut traffic, &tables, &enabling), None);
     assert_eq!(rt; traffic.running(), None, "nothing is ready");
-    traffic.reserve()?;
-    assert_eq!(rt; traffic.arrive(Link::Zero, 7), Arrival::Kept);
+    assert_eq!(rt; traffic.arrive(Link::Zero, 7)?, Arrival::Kept);
     assert_eq!(rt; traffic.running(), Some(0), "the link is ready");
     let disabling = [
         Step::DisableSkip {

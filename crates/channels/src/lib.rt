@@ -16,5 +16,5 @@ pub use here::Here;
 pub use laws::links_read_no_counters;
 pub use links::Arrival;
 pub use message::Message;
-pub use messages::Delivery;
+pub use messages::{Delivery, input_link};
 pub use traffic::Traffic;

@@ -51,7 +51,7 @@ fn link_from(first: u32, address: u32) -> Option<Link>
 }
 
 /// The link whose input word is at the address.
-fn input_link(address: u32) -> Option<Link>
+pub fn input_link(address: u32) -> Option<Link>
     ensures { option_map link_index result ≡ input_link address }
 {
     link_from(INPUT_WORDS, address)
