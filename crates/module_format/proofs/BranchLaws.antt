@@ -110,16 +110,13 @@ module _ (size : ℕ) where
       → branch_counts_at size (counts_bytes c ++ rest) ≡ Ok (c, rest)
   unfolding branch_counts_at counts_bytes
   branch_counts_again c rest h =
-      let tail4 = u16_bytes c.ends ++ rest in
-      let tail3 = u16_bytes c.read_parameters ++ tail4 in
-      let tail2 = u16_bytes c.written_parameters ++ tail3 in
-      let tail1 = u16_bytes c.reads ++ tail2 in
-      let regrouped : counts_bytes c ++ rest ≡ u16_bytes c.writes ++ tail1 = simp append_assoc in
+      let regrouped : counts_bytes c ++ rest ≡ u16_bytes c.writes ++ (u16_bytes c.reads
+      ++ (u16_bytes c.written_parameters ++ (u16_bytes c.read_parameters ++ (u16_bytes c.ends ++ rest)))) = simp append_assoc in
       ap (branch_counts_at size) regrouped
-      ∙ step _ (u16_again size c.writes tail1 h.writes)
-      (step _ (u16_again size c.reads tail2 h.reads)
-      (step _ (u16_again size c.written_parameters tail3 h.written_parameters)
-      (step _ (u16_again size c.read_parameters tail4 h.read_parameters)
+      ∙ step _ (u16_again size c.writes _ h.writes)
+      (step _ (u16_again size c.reads _ h.reads)
+      (step _ (u16_again size c.written_parameters _ h.written_parameters)
+      (step _ (u16_again size c.read_parameters _ h.read_parameters)
       (step _ (u16_again size c.ends rest h.ends) refl))))
 
 module _ (size code_len : ℕ) where

@@ -30,7 +30,7 @@ use Rattle.module_format.specs.Reading.{Fails, fault, out_of_memory, fault_of, p
 use Rattle.module_format.specs.Taking.{Takes}
 use Rattle.module_format.proofs.TakingLaws.{took_ok}
 use Rattle.module_format.specs.ReadingRows.{table_rows_at}
-use Rattle.module_format.specs.ReadingFile.{header_at, contents_from, ended_at, tables_at, read_contents}
+use Rattle.module_format.specs.ReadingFile.{sizes_with, header_at, contents_from, ended_at, tables_at, read_contents}
 use Rattle.module_format.proofs.Tools.{Has, has_ok, has_then, has_if, has_at, step, join}
 use Rattle.module_format.proofs.OrderLaws.{each}
 use Rattle.module_format.proofs.FieldLaws.{bytes_take, bytes_again}
@@ -175,11 +175,11 @@ module _ (h : Header) (c : Contents) (f : HeaderFits h) (e : IsFrom h c) where
       let words : c.data_words ≡ h.sizes.data_words = ap (λ (d : Contents). d.data_words) e.made in
       let base : c.base ≡ h.sizes.base = ap (λ (d : Contents). d.base) e.made in
       record {
-        has_code = rw e.code f.sizes.has_code;
-        code_limit = rw (e.code, version_is) f.sizes.code_limit;
-        constants_limit = rw e.constants f.sizes.constants_limit;
-        has_data = rw words f.sizes.has_data;
-        data_limit = rw words f.sizes.data_limit;
+        has_code = rw e.code f.sizes.code.0;
+        code_limit = rw (e.code, version_is) f.sizes.code.1;
+        constants_limit = rw e.constants f.sizes.constants;
+        has_data = rw words f.sizes.words.0;
+        data_limit = rw words f.sizes.words.1;
         base = rw (base, words) f.sizes.base;
       }
 
@@ -242,14 +242,7 @@ rows_taken bytes fits front behind last {h} {t} at_front whole head rows still =
 header_of : Contents → Header
 header_of c = record {
   version = c.version;
-  sizes = record {
-    code_len = length c.code;
-    const_len = length c.constants;
-    data_words = c.data_words;
-    base = c.base;
-    budget = c.budget;
-    finish = c.finish;
-  };
+  sizes = sizes_with (length c.code) (length c.constants) c.data_words c.base c.budget c.finish;
   lengths = c.lengths;
   counts = record {
     procedures = length c.procedures;
@@ -298,11 +291,9 @@ header_fits c k =
     let l = k.limits in
     record {
       sizes = record {
-        has_code = h.has_code;
-        code_limit = h.code_limit;
-        constants_limit = h.constants_limit;
-        has_data = h.has_data;
-        data_limit = h.data_limit;
+        code = (h.has_code, h.code_limit);
+        constants = h.constants_limit;
+        words = (h.has_data, h.data_limit);
         base = h.base;
         budget = g.budget;
         finish = g.finish;

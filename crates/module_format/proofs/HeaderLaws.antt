@@ -20,7 +20,8 @@ use Rattle.module_format.specs.Spelling.{u32_bytes, u64_bytes, magic_one, magic_
 use Rattle.module_format.specs.Reading.{fault}
 use Rattle.module_format.specs.ReadingFile.{magic_at, sizes_at, four_lengths_at, lengths_at, flag_at, extension_at}
 use Rattle.module_format.specs.ReadingFile.{counts_at, header_at}
-use Rattle.module_format.proofs.Tools.{Has, has_ok, has_then, has_if, has_cond, step, Spelled, join, nothing_taken, field, all_taken}
+use Rattle.module_format.proofs.Tools.{Has, has_ok, has_then, has_if, has_cond, step, Spelled, join}
+use Rattle.module_format.proofs.Tools.{nothing_taken, field, all_taken}
 use Rattle.module_format.proofs.FieldLaws.{IsBytes-drop, wide32, wide64, limited_takes, limited_again, positive_takes}
 use Rattle.module_format.proofs.FieldLaws.{positive_again, at_most_takes, at_most_again}
 
@@ -54,11 +55,9 @@ sizes_bytes s = u32_bytes s.code_len ++ u32_bytes s.const_len ++ u32_bytes s.dat
 
 -- the header's first rules
 pub record SizesFit (version : Version) (s : Sizes) : Type 0 where
-  pub has_code : 1 ≤ s.code_len
-  pub code_limit : s.code_len ≤ max_code version
-  pub constants_limit : s.const_len ≤ MAX_CONSTANTS
-  pub has_data : 1 ≤ s.data_words
-  pub data_limit : s.data_words ≤ MAX_DATA_WORDS
+  pub code : (1 ≤ s.code_len) × (s.code_len ≤ max_code version)
+  pub constants : s.const_len ≤ MAX_CONSTANTS
+  pub words : (1 ≤ s.data_words) × (s.data_words ≤ MAX_DATA_WORDS)
   pub base : s.base ≤ s.data_words
   pub budget : s.budget ≤ MAX_BUDGET
   pub finish : s.finish ≤ s.code_len
@@ -78,39 +77,27 @@ module _ (size : ℕ) (version : Version) where
       field t2 (at_most_takes size x2.0 _) (λ x3 h3 t3.
       field t3 (limited_takes size 8 u64_bytes (2 ^ 64) wide64 MAX_BUDGET _) (λ x4 h4 t4.
       field t4 (at_most_takes size x0.0 _) (λ x5 h5 t5.
-      all_taken t5 (record {
-        has_code = h0.0;
-        code_limit = h0.1;
-        constants_limit = h1.1;
-        has_data = h2.0;
-        data_limit = h2.1;
-        base = h3.1;
-        budget = h4.1;
-        finish = h5.1;
-      })))))))
+      all_taken t5
+      (record { code = h0; constants = h1.1; words = h2; base = h3.1; budget = h4.1; finish = h5.1 })))))))
 
   sizes_again : (s : Sizes) (rest : List ℕ) → SizesFit version s
       → sizes_at size version (sizes_bytes s ++ rest) ≡ Ok (s, rest)
   unfolding sizes_at sizes_bytes
   sizes_again s rest h =
-      let t5 = u32_bytes s.finish ++ rest in
-      let t4 = u64_bytes s.budget ++ t5 in
-      let t3 = u32_bytes s.base ++ t4 in
-      let t2 = u32_bytes s.data_words ++ t3 in
-      let t1 = u32_bytes s.const_len ++ t2 in
-      let regrouped : sizes_bytes s ++ rest ≡ u32_bytes s.code_len ++ t1 = simp append_assoc in
-      let code : s.code_len < 2 ^ 32 = let a = h.code_limit in omega (arith, max_code_small version) in
-      let constants : s.const_len < 2 ^ 32 = let a = h.constants_limit in omega arith in
-      let words : s.data_words < 2 ^ 32 = let a = h.data_limit in omega arith in
+      let regrouped : sizes_bytes s ++ rest ≡ u32_bytes s.code_len ++ (u32_bytes s.const_len ++ (u32_bytes s.data_words
+      ++ (u32_bytes s.base ++ (u64_bytes s.budget ++ (u32_bytes s.finish ++ rest))))) = simp append_assoc in
+      let code : s.code_len < 2 ^ 32 = let a = h.code.1 in omega (arith, max_code_small version) in
+      let constants : s.const_len < 2 ^ 32 = let a = h.constants in omega arith in
+      let words : s.data_words < 2 ^ 32 = let a = h.words.1 in omega arith in
       let base : s.base < 2 ^ 32 = let a = h.base in omega arith in
       let budget : s.budget < 2 ^ 64 = let a = h.budget in omega arith in
       let finish : s.finish < 2 ^ 32 = let a = h.finish in omega (arith, code) in
       ap (sizes_at size version) regrouped
-      ∙ step _ (positive_again size (max_code version) s.code_len t1 code h.has_code h.code_limit)
-      (step _ (limited_again size 4 u32_bytes (2 ^ 32) wide32 MAX_CONSTANTS s.const_len t2 constants h.constants_limit)
-      (step _ (positive_again size MAX_DATA_WORDS s.data_words t3 words h.has_data h.data_limit)
-      (step _ (at_most_again size s.data_words s.base t4 base h.base)
-      (step _ (limited_again size 8 u64_bytes (2 ^ 64) wide64 MAX_BUDGET s.budget t5 budget h.budget)
+      ∙ step _ (positive_again size (max_code version) s.code_len _ code h.code.0 h.code.1)
+      (step _ (limited_again size 4 u32_bytes (2 ^ 32) wide32 MAX_CONSTANTS s.const_len _ constants h.constants)
+      (step _ (positive_again size MAX_DATA_WORDS s.data_words _ words h.words.0 h.words.1)
+      (step _ (at_most_again size s.data_words s.base _ base h.base)
+      (step _ (limited_again size 8 u64_bytes (2 ^ 64) wide64 MAX_BUDGET s.budget _ budget h.budget)
       (step _ (at_most_again size s.code_len s.finish rest finish h.finish) refl)))))
 
 -- ---- message lengths

@@ -1,5 +1,6 @@
 -- Testing whether items keep their rules, one after the other.
-use Rattle.std.proofs.Common.{◌≡◌, ℕ, ◌+◌, ◌<◌, ◌≤◌, Bool, true, false, ◌↔◌, List, [], ◌∷◌, ◌++◌, length, drop, map, get_or, refl}
+use Rattle.std.proofs.Common.{◌≡◌, ℕ, ◌+◌, ◌<◌, ◌≤◌, Bool, true, false, ◌↔◌, List, [], ◌∷◌, ◌++◌}
+use Rattle.std.proofs.Common.{length, drop, map, get_or, refl}
 use Rattle.std.proofs.Common.{sym, subst, ◌∙◌, append_assoc}
 use Rattle.std.specs.Prelude.{IsTrue}
 use Rattle.std.specs.List.{AllByRecursion}
@@ -28,8 +29,8 @@ module _ {A B S : Type 0} (Keeps : S → B → Type 0) (next : S → B → S) (f
   pub order_is_done : length xs ≤ i → IsTrue true ↔ Whole
   order_is_done past =
       let long : length (map f xs) ≤ i = rw length-map past in
-      let whole = (subst (λ (ys : List B). Whole ↔ InOrder Keeps next low ys) (drop_all i (map f xs) long) so_far).1 tt in
-      (λ _. whole, λ _. refl)
+      let same = subst (λ (ys : List B). Whole ↔ InOrder Keeps next low ys) (drop_all i (map f xs) long) so_far in
+      (λ _. same.1 tt, λ _. refl)
 
 -- a test that failed, and what it tests
 pub is_broken : {P : Type 0} (b : Bool) → b ≡ false → IsTrue b ↔ P → P → ⊥

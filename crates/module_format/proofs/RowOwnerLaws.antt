@@ -13,7 +13,8 @@ use Rattle.module_format.specs.Contexts.{owner, branch_count, first_branch, HasF
 use Rattle.module_format.specs.Pars.{no_branches}
 use Rattle.module_format.specs.Keeping.{RowsKeep}
 use Rattle.module_format.specs.Places.{rows_end, IsRowOwner, AreRowOwners}
-use Rattle.module_format.proofs.PlaceLaws.{each_more, count_cons, count_more, context_before, owner_of_branch, item_there}
+use Rattle.module_format.proofs.PlaceLaws.{each_more}
+use Rattle.module_format.proofs.PlaceLaws.{count_cons, count_more, context_before, owner_of_branch, item_there}
 
 -- ---- where rows end
 

@@ -27,6 +27,17 @@ magic_at bytes =
 
 -- ---- the header
 
+-- the sizes and bounds at the header's front
+abbrev pub sizes_with : ℕ → ℕ → ℕ → ℕ → ℕ → ℕ → Sizes
+sizes_with code constants words base budget finish = record {
+  code_len = code;
+  const_len = constants;
+  data_words = words;
+  base = base;
+  budget = budget;
+  finish = finish;
+}
+
 unfoldable pub sizes_at : ℕ → Version → List ℕ → Read Sizes
 sizes_at size version rest = do
   code_len ← positive_at size (max_code version) rest
@@ -35,17 +46,7 @@ sizes_at size version rest = do
   base ← at_most_at size data_words.0 data_words.1
   budget ← limited_at size 8 MAX_BUDGET base.1
   finish ← at_most_at size code_len.0 budget.1
-  Ok (
-    record {
-      code_len = code_len.0;
-      const_len = const_len.0;
-      data_words = data_words.0;
-      base = base.0;
-      budget = budget.0;
-      finish = finish.0;
-    },
-    finish.1,
-  )
+  Ok (sizes_with code_len.0 const_len.0 data_words.0 base.0 budget.0 finish.0, finish.1)
 
 -- the message lengths of four links
 unfoldable pub four_lengths_at : ℕ → List ℕ → Read (ℕ × ℕ × ℕ × ℕ)

@@ -164,7 +164,8 @@ pub(crate) struct Code {
 impl Listed<Code> for ProcedureRow {
     type Low = u32;
 
-    ghost listing = { listed_as procedure_of (λ code size. procedure_row_at size code.version code.len) behind_procedure };
+    ghost listing = { listed_as procedure_of
+        (λ code size. procedure_row_at size code.version code.len) behind_procedure };
 
     ghost Keeps = { λ code. ProcedureKeeps code.version code.len };
 

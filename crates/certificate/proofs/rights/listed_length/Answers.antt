@@ -35,6 +35,7 @@ returns c =
     let word_fits : FitsSigned w32 channel.word = search rules in
     let fits : FitsSigned w32 c.args.word = search rules in
     let same : channel.word ≡ c.args.word =
-    sym (to_z-of_z w32 channel.word word_fits) ∙ ap (to_z w32) c.if-channel-word.false ∙ to_z-of_z w32 c.args.word fits in
+    sym (to_z-of_z w32 channel.word word_fits) ∙ ap (to_z w32) c.if-channel-word.false
+    ∙ to_z-of_z w32 c.args.word fits in
     sym (here_listed c.args.word c.args.channels.now _ channel (ltb-true _ _ (sym c.in_ok-channel.ensures.lookup.0))
     (λ i less. point.0 i channel (omega arith) less) c.in_ok-channel.ensures.lookup.1 same)

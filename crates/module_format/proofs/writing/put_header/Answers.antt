@@ -9,4 +9,5 @@ unfolding header_bytes
 returns c =
     let lengths = rw (map-id c.args.tables.now.lengths) at c.put_all.ensures in
     let whole = (piece _ _ c.put_sizes.ensures >> piece _ _ lengths >> piece _ _ c.put_counts.ensures).wrote in
-    λ ok. ((whole ok).0, (whole ok).1 ∙ ap (λ (bytes : List ℕ). c.args.out.now.bytes.items ++ bytes) (simp append_assoc))
+    let old = c.args.out.now.bytes.items in
+    λ ok. ((whole ok).0, (whole ok).1 ∙ ap (λ (bytes : List ℕ). old ++ bytes) (simp append_assoc))

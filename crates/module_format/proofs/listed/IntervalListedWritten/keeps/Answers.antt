@@ -19,7 +19,8 @@ read_is writes low i false kept e =
     (λ _. record { interval = kept; apart = none_pass (meet i) writes (sym e) }, λ _. refl)
 
 pub meets_any-requires : goal.meets_any-requires
-meets_any-requires c = ∥∥₁_elim c.args.written.now.sorted (intervals_prop least_word c.args.written.now.intervals.now) (λ h. h)
+meets_any-requires c =
+    ∥∥₁_elim c.args.written.now.sorted (intervals_prop least_word c.args.written.now.intervals.now) (λ h. h)
 
 pub returns-then-keeps : goal.returns-then-keeps
 returns-then-keeps c =

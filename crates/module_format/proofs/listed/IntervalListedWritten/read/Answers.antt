@@ -4,4 +4,5 @@ use Rattle.module_format.proofs.IntervalLaws.{intervals_prop}
 use Rattle.module_format.proofs.listed.IntervalListedWritten.read.Goals as goal
 
 pub meets_any-is_apart-requires : goal.meets_any-is_apart-requires
-meets_any-is_apart-requires c = ∥∥₁_elim c.args.written.now.sorted (intervals_prop least_word c.args.written.now.intervals.now) (λ h. h)
+meets_any-is_apart-requires c =
+    ∥∥₁_elim c.args.written.now.sorted (intervals_prop least_word c.args.written.now.intervals.now) (λ h. h)

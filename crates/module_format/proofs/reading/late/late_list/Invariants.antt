@@ -10,5 +10,6 @@ invariant-loop-item g l =
     record {
       rest : late_list (T.naming.looked l.context) T.naming.bytes l.at (drop l.item-index xs)
           ≡ late_list (T.naming.looked l.context) T.naming.bytes l.start xs;
-      place : l.at + length (flat_map T.naming.bytes (drop l.item-index xs)) ≡ l.start + length (flat_map T.naming.bytes xs);
+      place : l.at + length (flat_map T.naming.bytes (drop l.item-index xs))
+          ≡ l.start + length (flat_map T.naming.bytes xs);
     }

@@ -14,8 +14,8 @@ loop-init g c =
       size = refl;
       unfailed = is_unfailed from.failure (sym c.has_failed.ensures ∙ c.if-has_failed.false);
       fixed = refl;
-      gives = rw c.requires (begins (R.listing.reads (R.context c.args.reader.now) from.size) R.listing.behind c.args.count
-          (R.state c.args.reader.now) from.rest.now);
+      gives = rw c.requires (begins (R.listing.reads (R.context c.args.reader.now) from.size) R.listing.behind
+          c.args.count (R.state c.args.reader.now) from.rest.now);
       last = rw c.requires refl;
     }
 

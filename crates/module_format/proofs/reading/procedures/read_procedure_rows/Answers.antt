@@ -10,11 +10,12 @@ pub returns-clause-rise : goal.returns-clause-rise
 unfolding procedure_rows_at
 returns-clause-rise c = λ still.
     let from = c.args.from.now in
+    let code = c.args.code.now in
     let new = c.read_list.new.from in
     let rows = c.read_list.result.items in
-    let taken = procedures_take from.size c.args.code.now.version c.args.code.now.len c.args.count from.rest.now from.fits in
+    let taken = procedures_take from.size code.version code.len c.args.count from.rest.now from.fits in
     let kept =
-    took_has (procedure_rows_at from.size c.args.code.now.version c.args.code.now.len c.args.count) from.failure from.rest.now
+    took_has (procedure_rows_at from.size code.version code.len c.args.count) from.failure from.rest.now
     (map procedure_of rows) new.failure new.rest.now still
     c.read_list.ensures.took taken in
-    rows_rise c.args.code.now.version c.args.code.now.len rows kept.keeps.1
+    rows_rise code.version code.len rows kept.keeps.1

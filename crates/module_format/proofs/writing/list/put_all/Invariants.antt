@@ -5,4 +5,5 @@ use Rattle.module_format.proofs.writing.list.put_all.Given as goal
 
 abbrev pub invariant-loop-item : goal.invariant-loop-item
 invariant-loop-item g l =
-    Writes l.fn.out (flat_map (g.T.Put.meaning.bytes l.version) (map g.T.Put.meaning.view (take l.item-index l.items))) l.out
+    let written = map g.T.Put.meaning.view (take l.item-index l.items) in
+    Writes l.fn.out (flat_map (g.T.Put.meaning.bytes l.version) written) l.out
