@@ -16,7 +16,7 @@ use Rattle.occam_parser.specs.declared.tree.Operation.{Operation}
 use Rattle.occam_parser.specs.Terminals.{Terminal, terminals_of}
 use Rattle.occam_parser.specs.Views.{expression_of, operation_of}
 use Rattle.occam_parser.specs.Reading.{Reads, ◌>>=◌, Fails, Gives, behind, list_of}
-use Rattle.occam_parser.specs.LineReading.{type_at, shape_at, name_at, only}
+use Rattle.occam_parser.specs.LineReading.{shape_at, name_at, only}
 use Rattle.occam_parser.specs.Blocks.{Row, Procedure, ProgramItem, GlobalProcedure}
 
 -- want of memory, which no line is to blame for

@@ -1,6 +1,6 @@
 //! Processes, by the levels of their lines.
 
-ghost use Rattle.std.specs.Prelude.{◌≡◌, ◌≤◌, ◌<◌, ◌-◌, [], ◌∷◌, length, map, option_map, IfOk, OnOk};
+ghost use Rattle.std.specs.Prelude.{◌≡◌, ◌≤◌, ◌<◌, ◌-◌, [], length, map, option_map, IfOk, OnOk};
 ghost use Rattle.occam_parser.specs.Told.{Tells, Pushes, StandsAbove};
 ghost use Rattle.occam_parser.specs.BlockViews.{IsProcessOf};
 ghost use Rattle.occam_parser.specs.LineViews.{declaration_of, replicator_of};

@@ -1,6 +1,6 @@
 //! Constants, declarations and the heads of procedures, within one line.
 
-ghost use Rattle.std.specs.Prelude.{◌≡◌, ◌≤◌, ◌<◌, ℕ, List, length, map, option_map, IfOk};
+ghost use Rattle.std.specs.Prelude.{◌≤◌, ◌<◌, ℕ, List, length, map, option_map, IfOk};
 ghost use Rattle.occam_parser.specs.Terminals.{terminals_of};
 ghost use Rattle.occam_parser.specs.Views.{expression_of};
 ghost use Rattle.occam_parser.specs.LineViews.{spelling_of, value_of, constant_of, declaration_of, formal_of};

@@ -1,14 +1,14 @@
 //! What one line of a process says.
 
 ghost use Rattle.std.specs.Prelude.{◌≡◌, ◌≤◌, ◌<◌, true, false, List, Option, length, option_map, IfOk, OnOk, OnErr};
-ghost use Rattle.occam_parser.specs.Terminals.{Terminal, terminals_of, seen_symbol};
+ghost use Rattle.occam_parser.specs.Terminals.{Terminal, terminals_of};
 ghost use Rattle.occam_parser.specs.Expressions.{Expression};
 ghost use Rattle.occam_parser.specs.Views.{expression_of};
 ghost use Rattle.occam_parser.specs.LineViews.{place_of, replicator_of, action_of, guard_of, head_of};
 ghost use Rattle.occam_parser.specs.Reading.{Gives, Finds};
 ghost use Rattle.occam_parser.specs.Told.{IsAll, IsBeside};
-ghost use Rattle.occam_parser.specs.Lines.{Place as PlaceTree, Guard as GuardTree, Skips};
-ghost use Rattle.occam_parser.specs.LineReading.{ended, only, name_at, head_at, marked_head, block_at, replicator_at};
+ghost use Rattle.occam_parser.specs.Lines.{Place as PlaceTree, Guard as GuardTree};
+ghost use Rattle.occam_parser.specs.LineReading.{ended, name_at, head_at, marked_head, block_at, replicator_at};
 ghost use Rattle.occam_parser.specs.LineReading.{counted_at, place_at, action_at, placed_action};
 ghost use Rattle.occam_parser.specs.LineReading.{whole_at, whole_place, has_condition};
 ghost use Rattle.occam_parser.specs.LineReading.{guard_at, conditioned_at, received_if, input_at};

@@ -1,6 +1,6 @@
 //! Lists with commas between their items, within one line.
 
-ghost use Rattle.std.specs.Prelude.{◌≡◌, ◌≤◌, length, map, IfOk};
+ghost use Rattle.std.specs.Prelude.{◌≤◌, length, map, IfOk};
 ghost use Rattle.occam_parser.specs.Terminals.{terminals_of};
 ghost use Rattle.occam_parser.specs.Reading.{Reads, Gives, list_of};
 ghost use Rattle.occam_parser.specs.LineReading.{in_parentheses};

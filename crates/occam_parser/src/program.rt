@@ -10,7 +10,6 @@ ghost use Rattle.occam_parser.specs.BlockViews.{item_of, items_of};
 use crate::block::{process, push};
 use crate::declaration::{constant, proc_head};
 use crate::fault::{Fault, ParseFault, at_line};
-use crate::head::expect_end;
 use crate::symbol::{Mark, Symbol, behind, first};
 use crate::tree::{Item, Proc, Program};
 use occam_layout::{Line, Token};

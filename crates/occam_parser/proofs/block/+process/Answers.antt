@@ -6,9 +6,8 @@ use Rattle.occam_parser.specs.declared.head.BlockKind.TheVariants as block
 use Rattle.occam_parser.specs.LineViews.{replicator_of, declaration_of, guard_of, start_of}
 use Rattle.occam_parser.specs.declared.head.Start.TheVariants as start
 use Rattle.occam_parser.specs.declared.tree.Construct.TheViews.{roll-Choice, roll-Branch}
-use Rattle.occam_parser.specs.LineReading.{whole_at, guard_at}
 use Rattle.occam_parser.specs.Views.{expression_of}
-use Rattle.occam_parser.specs.Blocks.{rows_of, Block, Chosen, Guarded}
+use Rattle.occam_parser.specs.Blocks.{rows_of, Block}
 use Rattle.occam_parser.specs.BlockReading.{component_at, wants}
 use Rattle.occam_parser.specs.BlockViews.{choice_of, branch_of, plain_component, kind_of, components_in}
 use Rattle.occam_parser.proofs.Answering.{passed_on}
@@ -62,7 +61,8 @@ component-returns-in_ok-condition-in-If-clause-found t c =
     let y = c.in_ok-condition-in-If in
     let read = c.process-in-If in
     let made = headed_found _ _ _ expression_of c.args.level (rows_of c.args.lines.now) _ head.line head.condition
-    y.condition y.process y.rest read.result choice_is head.ensures.level head.ensures.found y.ensures read.ensures.found in
+    y.condition y.process y.rest read.result choice_is head.ensures.level head.ensures.found y.ensures
+    read.ensures.found in
     let pushed = roll-Choice (record { line = head.line; condition = y.condition; process = y.process }) in
     rw c.in-If.is
     (pushed_tells choice_of (Ok (pushed, y.rest))
@@ -90,7 +90,8 @@ component-returns-in_ok-guard-in-Alt-clause-found t c =
     let y = c.in_ok-guard-in-Alt in
     let read = c.process-in-Alt in
     let made = headed_found _ _ _ guard_of c.args.level (rows_of c.args.lines.now) _ head.line head.guard
-    y.guard y.process y.rest read.result branch_is head.ensures.level head.ensures.found y.ensures read.ensures.found in
+    y.guard y.process y.rest read.result branch_is head.ensures.level head.ensures.found y.ensures
+    read.ensures.found in
     let pushed = roll-Branch (record { line = head.line; guard = y.guard; process = y.process }) in
     rw c.in-Alt.is
     (pushed_tells branch_of (Ok (pushed, y.rest))
