@@ -1,5 +1,6 @@
 -- What a call for an instruction did that asks something of others, against the turn of the definitions.
-use Rattle.std.specs.Prelude.{◌≡◌, ◌<◌, ◌+◌, ◌==◌, ◌&&◌, Bool, true, false, is_some, Option, Some, None, Result, Ok, Err}
+use Rattle.std.specs.Prelude.{◌≡◌, ◌<◌, ◌+◌, ◌==◌, ◌&&◌, Bool, true, false, is_some, Option, Some, None}
+use Rattle.std.specs.Prelude.{Result, Ok, Err}
 use Rattle.module_format.specs.Contents.{Contents}
 use Rattle.machine_state.specs.declared.fault.Fault.{Fault}
 use Rattle.machine_state.specs.declared.link.InputLink.{InputLink}
@@ -75,7 +76,7 @@ abbrev pub is_awaited : Option Channel → Bool
 is_awaited None = false
 is_awaited (Some channel) = is_some channel.waiting
 
--- By the answer: the instruction is executed, with the effect of the answer; or it is at fault, and nothing has changed.
+-- By the answer: the instruction is executed, with the answer's effect; or it is at fault, and nothing has changed.
 abbrev pub SettlesBy : {A : Type 0} → (A → Effect) → World → World → Result A Fault → Turn → Type 0
 SettlesBy effect before after (Ok answer) turn = turn ≡ answered (effect answer) (counted after)
 SettlesBy effect before after (Err fault) turn =

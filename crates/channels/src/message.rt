@@ -1,6 +1,9 @@
 //! A message that an instruction sends or receives.
 
-ghost use Rattle.std.specs.Prelude.{◌≡◌, ◌+◌, ◌<◌, ◌^◌};
+ghost use Rattle.std.specs.Prelude.{◌≡◌, ◌+◌, ◌<◌, ◌^◌, IsTrue};
+ghost use Rattle.machine_state.specs.Exchanges.{bytes_at};
+ghost use Rattle.machine_state.specs.LocalStep.{are_defined};
+ghost use Rattle.machine_state.specs.Memory.{place_of};
 ghost use Rattle.channels.specs.Moment.{WaitsForMore};
 ghost use Rattle.channels.specs.Settling.{put_after};
 
@@ -28,5 +31,13 @@ impl<S: Store> Traffic<S, ListQueue> {
     {
         let here = &message.here;
         self.put_at(here, here.next(), message.registers, condition);
+    }
+
+    /// The bytes of a message, all of which are defined.
+    pub fn bytes(&self, exchange: Exchange) -> &[u8]
+        requires { IsTrue (are_defined self.now.world.memory exchange.address exchange.length) }
+        ensures { result.now ≡ bytes_at self.now.world.memory (place_of exchange.address) exchange.length }
+    {
+        self.cpu.store.lend(exchange.address, exchange.length)
     }
 }

@@ -2,6 +2,12 @@
 use Rattle.std.proofs.Common.{◌≡◌, ℕ, zero, suc, ◌<◌, ◌≤◌, Bool, true, false, cond, List, [], ◌∷◌, ◌++◌, length}
 use Rattle.std.proofs.Common.{get_or, set, replicate, map, Option, Some, None, refl, ap, ◌∙◌, arith}
 use Rattle.std.proofs.lemmas.List.{set_past, append_assoc, length-replicate}
+use Rattle.std.proofs.Common.{◌+◌, ◌-◌, ◌⊎◌, inl, inr, ◌&&◌, is_some, sym, take, drop, drop-cons}
+use Rattle.std.proofs.lemmas.Bool.Decides.{leb_tells}
+use Rattle.std.specs.Option.{unwrap_or}
+use Rattle.machine_state.specs.Memory.{byte_at}
+use Rattle.machine_state.specs.Spans.{all_places}
+use Rattle.machine_state.specs.Exchanges.{bytes_at}
 use Rattle.machine_state.specs.Tagged.{tagged_cells}
 
 pub length-tagged_cells : (bytes : List ℕ) (tags : List Bool) → length tags ≡ length bytes
@@ -96,3 +102,86 @@ tagged_cells_loaded size padding code constants =
     ∙ (ap (λ front. front ++ tagged_cells constants (replicate (length constants) true))
     (tagged_cells-undefined padding)
     ∙ ap (λ rest. replicate padding None ++ rest) (tagged_cells-defined constants)))))))
+
+-- ---- defined bytes, as they are lent
+
+and_both : (a b : Bool) → (a && b) ≡ true → (a ≡ true) × (b ≡ true)
+and_both true true e = (refl, refl)
+and_both true false e = absurd (cc)
+and_both false b e = absurd (cc)
+
+abbrev is_defined : List ℕ → List Bool → ℕ → Bool
+is_defined bytes tags place = is_some (byte_at (tagged_cells bytes tags) place)
+
+-- a byte that is defined lies inside, and is the one there
+defined_byte : (bytes : List ℕ) (tags : List Bool) (place : ℕ) → length tags ≡ length bytes
+    → is_defined bytes tags place ≡ true
+    → (place < length bytes) × (byte_at (tagged_cells bytes tags) place ≡ Some (get_or bytes place 0))
+defined_byte bytes tags place same defined = elim (leb_tells (suc place) (length bytes)) [
+  | inl inside ↦ on_tag (get_or tags place false) refl (omega (arith, inside.1))
+  | inr past ↦ not_there (tagged_cells_past bytes tags place same (omega (arith, past.1)))
+]
+  where
+    not_there : byte_at (tagged_cells bytes tags) place ≡ None
+        → (place < length bytes) × (byte_at (tagged_cells bytes tags) place ≡ Some (get_or bytes place 0))
+    not_there none =
+        let no' : true ≡ false = sym defined ∙ ap (λ (o : Option ℕ). is_some o) none in
+        absurd (cc)
+
+    on_tag : (b : Bool) → get_or tags place false ≡ b → place < length bytes
+        → (place < length bytes) × (byte_at (tagged_cells bytes tags) place ≡ Some (get_or bytes place 0))
+    on_tag true tag inside = (
+      inside,
+      tagged_cells-at bytes tags place same inside
+          ∙ ap (λ (b : Bool). cond b (Some (get_or bytes place 0)) None) tag,
+    )
+    on_tag false tag inside = not_there (tagged_cells-at bytes tags place same inside
+        ∙ ap (λ (b : Bool). cond b (Some (get_or bytes place 0)) None) tag)
+
+lent_from : (bytes : List ℕ) (tags : List Bool) (place count : ℕ) → length tags ≡ length bytes
+    → all_places (λ p. is_some (byte_at (tagged_cells bytes tags) p)) place count ≡ true
+    → bytes_at (tagged_cells bytes tags) place count ≡ take count (drop place bytes)
+unfolding all_places
+lent_from bytes tags place zero same defined = refl
+lent_from bytes tags place (suc n) same defined =
+    let both = and_both (is_defined bytes tags place)
+    (all_places (λ p. is_some (byte_at (tagged_cells bytes tags) p)) (place + 1) n) defined in
+    let here = defined_byte bytes tags place same both.0 in
+    let next : place + 1 ≡ suc place = omega arith in
+    ap (λ (o : Option ℕ). unwrap_or o 0 ∷ bytes_at (tagged_cells bytes tags) (place + 1) n) here.1
+    ∙ ap (◌∷◌ (get_or bytes place 0)) (lent_from bytes tags (place + 1) n same both.1
+    ∙ ap (λ (p : ℕ). take n (drop p bytes)) next)
+    ∙ sym (ap (take (suc n)) (drop-cons bytes place 0 here.0))
+
+pub lent : (bytes : List ℕ) (tags : List Bool) (place count : ℕ) → length tags ≡ length bytes
+    → all_places (λ p. is_some (byte_at (tagged_cells bytes tags) p)) place count ≡ true
+    → take (place + count - place) (drop place bytes) ≡ bytes_at (tagged_cells bytes tags) place count
+lent bytes tags place count same defined =
+    let all : place + count - place ≡ count = omega arith in
+    ap (λ (n : ℕ). take n (drop place bytes)) all ∙ sym (lent_from bytes tags place count same defined)
+
+lent_within : (bytes : List ℕ) (tags : List Bool) (place count : ℕ) → length tags ≡ length bytes
+    → all_places (λ p. is_some (byte_at (tagged_cells bytes tags) p)) place count ≡ true → 0 < count
+    → place + count ≤ length bytes
+unfolding all_places
+lent_within bytes tags place zero same defined some = absurd (omega arith)
+lent_within bytes tags place (suc zero) same defined some =
+    let both = and_both (is_defined bytes tags place) true defined in
+    let here = defined_byte bytes tags place same both.0 in
+    omega (arith, here.0)
+lent_within bytes tags place (suc (suc n)) same defined some =
+    let both = and_both (is_defined bytes tags place)
+    (all_places (λ p. is_some (byte_at (tagged_cells bytes tags) p)) (place + 1) (suc n)) defined in
+    let later = lent_within bytes tags (place + 1) (suc n) same both.1 (omega arith) in
+    omega (arith, later)
+
+-- where they would not lie inside, there are none
+pub lent_outside : (bytes : List ℕ) (tags : List Bool) (place count : ℕ) → length tags ≡ length bytes
+    → all_places (λ p. is_some (byte_at (tagged_cells bytes tags) p)) place count ≡ true
+    → (place + count < place) ⊎ (length bytes < place + count)
+    → [] ≡ bytes_at (tagged_cells bytes tags) place count
+lent_outside bytes tags place zero same defined outside = refl
+lent_outside bytes tags place (suc n) same defined (inl before) = absurd (omega arith)
+lent_outside bytes tags place (suc n) same defined (inr past) =
+    let inside = lent_within bytes tags place (suc n) same defined (omega arith) in
+    absurd (omega arith)

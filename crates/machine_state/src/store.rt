@@ -3,7 +3,8 @@
 ghost use Rattle.std.specs.Prelude.{◌≡◌, IsTrue, Some};
 ghost use Rattle.machine_state.specs.Holding.{Holding, may_write, may_read, may_write_word, may_read_word};
 ghost use Rattle.machine_state.specs.Spans.{all_places};
-ghost use Rattle.machine_state.specs.LocalStep.{copied};
+ghost use Rattle.machine_state.specs.LocalStep.{copied, are_defined};
+ghost use Rattle.machine_state.specs.Exchanges.{bytes_at};
 ghost use Rattle.machine_state.specs.World.{Roles};
 ghost use Rattle.machine_state.specs.Memory.{Memory, place_of, byte_at, with_byte, word_at, with_word};
 
@@ -74,6 +75,11 @@ pub trait Store {
         ensures memory { cells self.new ≡ with_byte (cells self.old) (place_of address) (Some byte) }
         ensures holding { holding self.new ≡ holding self.old }
         ensures roles { roles self.new ≡ roles self.old };
+
+    /// So many bytes from the address on, all of which are defined, whoever holds them.
+    fn lend(&self, address: u32, count: u32) -> &[u8]
+        requires { IsTrue (are_defined (cells self.now) address count) }
+        ensures { result.now ≡ bytes_at (cells self.now) (place_of address) count };
 
     /// So many bytes from one address on go to another, whoever holds them. Undefined bytes stay undefined. Where the
     /// two blocks meet, each byte is copied as it was before; outside the memory nothing changes.

@@ -161,6 +161,14 @@ impl Store for TaggedStore {
         );
     }
 
+    fn lend(&self, address: u32, count: u32) -> &[u8] {
+        let place = place_of(address) as usize;
+        match self.bytes.get(place..place + count as usize) {
+            Some(bytes) => bytes,
+            None => &[],
+        }
+    }
+
     fn copy(&mut self, from: u32, to: u32, count: u32) {
         cells::copy(
             &mut self.bytes,
