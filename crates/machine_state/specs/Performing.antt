@@ -1,5 +1,5 @@
 -- What one call for one instruction of the running process did, against the outcome of the definitions.
-use Rattle.std.specs.Prelude.{◌≡◌, ℕ, ◌+◌, ℤ, Bool, Option, Some, None, Result, Ok, Err, if◌then◌else◌}
+use Rattle.std.specs.Prelude.{◌≡◌, ⊤, ℕ, ◌+◌, ℤ, Bool, Option, Some, None, Result, Ok, Err, if◌then◌else◌}
 use Rattle.machine_state.specs.declared.cpu.Cpu.{Cpu}
 use Rattle.machine_state.specs.declared.cpu.Flow.{Flow}
 use Rattle.machine_state.specs.declared.cpu.Flow.TheVariants.{Next, Jump, Land, Stop, Receive, Send}
@@ -82,6 +82,12 @@ HasOutcome ghosts before after (Ok (Receive e)) outcome = outcome ≡ receives e
 HasOutcome ghosts before after (Ok (Send e)) outcome = outcome ≡ sends e (local_of ghosts after)
 HasOutcome ghosts before after (Err fault) outcome =
     (faulted before outcome ≡ Some fault) × (local_of ghosts after ≡ local_of ghosts before)
+
+-- nothing is asked of others
+abbrev pub AsksNothing : Flow → Type 0
+AsksNothing (Receive e) = ⊥
+AsksNothing (Send e) = ⊥
+AsksNothing _ = ⊤
 
 -- all but the registers and the memory stays
 pub record IsSameElsewhere {S : Type 0} (ghosts : Ghosts S) (before after : Cpu S) : Type 0 where
