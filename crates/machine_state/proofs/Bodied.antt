@@ -14,7 +14,7 @@ use Rattle.machine_state.specs.Memory.{local_address}
 use Rattle.machine_state.specs.LocalStep as step
 use Rattle.machine_state.specs.LocalStep.{local_step}
 use Rattle.machine_state.specs.Site.{Site, Local, Outcome, goes, jumps, lands, stops, fails, receives, sends}
-use Rattle.machine_state.specs.Performing.{HasOutcome, AsksNothing}
+use Rattle.machine_state.specs.Performing.{HasOutcome, PerformsFunction, AsksNothing, site_of, local_of}
 use Rattle.machine_state.specs.declared.cpu.Cpu.{Cpu}
 use Rattle.machine_state.specs.declared.cpu.Flow.{Flow}
 use Rattle.machine_state.specs.declared.cpu.Flow.TheVariants as flows
@@ -199,7 +199,7 @@ no_message o it_lands = tt
 no_message o it_stops = tt
 no_message o it_fails = tt
 
-pub performed_local : {S : Type 0} (ghosts : Ghosts S) (o : Outcome) (before after : Cpu S) (flow : Flow)
+performed_local : {S : Type 0} (ghosts : Ghosts S) (o : Outcome) (before after : Cpu S) (flow : Flow)
     → IsLocal o → HasOutcome ghosts before after (Ok flow) o → AsksNothing flow
 performed_local ghosts o before after flows.Next local is = tt
 performed_local ghosts o before after (flows.Jump to) local is = tt
@@ -207,3 +207,9 @@ performed_local ghosts o before after (flows.Land to) local is = tt
 performed_local ghosts o before after flows.Stop local is = tt
 performed_local ghosts o before after (flows.Receive e) local is = subst NoMessage is (no_message o local)
 performed_local ghosts o before after (flows.Send e) local is = subst NoMessage is (no_message o local)
+
+pub functions_ask_nothing : {S : Type 0} (ghosts : Ghosts S) (before after : Cpu S) (flow : Flow) (f : Fun)
+    (operand : ℤ) → PerformsFunction ghosts f operand before after (Ok flow) → AsksNothing flow
+functions_ask_nothing ghosts before after flow f operand h =
+    performed_local ghosts (local_step (site_of ghosts before) f operand (local_of ghosts before)) before after flow
+    (local_steps_are_local (site_of ghosts before) f operand (local_of ghosts before)) h.performed

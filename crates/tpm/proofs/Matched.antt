@@ -74,9 +74,11 @@ line_is app words matches asked is kinds has by =
     let none : fault_of tpm words ≡ [] =
     ap (λ (a : App). fault_of a words) (sym is) ∙ kinds (ap is_simple_and_free is ∙ tpm_is_free) in
     let found : subcommand_rows_of matches ≡ subcommand_of tpm words =
-    (has (ap is_simple is ∙ tpm_is_simple)).1 ∙ ap (λ (a : App). subcommand_of a words) is in
-    (none, ap (λ (kinds : Kinds). unless_faulty kinds (option_and_then entered_by (subcommand_of tpm words))) none
-    ∙ sym (ap (option_and_then entered_by) found) ∙ sym by)
+    (has (ap is_simple is ∙ tpm_is_simple)).1 ∙ ap (λ (a : App). subcommand_of a words) is in (
+      none,
+      ap (λ (kinds : Kinds). unless_faulty kinds (option_and_then entered_by (subcommand_of tpm words))) none
+          ∙ sym (ap (option_and_then entered_by) found) ∙ sym by,
+    )
 
 -- what the parser took asks for something
 pub some_asked : (words : List Text) (asked : Option Line) → fault_of tpm words ≡ []

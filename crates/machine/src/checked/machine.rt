@@ -6,6 +6,7 @@ ghost use Rattle.machine_state.specs.World.{IsLoadable, loaded};
 ghost use Rattle.machine_state.specs.Memory.{data_start, place_of, with_byte};
 ghost use Rattle.machine_state.specs.Happens.{most_executed};
 ghost use Rattle.machine_state.specs.Moves.{counted, finished_where, faulty, put, with_condition, leave, enqueue};
+ghost use Rattle.machine_state.specs.Performing.{AsksNothing};
 ghost use Rattle.machine_state.specs.Moves.{wake, dispatch, link_index, with_input, with_output};
 ghost use Rattle.machine.specs.Applying.{PerformsFor, outcome_at};
 ghost use Rattle.machine.specs.Moment.{IsSteady, WaitsForMore};
@@ -203,9 +204,10 @@ impl Machine {
     ) -> Result<(Flow, Registers), Fault>
         requires code { length tables.now.code.now < 2 ^ 32 }
         requires start { data_start + 4 * tables.now.data_words < 2 ^ 32 }
-        ensures { let m = contents_of tables.now in
+        ensures performs { let m = contents_of tables.now in
             let outcome = outcome_at m process task.now fun operand self.old.world in
             PerformsFor process task.now self.old self.new result outcome }
+        ensures local { IfOk result (λ gone_on. AsksNothing gone_on.0) }
     {
         self.cpu.process = process;
         self.cpu.registers = task.registers;

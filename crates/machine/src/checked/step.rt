@@ -10,6 +10,7 @@ ghost use Rattle.machine_state.specs.Instructions.{has_body};
 ghost use Rattle.machine_state.specs.Memory.{data_start};
 ghost use Rattle.machine_state.specs.Faults.{fault_in};
 ghost use Rattle.machine_state.specs.Moves.{faulty};
+ghost use Rattle.machine_state.specs.Performing.{AsksNothing};
 ghost use Rattle.prefix_decoder.specs.Operand.{IsRegister, after_prefix};
 ghost use Rattle.machine.specs.Moment.{IsSteady};
 
@@ -109,6 +110,7 @@ impl Machine {
         requires next { task.now.registers.at + 1 < 2 ^ 32 }
         requires task { IsSteady task.now }
         requires room { IsTrue choice.slice → 0 < self.old.room }
+        requires local { AsksNothing flow }
         ensures { let m = contents_of tables.now in
             let w = self.old.world in
             let outcome = outcome_of flow registers w.memory in
@@ -120,6 +122,7 @@ impl Machine {
             Flow::Jump { to } => (to, task.condition),
             Flow::Land { to } => (to, task.condition),
             Flow::Stop => (next, Condition::Stopped),
+            Flow::Receive(_) | Flow::Send(_) => unreachable!(),
         };
         let registers = between(at, registers);
         self.put(
@@ -144,6 +147,7 @@ impl Machine {
                 self.leave();
                 self.dispatch(choice.pick);
             }
+            Flow::Receive(_) | Flow::Send(_) => unreachable!(),
         }
         self.count();
     }
