@@ -99,6 +99,8 @@ fn put_flow(flow: Result<Flow, Fault>, out: &mut Answer) {
             out.number(i64::from(to));
         }
         Ok(Flow::Stop) => out.put("stop"),
+        Ok(Flow::Receive(_)) => out.put("receive"),
+        Ok(Flow::Send(_)) => out.put("send"),
         Err(fault) => put_fault(Some(fault), out),
     }
 }

@@ -2,12 +2,12 @@
 use Rattle.std.specs.Prelude.{◌≡◌, ℤ, Some, Result, Ok, Err}
 use Rattle.prefix_decoder.specs.declared.function.Fun.{Fun}
 use Rattle.machine_state.specs.declared.cpu.Flow.{Flow}
-use Rattle.machine_state.specs.declared.cpu.Flow.TheVariants.{Next, Jump, Land, Stop as Stops}
+use Rattle.machine_state.specs.declared.cpu.Flow.TheVariants.{Next, Jump, Land, Stop as Stops, Receive, Send}
 use Rattle.machine_state.specs.declared.process.Registers.{Registers}
 use Rattle.machine_state.specs.declared.fault.Fault.{Fault}
 use Rattle.machine_state.specs.Memory.{Memory}
 use Rattle.machine_state.specs.World.{World}
-use Rattle.machine_state.specs.Site.{Local, Outcome, goes, jumps, lands, stops}
+use Rattle.machine_state.specs.Site.{Local, Outcome, goes, jumps, lands, stops, receives, sends}
 use Rattle.machine_state.specs.LocalStep.{local_step}
 use Rattle.machine_state.specs.Performing.{reported}
 use Rattle.machine_state.specs.Happens.{Effect, ran, idle, taken, kept, busy, acknowledged, ignored, Turn, Here}
@@ -53,6 +53,8 @@ outcome_by Next l = goes l
 outcome_by (Jump to) l = jumps to l
 outcome_by (Land to) l = lands to l
 outcome_by Stops l = stops l
+outcome_by (Receive e) l = receives e l
+outcome_by (Send e) l = sends e l
 
 -- with these registers and this memory
 abbrev pub outcome_of : Flow → Registers → Memory → Outcome

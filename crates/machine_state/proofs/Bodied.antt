@@ -1,6 +1,6 @@
 -- What comes of the instructions that have a body: none asks anything of another process.
-use Rattle.std.proofs.Common.{refl, ℕ, ℤ, negsuc, Bool, cond, Option, Some, None}
-use Rattle.std.specs.Prelude.{◌==◌}
+use Rattle.std.proofs.Common.{refl, subst, Ok, ℕ, ℤ, negsuc, Bool, cond, Option, Some, None}
+use Rattle.std.specs.Prelude.{◌==◌, ⊤}
 use Rattle.prefix_decoder.specs.declared.function.Fun.{Fun}
 use Rattle.machine_state.specs.declared.process.Mode.{Mode}
 use Rattle.machine_state.specs.declared.fault.FaultKind.{FaultKind}
@@ -13,7 +13,12 @@ use Rattle.machine_state.specs.Instructions.{instruction_of, has_body, op_has_bo
 use Rattle.machine_state.specs.Memory.{local_address}
 use Rattle.machine_state.specs.LocalStep as step
 use Rattle.machine_state.specs.LocalStep.{local_step}
-use Rattle.machine_state.specs.Site.{Site, Local, Outcome, goes, jumps, lands, stops, fails}
+use Rattle.machine_state.specs.Site.{Site, Local, Outcome, goes, jumps, lands, stops, fails, receives, sends}
+use Rattle.machine_state.specs.Performing.{HasOutcome, PerformsFunction, AsksNothing, site_of, local_of}
+use Rattle.machine_state.specs.declared.cpu.Cpu.{Cpu}
+use Rattle.machine_state.specs.declared.cpu.Flow.{Flow}
+use Rattle.machine_state.specs.declared.cpu.Flow.TheVariants as flows
+use Rattle.machine_state.specs.declared.store.Store.{Ghosts}
 use Rattle.machine_state.proofs.Combining as each
 
 pub data IsLocal : Outcome → Type 0 where
@@ -179,3 +184,32 @@ module _ (s : Site) where
 pub local_steps_are_local : (s : Site) (f : Fun) (e : ℤ) (l : Local) → IsLocal (local_step s f e l)
 unfolding step.step_by
 local_steps_are_local s f e l = decoded_local s l (instruction_of f e) e
+
+-- ---- what has a body asks nothing by its answer
+
+abbrev NoMessage : Outcome → Type 0
+NoMessage (receives e l) = ⊥
+NoMessage (sends e l) = ⊥
+NoMessage _ = ⊤
+
+no_message : (o : Outcome) → IsLocal o → NoMessage o
+no_message o it_goes = tt
+no_message o it_jumps = tt
+no_message o it_lands = tt
+no_message o it_stops = tt
+no_message o it_fails = tt
+
+performed_local : {S : Type 0} (ghosts : Ghosts S) (o : Outcome) (before after : Cpu S) (flow : Flow)
+    → IsLocal o → HasOutcome ghosts before after (Ok flow) o → AsksNothing flow
+performed_local ghosts o before after flows.Next local is = tt
+performed_local ghosts o before after (flows.Jump to) local is = tt
+performed_local ghosts o before after (flows.Land to) local is = tt
+performed_local ghosts o before after flows.Stop local is = tt
+performed_local ghosts o before after (flows.Receive e) local is = subst NoMessage is (no_message o local)
+performed_local ghosts o before after (flows.Send e) local is = subst NoMessage is (no_message o local)
+
+pub functions_ask_nothing : {S : Type 0} (ghosts : Ghosts S) (before after : Cpu S) (flow : Flow) (f : Fun)
+    (operand : ℤ) → PerformsFunction ghosts f operand before after (Ok flow) → AsksNothing flow
+functions_ask_nothing ghosts before after flow f operand h =
+    performed_local ghosts (local_step (site_of ghosts before) f operand (local_of ghosts before)) before after flow
+    (local_steps_are_local (site_of ghosts before) f operand (local_of ghosts before)) h.performed

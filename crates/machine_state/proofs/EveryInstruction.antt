@@ -244,6 +244,7 @@ module _ (s : Site) (r0 : Registers) (m0 n0 : Memory) (K : Registers → Memory 
 
   exchanges : (direction : Direction) (k k' : Exchange → Local → Outcome) → Asked direction k k'
       → R (step.exchanges s direction (here r0 m0) k) (step.exchanges s direction (here r0 n0) k')
+  unfolding step.exchanges
   exchanges direction k k' h =
       three_used _ _ (λ a b c. each.counts R w.at_fault 1 MAX_MESSAGE a _ _ (λ count some most.
       channel b direction _ _ (λ at held.

@@ -4,7 +4,7 @@ use Rattle.word_arithmetic.specs.Binary.{computed}
 use Rattle.machine_state.specs.Instructions.{op_of, instruction_of}
 use Rattle.machine_state.specs.LocalStep.{step_by, step_of, instruction_step, operation_step}
 use Rattle.machine_state.specs.LocalStep.{outside_alternation, outside_starts, while_enabling, while_disabling, counts}
-use Rattle.machine_state.specs.LocalStep.{holds, channel}
+use Rattle.machine_state.specs.LocalStep.{holds, channel, exchanges}
 use Rattle.machine_state.specs.LocalStep.{uses, reads, writes, reads_byte, writes_byte, schedules, computes, goes_on}
 use Rattle.machine_state.specs.LocalStep.{leads_to, lands_at, followed_by_code, aligned, copied}
 use Rattle.module_format.specs.Contexts.{parameters_at, context_at}
@@ -19,7 +19,7 @@ use Rattle.machine_state.specs.SmallModules.{PairFaults, EchoWaits, ChannelEnds,
 pub one_process : FirstEnds × JumpEnds × SlicedJumpEnds × CallEnds × LoopEnds
 unfolding turn_by step_by step_of instruction_of op_of instruction_step operation_step computes computed
     outside_alternation outside_starts while_enabling while_disabling uses reads writes reads_byte writes_byte schedules
-    goes_on leads_to lands_at followed_by_code holds aligned channel counts copied all_places runs less
+    goes_on leads_to lands_at followed_by_code holds aligned channel counts exchanges copied all_places runs less
     parameters_at context_at place_of local_address word_at with_word may_write_word may_read_word dispatch
 one_process = (
   record { no_fault = refl; count = refl; finished = refl; nobody_runs = refl },
@@ -32,7 +32,7 @@ one_process = (
 pub several : PairEnds × PairFaults × EchoWaits × ChannelEnds × ChoiceWaits
 unfolding turn_by step_by step_of instruction_of op_of instruction_step operation_step computes computed
     outside_alternation outside_starts while_enabling while_disabling uses reads writes reads_byte writes_byte schedules
-    goes_on leads_to lands_at followed_by_code holds aligned channel counts copied all_places runs less
+    goes_on leads_to lands_at followed_by_code holds aligned channel counts exchanges copied all_places runs less
     parameters_at context_at place_of local_address word_at with_word may_write_word may_read_word dispatch
 several = (
   (

@@ -12,6 +12,7 @@ pub mod Moving
 pub mod SpanLaws
 pub mod Starting
 pub mod Writing
+pub mod Defined
 pub mod Agreeing
 pub mod Seeing
 pub mod Lines

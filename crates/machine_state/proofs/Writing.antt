@@ -73,7 +73,7 @@ kept_byte m place q there = elim (cases_eq q place) [
   | inr other ↦ byte_at-with_byte_other m place q None other
 ]
 
-kept_word : (m : Memory) (place q : ℕ) → is_some (byte_at (with_word m place None) q) ≡ true
+pub kept_word : (m : Memory) (place q : ℕ) → is_some (byte_at (with_word m place None) q) ≡ true
     → byte_at (with_word m place None) q ≡ byte_at m q
 unfolding with_word
 kept_word m place q there =

@@ -1,15 +1,18 @@
 -- What one call for one instruction of the running process did, against the outcome of the definitions.
-use Rattle.std.specs.Prelude.{◌≡◌, ℕ, ◌+◌, ℤ, Bool, Option, Some, None, Result, Ok, Err, if◌then◌else◌}
+use Rattle.std.specs.Prelude.{◌≡◌, ⊤, ℕ, ◌+◌, ℤ, Bool, Option, Some, None, Result, Ok, Err, if◌then◌else◌}
 use Rattle.machine_state.specs.declared.cpu.Cpu.{Cpu}
 use Rattle.machine_state.specs.declared.cpu.Flow.{Flow}
-use Rattle.machine_state.specs.declared.cpu.Flow.TheVariants.{Next, Jump, Land, Stop}
+use Rattle.machine_state.specs.declared.cpu.Flow.TheVariants.{Next, Jump, Land, Stop, Receive, Send}
 use Rattle.machine_state.specs.declared.fault.Fault.{Fault}
 use Rattle.machine_state.specs.declared.fault.FaultKind.{FaultKind}
 use Rattle.machine_state.specs.Faults.{fault_in}
 use Rattle.machine_state.specs.declared.store.Store.{Ghosts}
-use Rattle.machine_state.specs.Site.{Site, Local, Outcome, goes, jumps, lands, stops, fails}
+use Rattle.machine_state.specs.Site.{Site, Local, Outcome, goes, jumps, lands, stops, fails, receives, sends}
 use Rattle.machine_state.specs.Instructions.{op_has_body}
-use Rattle.machine_state.specs.LocalStep.{local_step, instruction_step, operation_step}
+use Rattle.machine_state.specs.LocalStep.{local_step, instruction_step, operation_step, exchanges}
+use Rattle.machine_state.specs.LocalStep.{schedules, without_registers}
+use Rattle.module_format.specs.declared.rows.Direction.{Direction}
+use Rattle.machine_state.specs.declared.process.Exchange.{Exchange}
 use Rattle.machine_state.specs.declared.fault.FaultKind.TheVariants.{UnknownOperation}
 use Rattle.machine_state.specs.declared.op.Op.{Op}
 use Rattle.machine_state.specs.declared.instruction.Instruction.{Instruction}
@@ -55,14 +58,36 @@ abbrev pub Admits : {S : Type 0} → Cpu S → Result (Unit {0}) Fault → (Outc
 Admits cpu (Ok passed) test = (after : Outcome) → test after ≡ after
 Admits cpu (Err fault) test = (after : Outcome) → faulted cpu (test after) ≡ Some fault
 
--- by the answer: where the process goes on, or that it stops; a fault changes nothing
+-- What a combinator finds: whatever comes after it comes of this, or the instruction is at fault.
+abbrev pub Finds : {S X : Type 0} → Cpu S → Result X Fault → ((X → Outcome) → Outcome) → Type 0
+Finds {X = X} cpu (Ok x) find = (after : X → Outcome) → find after ≡ after x
+Finds {X = X} cpu (Err fault) find = (after : X → Outcome) → faulted cpu (find after) ≡ Some fault
+
+-- The message that an instruction asks for: whatever comes of it comes of this one, once the process can be scheduled,
+-- or the instruction is at fault.
+abbrev pub AsksFor : {S : Type 0} → Ghosts S → Cpu S → Direction → Result Exchange Fault → Type 0
+AsksFor ghosts cpu direction (Ok e) = (k : Exchange → Local → Outcome) →
+    exchanges (site_of ghosts cpu) direction (local_of ghosts cpu) k
+    ≡ schedules (site_of ghosts cpu) (local_of ghosts cpu) (λ l. k e (without_registers l))
+AsksFor ghosts cpu direction (Err fault) = (k : Exchange → Local → Outcome) →
+    faulted cpu (exchanges (site_of ghosts cpu) direction (local_of ghosts cpu) k) ≡ Some fault
+
+-- by the answer: where the process goes on, that it stops, or what it asks of others; a fault changes nothing
 abbrev pub HasOutcome : {S : Type 0} → Ghosts S → Cpu S → Cpu S → Result Flow Fault → Outcome → Type 0
 HasOutcome ghosts before after (Ok Next) outcome = outcome ≡ goes (local_of ghosts after)
 HasOutcome ghosts before after (Ok (Jump to)) outcome = outcome ≡ jumps to (local_of ghosts after)
 HasOutcome ghosts before after (Ok (Land to)) outcome = outcome ≡ lands to (local_of ghosts after)
 HasOutcome ghosts before after (Ok Stop) outcome = outcome ≡ stops (local_of ghosts after)
+HasOutcome ghosts before after (Ok (Receive e)) outcome = outcome ≡ receives e (local_of ghosts after)
+HasOutcome ghosts before after (Ok (Send e)) outcome = outcome ≡ sends e (local_of ghosts after)
 HasOutcome ghosts before after (Err fault) outcome =
     (faulted before outcome ≡ Some fault) × (local_of ghosts after ≡ local_of ghosts before)
+
+-- nothing is asked of others
+abbrev pub AsksNothing : Flow → Type 0
+AsksNothing (Receive e) = ⊥
+AsksNothing (Send e) = ⊥
+AsksNothing _ = ⊤
 
 -- all but the registers and the memory stays
 pub record IsSameElsewhere {S : Type 0} (ghosts : Ghosts S) (before after : Cpu S) : Type 0 where
@@ -80,9 +105,14 @@ pub record Performs {S : Type 0} (ghosts : Ghosts S) (outcome : Outcome) (before
   pub performed : HasOutcome ghosts before after result outcome
   pub elsewhere : IsSameElsewhere ghosts before after
 
--- of an operation, of an instruction with its operand, and of a function with its operand
+-- of an operation, of one if the machine executes it, of an instruction with its operand, and of a function with its
+-- operand
 abbrev pub PerformsOperation : {S : Type 0} → Ghosts S → Op → Cpu S → Cpu S → Result Flow Fault → Type 0
 PerformsOperation ghosts op before after result =
+    Performs ghosts (operation_step (site_of ghosts before) op (local_of ghosts before)) before after result
+
+abbrev pub PerformsExecuted : {S : Type 0} → Ghosts S → Op → Cpu S → Cpu S → Result Flow Fault → Type 0
+PerformsExecuted ghosts op before after result =
     let step = operation_step (site_of ghosts before) op (local_of ghosts before) in
     Performs ghosts (if op_has_body op then step else fails UnknownOperation) before after result
 

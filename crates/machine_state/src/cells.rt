@@ -1,8 +1,9 @@
 //! Bytes with tags, as slices: a byte is defined where its tag is set.
 
-ghost use Rattle.std.specs.Prelude.{◌≡◌, ◌+◌, ◌<◌, ◌≤◌, ◌^◌, length};
+ghost use Rattle.std.specs.Prelude.{◌≡◌, ◌+◌, ◌<◌, ◌≤◌, ◌^◌, is_some, length};
 ghost use Rattle.machine_state.specs.LocalStep.{copied};
 ghost use Rattle.machine_state.specs.Memory.{byte_at, with_byte, word_at, with_word};
+ghost use Rattle.machine_state.specs.Spans.{all_places};
 ghost use Rattle.machine_state.specs.Tagged.{tagged_cells};
 
 use crate::process::Word;
@@ -18,6 +19,22 @@ pub(crate) fn byte_at(bytes: &[u8], tags: &[bool], place: usize) -> Option<u8>
     } else {
         None
     }
+}
+
+/// Whether so many bytes from a place on are defined.
+pub(crate) fn are_defined(bytes: &[u8], tags: &[bool], place: usize, count: usize) -> bool
+    requires lengths { length tags.now ≡ length bytes.now }
+    requires place { place < 2 ^ 32 }
+    requires count { count < 2 ^ 32 }
+    ensures { let cells = tagged_cells bytes.now tags.now in
+        result ≡ all_places (λ place. is_some (byte_at cells place)) place count }
+{
+    for k in 0..count {
+        if byte_at(bytes, tags, place + k).is_none() {
+            return false;
+        }
+    }
+    true
 }
 
 /// Writes the byte at a place; outside nothing changes.

@@ -1,20 +1,22 @@
 //! The running process, and what its instructions ask.
 
-ghost use Rattle.std.specs.Prelude.{◌≡◌, ◌+◌, ◌-◌, ◌%◌, ◌^◌, ◌≤◌, ◌==◌, ◌&&◌, not, nat_lt, int_le, nat_abs, pos, IsTrue};
-ghost use Rattle.std.specs.Prelude.{IfOk, false};
+ghost use Rattle.std.specs.Prelude.{◌≡◌, ◌+◌, ◌-◌, ◌%◌, ◌^◌, ◌≤◌, ◌==◌, ◌&&◌, not, nat_lt, int_le, nat_abs, pos, negsuc};
+ghost use Rattle.std.specs.Prelude.{IfOk, IsTrue, false};
 ghost use Rattle.std.specs.Option.{ok_or};
 ghost use Rattle.std.specs.Int.{w32, cast_unsigned};
 ghost use Rattle.machine_state.specs.Holding.{may_write, may_read, may_write_word, may_read_word};
-ghost use Rattle.machine_state.specs.LocalStep.{outside_alternation, outside_starts, alone, target};
+ghost use Rattle.machine_state.specs.LocalStep.{outside_alternation, outside_starts, alone, target, channel};
 ghost use Rattle.machine_state.specs.LocalStep.{holds_scheduling_words, without_scheduling_words};
-ghost use Rattle.machine_state.specs.LocalStep.{may_read_bytes, may_write_bytes, meet};
-ghost use Rattle.machine_state.specs.Memory.{place_of, word_at, byte_at};
-ghost use Rattle.machine_state.specs.Performing.{fault_of, value_or_fault, Admits};
+ghost use Rattle.machine_state.specs.LocalStep.{may_read_bytes, may_write_bytes, are_defined, meet, is_beside_scheduling};
+ghost use Rattle.machine_state.specs.Memory.{place_of, local_address, word_at, byte_at};
+ghost use Rattle.machine_state.specs.Performing.{site_of, fault_of, value_or_fault, Admits, Finds};
 
 use crate::address::{local_address, place_of};
 use crate::fault::{Fault, FaultKind};
-use crate::process::{Mode, Registers, Word};
+use crate::holding::End;
+use crate::process::{Exchange, Mode, Registers, Word};
 use crate::store::Store;
+use certificate::Direction;
 
 /// The running process over a store.
 #[derive(Drop)]
@@ -32,17 +34,16 @@ pub struct Cpu<S> {
     pub store: S,
 }
 
-/// Whether so many bytes at one address meet those at another.
-fn meet(one: u32, other: u32, count: u32) -> bool
-    ensures { result ≡ meet (place_of one) count (place_of other) count }
+/// Whether so many bytes at one address meet so many at another.
+fn meet(one: u32, size: u32, other: u32, other_size: u32) -> bool
+    ensures { result ≡ meet (place_of one) size (place_of other) other_size }
 {
     let one = u64::from(place_of(one));
     let other = u64::from(place_of(other));
-    let count = u64::from(count);
-    one < other + count && other < one + count
+    one < other + u64::from(other_size) && other < one + u64::from(size)
 }
 
-/// How a process goes on after an instruction. Later instructions add kinds.
+/// How a process goes on after an instruction, or what it asks of others. Later instructions add kinds.
 #[derive(Clone, Copy, Debug, PartialEq, Eq)]
 pub enum Flow {
     /// After the instruction.
@@ -53,6 +54,10 @@ pub enum Flow {
     Land { to: u32 },
     /// It stops for good.
     Stop,
+    /// It wants to receive a message.
+    Receive(Exchange),
+    /// It wants to send a message.
+    Send(Exchange),
 }
 
 impl<S> Cpu<S> {
@@ -105,7 +110,7 @@ impl<S> Cpu<S> {
     pub fn count(&self, least: u32, most: u32, value: i32) -> Result<u32, Fault>
         ensures value { let holds = int_le (pos least) value && int_le value (pos most) in
             result ≡ value_or_fault self.now holds (nat_abs value) FaultKind.CountRange }
-        ensures bound { IfOk result (λ n. n ≤ most) }
+        ensures bounds { IfOk result (λ n. (least ≤ n) × (n ≤ most)) }
     {
         let number = i64::from(value);
         let is_between = i64::from(least) <= number && number <= i64::from(most);
@@ -152,6 +157,29 @@ impl<S> Cpu<S> {
         self.outside_starts()
     }
 
+    /// Whether so many bytes at an address are apart from the three words that scheduling takes.
+    pub fn is_apart_from_scheduling(&self, address: u32, count: u32) -> bool
+        ensures { let lowest = place_of (local_address self.now.registers.workspace (negsuc 2)) in
+            result ≡ not (meet (place_of address) count lowest 12) }
+    {
+        !meet(
+            address,
+            count,
+            local_address(self.registers.workspace, -3),
+            12,
+        )
+    }
+
+    /// Whether so many bytes at an address are apart from each of these words, wherever it lies.
+    fn is_beside_scheduling(&self, address: u32, count: u32) -> bool
+        ensures { result ≡ is_beside_scheduling self.now.registers.workspace (place_of address) count }
+    {
+        let workspace = self.registers.workspace;
+        !meet(address, count, local_address(workspace, -1), 4)
+            && !meet(address, count, local_address(workspace, -2), 4)
+            && !meet(address, count, local_address(workspace, -3), 4)
+    }
+
     /// The code offset that lies so far from the next instruction, modulo 2^32.
     pub fn target(&self, distance: i32) -> u32
         ensures { result ≡ target (self.now.registers.at + 1) distance }
@@ -188,6 +216,20 @@ impl<S: Store> Cpu<S> {
         Ok(self.store.load_word(address))
     }
 
+    /// The address of a channel of which the process holds this end: it is a multiple of 4, else `Unaligned`, and the
+    /// end is held, else `EndNotHeld`.
+    #[tactic(auto, unfolding(crate::specs::LocalStep::channel, crate::specs::LocalStep::aligned, crate::specs::LocalStep::holds))]
+    pub fn channel(&self, value: i32, direction: Direction) -> Result<u32, Fault>
+        ensures { Finds self.now result (channel (site_of S.Store self.now) value direction) }
+    {
+        let address = self.aligned(value)?;
+        self.check(
+            self.store.has_end(End { address, direction }),
+            FaultKind::EndNotHeld,
+        )?;
+        Ok(address)
+    }
+
     /// The byte at an address that may be read, else `NotOwn`.
     pub fn read_byte(&self, address: u32) -> Result<Option<u8>, Fault>
         ensures { let place = place_of address in
@@ -215,7 +257,17 @@ impl<S: Store> Cpu<S> {
     {
         self.store.can_load_bytes(from, count)
             && self.store.can_store_bytes(to, count)
-            && !meet(from, to, count)
+            && !meet(from, count, to, count)
+    }
+
+    /// Whether so many bytes at an address are defined once the three words that scheduling takes are not.
+    #[tactic(auto, using(crate::proofs::Defined::defined_once_scheduled))]
+    pub fn stays_defined(&self, address: u32, count: u32) -> bool
+        requires { 1 ≤ count }
+        ensures { let later = without_scheduling_words (S.cells self.now.store) self.now.registers.workspace in
+            result ≡ are_defined later address count }
+    {
+        self.store.defines_bytes(address, count) && self.is_beside_scheduling(address, count)
     }
 
     /// The value of the word at an address that may be written: it is defined, else `Undefined`.

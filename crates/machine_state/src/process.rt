@@ -38,7 +38,7 @@ pub enum Mode {
 }
 
 /// A message that is being sent or received.
-#[derive(Clone, Copy)]
+#[derive(Clone, Copy, Debug, PartialEq, Eq)]
 pub struct Exchange {
     /// The channel's address.
     pub channel: u32,

@@ -1,13 +1,14 @@
 //! Memory as the running process may touch it.
 
 ghost use Rattle.std.specs.Prelude.{◌≡◌, IsTrue, Some};
-ghost use Rattle.machine_state.specs.Holding.{Holding, may_write, may_read, may_write_word, may_read_word};
+ghost use Rattle.machine_state.specs.Holding.{Holding, may_write, may_read, may_write_word, may_read_word, has_end};
 ghost use Rattle.machine_state.specs.Spans.{all_places};
-ghost use Rattle.machine_state.specs.LocalStep.{copied, are_defined};
+ghost use Rattle.machine_state.specs.LocalStep.{are_defined, copied};
 ghost use Rattle.machine_state.specs.Exchanges.{bytes_at};
 ghost use Rattle.machine_state.specs.World.{Roles};
 ghost use Rattle.machine_state.specs.Memory.{Memory, place_of, byte_at, with_byte, word_at, with_word};
 
+use crate::holding::End;
 use crate::process::Word;
 
 /// Memory, and what the running process may touch of it. Bytes and words are named by their addresses.
@@ -44,6 +45,14 @@ pub trait Store {
     /// Whether all of so many bytes from the address on may be written.
     fn can_store_bytes(&self, address: u32, count: u32) -> bool
         ensures { result ≡ all_places (may_write (holding self.now)) (place_of address) count };
+
+    /// Whether the end of a channel or a link may be used.
+    fn has_end(&self, end: End) -> bool
+        ensures { result ≡ has_end (holding self.now) end };
+
+    /// Whether all of so many bytes from the address on are defined.
+    fn defines_bytes(&self, address: u32, count: u32) -> bool
+        ensures { result ≡ are_defined (cells self.now) address count };
 
     /// The byte, none where it is undefined.
     fn load_byte(&self, address: u32) -> Option<u8>

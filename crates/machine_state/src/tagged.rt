@@ -3,7 +3,7 @@
 ghost use Rattle.std.specs.Prelude.{◌≡◌, ◌+◌, ◌*◌, ◌<◌, ◌^◌, [], ◌∷◌, length, MatchOption, IfOk};
 
 use crate::address::place_of;
-use crate::holding::Holding;
+use crate::holding::{End, Holding};
 use crate::process::Word;
 use crate::role::Role;
 use crate::store::Store;
@@ -124,6 +124,19 @@ impl Store for TaggedStore {
             Some(holding) => holding.may_write_bytes(place, count),
             None => count == 0,
         }
+    }
+
+    fn has_end(&self, end: End) -> bool {
+        self.current().is_some_and(|holding| holding.has_end(end))
+    }
+
+    fn defines_bytes(&self, address: u32, count: u32) -> bool {
+        cells::are_defined(
+            &self.bytes,
+            &self.tags,
+            place_of(address) as usize,
+            count as usize,
+        )
     }
 
     fn load_byte(&self, address: u32) -> Option<u8> {

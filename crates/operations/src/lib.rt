@@ -5,22 +5,24 @@ mod arithmetic;
 mod bytes;
 mod long;
 mod loops;
+mod messages;
 mod moving;
 mod registers;
 mod returning;
 mod stopping;
 mod subscripts;
 
-ghost use Rattle.machine_state.specs.Performing.{PerformsOperation};
+ghost use Rattle.machine_state.specs.Performing.{PerformsExecuted};
 
 use machine_state::{Cpu, Fault, FaultKind, Flow, Op, Store};
+pub use messages::{input, output};
 
 /// Executes one operation of the running process. The registers `at`, `began` and `operand` stay as they are:
 /// the caller says where the next instruction begins. An operation that has no body yet is unknown. After a fault
 /// nothing has changed.
 #[tactic(auto)]
 pub fn operate<S: Store>(cpu: &mut Cpu<S>, op: Op) -> Result<Flow, Fault>
-    ensures { PerformsOperation S.Store op cpu.old cpu.new result }
+    ensures { PerformsExecuted S.Store op cpu.old cpu.new result }
 {
     match op {
         Op::Reverse => registers::reverse(cpu),

@@ -7,6 +7,7 @@ ghost use Rattle.machine_state.specs.Memory.{data_start};
 ghost use Rattle.machine_state.specs.Happens.{most_executed};
 ghost use Rattle.machine_state.specs.Moves.{counted, finished_where, faulty};
 ghost use Rattle.channels.specs.Settling.{here_in};
+ghost use Rattle.machine_state.specs.Performing.{AsksNothing};
 ghost use Rattle.machine.specs.Applying.{PerformsFor, outcome_at};
 
 use certificate::Tables;
@@ -108,8 +109,9 @@ impl Machine {
     ) -> Result<(Flow, Registers), Fault>
         requires code { length tables.now.code.now < 2 ^ 32 }
         requires start { data_start + 4 * tables.now.data_words < 2 ^ 32 }
-        ensures { let outcome = outcome_at (here_in (contents_of tables.now) here.now) fun operand self.old.world in
+        ensures performs { let outcome = outcome_at (here_in (contents_of tables.now) here.now) fun operand self.old.world in
             PerformsFor here.now self.old self.new result outcome }
+        ensures local { IfOk result (λ gone_on. AsksNothing gone_on.0) }
     {
         self.traffic.select(here.process);
         let cpu = self.traffic.cpu();

@@ -9,6 +9,7 @@ ghost use Rattle.machine_state.specs.Instructions.{has_body};
 ghost use Rattle.machine_state.specs.Memory.{data_start};
 ghost use Rattle.machine_state.specs.Faults.{fault_in};
 ghost use Rattle.machine_state.specs.Moves.{faulty};
+ghost use Rattle.machine_state.specs.Performing.{AsksNothing};
 ghost use Rattle.prefix_decoder.specs.Operand.{IsRegister};
 ghost use Rattle.channels.specs.Moment.{IsSteady};
 ghost use Rattle.channels.specs.Settling.{here_in};
@@ -87,6 +88,7 @@ impl Machine {
         requires next { here.now.task.registers.at + 1 < 2 ^ 32 }
         requires task { IsSteady here.now.task }
         requires room { IsTrue slice → 0 < self.old.room }
+        requires local { AsksNothing flow }
         ensures { let w = self.old.world in
             let outcome = outcome_of flow registers w.memory in
             settled (here_in (contents_of tables.now) here.now) slice outcome w ≡ answered ran self.new.world }
@@ -97,6 +99,7 @@ impl Machine {
             Flow::Jump { to } => (to, here.task.condition),
             Flow::Land { to } => (to, here.task.condition),
             Flow::Stop => (next, Condition::Stopped),
+            Flow::Receive(_) | Flow::Send(_) => unreachable!(),
         };
         self.traffic.put_at(here, at, registers, condition);
         match flow {
@@ -112,6 +115,7 @@ impl Machine {
                 self.finish_where(next == tables.finish);
                 self.traffic.give_way(here);
             }
+            Flow::Receive(_) | Flow::Send(_) => unreachable!(),
         }
         self.count();
     }
