@@ -109,7 +109,8 @@ impl Machine {
     ) -> Result<(Flow, Registers), Fault>
         requires code { length tables.now.code.now < 2 ^ 32 }
         requires start { data_start + 4 * tables.now.data_words < 2 ^ 32 }
-        ensures performs { let outcome = outcome_at (here_in (contents_of tables.now) here.now) fun operand self.old.world in
+        ensures performs { let m = contents_of tables.now in
+            let outcome = outcome_at (here_in m here.now) fun operand self.old.world in
             PerformsFor here.now self.old self.new result outcome }
         ensures local { IfOk result (λ gone_on. AsksNothing gone_on.0) }
     {
