@@ -45,7 +45,7 @@ abbrev pub scheduled : Registers → Memory → Memory
 scheduled r m = step.without_scheduling_words m r.workspace
 
 -- What a law wants of the steps from these registers and memories: K is kept, and comes to R.
-pub record Wants (s : Site) (r0 : Registers) (m0 n0 : Memory) (K : Registers → Memory → Memory → Type 0)
+pub record Wants (s : Site) (rs : Registers) (m0 n0 : Memory) (K : Registers → Memory → Memory → Type 0)
     (R : Outcome → Outcome → Type 0) : Type 0 where
   pub same_word : (r : Registers) (m n : Memory) (place : ℕ) → K r m n → may_read_word s.holding place ≡ true
       → word_at m place ≡ word_at n place
@@ -67,14 +67,14 @@ pub record Wants (s : Site) (r0 : Registers) (m0 n0 : Memory) (K : Registers →
   pub at_jumps : (to : ℕ) (r : Registers) (m n : Memory) → K r m n → R (jumps to (here r m)) (jumps to (here r n))
   pub at_lands : (to : ℕ) (r : Registers) (m n : Memory) → K r m n → R (lands to (here r m)) (lands to (here r n))
   pub at_stops : (r : Registers) (m n : Memory) → K r m n → R (stops (here r m)) (stops (here r n))
-  pub at_receives : (e : Exchange) → IsAsked s r0 In e
+  pub at_receives : (e : Exchange) → IsAsked s rs In e
       → all_places (may_write s.holding) (place_of e.address) e.length ≡ true
-      → let r = record r0 { stack = of_empty None } in K r (scheduled r m0) (scheduled r n0)
+      → let r = record rs { stack = of_empty None } in K r (scheduled r m0) (scheduled r n0)
       → R (receives e (here r (scheduled r m0))) (receives e (here r (scheduled r n0)))
-  pub at_sends : (e : Exchange) → IsAsked s r0 Out e
+  pub at_sends : (e : Exchange) → IsAsked s rs Out e
       → all_places (may_read s.holding) (place_of e.address) e.length ≡ true
-      → step.are_defined (scheduled r0 m0) e.address e.length ≡ true
-      → let r = record r0 { stack = of_empty None } in K r (scheduled r m0) (scheduled r n0)
+      → step.are_defined (scheduled rs m0) e.address e.length ≡ true
+      → let r = record rs { stack = of_empty None } in K r (scheduled r m0) (scheduled r n0)
       → R (sends e (here r (scheduled r m0))) (sends e (here r (scheduled r n0)))
   pub at_starts : (to workspace : ℕ) (r : Registers) (m n : Memory) → (workspace % 4 == 0) ≡ true → K r m n
       → R (starts to workspace (here r m)) (starts to workspace (here r n))
@@ -125,8 +125,8 @@ defined_alike test m n same place (suc count) own =
     let b = defined_alike test m n same (place + 1) count both.1 in
     rw (a, b)
 
-module _ (s : Site) (r0 : Registers) (m0 n0 : Memory) (K : Registers → Memory → Memory → Type 0)
-    (R : Outcome → Outcome → Type 0) (w : Wants s r0 m0 n0 K R) (start : K r0 m0 n0) where
+module _ (s : Site) (rs : Registers) (m0 n0 : Memory) (K : Registers → Memory → Memory → Type 0)
+    (R : Outcome → Outcome → Type 0) (w : Wants s rs m0 n0 K R) (start : K rs m0 n0) where
   -- ---- the combinators, from registers and two memories on
 
   alone : (o o' : Outcome) → R o o' → R (step.alone s.mode o) (step.alone s.mode o')
@@ -197,32 +197,32 @@ module _ (s : Site) (r0 : Registers) (m0 n0 : Memory) (K : Registers → Memory 
 
   -- an instruction that uses A, A and B, or all three
   one_used : (k k' : ℤ → Outcome) → ((a : ℤ) → R (k a) (k' a))
-      → R (step.uses r0.stack.a k) (step.uses r0.stack.a k')
-  one_used k k' h = uses r0.stack.a k k' h
+      → R (step.uses rs.stack.a k) (step.uses rs.stack.a k')
+  one_used k k' h = uses rs.stack.a k k' h
 
   two_used : (k k' : ℤ → ℤ → Outcome) → ((a b : ℤ) → R (k a b) (k' a b))
-      → R (step.uses r0.stack.a (λ a. step.uses r0.stack.b (λ b. k a b)))
-      (step.uses r0.stack.a (λ a. step.uses r0.stack.b (λ b. k' a b)))
-  two_used k k' h = one_used _ _ (λ a. uses r0.stack.b _ _ (λ b. h a b))
+      → R (step.uses rs.stack.a (λ a. step.uses rs.stack.b (λ b. k a b)))
+      (step.uses rs.stack.a (λ a. step.uses rs.stack.b (λ b. k' a b)))
+  two_used k k' h = one_used _ _ (λ a. uses rs.stack.b _ _ (λ b. h a b))
 
   three_used : (k k' : ℤ → ℤ → ℤ → Outcome) → ((a b c : ℤ) → R (k a b c) (k' a b c))
-      → R (step.uses r0.stack.a (λ a. step.uses r0.stack.b (λ b. step.uses r0.stack.c (λ c. k a b c))))
-      (step.uses r0.stack.a (λ a. step.uses r0.stack.b (λ b. step.uses r0.stack.c (λ c. k' a b c))))
-  three_used k k' h = two_used _ _ (λ a b. uses r0.stack.c _ _ (λ c. h a b c))
+      → R (step.uses rs.stack.a (λ a. step.uses rs.stack.b (λ b. step.uses rs.stack.c (λ c. k a b c))))
+      (step.uses rs.stack.a (λ a. step.uses rs.stack.b (λ b. step.uses rs.stack.c (λ c. k' a b c))))
+  three_used k k' h = two_used _ _ (λ a b. uses rs.stack.c _ _ (λ c. h a b c))
 
   -- ---- the instructions
 
   -- another stack, and memory as it was
   abbrev with_stack : Stack (Option ℤ) → Registers
-  with_stack stack = record r0 { stack = stack }
+  with_stack stack = record rs { stack = stack }
 
   pushes : (stack : Stack (Option ℤ)) → R (step.goes_on s (here (with_stack stack) m0))
       (step.goes_on s (here (with_stack stack) n0))
-  pushes stack = goes_on _ m0 n0 (w.stack r0 m0 n0 stack start)
+  pushes stack = goes_on _ m0 n0 (w.stack rs m0 n0 stack start)
 
-  pushes_on : (m n : Memory) (stack : Stack (Option ℤ)) → K r0 m n
+  pushes_on : (m n : Memory) (stack : Stack (Option ℤ)) → K rs m n
       → R (step.goes_on s (here (with_stack stack) m)) (step.goes_on s (here (with_stack stack) n))
-  pushes_on m n stack kept = goes_on (with_stack stack) m n (w.stack r0 m n stack kept)
+  pushes_on m n stack kept = goes_on (with_stack stack) m n (w.stack rs m n stack kept)
 
   aligned : (v : ℤ) (k k' : ℕ → Outcome) → ((a : ℕ) → (a % 4 == 0) ≡ true → R (k a) (k' a))
       → R (step.aligned v k) (step.aligned v k')
@@ -238,18 +238,18 @@ module _ (s : Site) (r0 : Registers) (m0 n0 : Memory) (K : Registers → Memory 
   Asked direction k k' =
       (e : Exchange) → has_end s.holding (record { address = e.channel; direction = direction }) ≡ true
       → 1 ≤ e.length → e.length ≤ MAX_MESSAGE
-      → K (with_stack (of_empty None)) (scheduled r0 m0) (scheduled r0 n0)
-      → R (k e (here (with_stack (of_empty None)) (scheduled r0 m0)))
-      (k' e (here (with_stack (of_empty None)) (scheduled r0 n0)))
+      → K (with_stack (of_empty None)) (scheduled rs m0) (scheduled rs n0)
+      → R (k e (here (with_stack (of_empty None)) (scheduled rs m0)))
+      (k' e (here (with_stack (of_empty None)) (scheduled rs n0)))
 
   exchanges : (direction : Direction) (k k' : Exchange → Local → Outcome) → Asked direction k k'
-      → R (step.exchanges s direction (here r0 m0) k) (step.exchanges s direction (here r0 n0) k')
+      → R (step.exchanges s direction (here rs m0) k) (step.exchanges s direction (here rs n0) k')
   unfolding step.exchanges
   exchanges direction k k' h =
       three_used _ _ (λ a b c. each.counts R w.at_fault 1 MAX_MESSAGE a _ _ (λ count some most.
       channel b direction _ _ (λ at held.
-      schedules r0 m0 n0 _ _ start (λ kept.
-      h _ held some most (w.stack r0 (scheduled r0 m0) (scheduled r0 n0) (of_empty None) kept)))))
+      schedules rs m0 n0 _ _ start (λ kept.
+      h _ held some most (w.stack rs (scheduled rs m0) (scheduled rs n0) (of_empty None) kept)))))
 
   receives_into : Asked In (step.receives_into s) (step.receives_into s)
   receives_into e held some most kept = test _ NotOwn _ _ (λ own.
@@ -259,10 +259,10 @@ module _ (s : Site) (r0 : Registers) (m0 n0 : Memory) (K : Registers → Memory 
   sends_from : Asked Out (step.sends_from s) (step.sends_from s)
   sends_from e held some most kept = test _ NotOwn _ _ (λ own.
       let both = and_true _ _ own in
-      subst (λ b. R (step.holds (step.are_defined (scheduled r0 m0) e.address e.length) Undefined
-      (sends e (here (with_stack (of_empty None)) (scheduled r0 m0))))
-      (step.holds b Undefined (sends e (here (with_stack (of_empty None)) (scheduled r0 n0)))))
-      (defined_alike (may_read s.holding) (scheduled r0 m0) (scheduled r0 n0)
+      subst (λ b. R (step.holds (step.are_defined (scheduled rs m0) e.address e.length) Undefined
+      (sends e (here (with_stack (of_empty None)) (scheduled rs m0))))
+      (step.holds b Undefined (sends e (here (with_stack (of_empty None)) (scheduled rs n0)))))
+      (defined_alike (may_read s.holding) (scheduled rs m0) (scheduled rs n0)
       (λ place read. w.same_byte _ _ _ place kept read) (place_of e.address) e.length both.0)
       (test _ Undefined _ _ (λ defined.
       w.at_sends e (record { end = held; some = some; most = most; apart = both.1 }) both.0 defined kept)))
@@ -270,59 +270,59 @@ module _ (s : Site) (r0 : Registers) (m0 n0 : Memory) (K : Registers → Memory 
   -- the block of a loop is written
   turned : (block : ℕ) (index count : ℤ) → may_write_word s.holding (place_of block) ≡ true
       → may_write_word s.holding (place_of (local_address block (pos 1))) ≡ true
-      → K r0 (step.turned block index count (here r0 m0)).memory (step.turned block index count (here r0 n0)).memory
+      → K rs (step.turned block index count (here rs m0)).memory (step.turned block index count (here rs n0)).memory
   turned block index count one two = on_more (int_lt (pos 1) count)
     where
       counted : Memory → Memory
       counted m = with_word m (place_of (local_address block (pos 1)))
           (Some (step.word_of ((step.address count + (2 ^ 32 - 1)) % 2 ^ 32)))
 
-      counts_down : K r0 (counted m0) (counted n0)
-      counts_down = w.word r0 m0 n0 _ _ start two
+      counts_down : K rs (counted m0) (counted n0)
+      counts_down = w.word rs m0 n0 _ _ start two
 
       next : Option ℤ
       next = Some (step.word_of ((step.address index + 1) % 2 ^ 32))
 
-      on_more : (b : Bool) → K r0 (cond b (with_word (counted m0) (place_of block) next) (counted m0))
+      on_more : (b : Bool) → K rs (cond b (with_word (counted m0) (place_of block) next) (counted m0))
           (cond b (with_word (counted n0) (place_of block) next) (counted n0))
-      on_more true = w.word r0 (counted m0) (counted n0) (place_of block) next counts_down one
+      on_more true = w.word rs (counted m0) (counted n0) (place_of block) next counts_down one
       on_more false = counts_down
 
-  loop_end : R (step.loop_end_step s (here r0 m0)) (step.loop_end_step s (here r0 n0))
+  loop_end : R (step.loop_end_step s (here rs m0)) (step.loop_end_step s (here rs n0))
   loop_end =
       two_used _ _ (λ a b. aligned b _ _ (λ block even.
       test _ NotOwn _ _ (λ own.
       let both = and_true _ _ own in
-      schedules r0 m0 n0 _ _ start (λ later.
-      uses_word (place_of block) r0 m0 n0 _ _ start both.0 (λ index.
-      uses_word (place_of (local_address block (pos 1))) r0 m0 n0 _ _ start both.1 (λ count.
-      schedules r0 _ _ _ _ (turned block index count both.0 both.1) (λ kept.
-      leads_to _ _ _ _ (w.stack r0 _ _ (of_empty None) kept))))))))
+      schedules rs m0 n0 _ _ start (λ later.
+      uses_word (place_of block) rs m0 n0 _ _ start both.0 (λ index.
+      uses_word (place_of (local_address block (pos 1))) rs m0 n0 _ _ start both.1 (λ count.
+      schedules rs _ _ _ _ (turned block index count both.0 both.1) (λ kept.
+      leads_to _ _ _ _ (w.stack rs _ _ (of_empty None) kept))))))))
 
-  move : R (step.move_step s (here r0 m0)) (step.move_step s (here r0 n0))
+  move : R (step.move_step s (here rs m0)) (step.move_step s (here rs n0))
   move =
       three_used _ _ (λ a b c. each.counts R w.at_fault 0 65536 a _ _ (λ count least most.
       test _ NotOwn _ _ (λ own.
       let both = and_true _ _ (and_true _ _ own).0 in
       pushes_on _ _ (of_empty None)
-      (w.copy r0 m0 n0 (place_of (step.address c)) (place_of (step.address b)) count start both.0 both.1))))
+      (w.copy rs m0 n0 (place_of (step.address c)) (place_of (step.address b)) count start both.0 both.1))))
 
   alternation_end : (selection : Option ℤ) → R (elim selection as (λ o. Outcome) [
     | None ↦ fails AlternationOrder
-    | Some distance ↦ ends_alternation (step.target s.next distance) (here r0 m0)
+    | Some distance ↦ ends_alternation (step.target s.next distance) (here rs m0)
   ]) (elim selection as (λ o. Outcome) [
     | None ↦ fails AlternationOrder
-    | Some distance ↦ ends_alternation (step.target s.next distance) (here r0 n0)
+    | Some distance ↦ ends_alternation (step.target s.next distance) (here rs n0)
   ])
   alternation_end None = w.at_fault AlternationOrder
-  alternation_end (Some distance) = w.at_ends_alternation (step.target s.next distance) r0 m0 n0 start
+  alternation_end (Some distance) = w.at_ends_alternation (step.target s.next distance) rs m0 n0 start
 
-  operation : (op : Op) → R (step.operation_step s op (here r0 m0)) (step.operation_step s op (here r0 n0))
+  operation : (op : Op) → R (step.operation_step s op (here rs m0)) (step.operation_step s op (here rs n0))
   unfolding step.operation_step
   operation ops.Reverse = alone _ _ (pushes _)
   operation ops.MinimumInteger = each.outside_starts R w.at_fault s.mode _ _ (pushes _)
   operation ops.StopProcess =
-      alone _ _ (schedules r0 m0 n0 _ _ start (λ kept. w.at_stops r0 _ _ kept))
+      alone _ _ (schedules rs m0 n0 _ _ start (λ kept. w.at_stops rs _ _ kept))
   operation (ops.Binary op) =
       alone _ _ (two_used _ _ (λ a b. each.computes R w.at_fault _ _ _ (λ v. pushes _)))
   operation (ops.Unary op) = alone _ _ (one_used _ _ (λ a. each.computes R w.at_fault _ _ _ (λ v. pushes _)))
@@ -331,9 +331,9 @@ module _ (s : Site) (r0 : Registers) (m0 n0 : Memory) (K : Registers → Memory 
   operation (ops.Long op) =
       test _ UnknownOperation _ _ (λ has. alone _ _ (three_used _ _ (λ a b c. pushes _)))
   operation ops.LoadByte =
-      alone _ _ (one_used _ _ (λ a. reads_byte _ r0 m0 n0 _ _ start (λ v. pushes _)))
+      alone _ _ (one_used _ _ (λ a. reads_byte _ rs m0 n0 _ _ start (λ v. pushes _)))
   operation ops.StoreByte = alone _ _ (two_used _ _ (λ a b.
-      writes_byte _ _ r0 m0 n0 _ _ start (λ kept. pushes_on _ _ _ kept)))
+      writes_byte _ _ rs m0 n0 _ _ start (λ kept. pushes_on _ _ _ kept)))
   operation ops.ByteSubscript = alone _ _ (two_used _ _ (λ a b. pushes _))
   operation ops.WordSubscript = alone _ _ (two_used _ _ (λ a b. pushes _))
   operation ops.CheckSubscript = alone _ _ (two_used _ _ (λ a b. test _ ErrorFlag _ _ (λ below. pushes _)))
@@ -344,69 +344,69 @@ module _ (s : Site) (r0 : Registers) (m0 n0 : Memory) (K : Registers → Memory 
   operation ops.Output = alone _ _ (exchanges Out (step.sends_from s) (step.sends_from s) sends_from)
   operation ops.StartProcess = each.outside_alternation R w.at_fault s.mode _ _ (two_used _ _ (λ a b.
       aligned a _ _ (λ workspace even.
-      w.at_starts _ workspace _ m0 n0 even (w.stack r0 m0 n0 (of_empty None) start))))
+      w.at_starts _ workspace _ m0 n0 even (w.stack rs m0 n0 (of_empty None) start))))
   operation ops.EndProcess = each.outside_alternation R w.at_fault s.mode _ _ (one_used _ _ (λ a.
-      aligned a _ _ (λ block even. w.at_joins block r0 m0 n0 start)))
-  operation ops.Return = alone _ _ (reads _ r0 m0 n0 _ _ start (λ back. uses back _ _ (λ back.
-      lands_at _ _ m0 n0 (w.stack _ m0 n0 (of_empty None) (w.workspace r0 m0 n0 (pos 4) start)))))
+      aligned a _ _ (λ block even. w.at_joins block rs m0 n0 start)))
+  operation ops.Return = alone _ _ (reads _ rs m0 n0 _ _ start (λ back. uses back _ _ (λ back.
+      lands_at _ _ m0 n0 (w.stack _ m0 n0 (of_empty None) (w.workspace rs m0 n0 (pos 4) start)))))
   operation ops.LoopEnd = alone _ _ loop_end
-  operation ops.Alternate = alone _ _ (schedules r0 m0 n0 _ _ start (λ kept.
-      followed _ _ (w.at_begins r0 _ _ kept)))
+  operation ops.Alternate = alone _ _ (schedules rs m0 n0 _ _ start (λ kept.
+      followed _ _ (w.at_begins rs _ _ kept)))
   operation ops.EnableChannel = each.while_enabling R w.at_fault s.mode _ _ (two_used _ _ (λ a b.
-      channel b In _ _ (λ at held. w.at_enables_channel _ at _ m0 n0 (w.stack r0 m0 n0 _ start) held)))
+      channel b In _ _ (λ at held. w.at_enables_channel _ at _ m0 n0 (w.stack rs m0 n0 _ start) held)))
   operation ops.EnableSkip = each.while_enabling R w.at_fault s.mode _ _ (one_used _ _ (λ a.
-      followed _ _ (w.at_enables_skip _ _ m0 n0 (w.stack r0 m0 n0 _ start))))
-  operation ops.AlternationWait = each.while_enabling R w.at_fault s.mode _ _ (schedules r0 m0 n0 _ _ start (λ kept.
-      writes _ None r0 _ _ _ _ kept (λ more.
-      followed _ _ (w.at_waits _ _ _ (w.stack r0 _ _ (of_empty None) more)))))
+      followed _ _ (w.at_enables_skip _ _ m0 n0 (w.stack rs m0 n0 _ start))))
+  operation ops.AlternationWait = each.while_enabling R w.at_fault s.mode _ _ (schedules rs m0 n0 _ _ start (λ kept.
+      writes _ None rs _ _ _ _ kept (λ more.
+      followed _ _ (w.at_waits _ _ _ (w.stack rs _ _ (of_empty None) more)))))
   operation ops.DisableChannel = each.while_disabling R w.at_fault s.mode _ _ (λ selection.
       three_used _ _ (λ a b c. channel c In _ _ (λ at held.
-      writes _ None r0 m0 n0 _ _ start (λ kept. w.at_disables_channel _ at a r0 _ _ kept held))))
+      writes _ None rs m0 n0 _ _ start (λ kept. w.at_disables_channel _ at a rs _ _ kept held))))
   operation ops.DisableSkip = each.while_disabling R w.at_fault s.mode _ _ (λ selection.
-      two_used _ _ (λ a b. writes _ None r0 m0 n0 _ _ start (λ kept.
-      followed _ _ (w.at_disables_skip _ a r0 _ _ kept))))
+      two_used _ _ (λ a b. writes _ None rs m0 n0 _ _ start (λ kept.
+      followed _ _ (w.at_disables_skip _ a rs _ _ kept))))
   operation ops.AlternationEnd = each.while_disabling R w.at_fault s.mode _ _ alternation_end
 
   instruction : (i : Instruction) (e : ℤ)
-      → R (step.instruction_step s i e (here r0 m0)) (step.instruction_step s i e (here r0 n0))
+      → R (step.instruction_step s i e (here rs m0)) (step.instruction_step s i e (here rs n0))
   unfolding step.instruction_step
   instruction instructions.LoadConstant e = pushes _
   instruction instructions.LoadLocal e =
-      each.outside_starts R w.at_fault s.mode _ _ (reads _ r0 m0 n0 _ _ start (λ v. pushes _))
+      each.outside_starts R w.at_fault s.mode _ _ (reads _ rs m0 n0 _ _ start (λ v. pushes _))
   instruction instructions.StoreLocal e = alone _ _ (one_used _ _ (λ a.
-      writes _ (Some a) r0 m0 n0 _ _ start (λ kept. pushes_on _ _ _ kept)))
+      writes _ (Some a) rs m0 n0 _ _ start (λ kept. pushes_on _ _ _ kept)))
   instruction instructions.LoadLocalPointer e = pushes _
   instruction instructions.LoadNonLocalPointer e =
       each.outside_starts R w.at_fault s.mode _ _ (one_used _ _ (λ a. pushes _))
   instruction instructions.LoadNonLocal e = alone _ _ (one_used _ _ (λ a.
-      aligned a _ _ (λ at even. reads _ r0 m0 n0 _ _ start (λ v. pushes _))))
+      aligned a _ _ (λ at even. reads _ rs m0 n0 _ _ start (λ v. pushes _))))
   instruction instructions.StoreNonLocal e = alone _ _ (two_used _ _ (λ a b.
       aligned a _ _ (λ at even.
-      writes _ (Some b) r0 m0 n0 _ _ start (λ kept. pushes_on _ _ _ kept))))
+      writes _ (Some b) rs m0 n0 _ _ start (λ kept. pushes_on _ _ _ kept))))
   instruction (instructions.WithConstant op) e =
       alone _ _ (one_used _ _ (λ a. each.computes R w.at_fault _ _ _ (λ v. pushes _)))
-  instruction instructions.Jump e = alone _ _ (schedules r0 m0 n0 _ _ start (λ kept.
-      leads_to _ _ _ _ (w.stack r0 _ _ (of_empty None) kept)))
+  instruction instructions.Jump e = alone _ _ (schedules rs m0 n0 _ _ start (λ kept.
+      leads_to _ _ _ _ (w.stack rs _ _ (of_empty None) kept)))
   instruction instructions.ConditionalJump e = alone _ _ (one_used _ _ (λ a.
-      each.by_test R w.at_fault (step.address a == 0) _ _ _ _ (λ zero. lands_at _ r0 m0 n0 start)
+      each.by_test R w.at_fault (step.address a == 0) _ _ _ _ (λ zero. lands_at _ rs m0 n0 start)
       (λ other. pushes _)))
-  instruction instructions.AdjustWorkspace e = alone _ _ (goes_on _ m0 n0 (w.workspace r0 m0 n0 e start))
+  instruction instructions.AdjustWorkspace e = alone _ _ (goes_on _ m0 n0 (w.workspace rs m0 n0 e start))
   instruction instructions.Call e = alone _ _
-      (writes _ _ r0 m0 n0 _ _ start (λ one.
-      writes _ _ r0 _ _ _ _ one (λ two.
-      writes _ _ r0 _ _ _ _ two (λ three.
-      writes _ _ r0 _ _ _ _ three (λ four.
-      lands_at _ _ _ _ (w.stack _ _ _ (of_empty None) (w.workspace r0 _ _ (negsuc 3) four)))))))
+      (writes _ _ rs m0 n0 _ _ start (λ one.
+      writes _ _ rs _ _ _ _ one (λ two.
+      writes _ _ rs _ _ _ _ two (λ three.
+      writes _ _ rs _ _ _ _ three (λ four.
+      lands_at _ _ _ _ (w.stack _ _ _ (of_empty None) (w.workspace rs _ _ (negsuc 3) four)))))))
   instruction (instructions.Operate op) e = operation op
 
   decoded : (executes : Instruction → Bool) (i : Option Instruction) (e : ℤ)
-      → R (step.step_of executes s i e (here r0 m0)) (step.step_of executes s i e (here r0 n0))
+      → R (step.step_of executes s i e (here rs m0)) (step.step_of executes s i e (here rs n0))
   unfolding step.step_of
   decoded executes None e = w.at_fault UnknownOperation
   decoded executes (Some i) e =
       each.passes R w.at_fault (executes i) UnknownOperation _ _ (λ known. instruction i e)
 
   pub each_step : (executes : Instruction → Bool) (f : Fun) (e : ℤ)
-      → R (step.step_by executes s f e (here r0 m0)) (step.step_by executes s f e (here r0 n0))
+      → R (step.step_by executes s f e (here rs m0)) (step.step_by executes s f e (here rs n0))
   unfolding step.step_by
   each_step executes f e = decoded executes (instruction_of f e) e
