@@ -1,8 +1,7 @@
 -- What a token is, apart from where it stands in memory.
-use Rattle.std.specs.Prelude.{ℕ, ℤ, Bool, List, [], ◌∷◌, codes, bytes_eq, unwrap_or, Option, Some}
+use Rattle.std.specs.Prelude.{ℕ, ℤ, Bool, List, [], ◌∷◌, length, filter, ◌==◌, codes, bytes_eq, unwrap_or, Option, Some}
 use Rattle.std.specs.Prelude.{None, if◌then◌else◌}
 use Rattle.std.specs.List.{list_any}
-use Rattle.std.specs.Borrow.{Bor}
 use Rattle.occam_layout.specs.Characters.{decoded}
 use Rattle.occam_layout.specs.declared.text.Text as text
 use Rattle.occam_layout.specs.declared.token.TokenKind.{TokenKind}
@@ -103,11 +102,9 @@ kind_of token.Greater = Sign (codes ">")
 abbrev pub keyword_among : List (List ℕ) → List ℕ → Option Kind
 keyword_among words text = if list_any (bytes_eq text) words then Some (Keyword text) else None
 
+abbrev pub keywords_of_len : ℕ → List (List ℕ)
+keywords_of_len n = filter (λ word. length word == n) keywords
+
 -- the sign that is spelled so, if one is
 abbrev pub sign_of : List ℕ → Option Kind
 sign_of text = if is_sign text then Some (Sign text) else None
-
--- what a table of tokens has under a spelling
-unfoldable pub spelled_in : List (Bor (List ℕ) × TokenKind) → List ℕ → Option TokenKind
-spelled_in [] text = None
-spelled_in (entry ∷ table) text = if bytes_eq text entry.0.now then Some entry.1 else spelled_in table text

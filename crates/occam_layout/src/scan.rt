@@ -11,7 +11,7 @@ ghost use Rattle.occam_layout.specs.Reading.{quoted_at, character_at, string_at,
 use crate::fault::Fault;
 use crate::text::{Text, body_len, digit_value};
 use crate::token::TokenKind;
-use crate::words::{keyword, sign};
+use crate::words::{keyword, pair_sign, single_sign};
 
 /// A token, and how many bytes it takes.
 type Found<'a> = Result<(TokenKind<'a>, usize), Fault>;
@@ -140,14 +140,14 @@ fn sign_at(bytes: &[u8]) -> Found<'static>
     ensures within { IfOk result (λ x. x.1 ≤ length bytes.now) }
 {
     let pair = match bytes {
-        [first, second, ..] => sign(&[*first, *second]),
+        [first, second, ..] => pair_sign(&[*first, *second]),
         _ => None,
     };
     if let Some(kind) = pair {
         return Ok((kind, 2));
     }
     let first = bytes.first().ok_or(Fault::Character)?;
-    let kind = sign(&[*first]).ok_or(Fault::Character)?;
+    let kind = single_sign(*first).ok_or(Fault::Character)?;
     Ok((kind, 1))
 }
 
