@@ -33,10 +33,10 @@ same_test true b p q = sym (p refl)
 same_test false true p q = q refl
 same_test false false p q = refl
 
-covers_tells : (s : Span) (q : ℕ) → covers s q ≡ true → (s.start ≤ q) × (q < s.end)
+pub covers_tells : (s : Span) (q : ℕ) → covers s q ≡ true → (s.start ≤ q) × (q < s.end)
 covers_tells s q h = let both = and_true _ _ h in (leb-true s.start q both.0, ltb-true q s.end both.1)
 
-covers_there : (s : Span) (q : ℕ) → s.start ≤ q → q < s.end → covers s q ≡ true
+pub covers_there : (s : Span) (q : ℕ) → s.start ≤ q → q < s.end → covers s q ≡ true
 covers_there s q a b = both_true _ _ (le-leb s.start q a) (lt-ltb q s.end b)
 
 abbrev pub among : List Span → ℕ → Bool

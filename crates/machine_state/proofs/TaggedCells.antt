@@ -55,6 +55,8 @@ tagged_cells-clear (a ∷ bytes) (t ∷ tags) zero same = refl
 tagged_cells-clear (a ∷ bytes) (t ∷ tags) (suc p) same = ap (◌∷◌ (cond t (Some a) None))
     (tagged_cells-clear bytes tags p (omega arith))
 
+pub ruleset length_of_cells = (length-tagged_cells)
+
 pub ruleset byte_reads = (tagged_cells-at, tagged_cells_past)
 
 pub ruleset byte_writes = (tagged_cells-set, tagged_cells-clear, tagged_cells-set_past)

@@ -5,15 +5,20 @@ pub mod Faults
 pub mod Instructions
 pub mod Site
 pub mod Spans
+pub mod Covering
+pub mod Stretches
 pub mod LocalStep
 pub mod Moves
 pub mod Turn
 pub mod Exchanges
 pub mod Alternations
 pub mod Joins
+pub mod Roles
+pub mod Progressing
 pub mod Happens
 pub mod Views
 pub mod Tagged
+pub mod Asking
 pub mod Performing
 pub mod MemoryLaws
 pub mod SmallModules
@@ -24,3 +29,6 @@ pub mod Writing
 pub mod SpanLaws
 pub mod Seeing
 pub mod Waiting
+pub mod ChannelLaws
+pub mod ApartLaws
+pub mod EnabledLaws

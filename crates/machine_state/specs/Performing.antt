@@ -1,16 +1,17 @@
 -- What one call for one instruction of the running process did, against the outcome of the definitions.
-use Rattle.std.specs.Prelude.{◌≡◌, ⊤, ℕ, ◌+◌, ℤ, Bool, Option, Some, None, Result, Ok, Err, if◌then◌else◌}
+use Rattle.std.specs.Prelude.{◌≡◌, ⊤, ◌+◌, ℤ, Bool, Result, Ok, Err, if◌then◌else◌}
 use Rattle.machine_state.specs.declared.cpu.Cpu.{Cpu}
 use Rattle.machine_state.specs.declared.cpu.Flow.{Flow}
-use Rattle.machine_state.specs.declared.cpu.Flow.TheVariants.{Next, Jump, Land, Stop, Receive, Send}
-use Rattle.machine_state.specs.declared.fault.Fault.{Fault}
+use Rattle.machine_state.specs.declared.cpu.Flow.TheVariants.{Next, Jump, Land, Stop, Ask}
+use Rattle.machine_state.specs.declared.request.Request.{Request}
+use Rattle.machine_state.specs.declared.request.Request.TheVariants.{Start, Join}
 use Rattle.machine_state.specs.declared.fault.FaultKind.{FaultKind}
-use Rattle.machine_state.specs.Faults.{fault_in}
 use Rattle.machine_state.specs.declared.store.Store.{Ghosts}
-use Rattle.machine_state.specs.Site.{Site, Local, Outcome, goes, jumps, lands, stops, fails, receives, sends}
+use Rattle.machine_state.specs.Site.{Site, Local, Outcome, goes, jumps, lands, stops, fails}
 use Rattle.machine_state.specs.Instructions.{op_has_body}
 use Rattle.machine_state.specs.LocalStep.{local_step, instruction_step, operation_step, exchanges}
 use Rattle.machine_state.specs.LocalStep.{schedules, without_registers}
+use Rattle.machine_state.specs.Asking.{asked, local_for, IsGrantable}
 use Rattle.module_format.specs.declared.rows.Direction.{Direction}
 use Rattle.machine_state.specs.declared.process.Exchange.{Exchange}
 use Rattle.machine_state.specs.declared.fault.FaultKind.TheVariants.{UnknownOperation}
@@ -36,62 +37,55 @@ site_of ghosts cpu = record {
   has_long_operations = cpu.has_long_operations;
 }
 
--- a fault in the present instruction
-abbrev pub fault_of : {S : Type 0} → Cpu S → FaultKind → Fault
-fault_of cpu kind = fault_in cpu.process cpu.registers.began kind
-
 -- the value where a test holds, else this fault
-abbrev pub value_or_fault : {S V : Type 0} → Cpu S → Bool → V → FaultKind → Result V Fault
-value_or_fault cpu holds value kind = if holds then Ok value else Err (fault_of cpu kind)
-
--- the fault that the outcome of an instruction of a process is, which began at a code offset
-abbrev pub reported : ℕ → ℕ → Outcome → Option Fault
-reported process began (fails kind) = Some (fault_in process began kind)
-reported process began _ = None
-
--- the same of the present instruction
-abbrev pub faulted : {S : Type 0} → Cpu S → Outcome → Option Fault
-faulted cpu outcome = reported cpu.process cpu.registers.began outcome
+abbrev pub value_or_fault : {V : Type 0} → Bool → V → FaultKind → Result V FaultKind
+value_or_fault holds value kind = if holds then Ok value else Err kind
 
 -- A test before an instruction: it passes, or the instruction is at fault whatever comes after the test.
-abbrev pub Admits : {S : Type 0} → Cpu S → Result (Unit {0}) Fault → (Outcome → Outcome) → Type 0
-Admits cpu (Ok passed) test = (after : Outcome) → test after ≡ after
-Admits cpu (Err fault) test = (after : Outcome) → faulted cpu (test after) ≡ Some fault
+abbrev pub Admits : Result (Unit {0}) FaultKind → (Outcome → Outcome) → Type 0
+Admits (Ok passed) test = (after : Outcome) → test after ≡ after
+Admits (Err kind) test = (after : Outcome) → test after ≡ fails kind
 
 -- What a combinator finds: whatever comes after it comes of this, or the instruction is at fault.
-abbrev pub Finds : {S X : Type 0} → Cpu S → Result X Fault → ((X → Outcome) → Outcome) → Type 0
-Finds {X = X} cpu (Ok x) find = (after : X → Outcome) → find after ≡ after x
-Finds {X = X} cpu (Err fault) find = (after : X → Outcome) → faulted cpu (find after) ≡ Some fault
+abbrev pub Finds : {X : Type 0} → Result X FaultKind → ((X → Outcome) → Outcome) → Type 0
+Finds {X = X} (Ok x) find = (after : X → Outcome) → find after ≡ after x
+Finds {X = X} (Err kind) find = (after : X → Outcome) → find after ≡ fails kind
 
 -- The message that an instruction asks for: whatever comes of it comes of this one, once the process can be scheduled,
 -- or the instruction is at fault.
-abbrev pub AsksFor : {S : Type 0} → Ghosts S → Cpu S → Direction → Result Exchange Fault → Type 0
+abbrev pub AsksFor : {S : Type 0} → Ghosts S → Cpu S → Direction → Result Exchange FaultKind → Type 0
 AsksFor ghosts cpu direction (Ok e) = (k : Exchange → Local → Outcome) →
     exchanges (site_of ghosts cpu) direction (local_of ghosts cpu) k
     ≡ schedules (site_of ghosts cpu) (local_of ghosts cpu) (λ l. k e (without_registers l))
-AsksFor ghosts cpu direction (Err fault) = (k : Exchange → Local → Outcome) →
-    faulted cpu (exchanges (site_of ghosts cpu) direction (local_of ghosts cpu) k) ≡ Some fault
+AsksFor ghosts cpu direction (Err kind) = (k : Exchange → Local → Outcome) →
+    exchanges (site_of ghosts cpu) direction (local_of ghosts cpu) k ≡ fails kind
+
+-- This is asked of others, and can be granted. Of what it may change the instruction has changed the registers alone:
+-- whoever grants it takes the words.
+pub record Asks {S : Type 0} (ghosts : Ghosts S) (before after : Cpu S) (request : Request)
+    (outcome : Outcome) : Type 0 where
+  pub asks : outcome ≡ asked request (local_for request after.registers (ghosts.cells before.store))
+  pub memory : ghosts.cells after.store ≡ ghosts.cells before.store
+  pub grantable : IsGrantable request (site_of ghosts before) after.registers (ghosts.cells before.store)
 
 -- by the answer: where the process goes on, that it stops, or what it asks of others; a fault changes nothing
-abbrev pub HasOutcome : {S : Type 0} → Ghosts S → Cpu S → Cpu S → Result Flow Fault → Outcome → Type 0
+abbrev pub HasOutcome : {S : Type 0} → Ghosts S → Cpu S → Cpu S → Result Flow FaultKind → Outcome → Type 0
 HasOutcome ghosts before after (Ok Next) outcome = outcome ≡ goes (local_of ghosts after)
 HasOutcome ghosts before after (Ok (Jump to)) outcome = outcome ≡ jumps to (local_of ghosts after)
 HasOutcome ghosts before after (Ok (Land to)) outcome = outcome ≡ lands to (local_of ghosts after)
 HasOutcome ghosts before after (Ok Stop) outcome = outcome ≡ stops (local_of ghosts after)
-HasOutcome ghosts before after (Ok (Receive e)) outcome = outcome ≡ receives e (local_of ghosts after)
-HasOutcome ghosts before after (Ok (Send e)) outcome = outcome ≡ sends e (local_of ghosts after)
-HasOutcome ghosts before after (Err fault) outcome =
-    (faulted before outcome ≡ Some fault) × (local_of ghosts after ≡ local_of ghosts before)
+HasOutcome ghosts before after (Ok (Ask request)) outcome = Asks ghosts before after request outcome
+HasOutcome ghosts before after (Err kind) outcome =
+    (outcome ≡ fails kind) × (local_of ghosts after ≡ local_of ghosts before)
 
--- nothing is asked of others
-abbrev pub AsksNothing : Flow → Type 0
-AsksNothing (Receive e) = ⊥
-AsksNothing (Send e) = ⊥
-AsksNothing _ = ⊤
+-- no process is asked to start, nor to end in its join
+abbrev pub StartsNothing : Flow → Type 0
+StartsNothing (Ask (Start to workspace)) = ⊥
+StartsNothing (Ask (Join block)) = ⊥
+StartsNothing _ = ⊤
 
 -- all but the registers and the memory stays
 pub record IsSameElsewhere {S : Type 0} (ghosts : Ghosts S) (before after : Cpu S) : Type 0 where
-  pub process : after.process ≡ before.process
   pub mode : after.mode ≡ before.mode
   pub code_start : after.code_start ≡ before.code_start
   pub code_length : after.code_length ≡ before.code_length
@@ -101,28 +95,28 @@ pub record IsSameElsewhere {S : Type 0} (ghosts : Ghosts S) (before after : Cpu 
 
 -- the call has this outcome, and changes nothing but the registers and the memory
 pub record Performs {S : Type 0} (ghosts : Ghosts S) (outcome : Outcome) (before after : Cpu S)
-    (result : Result Flow Fault) : Type 0 where
+    (result : Result Flow FaultKind) : Type 0 where
   pub performed : HasOutcome ghosts before after result outcome
   pub elsewhere : IsSameElsewhere ghosts before after
 
 -- of an operation, of one if the machine executes it, of an instruction with its operand, and of a function with its
 -- operand
-abbrev pub PerformsOperation : {S : Type 0} → Ghosts S → Op → Cpu S → Cpu S → Result Flow Fault → Type 0
+abbrev pub PerformsOperation : {S : Type 0} → Ghosts S → Op → Cpu S → Cpu S → Result Flow FaultKind → Type 0
 PerformsOperation ghosts op before after result =
     Performs ghosts (operation_step (site_of ghosts before) op (local_of ghosts before)) before after result
 
-abbrev pub PerformsExecuted : {S : Type 0} → Ghosts S → Op → Cpu S → Cpu S → Result Flow Fault → Type 0
+abbrev pub PerformsExecuted : {S : Type 0} → Ghosts S → Op → Cpu S → Cpu S → Result Flow FaultKind → Type 0
 PerformsExecuted ghosts op before after result =
     let step = operation_step (site_of ghosts before) op (local_of ghosts before) in
     Performs ghosts (if op_has_body op then step else fails UnknownOperation) before after result
 
-abbrev pub PerformsInstruction : {S : Type 0} → Ghosts S → Instruction → ℤ → Cpu S → Cpu S → Result Flow Fault
+abbrev pub PerformsInstruction : {S : Type 0} → Ghosts S → Instruction → ℤ → Cpu S → Cpu S → Result Flow FaultKind
     → Type 0
 PerformsInstruction ghosts instruction operand before after result =
     let step = instruction_step (site_of ghosts before) instruction operand (local_of ghosts before) in
     Performs ghosts step before after result
 
-abbrev pub PerformsFunction : {S : Type 0} → Ghosts S → Fun → ℤ → Cpu S → Cpu S → Result Flow Fault → Type 0
+abbrev pub PerformsFunction : {S : Type 0} → Ghosts S → Fun → ℤ → Cpu S → Cpu S → Result Flow FaultKind → Type 0
 PerformsFunction ghosts f operand before after result =
     let step = local_step (site_of ghosts before) f operand (local_of ghosts before) in
     Performs ghosts step before after result

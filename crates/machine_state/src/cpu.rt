@@ -5,24 +5,24 @@ ghost use Rattle.std.specs.Prelude.{IfOk, IsTrue, false};
 ghost use Rattle.std.specs.Option.{ok_or};
 ghost use Rattle.std.specs.Int.{w32, cast_unsigned};
 ghost use Rattle.machine_state.specs.Holding.{may_write, may_read, may_write_word, may_read_word};
-ghost use Rattle.machine_state.specs.LocalStep.{outside_alternation, outside_starts, alone, target, channel};
+ghost use Rattle.machine_state.specs.LocalStep.{outside_alternation, outside_starts, alone, while_enabling};
+ghost use Rattle.machine_state.specs.LocalStep.{while_disabling, target, channel};
 ghost use Rattle.machine_state.specs.LocalStep.{holds_scheduling_words, without_scheduling_words};
 ghost use Rattle.machine_state.specs.LocalStep.{may_read_bytes, may_write_bytes, are_defined, meet, is_beside_scheduling};
 ghost use Rattle.machine_state.specs.Memory.{place_of, local_address, word_at, byte_at};
-ghost use Rattle.machine_state.specs.Performing.{site_of, fault_of, value_or_fault, Admits, Finds};
+ghost use Rattle.machine_state.specs.Performing.{site_of, value_or_fault, Admits, Finds};
 
 use crate::address::{local_address, place_of};
-use crate::fault::{Fault, FaultKind};
+use crate::fault::FaultKind;
 use crate::holding::End;
-use crate::process::{Exchange, Mode, Registers, Word};
+use crate::process::{Mode, Registers, Word};
+use crate::request::Request;
 use crate::store::Store;
 use certificate::Direction;
 
 /// The running process over a store.
 #[derive(Drop)]
 pub struct Cpu<S> {
-    /// The number of the process.
-    pub process: u64,
     pub registers: Registers,
     pub mode: Mode,
     /// The address of the first byte of the code.
@@ -43,7 +43,7 @@ fn meet(one: u32, size: u32, other: u32, other_size: u32) -> bool
     one < other + u64::from(other_size) && other < one + u64::from(size)
 }
 
-/// How a process goes on after an instruction, or what it asks of others. Later instructions add kinds.
+/// How a process goes on after an instruction, or what it asks of others.
 #[derive(Clone, Copy, Debug, PartialEq, Eq)]
 pub enum Flow {
     /// After the instruction.
@@ -54,32 +54,23 @@ pub enum Flow {
     Land { to: u32 },
     /// It stops for good.
     Stop,
-    /// It wants to receive a message.
-    Receive(Exchange),
-    /// It wants to send a message.
-    Send(Exchange),
+    /// It asks this of others, and goes on as whoever grants it says.
+    Ask(Request),
 }
 
 impl<S> Cpu<S> {
-    /// A fault in the present instruction.
-    pub fn fault(&self, kind: FaultKind) -> Fault
-        ensures { result ≡ fault_of self.now kind }
-    {
-        Fault::new(kind, self.process, self.registers.began)
-    }
-
     /// The value of a register that an instruction uses: it is defined, else `Undefined`.
-    pub fn used(&self, register: Word) -> Result<i32, Fault>
-        ensures { result ≡ ok_or register (fault_of self.now FaultKind.Undefined) }
+    pub fn used(&self, register: Word) -> Result<i32, FaultKind>
+        ensures { result ≡ ok_or register FaultKind.Undefined }
     {
-        register.ok_or(self.fault(FaultKind::Undefined))
+        register.ok_or(FaultKind::Undefined)
     }
 
     /// The result of an operation: there is one, else `ErrorFlag`.
-    pub fn computed(&self, value: Option<i32>) -> Result<i32, Fault>
-        ensures { result ≡ ok_or value (fault_of self.now FaultKind.ErrorFlag) }
+    pub fn computed(&self, value: Option<i32>) -> Result<i32, FaultKind>
+        ensures { result ≡ ok_or value FaultKind.ErrorFlag }
     {
-        value.ok_or(self.fault(FaultKind::ErrorFlag))
+        value.ok_or(FaultKind::ErrorFlag)
     }
 
     /// The code offset after the present instruction, whose last byte is at `at`.
@@ -90,16 +81,16 @@ impl<S> Cpu<S> {
     }
 
     /// Passes where a test holds, else this fault.
-    pub fn check(&self, holds: bool, kind: FaultKind) -> Result<(), Fault>
-        ensures { result ≡ value_or_fault self.now holds tt kind }
+    pub fn check(&self, holds: bool, kind: FaultKind) -> Result<(), FaultKind>
+        ensures { result ≡ value_or_fault holds tt kind }
     {
-        if holds { Ok(()) } else { Err(self.fault(kind)) }
+        if holds { Ok(()) } else { Err(kind) }
     }
 
     /// The address of a word that a register holds: it is a multiple of 4, else `Unaligned`.
-    pub fn aligned(&self, value: i32) -> Result<u32, Fault>
+    pub fn aligned(&self, value: i32) -> Result<u32, FaultKind>
         ensures { let at = cast_unsigned w32 value in
-            result ≡ value_or_fault self.now (at % 4 == 0) at FaultKind.Unaligned }
+            result ≡ value_or_fault (at % 4 == 0) at FaultKind.Unaligned }
     {
         let address = value.cast_unsigned();
         self.check(address % 4 == 0, FaultKind::Unaligned)?;
@@ -107,9 +98,9 @@ impl<S> Cpu<S> {
     }
 
     /// A count from the least to the most, else `CountRange`.
-    pub fn count(&self, least: u32, most: u32, value: i32) -> Result<u32, Fault>
+    pub fn count(&self, least: u32, most: u32, value: i32) -> Result<u32, FaultKind>
         ensures value { let holds = int_le (pos least) value && int_le value (pos most) in
-            result ≡ value_or_fault self.now holds (nat_abs value) FaultKind.CountRange }
+            result ≡ value_or_fault holds (nat_abs value) FaultKind.CountRange }
         ensures bounds { IfOk result (λ n. (least ≤ n) × (n ≤ most)) }
     {
         let number = i64::from(value);
@@ -119,42 +110,64 @@ impl<S> Cpu<S> {
     }
 
     /// Passes where the offset lies in the code, else `OutsideCode`.
-    pub fn in_code(&self, offset: u64) -> Result<(), Fault>
-        ensures { result ≡ value_or_fault self.now (nat_lt offset self.now.code_length) tt FaultKind.OutsideCode }
+    pub fn in_code(&self, offset: u64) -> Result<(), FaultKind>
+        ensures { result ≡ value_or_fault (nat_lt offset self.now.code_length) tt FaultKind.OutsideCode }
     {
         self.check(offset < u64::from(self.code_length), FaultKind::OutsideCode)
     }
 
     /// Passes outside alternations, else `AlternationOrder`.
     #[tactic(auto, unfolding(crate::specs::LocalStep::outside_alternation))]
-    pub fn outside_alternation(&self) -> Result<(), Fault>
-        ensures { Admits self.now result (outside_alternation self.now.mode) }
+    pub fn outside_alternation(&self) -> Result<(), FaultKind>
+        ensures { Admits result (outside_alternation self.now.mode) }
     {
         match self.mode {
             Mode::Plain | Mode::Starting => Ok(()),
-            Mode::Enabling { .. } | Mode::Disabling { .. } => Err(self.fault(
-                FaultKind::AlternationOrder,
-            )),
+            Mode::Enabling { .. } | Mode::Disabling { .. } => Err(FaultKind::AlternationOrder),
         }
     }
 
     /// Passes outside the starts of a PAR, else `JoinOrder`.
     #[tactic(auto, unfolding(crate::specs::LocalStep::outside_starts))]
-    pub fn outside_starts(&self) -> Result<(), Fault>
-        ensures { Admits self.now result (outside_starts self.now.mode) }
+    pub fn outside_starts(&self) -> Result<(), FaultKind>
+        ensures { Admits result (outside_starts self.now.mode) }
     {
         match self.mode {
             Mode::Plain | Mode::Enabling { .. } | Mode::Disabling { .. } => Ok(()),
-            Mode::Starting => Err(self.fault(FaultKind::JoinOrder)),
+            Mode::Starting => Err(FaultKind::JoinOrder),
         }
     }
 
     /// Passes outside alternations and the starts of a PAR, else `AlternationOrder` or `JoinOrder`.
-    pub fn alone(&self) -> Result<(), Fault>
-        ensures { Admits self.now result (alone self.now.mode) }
+    pub fn alone(&self) -> Result<(), FaultKind>
+        ensures { Admits result (alone self.now.mode) }
     {
         self.outside_alternation()?;
         self.outside_starts()
+    }
+
+    /// Passes between `alt` and `altwt`, else `AlternationOrder` or `JoinOrder`.
+    #[tactic(auto, unfolding(crate::specs::LocalStep::while_enabling))]
+    pub fn while_enabling(&self) -> Result<(), FaultKind>
+        ensures { Admits result (while_enabling self.now.mode) }
+    {
+        match self.mode {
+            Mode::Enabling { .. } => Ok(()),
+            Mode::Plain | Mode::Disabling { .. } => Err(FaultKind::AlternationOrder),
+            Mode::Starting => Err(FaultKind::JoinOrder),
+        }
+    }
+
+    /// What is selected between `altwt` and `altend`; elsewhere `AlternationOrder` or `JoinOrder`.
+    #[tactic(auto, unfolding(crate::specs::LocalStep::while_disabling))]
+    pub fn while_disabling(&self) -> Result<Word, FaultKind>
+        ensures { Finds result (while_disabling self.now.mode) }
+    {
+        match self.mode {
+            Mode::Disabling { selection } => Ok(selection),
+            Mode::Plain | Mode::Enabling { .. } => Err(FaultKind::AlternationOrder),
+            Mode::Starting => Err(FaultKind::JoinOrder),
+        }
     }
 
     /// Whether so many bytes at an address are apart from the three words that scheduling takes.
@@ -207,10 +220,10 @@ impl<S> Cpu<S> {
 
 impl<S: Store> Cpu<S> {
     /// The word at an address that may be read, else `NotOwn`.
-    pub fn read(&self, address: u32) -> Result<Word, Fault>
+    pub fn read(&self, address: u32) -> Result<Word, FaultKind>
         ensures { let place = place_of address in
             let can_load = may_read_word (S.holding self.now.store) place in
-            result ≡ value_or_fault self.now can_load (word_at (S.cells self.now.store) place) FaultKind.NotOwn }
+            result ≡ value_or_fault can_load (word_at (S.cells self.now.store) place) FaultKind.NotOwn }
     {
         self.check(self.store.can_load_word(address), FaultKind::NotOwn)?;
         Ok(self.store.load_word(address))
@@ -219,8 +232,8 @@ impl<S: Store> Cpu<S> {
     /// The address of a channel of which the process holds this end: it is a multiple of 4, else `Unaligned`, and the
     /// end is held, else `EndNotHeld`.
     #[tactic(auto, unfolding(crate::specs::LocalStep::channel, crate::specs::LocalStep::aligned, crate::specs::LocalStep::holds))]
-    pub fn channel(&self, value: i32, direction: Direction) -> Result<u32, Fault>
-        ensures { Finds self.now result (channel (site_of S.Store self.now) value direction) }
+    pub fn channel(&self, value: i32, direction: Direction) -> Result<u32, FaultKind>
+        ensures { Finds result (channel (site_of S.Store self.now) value direction) }
     {
         let address = self.aligned(value)?;
         self.check(
@@ -231,19 +244,19 @@ impl<S: Store> Cpu<S> {
     }
 
     /// The byte at an address that may be read, else `NotOwn`.
-    pub fn read_byte(&self, address: u32) -> Result<Option<u8>, Fault>
+    pub fn read_byte(&self, address: u32) -> Result<Option<u8>, FaultKind>
         ensures { let place = place_of address in
             let can_load = may_read (S.holding self.now.store) place in
-            result ≡ value_or_fault self.now can_load (byte_at (S.cells self.now.store) place) FaultKind.NotOwn }
+            result ≡ value_or_fault can_load (byte_at (S.cells self.now.store) place) FaultKind.NotOwn }
     {
         self.check(self.store.can_load_byte(address), FaultKind::NotOwn)?;
         Ok(self.store.load_byte(address))
     }
 
     /// Passes where the byte at an address may be written, else `NotOwn`.
-    pub fn writable_byte(&self, address: u32) -> Result<(), Fault>
+    pub fn writable_byte(&self, address: u32) -> Result<(), FaultKind>
         ensures { let can_store = may_write (S.holding self.now.store) (place_of address) in
-            result ≡ value_or_fault self.now can_store tt FaultKind.NotOwn }
+            result ≡ value_or_fault can_store tt FaultKind.NotOwn }
     {
         self.check(self.store.can_store_byte(address), FaultKind::NotOwn)
     }
@@ -271,27 +284,27 @@ impl<S: Store> Cpu<S> {
     }
 
     /// The value of the word at an address that may be written: it is defined, else `Undefined`.
-    pub fn own_word(&self, address: u32) -> Result<i32, Fault>
+    pub fn own_word(&self, address: u32) -> Result<i32, FaultKind>
         requires { IsTrue (may_write_word (S.holding self.now.store) (place_of address)) }
         ensures { let word = word_at (S.cells self.now.store) (place_of address) in
-            result ≡ ok_or word (fault_of self.now FaultKind.Undefined) }
+            result ≡ ok_or word FaultKind.Undefined }
     {
         self.used(self.store.load_word(address))
     }
 
     /// Passes where the word at an address may be written, else `NotOwn`.
-    pub fn writable(&self, address: u32) -> Result<(), Fault>
+    pub fn writable(&self, address: u32) -> Result<(), FaultKind>
         ensures { let can_store = may_write_word (S.holding self.now.store) (place_of address) in
-            result ≡ value_or_fault self.now can_store tt FaultKind.NotOwn }
+            result ≡ value_or_fault can_store tt FaultKind.NotOwn }
     {
         self.check(self.store.can_store_word(address), FaultKind::NotOwn)
     }
 
     /// Passes where the process may write the three words below its workspace, which scheduling takes, else
     /// `NotOwn`.
-    pub fn schedulable(&self) -> Result<(), Fault>
+    pub fn schedulable(&self) -> Result<(), FaultKind>
         ensures { let holds = holds_scheduling_words (S.holding self.now.store) self.now.registers.workspace in
-            result ≡ value_or_fault self.now holds tt FaultKind.NotOwn }
+            result ≡ value_or_fault holds tt FaultKind.NotOwn }
     {
         let workspace = self.registers.workspace;
         self.writable(local_address(workspace, -1))?;

@@ -7,7 +7,11 @@ ghost use Rattle.machine_state.specs.Frame.{StepsChangeOwn};
 ghost use Rattle.machine_state.specs.EventLaws.{EventsCountBytes, FaultsAreKept, FaultsStay};
 ghost use Rattle.machine_state.specs.Writing.{StepsWriteOwn, ArrivalsWriteOne, AcknowledgementsWriteNothing};
 ghost use Rattle.machine_state.specs.Seeing.{StepsSeeWhatTheyRead};
-ghost use Rattle.machine_state.specs.Waiting.{LinesAreReady, LinksHaveTheirWaiters, ArrivalsFillBuffers, BranchesAreCounted};
+ghost use Rattle.machine_state.specs.Waiting.{LinesAreReady, LinksHaveTheirWaiters, ArrivalsFillBuffers};
+ghost use Rattle.machine_state.specs.Waiting.{BranchesAreCounted};
+ghost use Rattle.machine_state.specs.ChannelLaws.{ChannelsHaveTheirWaiters, WhoWaitsIsRecorded};
+ghost use Rattle.machine_state.specs.EnabledLaws.{WhoEnabledAlternates, WhoMayWaitHasNothingReady};
+ghost use Rattle.machine_state.specs.ApartLaws.{HoldingsStayApart};
 ghost use Rattle.machine_state.specs.SpanLaws.{RunsCoverTheTest};
 ghost use Rattle.machine_state.specs.SmallModules.{FirstEnds, JumpEnds, SlicedJumpEnds, CallEnds, LoopEnds};
 ghost use Rattle.machine_state.specs.SmallModules.{PairEnds, PairFaults, EchoWaits, ChannelEnds, ChoiceWaits};
@@ -69,6 +73,23 @@ pub fn waiting_is_in_order()
     ensures lines { LinesAreReady }
     ensures links { LinksHaveTheirWaiters }
     ensures branches { BranchesAreCounted }
+{}
+
+/// Whoever an internal channel says to wait there does wait there. In all that a module that keeps the format does, a
+/// process that waits on an internal channel is recorded there and at no other channel, and holds that end of it.
+/// Whoever has enabled a channel or a link enables, waits or disables; while it waits, or enables and is not ready,
+/// nothing that it has enabled has a sender or a byte.
+pub fn channels_are_in_order()
+    ensures waiters { ChannelsHaveTheirWaiters }
+    ensures recorded { WhoWaitsIsRecorded }
+    ensures enabled { WhoEnabledAlternates }
+    ensures quiet { WhoMayWaitHasNothingReady }
+{}
+
+/// Whatever a module that keeps the format does, no two processes hold the same, and nobody holds the blocks of open
+/// joins or the words of channels, no two of which have a byte in common.
+pub fn holdings_stay_apart()
+    ensures { HoldingsStayApart }
 {}
 
 /// Spans in normal form cover the places that pass the test.

@@ -13,7 +13,9 @@ mod link;
 mod loading;
 mod op;
 mod process;
+mod request;
 mod role;
+mod spans;
 mod store;
 mod tagged;
 
@@ -34,6 +36,9 @@ pub use laws::{
 pub use link::{InputLink, Link, OutputLink};
 pub use op::{LongOp, Op, Shift};
 pub use process::{Channel, Condition, Exchange, Mode, Registers, Task, Word};
+pub use request::Request;
 pub use role::{Join, Role};
+pub use spans::{Stretch, all_lie_in, places_within, without};
 pub use store::Store;
 pub use tagged::TaggedStore;
+pub use tagged::joining::Progress;

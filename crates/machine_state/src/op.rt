@@ -173,17 +173,7 @@ impl Op {
         ensures { result ≡ op_has_body self }
     {
         match self {
-            Op::Input
-            | Op::Output
-            | Op::StartProcess
-            | Op::EndProcess
-            | Op::Alternate
-            | Op::EnableChannel
-            | Op::EnableSkip
-            | Op::AlternationWait
-            | Op::DisableChannel
-            | Op::DisableSkip
-            | Op::AlternationEnd => false,
+            Op::StartProcess | Op::EndProcess => false,
             _ => true,
         }
     }

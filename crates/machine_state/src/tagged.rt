@@ -2,6 +2,8 @@
 
 ghost use Rattle.std.specs.Prelude.{◌≡◌, ◌+◌, ◌*◌, ◌<◌, ◌^◌, [], ◌∷◌, length, MatchOption, IfOk};
 
+pub(crate) mod joining;
+
 use crate::address::place_of;
 use crate::holding::{End, Holding};
 use crate::process::Word;
@@ -23,7 +25,7 @@ pub struct TaggedStore {
 }
 
 impl Model for TaggedStore {
-    ghost use Rattle.std.specs.Prelude.{◌≡◌, map, vec_len};
+    ghost use Rattle.std.specs.Prelude.{◌≡◌, ◌<◌, ◌^◌, map, vec_len};
     ghost use Rattle.machine_state.specs.Views.{role_view};
     ghost use Rattle.machine_state.specs.Tagged.{Tagged, tagged_cells};
 
@@ -35,7 +37,7 @@ impl Model for TaggedStore {
       holder = s.holder;
     } };
 
-    ghost invariant = { λ s. vec_len s.tags ≡ vec_len s.bytes };
+    ghost invariant = { λ s. (vec_len s.tags ≡ vec_len s.bytes) × (vec_len s.bytes < 2 ^ 32) };
 }
 
 impl TaggedStore {

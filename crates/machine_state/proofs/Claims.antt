@@ -1,0 +1,53 @@
+-- What a holding claims: places to write, places to read, and ends. Two claims clash if two holders may not have them.
+use Rattle.std.proofs.Common.{◌≡◌, ℕ, ◌≤◌, Bool, true, false, Option, Some, refl, sym, ◌∙◌}
+use Rattle.machine_state.specs.declared.holding.End.{End}
+use Rattle.machine_state.specs.Holding.{Holding, nothing, may_write, may_read, has_end, IsApart}
+use Rattle.machine_state.proofs.SpanLaws.{or_left}
+
+pub data Claim : Type 0 where
+  to_write : ℕ → Claim
+  to_read : ℕ → Claim
+  to_use : End → Claim
+
+abbrev pub claims : Holding → Claim → Bool
+claims h (to_write x) = may_write h x
+claims h (to_read x) = may_read h x
+claims h (to_use e) = has_end h e
+
+abbrev pub clash : Claim → Claim
+clash (to_write x) = to_read x
+clash (to_read x) = to_write x
+clash (to_use e) = to_use e
+
+abbrev pub Apart : Holding → Holding → Type 0
+Apart g h = (c : Claim) → claims g c ≡ true → claims h (clash c) ≡ true → ⊥
+
+pub is_apart : (g h : Holding) → Apart g h → IsApart g h
+is_apart g h a = record { written = λ x. a (to_write x); read = λ x. a (to_read x); ends = λ e. a (to_use e) }
+
+-- what clashes with what clashes with a claim is that claim
+pub twice : (h : Holding) (c : Claim) → claims h c ≡ true → claims h (clash (clash c)) ≡ true
+twice h (to_write x) claimed = claimed
+twice h (to_read x) claimed = claimed
+twice h (to_use e) claimed = claimed
+
+pub nothing_claimed : (c : Claim) → claims nothing c ≡ true → ⊥
+nothing_claimed (to_write x) claimed = cc
+nothing_claimed (to_read x) claimed = cc
+nothing_claimed (to_use e) claimed = cc
+
+pub written_is_read : (h : Holding) (x : ℕ) → may_write h x ≡ true → may_read h x ≡ true
+written_is_read h x own = or_left _ _ own
+
+-- a place from this one on, to read: the constants lie there
+abbrev pub IsBehind : ℕ → Claim → Type 0
+IsBehind size (to_write x) = ⊥
+IsBehind size (to_read x) = size ≤ x
+IsBehind size (to_use e) = ⊥
+
+pub only_one : {A : Type 0} (o : Option A) (x y : A) → o ≡ Some x → o ≡ Some y → x ≡ y
+only_one {A} o x y p q = let e : Some x ≡ Some y = sym p ∙ q in cc
+
+pub not_true : (b : Bool) → (b ≡ true → ⊥) → b ≡ false
+not_true true never = absurd (never refl)
+not_true false never = refl
