@@ -3,7 +3,7 @@
 ghost use Rattle.machine_state.specs.declared.instruction.Instruction.TheVariants as instruction;
 ghost use Rattle.machine_state.specs.Performing.{PerformsInstruction};
 
-use machine_state::{Cpu, Fault, FaultKind, Flow, Store};
+use machine_state::{Cpu, FaultKind, Flow, Store};
 use word_arithmetic::Binary;
 
 /// `adc` and the like: A becomes the result of the operation on A and the operand, unless that sets the error flag.
@@ -11,7 +11,7 @@ pub(crate) fn with_constant<S: Store>(
     cpu: &mut Cpu<S>,
     op: Binary,
     operand: i32,
-) -> Result<Flow, Fault>
+) -> Result<Flow, FaultKind>
     ensures { PerformsInstruction S.Store (instruction.WithConstant op) operand cpu.old cpu.new result }
 {
     cpu.alone()?;

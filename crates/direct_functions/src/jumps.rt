@@ -4,11 +4,11 @@ ghost use Rattle.machine_state.specs.declared.instruction.Instruction.TheVariant
 ghost use Rattle.machine_state.specs.Performing.{PerformsInstruction};
 
 use certificate::Stack;
-use machine_state::{Cpu, Fault, Flow, Store};
+use machine_state::{Cpu, FaultKind, Flow, Store};
 
 /// `j`: the process goes on at the distance of the operand from the next instruction. It may be sent to the
 /// back of the ready list, so the words that scheduling takes and the registers are undefined then.
-pub(crate) fn jump<S: Store>(cpu: &mut Cpu<S>, operand: i32) -> Result<Flow, Fault>
+pub(crate) fn jump<S: Store>(cpu: &mut Cpu<S>, operand: i32) -> Result<Flow, FaultKind>
     ensures { PerformsInstruction S.Store instruction.Jump operand cpu.old cpu.new result }
 {
     cpu.alone()?;

@@ -4,11 +4,11 @@ ghost use Rattle.machine_state.specs.declared.instruction.Instruction.TheVariant
 ghost use Rattle.machine_state.specs.Performing.{PerformsInstruction};
 
 use certificate::Stack;
-use machine_state::{Cpu, Fault, Flow, Store, local_address};
+use machine_state::{Cpu, FaultKind, Flow, Store, local_address};
 
 /// `cj`: where A is 0, the process goes on at the distance of the operand from the next instruction, and the registers
 /// stay. Otherwise A is popped.
-pub(crate) fn conditional_jump<S: Store>(cpu: &mut Cpu<S>, operand: i32) -> Result<Flow, Fault>
+pub(crate) fn conditional_jump<S: Store>(cpu: &mut Cpu<S>, operand: i32) -> Result<Flow, FaultKind>
     ensures { PerformsInstruction S.Store instruction.ConditionalJump operand cpu.old cpu.new result }
 {
     cpu.alone()?;
@@ -24,7 +24,7 @@ pub(crate) fn conditional_jump<S: Store>(cpu: &mut Cpu<S>, operand: i32) -> Resu
 }
 
 /// `ajw`: the workspace moves by this number of words.
-pub(crate) fn adjust_workspace<S: Store>(cpu: &mut Cpu<S>, operand: i32) -> Result<Flow, Fault>
+pub(crate) fn adjust_workspace<S: Store>(cpu: &mut Cpu<S>, operand: i32) -> Result<Flow, FaultKind>
     ensures { PerformsInstruction S.Store instruction.AdjustWorkspace operand cpu.old cpu.new result }
 {
     cpu.alone()?;
@@ -35,7 +35,7 @@ pub(crate) fn adjust_workspace<S: Store>(cpu: &mut Cpu<S>, operand: i32) -> Resu
 
 /// `call`: the four words below the workspace take C, B, A and the address of the next instruction. The process goes on
 /// at the distance of the operand from it, with the lowest of them as its workspace.
-pub(crate) fn call<S: Store>(cpu: &mut Cpu<S>, operand: i32) -> Result<Flow, Fault>
+pub(crate) fn call<S: Store>(cpu: &mut Cpu<S>, operand: i32) -> Result<Flow, FaultKind>
     ensures { PerformsInstruction S.Store instruction.Call operand cpu.old cpu.new result }
 {
     cpu.alone()?;

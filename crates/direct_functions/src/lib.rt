@@ -10,7 +10,7 @@ mod pointers;
 ghost use Rattle.std.specs.Prelude.{◌≡◌};
 ghost use Rattle.machine_state.specs.Performing.{PerformsFunction};
 
-use machine_state::{Cpu, Fault, FaultKind, Flow, Instruction, Store};
+use machine_state::{Cpu, FaultKind, Flow, Instruction, Store};
 use operations::operate;
 use prefix_decoder::Fun;
 
@@ -18,7 +18,7 @@ use prefix_decoder::Fun;
 /// chooses. The registers `at`, `began` and `operand` stay as they are: the caller says where the next instruction
 /// begins. An operation that has no body yet is unknown. After a fault nothing has changed.
 #[tactic(auto, unfolding(machine_state::specs::LocalStep::step_by, machine_state::specs::LocalStep::step_of, machine_state::specs::LocalStep::instruction_step))]
-pub fn direct<S: Store>(cpu: &mut Cpu<S>, fun: Fun, operand: i32) -> Result<Flow, Fault>
+pub fn direct<S: Store>(cpu: &mut Cpu<S>, fun: Fun, operand: i32) -> Result<Flow, FaultKind>
     ensures { PerformsFunction S.Store fun operand cpu.old cpu.new result }
 {
     match Instruction::of(fun, operand) {
@@ -35,6 +35,6 @@ pub fn direct<S: Store>(cpu: &mut Cpu<S>, fun: Fun, operand: i32) -> Result<Flow
         Some(Instruction::AdjustWorkspace) => landings::adjust_workspace(cpu, operand),
         Some(Instruction::Call) => landings::call(cpu, operand),
         Some(Instruction::Operate(op)) => operate(cpu, op),
-        None => Err(cpu.fault(FaultKind::UnknownOperation)),
+        None => Err(FaultKind::UnknownOperation),
     }
 }

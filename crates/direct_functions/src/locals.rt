@@ -3,10 +3,10 @@
 ghost use Rattle.machine_state.specs.declared.instruction.Instruction.TheVariants as instruction;
 ghost use Rattle.machine_state.specs.Performing.{PerformsInstruction};
 
-use machine_state::{Cpu, Fault, Flow, Store, local_address};
+use machine_state::{Cpu, FaultKind, Flow, Store, local_address};
 
 /// `ldc`: the operand is pushed.
-pub(crate) fn load_constant<S: Store>(cpu: &mut Cpu<S>, operand: i32) -> Result<Flow, Fault>
+pub(crate) fn load_constant<S: Store>(cpu: &mut Cpu<S>, operand: i32) -> Result<Flow, FaultKind>
     ensures { PerformsInstruction S.Store instruction.LoadConstant operand cpu.old cpu.new result }
 {
     cpu.in_code(cpu.next())?;
@@ -15,7 +15,7 @@ pub(crate) fn load_constant<S: Store>(cpu: &mut Cpu<S>, operand: i32) -> Result<
 }
 
 /// `ldl`: the word with this number from the workspace is pushed.
-pub(crate) fn load_local<S: Store>(cpu: &mut Cpu<S>, operand: i32) -> Result<Flow, Fault>
+pub(crate) fn load_local<S: Store>(cpu: &mut Cpu<S>, operand: i32) -> Result<Flow, FaultKind>
     ensures { PerformsInstruction S.Store instruction.LoadLocal operand cpu.old cpu.new result }
 {
     cpu.outside_starts()?;
@@ -26,7 +26,7 @@ pub(crate) fn load_local<S: Store>(cpu: &mut Cpu<S>, operand: i32) -> Result<Flo
 }
 
 /// `stl`: A goes to the word with this number from the workspace, and is popped.
-pub(crate) fn store_local<S: Store>(cpu: &mut Cpu<S>, operand: i32) -> Result<Flow, Fault>
+pub(crate) fn store_local<S: Store>(cpu: &mut Cpu<S>, operand: i32) -> Result<Flow, FaultKind>
     ensures { PerformsInstruction S.Store instruction.StoreLocal operand cpu.old cpu.new result }
 {
     cpu.alone()?;

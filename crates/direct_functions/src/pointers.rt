@@ -3,10 +3,10 @@
 ghost use Rattle.machine_state.specs.declared.instruction.Instruction.TheVariants as instruction;
 ghost use Rattle.machine_state.specs.Performing.{PerformsInstruction};
 
-use machine_state::{Cpu, Fault, Flow, Store, local_address};
+use machine_state::{Cpu, FaultKind, Flow, Store, local_address};
 
 /// `ldlp`: the address of the word with this number from the workspace is pushed.
-pub(crate) fn load_local_pointer<S: Store>(cpu: &mut Cpu<S>, operand: i32) -> Result<Flow, Fault>
+pub(crate) fn load_local_pointer<S: Store>(cpu: &mut Cpu<S>, operand: i32) -> Result<Flow, FaultKind>
     ensures { PerformsInstruction S.Store instruction.LoadLocalPointer operand cpu.old cpu.new result }
 {
     cpu.in_code(cpu.next())?;
@@ -19,7 +19,7 @@ pub(crate) fn load_local_pointer<S: Store>(cpu: &mut Cpu<S>, operand: i32) -> Re
 pub(crate) fn load_non_local_pointer<S: Store>(
     cpu: &mut Cpu<S>,
     operand: i32,
-) -> Result<Flow, Fault>
+) -> Result<Flow, FaultKind>
     ensures { PerformsInstruction S.Store instruction.LoadNonLocalPointer operand cpu.old cpu.new result }
 {
     cpu.outside_starts()?;
@@ -31,7 +31,7 @@ pub(crate) fn load_non_local_pointer<S: Store>(
 }
 
 /// `ldnl`: A becomes the word with this number from A.
-pub(crate) fn load_non_local<S: Store>(cpu: &mut Cpu<S>, operand: i32) -> Result<Flow, Fault>
+pub(crate) fn load_non_local<S: Store>(cpu: &mut Cpu<S>, operand: i32) -> Result<Flow, FaultKind>
     ensures { PerformsInstruction S.Store instruction.LoadNonLocal operand cpu.old cpu.new result }
 {
     cpu.alone()?;
@@ -44,7 +44,7 @@ pub(crate) fn load_non_local<S: Store>(cpu: &mut Cpu<S>, operand: i32) -> Result
 }
 
 /// `stnl`: B goes to the word with this number from A, and both are popped.
-pub(crate) fn store_non_local<S: Store>(cpu: &mut Cpu<S>, operand: i32) -> Result<Flow, Fault>
+pub(crate) fn store_non_local<S: Store>(cpu: &mut Cpu<S>, operand: i32) -> Result<Flow, FaultKind>
     ensures { PerformsInstruction S.Store instruction.StoreNonLocal operand cpu.old cpu.new result }
 {
     cpu.alone()?;

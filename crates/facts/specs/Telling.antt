@@ -3,7 +3,7 @@ use Rattle.std.specs.Prelude.{◌≡◌, Result, Ok, Err}
 use Rattle.states.specs.declared.rule.Rule.{Rule}
 use Rattle.states.specs.State.{State}
 use Rattle.machine_state.specs.declared.cpu.Flow.{Flow}
-use Rattle.machine_state.specs.declared.cpu.Flow.TheVariants.{Next, Jump, Land, Stop, Receive, Send}
+use Rattle.machine_state.specs.declared.cpu.Flow.TheVariants.{Next, Jump, Land, Stop, Ask}
 use Rattle.facts.specs.Rules.{Ruling, falls, leads, ends, breaks}
 
 -- a test passes, or it alone decides the ruling
@@ -27,6 +27,5 @@ Advances (Ok Next) after ruling = ruling ≡ falls after
 Advances (Ok (Jump to)) after ruling = ruling ≡ leads to
 Advances (Ok (Land to)) after ruling = ruling ≡ leads to
 Advances (Ok Stop) after ruling = ruling ≡ ends
-Advances (Ok (Receive e)) after ruling = ⊥
-Advances (Ok (Send e)) after ruling = ⊥
+Advances (Ok (Ask request)) after ruling = ⊥
 Advances (Err broken) after ruling = ruling ≡ breaks broken

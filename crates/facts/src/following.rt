@@ -44,7 +44,7 @@ pub fn transfer<'a>(
         Flow::Jump { to } => Ok(Successors::Leads(to)),
         Flow::Land { to } => Ok(Successors::Leads(to)),
         Flow::Stop => Ok(Successors::Ends),
-        // No instruction that has a rule sends or receives a message.
-        Flow::Receive(_) | Flow::Send(_) => unreachable!(),
+        // No instruction that has a rule asks anything of others.
+        Flow::Ask(_) => unreachable!(),
     }
 }

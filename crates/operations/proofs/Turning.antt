@@ -1,20 +1,23 @@
 -- The step of lend, test by test.
-use Rattle.std.proofs.Common.{◌≡◌, ℕ, ◌%◌, ℤ, Bool, true, cond, Option, Some, Result, sym, ap, ◌∙◌}
+use Rattle.std.proofs.Common.{◌≡◌, ℕ, ◌%◌, ℤ, Bool, true, false, cond, nat_lt, Option, Some, None, Result, refl, sym, ap, ◌∙◌}
 use Rattle.std.proofs.Common.{subst}
 use Rattle.std.specs.Prelude.{◌==◌}
 use Rattle.machine_state.specs.declared.cpu.Cpu.{Cpu}
 use Rattle.machine_state.specs.declared.cpu.Flow.{Flow}
-use Rattle.machine_state.specs.declared.fault.Fault.{Fault}
+use Rattle.machine_state.specs.declared.fault.FaultKind.{FaultKind}
 use Rattle.machine_state.specs.declared.op.Op.TheVariants as ops
 use Rattle.machine_state.specs.declared.store.Store.{Ghosts}
-use Rattle.machine_state.specs.Site.{Site, Local, Outcome, fails}
-use Rattle.machine_state.specs.declared.fault.FaultKind.TheVariants.{Unaligned}
-use Rattle.machine_state.specs.LocalStep.{alone, uses, aligned, address, operation_step, loop_end_step}
+use Rattle.machine_state.specs.Site.{Site, Local, Outcome, fails, waits}
+use Rattle.machine_state.specs.declared.fault.FaultKind.TheVariants.{NotOwn, OutsideCode, Unaligned}
+use Rattle.machine_state.specs.LocalStep.{alone, while_enabling, uses, aligned, address, leads_to, turned}
+use Rattle.machine_state.specs.LocalStep.{holds_scheduling_words, schedules, writes, followed_by_code}
+use Rattle.machine_state.specs.LocalStep.{without_registers, operation_step, loop_end_step}
 use Rattle.machine_state.specs.Performing.{Performs}
-use Rattle.operations.specs.Loops.{tests_block}
+use Rattle.machine_state.proofs.Scheduling.{schedules-is}
+use Rattle.operations.specs.Loops.{loop_target, counts_turn, tests_block}
 
 -- what was performed for one outcome is performed for an equal one
-pub performs-by : {S : Type 0} → (ghosts : Ghosts S) (before after : Cpu S) (r : Result Flow Fault) (o p : Outcome)
+pub performs-by : {S : Type 0} → (ghosts : Ghosts S) (before after : Cpu S) (r : Result Flow FaultKind) (o p : Outcome)
     → o ≡ p → Performs ghosts p before after r → Performs ghosts o before after r
 performs-by ghosts before after r o p same h = subst (λ x. Performs ghosts x before after r) (sym same) h
 
@@ -36,3 +39,23 @@ tested-registers s l a b block passes a_is b_is fits block_is =
     ∙ (uses-some l.registers.stack.b b (λ b. aligned b (λ block. tests_block s a block l)) b_is
     ∙ (aligned-fits b (λ block. tests_block s a block l) fits
     ∙ ap (λ (x : ℕ). tests_block s a x l) (sym block_is))))
+
+-- where the words that scheduling takes are not the process's own, altwt is at fault
+pub waits-unscheduled : (s : Site) (l : Local) → ((o : Outcome) → while_enabling s.mode o ≡ o)
+    → holds_scheduling_words s.holding l.registers.workspace ≡ false
+    → operation_step s ops.AlternationWait l ≡ fails NotOwn
+unfolding operation_step
+waits-unscheduled s l passes held =
+    let behind : Local → Outcome =
+    λ l. writes s l.registers.workspace None l (λ l. followed_by_code s (waits (without_registers l))) in
+    passes (schedules s l behind) ∙ (schedules-is s l behind ∙ rw held refl)
+
+-- where a turn leads out of the code, it is at fault
+pub turns-outside : (s : Site) (l : Local) (distance : ℤ) (block : ℕ) (index count : ℤ)
+    → holds_scheduling_words s.holding l.registers.workspace ≡ true
+    → nat_lt (loop_target s distance count) s.code_length ≡ false
+    → counts_turn s distance block index count l ≡ fails OutsideCode
+unfolding leads_to
+turns-outside s l distance block index count held outside =
+    let behind : Local → Outcome = λ l. leads_to s (loop_target s distance count) (without_registers l) in
+    schedules-is s (turned block index count l) behind ∙ rw (held, outside) refl

@@ -3,12 +3,12 @@
 ghost use Rattle.machine_state.specs.declared.op.Op.TheVariants as operation;
 ghost use Rattle.machine_state.specs.Performing.{PerformsOperation};
 
-use machine_state::{Cpu, Fault, Flow, Store};
+use machine_state::{Cpu, FaultKind, Flow, Store};
 use word_arithmetic::{Binary, Unary};
 
 /// An operation of two operands: A and B are popped, and the result of B and A is pushed, unless that sets the error
 /// flag.
-pub(crate) fn binary<S: Store>(cpu: &mut Cpu<S>, op: Binary) -> Result<Flow, Fault>
+pub(crate) fn binary<S: Store>(cpu: &mut Cpu<S>, op: Binary) -> Result<Flow, FaultKind>
     ensures { PerformsOperation S.Store (operation.Binary op) cpu.old cpu.new result }
 {
     cpu.alone()?;
@@ -22,7 +22,7 @@ pub(crate) fn binary<S: Store>(cpu: &mut Cpu<S>, op: Binary) -> Result<Flow, Fau
 }
 
 /// An operation of one operand: A becomes the result of A, unless that sets the error flag.
-pub(crate) fn unary<S: Store>(cpu: &mut Cpu<S>, op: Unary) -> Result<Flow, Fault>
+pub(crate) fn unary<S: Store>(cpu: &mut Cpu<S>, op: Unary) -> Result<Flow, FaultKind>
     ensures { PerformsOperation S.Store (operation.Unary op) cpu.old cpu.new result }
 {
     cpu.alone()?;

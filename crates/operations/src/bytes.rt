@@ -3,10 +3,10 @@
 ghost use Rattle.machine_state.specs.declared.op.Op.TheVariants as operation;
 ghost use Rattle.machine_state.specs.Performing.{PerformsOperation};
 
-use machine_state::{Cpu, Fault, Flow, Store};
+use machine_state::{Cpu, FaultKind, Flow, Store};
 
 /// `lb`: A becomes the byte at A.
-pub(crate) fn load_byte<S: Store>(cpu: &mut Cpu<S>) -> Result<Flow, Fault>
+pub(crate) fn load_byte<S: Store>(cpu: &mut Cpu<S>) -> Result<Flow, FaultKind>
     ensures { PerformsOperation S.Store operation.LoadByte cpu.old cpu.new result }
 {
     cpu.alone()?;
@@ -18,7 +18,7 @@ pub(crate) fn load_byte<S: Store>(cpu: &mut Cpu<S>) -> Result<Flow, Fault>
 }
 
 /// `sb`: the byte at A becomes the low byte of B, and both are popped.
-pub(crate) fn store_byte<S: Store>(cpu: &mut Cpu<S>) -> Result<Flow, Fault>
+pub(crate) fn store_byte<S: Store>(cpu: &mut Cpu<S>) -> Result<Flow, FaultKind>
     ensures { PerformsOperation S.Store operation.StoreByte cpu.old cpu.new result }
 {
     cpu.alone()?;

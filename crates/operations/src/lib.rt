@@ -1,6 +1,7 @@
-//! The operations of the T414 that touch no other process.
+//! The operations of the T414: what a process does alone, and what it asks of others.
 #![tactic(auto, using(machine_state::proofs::Scheduling::schedules_is), unfolding(machine_state::specs::LocalStep::operation_step, machine_state::specs::LocalStep::holds, machine_state::specs::LocalStep::uses, machine_state::specs::LocalStep::computes, machine_state::specs::LocalStep::counts, machine_state::specs::LocalStep::aligned, machine_state::specs::LocalStep::reads, machine_state::specs::LocalStep::reads_byte, machine_state::specs::LocalStep::writes_byte, machine_state::specs::LocalStep::leads_to, machine_state::specs::LocalStep::lands_at, machine_state::specs::LocalStep::goes_on))]
 
+mod alternating;
 mod arithmetic;
 mod bytes;
 mod long;
@@ -9,19 +10,20 @@ mod messages;
 mod moving;
 mod registers;
 mod returning;
+mod starting;
 mod stopping;
 mod subscripts;
 
 ghost use Rattle.machine_state.specs.Performing.{PerformsExecuted};
 
-use machine_state::{Cpu, Fault, FaultKind, Flow, Op, Store};
-pub use messages::{input, output};
+use machine_state::{Cpu, FaultKind, Flow, Op, Store};
+pub use starting::{end_process, start_process};
 
 /// Executes one operation of the running process. The registers `at`, `began` and `operand` stay as they are:
 /// the caller says where the next instruction begins. An operation that has no body yet is unknown. After a fault
-/// nothing has changed.
+/// nothing has changed, and what is asked of others has changed the registers alone.
 #[tactic(auto)]
-pub fn operate<S: Store>(cpu: &mut Cpu<S>, op: Op) -> Result<Flow, Fault>
+pub fn operate<S: Store>(cpu: &mut Cpu<S>, op: Op) -> Result<Flow, FaultKind>
     ensures { PerformsExecuted S.Store op cpu.old cpu.new result }
 {
     match op {
@@ -42,6 +44,15 @@ pub fn operate<S: Store>(cpu: &mut Cpu<S>, op: Op) -> Result<Flow, Fault>
         Op::Move => moving::move_bytes(cpu),
         Op::Return => returning::return_from_call(cpu),
         Op::LoopEnd => loops::loop_end(cpu),
-        _ => Err(cpu.fault(FaultKind::UnknownOperation)),
+        Op::Input => messages::input(cpu),
+        Op::Output => messages::output(cpu),
+        Op::Alternate => alternating::alternate(cpu),
+        Op::EnableChannel => alternating::enable_channel(cpu),
+        Op::EnableSkip => alternating::enable_skip(cpu),
+        Op::AlternationWait => alternating::alternation_wait(cpu),
+        Op::DisableChannel => alternating::disable_channel(cpu),
+        Op::DisableSkip => alternating::disable_skip(cpu),
+        Op::AlternationEnd => alternating::alternation_end(cpu),
+        Op::StartProcess | Op::EndProcess => Err(FaultKind::UnknownOperation),
     }
 }

@@ -4,13 +4,13 @@ ghost use Rattle.machine_state.specs.declared.op.Op.TheVariants as operation;
 ghost use Rattle.machine_state.specs.Performing.{PerformsOperation};
 
 use certificate::Stack;
-use machine_state::{Cpu, Fault, FaultKind, Flow, LongOp, Shift, Store};
+use machine_state::{Cpu, FaultKind, Flow, LongOp, Shift, Store};
 
 /// The most bits by which a word is shifted.
 const MOST_SHIFT: u32 = 31;
 
 /// `shl`, `shr`: A and B are popped, and B, shifted by A bits, is pushed.
-pub(crate) fn shift<S: Store>(cpu: &mut Cpu<S>, op: Shift) -> Result<Flow, Fault>
+pub(crate) fn shift<S: Store>(cpu: &mut Cpu<S>, op: Shift) -> Result<Flow, FaultKind>
     ensures { PerformsOperation S.Store (operation.Shift op) cpu.old cpu.new result }
 {
     cpu.alone()?;
@@ -25,7 +25,7 @@ pub(crate) fn shift<S: Store>(cpu: &mut Cpu<S>, op: Shift) -> Result<Flow, Fault
 }
 
 /// `lsum`, `ldiff`, `lmul`: A becomes the low word of the result of B, A and C, and B the high one or the carry.
-pub(crate) fn long<S: Store>(cpu: &mut Cpu<S>, op: LongOp) -> Result<Flow, Fault>
+pub(crate) fn long<S: Store>(cpu: &mut Cpu<S>, op: LongOp) -> Result<Flow, FaultKind>
     ensures { PerformsOperation S.Store (operation.Long op) cpu.old cpu.new result }
 {
     cpu.check(cpu.has_long_operations, FaultKind::UnknownOperation)?;

@@ -8,17 +8,17 @@ ghost use Rattle.machine_state.specs.Performing.{site_of, local_of, value_or_fau
 ghost use Rattle.operations.specs.Loops.{holds_block, loop_target, counts_turn, turns_block, tests_block};
 
 use certificate::Stack;
-use machine_state::{Cpu, Fault, FaultKind, Flow, Store, local_address};
+use machine_state::{Cpu, FaultKind, Flow, Store, local_address};
 
 /// A code offset that lies in the code, else `OutsideCode`.
-fn landing<S>(cpu: &Cpu<S>, offset: u64) -> Result<u32, Fault>
+fn landing<S>(cpu: &Cpu<S>, offset: u64) -> Result<u32, FaultKind>
     ensures { let holds = nat_lt offset cpu.now.code_length in
-        result ≡ value_or_fault cpu.now holds offset FaultKind.OutsideCode }
+        result ≡ value_or_fault holds offset FaultKind.OutsideCode }
 {
     if offset < u64::from(cpu.code_length) {
         Ok(offset as u32)
     } else {
-        Err(cpu.fault(FaultKind::OutsideCode))
+        Err(FaultKind::OutsideCode)
     }
 }
 
@@ -57,7 +57,7 @@ fn turn<S: Store>(
     block: u32,
     index: i32,
     count: i32,
-) -> Result<Flow, Fault>
+) -> Result<Flow, FaultKind>
     requires block { IsTrue (holds_block (S.holding cpu.old.store) block) }
     requires scheduling { IsTrue (holds_scheduling_words (S.holding cpu.old.store) cpu.old.registers.workspace) }
     ensures { let step = counts_turn (site_of S.Store cpu.old) distance block index count (local_of S.Store cpu.old) in
@@ -71,7 +71,7 @@ fn turn<S: Store>(
 }
 
 /// Turns the loop of a block, or ends it.
-fn turn_block<S: Store>(cpu: &mut Cpu<S>, distance: i32, block: u32) -> Result<Flow, Fault>
+fn turn_block<S: Store>(cpu: &mut Cpu<S>, distance: i32, block: u32) -> Result<Flow, FaultKind>
     requires block { IsTrue (holds_block (S.holding cpu.old.store) block) }
     requires scheduling { IsTrue (holds_scheduling_words (S.holding cpu.old.store) cpu.old.registers.workspace) }
     ensures { let step = turns_block (site_of S.Store cpu.old) distance block (local_of S.Store cpu.old) in
@@ -83,7 +83,7 @@ fn turn_block<S: Store>(cpu: &mut Cpu<S>, distance: i32, block: u32) -> Result<F
 }
 
 /// Turns the loop of a block, or ends it, where its words and those that scheduling takes may be written.
-fn test_block<S: Store>(cpu: &mut Cpu<S>, distance: i32, block: u32) -> Result<Flow, Fault>
+fn test_block<S: Store>(cpu: &mut Cpu<S>, distance: i32, block: u32) -> Result<Flow, FaultKind>
     ensures { let step = tests_block (site_of S.Store cpu.old) distance block (local_of S.Store cpu.old) in
         Performs S.Store step cpu.old cpu.new result }
 {
@@ -96,7 +96,7 @@ fn test_block<S: Store>(cpu: &mut Cpu<S>, distance: i32, block: u32) -> Result<F
 
 /// `lend`: the loop of block B, its index and its count, turns at A bytes back, or ends. It may be sent to the back of
 /// the ready list, so the words that scheduling takes and the registers are undefined then.
-pub(crate) fn loop_end<S: Store>(cpu: &mut Cpu<S>) -> Result<Flow, Fault>
+pub(crate) fn loop_end<S: Store>(cpu: &mut Cpu<S>) -> Result<Flow, FaultKind>
     ensures { PerformsOperation S.Store operation.LoopEnd cpu.old cpu.new result }
 {
     cpu.alone()?;

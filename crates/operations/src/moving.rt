@@ -4,13 +4,13 @@ ghost use Rattle.machine_state.specs.declared.op.Op.TheVariants as operation;
 ghost use Rattle.machine_state.specs.Performing.{PerformsOperation};
 
 use certificate::Stack;
-use machine_state::{Cpu, Fault, FaultKind, Flow, Store};
+use machine_state::{Cpu, FaultKind, Flow, Store};
 
 /// The most bytes that move at a time.
 const MOST_MOVED: u32 = 65_536;
 
 /// `move`: A bytes go from C to B. The two blocks do not meet, and undefined bytes stay undefined.
-pub(crate) fn move_bytes<S: Store>(cpu: &mut Cpu<S>) -> Result<Flow, Fault>
+pub(crate) fn move_bytes<S: Store>(cpu: &mut Cpu<S>) -> Result<Flow, FaultKind>
     ensures { PerformsOperation S.Store operation.Move cpu.old cpu.new result }
 {
     cpu.alone()?;

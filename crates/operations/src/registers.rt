@@ -3,10 +3,10 @@
 ghost use Rattle.machine_state.specs.declared.op.Op.TheVariants.{Reverse, MinimumInteger};
 ghost use Rattle.machine_state.specs.Performing.{PerformsOperation};
 
-use machine_state::{Cpu, Fault, Flow, Store};
+use machine_state::{Cpu, FaultKind, Flow, Store};
 
 /// `rev`: A and B change places.
-pub(crate) fn reverse<S: Store>(cpu: &mut Cpu<S>) -> Result<Flow, Fault>
+pub(crate) fn reverse<S: Store>(cpu: &mut Cpu<S>) -> Result<Flow, FaultKind>
     ensures { PerformsOperation S.Store Reverse cpu.old cpu.new result }
 {
     cpu.alone()?;
@@ -16,7 +16,7 @@ pub(crate) fn reverse<S: Store>(cpu: &mut Cpu<S>) -> Result<Flow, Fault>
 }
 
 /// `mint`: the least word is pushed.
-pub(crate) fn minimum_integer<S: Store>(cpu: &mut Cpu<S>) -> Result<Flow, Fault>
+pub(crate) fn minimum_integer<S: Store>(cpu: &mut Cpu<S>) -> Result<Flow, FaultKind>
     ensures { PerformsOperation S.Store MinimumInteger cpu.old cpu.new result }
 {
     cpu.outside_starts()?;

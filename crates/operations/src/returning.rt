@@ -4,11 +4,11 @@ ghost use Rattle.machine_state.specs.declared.op.Op.TheVariants as operation;
 ghost use Rattle.machine_state.specs.Performing.{PerformsOperation};
 
 use certificate::Stack;
-use machine_state::{Cpu, Fault, Flow, Store, local_address};
+use machine_state::{Cpu, FaultKind, Flow, Store, local_address};
 
 /// `ret`: the process goes on at the address in the word at its workspace, and leaves four words. No register is
 /// handed back.
-pub(crate) fn return_from_call<S: Store>(cpu: &mut Cpu<S>) -> Result<Flow, Fault>
+pub(crate) fn return_from_call<S: Store>(cpu: &mut Cpu<S>) -> Result<Flow, FaultKind>
     ensures { PerformsOperation S.Store operation.Return cpu.old cpu.new result }
 {
     cpu.alone()?;

@@ -3,10 +3,10 @@
 ghost use Rattle.machine_state.specs.declared.op.Op.TheVariants.{StopProcess};
 ghost use Rattle.machine_state.specs.Performing.{PerformsOperation};
 
-use machine_state::{Cpu, Fault, Flow, Store};
+use machine_state::{Cpu, FaultKind, Flow, Store};
 
 /// `stopp`: the process stops for good. The words that scheduling takes are undefined then.
-pub(crate) fn stop_process<S: Store>(cpu: &mut Cpu<S>) -> Result<Flow, Fault>
+pub(crate) fn stop_process<S: Store>(cpu: &mut Cpu<S>) -> Result<Flow, FaultKind>
     ensures { PerformsOperation S.Store StopProcess cpu.old cpu.new result }
 {
     cpu.alone()?;

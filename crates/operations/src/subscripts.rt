@@ -3,11 +3,11 @@
 ghost use Rattle.machine_state.specs.declared.op.Op.TheVariants as operation;
 ghost use Rattle.machine_state.specs.Performing.{PerformsOperation};
 
-use machine_state::{Cpu, Fault, FaultKind, Flow, Store, local_address};
+use machine_state::{Cpu, FaultKind, Flow, Store, local_address};
 use word_arithmetic::is_below_unsigned;
 
 /// `bsub`: A and B are popped, and the address B bytes after A is pushed.
-pub(crate) fn byte_subscript<S: Store>(cpu: &mut Cpu<S>) -> Result<Flow, Fault>
+pub(crate) fn byte_subscript<S: Store>(cpu: &mut Cpu<S>) -> Result<Flow, FaultKind>
     ensures { PerformsOperation S.Store operation.ByteSubscript cpu.old cpu.new result }
 {
     cpu.alone()?;
@@ -21,7 +21,7 @@ pub(crate) fn byte_subscript<S: Store>(cpu: &mut Cpu<S>) -> Result<Flow, Fault>
 }
 
 /// `wsub`: A and B are popped, and the address B words after A is pushed.
-pub(crate) fn word_subscript<S: Store>(cpu: &mut Cpu<S>) -> Result<Flow, Fault>
+pub(crate) fn word_subscript<S: Store>(cpu: &mut Cpu<S>) -> Result<Flow, FaultKind>
     ensures { PerformsOperation S.Store operation.WordSubscript cpu.old cpu.new result }
 {
     cpu.alone()?;
@@ -35,7 +35,7 @@ pub(crate) fn word_subscript<S: Store>(cpu: &mut Cpu<S>) -> Result<Flow, Fault>
 }
 
 /// `csub0`: A is popped, unless B is not below it, which sets the error flag.
-pub(crate) fn check_subscript<S: Store>(cpu: &mut Cpu<S>) -> Result<Flow, Fault>
+pub(crate) fn check_subscript<S: Store>(cpu: &mut Cpu<S>) -> Result<Flow, FaultKind>
     ensures { PerformsOperation S.Store operation.CheckSubscript cpu.old cpu.new result }
 {
     cpu.alone()?;
@@ -48,7 +48,7 @@ pub(crate) fn check_subscript<S: Store>(cpu: &mut Cpu<S>) -> Result<Flow, Fault>
 }
 
 /// `ccnt1`: A is popped, unless B is 0 or above it, which sets the error flag.
-pub(crate) fn check_count<S: Store>(cpu: &mut Cpu<S>) -> Result<Flow, Fault>
+pub(crate) fn check_count<S: Store>(cpu: &mut Cpu<S>) -> Result<Flow, FaultKind>
     ensures { PerformsOperation S.Store operation.CheckCount cpu.old cpu.new result }
 {
     cpu.alone()?;
@@ -64,7 +64,7 @@ pub(crate) fn check_count<S: Store>(cpu: &mut Cpu<S>) -> Result<Flow, Fault>
 }
 
 /// `ldpi`: A becomes the address A bytes after the instruction.
-pub(crate) fn load_pointer_to_instruction<S: Store>(cpu: &mut Cpu<S>) -> Result<Flow, Fault>
+pub(crate) fn load_pointer_to_instruction<S: Store>(cpu: &mut Cpu<S>) -> Result<Flow, FaultKind>
     ensures { PerformsOperation S.Store operation.LoadPointerToInstruction cpu.old cpu.new result }
 {
     cpu.alone()?;
