@@ -4,6 +4,7 @@
 
 mod disabling;
 mod enabling;
+mod laws;
 mod moves;
 mod source;
 #[cfg(test)]
@@ -11,3 +12,4 @@ mod tests;
 
 pub use disabling::{disable_channel, disable_skip, end, wait};
 pub use enabling::{begin, enable_channel, enable_skip};
+pub use laws::{disabling_reads_no_counters, enabling_reads_no_counters};

@@ -1,16 +1,17 @@
-//! An alternation from its beginning to its end.
+//! An alternation from its beginning to its end, and the message that it selects.
 
-ghost use Rattle.std.specs.Prelude.{◌≡◌, ◌<◌, ◌^◌, IsTrue, length};
+ghost use Rattle.std.specs.Prelude.{◌≡◌, ◌<◌, ◌^◌, IfSome, IsTrue, length};
 ghost use Rattle.machine_state.specs.Holding.{may_write_word};
 ghost use Rattle.machine_state.specs.LocalStep.{holds_scheduling_words};
 ghost use Rattle.machine_state.specs.Memory.{place_of};
+ghost use Rattle.channels.specs.Settling.{IsAsked};
 
 use crate::{begin, disable_channel, disable_skip, enable_channel, enable_skip, end, wait};
 use certificate::{Tables, Version};
-use channels::{Arrival, Here, Traffic};
+use channels::{Arrival, Delivery, Here, Message, Stop, Traffic};
 use machine_state::{
-    ALTERNATION_ORDER, END_NOT_HELD, Fault, Link, Mode, OUTSIDE_CODE, Store, TaggedStore,
-    local_address,
+    ALTERNATION_ORDER, Channel, DATA_START, END_NOT_HELD, Exchange, Fault, Link, Mode,
+    OUTSIDE_CODE, Store, TaggedStore, local_address,
 };
 use process_queue::ListQueue;
 use std::alloc::Global;
@@ -20,6 +21,9 @@ type Tagged = Traffic<TaggedStore, ListQueue>;
 
 /// The address of the word of input link 0.
 const LINK: u32 = 0x8000_0010;
+
+/// The address of data word 7.
+const CHANNEL: u32 = DATA_START + 28;
 
 /// A module of eight data words, of which the root's workspace is word 4, with messages on input link 0.
 fn tables(alloc: Global) -> Tables<'static>
@@ -198,5 +202,96 @@ fn order_is_kept(rt: HostRuntime) -> Result<(), Fail> {
         let mut traffic = Traffic::load(rt.alloc(), &tables)?;
         assert_eq!(rt; first_fault(&mut traffic, &tables, steps), Some(fault));
     }
+    Ok(())
+}
+
+/// A message of four bytes of the running process, in the first data word. None where no process runs, or it may not
+/// take the words.
+fn message(traffic: &mut Tagged, channel: u32) -> Option<Message>
+    ensures same { traffic.new ≡ traffic.old }
+    ensures asked { IfSome result (IsAsked traffic.old.holding) }
+{
+    let process = traffic.running()?;
+    let task = traffic.task(process)?;
+    let registers = task.registers;
+    if !may_take_words(traffic, registers.workspace) {
+        return None;
+    }
+    Some(Message {
+        here: Here {
+            process,
+            task,
+            pick: 0,
+        },
+        exchange: Exchange {
+            channel,
+            address: DATA_START,
+            length: 4,
+        },
+        registers,
+    })
+}
+
+/// Receives that message.
+fn receive(traffic: &mut Tagged, tables: &Tables, channel: u32) -> Option<Result<bool, Stop>>
+    requires { length tables.now.code.now < 2 ^ 32 }
+{
+    let message = message(traffic, channel)?;
+    Some(traffic.receive(tables, &message))
+}
+
+/// Sends it.
+fn send(traffic: &mut Tagged, tables: &Tables, channel: u32) -> Option<Result<Delivery, Stop>>
+    requires { length tables.now.code.now < 2 ^ 32 }
+{
+    let message = message(traffic, channel)?;
+    Some(traffic.send(tables, &message))
+}
+
+#[test]
+fn message_comes_over_the_link(rt: HostRuntime) -> Result<(), Fail> {
+    let tables = tables(rt.alloc());
+    let mut traffic = Traffic::load(rt.alloc(), &tables)?;
+    assert_eq!(rt; traffic.arrive(Link::Zero, 1)?, Arrival::Kept);
+    assert_eq!(rt;
+        receive(&mut traffic, &tables, LINK),
+        Some(Ok(false)),
+        "three bytes are to come"
+    );
+    for byte in [2, 3] {
+        assert_eq!(rt; traffic.arrive(Link::Zero, byte)?, Arrival::Taken);
+        assert_eq!(rt; traffic.running(), None);
+    }
+    assert_eq!(rt; traffic.arrive(Link::Zero, 4)?, Arrival::Taken);
+    assert_eq!(rt; traffic.running(), Some(0), "the message is there");
+    Ok(())
+}
+
+#[test]
+fn first_to_send_waits(rt: HostRuntime) -> Result<(), Fail> {
+    let tables = tables(rt.alloc());
+    let mut traffic = Traffic::load(rt.alloc(), &tables)?;
+    let refused = Stop::Fault(Fault {
+        number: END_NOT_HELD,
+        process: 0,
+        offset: 0,
+    });
+    assert_eq!(rt;
+        send(&mut traffic, &tables, CHANNEL),
+        Some(Err(refused)),
+        "there is no channel"
+    );
+    let channel = Channel {
+        opener: 0,
+        length: 4,
+        waiting: None,
+        enabled: None,
+    };
+    traffic.set_channel(CHANNEL, channel);
+    assert_eq!(rt;
+        send(&mut traffic, &tables, CHANNEL),
+        Some(Ok(Delivery::Awaited))
+    );
+    assert_eq!(rt; traffic.running(), None, "nobody receives");
     Ok(())
 }

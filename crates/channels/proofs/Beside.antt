@@ -21,7 +21,7 @@ use Rattle.channels.specs.Beside.{beside, turn_beside, ArrivesBeside, Acknowledg
 module _ (c : Counters) (f : Option Fault) where
   -- ---- moves
 
-  either : (b : Bool) (x y : World) {v w : World} → v ≡ beside c f x → w ≡ beside c f y
+  pub either : (b : Bool) (x y : World) {v w : World} → v ≡ beside c f x → w ≡ beside c f y
       → (if b then v else w) ≡ beside c f (if b then x else y)
   either true x y p q = p
   either false x y p q = q
@@ -40,10 +40,10 @@ module _ (c : Counters) (f : Option Fault) where
       cases None = refl
       cases (Some task) = refl
 
-  wake-beside : (p : ℕ) (w : World) → wake p (beside c f w) ≡ beside c f (wake p w)
+  pub wake-beside : (p : ℕ) (w : World) → wake p (beside c f w) ≡ beside c f (wake p w)
   wake-beside p w = ap (enqueue p) (on_task-beside p (λ task. record task { condition = Ready }) w)
 
-  dispatch-beside : (pick : ℕ) (w : World) → dispatch pick (beside c f w) ≡ beside c f (dispatch pick w)
+  pub dispatch-beside : (pick : ℕ) (w : World) → dispatch pick (beside c f w) ≡ beside c f (dispatch pick w)
   unfolding dispatch
   dispatch-beside pick w = refl
 
@@ -85,7 +85,7 @@ module _ (c : Counters) (f : Option Fault) where
   rouse_task-beside p mode Alternating w = wake-beside p w
   rouse_task-beside p mode _ w = rouse_enabling-beside p mode w
 
-  rouse-beside : (enabled : Option ℕ) (w : World) → rouse enabled (beside c f w) ≡ beside c f (rouse enabled w)
+  pub rouse-beside : (enabled : Option ℕ) (w : World) → rouse enabled (beside c f w) ≡ beside c f (rouse enabled w)
   rouse-beside None w = refl
   rouse-beside (Some p) w = cases (slice_get w.tasks p)
     where

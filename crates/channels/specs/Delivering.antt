@@ -6,7 +6,7 @@ use Rattle.machine_state.specs.World.{World}
 use Rattle.machine_state.specs.Moves.{channel_at}
 use Rattle.machine_state.specs.Turn.{Effect, ran, emitted}
 use Rattle.machine_state.specs.Exchanges.{input_link, output_link, bytes_at}
-use Rattle.channels.specs.Settling.{is_complete, is_awaited}
+use Rattle.channels.specs.Settling.{is_complete, is_awaited, is_wanted}
 use Rattle.channels.specs.declared.messages.Delivery.{Delivery}
 use Rattle.channels.specs.declared.messages.Delivery.TheVariants.{Emitted, Received, Awaited}
 
@@ -30,3 +30,11 @@ receiver_goes_on e w = elim (input_link e.channel) [
   | Some k ↦ is_complete (slice_get w.links.inputs k) e
   | None ↦ is_awaited (channel_at w e.channel)
 ]
+
+-- whether receiving may make a process ready: the sender that waits at the channel
+abbrev pub receiving_may_wake : Exchange → World → Bool
+receiving_may_wake e w = elim (input_link e.channel) [ Some k ↦ false | None ↦ is_awaited (channel_at w e.channel) ]
+
+-- whether sending may make a process ready: the receiver that waits at the channel, or who has enabled it
+abbrev pub sending_may_wake : Exchange → World → Bool
+sending_may_wake e w = elim (output_link e.channel) [ Some k ↦ false | None ↦ is_wanted (channel_at w e.channel) ]

@@ -2,6 +2,8 @@ pub mod Arriving
 pub mod Beside
 pub mod Lending
 pub mod Delivering
+pub mod EnabledCounts
 pub mod Moment
 pub mod Settling
 pub mod Sound
+pub mod Starting

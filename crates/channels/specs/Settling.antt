@@ -1,5 +1,5 @@
 -- What a call for an instruction did that asks something of others, against the turn of the definitions.
-use Rattle.std.specs.Prelude.{◌≡◌, ◌<◌, ◌+◌, ◌==◌, ◌&&◌, Bool, true, false, is_some, Option, Some, None}
+use Rattle.std.specs.Prelude.{◌≡◌, ⊤, ◌<◌, ◌+◌, ◌==◌, ◌&&◌, ◌||◌, Bool, true, false, is_some, Option, Some, None}
 use Rattle.std.specs.Prelude.{Result, Ok, Err}
 use Rattle.module_format.specs.Contents.{Contents}
 use Rattle.machine_state.specs.declared.fault.Fault.{Fault}
@@ -18,6 +18,8 @@ use Rattle.machine_state.specs.Turn.{Effect, Turn, answered, Here, failed, betwe
 use Rattle.machine_state.specs.Exchanges.{received_inside, sent_inside}
 use Rattle.channels.specs.declared.here.Here.{Here as Instance}
 use Rattle.channels.specs.declared.message.Message.{Message}
+use Rattle.channels.specs.declared.stop.Stop.{Stop}
+use Rattle.channels.specs.declared.stop.Stop.TheVariants as stops
 use Rattle.channels.specs.Moment.{IsSteady}
 
 -- an instruction of a process in this module, whose last byte it is at
@@ -76,6 +78,11 @@ abbrev pub is_awaited : Option Channel → Bool
 is_awaited None = false
 is_awaited (Some channel) = is_some channel.waiting
 
+-- whether some process waits at the internal channel, or has enabled it
+abbrev pub is_wanted : Option Channel → Bool
+is_wanted None = false
+is_wanted (Some channel) = is_some channel.waiting || is_some channel.enabled
+
 -- By the answer: the instruction is executed, with the answer's effect; or it is at fault, and nothing has changed.
 abbrev pub SettlesBy : {A : Type 0} → (A → Effect) → World → World → Result A Fault → Turn → Type 0
 SettlesBy effect before after (Ok answer) turn = turn ≡ answered (effect answer) (counted after)
@@ -85,3 +92,16 @@ SettlesBy effect before after (Err fault) turn =
 -- the same with one effect
 abbrev pub Settles : {A : Type 0} → World → World → Effect → Result A Fault → Turn → Type 0
 Settles before after effect result turn = SettlesBy (λ answer. effect) before after result turn
+
+-- The same where a process may become ready: or memory ran out, and nothing has changed.
+abbrev pub SettlesIfRoom : {A : Type 0} → (A → Effect) → World → World → Result A Stop → Turn → Type 0
+SettlesIfRoom effect before after (Ok answer) turn = turn ≡ answered (effect answer) (counted after)
+SettlesIfRoom effect before after (Err (stops.Fault fault)) turn =
+    (turn ≡ record { world = faulty fault before; answer = Err fault }) × (after ≡ before)
+SettlesIfRoom effect before after (Err stops.Memory) turn = after ≡ before
+
+-- what is true if memory ran out
+abbrev pub OnMemory : {A : Type 0} → Result A Stop → Type 0 → Type 0
+OnMemory (Ok answer) P = ⊤
+OnMemory (Err (stops.Fault fault)) P = ⊤
+OnMemory (Err stops.Memory) P = P

@@ -1,6 +1,6 @@
 //! Messages over internal channels: the first process to come waits for the second.
 
-ghost use Rattle.std.specs.Prelude.{◌≡◌, ◌+◌, ◌<◌, ◌^◌, IfOk, Some, None, length};
+ghost use Rattle.std.specs.Prelude.{◌≡◌, ◌+◌, ◌<◌, ◌^◌, IfOk, IsTrue, IsOk, Some, None, length};
 ghost use Rattle.module_format.specs.Contents.{contents_of};
 ghost use Rattle.machine_state.specs.Exchanges.{condition_of};
 ghost use Rattle.machine_state.specs.LocalStep.{copied};
@@ -8,13 +8,14 @@ ghost use Rattle.machine_state.specs.Memory.{place_of};
 ghost use Rattle.machine_state.specs.Moves.{wake, with_channel, channel_at};
 ghost use Rattle.machine_state.specs.Turn.{ran};
 ghost use Rattle.channels.specs.Moment.{IsSteady, WaitsForMore};
-ghost use Rattle.channels.specs.Settling.{IsAsked, turn_for, put_after, is_awaited, Settles};
-ghost use Rattle.channels.specs.Settling.{received_by_channel, sent_by_channel};
+ghost use Rattle.channels.specs.Settling.{IsAsked, turn_for, put_after, is_awaited, is_wanted};
+ghost use Rattle.channels.specs.Settling.{received_by_channel, sent_by_channel, SettlesIfRoom, OnMemory};
 
 use crate::message::Message;
+use crate::stop::Stop;
 use crate::traffic::Traffic;
 use certificate::Tables;
-use machine_state::{Channel, Condition, Exchange, Fault, FaultKind, Store};
+use machine_state::{Channel, Condition, Exchange, FaultKind, Store};
 use process_queue::ListQueue;
 
 impl<S: Store> Traffic<S, ListQueue> {
@@ -61,10 +62,11 @@ impl<S: Store> Traffic<S, ListQueue> {
         requires room { 0 < self.old.room }
         requires next { message.now.here.task.registers.at + 1 < 2 ^ 32 }
         requires task { IsSteady message.now.here.task }
-        ensures { let w = self.old.world in
+        ensures world { let w = self.old.world in
             let memory = copied w.memory (place_of source.address) (place_of to.address) source.length w.memory in
             let there = put_after message.now message.now.here.task.condition (record w { memory = memory }) in
             self.new.world ≡ wake other (with_channel source.channel (record channel { waiting = None }) there) }
+        ensures holding { self.new.holding ≡ self.old.holding }
     {
         self.copy(source.address, to.address, source.length);
         self.put_after(message, message.here.task.condition);
@@ -79,29 +81,34 @@ impl<S: Store> Traffic<S, ListQueue> {
     }
 
     /// Receives a message from an internal channel. Answers whether the process goes on: it does if the sender waits
-    /// there already.
+    /// there already. Only then can memory run out.
     #[tactic(auto, unfolding(machine_state::specs::Moves::dispatch))]
     pub(crate) fn receive_inside(
         &mut self,
         tables: &Tables,
         message: &Message,
-    ) -> Result<bool, Fault>
-        requires room { 0 < self.old.room }
+    ) -> Result<bool, Stop>
         requires code { length tables.now.code.now < 2 ^ 32 }
         requires message { IsAsked self.old.holding message.now }
         ensures settles { let turn = turn_for received_by_channel (contents_of tables.now) message.now self.old.world in
-            Settles self.old.world self.new.world ran result turn }
+            SettlesIfRoom (λ goes_on. ran) self.old.world self.new.world result turn }
         ensures goes_on { IfOk result (λ goes_on.
             goes_on ≡ is_awaited (channel_at self.old.world message.now.exchange.channel)) }
+        ensures faultless { let turn = turn_for received_by_channel (contents_of tables.now) message.now self.old.world in
+            OnMemory result (IsOk turn.answer) }
+        ensures waits { let channel = channel_at self.old.world message.now.exchange.channel in
+            OnMemory result (IsTrue (is_awaited channel)) }
+        ensures room { OnMemory result (self.old.room ≡ 0) }
+        ensures holding { self.new.holding ≡ self.old.holding }
     {
         let here = &message.here;
         let exchange = message.exchange;
         let Some(channel) = self.channel(exchange.channel) else {
-            return Err(here.fault(FaultKind::EndNotHeld));
+            return Err(Stop::Fault(here.fault(FaultKind::EndNotHeld)));
         };
         let Some(other) = channel.waiting else {
             if !here.is_followed(tables) {
-                return Err(here.fault(FaultKind::OutsideCode));
+                return Err(Stop::Fault(here.fault(FaultKind::OutsideCode)));
             }
             self.clear_scheduling_words(message.registers);
             self.wait_at(message, channel, Condition::Receiving(exchange));
@@ -109,39 +116,48 @@ impl<S: Store> Traffic<S, ListQueue> {
             return Ok(false);
         };
         let Condition::Sending(sent) = self.condition(other) else {
-            return Err(here.fault(FaultKind::EndNotHeld));
+            return Err(Stop::Fault(here.fault(FaultKind::EndNotHeld)));
         };
         if sent.length != exchange.length {
-            return Err(here.fault(FaultKind::UnequalLengths));
+            return Err(Stop::Fault(here.fault(FaultKind::UnequalLengths)));
         }
         if !here.is_followed(tables) {
-            return Err(here.fault(FaultKind::OutsideCode));
+            return Err(Stop::Fault(here.fault(FaultKind::OutsideCode)));
         }
+        self.reserve()?;
         self.clear_scheduling_words(message.registers);
         self.meet(message, other, sent, exchange, channel);
         Ok(true)
     }
 
     /// Sends a message on an internal channel. Answers whether the process goes on: it does if the receiver waits there
-    /// already. If not, what has enabled the channel becomes ready.
+    /// already. If not, what has enabled the channel becomes ready. Only in these two cases can memory run out.
     #[tactic(auto, unfolding(machine_state::specs::Moves::dispatch))]
-    pub(crate) fn send_inside(&mut self, tables: &Tables, message: &Message) -> Result<bool, Fault>
-        requires room { 0 < self.old.room }
+    pub(crate) fn send_inside(&mut self, tables: &Tables, message: &Message) -> Result<bool, Stop>
         requires code { length tables.now.code.now < 2 ^ 32 }
         requires message { IsAsked self.old.holding message.now }
         ensures settles { let turn = turn_for sent_by_channel (contents_of tables.now) message.now self.old.world in
-            Settles self.old.world self.new.world ran result turn }
+            SettlesIfRoom (λ goes_on. ran) self.old.world self.new.world result turn }
         ensures goes_on { IfOk result (λ goes_on.
             goes_on ≡ is_awaited (channel_at self.old.world message.now.exchange.channel)) }
+        ensures faultless { let turn = turn_for sent_by_channel (contents_of tables.now) message.now self.old.world in
+            OnMemory result (IsOk turn.answer) }
+        ensures wanted { let channel = channel_at self.old.world message.now.exchange.channel in
+            OnMemory result (IsTrue (is_wanted channel)) }
+        ensures room { OnMemory result (self.old.room ≡ 0) }
+        ensures holding { self.new.holding ≡ self.old.holding }
     {
         let here = &message.here;
         let exchange = message.exchange;
         let Some(channel) = self.channel(exchange.channel) else {
-            return Err(here.fault(FaultKind::EndNotHeld));
+            return Err(Stop::Fault(here.fault(FaultKind::EndNotHeld)));
         };
         let Some(other) = channel.waiting else {
             if !here.is_followed(tables) {
-                return Err(here.fault(FaultKind::OutsideCode));
+                return Err(Stop::Fault(here.fault(FaultKind::OutsideCode)));
+            }
+            if channel.enabled.is_some() {
+                self.reserve()?;
             }
             self.clear_scheduling_words(message.registers);
             self.wait_at(message, channel, Condition::Sending(exchange));
@@ -150,14 +166,15 @@ impl<S: Store> Traffic<S, ListQueue> {
             return Ok(false);
         };
         let Condition::Receiving(wanted) = self.condition(other) else {
-            return Err(here.fault(FaultKind::EndNotHeld));
+            return Err(Stop::Fault(here.fault(FaultKind::EndNotHeld)));
         };
         if wanted.length != exchange.length {
-            return Err(here.fault(FaultKind::UnequalLengths));
+            return Err(Stop::Fault(here.fault(FaultKind::UnequalLengths)));
         }
         if !here.is_followed(tables) {
-            return Err(here.fault(FaultKind::OutsideCode));
+            return Err(Stop::Fault(here.fault(FaultKind::OutsideCode)));
         }
+        self.reserve()?;
         self.clear_scheduling_words(message.registers);
         self.meet(message, other, exchange, wanted, channel);
         Ok(true)

@@ -1,20 +1,24 @@
 //! Processes that wait for one another and for the links.
 #![tactic(auto)]
 
+mod counts;
 mod enabled;
 mod here;
 mod inside;
+mod joining;
 mod laws;
 mod links;
 mod message;
 mod messages;
 mod outside;
 mod processor;
+mod stop;
 mod traffic;
 
 pub use here::Here;
-pub use laws::links_read_no_counters;
+pub use laws::{links_read_no_counters, messages_read_no_counters};
 pub use links::Arrival;
 pub use message::Message;
 pub use messages::{Delivery, input_link};
+pub use stop::Stop;
 pub use traffic::Traffic;

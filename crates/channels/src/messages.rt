@@ -1,18 +1,20 @@
 //! Messages, over a link or an internal channel, by the address that names it.
 
-ghost use Rattle.std.specs.Prelude.{◌≡◌, ◌+◌, ◌<◌, ◌^◌, IfOk, length};
+ghost use Rattle.std.specs.Prelude.{◌≡◌, ◌+◌, ◌<◌, ◌^◌, IfOk, IsOk, IsTrue, length};
 ghost use Rattle.std.specs.Option.{option_map};
 ghost use Rattle.module_format.specs.Contents.{contents_of};
 ghost use Rattle.machine_state.specs.Moves.{link_index};
 ghost use Rattle.machine_state.specs.Turn.{ran};
 ghost use Rattle.machine_state.specs.Exchanges.{link_from, input_link, output_link, received, sent};
-ghost use Rattle.channels.specs.Settling.{IsAsked, turn_for, Settles, SettlesBy};
+ghost use Rattle.channels.specs.Settling.{IsAsked, turn_for, SettlesIfRoom, OnMemory};
 ghost use Rattle.channels.specs.Delivering.{effect_of, goes_on, receiver_goes_on, sender_goes_on};
+ghost use Rattle.channels.specs.Delivering.{receiving_may_wake, sending_may_wake};
 
 use crate::message::Message;
+use crate::stop::Stop;
 use crate::traffic::Traffic;
 use certificate::Tables;
-use machine_state::{Fault, Link, Store};
+use machine_state::{Link, Store};
 use process_queue::ListQueue;
 
 /// The address of the word of output link 0, MostNeg. The words of the others follow it (T414 compiler writer's guide).
@@ -66,30 +68,39 @@ fn output_link(address: u32) -> Option<Link>
 
 impl<S: Store> Traffic<S, ListQueue> {
     /// Receives a message from the link or internal channel at its exchange's address. Answers whether the process
-    /// goes on.
-    pub fn receive(&mut self, tables: &Tables, message: &Message) -> Result<bool, Fault>
-        requires room { 0 < self.old.room }
+    /// goes on. Only where a process may become ready, and no rule is broken, can memory run out.
+    pub fn receive(&mut self, tables: &Tables, message: &Message) -> Result<bool, Stop>
         requires code { length tables.now.code.now < 2 ^ 32 }
         requires message { IsAsked self.old.holding message.now }
         ensures settles { let turn = turn_for received (contents_of tables.now) message.now self.old.world in
-            Settles self.old.world self.new.world ran result turn }
+            SettlesIfRoom (λ goes_on. ran) self.old.world self.new.world result turn }
         ensures goes_on { IfOk result (λ goes_on. goes_on ≡ receiver_goes_on message.now.exchange self.old.world) }
+        ensures faultless { let turn = turn_for received (contents_of tables.now) message.now self.old.world in
+            OnMemory result (IsOk turn.answer) }
+        ensures wakes { OnMemory result (IsTrue (receiving_may_wake message.now.exchange self.old.world)) }
+        ensures room { OnMemory result (self.old.room ≡ 0) }
+        ensures holding { self.new.holding ≡ self.old.holding }
     {
         match input_link(message.exchange.channel) {
-            Some(link) => self.receive_on(tables, message, link),
+            Some(link) => Ok(self.receive_on(tables, message, link)?),
             None => self.receive_inside(tables, message),
         }
     }
 
-    /// Sends a message on the link or internal channel at its exchange's address.
-    pub fn send(&mut self, tables: &Tables, message: &Message) -> Result<Delivery, Fault>
-        requires room { 0 < self.old.room }
+    /// Sends a message on the link or internal channel at its exchange's address. Only where a process may become
+    /// ready, and no rule is broken, can memory run out.
+    pub fn send(&mut self, tables: &Tables, message: &Message) -> Result<Delivery, Stop>
         requires code { length tables.now.code.now < 2 ^ 32 }
         requires message { IsAsked self.old.holding message.now }
         ensures settles { let turn = turn_for sent (contents_of tables.now) message.now self.old.world in
-            SettlesBy (effect_of message.now.exchange self.new.world) self.old.world self.new.world result turn }
+            SettlesIfRoom (effect_of message.now.exchange self.new.world) self.old.world self.new.world result turn }
         ensures goes_on { IfOk result (λ delivery.
             goes_on delivery ≡ sender_goes_on message.now.exchange self.old.world) }
+        ensures faultless { let turn = turn_for sent (contents_of tables.now) message.now self.old.world in
+            OnMemory result (IsOk turn.answer) }
+        ensures wakes { OnMemory result (IsTrue (sending_may_wake message.now.exchange self.old.world)) }
+        ensures room { OnMemory result (self.old.room ≡ 0) }
+        ensures holding { self.new.holding ≡ self.old.holding }
     {
         if let Some(link) = output_link(message.exchange.channel) {
             self.send_on(tables, message, link)?;

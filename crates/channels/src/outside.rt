@@ -47,11 +47,12 @@ impl<S: Store> Traffic<S, ListQueue> {
     ) -> Result<(), Fault>
         requires code { length tables.now.code.now < 2 ^ 32 }
         requires message { IsAsked self.old.holding message.now }
-        ensures { let e = message.now.exchange in
+        ensures settles { let e = message.now.exchange in
             let bytes = bytes_at self.new.world.memory (place_of e.address) e.length in
             let turn = turn_for (λ h. sent_outside h (link_index link)) (contents_of tables.now) message.now
             self.old.world in
             Settles self.old.world self.new.world (emitted link bytes) result turn }
+        ensures holding { self.new.holding ≡ self.old.holding }
     {
         let here = &message.here;
         let exchange = message.exchange;
@@ -89,6 +90,7 @@ impl<S: Store> Traffic<S, ListQueue> {
             Settles self.old.world self.new.world ran result turn }
         ensures goes_on { let input = slice_get self.old.world.links.inputs (link_index link) in
             IfOk result (λ goes_on. goes_on ≡ is_complete input message.now.exchange) }
+        ensures holding { self.new.holding ≡ self.old.holding }
     {
         let here = &message.here;
         let exchange = message.exchange;

@@ -10,6 +10,7 @@ ghost use Rattle.machine_state.specs.LocalStep.{holds_scheduling_words, without_
 ghost use Rattle.machine_state.specs.Memory.{data_start, place_of, with_byte};
 ghost use Rattle.channels.specs.Moment.{IsSteady, WaitsForMore};
 
+use crate::counts::{are_still_all, count_of, enabler_of, hand_over};
 use crate::enabled::{any_channel, any_input};
 use certificate::Tables;
 use machine_state::{
@@ -42,12 +43,16 @@ fn cell_of(address: u32) -> usize
 pub struct Traffic<S: Store, Q: ReadyQueue<S>> {
     /// It runs the instructions of whichever process runs. Between two instructions only its store counts.
     pub(crate) cpu: Cpu<S>,
-    running: Option<u64>,
+    pub(crate) running: Option<u64>,
     ready: Q,
-    tasks: Vec<Task>,
+    pub(crate) tasks: Vec<Task>,
     inputs: [InputLink; 4],
     outputs: [OutputLink; 4],
-    channels: Vec<Option<Channel>>,
+    pub(crate) channels: Vec<Option<Channel>>,
+    /// How many links and channels each process has enabled, by process number. Who has no count is searched for.
+    pub(crate) enabled_counts: Vec<usize>,
+    /// Whether nobody else has something enabled.
+    pub(crate) are_all_counted: bool,
 }
 
 impl<S: Store, Q: ReadyQueue<S>> Model for Traffic<S, Q> {
@@ -72,7 +77,8 @@ impl<S: Store, Q: ReadyQueue<S>> Model for Traffic<S, Q> {
       holding = S.holding t.cpu.store;
     } };
 
-    ghost invariant = { λ t. IsSound t.tasks.items t.inputs t.outputs };
+    ghost invariant = { λ t.
+        IsSound t.tasks.items t.inputs t.outputs t.channels.items t.enabled_counts.items t.are_all_counted };
 }
 
 impl<S: Store> Traffic<S, ListQueue> {
@@ -176,11 +182,19 @@ impl<S: Store> Traffic<S, ListQueue> {
     }
 
     /// The input side of the link is this.
+    #[tactic(auto, using(crate::proofs::Counting::has_room))]
     pub fn set_input(&mut self, link: Link, input: InputLink)
         ensures { let w = self.old.world in
             self.new ≡ record self.old { world = with_input (link_index link) input w } }
     {
+        let before = self.input(link).enabled;
         self.inputs[link.index()] = input;
+        self.are_all_counted = are_still_all(
+            self.are_all_counted,
+            &self.enabled_counts,
+            input.enabled,
+        );
+        hand_over(&mut self.enabled_counts, before, input.enabled);
     }
 
     /// The output side of the link is this.
@@ -199,19 +213,43 @@ impl<S: Store> Traffic<S, ListQueue> {
     }
 
     /// The channel at the address is this. Where there can be none, nothing changes.
+    #[tactic(auto, using(crate::proofs::Counting::has_room))]
     pub fn set_channel(&mut self, address: u32, channel: Channel)
         ensures { self.new ≡ record self.old { world = with_channel address channel self.old.world } }
     {
-        if let Some(cell) = self.channels.get_mut(cell_of(address)) {
-            *cell = Some(channel);
+        let place = cell_of(address);
+        if place < self.channels.len() {
+            let before = enabler_of(self.channels[place]);
+            self.channels[place] = Some(channel);
+            self.are_all_counted = are_still_all(
+                self.are_all_counted,
+                &self.enabled_counts,
+                channel.enabled,
+            );
+            hand_over(&mut self.enabled_counts, before, channel.enabled);
         }
+    }
+
+    /// One more process is counted, the next by number: so it takes constant time to tell whether it has something
+    /// enabled. If memory runs out, it is searched for.
+    #[tactic(auto, using(crate::proofs::Uncounted::one_more_counted, crate::proofs::Uncounted::all_after_one_more))]
+    pub fn count_next(&mut self) -> Result<(), AllocError>
+        ensures { self.new ≡ self.old }
+    {
+        if self.are_all_counted {
+            self.enabled_counts.push(0)?;
+        }
+        Ok(())
     }
 
     /// Whether the alternation of this process has something enabled.
     pub fn has_enabled(&self, process: u64) -> bool
         ensures { result ≡ has_enabled self.now.world process }
     {
-        any_input(&self.inputs, process) || any_channel(&self.channels, process)
+        match count_of(&self.enabled_counts, process) {
+            Some(count) => count > 0,
+            None => any_input(&self.inputs, process) || any_channel(&self.channels, process),
+        }
     }
 
     /// The three words below the workspace are undefined, as scheduling leaves them.
@@ -248,6 +286,7 @@ impl<S: Store> Traffic<S, ListQueue> {
 
 impl Traffic<TaggedStore, ListQueue> {
     /// The processes, channels and links as the module is loaded: the root is about to run the first byte of the code.
+    #[tactic(auto, using(crate::proofs::Counting::root_counted, crate::proofs::Uncounted::root_is_all))]
     pub fn load(alloc: Global, tables: &Tables) -> Result<Self, AllocError>
         requires memory { IsLoadable (contents_of tables.now) }
         requires workspace { data_start + 4 * tables.now.base < 2 ^ 32 }
@@ -256,7 +295,6 @@ impl Traffic<TaggedStore, ListQueue> {
     {
         let root = Task::root(tables);
         let cpu = Cpu {
-            process: 0,
             registers: root.registers,
             mode: root.mode,
             code_start: DATA_START + 4 * tables.data_words,
@@ -272,6 +310,8 @@ impl Traffic<TaggedStore, ListQueue> {
             inputs: [QUIET_INPUT; 4],
             outputs: [QUIET_OUTPUT; 4],
             channels: vec![in alloc; None; tables.data_words as usize]?,
+            enabled_counts: vec![in alloc; 0]?,
+            are_all_counted: true,
         })
     }
 }

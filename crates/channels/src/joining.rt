@@ -1,0 +1,179 @@
+//! Moves of starts and joins: those of roles, of the table of channels, and of who runs next.
+
+ghost use Rattle.std.specs.Prelude.{◌≡◌, ◌<◌, ◌∷◌, ◌++◌, [], Some, length, slice_set, vec_len, vec_capacity, MatchResult};
+ghost use Rattle.machine_state.specs.declared.process.Task.{Task as Process};
+ghost use Rattle.machine_state.specs.Joins.{on_role, without_channels};
+ghost use Rattle.machine_state.specs.Memory.{place_of, with_word};
+ghost use Rattle.machine_state.specs.Moves.{on_task, put};
+ghost use Rattle.machine_state.specs.Roles.{without_member, without_join, without_own};
+ghost use Rattle.machine_state.specs.Roles.{with_join, with_branch, branch_role};
+ghost use Rattle.machine_state.specs.Progressing.{progress_view};
+ghost use Rattle.machine_state.specs.Views.{holding_view, join_view};
+ghost use Rattle.channels.specs.Moment.{IsSteady};
+ghost use Rattle.channels.specs.Starting.{with_process, unless_of};
+
+use crate::traffic::Traffic;
+use machine_state::{Channel, Holding, Join, Progress, Store, TaggedStore, Task};
+use process_queue::ListQueue;
+use std::alloc::AllocError;
+
+/// The channel in a cell, unless it is this opener's.
+fn without_channel(cell: Option<Channel>, opener: u64) -> Option<Channel>
+    ensures { result ≡ unless_of opener cell }
+{
+    let channel = cell?;
+    if channel.opener == opener {
+        None
+    } else {
+        Some(channel)
+    }
+}
+
+/// The channels but for those of this opener.
+fn remove_channels(channels: &mut [Option<Channel>], opener: u64)
+    ensures { channels.new ≡ without_channels opener channels.old }
+{
+    for cell in channels {
+        *cell = without_channel(*cell, opener);
+    }
+}
+
+/// The process of this number, if there is one, is this task, and there is one more process.
+fn put_both(tasks: &mut Vec<Task>, process: u64, task: Task, more: Task)
+    requires { vec_len tasks.old < vec_capacity tasks.old }
+    ensures { tasks.new.items ≡ slice_set tasks.old.items process task ++ more ∷ [] }
+{
+    if let Some(place) = tasks.get_mut(process as usize) {
+        *place = task;
+    }
+    tasks.push_reserved(more);
+}
+
+impl<S: Store> Traffic<S, ListQueue> {
+    /// How many processes there are, those that have ended among them.
+    pub fn count(&self) -> u64
+        ensures { result ≡ length self.now.world.tasks }
+    {
+        self.tasks.len() as u64
+    }
+
+    /// The process of this number, if there is one, becomes this task.
+    pub fn set_task(&mut self, process: u64, task: Task)
+        requires { IsSteady task }
+        ensures { self.new ≡ record self.old { world = on_task process (λ (was : Process). task) self.old.world } }
+    {
+        if let Some(place) = self.tasks.get_mut(process as usize) {
+            *place = task;
+        }
+    }
+
+    /// From now on the process of this number runs.
+    pub fn run(&mut self, process: u64)
+        ensures { let w = self.old.world in
+            let queue = record w.queue { running = Some process } in
+            self.new ≡ record self.old { world = record w { queue = queue } } }
+    {
+        self.running = Some(process);
+    }
+
+    /// The channels of this opener are no more. It takes time linear in the data words. What is enabled is counted no
+    /// more, and searched for from now on.
+    pub fn remove_channels(&mut self, opener: u64)
+        ensures { let w = self.old.world in
+            self.new ≡ record self.old { world = record w { channels = without_channels opener w.channels } } }
+    {
+        remove_channels(&mut self.channels, opener);
+        self.enabled_counts.clear();
+        self.are_all_counted = false;
+    }
+}
+
+impl Traffic<TaggedStore, ListQueue> {
+    /// The memory, and the roles of all processes.
+    pub fn store(&self) -> &TaggedStore
+        ensures memory { result.now.cells ≡ self.now.world.memory }
+        ensures roles { result.now.roles ≡ self.now.world.roles }
+    {
+        &self.cpu.store
+    }
+
+    /// The process goes on as this task with this join open, whose first branch is a new process. If memory runs out,
+    /// nothing changes.
+    pub fn open_join(
+        &mut self,
+        process: u64,
+        task: Task,
+        join: Join,
+        branch: Task,
+        own: Holding,
+    ) -> Result<(), AllocError>
+        requires task { IsSteady task }
+        requires branch { IsSteady branch }
+        ensures world { let w = self.old.world in
+            let there = on_role process (with_join (join_view join)) (put process task w.memory w) in
+            let role = branch_role process (holding_view own) in
+            MatchResult result (λ _. self.new.world ≡ with_process branch role there) (λ _. self.new.world ≡ w) }
+        ensures room { self.new.room ≡ self.old.room }
+    {
+        self.tasks.reserve(1)?;
+        self.cpu.store.open_join(process, join, own)?;
+        put_both(&mut self.tasks, process, task, branch);
+        Ok(())
+    }
+
+    /// The process goes on as this task. One more branch of the join that it has open is started, a new process. If
+    /// memory runs out, nothing changes.
+    pub fn advance_join(
+        &mut self,
+        process: u64,
+        task: Task,
+        to: Progress,
+        branch: Task,
+        own: Holding,
+    ) -> Result<(), AllocError>
+        requires task { IsSteady task }
+        requires branch { IsSteady branch }
+        ensures world { let w = self.old.world in
+            let next = with_branch (progress_view to) (length w.tasks) in
+            let there = on_role process next (put process task w.memory w) in
+            let role = branch_role process (holding_view own) in
+            MatchResult result (λ _. self.new.world ≡ with_process branch role there) (λ _. self.new.world ≡ w) }
+        ensures room { self.new.room ≡ self.old.room }
+    {
+        self.tasks.reserve(1)?;
+        let member = self.tasks.len() as u64;
+        self.cpu.store.advance_join(process, to, member, own)?;
+        put_both(&mut self.tasks, process, task, branch);
+        Ok(())
+    }
+
+    /// The word at an address is undefined from now on, whoever holds it.
+    pub fn clear_word(&mut self, address: u32)
+        ensures { let w = self.old.world in
+            let memory = with_word w.memory (place_of address) None in
+            self.new ≡ record self.old { world = record w { memory = memory } } }
+    {
+        self.cpu.store.clear_word(address);
+    }
+
+    /// A process leaves the join that another has open.
+    pub fn leave_join(&mut self, opener: u64, process: u64)
+        ensures { self.new.world ≡ on_role opener (without_member process) self.old.world }
+    {
+        self.cpu.store.leave_join(opener, process);
+    }
+
+    /// The join that the process has open is over.
+    pub fn close_join(&mut self, opener: u64)
+        ensures { self.new.world ≡ on_role opener without_join self.old.world }
+    {
+        self.cpu.store.close_join(opener);
+    }
+
+    /// Nothing is the process's own any more.
+    pub fn give_back(&mut self, process: u64)
+        ensures { self.new.world ≡ on_role process without_own self.old.world }
+    {
+        self.cpu.store.give_back(process);
+    }
+}
