@@ -1,0 +1,6 @@
+pub mod Leaving
+pub mod Taking
+pub mod Within
+pub mod Mapped
+pub mod HiddenWords
+pub mod Passing

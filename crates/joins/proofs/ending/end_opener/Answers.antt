@@ -1,0 +1,27 @@
+use Rattle.std.proofs.Common.{◌≡◌, ◌∙◌, ◌&&◌, true, Some, length, refl, sym, ap}
+use Rattle.std.specs.Prelude.{◌==◌, slice_get}
+use Rattle.module_format.specs.Contents.{contents_of, par_of}
+use Rattle.machine_state.specs.World.{World}
+use Rattle.machine_state.specs.Joins.{opened_by, joined}
+use Rattle.channels.specs.Settling.{here_in}
+use Rattle.joins.specs.declared.open.Open.{Open}
+use Rattle.joins.specs.Locals.{untouched}
+use Rattle.joins.proofs.Leaving.{own_done}
+use Rattle.joins.proofs.ending.end_opener.Goals as goal
+
+pub returns : goal.returns
+returns c = λ join opened same.
+    let m = contents_of c.args.tables.now in
+    let h = here_in m c.args.here.now in
+    let w = c.args.traffic.now.world in
+    let par = par_of c.in-Some.par.now in
+    let row : slice_get m.pars join.row ≡ Some par =
+    ap (λ (o : Open). slice_get m.pars o.row) (sym same) ∙ c.in-Some.ensures in
+    let test : ((join.block == c.args.block) && (join.started == length par.branches)) ≡ true =
+    ap (λ (o : Open). (o.block == c.args.block) && (o.started == length par.branches)) (sym same)
+    ∙ (sym c.is_whole.ensures ∙ c.if-not-is_whole.false) in
+    let there : opened_by c.end.new.traffic.world c.args.here.now.process ≡ Some join =
+    ap (λ (v : World). opened_by v c.args.here.now.process) (c.end.ensures m) ∙ opened in
+    own_done h w join c.args.block (untouched c.args.registers w) par c.leave.new.traffic.world row test
+    (c.leave.ensures m join par there same refl
+    ∙ ap (λ (v : World). joined h c.args.here.now.process join par v) (c.end.ensures m))

@@ -1,0 +1,10 @@
+use Rattle.std.proofs.Common.{◌∙◌}
+use Rattle.std.proofs.lemmas.Result.{IfOk-weaker}
+use Rattle.joins.proofs.Taking.{taken_is}
+use Rattle.joins.proofs.given.left_to_write.Goals as goal
+
+pub returns : goal.returns
+returns c =
+    IfOk-weaker c.without.result _ _ (λ v e. e ∙ taken_is c.args.end c.args.holding.now.writes.items c.args.writes.now
+    c.args.reads.now c.deref.result.now c.deref-2.result.now c.deref.ensures.value
+    (c.deref-2.ensures.value ∙ c.in_ok-taken.ensures)) c.without.ensures

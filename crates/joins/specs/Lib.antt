@@ -1,0 +1,8 @@
+pub mod Finding
+pub mod Gifts
+pub mod Locals
+pub mod Opened
+pub mod Planning
+pub mod Sharing
+pub mod Starts
+pub mod Summary

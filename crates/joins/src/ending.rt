@@ -1,0 +1,175 @@
+//! `endp`: a member of a join ends, and with the last one the join is over.
+
+ghost use Rattle.std.specs.Prelude.{◌≡◌, ◌==◌, ◌&&◌, ◌+◌, ◌<◌, ◌^◌, Some, None, length, slice_get, MatchOption};
+ghost use Rattle.module_format.specs.Contents.{Contents, Par, contents_of, par_of};
+ghost use Rattle.machine_state.specs.World.{Join};
+ghost use Rattle.machine_state.specs.Turn.{ran};
+ghost use Rattle.machine_state.specs.Joins.{opened_by, closed, joined, ended, own_end, branch_end, join_turn};
+ghost use Rattle.channels.specs.Moment.{IsSteady};
+ghost use Rattle.channels.specs.Settling.{here_in, Settles};
+ghost use Rattle.joins.specs.Locals.{untouched};
+ghost use Rattle.joins.specs.Summary.{summary};
+
+use crate::open::{Open, open_of, opener_of};
+use certificate::{ParRow, Stack, Tables};
+use channels::{Here, Traffic};
+use machine_state::{Condition, Fault, FaultKind, Mode, Registers, TaggedStore, Task};
+use process_queue::ListQueue;
+
+/// The process that has opened the join goes on at once after the PAR, with the block as its workspace.
+fn close(traffic: &mut Traffic<TaggedStore, ListQueue>, opener: u64, block: u32, successor: u32)
+    ensures { (join : Join) (par : Par) → block ≡ join.block → successor ≡ par.successor →
+        traffic.new.world ≡ closed opener join par traffic.old.world }
+{
+    let registers = Registers {
+        workspace: block,
+        at: successor,
+        began: successor,
+        operand: 0,
+        stack: Stack::of_empty(None),
+    };
+    traffic.set_task(
+        opener,
+        Task {
+            registers,
+            mode: Mode::Plain,
+            condition: Condition::Ready,
+        },
+    );
+    traffic.close_join(opener);
+    traffic.remove_channels(opener);
+    traffic.run(opener);
+}
+
+/// The process is no member any more. If it was the last one, the join is over; if not, another process may run.
+fn leave(
+    traffic: &mut Traffic<TaggedStore, ListQueue>,
+    here: &Here,
+    opener: u64,
+    seen: Open,
+    successor: u32,
+)
+    ensures { (m : Contents) (join : Join) (par : Par) → opened_by traffic.old.world opener ≡ Some join →
+        seen ≡ summary here.now.process join → successor ≡ par.successor →
+        traffic.new.world ≡ joined (here_in m here.now) opener join par traffic.old.world }
+{
+    traffic.leave_join(opener, here.process);
+    if seen.is_last {
+        close(traffic, opener, seen.block, successor);
+    } else {
+        traffic.give_way(here);
+    }
+}
+
+/// The process has ended.
+fn end(traffic: &mut Traffic<TaggedStore, ListQueue>, here: &Here, registers: Registers)
+    requires { here.now.task.registers.at + 1 < 2 ^ 32 }
+    ensures { (m : Contents) → let w = traffic.old.world in
+        traffic.new.world ≡ ended (here_in m here.now) (untouched registers w) w }
+{
+    let task = here.continued(here.next(), registers);
+    let mode = Mode::Plain;
+    let condition = Condition::Ended;
+    traffic.put(
+        here.process,
+        Task {
+            mode,
+            condition,
+            ..task
+        },
+    );
+}
+
+/// The row of a PAR, if there is one of this number.
+fn row_at<'t>(tables: &'t Tables, row: u32) -> Option<&'t ParRow>
+    ensures { let found = slice_get (contents_of tables.now).pars row in
+        MatchOption result (found ≡ None) (λ par. found ≡ Some (par_of par.now)) }
+{
+    tables.pars.get(row as usize)
+}
+
+/// Whether the block is the join's, and all branches of its PAR are started.
+fn is_whole(seen: Open, par: &ParRow, block: u32) -> bool
+    ensures { result ≡ ((seen.block == block) && (seen.started == length (par_of par.now).branches)) }
+{
+    seen.block == block && seen.started as usize == par.branches.len()
+}
+
+/// The end of the process that has started the branches: all of them.
+fn end_opener(
+    traffic: &mut Traffic<TaggedStore, ListQueue>,
+    tables: &Tables,
+    here: &Here,
+    seen: Open,
+    block: u32,
+    registers: Registers,
+) -> Result<(), Fault>
+    requires { here.now.task.registers.at + 1 < 2 ^ 32 }
+    ensures { (join : Join) → let h = here_in (contents_of tables.now) here.now in
+        let w = traffic.old.world in
+        opened_by w here.now.process ≡ Some join → seen ≡ summary here.now.process join →
+        Settles w traffic.new.world ran result (own_end h join block (untouched registers w) w) }
+{
+    let Some(par) = row_at(tables, seen.row) else {
+        return Err(here.fault(FaultKind::JoinOrder));
+    };
+    if !is_whole(seen, par, block) {
+        return Err(here.fault(FaultKind::JoinOrder));
+    }
+    end(traffic, here, registers);
+    leave(traffic, here, here.process, seen, par.successor);
+    Ok(())
+}
+
+/// The end of a branch of the join that this process has open.
+fn end_branch(
+    traffic: &mut Traffic<TaggedStore, ListQueue>,
+    tables: &Tables,
+    here: &Here,
+    opener: u64,
+    seen: Open,
+    block: u32,
+    registers: Registers,
+) -> Result<(), Fault>
+    requires { here.now.task.registers.at + 1 < 2 ^ 32 }
+    ensures { (join : Join) → let h = here_in (contents_of tables.now) here.now in
+        let w = traffic.old.world in
+        opened_by w opener ≡ Some join → seen ≡ summary here.now.process join →
+        Settles w traffic.new.world ran result (branch_end h opener join block (untouched registers w) w) }
+{
+    let Some(par) = row_at(tables, seen.row) else {
+        return Err(here.fault(FaultKind::JoinOrder));
+    };
+    if seen.block != block {
+        return Err(here.fault(FaultKind::JoinOrder));
+    }
+    end(traffic, here, registers);
+    traffic.give_back(here.process);
+    leave(traffic, here, opener, seen, par.successor);
+    Ok(())
+}
+
+/// Ends the process, which is a member of a join: the one that has started the branches, or one of these.
+///
+/// With the last member the join is over, and the process that has opened it goes on at once. Where the process is in
+/// no join, where the block is not the join's, or where not all branches are started, the fault is `JoinOrder`.
+pub fn join(
+    traffic: &mut Traffic<TaggedStore, ListQueue>,
+    tables: &Tables,
+    here: &Here,
+    block: u32,
+    registers: Registers,
+) -> Result<(), Fault>
+    requires { here.now.task.registers.at + 1 < 2 ^ 32 }
+    ensures { let h = here_in (contents_of tables.now) here.now in
+        let w = traffic.old.world in
+        Settles w traffic.new.world ran result (join_turn h block (untouched registers w) w) }
+{
+    if let Some(seen) = open_of(traffic, here.process, here.process) {
+        return end_opener(traffic, tables, here, seen, block, registers);
+    }
+    let fault = here.fault(FaultKind::JoinOrder);
+    let opener = opener_of(traffic, here.process).ok_or(fault)?;
+    let seen = open_of(traffic, opener, here.process).ok_or(fault)?;
+    end_branch(traffic, tables, here, opener, seen, block, registers)
+}
