@@ -4,7 +4,7 @@ use crate::call::{Call, ModuleCall};
 use crate::failure::Failure;
 use certificate::{Module, write};
 use machine::Checked;
-use machine_state::{Effect, Event};
+use machine_state::{Effect, Event, Link};
 use occam_layout::{Line, lines};
 use occam_parser::parse;
 use std::alloc::Global;
@@ -65,11 +65,27 @@ fn verify_repeatedly(alloc: Global, module: &Module, times: u64) -> Result<u64, 
     Ok(checksum)
 }
 
+/// The event after one that had this effect: a message that goes out is acknowledged, and to a process that waits a byte
+/// comes on link 0.
+fn next_event(effect: Effect<'_>) -> Event {
+    match effect {
+        Effect::Emitted { link, .. } => Event::Acknowledge { link },
+        Effect::Idle => Event::Arrive {
+            link: Link::Zero,
+            byte: 1,
+        },
+        _ => STEP,
+    }
+}
+
 /// Whether each event ran an instruction byte, and how many were executed.
 fn apply_repeatedly(machine: &mut Checked, times: u64) -> Result<u64, Failure> {
     let mut checksum = 0;
+    let mut event = STEP;
     for _ in 0..times {
-        let has_run = matches!(machine.apply(STEP)?, Effect::Ran);
+        let effect = machine.apply(event)?;
+        let has_run = matches!(effect, Effect::Ran);
+        event = next_event(effect);
         checksum = mixed(checksum, u64::from(has_run));
     }
     Ok(mixed(checksum, machine.executed()))

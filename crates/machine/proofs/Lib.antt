@@ -1,1 +1,3 @@
 mod Going
+pub mod Granting
+pub mod Performing

@@ -1,6 +1,7 @@
 //! The reference machine: it runs any module, and reports the first rule that a process breaks.
 
 mod act;
+mod granting;
 mod links;
 mod machine;
 mod step;
@@ -8,12 +9,12 @@ mod step;
 ghost use Rattle.std.specs.Prelude.{◌≡◌, IfOk};
 ghost use Rattle.machine_state.specs.World.{loaded};
 ghost use Rattle.machine_state.specs.Happens.{turn};
-ghost use Rattle.machine.specs.Applying.{Applies, effect_of};
+ghost use Rattle.machine.specs.Applying.{Applies, IsDefined, effect_of};
 ghost use Rattle.machine.specs.Asking.{is_running, wants};
 
 use act::Act;
-pub use act::Stop;
 use certificate::Module;
+pub use channels::Stop;
 use machine::Machine;
 use machine_state::{Effect, Event, Link};
 use std::alloc::{AllocError, Global};
@@ -52,6 +53,7 @@ impl<'a> Checked<'a> {
     fn advance(&mut self, event: Event) -> Result<Act, Stop>
         ensures applies { let expected = turn self.old.contents self.old.world event in
             Applies self.old.world self.new.world result expected }
+        ensures defined { IfOk result (λ act. IsDefined act self.new.world.memory) }
         ensures contents { self.new.contents ≡ self.old.contents }
     {
         if let Some(fault) = self.machine.fault() {
@@ -77,9 +79,14 @@ impl<'a> Checked<'a> {
 
     /// What the last event did, as it is reported.
     fn effect(&self, act: Act) -> Effect<'_>
-        ensures { shown result ≡ effect_of act }
+        requires { IsDefined act self.now.world.memory }
+        ensures { shown result ≡ effect_of self.now.world.memory act }
     {
         match act {
+            Act::Emitted { link, exchange } => Effect::Emitted {
+                link,
+                bytes: self.machine.traffic.bytes(exchange),
+            },
             Act::Ran => Effect::Ran,
             Act::Idle => Effect::Idle,
             Act::Taken => Effect::Taken,

@@ -1,10 +1,9 @@
 -- What a plain Step can do, and what runs of them come to.
 use Rattle.std.proofs.Common.{◌≡◌, ◌≢◌, ℕ, zero, suc, ◌+◌, ◌-◌, ◌<◌, ◌≤◌, nat_le, Bool, true, false, List, [], ◌∷◌}
 use Rattle.std.proofs.Common.{◌++◌, Option, Some, None, is_some, Ok, Err, slice_get, replicate, refl, ap, sym, subst}
-use Rattle.std.proofs.Common.{◌∙◌, arith, cond, not, length, nat_lt, ◌==◌, ℤ, inl, inr}
+use Rattle.std.proofs.Common.{◌∙◌, arith, cond, not, length, nat_lt, ℤ}
 use Rattle.std.proofs.lemmas.Bool.{leb-true}
-use Rattle.std.proofs.lemmas.List.{length-set, replicate_more}
-use Rattle.std.proofs.lemmas.Option.{slice_get_cases}
+use Rattle.std.proofs.lemmas.List.{replicate_more}
 use Rattle.prefix_decoder.specs.Functions.{fun_of, function_code, nibble}
 use Rattle.prefix_decoder.specs.Operand.{with_nibble, after_prefix}
 use Rattle.module_format.specs.Contents.{Contents}
@@ -13,19 +12,23 @@ use Rattle.machine_state.specs.declared.event.Event.{Event}
 use Rattle.machine_state.specs.declared.event.Effect.{Effect as LentEffect}
 use Rattle.machine_state.specs.declared.event.Effect.TheVariants as effects
 use Rattle.machine_state.specs.declared.fault.Fault.{Fault}
+use Rattle.machine_state.specs.declared.link.Link.{Link}
 use Rattle.machine_state.specs.declared.process.Task.{Task}
-use Rattle.machine_state.specs.Memory.{Memory}
-use Rattle.machine_state.specs.World.{World, Queue, loaded}
+use Rattle.machine_state.specs.World.{World, loaded}
 use Rattle.machine_state.specs.declared.fault.FaultKind.TheVariants.{OutsideCode}
-use Rattle.machine_state.specs.Site.{Local, Outcome}
+use Rattle.machine_state.specs.Site.{Outcome}
 use Rattle.machine_state.specs.Instructions.{has_body}
 use Rattle.machine_state.specs.LocalStep.{local_step}
-use Rattle.machine_state.proofs.Bodied.{IsLocal, it_goes, it_jumps, it_lands, it_stops, it_fails}
-use Rattle.machine_state.proofs.Bodied.{local_steps_are_local}
-use Rattle.machine_state.specs.Moves.{counted, finished_where, put, leave, picked, dispatch}
-use Rattle.machine_state.specs.Happens.{Effect, ran, idle, answered, Here, Turn, turn, turn_by, happens, run_from}
-use Rattle.machine_state.specs.Happens.{failed, site_of, settled, prefix_turn, byte_turn, task_turn, step_turn}
+use Rattle.machine_state.specs.Moves.{counted, put}
+use Rattle.machine_state.specs.Waiting.{Line, AllReady, line_of}
+use Rattle.machine_state.specs.EventLaws.{bytes_of}
+use Rattle.machine_state.specs.Happens.{Effect, ran, idle, emitted, answered, Here, Turn, turn, turn_by, happens, run_from}
+use Rattle.machine_state.specs.Happens.{run_by, failed, site_of, settled, prefix_turn, byte_turn, task_turn, step_turn}
 use Rattle.machine_state.specs.Happens.{most_executed}
+use Rattle.machine_state.proofs.EventLaws.{events_count_bytes, faults_are_kept}
+use Rattle.machine_state.proofs.Turns as turns
+use Rattle.machine_state.proofs.Turns.{Ends, settled_ends}
+use Rattle.machine_state.proofs.Waiting.{lines_are_ready}
 use Rattle.machine.specs.Asking.{Execution, is_running}
 use Rattle.machine.specs.Lending.{shown}
 use Rattle.verifier.specs.Headline.{AreEvents, IsWell, RunsWell}
@@ -33,60 +36,30 @@ use Rattle.tpm.specs.Running.{plain_step, world_at}
 
 -- ---- one Step
 
--- Nobody is ready, and who runs is there: so it is as long as no process starts another.
-pub record IsAlone (w : World) : Type 0 where
-  pub none_ready : w.queue.ready ≡ []
-  pub there : (p : ℕ) → w.queue.running ≡ Some p → p < length w.tasks
-
 -- A Step finds nobody who runs, executes a byte, or is at fault.
 pub data Steps (w : World) : Turn → Type 0 where
-  idles : (IsAlone w → w.counters.executed < most_executed → w.queue.running ≡ None) → Steps w (answered idle w)
-  runs : (after : World) → after.counters.executed ≡ w.counters.executed + 1 → (IsAlone w → IsAlone after)
-      → Steps w (answered ran after)
-  faults : (after : World) (f : Fault) → after.fault ≡ Some f → Steps w (record { world = after; answer = Err f })
-
--- who runs goes on
-alone_put : (p : ℕ) (task : Task) (memory : Memory) (w : World) → IsAlone w → IsAlone (counted (put p task memory w))
-alone_put p task memory w alone = record {
-  none_ready = alone.none_ready;
-  there = λ q is. let inside = alone.there q is in rw length-set inside;
-}
-
--- who runs is the last to run
-alone_stopped : (p pick : ℕ) (task : Task) (memory : Memory) (finishes : Bool) (w : World) → IsAlone w
-    → IsAlone (counted (dispatch pick (leave (finished_where finishes (put p task memory w)))))
-unfolding dispatch
-alone_stopped p pick task memory finishes w alone =
-    let over : picked pick (record { running = None; ready = w.queue.ready }) ≡ record { running = None; ready = [] } =
-    ap (λ (ready : List ℕ). picked pick (record { running = None; ready = ready })) alone.none_ready in
-    record {
-      none_ready = ap (λ (q : Queue). q.ready) over;
-      there = λ q is. absurd (nobody (sym (ap (λ (x : Queue). x.running) over) ∙ is));
-    }
-  where
-    nobody : {q : ℕ} → None ≡ Some q → ⊥
-    nobody e = cc
+  idles : (Line w.tasks w.queue → w.counters.executed < most_executed → w.queue.running ≡ None)
+      → Steps w (answered idle w)
+  runs : (after : World) → Steps w (answered ran after)
+  emits : (link : Link) (bytes : List ℕ) (after : World) → Steps w (answered (emitted link bytes) after)
+  faults : (after : World) (f : Fault) → Steps w (record { world = after; answer = Err f })
 
 -- an instruction of a process
 abbrev at_here : Contents → ℕ → Task → Here
 at_here m p task = record { contents = m; process = p; from = task; next = task.registers.at + 1; pick = 0 }
 
-steps_settled : (h : Here) (o : Outcome) → IsLocal o → (w : World) → Steps w (settled h false o w)
-unfolding dispatch
-steps_settled h o (it_goes {l = l}) w = runs _ refl (alone_put h.process _ l.memory w)
-steps_settled h o (it_jumps {l = l}) w = runs _ refl (alone_put h.process _ l.memory w)
-steps_settled h o (it_lands {l = l}) w = runs _ refl (alone_put h.process _ l.memory w)
-steps_settled h o (it_stops {l = l}) w =
-    runs _ refl (alone_stopped h.process h.pick _ l.memory (h.next == h.contents.finish) w)
-steps_settled h o it_fails w = faults _ _ refl
+steps_ended : (h : Here) (o : Outcome) (w : World) (t : Turn) → Ends h w o t → Steps w t
+steps_ended h o w t (turns.at_fault kind) = faults _ _
+steps_ended h o w t (turns.has_run moved) = runs _
+steps_ended h o w t (turns.has_emitted e l k on same) = emits _ _ _
 
 steps_prefix : (h : Here) (operand : ℤ) (w : World) → Steps w (prefix_turn h operand w)
 steps_prefix h operand w =
     let later : Task = record h.from { registers = record h.from.registers { at = h.next; operand = operand } } in
     elim (nat_lt h.next (length h.contents.code)) as (λ b. Steps w
     (cond b (answered ran (counted (put h.process later w.memory w))) (failed h OutsideCode w))) [
-      | true ↦ runs _ refl (alone_put h.process later w.memory w)
-      | false ↦ faults _ _ refl
+      | true ↦ runs _
+      | false ↦ faults _ _
     ]
 
 steps_byte : (m : Contents) (p : ℕ) (task : Task) (byte : ℕ) (w : World)
@@ -94,14 +67,13 @@ steps_byte : (m : Contents) (p : ℕ) (task : Task) (byte : ℕ) (w : World)
 steps_byte m p task byte w =
     let operand = with_nibble task.registers.operand (nibble byte) in
     let site = site_of (at_here m p task) w in
-    let before : Local = record { registers = task.registers; memory = w.memory } in
+    let step = λ f. local_step site f operand (turns.local_here task w) in
     elim (fun_of (function_code byte)) as (λ o. Steps w (elim o [
-      | Some f ↦ settled (at_here m p task) false (local_step site f operand before) w
+      | Some f ↦ settled (at_here m p task) false (step f) w
       | None ↦ prefix_turn (at_here m p task) (after_prefix (function_code byte) operand) w
     ])) [
       | None ↦ steps_prefix (at_here m p task) (after_prefix (function_code byte) operand) w
-      | Some f ↦ steps_settled (at_here m p task) (local_step site f operand before)
-          (local_steps_are_local site f operand before) w
+      | Some f ↦ steps_ended (at_here m p task) (step f) w _ (settled_ends (at_here m p task) w false (step f))
     ]
 
 steps_task : (m : Contents) (p : ℕ) (task : Task) (w : World) → Steps w (task_turn has_body (at_here m p task) false w)
@@ -110,20 +82,16 @@ steps_task m p task w =
       | None ↦ failed (at_here m p task) OutsideCode w
       | Some byte ↦ byte_turn has_body (at_here m p task) byte false w
     ])) [
-      | None ↦ faults _ _ refl
+      | None ↦ faults _ _
       | Some byte ↦ steps_byte m p task byte w
     ]
 
--- the process that runs is there
-process_there : (w : World) (p : ℕ) → w.queue.running ≡ Some p → slice_get w.tasks p ≡ None → IsAlone w
-    → w.queue.running ≡ None
-process_there w p running absent alone =
-    let inside = alone.there p running in
-    elim (slice_get_cases w.tasks p).1 [
-      | inl found ↦ absurd (nobody (sym absent ∙ found.2))
-      | inr past ↦ absurd
-          (omega (arith, past.0))
-    ]
+-- who runs is there
+process_there : (w : World) (p : ℕ) → w.queue.running ≡ Some p → slice_get w.tasks p ≡ None
+    → Line w.tasks w.queue → w.queue.running ≡ None
+process_there w p running absent line =
+    let first = subst (λ (o : Option ℕ). AllReady w.tasks (line_of o w.queue.ready)) running line.ready in
+    absurd (nobody (sym absent ∙ first.0.here))
   where
     nobody : {x : Task} → None ≡ Some x → ⊥
     nobody e = cc
@@ -133,8 +101,8 @@ steps_process : (m : Contents) (p : ℕ) (w : World) (over : Bool) (o : Option T
     → Steps w (cond over (answered idle w) (elim o
     [ None ↦ answered idle w | Some task ↦ task_turn has_body (at_here m p task) false w ]))
 steps_process m p w true o running most here =
-    idles (λ alone small. let above = leb-true most_executed w.counters.executed most in absurd (omega arith))
-steps_process m p w false None running most here = idles (λ alone small. process_there w p running here alone)
+    idles (λ line small. let above = leb-true most_executed w.counters.executed most in absurd (omega arith))
+steps_process m p w false None running most here = idles (λ line small. process_there w p running here line)
 steps_process m p w false (Some task) running most here = steps_task m p task w
 
 steps_running : (m : Contents) (w : World) (o : Option ℕ) → w.queue.running ≡ o
@@ -144,47 +112,39 @@ steps_running : (m : Contents) (w : World) (o : Option ℕ) → w.queue.running 
           (answered idle w) (elim (slice_get w.tasks p)
           [ None ↦ answered idle w | Some task ↦ task_turn has_body (at_here m p task) false w ])
     ])
-steps_running m w None running = idles (λ alone small. running)
+steps_running m w None running = idles (λ line small. running)
 steps_running m w (Some p) running = steps_process m p w (nat_le most_executed w.counters.executed)
     (slice_get w.tasks p) running refl refl
 
-steps_unless : (m : Contents) (w : World) (o : Option Fault) → w.fault ≡ o
+steps_unless : (m : Contents) (w : World) (o : Option Fault)
     → Steps w (elim o [ None ↦ step_turn has_body m false 0 w | Some f ↦ record { world = w; answer = Err f } ])
-steps_unless m w None is = steps_running m w w.queue.running refl
-steps_unless m w (Some f) is = faults w f is
+steps_unless m w None = steps_running m w w.queue.running refl
+steps_unless m w (Some f) = faults w f
 
 steps : (m : Contents) (w : World) → Steps w (turn m w plain_step)
 unfolding turn_by
-steps m w = steps_unless m w w.fault refl
+steps m w = steps_unless m w w.fault
 
 -- ---- what an answer tells
 
 idle_world : (w : World) (t : Turn) → Steps w t → t.answer ≡ Ok idle → t.world ≡ w
 idle_world w t (idles nobody) e = refl
-idle_world w t (runs after more alone) e = absurd (cc)
-idle_world w t (faults after f at) e = absurd (cc)
+idle_world w t (runs after) e = absurd (cc)
+idle_world w t (emits link bytes after) e = absurd (cc)
+idle_world w t (faults after f) e = absurd (cc)
 
-nobody_runs : (w : World) (t : Turn) → Steps w t → t.answer ≡ Ok idle → IsAlone w
+nobody_runs : (w : World) (t : Turn) → Steps w t → t.answer ≡ Ok idle → Line w.tasks w.queue
     → w.counters.executed < most_executed → w.queue.running ≡ None
-nobody_runs w t (idles nobody) e alone small = nobody alone small
-nobody_runs w t (runs after more later) e alone small = absurd (cc)
-nobody_runs w t (faults after f at) e alone small = absurd (cc)
+nobody_runs w t (idles nobody) e line small = nobody line small
+nobody_runs w t (runs after) e line small = absurd (cc)
+nobody_runs w t (emits link bytes after) e line small = absurd (cc)
+nobody_runs w t (faults after f) e line small = absurd (cc)
 
-more_world : (w : World) (t : Turn) → Steps w t → (d : Effect) → t.answer ≡ Ok d → d ≢ idle
-    → t.world.counters.executed ≡ w.counters.executed + 1
-more_world w t (idles nobody) d e not = absurd (not (cc))
-more_world w t (runs after more alone) d e not = more
-more_world w t (faults after f at) d e not = absurd (cc)
-
-alone_world : (w : World) (t : Turn) → Steps w t → t.world.fault ≡ None → IsAlone w → IsAlone t.world
-alone_world w t (idles nobody) none alone = alone
-alone_world w t (runs after more later) none alone = later alone
-alone_world w t (faults after f at) none alone = absurd (cc)
-
-no_fault_world : (w : World) (t : Turn) → Steps w t → (f : Fault) → t.world.fault ≡ None → t.answer ≡ Err f → ⊥
-no_fault_world w t (idles nobody) f none e = cc
-no_fault_world w t (runs after more alone) f none e = cc
-no_fault_world w t (faults after g at) f none e = cc
+one_byte : (w : World) (t : Turn) → Steps w t → (d : Effect) → t.answer ≡ Ok d → d ≢ idle → bytes_of t.answer ≡ 1
+one_byte w t (idles nobody) d e not = absurd (not (cc))
+one_byte w t (runs after) d e not = refl
+one_byte w t (emits link bytes after) d e not = refl
+one_byte w t (faults after f) d e not = absurd (cc)
 
 -- an idle Step changes nothing
 pub idle_stays : (m : Contents) (w : World) → (turn m w plain_step).answer ≡ Ok idle → happens m w plain_step ≡ w
@@ -193,12 +153,17 @@ idle_stays m w = idle_world w (turn m w plain_step) (steps m w)
 -- any other executes a byte
 pub one_more : (m : Contents) (w : World) (d : Effect) → (turn m w plain_step).answer ≡ Ok d → d ≢ idle
     → (happens m w plain_step).counters.executed ≡ w.counters.executed + 1
-one_more m w d e not = more_world w (turn m w plain_step) (steps m w) d e not
+one_more m w d e not =
+    events_count_bytes has_body m w plain_step
+    ∙ ap (λ (n : ℕ). w.counters.executed + n) (one_byte w (turn m w plain_step) (steps m w) d e not)
 
 -- where no fault comes, none is told
 pub no_fault : (m : Contents) (w : World) (f : Fault) → (happens m w plain_step).fault ≡ None
     → (turn m w plain_step).answer ≡ Err f → ⊥
-no_fault m w f none e = no_fault_world w (turn m w plain_step) (steps m w) f none e
+no_fault m w f none e = never (sym none ∙ faults_are_kept has_body m w plain_step f e)
+  where
+    never : None ≡ Some f → ⊥
+    never same = cc
 
 -- an effect that is not idle tells of something else
 pub not_idle : (e : LentEffect) → (e ≡ effects.Idle → ⊥) → shown e ≢ idle
@@ -291,30 +256,27 @@ pub idle_count : (m : Contents) (machine later : Execution) → machine.contents
     → (turn machine.contents machine.world plain_step).answer ≡ Ok idle → later.world ≡ machine.world
 idle_count m machine later at stepped told = stepped ∙ idle_stays machine.contents machine.world told
 
+-- ---- who runs is there
+
+run_same : (m : Contents) (w : World) (es : List Event) → run_by has_body m w es ≡ run_from m w es
+run_same m w [] = refl
+run_same m w (e ∷ es) = run_same m (happens m w e) es
+
+pub line_at : (m : Contents) (machine : Execution) → IsAt m machine → Line machine.world.tasks machine.world.queue
+line_at m machine at =
+    let steps = replicate at.count plain_step in
+    subst (λ (w : World). Line w.tasks w.queue) (run_same m (loaded m) steps ∙ sym at.world)
+    (lines_are_ready has_body m steps)
+
 -- nobody runs then
-pub idle_ends : (m : Contents) (machine later : Execution) → machine.contents ≡ m
+pub idle_ends : (m : Contents) (machine later : Execution) → IsAt m machine
     → later.world ≡ happens machine.contents machine.world plain_step
-    → IsAlone machine.world → machine.world.counters.executed < most_executed
+    → machine.world.counters.executed < most_executed
     → (turn machine.contents machine.world plain_step).answer ≡ Ok idle → is_running later.world ≡ false
-idle_ends m machine later at stepped alone small told =
-    ap is_running (idle_count m machine later at stepped told)
+idle_ends m machine later at stepped small told =
+    ap is_running (idle_count m machine later at.contents stepped told)
     ∙ ap is_some (nobody_runs machine.world (turn machine.contents machine.world plain_step)
-    (steps machine.contents machine.world) told alone small)
-
--- ---- the root alone
-
-pub alone_start : (m : Contents) (machine : Execution) → machine ≡ record { contents = m; world = loaded m }
-    → IsAlone machine.world
-alone_start m machine is = subst (λ (x : Execution). IsAlone x.world) (sym is) (record {
-  none_ready = refl;
-  there = λ p running. let first : 0 ≡ p = cc in omega arith;
-})
-
-pub alone_next : (machine later : Execution) → later.world ≡ happens machine.contents machine.world plain_step
-    → (happens machine.contents machine.world plain_step).fault ≡ None → IsAlone machine.world → IsAlone later.world
-alone_next machine later stepped none alone =
-    subst IsAlone (sym stepped) (alone_world machine.world (turn machine.contents machine.world plain_step)
-    (steps machine.contents machine.world) none alone)
+    (steps machine.contents machine.world) told (line_at m machine at) small)
 
 -- no run of a module that keeps the format comes near the greatest count
 pub small : (m : Contents) (machine : Execution) → Keeps m → RunsWell m → IsAt m machine

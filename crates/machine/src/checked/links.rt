@@ -4,9 +4,9 @@ ghost use Rattle.machine_state.specs.Moves.{link_index};
 ghost use Rattle.machine_state.specs.Happens.{arrive_turn, acknowledge_turn};
 ghost use Rattle.machine.specs.Applying.{Applies};
 
-use super::act::{Act, Stop};
+use super::act::Act;
 use super::machine::Machine;
-use channels::{Arrival, links_read_no_counters};
+use channels::{Arrival, Stop, links_read_no_counters};
 use machine_state::Link;
 
 impl Machine {

@@ -7,22 +7,24 @@ ghost use Rattle.machine_state.specs.Memory.{data_start};
 ghost use Rattle.machine_state.specs.Happens.{most_executed};
 ghost use Rattle.machine_state.specs.Moves.{counted, finished_where, faulty};
 ghost use Rattle.channels.specs.Settling.{here_in};
-ghost use Rattle.machine_state.specs.Performing.{AsksNothing};
-ghost use Rattle.machine.specs.Applying.{PerformsFor, outcome_at};
+ghost use Rattle.machine.specs.Applying.{PerformsFor, AsksRightly, outcome_at};
 
 use certificate::Tables;
 use channels::{Here, Traffic};
 use direct_functions::direct;
-use machine_state::{DATA_START, Fault, Flow, Registers, TaggedStore};
+use machine_state::{DATA_START, Fault, FaultKind, Flow, Registers, TaggedStore};
 use prefix_decoder::Fun;
 use process_queue::ListQueue;
 use std::alloc::{AllocError, Global};
 use std::marker::Model;
 
+/// All that processes share.
+pub(crate) type Processes = Traffic<TaggedStore, ListQueue>;
+
 /// The whole machine at a moment, apart from its module.
 #[derive(Drop)]
 pub(crate) struct Machine {
-    pub(crate) traffic: Traffic<TaggedStore, ListQueue>,
+    pub(crate) traffic: Processes,
     executed: u64,
     is_finished: bool,
     fault: Option<Fault>,
@@ -106,17 +108,17 @@ impl Machine {
         here: &Here,
         fun: Fun,
         operand: i32,
-    ) -> Result<(Flow, Registers), Fault>
+    ) -> Result<(Flow, Registers), FaultKind>
         requires code { length tables.now.code.now < 2 ^ 32 }
         requires start { data_start + 4 * tables.now.data_words < 2 ^ 32 }
         ensures performs { let m = contents_of tables.now in
             let outcome = outcome_at (here_in m here.now) fun operand self.old.world in
-            PerformsFor here.now self.old self.new result outcome }
-        ensures local { IfOk result (λ gone_on. AsksNothing gone_on.0) }
+            PerformsFor self.old self.new result outcome }
+        ensures asks { IfOk result (λ gone_on.
+            AsksRightly (here_in (contents_of tables.now) here.now) gone_on.0 gone_on.1 self.new) }
     {
         self.traffic.select(here.process);
         let cpu = self.traffic.cpu();
-        cpu.process = here.process;
         cpu.registers = here.task.registers;
         cpu.mode = here.task.mode;
         cpu.code_start = DATA_START + 4 * tables.data_words;

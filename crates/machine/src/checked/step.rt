@@ -1,23 +1,23 @@
 //! One byte of the running process.
 
-ghost use Rattle.std.specs.Prelude.{◌≡◌, ◌+◌, ◌*◌, ◌<◌, ◌^◌, IsTrue, length, slice_get};
+ghost use Rattle.std.specs.Prelude.{◌≡◌, ◌+◌, ◌*◌, ◌<◌, ◌^◌, ◌==◌, if◌then◌else◌, IsTrue, length, slice_get};
 ghost use Rattle.module_format.specs.Contents.{contents_of};
-ghost use Rattle.machine_state.specs.Happens.{settled, answered, ran, prefix_turn, task_turn, step_turn};
+ghost use Rattle.machine_state.specs.Happens.{settled, between, prefix_turn, task_turn, step_turn};
 ghost use Rattle.machine_state.specs.Happens.{most_executed};
-ghost use Rattle.machine.specs.Applying.{Applies, turn_of, outcome_of, outcome_at};
+ghost use Rattle.machine.specs.Applying.{Applies, AsksRightly, IsAsk, outcome_of, outcome_at};
 ghost use Rattle.machine_state.specs.Instructions.{has_body};
 ghost use Rattle.machine_state.specs.Memory.{data_start};
 ghost use Rattle.machine_state.specs.Faults.{fault_in};
-ghost use Rattle.machine_state.specs.Moves.{faulty};
-ghost use Rattle.machine_state.specs.Performing.{AsksNothing};
+ghost use Rattle.machine_state.specs.Moves.{counted, faulty, put, leave, enqueue, dispatch, finished_where};
+ghost use Rattle.machine_state.specs.declared.process.Condition.TheVariants.{Stopped};
 ghost use Rattle.prefix_decoder.specs.Operand.{IsRegister};
 ghost use Rattle.channels.specs.Moment.{IsSteady};
-ghost use Rattle.channels.specs.Settling.{here_in};
+ghost use Rattle.channels.specs.Settling.{here_in, OnMemory};
 
-use super::act::{Act, Stop};
+use super::act::Act;
 use super::machine::Machine;
 use certificate::Tables;
-use channels::Here;
+use channels::{Here, Stop};
 use machine_state::{Condition, Fault, FaultKind, Flow, Registers, Task};
 use prefix_decoder::Fun;
 use prefix_decoder::operand::{after_prefix, with_nibble};
@@ -44,16 +44,16 @@ impl Machine {
     }
 
     /// A prefix: its process goes on with this operand, whoever would run next if it did not.
-    fn prefix(&mut self, tables: &Tables, here: &Here, operand: i32) -> Result<Act, Fault>
+    fn prefix(&mut self, tables: &Tables, here: &Here, operand: i32) -> Result<Act, Stop>
         requires code { length tables.now.code.now < 2 ^ 32 }
         requires executed { self.old.world.counters.executed < most_executed }
         requires task { IsSteady here.now.task }
         requires operand { IsRegister operand }
-        ensures { let h = here_in (contents_of tables.now) here.now in
-            prefix_turn h operand self.old.world ≡ turn_of self.new.world result }
+        ensures { let turn = prefix_turn (here_in (contents_of tables.now) here.now) operand self.old.world in
+            Applies self.old.world self.new.world result turn }
     {
         if !here.is_followed(tables) {
-            return Err(self.fail_in(here, FaultKind::OutsideCode));
+            return Err(self.fail_in(here, FaultKind::OutsideCode).into());
         }
         let registers = Registers {
             at: here.next(),
@@ -73,9 +73,65 @@ impl Machine {
 }
 
 impl Machine {
-    /// An instruction was performed: its process goes on after it or elsewhere, or stops. With `slice` it goes to the
-    /// back of the ready list after a jump.
+    /// The process goes on at this offset, with these registers.
+    fn land(&mut self, here: &Here, at: u32, registers: Registers)
+        requires executed { self.old.world.counters.executed < most_executed }
+        requires task { IsSteady here.now.task }
+        ensures { let h = here.now in
+            let w = self.old.world in
+            let task = record h.task { registers = between at registers } in
+            self.new.world ≡ counted (put h.process task w.memory w) }
+    {
+        self.traffic
+            .put_at(here, at, registers, here.task.condition);
+        self.count();
+    }
+
+    /// The process has jumped to this offset. With `slice` it goes to the back of the ready list.
     #[tactic(auto, unfolding(machine_state::specs::Moves::dispatch))]
+    fn jump(&mut self, here: &Here, to: u32, registers: Registers, slice: bool)
+        requires executed { self.old.world.counters.executed < most_executed }
+        requires task { IsSteady here.now.task }
+        requires room { IsTrue slice → 0 < self.old.room }
+        ensures { let h = here.now in
+            let w = self.old.world in
+            let task = record h.task { registers = between to registers } in
+            let there = put h.process task w.memory w in
+            let after = if slice then dispatch h.pick (enqueue h.process (leave there)) else there in
+            self.new.world ≡ counted after }
+    {
+        self.traffic
+            .put_at(here, to, registers, here.task.condition);
+        if slice {
+            self.traffic.leave();
+            self.traffic.enqueue(here.process);
+            self.traffic.dispatch(here.pick);
+        }
+        self.count();
+    }
+
+    /// The process stops for good, after the instruction.
+    #[tactic(auto, unfolding(machine_state::specs::Moves::dispatch))]
+    fn stop(&mut self, tables: &Tables, here: &Here, registers: Registers)
+        requires executed { self.old.world.counters.executed < most_executed }
+        requires next { here.now.task.registers.at + 1 < 2 ^ 32 }
+        ensures { let h = here.now in
+            let w = self.old.world in
+            let next = h.task.registers.at + 1 in
+            let task = record h.task { registers = between next registers; condition = Stopped } in
+            let there = put h.process task w.memory w in
+            self.new.world ≡ counted (dispatch h.pick (leave (finished_where (next == tables.now.finish) there))) }
+    {
+        let next = here.next();
+        self.traffic
+            .put_at(here, next, registers, Condition::Stopped);
+        self.finish_where(next == tables.finish);
+        self.traffic.give_way(here);
+        self.count();
+    }
+
+    /// An instruction was performed: its process goes on after it or elsewhere, stops, or asks something of others.
+    /// With `slice` it goes to the back of the ready list after a jump.
     fn settle(
         &mut self,
         tables: &Tables,
@@ -83,41 +139,27 @@ impl Machine {
         flow: Flow,
         registers: Registers,
         slice: bool,
-    )
+    ) -> Result<Act, Stop>
+        requires code { length tables.now.code.now < 2 ^ 32 }
         requires executed { self.old.world.counters.executed < most_executed }
         requires next { here.now.task.registers.at + 1 < 2 ^ 32 }
         requires task { IsSteady here.now.task }
         requires room { IsTrue slice → 0 < self.old.room }
-        requires local { AsksNothing flow }
-        ensures { let w = self.old.world in
+        requires asks { AsksRightly (here_in (contents_of tables.now) here.now) flow registers self.old }
+        ensures applies { let w = self.old.world in
             let outcome = outcome_of flow registers w.memory in
-            settled (here_in (contents_of tables.now) here.now) slice outcome w ≡ answered ran self.new.world }
+            let turn = settled (here_in (contents_of tables.now) here.now) slice outcome w in
+            Applies w self.new.world result turn }
+        ensures memory { OnMemory result (IsAsk flow) }
     {
-        let next = here.next();
-        let (at, condition) = match flow {
-            Flow::Next => (next, here.task.condition),
-            Flow::Jump { to } => (to, here.task.condition),
-            Flow::Land { to } => (to, here.task.condition),
-            Flow::Stop => (next, Condition::Stopped),
-            Flow::Receive(_) | Flow::Send(_) => unreachable!(),
-        };
-        self.traffic.put_at(here, at, registers, condition);
         match flow {
-            Flow::Next | Flow::Land { .. } => {}
-            Flow::Jump { .. } => {
-                if slice {
-                    self.traffic.leave();
-                    self.traffic.enqueue(here.process);
-                    self.traffic.dispatch(here.pick);
-                }
-            }
-            Flow::Stop => {
-                self.finish_where(next == tables.finish);
-                self.traffic.give_way(here);
-            }
-            Flow::Receive(_) | Flow::Send(_) => unreachable!(),
+            Flow::Next => self.land(here, here.next(), registers),
+            Flow::Land { to } => self.land(here, to, registers),
+            Flow::Jump { to } => self.jump(here, to, registers, slice),
+            Flow::Stop => self.stop(tables, here, registers),
+            Flow::Ask(request) => return self.grant(tables, here, request, registers),
         }
-        self.count();
+        Ok(Act::Ran)
     }
 
     /// An instruction, with its whole operand.
@@ -128,7 +170,7 @@ impl Machine {
         fun: Fun,
         operand: i32,
         slice: bool,
-    ) -> Result<Act, Fault>
+    ) -> Result<Act, Stop>
         requires code { length tables.now.code.now < 2 ^ 32 }
         requires start { data_start + 4 * tables.now.data_words < 2 ^ 32 }
         requires executed { self.old.world.counters.executed < most_executed }
@@ -137,32 +179,26 @@ impl Machine {
         requires room { IsTrue slice → 0 < self.old.room }
         ensures { let h = here_in (contents_of tables.now) here.now in
             let w = self.old.world in
-            settled h slice (outcome_at h fun operand w) w ≡ turn_of self.new.world result }
+            Applies w self.new.world result (settled h slice (outcome_at h fun operand w) w) }
     {
         match self.perform(tables, here, fun, operand) {
-            Ok((flow, registers)) => {
-                self.settle(tables, here, flow, registers, slice);
-                Ok(Act::Ran)
-            }
-            Err(fault) => {
-                self.fail(fault);
-                Err(fault)
-            }
+            Ok((flow, registers)) => self.settle(tables, here, flow, registers, slice),
+            Err(kind) => Err(self.fail_in(here, kind).into()),
         }
     }
 
     /// The byte at which a process is.
-    fn run_byte(&mut self, tables: &Tables, here: &Here, slice: bool) -> Result<Act, Fault>
+    fn run_byte(&mut self, tables: &Tables, here: &Here, slice: bool) -> Result<Act, Stop>
         requires code { length tables.now.code.now < 2 ^ 32 }
         requires start { data_start + 4 * tables.now.data_words < 2 ^ 32 }
         requires executed { self.old.world.counters.executed < most_executed }
         requires task { IsSteady here.now.task }
         requires room { IsTrue slice → 0 < self.old.room }
         ensures { let h = here_in (contents_of tables.now) here.now in
-            task_turn has_body h slice self.old.world ≡ turn_of self.new.world result }
+            Applies self.old.world self.new.world result (task_turn has_body h slice self.old.world) }
     {
         let Some(byte) = byte_at(tables.code, here.task.registers.at) else {
-            return Err(self.fail_in(here, FaultKind::OutsideCode));
+            return Err(self.fail_in(here, FaultKind::OutsideCode).into());
         };
         let code = byte >> 4;
         let operand = with_nibble(here.task.registers.operand, byte);
@@ -198,6 +234,6 @@ impl Machine {
             task,
             pick,
         };
-        Ok(self.run_byte(tables, &here, slice)?)
+        self.run_byte(tables, &here, slice)
     }
 }

@@ -21,9 +21,9 @@ fn put_instructions(found: &mut Found) {
     found.put(Instruction::of(Fun::Call, 0));
     found.begin_line();
     found.put(Op::Reverse.has_body());
-    found.put(Op::Input.has_body());
+    found.put(Op::StartProcess.has_body());
     found.put(Instruction::Operate(Op::Reverse).has_body());
-    found.put(Instruction::Operate(Op::Input).has_body());
+    found.put(Instruction::Operate(Op::StartProcess).has_body());
     found.put(Instruction::StoreLocal.has_body());
     found.put(Instruction::Call.has_body());
 }

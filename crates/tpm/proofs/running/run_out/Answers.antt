@@ -1,13 +1,12 @@
 use Rattle.std.proofs.Common.{ap}
 use Rattle.machine_state.specs.World.{World}
-use Rattle.tpm.proofs.Steps.{at_start, at_next, alone_start, alone_next, small, within, none_next, idle_count}
+use Rattle.tpm.proofs.Steps.{at_start, at_next, small, within, none_next, idle_count}
 use Rattle.tpm.proofs.Steps.{idle_ends, falls}
 use Rattle.tpm.proofs.running.run_out.Goals as goal
 
 pub loop-goes_on-init : goal.loop-goes_on-init
 loop-goes_on-init c = record {
   at = at_start c.args.module.now c.in_ok-machine.machine c.in_ok-machine.ensures;
-  alone = alone_start c.args.module.now c.in_ok-machine.machine c.in_ok-machine.ensures;
   over = λ ended. absurd (cc);
 }
 
@@ -20,12 +19,10 @@ loop-goes_on-preserved c =
     let before = c.loop-goes_on.machine in
     let after = c.step.new.machine in
     let here = c.loop-goes_on.invariant.at in
-    let alone = c.loop-goes_on.invariant.alone in
     let stepped = c.in_ok-goes_on.ensures in
     record {
       at = at_next m before after here stepped.contents stepped.world;
-      alone = alone_next before after stepped.world (none_next m before c.requires.well here) alone;
-      over = λ ended. idle_ends m before after here.contents stepped.world alone
+      over = λ ended. idle_ends m before after here stepped.world
           (small m before c.requires.keeps c.requires.well here) (stepped.idle ended);
     }
 

@@ -1,12 +1,11 @@
 use Rattle.std.proofs.Common.{◌≡◌, ◌+◌, ◌-◌, cond, false}
 use Rattle.machine.specs.Asking.{is_running}
-use Rattle.tpm.proofs.Steps.{IsAt, IsAlone}
+use Rattle.tpm.proofs.Steps.{IsAt}
 use Rattle.tpm.proofs.running.run_out.Given as goal
 
 abbrev pub invariant-loop-goes_on : goal.invariant-loop-goes_on
 invariant-loop-goes_on l = record {
   at : IsAt l.module l.machine;
-  alone : IsAlone l.machine.world;
   over : l.goes_on ≡ false → is_running l.machine.world ≡ false;
 }
 

@@ -1,6 +1,7 @@
-use Rattle.machine_state.proofs.Bodied.{functions_ask_nothing}
+use Rattle.std.proofs.Common.{rules}
+use Rattle.machine.proofs.Performing.{asks_rightly}
 use Rattle.machine.proofs.checked.machine.Machine.perform.Goals as goal
 
-pub returns-clause-local : goal.returns-clause-local
-returns-clause-local c =
-    functions_ask_nothing _ _ _ c.in_ok-flow.flow _ _ c.in_ok-flow.ensures
+pub returns-clause-asks : goal.returns-clause-asks
+returns-clause-asks c =
+    asks_rightly _ _ _ c.in_ok-flow.flow _ _ _ _ c.in_ok-flow.ensures (search rules) (search rules) (search rules)

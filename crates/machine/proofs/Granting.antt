@@ -1,0 +1,68 @@
+-- What is granted, beside the counters and the fault that the machine keeps.
+use Rattle.std.proofs.Common.{◌≡◌, ℕ, true, false, List, Option, Result, Ok, Err, refl, sym, ap, ◌∙◌}
+use Rattle.machine_state.specs.declared.fault.Fault.{Fault}
+use Rattle.machine_state.specs.World.{World, Counters}
+use Rattle.machine_state.specs.declared.link.Link.{Link}
+use Rattle.machine_state.specs.declared.process.Exchange.{Exchange}
+use Rattle.machine_state.specs.Exchanges.{sent}
+use Rattle.machine_state.specs.LocalStep.{are_defined}
+use Rattle.machine_state.specs.Moves.{counted, dispatch}
+use Rattle.machine_state.specs.Site.{Local, Outcome, sends}
+use Rattle.machine_state.specs.Turn.{Turn, Here, ran, emitted, answered}
+use Rattle.machine_state.proofs.Turns as turns
+use Rattle.machine_state.proofs.Turns.{Ends, settled_ends}
+use Rattle.channels.specs.declared.stop.Stop.{Stop}
+use Rattle.channels.specs.declared.stop.Stop.TheVariants as stops
+use Rattle.channels.specs.Beside.{beside, counted_beside, CountsBeside}
+use Rattle.channels.specs.Settling.{Settles}
+use Rattle.machine.specs.declared.checked.act.Act.{Act}
+use Rattle.machine.specs.Applying.{Applies, Grants, ran_by, world_by}
+
+module _ (turn : World → Turn) (counts : CountsBeside turn) (c : Counters) (f : Option Fault)
+    (before after : World) where
+  pub granted_beside : (result : Result Act Stop) → Grants before after result (turn before)
+      → Applies (beside c f before) (world_by result (beside c f after)) result (turn (beside c f before))
+  granted_beside (Ok act) grants = (counts c f before ∙ ap (counted_beside c f) grants.0, grants.1)
+  granted_beside (Err (stops.Fault fault)) grants =
+      rw grants.1 (counts c f before ∙ ap (counted_beside c f) grants.0)
+  granted_beside (Err stops.Memory) grants = ap (beside c f) grants
+
+  pub settled_beside : (result : Result (Unit {0}) Fault) → Settles before after ran result (turn before)
+      → Applies (beside c f before) (world_by (ran_by result) (beside c f after)) (ran_by result)
+      (turn (beside c f before))
+  settled_beside (Ok done) settles = (counts c f before ∙ ap (counted_beside c f) settles, tt)
+  settled_beside (Err fault) settles = rw settles.1 (counts c f before ∙ ap (counted_beside c f) settles.0)
+
+  -- and once the machine has kept the answer
+  pub granted_kept : (result : Result Act Stop) → Grants before after result (turn before)
+      → (kept : Result Act Stop) (later : World) → kept ≡ result → later ≡ world_by result (beside c f after)
+      → Applies (beside c f before) later kept (turn (beside c f before))
+  granted_kept result grants kept later same is = rw (same, is) (granted_beside result grants)
+
+  pub settled_kept : (result : Result (Unit {0}) Fault) → Settles before after ran result (turn before)
+      → (kept : Result Act Stop) (later : World) → kept ≡ ran_by result
+      → later ≡ world_by (ran_by result) (beside c f after)
+      → Applies (beside c f before) later kept (turn (beside c f before))
+  settled_kept result settles kept later same is = rw (same, is) (settled_beside result settles)
+
+-- ---- what goes out
+
+-- memory stays when a message goes out, but for the words that are taken before
+memory_sent : (h : Here) (w : World) (o : Outcome) (t : Turn) → Ends h w o t → (e : Exchange) (l : Local)
+    → o ≡ sends e l → (link : Link) (bytes : List ℕ) (after : World)
+    → t ≡ answered (emitted link bytes) (counted after) → after.memory ≡ l.memory
+unfolding dispatch
+memory_sent h w o t (turns.at_fault kind) e l same link bytes after is =
+    let answers = ap (λ (t : Turn). t.answer) is in absurd (cc)
+memory_sent h w o t (turns.has_run moved) e l same link bytes after is =
+    let answers = ap (λ (t : Turn). t.answer) is in absurd (cc)
+memory_sent h w o t (turns.has_emitted f k on fits length) e l same link bytes after is =
+    let local : l ≡ k = cc in
+    sym (ap (λ (t : Turn). t.world.memory) is) ∙ ap (λ (l : Local). l.memory) (sym local)
+
+pub emits_defined : (h : Here) (e : Exchange) (l : Local) (w after : World) (link : Link) (bytes : List ℕ)
+    → sent h e l w ≡ answered (emitted link bytes) (counted after)
+    → are_defined l.memory e.address e.length ≡ true → are_defined after.memory e.address e.length ≡ true
+emits_defined h e l w after link bytes is defined =
+    rw (memory_sent h w (sends e l) (sent h e l w) (settled_ends h w false (sends e l)) e l refl link bytes after is)
+    defined

@@ -1,0 +1,14 @@
+use Rattle.module_format.specs.Contents.{contents_of}
+use Rattle.channels.specs.Settling.{here_in, scheduled}
+use Rattle.machine.proofs.Granting.{emits_defined}
+use Rattle.machine.proofs.checked.granting.send.Goals as goal
+
+pub returns-in-Emitted : goal.returns-in-Emitted
+returns-in-Emitted c =
+    let message = c.args.message.now in
+    let w = c.args.processes.now.world in
+    let settles = rw c.in-Emitted.is at c.in_ok-link.ensures.settles in (
+      settles,
+      emits_defined (here_in (contents_of c.args.tables.now) message.here) message.exchange
+          (scheduled message.registers w) w _ c.in-Emitted.link _ settles c.requires.defined,
+    )

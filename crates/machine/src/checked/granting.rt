@@ -1,0 +1,143 @@
+//! What processes ask of others, granted.
+
+ghost use Rattle.std.specs.Prelude.{◌≡◌, ◌+◌, ◌<◌, ◌^◌, IsTrue, false, length};
+ghost use Rattle.module_format.specs.Contents.{contents_of};
+ghost use Rattle.machine_state.specs.Asking.{asked, local_for};
+ghost use Rattle.machine_state.specs.Exchanges.{received, sent};
+ghost use Rattle.machine_state.specs.LocalStep.{are_defined, without_scheduling_words};
+ghost use Rattle.machine_state.specs.Happens.{settled, most_executed};
+ghost use Rattle.channels.specs.Moment.{IsSteady};
+ghost use Rattle.channels.specs.Settling.{here_in, turn_for, IsAsked};
+ghost use Rattle.machine.specs.Applying.{Applies, Grants, IsPosed, ran_by, world_by};
+
+use super::act::Act;
+use super::machine::{Machine, Processes};
+use alternation::{
+    begin, disable_channel, disable_skip, disabling_reads_no_counters, enable_channel, enable_skip,
+    enabling_reads_no_counters, end, wait,
+};
+use certificate::Tables;
+use channels::{Delivery, Here, Message, Stop, messages_read_no_counters};
+use machine_state::{Fault, Registers, Request};
+
+/// What an instruction did that was granted, or is at fault.
+fn ran(granted: Result<(), Fault>) -> Result<Act, Stop>
+    ensures { result ≡ ran_by granted }
+{
+    granted?;
+    Ok(Act::Ran)
+}
+
+/// A message is received.
+fn receive(processes: &mut Processes, tables: &Tables, message: &Message) -> Result<Act, Stop>
+    requires code { length tables.now.code.now < 2 ^ 32 }
+    requires message { IsAsked processes.old.holding message.now }
+    ensures { let turn = turn_for received (contents_of tables.now) message.now processes.old.world in
+        Grants processes.old.world processes.new.world result turn }
+{
+    processes.receive(tables, message)?;
+    Ok(Act::Ran)
+}
+
+/// A message, whose bytes are defined, is sent.
+fn send(processes: &mut Processes, tables: &Tables, message: &Message) -> Result<Act, Stop>
+    requires code { length tables.now.code.now < 2 ^ 32 }
+    requires message { IsAsked processes.old.holding message.now }
+    requires defined { let m = without_scheduling_words processes.old.world.memory message.now.registers.workspace in
+        IsTrue (are_defined m message.now.exchange.address message.now.exchange.length) }
+    ensures { let turn = turn_for sent (contents_of tables.now) message.now processes.old.world in
+        Grants processes.old.world processes.new.world result turn }
+{
+    match processes.send(tables, message)? {
+        Delivery::Emitted(link) => Ok(Act::Emitted {
+            link,
+            exchange: message.exchange,
+        }),
+        Delivery::Received | Delivery::Awaited => Ok(Act::Ran),
+    }
+}
+
+impl Machine {
+    /// An instruction did this: its last byte is counted, or its fault is kept.
+    fn keep(&mut self, granted: Result<Act, Stop>) -> Result<Act, Stop>
+        requires { self.old.world.counters.executed < most_executed }
+        ensures result { result ≡ granted }
+        ensures world { self.new.world ≡ world_by granted self.old.world }
+    {
+        match granted {
+            Ok(_) => self.count(),
+            Err(Stop::Fault(fault)) => self.fail(fault),
+            Err(Stop::Memory) => {}
+        }
+        granted
+    }
+
+    /// What a process asks of others is granted, or is at fault.
+    pub(crate) fn grant(
+        &mut self,
+        tables: &Tables,
+        here: &Here,
+        request: Request,
+        registers: Registers,
+    ) -> Result<Act, Stop>
+        requires code { length tables.now.code.now < 2 ^ 32 }
+        requires executed { self.old.world.counters.executed < most_executed }
+        requires next { here.now.task.registers.at + 1 < 2 ^ 32 }
+        requires task { IsSteady here.now.task }
+        requires posed { IsPosed (here_in (contents_of tables.now) here.now) request registers self.old }
+        ensures { let h = here_in (contents_of tables.now) here.now in
+            let w = self.old.world in
+            let outcome = asked request (local_for request registers w.memory) in
+            Applies w self.new.world result (settled h false outcome w) }
+    {
+        messages_read_no_counters();
+        enabling_reads_no_counters();
+        disabling_reads_no_counters();
+        let processes = &mut self.traffic;
+        let granted = match request {
+            Request::Receive(exchange) => {
+                let message = Message {
+                    here: *here,
+                    exchange,
+                    registers,
+                };
+                receive(processes, tables, &message)
+            }
+            Request::Send(exchange) => {
+                let message = Message {
+                    here: *here,
+                    exchange,
+                    registers,
+                };
+                send(processes, tables, &message)
+            }
+            Request::Begin => {
+                begin(processes, here, registers);
+                Ok(Act::Ran)
+            }
+            Request::EnableChannel { guard, address } => {
+                ran(enable_channel(processes, tables, here, guard, address, registers))
+            }
+            Request::EnableSkip { guard } => {
+                enable_skip(processes, here, guard, registers);
+                Ok(Act::Ran)
+            }
+            Request::Wait => {
+                wait(processes, here, registers);
+                Ok(Act::Ran)
+            }
+            Request::DisableChannel {
+                guard,
+                address,
+                distance,
+            } => ran(disable_channel(processes, tables, here, guard, address, distance, registers)),
+            Request::DisableSkip { guard, distance } => {
+                disable_skip(processes, here, guard, distance, registers);
+                Ok(Act::Ran)
+            }
+            Request::End { to } => ran(end(processes, tables, here, to, registers)),
+            Request::Start { .. } | Request::Join { .. } => unreachable!(),
+        };
+        self.keep(granted)
+    }
+}
