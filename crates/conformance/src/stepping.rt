@@ -7,8 +7,8 @@ use crate::words::{Words, question};
 use certificate::{Module, Stack, Tables};
 use direct_functions::direct;
 use machine_state::{
-    Cpu, DATA_START, Fault, Flow, Mode, Registers, Store, TaggedStore, Word, local_address,
-    place_of,
+    Cpu, DATA_START, Fault, FaultKind, Flow, Mode, Registers, Request, Store, TaggedStore, Word,
+    local_address, place_of,
 };
 use prefix_decoder::Fun;
 use std::alloc::Global;
@@ -87,7 +87,24 @@ fn set_data(store: &mut TaggedStore, words: &mut Words) {
     }
 }
 
-fn put_flow(flow: Result<Flow, Fault>, out: &mut Answer) {
+/// What is asked of others.
+fn request_name(request: Request) -> &'static str {
+    match request {
+        Request::Receive(_) => "receive",
+        Request::Send(_) => "send",
+        Request::Start { .. } => "start",
+        Request::Join { .. } => "join",
+        Request::Begin => "begin",
+        Request::EnableChannel { .. } => "enable",
+        Request::EnableSkip { .. } => "enable skip",
+        Request::Wait => "wait",
+        Request::DisableChannel { .. } => "disable",
+        Request::DisableSkip { .. } => "disable skip",
+        Request::End { .. } => "end",
+    }
+}
+
+fn put_flow(flow: Result<Flow, FaultKind>, out: &mut Answer) {
     match flow {
         Ok(Flow::Next) => out.put("next"),
         Ok(Flow::Jump { to }) => {
@@ -99,9 +116,8 @@ fn put_flow(flow: Result<Flow, Fault>, out: &mut Answer) {
             out.number(i64::from(to));
         }
         Ok(Flow::Stop) => out.put("stop"),
-        Ok(Flow::Receive(_)) => out.put("receive"),
-        Ok(Flow::Send(_)) => out.put("send"),
-        Err(fault) => put_fault(Some(fault), out),
+        Ok(Flow::Ask(request)) => out.put(request_name(request)),
+        Err(kind) => put_fault(Some(Fault::new(kind, PROCESS, REGISTERS.began)), out),
     }
 }
 
@@ -185,7 +201,6 @@ pub(crate) fn step(
         return Outcome::OutOfMemory;
     };
     let mut cpu = Cpu {
-        process: PROCESS,
         registers: REGISTERS,
         mode: Mode::Plain,
         code_start: data_end(module.tables()),
