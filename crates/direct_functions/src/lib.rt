@@ -16,8 +16,8 @@ use prefix_decoder::Fun;
 
 /// Executes one function of the running process with its whole operand; `opr` is the operation that its operand
 /// chooses. The registers `at`, `began` and `operand` stay as they are: the caller says where the next instruction
-/// begins. An operation that has no body yet is unknown. After a fault nothing has changed.
-#[tactic(auto, unfolding(machine_state::specs::LocalStep::step_by, machine_state::specs::LocalStep::step_of, machine_state::specs::LocalStep::instruction_step))]
+/// begins. After a fault nothing has changed, and what is asked of others has changed the registers alone.
+#[tactic(auto, unfolding(machine_state::specs::LocalStep::local_step, machine_state::specs::LocalStep::step_of, machine_state::specs::LocalStep::instruction_step))]
 pub fn direct<S: Store>(cpu: &mut Cpu<S>, fun: Fun, operand: i32) -> Result<Flow, FaultKind>
     ensures { PerformsFunction S.Store fun operand cpu.old cpu.new result }
 {

@@ -33,7 +33,6 @@ use Rattle.machine_state.specs.Holding.{Holding, covers, may_write, may_read, ma
 use Rattle.machine_state.specs.Frame.{ChangesOwn}
 use Rattle.machine_state.specs.LocalStep as step
 use Rattle.machine_state.specs.Site.{Outcome, goes, jumps, stops, fails, Local}
-use Rattle.machine_state.specs.Instructions.{has_body, op_has_body}
 use Rattle.machine_state.specs.LocalStep.{target}
 use Rattle.machine_state.proofs.Reading.{length-with_word}
 use Rattle.machine_state.proofs.Frame.{write_is_own, changes_more}
@@ -421,7 +420,7 @@ module _ (x : Here) where
         (after_stack b (record { a = says_nothing; b = says_nothing; c = says_nothing })) c left)))))
 
     operation_fits : (op : Op) → FitsIf x (rule.operation_rule (rule_site x) op s)
-        (if op_has_body op then step.operation_step (step_site x) op l else fails UnknownOperation)
+        (step.operation_step (step_site x) op l)
     unfolding rule.operation_rule step.operation_step
     operation_fits operations.Reverse =
         in_plain_step s a.same_mode _ _ (in_plain_rule s a.same_mode _ _ (beside_plain_rule s a.same_mode _ _
@@ -447,7 +446,7 @@ module _ (x : Here) where
 
     instruction_fits : (i : Instruction) (e : ℤ) → FitsSigned w32 e
         → FitsIf x (rule.instruction_rule (rule_site x) i e s)
-        (if has_body i then step.instruction_step (step_site x) i e l else fails UnknownOperation)
+        (step.instruction_step (step_site x) i e l)
     unfolding rule.instruction_rule step.instruction_step
     instruction_fits instructions.LoadConstant e fits = ldc_fits e fits
     instruction_fits instructions.LoadLocal e fits = ldl_fits e fits
@@ -458,14 +457,14 @@ module _ (x : Here) where
     instruction_fits _ e fits = λ next. it_breaks
 
     option_fits : (i : Option Instruction) (e : ℤ) → FitsSigned w32 e
-        → FitsIf x (rule.rule_of (rule_site x) i e s) (step.step_of has_body (step_site x) i e l)
+        → FitsIf x (rule.rule_of (rule_site x) i e s) (step.step_of (step_site x) i e l)
     unfolding rule.rule_of step.step_of
     option_fits None e fits = λ next. it_breaks
     option_fits (Some i) e fits = instruction_fits i e fits
 
     pub function_fits : (f : Fun) (e : ℤ) → FitsSigned w32 e
         → FitsIf x (rule.rule (rule_site x) f e s) (step.local_step (step_site x) f e l)
-    unfolding rule.rule step.step_by
+    unfolding rule.rule step.local_step
     function_fits f e fits = option_fits (instruction_of f e) e fits
 
 pub rules_fit_steps : RulesFitSteps

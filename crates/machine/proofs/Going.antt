@@ -10,7 +10,6 @@ use Rattle.machine_state.specs.declared.event.Event.{Event}
 use Rattle.machine_state.specs.declared.link.Link.{Link}
 use Rattle.machine_state.specs.declared.link.Link.TheVariants.{Zero, One, Two, Three}
 use Rattle.machine_state.specs.declared.fault.Fault.{Fault}
-use Rattle.machine_state.specs.Instructions.{has_body}
 use Rattle.machine_state.proofs.EventLaws.{faults_are_kept}
 use Rattle.machine_state.specs.World.{World}
 use Rattle.machine_state.specs.World.{loaded}
@@ -26,7 +25,7 @@ use Rattle.machine_state.proofs.Lines.{got_set, got_other}
 pub no_fault : (m : Contents) (w : World) (e : Event) (f : Fault) → NeverFails m w → IsEvent e
     → (turn m w e).answer ≡ Err f → ⊥
 no_fault m w e f never is fails = never.always (e ∷ []) f (is, tt)
-    (faults_are_kept has_body m w e f fails)
+    (faults_are_kept m w e f fails)
 
 -- The run of a module that runs well, in the middle of a list of events: what is left of them leads to the same
 -- world, and puts out what is left to be put out.

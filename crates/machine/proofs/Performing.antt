@@ -12,7 +12,6 @@ use Rattle.machine_state.specs.Asking.{IsGrantable}
 use Rattle.machine_state.specs.Performing.{PerformsFunction, site_of as site_on}
 use Rattle.machine_state.specs.World.{World, holding_at}
 use Rattle.machine_state.specs.Happens.{Here, Turn, settled, site_of}
-use Rattle.machine_state.proofs.Bodied.{functions_start_nothing}
 use Rattle.channels.specs.declared.stop.Stop.{Stop}
 use Rattle.channels.specs.declared.stop.Stop.TheVariants as stops
 use Rattle.channels.specs.Moment.{Moment}
@@ -32,7 +31,6 @@ asks_rightly ghosts before after (Ask request) f operand h m performs site memor
           (sym (memory ∙ asks.memory))
           (subst (λ (s : Site). IsGrantable request s after.registers (ghosts.cells before.store)) site asks.grantable);
       holding = holding;
-      starts_nothing = functions_start_nothing ghosts before after (Ask request) f operand performs;
     }
 asks_rightly ghosts before after flow f operand h m performs site memory holding = tt
 

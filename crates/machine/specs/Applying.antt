@@ -14,7 +14,6 @@ use Rattle.machine_state.specs.Asking.{asked, local_for, untouched, IsGrantable}
 use Rattle.machine_state.specs.Exchanges.{bytes_at}
 use Rattle.machine_state.specs.LocalStep.{local_step, are_defined}
 use Rattle.machine_state.specs.Moves.{counted, faulty}
-use Rattle.machine_state.specs.Performing.{StartsNothing}
 use Rattle.machine_state.specs.Happens.{Effect, ran, idle, emitted, taken, kept, busy, acknowledged, ignored, Turn, Here}
 use Rattle.machine_state.specs.Happens.{answered, site_of}
 use Rattle.machine.specs.declared.checked.act.Act.{Act}
@@ -74,12 +73,10 @@ PerformsFor before after (Ok gone_on) outcome =
     × (after.world ≡ world_of gone_on.0 before.world after.world.memory) × (after.room ≡ before.room)
 PerformsFor before after (Err kind) outcome = (outcome ≡ fails kind) × (after.world ≡ before.world)
 
--- This request can be granted: the instruction has found what that relies on, and its process's holding counts. Nothing
--- starts a branch or joins one yet.
+-- This request can be granted: the instruction has found what that relies on, and its process's holding counts.
 pub record IsPosed (h : Here) (request : Request) (registers : Registers) (m : Moment) : Type 0 where
   pub grantable : IsGrantable request (site_of h m.world) registers m.world.memory
   pub holding : m.holding ≡ holding_at m.world.roles h.process
-  pub starts_nothing : StartsNothing (Ask request)
 
 -- something is asked of others
 abbrev pub IsAsk : Flow → Type 0

@@ -49,7 +49,7 @@ impl<'a> Checked<'a> {
     }
 
     /// One event, with what it did still in the machine.
-    #[tactic(auto, unfolding(machine_state::specs::Happens::turn_by))]
+    #[tactic(auto, unfolding(machine_state::specs::Happens::turn))]
     fn advance(&mut self, event: Event) -> Result<Act, Stop>
         ensures applies { let expected = turn self.old.contents self.old.world event in
             Applies self.old.world self.new.world result expected }
@@ -60,7 +60,7 @@ impl<'a> Checked<'a> {
             return Err(Stop::Fault(fault));
         }
         match event {
-            Event::Step { slice, pick } => self.machine.step(self.module.tables(), slice, pick),
+            Event::Step { slice, pick } => self.machine.step(self.module, slice, pick),
             Event::Arrive { link, byte } => self.machine.arrive(link, byte),
             Event::Acknowledge { link } => self.machine.acknowledge(link),
         }

@@ -52,7 +52,7 @@ use Rattle.machine_state.specs.Joins.{frame_address, opened, opened_by, opener_o
 use Rattle.machine_state.specs.Joins.{later_plan}
 use Rattle.machine_state.specs.Joins.{Plan, Found, join_after, without_words, scheduling_addresses, holding_of}
 use Rattle.machine_state.specs.Joins.{share_by}
-use Rattle.machine_state.specs.Happens.{site_of, turn_by, world_by}
+use Rattle.machine_state.specs.Happens.{site_of, turn, world_after}
 use Rattle.machine_state.specs.ChannelLaws.{HaveTheirWaiters}
 use Rattle.prefix_decoder.specs.Functions.{nibble}
 use Rattle.prefix_decoder.specs.Operand.{with_nibble}
@@ -556,7 +556,7 @@ module _ (h : Here) (w : World) (there : slice_get w.tasks h.process ≡ Some h.
 
 -- ---- every event
 
-module _ (executes : Instruction → Bool) (m : Contents) (small : IsSmall m) (w : World) (keeps : WaitsIn w)
+module _ (m : Contents) (small : IsSmall m) (w : World) (keeps : WaitsIn w)
     (recorded : HaveTheirWaiters w.tasks w.channels) (st : Stands m w) where
   same_task : (p : ℕ) (f : Task → Task) (v : World) → v.roles ≡ w.roles → v.channels ≡ w.channels → v.tasks ≡ w.tasks
       → ((t : Task) → t.registers.workspace % 4 ≡ 0 → (f t).registers.workspace % 4 ≡ 0) → Stands m (on_task p f v)
@@ -601,7 +601,7 @@ module _ (executes : Instruction → Bool) (m : Contents) (small : IsSmall m) (w
       on None = st
       on (Some task) = on_condition task.condition
 
-  turn_stands : (e : Event) (t : Turn) → Happened executes m w e t → Stands m t.world
+  turn_stands : (e : Event) (t : Turn) → Happened m w e t → Stands m t.world
   unfolding dispatch
   turn_stands e t (turns.was_at_fault f is) = st
   turn_stands e t (turns.it_rests rests) = st
@@ -614,7 +614,7 @@ module _ (executes : Instruction → Bool) (m : Contents) (small : IsSmall m) (w
       let h = at_here m p task pick in
       end_stands h w here keeps recorded small st _ t ends
       (each_step (site_of h w) task.registers w.memory w.memory (λ r m n. (m ≡ n) × (r.workspace % 4 ≡ 0))
-      (λ o other. IsEven o) (evens (site_of h w) task.registers w.memory) (refl, st.even p task here) executes f
+      (λ o other. IsEven o) (evens (site_of h w) task.registers w.memory) (refl, st.even p task here) f
       (with_nibble task.registers.operand (nibble byte)))
   turn_stands e t (turns.is_taken {link = link} {byte = byte} input p here waiting) =
       let s = fills_stand p (link_index link) byte input in
@@ -734,11 +734,11 @@ module _ (m : Contents) (small : IsSmall m) where
           subst (λ (x : Task). x.registers.workspace % 4 ≡ 0) e (omega arith)
       root_even (suc q) t here = absurd (cc)
 
-  pub all_stand : (executes : Instruction → Bool) (es : List Event) → Stands m (world_by executes m es)
-  all_stand executes es = every_world executes m (Stands m) loaded_stands
-      (λ es e st. turn_stands executes m small (world_by executes m es) (reached executes m es)
-      (channels_have_their_waiters executes m es) st e (turn_by executes m (world_by executes m es) e)
-      (turn_happens executes m (world_by executes m es) e)) es
+  pub all_stand : (es : List Event) → Stands m (world_after m es)
+  all_stand es = every_world m (Stands m) loaded_stands
+      (λ es e st. turn_stands m small (world_after m es) (reached m es)
+      (channels_have_their_waiters m es) st e (turn m (world_after m es) e)
+      (turn_happens m (world_after m es) e)) es
 
 -- ---- what the invariant says
 
@@ -796,6 +796,6 @@ module _ (m : Contents) (roles : List Role) (channels : List (Option Channel)) (
   }
 
 pub holdings_stay_apart : HoldingsStayApart
-holdings_stay_apart executes m es keeps =
-    let w = world_by executes m es in
-    keeps_apart m w.roles w.channels (all_stand m (format_is_small m keeps) executes es).holders
+holdings_stay_apart m es keeps =
+    let w = world_after m es in
+    keeps_apart m w.roles w.channels (all_stand m (format_is_small m keeps) es).holders

@@ -39,7 +39,7 @@ use Rattle.machine_state.specs.Holding.{nothing}
 use Rattle.machine_state.specs.Joins.{opened_by, opener_of, ended, given_back, without_channels, later_plan, Plan}
 use Rattle.machine_state.specs.Joins.{Found}
 use Rattle.machine_state.specs.Waiting.{IsOver, is_member, AllReady, line_of}
-use Rattle.machine_state.specs.Happens.{turn_by, world_by}
+use Rattle.machine_state.specs.Happens.{turn, world_after}
 use Rattle.machine_state.specs.ChannelLaws.{WaitsAt, HaveTheirWaiters, ChannelsHaveTheirWaiters}
 use Rattle.machine_state.proofs.SpanLaws.{or_true}
 use Rattle.machine_state.proofs.Lines.{got_set, got_other, got_before}
@@ -661,23 +661,23 @@ module _ (w : World) (keeps : WaitsIn w) (recorded : Recorded w) where
       on None here = recorded
       on (Some task) here = on_condition task here task.condition refl
 
-  turn_recorded : (executes : Instruction → Bool) (m : Contents) (e : Event) (t : Turn) → Happened executes m w e t
+  turn_recorded : (m : Contents) (e : Event) (t : Turn) → Happened m w e t
       → Recorded t.world
   unfolding dispatch
-  turn_recorded executes m e t (turns.was_at_fault f is) = recorded
-  turn_recorded executes m e t (turns.it_rests rests) = recorded
-  turn_recorded executes m e t (turns.is_outside p task kind runs here) = recorded
-  turn_recorded executes m e t (turns.is_prefix p task byte operand runs here at none) =
+  turn_recorded m e t (turns.was_at_fault f is) = recorded
+  turn_recorded m e t (turns.it_rests rests) = recorded
+  turn_recorded m e t (turns.is_outside p task kind runs here) = recorded
+  turn_recorded m e t (turns.is_prefix p task byte operand runs here at none) =
       goes (at_here m p task 0) w runs here keeps recorded
       (record task { registers = record task.registers { at = task.registers.at + 1; operand = operand } }) _ _ refl
       refl
-  turn_recorded executes m e t (turns.is_step {pick = pick} p task byte f runs here at is ends) =
+  turn_recorded m e t (turns.is_step {pick = pick} p task byte f runs here at is ends) =
       ends_recorded (at_here m p task pick) w runs here keeps recorded _ t ends
-  turn_recorded executes m e t (turns.is_taken {link = link} {byte = byte} input p here waiting) =
+  turn_recorded m e t (turns.is_taken {link = link} {byte = byte} input p here waiting) =
       fills p (link_index link) byte input
-  turn_recorded executes m e t (turns.is_kept {link = link} {byte = byte} input here nobody empty) =
+  turn_recorded m e t (turns.is_kept {link = link} {byte = byte} input here nobody empty) =
       rouses input.enabled (with_input (link_index link) (record input { kept = Some byte }) w) recorded
-  turn_recorded executes m e t (turns.is_acknowledged {link = link} output p here waiting) =
+  turn_recorded m e t (turns.is_acknowledged {link = link} output p here waiting) =
       let x = keeps.rest.waiters.outputs (link_index link) output p here waiting in
       wakes p (λ task. record task { condition = Ready }) (with_output (link_index link)
       (record { waiting = None }) w) refl
@@ -693,7 +693,7 @@ loaded_recorded m k c p here waiting = absurd (never m.data_words k here)
     never (suc n) (suc k) is = never n k is
 
 pub channels_have_their_waiters : ChannelsHaveTheirWaiters
-channels_have_their_waiters executes m es =
-    every_world executes m Recorded (loaded_recorded m)
-    (λ es e recorded. turn_recorded (world_by executes m es) (reached executes m es) recorded executes m e
-    (turn_by executes m (world_by executes m es) e) (turn_happens executes m (world_by executes m es) e)) es
+channels_have_their_waiters m es =
+    every_world m Recorded (loaded_recorded m)
+    (λ es e recorded. turn_recorded (world_after m es) (reached m es) recorded m e
+    (turn m (world_after m es) e) (turn_happens m (world_after m es) e)) es

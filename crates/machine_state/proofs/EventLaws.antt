@@ -18,7 +18,7 @@ use Rattle.machine_state.specs.Alternations.{chosen, selected}
 use Rattle.machine_state.specs.Joins.{joined, ended, given_back}
 use Rattle.machine_state.specs.Exchanges.{waits_at}
 use Rattle.machine_state.specs.Holding.{nothing}
-use Rattle.machine_state.specs.Happens.{answered, turn_by}
+use Rattle.machine_state.specs.Happens.{answered, turn}
 use Rattle.machine_state.specs.EventLaws.{bytes_of, EventsCountBytes, FaultsAreKept, FaultsStay}
 use Rattle.machine_state.specs.Memory.{place_of, with_byte}
 use Rattle.machine_state.proofs.Moving.{on_task_only, wake_only, rouse_only, on_role_quiet, joined_quiet}
@@ -36,25 +36,25 @@ end_stays h w o t (turns.at_fault kind) = refl
 end_stays h w o t (turns.has_run moved) = tt
 end_stays h w o t (turns.has_emitted e l k on same) = tt
 
-stays : (executes : Instruction → Bool) (m : Contents) (w : World) (e : Event) (t : Turn)
-    → Happened executes m w e t → StaysIfFault t.answer t.world
-stays executes m w e t (turns.was_at_fault f is) = is
-stays executes m w e t (turns.it_rests rests) = tt
-stays executes m w e t (turns.is_outside p task kind runs here) = refl
-stays executes m w e t (turns.is_prefix p task byte operand runs here at none) = tt
-stays executes m w e t (turns.is_step p task byte f runs here at is ends) = end_stays _ w _ t ends
-stays executes m w e t (turns.is_taken input p here waits) = tt
-stays executes m w e t (turns.is_kept input here nobody empty) = tt
-stays executes m w e t (turns.is_acknowledged output p here waits) = tt
+stays : (m : Contents) (w : World) (e : Event) (t : Turn)
+    → Happened m w e t → StaysIfFault t.answer t.world
+stays m w e t (turns.was_at_fault f is) = is
+stays m w e t (turns.it_rests rests) = tt
+stays m w e t (turns.is_outside p task kind runs here) = refl
+stays m w e t (turns.is_prefix p task byte operand runs here at none) = tt
+stays m w e t (turns.is_step p task byte f runs here at is ends) = end_stays _ w _ t ends
+stays m w e t (turns.is_taken input p here waits) = tt
+stays m w e t (turns.is_kept input here nobody empty) = tt
+stays m w e t (turns.is_acknowledged output p here waits) = tt
 
 pub faults_are_kept : FaultsAreKept
-faults_are_kept executes m w e f is =
-    subst (λ a. StaysIfFault a (turn_by executes m w e).world) is
-    (stays executes m w e (turn_by executes m w e) (turn_happens executes m w e))
+faults_are_kept m w e f is =
+    subst (λ a. StaysIfFault a (turn m w e).world) is
+    (stays m w e (turn m w e) (turn_happens m w e))
 
 pub faults_stay : FaultsStay
-unfolding turn_by
-faults_stay executes m w e f is = rw is
+unfolding turn
+faults_stay m w e f is = rw is
 
 -- ---- the count
 
@@ -155,23 +155,23 @@ rest_counts w on e turns.is_busy = sym (add-zero w.counters.executed)
 rest_counts w on e turns.arrives_nowhere = sym (add-zero w.counters.executed)
 rest_counts w on e turns.is_ignored = sym (add-zero w.counters.executed)
 
-counts : (executes : Instruction → Bool) (m : Contents) (w : World) (e : Event) (t : Turn)
-    → Happened executes m w e t → Counts w t
+counts : (m : Contents) (w : World) (e : Event) (t : Turn)
+    → Happened m w e t → Counts w t
 unfolding dispatch
-counts executes m w e t (turns.was_at_fault f is) = sym (add-zero w.counters.executed)
-counts executes m w e t (turns.it_rests rests) = rest_counts w e _ rests
-counts executes m w e t (turns.is_outside p task kind runs here) = sym (add-zero w.counters.executed)
-counts executes m w e t (turns.is_prefix p task byte operand runs here at none) = refl
-counts executes m w e t (turns.is_step p task byte f runs here at is ends) = end_counts _ w _ t ends
-counts executes m w e t (turns.is_taken input p here waits) =
+counts m w e t (turns.was_at_fault f is) = sym (add-zero w.counters.executed)
+counts m w e t (turns.it_rests rests) = rest_counts w e _ rests
+counts m w e t (turns.is_outside p task kind runs here) = sym (add-zero w.counters.executed)
+counts m w e t (turns.is_prefix p task byte operand runs here at none) = refl
+counts m w e t (turns.is_step p task byte f runs here at is ends) = end_counts _ w _ t ends
+counts m w e t (turns.is_taken input p here waits) =
     ap (λ (c : Counters). c.executed) (fill_count p _ _ input w) ∙ sym (add-zero w.counters.executed)
-counts executes m w e t (turns.is_kept input here nobody empty) =
+counts m w e t (turns.is_kept input here nobody empty) =
     ap (λ (c : Counters). c.executed) (rouse_count input.enabled _) ∙ sym (add-zero w.counters.executed)
-counts executes m w e t (turns.is_acknowledged output p here waits) =
+counts m w e t (turns.is_acknowledged output p here waits) =
     ap (λ (c : Counters). c.executed) (wake_count p _) ∙ sym (add-zero w.counters.executed)
 
 pub events_count_bytes : EventsCountBytes
-events_count_bytes executes m w e = counts executes m w e (turn_by executes m w e) (turn_happens executes m w e)
+events_count_bytes m w e = counts m w e (turn m w e) (turn_happens m w e)
 
 pub ruleset reported_faults = (faults_are_kept, faults_stay)
 

@@ -399,14 +399,13 @@ module _ (s : Site) (rs : Registers) (m0 n0 : Memory) (K : Registers → Memory 
       lands_at _ _ _ _ (w.stack _ _ _ (of_empty None) (w.workspace rs _ _ (negsuc 3) four)))))))
   instruction (instructions.Operate op) e = operation op
 
-  decoded : (executes : Instruction → Bool) (i : Option Instruction) (e : ℤ)
-      → R (step.step_of executes s i e (here rs m0)) (step.step_of executes s i e (here rs n0))
+  decoded : (i : Option Instruction) (e : ℤ)
+      → R (step.step_of s i e (here rs m0)) (step.step_of s i e (here rs n0))
   unfolding step.step_of
-  decoded executes None e = w.at_fault UnknownOperation
-  decoded executes (Some i) e =
-      each.passes R w.at_fault (executes i) UnknownOperation _ _ (λ known. instruction i e)
+  decoded None e = w.at_fault UnknownOperation
+  decoded (Some i) e = instruction i e
 
-  pub each_step : (executes : Instruction → Bool) (f : Fun) (e : ℤ)
-      → R (step.step_by executes s f e (here rs m0)) (step.step_by executes s f e (here rs n0))
-  unfolding step.step_by
-  each_step executes f e = decoded executes (instruction_of f e) e
+  pub each_step : (f : Fun) (e : ℤ)
+      → R (step.local_step s f e (here rs m0)) (step.local_step s f e (here rs n0))
+  unfolding step.local_step
+  each_step f e = decoded (instruction_of f e) e

@@ -4,23 +4,23 @@ use Rattle.module_format.specs.Contents.{Contents}
 use Rattle.machine_state.specs.declared.event.Event.{Event}
 use Rattle.machine_state.specs.declared.instruction.Instruction.{Instruction}
 use Rattle.machine_state.specs.World.{World, loaded}
-use Rattle.machine_state.specs.Happens.{turn_by, run_by, world_by}
+use Rattle.machine_state.specs.Happens.{turn, run_from, world_after}
 
-module _ (executes : Instruction → Bool) (m : Contents) where
+module _ (m : Contents) where
   run_further : (w : World) (es : List Event) (e : Event)
-      → run_by executes m w (es ++ e ∷ []) ≡ (turn_by executes m (run_by executes m w es) e).world
+      → run_from m w (es ++ e ∷ []) ≡ (turn m (run_from m w es) e).world
   run_further w [] e = refl
-  run_further w (x ∷ es) e = run_further (turn_by executes m w x).world es e
+  run_further w (x ∷ es) e = run_further (turn m w x).world es e
 
   module _ (P : World → Type 0) (first : P (loaded m))
-      (next : (es : List Event) (e : Event) → P (world_by executes m es)
-      → P (turn_by executes m (world_by executes m es) e).world) where
-    from_here : (before es : List Event) → P (world_by executes m before) → P (world_by executes m (before ++ es))
+      (next : (es : List Event) (e : Event) → P (world_after m es)
+      → P (turn m (world_after m es) e).world) where
+    from_here : (before es : List Event) → P (world_after m before) → P (world_after m (before ++ es))
     from_here before [] here =
-        subst (λ (es : List Event). P (world_by executes m es)) (sym (append-nil before)) here
-    from_here before (e ∷ es) here = subst (λ (es : List Event). P (world_by executes m es))
+        subst (λ (es : List Event). P (world_after m es)) (sym (append-nil before)) here
+    from_here before (e ∷ es) here = subst (λ (es : List Event). P (world_after m es))
         (append_assoc before (e ∷ []) es)
         (from_here (before ++ e ∷ []) es (subst P (sym (run_further (loaded m) before e)) (next before e here)))
 
-    pub every_world : (es : List Event) → P (world_by executes m es)
+    pub every_world : (es : List Event) → P (world_after m es)
     every_world es = from_here [] es first

@@ -2,7 +2,7 @@
 use Rattle.std.proofs.Common.{refl}
 use Rattle.word_arithmetic.specs.Binary.{computed}
 use Rattle.machine_state.specs.Instructions.{op_of, instruction_of}
-use Rattle.machine_state.specs.LocalStep.{step_by, step_of, instruction_step, operation_step}
+use Rattle.machine_state.specs.LocalStep.{local_step, step_of, instruction_step, operation_step}
 use Rattle.machine_state.specs.LocalStep.{outside_alternation, outside_starts, while_enabling, while_disabling, counts}
 use Rattle.machine_state.specs.LocalStep.{holds, channel, exchanges}
 use Rattle.machine_state.specs.LocalStep.{uses, reads, writes, reads_byte, writes_byte, schedules, computes, goes_on}
@@ -12,12 +12,12 @@ use Rattle.machine_state.specs.Spans.{all_places, runs, less}
 use Rattle.machine_state.specs.Memory.{place_of, local_address, word_at, with_word}
 use Rattle.machine_state.specs.Holding.{may_write_word, may_read_word}
 use Rattle.machine_state.specs.Moves.{dispatch}
-use Rattle.machine_state.specs.Happens.{turn_by}
+use Rattle.machine_state.specs.Happens.{turn}
 use Rattle.machine_state.specs.SmallModules.{FirstEnds, JumpEnds, SlicedJumpEnds, CallEnds, LoopEnds, PairEnds}
 use Rattle.machine_state.specs.SmallModules.{PairFaults, EchoWaits, ChannelEnds, ChoiceWaits}
 
 pub one_process : FirstEnds × JumpEnds × SlicedJumpEnds × CallEnds × LoopEnds
-unfolding turn_by step_by step_of instruction_of op_of instruction_step operation_step computes computed
+unfolding turn local_step step_of instruction_of op_of instruction_step operation_step computes computed
     outside_alternation outside_starts while_enabling while_disabling uses reads writes reads_byte writes_byte schedules
     goes_on leads_to lands_at followed_by_code holds aligned channel counts exchanges copied all_places runs less
     parameters_at context_at place_of local_address word_at with_word may_write_word may_read_word dispatch
@@ -30,7 +30,7 @@ one_process = (
 )
 
 pub several : PairEnds × PairFaults × EchoWaits × ChannelEnds × ChoiceWaits
-unfolding turn_by step_by step_of instruction_of op_of instruction_step operation_step computes computed
+unfolding turn local_step step_of instruction_of op_of instruction_step operation_step computes computed
     outside_alternation outside_starts while_enabling while_disabling uses reads writes reads_byte writes_byte schedules
     goes_on leads_to lands_at followed_by_code holds aligned channel counts exchanges copied all_places runs less
     parameters_at context_at place_of local_address word_at with_word may_write_word may_read_word dispatch

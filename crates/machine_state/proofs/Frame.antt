@@ -126,7 +126,7 @@ leaving s r0 old = record {
     h = s.holding
 
 pub steps_change_own : StepsChangeOwn
-steps_change_own executes s f e l =
+steps_change_own s f e l =
     each_step s l.registers l.memory l.memory (λ r m n. IsChanged s.holding l.memory m n)
     (λ o o'. LeavesOthers s.holding l.memory o) (leaving s l.registers l.memory)
-    (record { same = refl; changes = changes_nothing s.holding l.memory }) executes f e
+    (record { same = refl; changes = changes_nothing s.holding l.memory }) f e

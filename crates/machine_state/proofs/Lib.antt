@@ -4,7 +4,6 @@ pub mod Scheduling
 pub mod Combining
 pub mod EveryInstruction
 pub mod Frame
-pub mod Bodied
 pub mod TaggedCells
 pub mod Turns
 pub mod EventLaws

@@ -247,14 +247,11 @@ module _ (s : Site) where
       writes _ _ l _ (λ l. land _ _)))))
   instruction (instructions.Operate op) e l = operation op l
 
-  decoded : (executes : Instruction → Bool) (i : Option Instruction) (e : ℤ) (l : Local)
-      → Fits s.mode (step.step_of executes s i e l)
+  decoded : (i : Option Instruction) (e : ℤ) (l : Local) → Fits s.mode (step.step_of s i e l)
   unfolding step.step_of
-  decoded executes None e l = tt
-  decoded executes (Some i) e l =
-      either (executes i) _ _ (instruction i e l) tt
+  decoded None e l = tt
+  decoded (Some i) e l = instruction i e l
 
-  pub steps_fit : (executes : Instruction → Bool) (f : Fun) (e : ℤ) (l : Local)
-      → Fits s.mode (step.step_by executes s f e l)
-  unfolding step.step_by
-  steps_fit executes f e l = decoded executes (instruction_of f e) e l
+  pub steps_fit : (f : Fun) (e : ℤ) (l : Local) → Fits s.mode (step.local_step s f e l)
+  unfolding step.local_step
+  steps_fit f e l = decoded (instruction_of f e) e l

@@ -956,10 +956,10 @@ module _ (seen : ℕ → Bool) where
 
 -- ---- one byte of the running process
 
-module _ (executes : Instruction → Bool) (m : Contents) (w : World) (n : Memory) (slice : Bool) (pick : ℕ)
-    (agree : Agree (is_seen executes m w) w.memory n) where
+module _ (m : Contents) (w : World) (n : Memory) (slice : Bool) (pick : ℕ)
+    (agree : Agree (is_seen m w) w.memory n) where
   abbrev seen : ℕ → Bool
-  seen = is_seen executes m w
+  seen = is_seen m w
 
   abbrev other : World
   other = record w { memory = n }
@@ -976,11 +976,11 @@ module _ (executes : Instruction → Bool) (m : Contents) (w : World) (n : Memor
     reads q own = or_left _ _ (ap (λ (o : Option ℕ). elim o as (λ o. Bool)
         [ None ↦ false | Some p ↦ may_read (holding_at w.roles p) q ]) runs ∙ own)
 
-    handed : (sent : Exchange) → supply executes m w ≡ Some sent
+    handed : (sent : Exchange) → supply m w ≡ Some sent
         → Covers seen (place_of sent.address) sent.length
     handed sent is i inside =
         let place = place_of sent.address + i in
-        or_right _ (is_supplied (supply executes m w) place)
+        or_right _ (is_supplied (supply m w) place)
         (ap (λ (o : Option Exchange). is_supplied o place) is
         ∙ both_true _ _ (le-leb (place_of sent.address) place (omega arith))
         (lt-ltb place (place_of sent.address + sent.length) (omega arith)))
@@ -999,11 +999,11 @@ module _ (executes : Instruction → Bool) (m : Contents) (w : World) (n : Memor
 
     on_function : (byte : ℕ) → slice_get m.code task.registers.at ≡ Some byte → (after : ℤ) (f : Option Fun)
         → fun_of (function_code byte) ≡ f → SameTurn seen (elim f as (λ f. Turn) [
-          | Some f ↦ settled h slice (step.step_by executes (happens.site_of h w) f
+          | Some f ↦ settled h slice (step.local_step (happens.site_of h w) f
               (with_nibble task.registers.operand (nibble byte)) (here task.registers w.memory)) w
           | None ↦ happens.prefix_turn h after w
         ]) (elim f as (λ f. Turn) [
-          | Some f ↦ settled h slice (step.step_by executes (happens.site_of h w) f
+          | Some f ↦ settled h slice (step.local_step (happens.site_of h w) f
               (with_nibble task.registers.operand (nibble byte)) (here task.registers n)) other
           | None ↦ happens.prefix_turn h after other
         ])
@@ -1012,16 +1012,16 @@ module _ (executes : Instruction → Bool) (m : Contents) (w : World) (n : Memor
         let s = happens.site_of h w in
         settled_alike seen h w n agree reads slice _ _
         (each_step s task.registers w.memory n (λ r m n. Agree seen m n) (Alike seen)
-        (alike seen s task.registers w.memory n reads) agree executes f operand)
+        (alike seen s task.registers w.memory n reads) agree f operand)
         (λ sent by. handed sent (ap (λ (o : Option Outcome). elim o as (λ o. Option Exchange)
-        [ None ↦ None | Some o ↦ supply_by w o ]) (outcome_is executes m w p task byte (Some f) runs there at is) ∙ by))
+        [ None ↦ None | Some o ↦ supply_by w o ]) (outcome_is m w p task byte (Some f) runs there at is) ∙ by))
     on_function byte at after None is = prefix after (nat_lt h.next (length m.code))
 
     on_byte : (byte : Option ℕ) → slice_get m.code task.registers.at ≡ byte → SameTurn seen
         (elim byte as (λ b. Turn)
-        [ None ↦ failed h OutsideCode w | Some byte ↦ happens.byte_turn executes h byte slice w ])
+        [ None ↦ failed h OutsideCode w | Some byte ↦ happens.byte_turn h byte slice w ])
         (elim byte as (λ b. Turn)
-        [ None ↦ failed h OutsideCode other | Some byte ↦ happens.byte_turn executes h byte slice other ])
+        [ None ↦ failed h OutsideCode other | Some byte ↦ happens.byte_turn h byte slice other ])
     on_byte None at = record { answer = refl; world = refl; agree = agree }
     on_byte (Some byte) at = on_function byte at _ (fun_of (function_code byte)) refl
 
@@ -1030,14 +1030,14 @@ module _ (executes : Instruction → Bool) (m : Contents) (w : World) (n : Memor
     | Some p ↦ if nat_le happens.most_executed w.counters.executed then answered turn.idle w
         else elim (slice_get w.tasks p) as (λ o. Turn) [
           | None ↦ answered turn.idle w
-          | Some task ↦ happens.task_turn executes (at_here m p task pick) slice w
+          | Some task ↦ happens.task_turn (at_here m p task pick) slice w
         ]
   ]) (elim runner as (λ o. Turn) [
     | None ↦ answered turn.idle other
     | Some p ↦ if nat_le happens.most_executed w.counters.executed then answered turn.idle other
         else elim (slice_get w.tasks p) as (λ o. Turn) [
           | None ↦ answered turn.idle other
-          | Some task ↦ happens.task_turn executes (at_here m p task pick) slice other
+          | Some task ↦ happens.task_turn (at_here m p task pick) slice other
         ]
   ])
   on_runner None runs = rests turn.idle
@@ -1045,10 +1045,10 @@ module _ (executes : Instruction → Bool) (m : Contents) (w : World) (n : Memor
     where
       on_task : (task : Option Task) → slice_get w.tasks p ≡ task → SameTurn seen (elim task as (λ o. Turn) [
         | None ↦ answered turn.idle w
-        | Some task ↦ happens.task_turn executes (at_here m p task pick) slice w
+        | Some task ↦ happens.task_turn (at_here m p task pick) slice w
       ]) (elim task as (λ o. Turn) [
         | None ↦ answered turn.idle other
-        | Some task ↦ happens.task_turn executes (at_here m p task pick) slice other
+        | Some task ↦ happens.task_turn (at_here m p task pick) slice other
       ])
       on_task None there = rests turn.idle
       on_task (Some task) there = on_byte p task runs there (slice_get m.code task.registers.at) refl
@@ -1056,28 +1056,28 @@ module _ (executes : Instruction → Bool) (m : Contents) (w : World) (n : Memor
       on_count : (b : Bool) → SameTurn seen (if b then answered turn.idle w
           else elim (slice_get w.tasks p) as (λ o. Turn) [
             | None ↦ answered turn.idle w
-            | Some task ↦ happens.task_turn executes (at_here m p task pick) slice w
+            | Some task ↦ happens.task_turn (at_here m p task pick) slice w
           ]) (if b then answered turn.idle other else elim (slice_get w.tasks p) as (λ o. Turn) [
             | None ↦ answered turn.idle other
-            | Some task ↦ happens.task_turn executes (at_here m p task pick) slice other
+            | Some task ↦ happens.task_turn (at_here m p task pick) slice other
           ])
       on_count true = rests turn.idle
       on_count false = on_task (slice_get w.tasks p) refl
 
-  sees : SameTurn seen (happens.turn_by executes m w (Step slice pick))
-      (happens.turn_by executes m other (Step slice pick))
-  unfolding happens.turn_by
+  sees : SameTurn seen (happens.turn m w (Step slice pick))
+      (happens.turn m other (Step slice pick))
+  unfolding happens.turn
   sees = on_fault w.fault
     where
       on_fault : (f : Option Fault) → SameTurn seen (elim f as (λ f. Turn) [
-        | None ↦ happens.step_turn executes m slice pick w
+        | None ↦ happens.step_turn m slice pick w
         | Some f ↦ record { world = w; answer = Err f }
       ]) (elim f as (λ f. Turn) [
-        | None ↦ happens.step_turn executes m slice pick other
+        | None ↦ happens.step_turn m slice pick other
         | Some f ↦ record { world = other; answer = Err f }
       ])
       on_fault None = on_runner w.queue.running refl
       on_fault (Some f) = record { answer = refl; world = refl; agree = agree }
 
 pub steps_see_what_they_read : StepsSeeWhatTheyRead
-steps_see_what_they_read executes m w n slice pick agree = sees executes m w n slice pick agree
+steps_see_what_they_read m w n slice pick agree = sees m w n slice pick agree

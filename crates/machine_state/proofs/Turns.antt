@@ -31,7 +31,7 @@ use Rattle.machine_state.specs.World.{World, Join, holding_at}
 use Rattle.machine_state.specs.Site.{Local, Outcome, goes, jumps, lands, stops, fails, receives, sends, starts, joins}
 use Rattle.machine_state.specs.Site.{begins, enables_channel, enables_skip, waits, disables_channel, disables_skip}
 use Rattle.machine_state.specs.Site.{ends_alternation}
-use Rattle.machine_state.specs.LocalStep.{step_by}
+use Rattle.machine_state.specs.LocalStep.{local_step}
 use Rattle.machine_state.specs.Turn.{Here, at_here, followed, left, waiting}
 use Rattle.machine_state.specs.Exchanges as exchange
 use Rattle.machine_state.specs.Exchanges.{met, waits_at, condition_of, input_link, output_link, link_of, bytes_at}
@@ -44,7 +44,7 @@ use Rattle.machine_state.specs.Moves.{counted, finished_where, put, leave, enque
 use Rattle.machine_state.specs.Moves.{with_input, with_output, fill, rouse, channel_at}
 use Rattle.machine_state.specs.Happens.{Effect, Turn, answered, ran, idle, emitted, ignored, taken, kept, busy}
 use Rattle.machine_state.specs.Happens.{acknowledged, most_executed, failed, continued, between, settled, prefix_turn}
-use Rattle.machine_state.specs.Happens.{site_of, byte_turn, task_turn, arrive_at, event_turn, turn_by}
+use Rattle.machine_state.specs.Happens.{site_of, byte_turn, task_turn, arrive_at, event_turn, turn}
 
 -- ---- what an instruction makes of the world, before its byte is counted
 
@@ -499,43 +499,43 @@ pub data Rests : Event → Effect → Type 0 where
   arrives_nowhere : {link : Link} {byte : ℕ} → Rests (Arrive link byte) ignored
   is_ignored : {link : Link} → Rests (Acknowledge link) ignored
 
-pub data Happened (executes : Instruction → Bool) (m : Contents) (w : World) : Event → Turn → Type 0 where
+pub data Happened (m : Contents) (w : World) : Event → Turn → Type 0 where
   was_at_fault : {e : Event} (f : Fault) → w.fault ≡ Some f
-      → Happened executes m w e (record { world = w; answer = Err f })
-  it_rests : {e : Event} {effect : Effect} → Rests e effect → Happened executes m w e (answered effect w)
+      → Happened m w e (record { world = w; answer = Err f })
+  it_rests : {e : Event} {effect : Effect} → Rests e effect → Happened m w e (answered effect w)
   -- a byte of the running process: it is at fault before any instruction, is a prefix, or completes an instruction
   is_outside : {slice : Bool} {pick : ℕ} (p : ℕ) (task : Task) (kind : FaultKind) → w.queue.running ≡ Some p
       → slice_get w.tasks p ≡ Some task
-      → Happened executes m w (Step slice pick) (failed (at_here m p task pick) kind w)
+      → Happened m w (Step slice pick) (failed (at_here m p task pick) kind w)
   is_prefix : {slice : Bool} {pick : ℕ} (p : ℕ) (task : Task) (byte : ℕ) (operand : ℤ) → w.queue.running ≡ Some p
       → slice_get w.tasks p ≡ Some task → slice_get m.code task.registers.at ≡ Some byte
       → fun_of (function_code byte) ≡ None
-      → Happened executes m w (Step slice pick) (answered ran (counted (put p
+      → Happened m w (Step slice pick) (answered ran (counted (put p
       (record task { registers = record task.registers { at = task.registers.at + 1; operand = operand } })
       w.memory w)))
   is_step : {slice : Bool} {pick : ℕ} {t : Turn} (p : ℕ) (task : Task) (byte : ℕ) (f : Fun)
       → w.queue.running ≡ Some p → slice_get w.tasks p ≡ Some task
       → slice_get m.code task.registers.at ≡ Some byte → fun_of (function_code byte) ≡ Some f
       → Ends (at_here m p task pick) w
-      (step_by executes (site_of (at_here m p task pick) w) f (with_nibble task.registers.operand (nibble byte))
+      (local_step (site_of (at_here m p task pick) w) f (with_nibble task.registers.operand (nibble byte))
       (local_here task w)) t
-      → Happened executes m w (Step slice pick) t
+      → Happened m w (Step slice pick) t
   is_taken : {link : Link} {byte : ℕ} (input : InputLink) (p : ℕ)
       → slice_get w.links.inputs (link_index link) ≡ Some input → input.waiting ≡ Some p
-      → Happened executes m w (Arrive link byte)
+      → Happened m w (Arrive link byte)
       (answered taken (dispatch 0 (fill p (link_index link) byte input w)))
   is_kept : {link : Link} {byte : ℕ} (input : InputLink) → slice_get w.links.inputs (link_index link) ≡ Some input
-      → input.waiting ≡ None → input.kept ≡ None → Happened executes m w (Arrive link byte)
+      → input.waiting ≡ None → input.kept ≡ None → Happened m w (Arrive link byte)
       (answered kept (dispatch 0 (rouse input.enabled
       (with_input (link_index link) (record input { kept = Some byte }) w))))
   is_acknowledged : {link : Link} (output : OutputLink) (p : ℕ)
       → slice_get w.links.outputs (link_index link) ≡ Some output → output.waiting ≡ Some p
-      → Happened executes m w (Acknowledge link)
+      → Happened m w (Acknowledge link)
       (answered acknowledged (dispatch 0 (wake p (with_output (link_index link) (record { waiting = None }) w))))
 
-module _ (executes : Instruction → Bool) (m : Contents) (w : World) where
+module _ (m : Contents) (w : World) where
   abbrev Comes : Event → Turn → Type 0
-  Comes e t = Happened executes m w e t
+  Comes e t = Happened m w e t
 
   module _ (slice : Bool) (pick p : ℕ) (task : Task) (runs : w.queue.running ≡ Some p)
       (here : slice_get w.tasks p ≡ Some task) where
@@ -554,14 +554,14 @@ module _ (executes : Instruction → Bool) (m : Contents) (w : World) where
     on_function : (byte : ℕ) → slice_get m.code task.registers.at ≡ Some byte → (after : ℤ) (f : Option Fun)
         → fun_of (function_code byte) ≡ f → Comes (Step slice pick) (elim f [
           | Some f ↦ settled h slice
-              (step_by executes (site_of h w) f (with_nibble task.registers.operand (nibble byte)) (local_here task w)) w
+              (local_step (site_of h w) f (with_nibble task.registers.operand (nibble byte)) (local_here task w)) w
           | None ↦ prefix_turn h after w
         ])
     on_function byte at after (Some f) is = is_step p task byte f runs here at is (settled_ends h w slice _)
     on_function byte at after None is = on_next byte at is after (nat_lt h.next (length m.code))
 
     on_byte : (byte : Option ℕ) → slice_get m.code task.registers.at ≡ byte → Comes (Step slice pick)
-        (elim byte [ None ↦ failed h OutsideCode w | Some byte ↦ byte_turn executes h byte slice w ])
+        (elim byte [ None ↦ failed h OutsideCode w | Some byte ↦ byte_turn h byte slice w ])
     on_byte None at = is_outside p task OutsideCode runs here
     on_byte (Some byte) at = on_function byte at _ (fun_of (function_code byte)) refl
 
@@ -570,7 +570,7 @@ module _ (executes : Instruction → Bool) (m : Contents) (w : World) where
         | None ↦ answered idle w
         | Some p ↦ if nat_le most_executed w.counters.executed then answered idle w else elim (slice_get w.tasks p) [
           | None ↦ answered idle w
-          | Some task ↦ task_turn executes (at_here m p task pick) slice w
+          | Some task ↦ task_turn (at_here m p task pick) slice w
         ]
       ])
   step_comes slice pick None runs = it_rests is_idle
@@ -578,14 +578,14 @@ module _ (executes : Instruction → Bool) (m : Contents) (w : World) where
     where
       on_task : (task : Option Task) → slice_get w.tasks p ≡ task → Comes (Step slice pick) (elim task [
         | None ↦ answered idle w
-        | Some task ↦ task_turn executes (at_here m p task pick) slice w
+        | Some task ↦ task_turn (at_here m p task pick) slice w
       ])
       on_task None is = it_rests is_idle
       on_task (Some task) is = on_byte slice pick p task runs is (slice_get m.code task.registers.at) refl
 
       on_count : (b : Bool) → Comes (Step slice pick) (if b then answered idle w else elim (slice_get w.tasks p) [
         | None ↦ answered idle w
-        | Some task ↦ task_turn executes (at_here m p task pick) slice w
+        | Some task ↦ task_turn (at_here m p task pick) slice w
       ])
       on_count true = it_rests is_idle
       on_count false = on_task (slice_get w.tasks p) refl
@@ -632,16 +632,16 @@ module _ (executes : Instruction → Bool) (m : Contents) (w : World) where
       on_waiting None is = it_rests is_ignored
       on_waiting (Some p) is = is_acknowledged output p here is
 
-  event_comes : (e : Event) → Comes e (event_turn executes m e w)
+  event_comes : (e : Event) → Comes e (event_turn m e w)
   event_comes (Step slice pick) = step_comes slice pick w.queue.running refl
   event_comes (Arrive link byte) = arrive_comes link byte (slice_get w.links.inputs (link_index link)) refl
   event_comes (Acknowledge link) = acknowledge_comes link (slice_get w.links.outputs (link_index link)) refl
 
-  pub turn_happens : (e : Event) → Comes e (turn_by executes m w e)
-  unfolding turn_by
+  pub turn_happens : (e : Event) → Comes e (turn m w e)
+  unfolding turn
   turn_happens e = on_fault w.fault refl
     where
       on_fault : (f : Option Fault) → w.fault ≡ f → Comes e
-          (elim f [ None ↦ event_turn executes m e w | Some f ↦ record { world = w; answer = Err f } ])
+          (elim f [ None ↦ event_turn m e w | Some f ↦ record { world = w; answer = Err f } ])
       on_fault None is = event_comes e
       on_fault (Some f) is = was_at_fault f is

@@ -32,7 +32,7 @@ use Rattle.machine_state.specs.Joins.{without_words, scheduling_addresses}
 use Rattle.machine_state.specs.Alternations.{chosen, selected, in_mode, ready_or}
 use Rattle.machine_state.proofs.Turns as turns
 use Rattle.machine_state.proofs.Turns.{Moved, Ends, Happened, turn_happens}
-use Rattle.machine_state.specs.Happens.{site_of, turn_by, run_by, world_by}
+use Rattle.machine_state.specs.Happens.{site_of, turn, run_from, world_after}
 use Rattle.prefix_decoder.specs.Functions.{nibble}
 use Rattle.prefix_decoder.specs.Operand.{with_nibble}
 use Rattle.machine_state.specs.Waiting.{LinesAreReady, LinksHaveTheirWaiters, IsAwaited, ArrivalsFillBuffers, IsOver, is_member, Opens, IsGone, IsCounted, BranchesAreCounted}
@@ -1415,25 +1415,25 @@ module _ (w : World) (keeps : WaitsIn w) where
         | inr old ↦ ((λ e. old.0 (omega arith)), keeps.rest.waiters.outputs j l q old.1 b)
       ]))
 
-  turn_keeps : (executes : Instruction → Bool) (m : Contents) (e : Event) (t : Turn) → Happened executes m w e t
+  turn_keeps : (m : Contents) (e : Event) (t : Turn) → Happened m w e t
       → WaitsIn t.world
-  turn_keeps executes m e t (turns.was_at_fault f is) = keeps
-  turn_keeps executes m e t (turns.it_rests rests) = keeps
-  turn_keeps executes m e t (turns.is_outside p task kind runs here) = record { line = keeps.line; rest = keeps.rest }
-  turn_keeps executes m e t (turns.is_prefix p task byte operand runs here at none) =
+  turn_keeps m e t (turns.was_at_fault f is) = keeps
+  turn_keeps m e t (turns.it_rests rests) = keeps
+  turn_keeps m e t (turns.is_outside p task kind runs here) = record { line = keeps.line; rest = keeps.rest }
+  turn_keeps m e t (turns.is_prefix p task byte operand runs here at none) =
       let kept = change_keeps p task
       (record task { registers = record task.registers { at = task.registers.at + 1; operand = operand } }) w here
       (λ e. e) (calm_same task.condition task.condition refl) keeps in
       record { line = kept.line; rest = kept.rest }
-  turn_keeps executes m e t (turns.is_step {pick = pick} p task byte f runs here at is ends) =
+  turn_keeps m e t (turns.is_step {pick = pick} p task byte f runs here at is ends) =
       let h = at_here m p task pick in
       end_keeps h w runs here keeps _ t ends
       (each_step (site_of h w) task.registers w.memory w.memory (λ r m n. m ≡ n)
-      (λ o other. Message (site_of h w) w.memory o) (messages (site_of h w) task.registers w.memory) refl executes f
+      (λ o other. Message (site_of h w) w.memory o) (messages (site_of h w) task.registers w.memory) refl f
       (with_nibble task.registers.operand (nibble byte)))
-  turn_keeps executes m e t (turns.is_taken {link = link} {byte = byte} input p here waiting) =
+  turn_keeps m e t (turns.is_taken {link = link} {byte = byte} input p here waiting) =
       dispatch_keeps 0 (fill p (link_index link) byte input w) (fill_keeps p (link_index link) byte input here waiting)
-  turn_keeps executes m e t (turns.is_kept {link = link} {byte = byte} input here nobody empty) =
+  turn_keeps m e t (turns.is_kept {link = link} {byte = byte} input here nobody empty) =
       let k = link_index link in
       let v = with_input k (record input { kept = Some byte }) w in
       dispatch_keeps 0 (rouse input.enabled v) (rouse_keeps input.enabled v (record {
@@ -1441,7 +1441,7 @@ module _ (w : World) (keeps : WaitsIn w) where
         rest = rest_input w.tasks w.roles w.links k (record input { kept = Some byte })
             (λ p is. keeps.rest.waiters.inputs k input p here is) keeps.rest;
       }))
-  turn_keeps executes m e t (turns.is_acknowledged {link = link} output p here waiting) =
+  turn_keeps m e t (turns.is_acknowledged {link = link} output p here waiting) =
       dispatch_keeps 0 (wake p (with_output (link_index link) (record { waiting = None }) w))
       (acknowledged p (link_index link) output here waiting)
 
@@ -1480,20 +1480,20 @@ loaded_waits m = record {
   };
 }
 
-run_keeps : (executes : Instruction → Bool) (m : Contents) (w : World) (es : List Event) → WaitsIn w
-    → WaitsIn (run_by executes m w es)
-run_keeps executes m w [] keeps = keeps
-run_keeps executes m w (e ∷ es) keeps = run_keeps executes m (turn_by executes m w e).world es
-    (turn_keeps w keeps executes m e (turn_by executes m w e) (turn_happens executes m w e))
+run_keeps : (m : Contents) (w : World) (es : List Event) → WaitsIn w
+    → WaitsIn (run_from m w es)
+run_keeps m w [] keeps = keeps
+run_keeps m w (e ∷ es) keeps = run_keeps m (turn m w e).world es
+    (turn_keeps w keeps m e (turn m w e) (turn_happens m w e))
 
-pub reached : (executes : Instruction → Bool) (m : Contents) (es : List Event) → WaitsIn (world_by executes m es)
-reached executes m es = run_keeps executes m (loaded m) es (loaded_waits m)
+pub reached : (m : Contents) (es : List Event) → WaitsIn (world_after m es)
+reached m es = run_keeps m (loaded m) es (loaded_waits m)
 
 pub lines_are_ready : LinesAreReady
-lines_are_ready executes m es = (reached executes m es).line
+lines_are_ready m es = (reached m es).line
 
 pub links_have_their_waiters : LinksHaveTheirWaiters
-links_have_their_waiters executes m es = (reached executes m es).rest.waiters
+links_have_their_waiters m es = (reached m es).rest.waiters
 
 -- what is wanted on a link is a byte of the buffer of the process that waits there
 awaited : (w : World) (link : Link) (place : ℕ) → WaitsIn w → wanted_on w link ≡ Some place
@@ -1536,10 +1536,10 @@ awaited w link place keeps is = on_link (slice_get w.links.inputs (link_index li
     on_link (Some input) here is = on_waiting input here input.waiting refl is
 
 pub arrivals_fill_buffers : ArrivalsFillBuffers
-arrivals_fill_buffers executes m es link place is =
-    awaited (world_by executes m es) link place (reached executes m es) is
+arrivals_fill_buffers m es link place is =
+    awaited (world_after m es) link place (reached m es) is
 
 pub branches_are_counted : BranchesAreCounted
-branches_are_counted executes m es =
-    let r = (reached executes m es).rest in
+branches_are_counted m es =
+    let r = (reached m es).rest in
     record { joins = r.joins; counted = r.counted }

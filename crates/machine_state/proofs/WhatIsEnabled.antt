@@ -33,7 +33,7 @@ use Rattle.machine_state.specs.Joins as join
 use Rattle.machine_state.specs.Joins.{joined, closed_task, started, on_role, new_task, without_channels, opened, ended}
 use Rattle.machine_state.specs.Joins.{given_back, later_plan, Plan, Found, join_after, without_words}
 use Rattle.machine_state.specs.Joins.{scheduling_addresses}
-use Rattle.machine_state.specs.Happens.{site_of, turn_by, world_by}
+use Rattle.machine_state.specs.Happens.{site_of, turn, world_after}
 use Rattle.machine_state.specs.EnabledLaws.{HasEnabled, a_channel, a_link, Enables, Disables, Alternates}
 use Rattle.machine_state.specs.EnabledLaws.{IsInAlternation}
 use Rattle.machine_state.specs.EnabledLaws.{AllAlternate}
@@ -765,7 +765,7 @@ module _ (h : Here) (w : World) (runs : w.queue.running ≡ Some h.process)
 
 -- ---- every event
 
-module _ (executes : Instruction → Bool) (m : Contents) (w : World) (keeps : WaitsIn w)
+module _ (m : Contents) (w : World) (keeps : WaitsIn w)
     (waiters : HaveTheirWaiters w.tasks w.channels) (alternates : AllAlternate w.tasks w.channels w.links.inputs)
     (all : NothingIsReady w.tasks w.channels w.links.inputs) where
   -- a link on which a byte was taken
@@ -843,7 +843,7 @@ module _ (executes : Instruction → Bool) (m : Contents) (w : World) (keeps : W
             | inr other ↦ a_byte n l b other.1 by kept
           ]
 
-  turn_is_quiet : (e : Event) (t : Turn) → Happened executes m w e t
+  turn_is_quiet : (e : Event) (t : Turn) → Happened m w e t
       → NothingIsReady t.world.tasks t.world.channels t.world.links.inputs
   unfolding dispatch
   turn_is_quiet e t (turns.was_at_fault f is) = all
@@ -859,7 +859,7 @@ module _ (executes : Instruction → Bool) (m : Contents) (w : World) (keeps : W
   turn_is_quiet e t (turns.is_step {pick = pick} p task byte f runs here at is ends) =
       let h = at_here m p task pick in
       end_is_quiet h w runs here keeps waiters alternates all _ t ends
-      (steps_fit (site_of h w) executes f (with_nibble task.registers.operand (nibble byte)) (local_here task w))
+      (steps_fit (site_of h w) f (with_nibble task.registers.operand (nibble byte)) (local_here task w))
   turn_is_quiet e t (turns.is_taken {link = link} {byte = byte} input p here waiting) =
       fills p (link_index link) byte input here
   turn_is_quiet e t (turns.is_kept {link = link} {byte = byte} input here nobody empty) =
@@ -874,8 +874,8 @@ loaded_is_quiet m zero t here waits has =
 loaded_is_quiet m (suc p) t here waits has = absurd (cc)
 
 pub who_may_wait_has_nothing_ready : WhoMayWaitHasNothingReady
-who_may_wait_has_nothing_ready executes m es =
-    every_world executes m (λ w. NothingIsReady w.tasks w.channels w.links.inputs) (loaded_is_quiet m)
-    (λ es e all. turn_is_quiet executes m (world_by executes m es) (reached executes m es)
-    (channels_have_their_waiters executes m es) (who_enabled_alternates executes m es) all e
-    (turn_by executes m (world_by executes m es) e) (turn_happens executes m (world_by executes m es) e)) es
+who_may_wait_has_nothing_ready m es =
+    every_world m (λ w. NothingIsReady w.tasks w.channels w.links.inputs) (loaded_is_quiet m)
+    (λ es e all. turn_is_quiet m (world_after m es) (reached m es)
+    (channels_have_their_waiters m es) (who_enabled_alternates m es) all e
+    (turn m (world_after m es) e) (turn_happens m (world_after m es) e)) es

@@ -34,7 +34,7 @@ use Rattle.machine_state.specs.Joins as join
 use Rattle.machine_state.specs.Joins.{joined, closed_task, started, on_role, new_task, without_channels, opened, ended}
 use Rattle.machine_state.specs.Joins.{given_back, later_plan, Plan, Found, join_after, without_words}
 use Rattle.machine_state.specs.Joins.{scheduling_addresses}
-use Rattle.machine_state.specs.Happens.{site_of, turn_by, world_by}
+use Rattle.machine_state.specs.Happens.{site_of, turn, world_after}
 use Rattle.machine_state.specs.EnabledLaws.{HasEnabled, a_channel, a_link, Enables, Disables, Alternates}
 use Rattle.machine_state.specs.EnabledLaws.{IsInAlternation}
 use Rattle.machine_state.specs.EnabledLaws.{AllAlternate, WhoEnabledAlternates}
@@ -565,7 +565,7 @@ module _ (h : Here) (w : World) (runs : w.queue.running ≡ Some h.process)
 
 -- ---- every event
 
-module _ (executes : Instruction → Bool) (m : Contents) (w : World) (keeps : WaitsIn w)
+module _ (m : Contents) (w : World) (keeps : WaitsIn w)
     (all : AllAlternate w.tasks w.channels w.links.inputs) where
   -- a task was changed, and what is enabled was before
   calms : (q : ℕ) (f : Task → Task) (v : World)
@@ -627,7 +627,7 @@ module _ (executes : Instruction → Bool) (m : Contents) (w : World) (keeps : W
       on None here = all
       on (Some task) here = on_condition task here task.condition refl
 
-  turn_alternates : (e : Event) (t : Turn) → Happened executes m w e t
+  turn_alternates : (e : Event) (t : Turn) → Happened m w e t
       → AllAlternate t.world.tasks t.world.channels t.world.links.inputs
   unfolding dispatch
   turn_alternates e t (turns.was_at_fault f is) = all
@@ -640,7 +640,7 @@ module _ (executes : Instruction → Bool) (m : Contents) (w : World) (keeps : W
   turn_alternates e t (turns.is_step {pick = pick} p task byte f runs here at is ends) =
       let h = at_here m p task pick in
       end_alternates h w runs here keeps all _ t ends
-      (steps_fit (site_of h w) executes f (with_nibble task.registers.operand (nibble byte)) (local_here task w))
+      (steps_fit (site_of h w) f (with_nibble task.registers.operand (nibble byte)) (local_here task w))
   turn_alternates e t (turns.is_taken {link = link} {byte = byte} input p here waiting) =
       fills p (link_index link) byte input here
   turn_alternates e t (turns.is_kept {link = link} {byte = byte} input here nobody empty) = λ p has.
@@ -676,7 +676,7 @@ loaded_alternates m p (a_link k l here is) = absurd (never 4 k here)
     never (suc n) (suc k) here = never n k here
 
 pub who_enabled_alternates : WhoEnabledAlternates
-who_enabled_alternates executes m es =
-    every_world executes m (λ w. AllAlternate w.tasks w.channels w.links.inputs) (loaded_alternates m)
-    (λ es e all. turn_alternates executes m (world_by executes m es) (reached executes m es) all e
-    (turn_by executes m (world_by executes m es) e) (turn_happens executes m (world_by executes m es) e)) es
+who_enabled_alternates m es =
+    every_world m (λ w. AllAlternate w.tasks w.channels w.links.inputs) (loaded_alternates m)
+    (λ es e all. turn_alternates m (world_after m es) (reached m es) all e
+    (turn m (world_after m es) e) (turn_happens m (world_after m es) e)) es

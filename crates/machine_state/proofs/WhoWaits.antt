@@ -39,7 +39,7 @@ use Rattle.machine_state.specs.Joins.{joined, closed_task, started, on_role, new
 use Rattle.machine_state.specs.Joins.{frame_address, opened, opened_by, opener_of, ended, given_back, later_plan}
 use Rattle.machine_state.specs.Joins.{Plan, Found, join_after, without_words, scheduling_addresses, holding_of}
 use Rattle.machine_state.specs.Joins.{share_by}
-use Rattle.machine_state.specs.Happens.{site_of, turn_by, world_by}
+use Rattle.machine_state.specs.Happens.{site_of, turn, world_after}
 use Rattle.machine_state.specs.ChannelLaws.{HaveTheirWaiters, WaitsTo, IsRecorded, AreRecorded, WhoWaitsIsRecorded}
 use Rattle.prefix_decoder.specs.Functions.{nibble}
 use Rattle.prefix_decoder.specs.Operand.{with_nibble}
@@ -695,7 +695,7 @@ module _ (h : Here) (w : World) (runs : w.queue.running ≡ Some h.process)
 
 -- ---- every event
 
-module _ (executes : Instruction → Bool) (m : Contents) (small : IsSmall m) (w : World) (keeps : WaitsIn w)
+module _ (m : Contents) (small : IsSmall m) (w : World) (keeps : WaitsIn w)
     (waiters : HaveTheirWaiters w.tasks w.channels) (st : Stands m w)
     (all : AreRecorded w.tasks w.roles w.channels) where
   -- a task was changed, which does not wait on a channel afterwards
@@ -753,7 +753,7 @@ module _ (executes : Instruction → Bool) (m : Contents) (small : IsSmall m) (w
       on None = all
       on (Some task) = on_condition task.condition
 
-  turn_recorded : (e : Event) (t : Turn) → Happened executes m w e t
+  turn_recorded : (e : Event) (t : Turn) → Happened m w e t
       → AreRecorded t.world.tasks t.world.roles t.world.channels
   unfolding dispatch
   turn_recorded e t (turns.was_at_fault f is) = all
@@ -767,7 +767,7 @@ module _ (executes : Instruction → Bool) (m : Contents) (small : IsSmall m) (w
       let h = at_here m p task pick in
       end_recorded h w runs here keeps waiters small st all _ t ends
       (each_step (site_of h w) task.registers w.memory w.memory (λ r m n. m ≡ n)
-      (λ o other. AsksHeld (site_of h w) o) (asks_held (site_of h w) task.registers w.memory) refl executes f
+      (λ o other. AsksHeld (site_of h w) o) (asks_held (site_of h w) task.registers w.memory) refl f
       (with_nibble task.registers.operand (nibble byte)))
   turn_recorded e t (turns.is_taken {link = link} {byte = byte} input p here waiting) =
       fills p (link_index link) byte input
@@ -784,9 +784,9 @@ loaded_recorded m zero t d e here waits =
 loaded_recorded m (suc p) t d e here waits = absurd (cc)
 
 pub who_waits_is_recorded : WhoWaitsIsRecorded
-who_waits_is_recorded executes m es format =
+who_waits_is_recorded m es format =
     let small = format_is_small m format in
-    every_world executes m (λ w. AreRecorded w.tasks w.roles w.channels) (loaded_recorded m)
-    (λ es e all. turn_recorded executes m small (world_by executes m es) (reached executes m es)
-    (channels_have_their_waiters executes m es) (all_stand m small executes es) all e
-    (turn_by executes m (world_by executes m es) e) (turn_happens executes m (world_by executes m es) e)) es
+    every_world m (λ w. AreRecorded w.tasks w.roles w.channels) (loaded_recorded m)
+    (λ es e all. turn_recorded m small (world_after m es) (reached m es)
+    (channels_have_their_waiters m es) (all_stand m small es) all e
+    (turn m (world_after m es) e) (turn_happens m (world_after m es) e)) es

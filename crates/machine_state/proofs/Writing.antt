@@ -40,7 +40,7 @@ use Rattle.machine_state.specs.Joins.{word_passes, share_by, share_is_there, wor
 use Rattle.machine_state.specs.Joins.{channel_addresses, hidden, opened_by, later_plan, started, opened, ended, given_back}
 use Rattle.machine_state.specs.Joins.{join_after, frame_address, named_from}
 use Rattle.machine_state.specs.Happens as happens
-use Rattle.machine_state.specs.Happens.{site_of, between, turn_by}
+use Rattle.machine_state.specs.Happens.{site_of, between, turn}
 use Rattle.machine_state.specs.Frame.{ChangesOwn, LeavesOthers}
 use Rattle.machine_state.specs.Writing.{outcome_of, of_waiting, Delivery, delivered_to, delivery_on, delivery_by}
 use Rattle.machine_state.specs.Writing.{delivery, is_delivered}
@@ -475,12 +475,12 @@ writes_as own mine d given old new (Ok effect) same is h = on effect h
     on happens.acknowledged h = well h
     on happens.ignored h = well h
 
-module _ (executes : Instruction → Bool) (m : Contents) (w : World) where
+module _ (m : Contents) (w : World) where
   -- the outcome of the byte, once the process, its task, the byte and its function are known
   abbrev of_function : ℕ → Task → ℕ → Option Fun → Option Outcome
   of_function p task byte f = elim f as (λ f. Option Outcome) [
     | None ↦ None
-    | Some f ↦ Some (step.step_by executes (site_of (at_here m p task 0) w) f
+    | Some f ↦ Some (step.local_step (site_of (at_here m p task 0) w) f
         (with_nibble task.registers.operand (nibble byte)) (local_here task w))
   ]
 
@@ -497,7 +497,7 @@ module _ (executes : Instruction → Bool) (m : Contents) (w : World) where
 
   pub outcome_is : (p : ℕ) (task : Task) (byte : ℕ) (f : Option Fun) → w.queue.running ≡ Some p
       → slice_get w.tasks p ≡ Some task → slice_get m.code task.registers.at ≡ Some byte
-      → fun_of (function_code byte) ≡ f → outcome_of executes m w ≡ of_function p task byte f
+      → fun_of (function_code byte) ≡ f → outcome_of m w ≡ of_function p task byte f
   outcome_is p task byte f runs here at is =
       ap of_runner runs ∙ (ap (of_task p) here ∙ (ap (of_byte p task) at ∙ ap (of_function p task byte) is))
 
@@ -512,19 +512,19 @@ module _ (executes : Instruction → Bool) (m : Contents) (w : World) where
       → slice_get w.tasks p ≡ Some task → slice_get m.code task.registers.at ≡ Some byte
       → fun_of (function_code byte) ≡ Some f
       → Ends (at_here m p task pick) w
-      (step.step_by executes (site_of (at_here m p task pick) w) f (with_nibble task.registers.operand (nibble byte))
+      (step.local_step (site_of (at_here m p task pick) w) f (with_nibble task.registers.operand (nibble byte))
       (local_here task w)) t
-      → StepWrites (is_own w) (delivery executes m w) w.memory t.world.memory t.answer
+      → StepWrites (is_own w) (delivery m w) w.memory t.world.memory t.answer
   step_writes p task byte f pick t runs here at is ends =
       let h = at_here m p task pick in
       let s = site_of h w in
       let operand = with_nibble task.registers.operand (nibble byte) in
       writes_as (may_write (holding_at w.roles p)) (is_own w)
-      (delivery_by w (step.step_by executes s f operand (local_here task w))) (delivery executes m w) w.memory
+      (delivery_by w (step.local_step s f operand (local_here task w))) (delivery m w) w.memory
       t.world.memory t.answer (own_is p runs) (ap delivered (outcome_is p task byte (Some f) runs here at is))
-      (end_writes h w _ t ends (steps_change_own executes s f operand (local_here task w))
+      (end_writes h w _ t ends (steps_change_own s f operand (local_here task w))
       (each_step s task.registers w.memory w.memory (λ r m n. m ≡ n) (λ o other. Message s w.memory o)
-      (messages s task.registers w.memory) refl executes f operand))
+      (messages s task.registers w.memory) refl f operand))
 
   wanted_is : (link : Link) (input : InputLink) (p : ℕ) → slice_get w.links.inputs (link_index link) ≡ Some input
       → input.waiting ≡ Some p → wanted_on w link ≡ wanted_by (condition_of w p)
@@ -599,7 +599,7 @@ module _ (executes : Instruction → Bool) (m : Contents) (w : World) where
       on (Some task) = on_condition task.condition
 
   abbrev Wrote : Event → Turn → Type 0
-  Wrote (Step slice pick) t = StepWrites (is_own w) (delivery executes m w) w.memory t.world.memory t.answer
+  Wrote (Step slice pick) t = StepWrites (is_own w) (delivery m w) w.memory t.world.memory t.answer
   Wrote (Arrive link byte) t = ArriveWrites (wanted_on w link) byte w.memory t.world.memory t.answer
   Wrote (Acknowledge link) t = t.world.memory ≡ w.memory
 
@@ -616,13 +616,13 @@ module _ (executes : Instruction → Bool) (m : Contents) (w : World) where
       stays byte (Ok happens.ignored) (wanted_on w link) w.memory (λ place is ok. cc) refl
   rest_wrote e effect turns.is_ignored = refl
 
-  wrote : (e : Event) (t : Turn) → Happened executes m w e t → Wrote e t
+  wrote : (e : Event) (t : Turn) → Happened m w e t → Wrote e t
   unfolding dispatch
   wrote e t (turns.was_at_fault f is) = at_fault_wrote e f
   wrote e t (turns.it_rests rests) = rest_wrote e _ rests
   wrote e t (turns.is_outside p task kind runs here) = refl
   wrote e t (turns.is_prefix p task byte operand runs here at none) =
-      writes_as (may_write (holding_at w.roles p)) (is_own w) None (delivery executes m w) w.memory w.memory
+      writes_as (may_write (holding_at w.roles p)) (is_own w) None (delivery m w) w.memory w.memory
       (Ok happens.ran) (own_is p runs) (ap delivered (outcome_is p task byte None runs here at none))
       (only_own (holding_at w.roles p) None w.memory w.memory w.memory
       (changes_nothing (holding_at w.roles p) w.memory) refl refl)
@@ -638,13 +638,13 @@ module _ (executes : Instruction → Bool) (m : Contents) (w : World) where
       (wake_only p (with_output (link_index link) (record { waiting = None }) w)).memory
 
 pub steps_write_own : StepsWriteOwn
-steps_write_own executes m w slice pick =
-    wrote executes m w (Step slice pick) _ (turn_happens executes m w (Step slice pick))
+steps_write_own m w slice pick =
+    wrote m w (Step slice pick) _ (turn_happens m w (Step slice pick))
 
 pub arrivals_write_one : ArrivalsWriteOne
-arrivals_write_one executes m w link byte =
-    wrote executes m w (Arrive link byte) _ (turn_happens executes m w (Arrive link byte))
+arrivals_write_one m w link byte =
+    wrote m w (Arrive link byte) _ (turn_happens m w (Arrive link byte))
 
 pub acknowledgements_write_nothing : AcknowledgementsWriteNothing
-acknowledgements_write_nothing executes m w link =
-    wrote executes m w (Acknowledge link) _ (turn_happens executes m w (Acknowledge link))
+acknowledgements_write_nothing m w link =
+    wrote m w (Acknowledge link) _ (turn_happens m w (Acknowledge link))

@@ -14,7 +14,7 @@ use Rattle.module_format.specs.Keeping.{Keeps}
 use Rattle.machine_state.specs.Holding.{has_end}
 use Rattle.machine_state.specs.World.{Role, holding_at}
 use Rattle.machine_state.specs.Moves.{cell_of}
-use Rattle.machine_state.specs.Happens.{world_by}
+use Rattle.machine_state.specs.Happens.{world_after}
 
 -- a process waits on the channel in the data word k
 pub record WaitsAt (tasks : List Task) (p k : ℕ) : Type 0 where
@@ -31,8 +31,8 @@ HaveTheirWaiters tasks channels =
     → WaitsAt tasks p k
 
 abbrev pub ChannelsHaveTheirWaiters : Type 0
-ChannelsHaveTheirWaiters = (executes : Instruction → Bool) (m : Contents) (es : List Event)
-    → HaveTheirWaiters (world_by executes m es).tasks (world_by executes m es).channels
+ChannelsHaveTheirWaiters = (m : Contents) (es : List Event)
+    → HaveTheirWaiters (world_after m es).tasks (world_after m es).channels
 
 -- ---- and who waits is recorded at the channel
 
@@ -55,5 +55,5 @@ AreRecorded tasks roles channels =
     → WaitsTo direction task.condition e → IsRecorded roles channels p direction e
 
 abbrev pub WhoWaitsIsRecorded : Type 0
-WhoWaitsIsRecorded = (executes : Instruction → Bool) (m : Contents) (es : List Event) → Keeps m
-    → let w = world_by executes m es in AreRecorded w.tasks w.roles w.channels
+WhoWaitsIsRecorded = (m : Contents) (es : List Event) → Keeps m
+    → let w = world_after m es in AreRecorded w.tasks w.roles w.channels

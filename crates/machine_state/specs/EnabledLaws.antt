@@ -11,7 +11,7 @@ use Rattle.machine_state.specs.declared.process.Mode.{Mode}
 use Rattle.machine_state.specs.declared.process.Mode.TheVariants.{Enabling, Disabling}
 use Rattle.machine_state.specs.declared.process.Condition.{Condition}
 use Rattle.machine_state.specs.declared.process.Condition.TheVariants.{Ready, Sending, Alternating}
-use Rattle.machine_state.specs.Happens.{world_by}
+use Rattle.machine_state.specs.Happens.{world_after}
 
 -- a process has enabled a channel or a link
 pub data HasEnabled (channels : List (Option Channel)) (inputs : List InputLink) (p : ℕ) : Type 0 where
@@ -40,8 +40,8 @@ abbrev pub AllAlternate : List Task → List (Option Channel) → List InputLink
 AllAlternate tasks channels inputs = (p : ℕ) → HasEnabled channels inputs p → IsInAlternation tasks p
 
 abbrev pub WhoEnabledAlternates : Type 0
-WhoEnabledAlternates = (executes : Instruction → Bool) (m : Contents) (es : List Event)
-    → let w = world_by executes m es in AllAlternate w.tasks w.channels w.links.inputs
+WhoEnabledAlternates = (m : Contents) (es : List Event)
+    → let w = world_after m es in AllAlternate w.tasks w.channels w.links.inputs
 
 -- ---- nothing that is enabled is ready while its process waits for that, or may yet wait
 
@@ -62,5 +62,5 @@ NothingIsReady tasks channels inputs =
     (p : ℕ) (task : Task) → slice_get tasks p ≡ Some task → MayWait task → HasReady tasks channels inputs p → ⊥
 
 abbrev pub WhoMayWaitHasNothingReady : Type 0
-WhoMayWaitHasNothingReady = (executes : Instruction → Bool) (m : Contents) (es : List Event)
-    → let w = world_by executes m es in NothingIsReady w.tasks w.channels w.links.inputs
+WhoMayWaitHasNothingReady = (m : Contents) (es : List Event)
+    → let w = world_after m es in NothingIsReady w.tasks w.channels w.links.inputs

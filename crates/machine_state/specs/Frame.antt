@@ -8,7 +8,7 @@ use Rattle.machine_state.specs.Site.{Site, Local, Outcome, goes, jumps, lands, s
 use Rattle.machine_state.specs.Site.{joins, begins, enables_channel, enables_skip, waits, disables_channel}
 use Rattle.machine_state.specs.Site.{disables_skip, ends_alternation}
 use Rattle.machine_state.specs.declared.instruction.Instruction.{Instruction}
-use Rattle.machine_state.specs.LocalStep.{step_by}
+use Rattle.machine_state.specs.LocalStep.{local_step}
 
 -- only bytes that the process may write have changed
 pub record ChangesOwn (h : Holding) (old new : Memory) : Type 0 where
@@ -34,7 +34,6 @@ LeavesOthers h old (disables_channel guard address distance l) = ChangesOwn h ol
 LeavesOthers h old (disables_skip guard distance l) = ChangesOwn h old l.memory
 LeavesOthers h old (ends_alternation to l) = ChangesOwn h old l.memory
 
--- whatever instructions the machine executes
 abbrev pub StepsChangeOwn : Type 0
-StepsChangeOwn = (executes : Instruction → Bool) (s : Site) (f : Fun) (operand : ℤ) (l : Local)
-    → LeavesOthers s.holding l.memory (step_by executes s f operand l)
+StepsChangeOwn = (s : Site) (f : Fun) (operand : ℤ) (l : Local)
+    → LeavesOthers s.holding l.memory (local_step s f operand l)

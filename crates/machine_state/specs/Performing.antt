@@ -8,7 +8,6 @@ use Rattle.machine_state.specs.declared.request.Request.TheVariants.{Start, Join
 use Rattle.machine_state.specs.declared.fault.FaultKind.{FaultKind}
 use Rattle.machine_state.specs.declared.store.Store.{Ghosts}
 use Rattle.machine_state.specs.Site.{Site, Local, Outcome, goes, jumps, lands, stops, fails}
-use Rattle.machine_state.specs.Instructions.{op_has_body}
 use Rattle.machine_state.specs.LocalStep.{local_step, instruction_step, operation_step, exchanges}
 use Rattle.machine_state.specs.LocalStep.{schedules, without_registers}
 use Rattle.machine_state.specs.Asking.{asked, local_for, IsGrantable}
@@ -78,12 +77,6 @@ HasOutcome ghosts before after (Ok (Ask request)) outcome = Asks ghosts before a
 HasOutcome ghosts before after (Err kind) outcome =
     (outcome ≡ fails kind) × (local_of ghosts after ≡ local_of ghosts before)
 
--- no process is asked to start, nor to end in its join
-abbrev pub StartsNothing : Flow → Type 0
-StartsNothing (Ask (Start to workspace)) = ⊥
-StartsNothing (Ask (Join block)) = ⊥
-StartsNothing _ = ⊤
-
 -- all but the registers and the memory stays
 pub record IsSameElsewhere {S : Type 0} (ghosts : Ghosts S) (before after : Cpu S) : Type 0 where
   pub mode : after.mode ≡ before.mode
@@ -99,16 +92,10 @@ pub record Performs {S : Type 0} (ghosts : Ghosts S) (outcome : Outcome) (before
   pub performed : HasOutcome ghosts before after result outcome
   pub elsewhere : IsSameElsewhere ghosts before after
 
--- of an operation, of one if the machine executes it, of an instruction with its operand, and of a function with its
--- operand
+-- of an operation, of an instruction with its operand, and of a function with its operand
 abbrev pub PerformsOperation : {S : Type 0} → Ghosts S → Op → Cpu S → Cpu S → Result Flow FaultKind → Type 0
 PerformsOperation ghosts op before after result =
     Performs ghosts (operation_step (site_of ghosts before) op (local_of ghosts before)) before after result
-
-abbrev pub PerformsExecuted : {S : Type 0} → Ghosts S → Op → Cpu S → Cpu S → Result Flow FaultKind → Type 0
-PerformsExecuted ghosts op before after result =
-    let step = operation_step (site_of ghosts before) op (local_of ghosts before) in
-    Performs ghosts (if op_has_body op then step else fails UnknownOperation) before after result
 
 abbrev pub PerformsInstruction : {S : Type 0} → Ghosts S → Instruction → ℤ → Cpu S → Cpu S → Result Flow FaultKind
     → Type 0

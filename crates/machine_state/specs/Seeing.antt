@@ -12,7 +12,7 @@ use Rattle.machine_state.specs.World.{World, holding_at}
 use Rattle.machine_state.specs.Site.{Outcome, receives}
 use Rattle.machine_state.specs.Turn.{Turn}
 use Rattle.machine_state.specs.Exchanges.{input_link}
-use Rattle.machine_state.specs.Happens.{turn_by}
+use Rattle.machine_state.specs.Happens.{turn}
 use Rattle.machine_state.specs.Writing.{outcome_of, of_waiting}
 
 abbrev pub sent_by : Condition → Option Exchange
@@ -27,8 +27,8 @@ abbrev pub supply_by : World → Outcome → Option Exchange
 supply_by w (receives e l) = sent_on w e
 supply_by w _ = None
 
-abbrev pub supply : (Instruction → Bool) → Contents → World → Option Exchange
-supply executes m w = elim (outcome_of executes m w) [ None ↦ None | Some o ↦ supply_by w o ]
+abbrev pub supply : Contents → World → Option Exchange
+supply m w = elim (outcome_of m w) [ None ↦ None | Some o ↦ supply_by w o ]
 
 -- the place is in the buffer of the sender
 abbrev pub is_supplied : Option Exchange → ℕ → Bool
@@ -36,10 +36,10 @@ is_supplied None place = false
 is_supplied (Some e) place = nat_le (place_of e.address) place && nat_lt place (place_of e.address + e.length)
 
 -- the running process may read the place, or is handed it by a sender
-abbrev pub is_seen : (Instruction → Bool) → Contents → World → ℕ → Bool
-is_seen executes m w place =
+abbrev pub is_seen : Contents → World → ℕ → Bool
+is_seen m w place =
     elim w.queue.running [ None ↦ false | Some p ↦ may_read (holding_at w.roles p) place ]
-    || is_supplied (supply executes m w) place
+    || is_supplied (supply m w) place
 
 -- memories of one length that agree where this is true
 pub record Agree (seen : ℕ → Bool) (m n : Memory) : Type 0 where
@@ -53,7 +53,7 @@ pub record SameTurn (seen : ℕ → Bool) (t u : Turn) : Type 0 where
   pub agree : Agree seen t.world.memory u.world.memory
 
 abbrev pub StepsSeeWhatTheyRead : Type 0
-StepsSeeWhatTheyRead = (executes : Instruction → Bool) (m : Contents) (w : World) (n : Memory) (slice : Bool) (pick : ℕ)
-    → Agree (is_seen executes m w) w.memory n
-    → SameTurn (is_seen executes m w) (turn_by executes m w (Step slice pick))
-    (turn_by executes m (record w { memory = n }) (Step slice pick))
+StepsSeeWhatTheyRead = (m : Contents) (w : World) (n : Memory) (slice : Bool) (pick : ℕ)
+    → Agree (is_seen m w) w.memory n
+    → SameTurn (is_seen m w) (turn m w (Step slice pick))
+    (turn m (record w { memory = n }) (Step slice pick))

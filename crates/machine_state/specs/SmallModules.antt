@@ -11,7 +11,7 @@ use Rattle.module_format.specs.declared.rows.EndKind.TheVariants.{FrameWord}
 use Rattle.module_format.specs.declared.rows.EndRow.{EndRow}
 use Rattle.module_format.specs.declared.rows.Direction.TheVariants.{In, Out}
 use Rattle.machine_state.specs.World.{World}
-use Rattle.machine_state.specs.Happens.{world_by}
+use Rattle.machine_state.specs.Happens.{world_after}
 
 -- a module of this code alone, with five data words of which the root's workspace is word 3
 abbrev pub of_code : List ℕ → ℕ → Contents
@@ -40,7 +40,7 @@ pub record IsFinished (w : World) (executed : ℕ) : Type 0 where
 
 -- the world after a list of events, where every instruction is executed
 abbrev pub whole_world : Contents → List Event → World
-whole_world m es = world_by (λ i. true) m es
+whole_world m es = world_after (λ i. true) m es
 
 -- n bytes, with no slice, and always the front of the ready list
 abbrev pub steps : ℕ → List Event

@@ -13,7 +13,7 @@ use Rattle.machine_state.specs.declared.link.Link.{Link}
 use Rattle.machine_state.specs.Memory.{place_of}
 use Rattle.machine_state.specs.Moves.{link_index}
 use Rattle.machine_state.specs.World.{World, Role, Join, Queue, Links, input_word, output_word}
-use Rattle.machine_state.specs.Happens.{world_by}
+use Rattle.machine_state.specs.Happens.{world_after}
 use Rattle.machine_state.specs.Writing.{wanted_on}
 
 -- ---- the line: who runs, in front of those who wait for their turn
@@ -99,12 +99,12 @@ pub record Branches (tasks : List Task) (roles : List Role) : Type 0 where
 -- ---- of every world that a list of events leads to
 
 abbrev pub BranchesAreCounted : Type 0
-BranchesAreCounted = (executes : Instruction → Bool) (m : Contents) (es : List Event)
-    → Branches (world_by executes m es).tasks (world_by executes m es).roles
+BranchesAreCounted = (m : Contents) (es : List Event)
+    → Branches (world_after m es).tasks (world_after m es).roles
 
 abbrev pub LinesAreReady : Type 0
-LinesAreReady = (executes : Instruction → Bool) (m : Contents) (es : List Event)
-    → Line (world_by executes m es).tasks (world_by executes m es).queue
+LinesAreReady = (m : Contents) (es : List Event)
+    → Line (world_after m es).tasks (world_after m es).queue
 
 -- the place of a byte of the buffer of the process that waits on the input link of this number
 pub record IsAwaited (w : World) (k place : ℕ) : Type 0 where
@@ -117,10 +117,10 @@ pub record IsAwaited (w : World) (k place : ℕ) : Type 0 where
 
 -- what an arrival may change is in the buffer of the process that waits there
 abbrev pub ArrivalsFillBuffers : Type 0
-ArrivalsFillBuffers = (executes : Instruction → Bool) (m : Contents) (es : List Event) (link : Link) (place : ℕ)
-    → wanted_on (world_by executes m es) link ≡ Some place
-    → IsAwaited (world_by executes m es) (link_index link) place
+ArrivalsFillBuffers = (m : Contents) (es : List Event) (link : Link) (place : ℕ)
+    → wanted_on (world_after m es) link ≡ Some place
+    → IsAwaited (world_after m es) (link_index link) place
 
 abbrev pub LinksHaveTheirWaiters : Type 0
-LinksHaveTheirWaiters = (executes : Instruction → Bool) (m : Contents) (es : List Event)
-    → Waiters (world_by executes m es).tasks (world_by executes m es).links
+LinksHaveTheirWaiters = (m : Contents) (es : List Event)
+    → Waiters (world_after m es).tasks (world_after m es).links

@@ -15,15 +15,15 @@ use Rattle.machine_state.specs.Memory.{Memory, place_of, byte_at}
 use Rattle.machine_state.specs.Holding.{may_write}
 use Rattle.machine_state.specs.World.{World, holding_at}
 use Rattle.machine_state.specs.Site.{Outcome, sends}
-use Rattle.machine_state.specs.LocalStep.{step_by}
+use Rattle.machine_state.specs.LocalStep.{local_step}
 use Rattle.machine_state.specs.Moves.{link_index, channel_at}
 use Rattle.machine_state.specs.Turn.{Effect, idle, taken, at_here}
 use Rattle.machine_state.specs.Exchanges.{output_link, condition_of}
-use Rattle.machine_state.specs.Happens.{site_of, turn_by}
+use Rattle.machine_state.specs.Happens.{site_of, turn}
 
 -- the outcome of the instruction that the next byte of the running process completes
-abbrev pub outcome_of : (Instruction → Bool) → Contents → World → Option Outcome
-outcome_of executes m w = elim w.queue.running [
+abbrev pub outcome_of : Contents → World → Option Outcome
+outcome_of m w = elim w.queue.running [
   | None ↦ None
   | Some p ↦ elim (slice_get w.tasks p) [
     | None ↦ None
@@ -31,7 +31,7 @@ outcome_of executes m w = elim w.queue.running [
       | None ↦ None
       | Some byte ↦ elim (fun_of (function_code byte)) [
         | None ↦ None
-        | Some f ↦ Some (step_by executes (site_of (at_here m p task 0) w) f
+        | Some f ↦ Some (local_step (site_of (at_here m p task 0) w) f
             (with_nibble task.registers.operand (nibble byte))
             (record { registers = task.registers; memory = w.memory }))
       ]
@@ -64,8 +64,8 @@ abbrev pub delivery_by : World → Outcome → Option Delivery
 delivery_by w (sends e l) = delivery_on w e
 delivery_by w _ = None
 
-abbrev pub delivery : (Instruction → Bool) → Contents → World → Option Delivery
-delivery executes m w = elim (outcome_of executes m w) [ None ↦ None | Some o ↦ delivery_by w o ]
+abbrev pub delivery : Contents → World → Option Delivery
+delivery m w = elim (outcome_of m w) [ None ↦ None | Some o ↦ delivery_by w o ]
 
 -- the place is in the buffer of the receiver
 abbrev pub is_delivered : Option Delivery → ℕ → Bool
@@ -91,9 +91,9 @@ StepWrites own d old new (Ok idle) = new ≡ old
 StepWrites own d old new (Ok _) = WritesWell own d old new
 
 abbrev pub StepsWriteOwn : Type 0
-StepsWriteOwn = (executes : Instruction → Bool) (m : Contents) (w : World) (slice : Bool) (pick : ℕ)
-    → StepWrites (is_own w) (delivery executes m w) w.memory (turn_by executes m w (Step slice pick)).world.memory
-    (turn_by executes m w (Step slice pick)).answer
+StepsWriteOwn = (m : Contents) (w : World) (slice : Bool) (pick : ℕ)
+    → StepWrites (is_own w) (delivery m w) w.memory (turn m w (Step slice pick)).world.memory
+    (turn m w (Step slice pick)).answer
 
 -- ---- the other events
 
@@ -116,10 +116,10 @@ pub record ArriveWrites (wanted : Option ℕ) (byte : ℕ) (old new : Memory) (a
       → byte_at new place ≡ Some byte
 
 abbrev pub ArrivalsWriteOne : Type 0
-ArrivalsWriteOne = (executes : Instruction → Bool) (m : Contents) (w : World) (link : Link) (byte : ℕ)
-    → ArriveWrites (wanted_on w link) byte w.memory (turn_by executes m w (Arrive link byte)).world.memory
-    (turn_by executes m w (Arrive link byte)).answer
+ArrivalsWriteOne = (m : Contents) (w : World) (link : Link) (byte : ℕ)
+    → ArriveWrites (wanted_on w link) byte w.memory (turn m w (Arrive link byte)).world.memory
+    (turn m w (Arrive link byte)).answer
 
 abbrev pub AcknowledgementsWriteNothing : Type 0
-AcknowledgementsWriteNothing = (executes : Instruction → Bool) (m : Contents) (w : World) (link : Link)
-    → (turn_by executes m w (Acknowledge link)).world.memory ≡ w.memory
+AcknowledgementsWriteNothing = (m : Contents) (w : World) (link : Link)
+    → (turn m w (Acknowledge link)).world.memory ≡ w.memory

@@ -1,7 +1,7 @@
 //! The instructions that the machine has.
 
 ghost use Rattle.std.specs.Prelude.{◌≡◌};
-ghost use Rattle.machine_state.specs.Instructions.{instruction_of, has_body};
+ghost use Rattle.machine_state.specs.Instructions.{instruction_of};
 
 use crate::op::Op;
 use prefix_decoder::Fun;
@@ -59,16 +59,6 @@ impl Instruction {
             Fun::StoreLocal => Some(Instruction::StoreLocal),
             Fun::StoreNonLocal => Some(Instruction::StoreNonLocal),
             Fun::Operate => Some(Instruction::Operate(Op::of(operand)?)),
-        }
-    }
-
-    /// Whether the machine executes it. Until then it is at fault as an unknown one.
-    pub fn has_body(self) -> bool
-        ensures { result ≡ has_body self }
-    {
-        match self {
-            Instruction::Operate(op) => op.has_body(),
-            _ => true,
         }
     }
 }

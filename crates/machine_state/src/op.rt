@@ -1,7 +1,7 @@
 //! The operations, which the function `opr` chooses by its operand.
 
 ghost use Rattle.std.specs.Prelude.{◌≡◌, ◌<◌};
-ghost use Rattle.machine_state.specs.Instructions.{op_of, op_has_body};
+ghost use Rattle.machine_state.specs.Instructions.{op_of};
 ghost use Rattle.machine_state.specs.LocalStep.{shifted, long_result};
 
 use word_arithmetic::{
@@ -165,16 +165,6 @@ impl Op {
             0x52 => Some(Op::Binary(Binary::Sum)),
             0x53 => Some(Op::Binary(Binary::Multiply)),
             _ => None,
-        }
-    }
-
-    /// Whether the machine executes it. Until then it is at fault as an unknown one.
-    pub fn has_body(self) -> bool
-        ensures { result ≡ op_has_body self }
-    {
-        match self {
-            Op::StartProcess | Op::EndProcess => false,
-            _ => true,
         }
     }
 }

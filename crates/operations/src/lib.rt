@@ -14,17 +14,16 @@ mod starting;
 mod stopping;
 mod subscripts;
 
-ghost use Rattle.machine_state.specs.Performing.{PerformsExecuted};
+ghost use Rattle.machine_state.specs.Performing.{PerformsOperation};
 
 use machine_state::{Cpu, FaultKind, Flow, Op, Store};
-pub use starting::{end_process, start_process};
 
 /// Executes one operation of the running process. The registers `at`, `began` and `operand` stay as they are:
-/// the caller says where the next instruction begins. An operation that has no body yet is unknown. After a fault
-/// nothing has changed, and what is asked of others has changed the registers alone.
+/// the caller says where the next instruction begins. After a fault nothing has changed, and what is asked of others
+/// has changed the registers alone.
 #[tactic(auto)]
 pub fn operate<S: Store>(cpu: &mut Cpu<S>, op: Op) -> Result<Flow, FaultKind>
-    ensures { PerformsExecuted S.Store op cpu.old cpu.new result }
+    ensures { PerformsOperation S.Store op cpu.old cpu.new result }
 {
     match op {
         Op::Reverse => registers::reverse(cpu),
@@ -53,6 +52,7 @@ pub fn operate<S: Store>(cpu: &mut Cpu<S>, op: Op) -> Result<Flow, FaultKind>
         Op::DisableChannel => alternating::disable_channel(cpu),
         Op::DisableSkip => alternating::disable_skip(cpu),
         Op::AlternationEnd => alternating::alternation_end(cpu),
-        Op::StartProcess | Op::EndProcess => Err(FaultKind::UnknownOperation),
+        Op::StartProcess => starting::start_process(cpu),
+        Op::EndProcess => starting::end_process(cpu),
     }
 }

@@ -1,5 +1,4 @@
-//! The branches of a PAR that a process asks to start, and the join in which it asks to end. The machine does not
-//! execute these operations yet, so that `operate` knows neither.
+//! The branches of a PAR that a process asks to start, and the join in which it asks to end.
 
 ghost use Rattle.machine_state.specs.declared.op.Op.TheVariants as operation;
 ghost use Rattle.machine_state.specs.Performing.{PerformsOperation};
@@ -8,7 +7,7 @@ use certificate::Stack;
 use machine_state::{Cpu, FaultKind, Flow, Request, Store};
 
 /// `startp`: the branch that begins B bytes after the instruction is to start, with a workspace at A.
-pub fn start_process<S: Store>(cpu: &mut Cpu<S>) -> Result<Flow, FaultKind>
+pub(crate) fn start_process<S: Store>(cpu: &mut Cpu<S>) -> Result<Flow, FaultKind>
     ensures { PerformsOperation S.Store operation.StartProcess cpu.old cpu.new result }
 {
     cpu.outside_alternation()?;
@@ -21,7 +20,7 @@ pub fn start_process<S: Store>(cpu: &mut Cpu<S>) -> Result<Flow, FaultKind>
 }
 
 /// `endp`: the process is to end in the join of block A.
-pub fn end_process<S: Store>(cpu: &mut Cpu<S>) -> Result<Flow, FaultKind>
+pub(crate) fn end_process<S: Store>(cpu: &mut Cpu<S>) -> Result<Flow, FaultKind>
     ensures { PerformsOperation S.Store operation.EndProcess cpu.old cpu.new result }
 {
     cpu.outside_alternation()?;

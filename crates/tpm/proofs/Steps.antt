@@ -17,13 +17,12 @@ use Rattle.machine_state.specs.declared.process.Task.{Task}
 use Rattle.machine_state.specs.World.{World, loaded}
 use Rattle.machine_state.specs.declared.fault.FaultKind.TheVariants.{OutsideCode}
 use Rattle.machine_state.specs.Site.{Outcome}
-use Rattle.machine_state.specs.Instructions.{has_body}
 use Rattle.machine_state.specs.LocalStep.{local_step}
 use Rattle.machine_state.specs.Moves.{counted, put}
 use Rattle.machine_state.specs.Waiting.{Line, AllReady, line_of}
 use Rattle.machine_state.specs.EventLaws.{bytes_of}
-use Rattle.machine_state.specs.Happens.{Effect, ran, idle, emitted, answered, Here, Turn, turn, turn_by, happens, run_from}
-use Rattle.machine_state.specs.Happens.{run_by, failed, site_of, settled, prefix_turn, byte_turn, task_turn, step_turn}
+use Rattle.machine_state.specs.Happens.{Effect, ran, idle, emitted, answered, Here, Turn, turn, happens, run_from}
+use Rattle.machine_state.specs.Happens.{failed, site_of, settled, prefix_turn, byte_turn, task_turn, step_turn}
 use Rattle.machine_state.specs.Happens.{most_executed}
 use Rattle.machine_state.proofs.EventLaws.{events_count_bytes, faults_are_kept}
 use Rattle.machine_state.proofs.Turns as turns
@@ -63,7 +62,7 @@ steps_prefix h operand w =
     ]
 
 steps_byte : (m : Contents) (p : ℕ) (task : Task) (byte : ℕ) (w : World)
-    → Steps w (byte_turn has_body (at_here m p task) byte false w)
+    → Steps w (byte_turn (at_here m p task) byte false w)
 steps_byte m p task byte w =
     let operand = with_nibble task.registers.operand (nibble byte) in
     let site = site_of (at_here m p task) w in
@@ -76,11 +75,11 @@ steps_byte m p task byte w =
       | Some f ↦ steps_ended (at_here m p task) (step f) w _ (settled_ends (at_here m p task) w false (step f))
     ]
 
-steps_task : (m : Contents) (p : ℕ) (task : Task) (w : World) → Steps w (task_turn has_body (at_here m p task) false w)
+steps_task : (m : Contents) (p : ℕ) (task : Task) (w : World) → Steps w (task_turn (at_here m p task) false w)
 steps_task m p task w =
     elim (slice_get m.code task.registers.at) as (λ o. Steps w (elim o [
       | None ↦ failed (at_here m p task) OutsideCode w
-      | Some byte ↦ byte_turn has_body (at_here m p task) byte false w
+      | Some byte ↦ byte_turn (at_here m p task) byte false w
     ])) [
       | None ↦ faults _ _
       | Some byte ↦ steps_byte m p task byte w
@@ -99,7 +98,7 @@ process_there w p running absent line =
 steps_process : (m : Contents) (p : ℕ) (w : World) (over : Bool) (o : Option Task) → w.queue.running ≡ Some p
     → nat_le most_executed w.counters.executed ≡ over → slice_get w.tasks p ≡ o
     → Steps w (cond over (answered idle w) (elim o
-    [ None ↦ answered idle w | Some task ↦ task_turn has_body (at_here m p task) false w ]))
+    [ None ↦ answered idle w | Some task ↦ task_turn (at_here m p task) false w ]))
 steps_process m p w true o running most here =
     idles (λ line small. let above = leb-true most_executed w.counters.executed most in absurd (omega arith))
 steps_process m p w false None running most here = idles (λ line small. process_there w p running here line)
@@ -110,19 +109,19 @@ steps_running : (m : Contents) (w : World) (o : Option ℕ) → w.queue.running 
       | None ↦ answered idle w
       | Some p ↦ cond (nat_le most_executed w.counters.executed)
           (answered idle w) (elim (slice_get w.tasks p)
-          [ None ↦ answered idle w | Some task ↦ task_turn has_body (at_here m p task) false w ])
+          [ None ↦ answered idle w | Some task ↦ task_turn (at_here m p task) false w ])
     ])
 steps_running m w None running = idles (λ line small. running)
 steps_running m w (Some p) running = steps_process m p w (nat_le most_executed w.counters.executed)
     (slice_get w.tasks p) running refl refl
 
 steps_unless : (m : Contents) (w : World) (o : Option Fault)
-    → Steps w (elim o [ None ↦ step_turn has_body m false 0 w | Some f ↦ record { world = w; answer = Err f } ])
+    → Steps w (elim o [ None ↦ step_turn m false 0 w | Some f ↦ record { world = w; answer = Err f } ])
 steps_unless m w None = steps_running m w w.queue.running refl
 steps_unless m w (Some f) = faults w f
 
 steps : (m : Contents) (w : World) → Steps w (turn m w plain_step)
-unfolding turn_by
+unfolding turn
 steps m w = steps_unless m w w.fault
 
 -- ---- what an answer tells
@@ -154,13 +153,13 @@ idle_stays m w = idle_world w (turn m w plain_step) (steps m w)
 pub one_more : (m : Contents) (w : World) (d : Effect) → (turn m w plain_step).answer ≡ Ok d → d ≢ idle
     → (happens m w plain_step).counters.executed ≡ w.counters.executed + 1
 one_more m w d e not =
-    events_count_bytes has_body m w plain_step
+    events_count_bytes m w plain_step
     ∙ ap (λ (n : ℕ). w.counters.executed + n) (one_byte w (turn m w plain_step) (steps m w) d e not)
 
 -- where no fault comes, none is told
 pub no_fault : (m : Contents) (w : World) (f : Fault) → (happens m w plain_step).fault ≡ None
     → (turn m w plain_step).answer ≡ Err f → ⊥
-no_fault m w f none e = never (sym none ∙ faults_are_kept has_body m w plain_step f e)
+no_fault m w f none e = never (sym none ∙ faults_are_kept m w plain_step f e)
   where
     never : None ≡ Some f → ⊥
     never same = cc
@@ -258,15 +257,9 @@ idle_count m machine later at stepped told = stepped ∙ idle_stays machine.cont
 
 -- ---- who runs is there
 
-run_same : (m : Contents) (w : World) (es : List Event) → run_by has_body m w es ≡ run_from m w es
-run_same m w [] = refl
-run_same m w (e ∷ es) = run_same m (happens m w e) es
-
 pub line_at : (m : Contents) (machine : Execution) → IsAt m machine → Line machine.world.tasks machine.world.queue
 line_at m machine at =
-    let steps = replicate at.count plain_step in
-    subst (λ (w : World). Line w.tasks w.queue) (run_same m (loaded m) steps ∙ sym at.world)
-    (lines_are_ready has_body m steps)
+    subst (λ (w : World). Line w.tasks w.queue) (sym at.world) (lines_are_ready m (replicate at.count plain_step))
 
 -- nobody runs then
 pub idle_ends : (m : Contents) (machine later : Execution) → IsAt m machine

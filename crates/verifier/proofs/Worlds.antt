@@ -26,12 +26,11 @@ use Rattle.machine_state.specs.World.{World, Role, Links, held, holding_at, inpu
 use Rattle.machine_state.specs.declared.process.Mode.{Mode}
 use Rattle.machine_state.specs.declared.process.Mode.TheVariants as modes
 use Rattle.machine_state.specs.Site.{Local, Outcome}
-use Rattle.machine_state.specs.Instructions.{has_body}
 use Rattle.machine_state.specs.LocalStep.{local_step}
 use Rattle.machine_state.specs.Moves.{counted, finished_where, put, leave, enqueue, wake, dispatch, link_index}
 use Rattle.machine_state.specs.Moves.{with_input, with_output, fill, fill_condition, rouse, rouse_task, rouse_enabling}
 use Rattle.machine_state.specs.Moves.{with_condition}
-use Rattle.machine_state.specs.Happens.{Here, Turn, answered, turn_by, idle, ran, most_executed, failed, between, settled, prefix_turn}
+use Rattle.machine_state.specs.Happens.{Here, Turn, answered, turn, idle, ran, most_executed, failed, between, settled, prefix_turn}
 use Rattle.machine_state.specs.Happens.{site_of, byte_turn, task_turn, step_turn, arrive_at, arrive_turn}
 use Rattle.machine_state.specs.Happens.{acknowledge_turn, event_turn, happens, run_from, ignored, acknowledged}
 use Rattle.machine_state.specs.Happens.{busy, kept, taken}
@@ -364,7 +363,7 @@ module _ (m : Contents) (d : Decodes m) (wf : IsWellFormed m) (c : IsCertified m
   -- whatever the byte is
   byte_holds : (slice : Bool) (pick : ℕ) (w : World) (h : Holds m w) (p : ℕ) → w.queue.running ≡ Some p
       → (r : Runs m w h.dues p) (byte : ℕ) → slice_get m.code r.task.registers.at ≡ Some byte
-      → Holds m (byte_turn has_body (at_here m p r.task pick) byte slice w).world
+      → Holds m (byte_turn (at_here m p r.task pick) byte slice w).world
   byte_holds slice pick w h p running r byte here = on_function (fun_of (function_code byte)) refl
     where
       operand : ℤ
@@ -390,7 +389,7 @@ module _ (m : Contents) (d : Decodes m) (wf : IsWellFormed m) (c : IsCertified m
           (comes_last m d wf c (held r.row.role) w.memory r.task r.row.due byte f (stands_now w h p r) here e))
 
   -- a step
-  step_holds : (slice : Bool) (pick : ℕ) (w : World) → Holds m w → Holds m (step_turn has_body m slice pick w).world
+  step_holds : (slice : Bool) (pick : ℕ) (w : World) → Holds m w → Holds m (step_turn m slice pick w).world
   step_holds slice pick w h = on_running w.queue.running refl
     where
       on_byte : (p : ℕ) → w.queue.running ≡ Some p → (r : Runs m w h.dues p) (o : Option ℕ)
@@ -398,7 +397,7 @@ module _ (m : Contents) (d : Decodes m) (wf : IsWellFormed m) (c : IsCertified m
           → Holds m (elim o as (λ o. Turn) [
             | None ↦ failed (at_here m p r.task pick) OutsideCode w
             | Some byte ↦
-                byte_turn has_body (at_here m p r.task pick) byte slice w
+                byte_turn (at_here m p r.task pick) byte slice w
           ]).world
       on_byte p running r None e =
           let now = stands_now w h p r in
@@ -411,18 +410,18 @@ module _ (m : Contents) (d : Decodes m) (wf : IsWellFormed m) (c : IsCertified m
           → Holds m (elim o as (λ o. Turn) [
             | None ↦ answered idle w
             | Some task ↦
-                task_turn has_body (at_here m p task pick) slice w
+                task_turn (at_here m p task pick) slice w
           ]).world
       on_task p running None e = h
       on_task p running (Some task) e =
           let r = runs m w h p running in
           let same : r.task ≡ task = same_some (slice_get w.tasks p) r.task task r.here e in
-          subst (λ t. Holds m (task_turn has_body (at_here m p t pick) slice w).world) same
+          subst (λ t. Holds m (task_turn (at_here m p t pick) slice w).world) same
           (on_byte p running r (slice_get m.code r.task.registers.at) refl)
 
       on_count : (p : ℕ) → w.queue.running ≡ Some p → (b : Bool)
           → Holds m (if b then answered idle w else elim (slice_get w.tasks p) as (λ o. Turn)
-          [ None ↦ answered idle w | Some task ↦ task_turn has_body (at_here m p task pick) slice w ]).world
+          [ None ↦ answered idle w | Some task ↦ task_turn (at_here m p task pick) slice w ]).world
       on_count p running true = h
       on_count p running false = on_task p running (slice_get w.tasks p) refl
 
@@ -430,7 +429,7 @@ module _ (m : Contents) (d : Decodes m) (wf : IsWellFormed m) (c : IsCertified m
           → Holds m (elim o as (λ o. Turn) [
             | None ↦ answered idle w
             | Some p ↦ if leb most_executed w.counters.executed then answered idle w else elim (slice_get w.tasks p) as
-                (λ o. Turn) [ None ↦ answered idle w | Some task ↦ task_turn has_body (at_here m p task pick) slice w ]
+                (λ o. Turn) [ None ↦ answered idle w | Some task ↦ task_turn (at_here m p task pick) slice w ]
           ]).world
       on_running None e = h
       on_running (Some p) e = on_count p e (leb most_executed w.counters.executed)
@@ -1071,15 +1070,15 @@ arrive_holds m k byte small w h = on_link (slice_get w.links.inputs k) refl
 -- ---- events, and runs
 
 module _ (m : Contents) (d : Decodes m) (wf : IsWellFormed m) (c : IsCertified m) where
-  event_holds : (e : Event) → IsEvent e → (w : World) → Holds m w → Holds m (event_turn has_body m e w).world
+  event_holds : (e : Event) → IsEvent e → (w : World) → Holds m w → Holds m (event_turn m e w).world
   event_holds (Step slice pick) is w h = step_holds m d wf c slice pick w h
   event_holds (Arrive link byte) is w h = arrive_holds m (link_index link) byte is w h
   event_holds (Acknowledge link) is w h = acknowledge_holds m (link_index link) w h
 
   pub happens_holds : (e : Event) → IsEvent e → (w : World) → Holds m w → Holds m (happens m w e)
-  unfolding turn_by
+  unfolding turn
   happens_holds e is w h = subst (λ o. Holds m (elim o as (λ o. Turn)
-      [ None ↦ event_turn has_body m e w | Some f ↦ record { world = w; answer = Err f } ]).world) (sym h.well)
+      [ None ↦ event_turn m e w | Some f ↦ record { world = w; answer = Err f } ]).world) (sym h.well)
       (event_holds e is w h)
 
 module _ (m : Contents) (d : Decodes m) (wf : IsWellFormed m) (c : IsCertified m) where

@@ -2,8 +2,9 @@
 
 ghost use Rattle.std.specs.Prelude.{◌≡◌, ◌+◌, ◌<◌, ◌^◌, IsTrue, false, length};
 ghost use Rattle.module_format.specs.Contents.{contents_of};
-ghost use Rattle.machine_state.specs.Asking.{asked, local_for};
+ghost use Rattle.machine_state.specs.Asking.{asked, local_for, untouched};
 ghost use Rattle.machine_state.specs.Exchanges.{received, sent};
+ghost use Rattle.machine_state.specs.Joins.{start_turn};
 ghost use Rattle.machine_state.specs.LocalStep.{are_defined, without_scheduling_words};
 ghost use Rattle.machine_state.specs.Happens.{settled, most_executed};
 ghost use Rattle.channels.specs.Moment.{IsSteady};
@@ -16,8 +17,9 @@ use alternation::{
     begin, disable_channel, disable_skip, disabling_reads_no_counters, enable_channel, enable_skip,
     enabling_reads_no_counters, end, wait,
 };
-use certificate::Tables;
+use certificate::{Module, Tables};
 use channels::{Delivery, Here, Message, Stop, messages_read_no_counters};
+use joins::{join, joins_read_no_counters, starts_read_no_counters};
 use machine_state::{Fault, Registers, Request};
 
 /// What an instruction did that was granted, or is at fault.
@@ -57,6 +59,25 @@ fn send(processes: &mut Processes, tables: &Tables, message: &Message) -> Result
     }
 }
 
+/// A branch is started.
+fn start(
+    processes: &mut Processes,
+    module: &Module<'_>,
+    here: &Here,
+    to: u32,
+    workspace: u32,
+    registers: Registers,
+) -> Result<Act, Stop>
+    requires next { here.now.task.registers.at + 1 < 2 ^ 32 }
+    requires task { IsSteady here.now.task }
+    ensures { let h = here_in «module».now here.now in
+        let l = untouched registers processes.old.world.memory in
+        Grants processes.old.world processes.new.world result (start_turn h to workspace l processes.old.world) }
+{
+    joins::start(processes, module, here, to, workspace, registers)?;
+    Ok(Act::Ran)
+}
+
 impl Machine {
     /// An instruction did this: its last byte is counted, or its fault is kept.
     fn keep(&mut self, granted: Result<Act, Stop>) -> Result<Act, Stop>
@@ -75,17 +96,16 @@ impl Machine {
     /// What a process asks of others is granted, or is at fault.
     pub(crate) fn grant(
         &mut self,
-        tables: &Tables,
+        module: &Module<'_>,
         here: &Here,
         request: Request,
         registers: Registers,
     ) -> Result<Act, Stop>
-        requires code { length tables.now.code.now < 2 ^ 32 }
         requires executed { self.old.world.counters.executed < most_executed }
         requires next { here.now.task.registers.at + 1 < 2 ^ 32 }
         requires task { IsSteady here.now.task }
-        requires posed { IsPosed (here_in (contents_of tables.now) here.now) request registers self.old }
-        ensures { let h = here_in (contents_of tables.now) here.now in
+        requires posed { IsPosed (here_in «module».now here.now) request registers self.old }
+        ensures { let h = here_in «module».now here.now in
             let w = self.old.world in
             let outcome = asked request (local_for request registers w.memory) in
             Applies w self.new.world result (settled h false outcome w) }
@@ -93,6 +113,9 @@ impl Machine {
         messages_read_no_counters();
         enabling_reads_no_counters();
         disabling_reads_no_counters();
+        starts_read_no_counters();
+        joins_read_no_counters();
+        let tables = module.tables();
         let processes = &mut self.traffic;
         let granted = match request {
             Request::Receive(exchange) => {
@@ -136,7 +159,10 @@ impl Machine {
                 Ok(Act::Ran)
             }
             Request::End { to } => ran(end(processes, tables, here, to, registers)),
-            Request::Start { .. } | Request::Join { .. } => unreachable!(),
+            Request::Start { to, workspace } => {
+                start(processes, module, here, to, workspace, registers)
+            }
+            Request::Join { block } => ran(join(processes, tables, here, block, registers)),
         };
         self.keep(granted)
     }

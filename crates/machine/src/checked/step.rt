@@ -5,7 +5,6 @@ ghost use Rattle.module_format.specs.Contents.{contents_of};
 ghost use Rattle.machine_state.specs.Happens.{settled, between, prefix_turn, task_turn, step_turn};
 ghost use Rattle.machine_state.specs.Happens.{most_executed};
 ghost use Rattle.machine.specs.Applying.{Applies, AsksRightly, IsAsk, outcome_of, outcome_at};
-ghost use Rattle.machine_state.specs.Instructions.{has_body};
 ghost use Rattle.machine_state.specs.Memory.{data_start};
 ghost use Rattle.machine_state.specs.Faults.{fault_in};
 ghost use Rattle.machine_state.specs.Moves.{counted, faulty, put, leave, enqueue, dispatch, finished_where};
@@ -16,7 +15,7 @@ ghost use Rattle.channels.specs.Settling.{here_in, OnMemory};
 
 use super::act::Act;
 use super::machine::Machine;
-use certificate::Tables;
+use certificate::{Module, Tables};
 use channels::{Here, Stop};
 use machine_state::{Condition, Fault, FaultKind, Flow, Registers, Task};
 use prefix_decoder::Fun;
@@ -134,21 +133,20 @@ impl Machine {
     /// With `slice` it goes to the back of the ready list after a jump.
     fn settle(
         &mut self,
-        tables: &Tables,
+        module: &Module<'_>,
         here: &Here,
         flow: Flow,
         registers: Registers,
         slice: bool,
     ) -> Result<Act, Stop>
-        requires code { length tables.now.code.now < 2 ^ 32 }
         requires executed { self.old.world.counters.executed < most_executed }
         requires next { here.now.task.registers.at + 1 < 2 ^ 32 }
         requires task { IsSteady here.now.task }
         requires room { IsTrue slice → 0 < self.old.room }
-        requires asks { AsksRightly (here_in (contents_of tables.now) here.now) flow registers self.old }
+        requires asks { AsksRightly (here_in «module».now here.now) flow registers self.old }
         ensures applies { let w = self.old.world in
             let outcome = outcome_of flow registers w.memory in
-            let turn = settled (here_in (contents_of tables.now) here.now) slice outcome w in
+            let turn = settled (here_in «module».now here.now) slice outcome w in
             Applies w self.new.world result turn }
         ensures memory { OnMemory result (IsAsk flow) }
     {
@@ -156,8 +154,8 @@ impl Machine {
             Flow::Next => self.land(here, here.next(), registers),
             Flow::Land { to } => self.land(here, to, registers),
             Flow::Jump { to } => self.jump(here, to, registers, slice),
-            Flow::Stop => self.stop(tables, here, registers),
-            Flow::Ask(request) => return self.grant(tables, here, request, registers),
+            Flow::Stop => self.stop(module.tables(), here, registers),
+            Flow::Ask(request) => return self.grant(module, here, request, registers),
         }
         Ok(Act::Ran)
     }
@@ -165,45 +163,42 @@ impl Machine {
     /// An instruction, with its whole operand.
     fn instruct(
         &mut self,
-        tables: &Tables,
+        module: &Module<'_>,
         here: &Here,
         fun: Fun,
         operand: i32,
         slice: bool,
     ) -> Result<Act, Stop>
-        requires code { length tables.now.code.now < 2 ^ 32 }
-        requires start { data_start + 4 * tables.now.data_words < 2 ^ 32 }
         requires executed { self.old.world.counters.executed < most_executed }
         requires next { here.now.task.registers.at + 1 < 2 ^ 32 }
         requires task { IsSteady here.now.task }
         requires room { IsTrue slice → 0 < self.old.room }
-        ensures { let h = here_in (contents_of tables.now) here.now in
+        ensures { let h = here_in «module».now here.now in
             let w = self.old.world in
             Applies w self.new.world result (settled h slice (outcome_at h fun operand w) w) }
     {
-        match self.perform(tables, here, fun, operand) {
-            Ok((flow, registers)) => self.settle(tables, here, flow, registers, slice),
+        match self.perform(module.tables(), here, fun, operand) {
+            Ok((flow, registers)) => self.settle(module, here, flow, registers, slice),
             Err(kind) => Err(self.fail_in(here, kind).into()),
         }
     }
 
     /// The byte at which a process is.
-    fn run_byte(&mut self, tables: &Tables, here: &Here, slice: bool) -> Result<Act, Stop>
-        requires code { length tables.now.code.now < 2 ^ 32 }
-        requires start { data_start + 4 * tables.now.data_words < 2 ^ 32 }
+    fn run_byte(&mut self, module: &Module<'_>, here: &Here, slice: bool) -> Result<Act, Stop>
         requires executed { self.old.world.counters.executed < most_executed }
         requires task { IsSteady here.now.task }
         requires room { IsTrue slice → 0 < self.old.room }
-        ensures { let h = here_in (contents_of tables.now) here.now in
-            Applies self.old.world self.new.world result (task_turn has_body h slice self.old.world) }
+        ensures { let h = here_in «module».now here.now in
+            Applies self.old.world self.new.world result (task_turn h slice self.old.world) }
     {
+        let tables = module.tables();
         let Some(byte) = byte_at(tables.code, here.task.registers.at) else {
             return Err(self.fail_in(here, FaultKind::OutsideCode).into());
         };
         let code = byte >> 4;
         let operand = with_nibble(here.task.registers.operand, byte);
         match Fun::from_code(code) {
-            Some(fun) => self.instruct(tables, here, fun, operand, slice),
+            Some(fun) => self.instruct(module, here, fun, operand, slice),
             None => self.prefix(tables, here, after_prefix(code, operand)),
         }
     }
@@ -211,10 +206,8 @@ impl Machine {
     /// A step: one byte of the running process, unless no process is running or enough bytes were executed. With
     /// `slice` the process goes to the back of the ready list where it completes a jump; `pick` says which ready
     /// process runs next, counted round the list, where the running one stops running.
-    pub(crate) fn step(&mut self, tables: &Tables, slice: bool, pick: u64) -> Result<Act, Stop>
-        requires code { length tables.now.code.now < 2 ^ 32 }
-        requires start { data_start + 4 * tables.now.data_words < 2 ^ 32 }
-        ensures { let turn = step_turn has_body (contents_of tables.now) slice pick self.old.world in
+    pub(crate) fn step(&mut self, module: &Module<'_>, slice: bool, pick: u64) -> Result<Act, Stop>
+        ensures { let turn = step_turn «module».now slice pick self.old.world in
             Applies self.old.world self.new.world result turn }
     {
         let Some(process) = self.traffic.running() else {
@@ -234,6 +227,6 @@ impl Machine {
             task,
             pick,
         };
-        self.run_byte(tables, &here, slice)
+        self.run_byte(module, &here, slice)
     }
 }

@@ -14,18 +14,11 @@ fn put_operations(found: &mut Found) {
     }
 }
 
-/// Two instructions, and which operations and instructions the machine executes.
+/// Two instructions.
 fn put_instructions(found: &mut Found) {
     found.begin_line();
     found.put(Instruction::of(Fun::StoreLocal, -1));
     found.put(Instruction::of(Fun::Call, 0));
-    found.begin_line();
-    found.put(Op::Reverse.has_body());
-    found.put(Op::StartProcess.has_body());
-    found.put(Instruction::Operate(Op::Reverse).has_body());
-    found.put(Instruction::Operate(Op::StartProcess).has_body());
-    found.put(Instruction::StoreLocal.has_body());
-    found.put(Instruction::Call.has_body());
 }
 
 /// The numbers of the links, and of the first and the last fault.
@@ -51,7 +44,6 @@ const NAMES: &str = "
  -21 None None
  -1 None None
  Some(StoreLocal) Some(Call)
- true false true false true true
  0 1 2 3 1 11";
 
 /// All of it.

@@ -1,7 +1,6 @@
 use Rattle.std.proofs.Common.{◌≡◌, ℤ, Ok, sym, ap, subst, ◌∙◌, rules}
 use Rattle.std.proofs.lemmas.Int.{to_z-of_z}
 use Rattle.std.specs.Int.{w32}
-use Rattle.module_format.specs.Contents.{contents_of}
 use Rattle.machine_state.specs.Asking.{scheduled, untouched, without_selection_word}
 use Rattle.machine_state.specs.Exchanges.{received, sent}
 use Rattle.machine_state.specs.Alternations.{begun, skip_enabled, channel_enabled, waited, skip_disabled}
@@ -24,7 +23,7 @@ returns c =
     let inside = c.self.inside in
     let before : World = inside.traffic.world in
     let counters : Counters = record { executed = inside.executed; is_finished = inside.is_finished } in
-    let here = here_in (contents_of c.args.tables.now) c.args.here.now in
+    let here = here_in c.args.module.now c.args.here.now in
     let plain = untouched c.args.registers before.memory in
     let taken = scheduled c.args.registers before.memory in
     let view : c.args.self.now.world ≡ beside counters inside.fault before =
@@ -41,7 +40,7 @@ returns c =
           (c.keep.ensures.result ∙ w.granted-is)
           (rw (w.granted-is, w.self-inside-is) at c.keep.ensures.world))
       | in-Begin w ↦ rw (w.in-Begin.is, view) (granted_kept (begun here taken)
-          (enabling.begins here taken) counters inside.fault before w.begin.new.traffic.world (Ok Ran) (w.begin.ensures.turn (contents_of c.args.tables.now), tt) _ _
+          (enabling.begins here taken) counters inside.fault before w.begin.new.traffic.world (Ok Ran) (w.begin.ensures.turn c.args.module.now, tt) _ _
           (c.keep.ensures.result ∙ w.granted-is)
           (rw (w.granted-is, w.self-inside-is) at c.keep.ensures.world))
       | in-EnableChannel w ↦ rw (w.in-EnableChannel.is, view) (settled_kept (channel_enabled here w.in-EnableChannel.guard w.in-EnableChannel.address plain)
@@ -49,11 +48,11 @@ returns c =
           (c.keep.ensures.result ∙ (w.granted-is ∙ w.ran-granted.ensures))
           (rw (w.granted-is, w.ran-granted.ensures, w.self-inside-is) at c.keep.ensures.world))
       | in-EnableSkip w ↦ rw (w.in-EnableSkip.is, view) (granted_kept (skip_enabled here w.in-EnableSkip.guard plain)
-          (enabling.skips here w.in-EnableSkip.guard plain) counters inside.fault before w.enable_skip.new.traffic.world (Ok Ran) (w.enable_skip.ensures.turn (contents_of c.args.tables.now), tt) _ _
+          (enabling.skips here w.in-EnableSkip.guard plain) counters inside.fault before w.enable_skip.new.traffic.world (Ok Ran) (w.enable_skip.ensures.turn c.args.module.now, tt) _ _
           (c.keep.ensures.result ∙ w.granted-is)
           (rw (w.granted-is, w.self-inside-is) at c.keep.ensures.world))
       | in-Wait w ↦ rw (w.in-Wait.is, view) (granted_kept (waited here (without_selection_word taken))
-          (enabling.waits here (without_selection_word taken)) counters inside.fault before w.wait.new.traffic.world (Ok Ran) (w.wait.ensures.turn (contents_of c.args.tables.now), tt) _ _
+          (enabling.waits here (without_selection_word taken)) counters inside.fault before w.wait.new.traffic.world (Ok Ran) (w.wait.ensures.turn c.args.module.now, tt) _ _
           (c.keep.ensures.result ∙ w.granted-is)
           (rw (w.granted-is, w.self-inside-is) at c.keep.ensures.world))
       | in-DisableChannel w ↦
@@ -76,7 +75,7 @@ returns c =
           let turn = λ (d : ℤ). skip_disabled here guard d (without_selection_word plain) in
           let after = w.disable_skip.new.traffic.world in
           let runs = subst (λ (d : ℤ). turn d before ≡ answered ran (counted after))
-          (to_z-of_z w32 distance (search rules)) (w.disable_skip.ensures.turn (contents_of c.args.tables.now)) in
+          (to_z-of_z w32 distance (search rules)) (w.disable_skip.ensures.turn c.args.module.now) in
           rw (w.in-DisableSkip.is, view) (granted_kept (turn distance)
           (disabling.skips here guard distance (without_selection_word plain)) counters inside.fault before
           after (Ok Ran) (runs, tt) _ _

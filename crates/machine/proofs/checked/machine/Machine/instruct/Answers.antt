@@ -1,7 +1,6 @@
 use Rattle.std.proofs.Common.{ℤ, rules, subst}
 use Rattle.std.proofs.lemmas.Int.{to_z-of_z}
 use Rattle.std.specs.Int.{w32}
-use Rattle.module_format.specs.Contents.{contents_of}
 use Rattle.machine_state.specs.Happens.{settled}
 use Rattle.channels.specs.Settling.{here_in}
 use Rattle.machine.specs.Applying.{Applies, outcome_at}
@@ -11,7 +10,7 @@ use Rattle.machine.proofs.checked.machine.Machine.instruct.Goals as goal
 pub returns-in-Ok : goal.returns-in-Ok
 returns-in-Ok c =
     let performs = c.in-Ok.ensures.performs in
-    let h = here_in (contents_of c.args.tables.now) c.args.here.now in
+    let h = here_in c.args.module.now c.args.here.now in
     let w = c.args.self.now.world in
     subst (λ (operand : ℤ). Applies w c.settle.new.self.world c.settle.result
     (settled h c.args.slice (outcome_at h c.args.fun operand w) w)) (to_z-of_z w32 c.args.operand (search rules))
