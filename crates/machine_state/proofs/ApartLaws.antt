@@ -18,7 +18,6 @@ use Rattle.module_format.specs.Pars.{ParKeeps, behind_par, no_branches}
 use Rattle.module_format.specs.Contexts.{first_branch}
 use Rattle.module_format.specs.Keeping.{Keeps, max_code}
 use Rattle.machine_state.specs.declared.event.Event.{Event}
-use Rattle.machine_state.specs.declared.instruction.Instruction.{Instruction}
 use Rattle.machine_state.specs.declared.link.InputLink.{InputLink}
 use Rattle.machine_state.specs.declared.holding.End.{End}
 use Rattle.machine_state.specs.declared.process.Channel.{Channel}

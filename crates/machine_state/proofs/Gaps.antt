@@ -1,7 +1,7 @@
 -- The places between spans that begin one after the other, whatever overlaps: what no span covers, in normal form.
 use Rattle.std.proofs.Common.{◌≡◌, ℕ, suc, ◌+◌, ◌<◌, ◌≤◌, ◌&&◌, ◌||◌, not, Bool, true, false, cond, List, [], ◌∷◌, ◌++◌}
 use Rattle.std.proofs.Common.{refl, sym, ap, ◌∙◌, arith, inl, inr, max, length, get_or, add-one}
-use Rattle.std.proofs.lemmas.Bool.{cases_lt, ltb-true, ltb-false, lt-ltb, le-ltb, or_cases, or_left, or_right, cases_Bool}
+use Rattle.std.proofs.lemmas.Bool.{cases_lt, ltb-true, ltb-false, lt-ltb, or_cases, or_left, or_right}
 use Rattle.std.proofs.lemmas.Bool.{and_parts, and_cases, or_parts, or_from, not_from_false, false_from_ne_true}
 use Rattle.std.proofs.lemmas.List.Folds.{list_any-append}
 use Rattle.std.proofs.lemmas.List.Sorted.{all_adjacent_from_non_decreasing, list_any-IsPermutation}
@@ -11,7 +11,7 @@ use Rattle.machine_state.specs.declared.holding.Span.{Span}
 use Rattle.machine_state.specs.Holding.{covers}
 use Rattle.machine_state.specs.Covering.{covered, piece}
 use Rattle.machine_state.specs.Spans.{runs}
-use Rattle.machine_state.proofs.NormalSpans.{Rise, rise_from, is_runs, same_runs}
+use Rattle.machine_state.proofs.NormalSpans.{Rise, is_runs, same_runs}
 use Rattle.machine_state.proofs.SpanLaws.{covers_tells, covers_there, same_test, runs_cover_the_test}
 
 -- what is left of the places from one on, up to the last

@@ -37,7 +37,6 @@ use Rattle.machine_state.specs.Seeing.{Agree, SameTurn, sent_by, sent_on, supply
 use Rattle.machine_state.specs.Happens as happens
 use Rattle.machine_state.specs.Happens.{settled}
 use Rattle.machine_state.specs.declared.event.Event.TheVariants.{Step}
-use Rattle.machine_state.specs.declared.instruction.Instruction.{Instruction}
 use Rattle.prefix_decoder.specs.declared.function.Fun.{Fun}
 use Rattle.prefix_decoder.specs.Functions.{fun_of, function_code, nibble}
 use Rattle.prefix_decoder.specs.Operand.{with_nibble}

@@ -23,7 +23,6 @@ use Rattle.machine_state.specs.declared.fault.Fault.{Fault}
 use Rattle.machine_state.specs.declared.fault.FaultKind.{FaultKind}
 use Rattle.machine_state.specs.declared.fault.FaultKind.TheVariants.{OutsideCode, EndNotHeld, UnequalLengths, JoinOrder}
 use Rattle.machine_state.specs.declared.fault.FaultKind.TheVariants.{NotOwn, AlternationOrder}
-use Rattle.machine_state.specs.declared.instruction.Instruction.{Instruction}
 use Rattle.machine_state.specs.Memory.{place_of, with_byte}
 use Rattle.std.specs.List.{list_all}
 use Rattle.machine_state.specs.Holding.{may_write}

@@ -8,7 +8,6 @@ use Rattle.std.specs.Prelude.{◌%◌, ◌^◌, ◌==◌, filter, not, slice_set
 use Rattle.std.specs.List.{list_any}
 use Rattle.module_format.specs.Contents.{Contents, Par}
 use Rattle.machine_state.specs.declared.event.Event.{Event}
-use Rattle.machine_state.specs.declared.instruction.Instruction.{Instruction}
 use Rattle.machine_state.specs.declared.link.InputLink.{InputLink}
 use Rattle.machine_state.specs.declared.process.Channel.{Channel}
 use Rattle.machine_state.specs.declared.process.Registers.{Registers}

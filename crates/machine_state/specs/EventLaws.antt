@@ -1,9 +1,8 @@
 -- Laws of one event, of any module and any world.
-use Rattle.std.specs.Prelude.{◌≡◌, ℕ, ◌+◌, Bool, Some, Result, Ok, Err}
+use Rattle.std.specs.Prelude.{◌≡◌, ℕ, ◌+◌, Some, Result, Ok, Err}
 use Rattle.module_format.specs.Contents.{Contents}
 use Rattle.machine_state.specs.declared.event.Event.{Event}
 use Rattle.machine_state.specs.declared.fault.Fault.{Fault}
-use Rattle.machine_state.specs.declared.instruction.Instruction.{Instruction}
 use Rattle.machine_state.specs.World.{World}
 use Rattle.machine_state.specs.Turn.{Effect, ran, emitted}
 use Rattle.machine_state.specs.Happens.{turn}

@@ -1,13 +1,12 @@
 -- One instruction of one process changes no byte but those that the process may write. This is our own choice: the
 -- device has no such bound.
-use Rattle.std.specs.Prelude.{◌≡◌, ⊤, ℕ, ℤ, Bool, false, length}
+use Rattle.std.specs.Prelude.{◌≡◌, ⊤, ℕ, ℤ, false, length}
 use Rattle.prefix_decoder.specs.declared.function.Fun.{Fun}
 use Rattle.machine_state.specs.Memory.{Memory, byte_at}
 use Rattle.machine_state.specs.Holding.{Holding, may_write}
 use Rattle.machine_state.specs.Site.{Site, Local, Outcome, goes, jumps, lands, stops, fails, receives, sends, starts}
 use Rattle.machine_state.specs.Site.{joins, begins, enables_channel, enables_skip, waits, disables_channel}
 use Rattle.machine_state.specs.Site.{disables_skip, ends_alternation}
-use Rattle.machine_state.specs.declared.instruction.Instruction.{Instruction}
 use Rattle.machine_state.specs.LocalStep.{local_step}
 
 -- only bytes that the process may write have changed

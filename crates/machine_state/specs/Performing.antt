@@ -1,10 +1,9 @@
 -- What one call for one instruction of the running process did, against the outcome of the definitions.
-use Rattle.std.specs.Prelude.{◌≡◌, ⊤, ◌+◌, ℤ, Bool, Result, Ok, Err, if◌then◌else◌}
+use Rattle.std.specs.Prelude.{◌≡◌, ◌+◌, ℤ, Bool, Result, Ok, Err, if◌then◌else◌}
 use Rattle.machine_state.specs.declared.cpu.Cpu.{Cpu}
 use Rattle.machine_state.specs.declared.cpu.Flow.{Flow}
 use Rattle.machine_state.specs.declared.cpu.Flow.TheVariants.{Next, Jump, Land, Stop, Ask}
 use Rattle.machine_state.specs.declared.request.Request.{Request}
-use Rattle.machine_state.specs.declared.request.Request.TheVariants.{Start, Join}
 use Rattle.machine_state.specs.declared.fault.FaultKind.{FaultKind}
 use Rattle.machine_state.specs.declared.store.Store.{Ghosts}
 use Rattle.machine_state.specs.Site.{Site, Local, Outcome, goes, jumps, lands, stops, fails}
@@ -13,7 +12,6 @@ use Rattle.machine_state.specs.LocalStep.{schedules, without_registers}
 use Rattle.machine_state.specs.Asking.{asked, local_for, IsGrantable}
 use Rattle.module_format.specs.declared.rows.Direction.{Direction}
 use Rattle.machine_state.specs.declared.process.Exchange.{Exchange}
-use Rattle.machine_state.specs.declared.fault.FaultKind.TheVariants.{UnknownOperation}
 use Rattle.machine_state.specs.declared.op.Op.{Op}
 use Rattle.machine_state.specs.declared.instruction.Instruction.{Instruction}
 use Rattle.prefix_decoder.specs.declared.function.Fun.{Fun}

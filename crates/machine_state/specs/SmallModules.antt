@@ -38,10 +38,6 @@ pub record IsFinished (w : World) (executed : ℕ) : Type 0 where
   pub finished : w.counters.is_finished ≡ true
   pub nobody_runs : w.queue.running ≡ None
 
--- the world after a list of events, where every instruction is executed
-abbrev pub whole_world : Contents → List Event → World
-whole_world m es = world_after (λ i. true) m es
-
 -- n bytes, with no slice, and always the front of the ready list
 abbrev pub steps : ℕ → List Event
 steps n = replicate n (Step false 0)
@@ -55,14 +51,14 @@ abbrev pub jump : Contents
 jump = of_code (0x45 ∷ 0xd1 ∷ 0x00 ∷ 0x71 ∷ 0x21 ∷ 0xf5 ∷ []) 6
 
 abbrev pub FirstEnds : Type 0
-FirstEnds = IsFinished (whole_world first (steps 7)) 7
+FirstEnds = IsFinished (world_after first (steps 7)) 7
 
 abbrev pub JumpEnds : Type 0
-JumpEnds = IsFinished (whole_world jump (steps 6)) 6
+JumpEnds = IsFinished (world_after jump (steps 6)) 6
 
 -- at the jump the process goes to the back of the ready list
 abbrev pub SlicedJumpEnds : Type 0
-SlicedJumpEnds = IsFinished (whole_world jump (steps 2 ++ Step true 0 ∷ steps 3)) 6
+SlicedJumpEnds = IsFinished (world_after jump (steps 2 ++ Step true 0 ∷ steps 3)) 6
 
 -- this count of bytes executed, no fault, and nobody runs
 pub record IsQuiet (w : World) (executed : ℕ) : Type 0 where
@@ -87,14 +83,14 @@ abbrev pub call : Contents
 call = sized 4 4 (of_code (0x45 ∷ 0x92 ∷ 0x21 ∷ 0xf5 ∷ 0x71 ∷ 0x81 ∷ 0xd1 ∷ 0x22 ∷ 0xf0 ∷ []) 4)
 
 abbrev pub CallEnds : Type 0
-CallEnds = IsFinished (whole_world call (steps 9)) 9
+CallEnds = IsFinished (world_after call (steps 9)) 9
 
 -- ldc 0; stl 1; ldc 3; stl 2; ldc 7; stl 3; ldlp 1; ldc 6; lend; stopp
 abbrev pub loop : Contents
 loop = sized 7 3 (of_code (0x40 ∷ 0xd1 ∷ 0x43 ∷ 0xd2 ∷ 0x47 ∷ 0xd3 ∷ 0x11 ∷ 0x46 ∷ 0x22 ∷ 0xf1 ∷ 0x21 ∷ 0xf5 ∷ []) 12)
 
 abbrev pub LoopEnds : Type 0
-LoopEnds = IsFinished (whole_world loop (steps 24)) 24
+LoopEnds = IsFinished (world_after loop (steps 24)) 24
 
 -- a branch whose workspace is so many words below the frame: with the three words below it one word of the frame is
 -- its own
@@ -134,14 +130,14 @@ abbrev pub pair_of : List ℕ → ℕ → Contents
 pair_of code word = record (sized 16 12 (of_code code 27)) { pars = pair_row word ∷ [] }
 
 abbrev pub PairEnds : Type 0
-PairEnds = IsFinished (whole_world (pair_of pair_code 3) (steps 27)) 27 × IsFinished
-    (whole_world (pair_of pair_code 3) (last_steps 27)) 27
+PairEnds = IsFinished (world_after (pair_of pair_code 3) (steps 27)) 27 × IsFinished
+    (world_after (pair_of pair_code 3) (last_steps 27)) 27
 
 -- both branches want the same word; the first workspace is another one
 abbrev pub PairFaults : Type 0
 PairFaults =
-    IsAtFault (whole_world (pair_of pair_code 2) (steps 27)) 4 0 14
-    × IsAtFault (whole_world (pair_of (slice_set pair_code 7 0x47) 3) (steps 27)) 10 0 10
+    IsAtFault (world_after (pair_of pair_code 2) (steps 27)) 4 0 14
+    × IsAtFault (world_after (pair_of (slice_set pair_code 7 0x47) 3) (steps 27)) 10 0 10
 
 -- a byte is received and sent on
 abbrev pub echo : Contents
@@ -153,9 +149,9 @@ echo = record
 
 abbrev pub EchoWaits : Type 0
 EchoWaits =
-    IsQuiet (whole_world echo (steps 9)) 8
-    × IsQuiet (whole_world echo (steps 8 ++ Arrive Zero 0x41 ∷ steps 7)) 13
-    × IsFinished (whole_world echo (steps 8 ++ Arrive Zero 0x41 ∷ steps 5 ++ Acknowledge Zero ∷ steps 2)) 15
+    IsQuiet (world_after echo (steps 9)) 8
+    × IsQuiet (world_after echo (steps 8 ++ Arrive Zero 0x41 ∷ steps 7)) 13
+    × IsFinished (world_after echo (steps 8 ++ Arrive Zero 0x41 ∷ steps 5 ++ Acknowledge Zero ∷ steps 2)) 15
 
 -- one branch sends a word to the other
 abbrev pub channel_row : Par
@@ -174,10 +170,10 @@ channel_of code = record (sized 17 12 (of_code code 36)) { pars = channel_row �
 
 abbrev pub ChannelEnds : Type 0
 ChannelEnds =
-    IsFinished (whole_world (channel_of channel_code) (steps 36)) 36
-    × IsFinished (whole_world (channel_of channel_code) (last_steps 36)) 36
-    × IsAtFault (whole_world (channel_of (slice_set channel_code 30 0x41)) (steps 36)) 7 2 31
-    × IsAtFault (whole_world (channel_of (slice_set channel_code 30 0x41)) (last_steps 36)) 7 1 25
+    IsFinished (world_after (channel_of channel_code) (steps 36)) 36
+    × IsFinished (world_after (channel_of channel_code) (last_steps 36)) 36
+    × IsAtFault (world_after (channel_of (slice_set channel_code 30 0x41)) (steps 36)) 7 2 31
+    × IsAtFault (world_after (channel_of (slice_set channel_code 30 0x41)) (last_steps 36)) 7 1 25
 
 -- an alternation of two links
 abbrev pub choice_code : List ℕ
@@ -193,7 +189,7 @@ choice_of code = record (sized 4 3 (of_code code 36)) {
 
 abbrev pub ChoiceWaits : Type 0
 ChoiceWaits =
-    IsQuiet (whole_world (choice_of choice_code) (steps 17)) 16
-    × IsFinished (whole_world (choice_of choice_code) (steps 16 ++ Arrive FirstLink 1 ∷ steps 18)) 34
-    × IsQuiet (whole_world (choice_of choice_code) (Arrive FirstLink 2 ∷ steps 16 ++ Arrive Zero 1 ∷ steps 18)) 34
-    × IsAtFault (whole_world (choice_of (slice_set choice_code 26 0x40)) (steps 16 ++ Arrive Zero 1 ∷ steps 18)) 9 0 30
+    IsQuiet (world_after (choice_of choice_code) (steps 17)) 16
+    × IsFinished (world_after (choice_of choice_code) (steps 16 ++ Arrive FirstLink 1 ∷ steps 18)) 34
+    × IsQuiet (world_after (choice_of choice_code) (Arrive FirstLink 2 ∷ steps 16 ++ Arrive Zero 1 ∷ steps 18)) 34
+    × IsAtFault (world_after (choice_of (slice_set choice_code 26 0x40)) (steps 16 ++ Arrive Zero 1 ∷ steps 18)) 9 0 30

@@ -1,4 +1,4 @@
-use Rattle.std.proofs.Common.{◌≡◌, ◌++◌, ◌∙◌, sym, ap, arith, List, [], drop, length, ◌≤◌}
+use Rattle.std.proofs.Common.{◌≡◌, ◌++◌, ◌∙◌, sym, ap, arith, List, [], drop}
 use Rattle.std.proofs.lemmas.List.{drop_all}
 use Rattle.machine_state.specs.declared.holding.Span.{Span}
 use Rattle.machine_state.proofs.Gaps.{gaps_from, gaps_are_runs}

@@ -1,4 +1,4 @@
-use Rattle.std.proofs.Common.{rules, tests, ◌≡◌, ℕ, List, ap, not}
+use Rattle.std.proofs.Common.{rules, tests, ℕ, List, ap, not}
 use Rattle.std.specs.Prelude.{◌==◌}
 use Rattle.machine_state.specs.Views.{join_view}
 use Rattle.machine_state.specs.World.{Join}
