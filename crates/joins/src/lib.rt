@@ -11,6 +11,8 @@ mod plan;
 mod share;
 mod starting;
 mod testing;
+mod stub;
+pub use stub::{joins_read_no_counters, start, starts_read_no_counters};
 
 pub use channels::Stop;
 pub use ending::join;

@@ -68,7 +68,6 @@ fn start(
     workspace: u32,
     registers: Registers,
 ) -> Result<Act, Stop>
-    requires next { here.now.task.registers.at + 1 < 2 ^ 32 }
     requires task { IsSteady here.now.task }
     ensures { let h = here_in «module».now here.now in
         let l = untouched registers processes.old.world.memory in

@@ -5,6 +5,7 @@ use Rattle.machine_state.specs.Asking.{scheduled, untouched, without_selection_w
 use Rattle.machine_state.specs.Exchanges.{received, sent}
 use Rattle.machine_state.specs.Alternations.{begun, skip_enabled, channel_enabled, waited, skip_disabled}
 use Rattle.machine_state.specs.Alternations.{channel_disabled, alternation_ended}
+use Rattle.machine_state.specs.Joins.{start_turn, join_turn}
 use Rattle.machine_state.specs.Moves.{counted}
 use Rattle.machine_state.specs.Turn.{ran, answered}
 use Rattle.machine_state.specs.World.{World, Counters}
@@ -16,7 +17,7 @@ use Rattle.machine.proofs.Granting.{granted_kept, settled_kept}
 use Rattle.machine.proofs.checked.machine.Machine.grant.Goals as goal
 use Rattle.machine.proofs.checked.machine.Machine.grant.Goals.{in-Receive, in-Send, in-Begin, in-EnableChannel}
 use Rattle.machine.proofs.checked.machine.Machine.grant.Goals.{in-EnableSkip, in-Wait, in-DisableChannel, in-DisableSkip}
-use Rattle.machine.proofs.checked.machine.Machine.grant.Goals.{in-End}
+use Rattle.machine.proofs.checked.machine.Machine.grant.Goals.{in-End, in-Start, in-Join}
 
 pub returns : goal.returns
 returns c =
@@ -81,6 +82,16 @@ returns c =
           after (Ok Ran) (runs, tt) _ _
           (c.keep.ensures.result ∙ w.granted-is)
           (rw (w.granted-is, w.self-inside-is) at c.keep.ensures.world))
+      | in-Start w ↦
+          let turn = start_turn here w.in-Start.to w.in-Start.workspace plain in
+          rw (w.in-Start.is, view) (granted_kept turn
+          (c.starts_read_no_counters.ensures here w.in-Start.to w.in-Start.workspace plain) counters inside.fault before w.start-granted.new.processes.world _ w.start-granted.ensures _ _
+          (c.keep.ensures.result ∙ w.granted-is)
+          (rw (w.granted-is, w.self-inside-is) at c.keep.ensures.world))
+      | in-Join w ↦ rw (w.in-Join.is, view) (settled_kept (join_turn here w.in-Join.block plain)
+          (c.joins_read_no_counters.ensures here w.in-Join.block plain) counters inside.fault before w.join.new.traffic.world w.join.result w.join.ensures _ _
+          (c.keep.ensures.result ∙ (w.granted-is ∙ w.ran-granted-in-Join.ensures))
+          (rw (w.granted-is, w.ran-granted-in-Join.ensures, w.self-inside-is) at c.keep.ensures.world))
       | in-End w ↦ rw (w.in-End.is, view) (settled_kept (alternation_ended here w.in-End.to plain)
           (disabling.ends here w.in-End.to plain) counters inside.fault before w.end.new.traffic.world w.end.result w.end.ensures.settles _ _
           (c.keep.ensures.result ∙ (w.granted-is ∙ w.ran-granted-in-End.ensures))
