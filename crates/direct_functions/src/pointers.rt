@@ -6,7 +6,10 @@ ghost use Rattle.machine_state.specs.Performing.{PerformsInstruction};
 use machine_state::{Cpu, FaultKind, Flow, Store, local_address};
 
 /// `ldlp`: the address of the word with this number from the workspace is pushed.
-pub(crate) fn load_local_pointer<S: Store>(cpu: &mut Cpu<S>, operand: i32) -> Result<Flow, FaultKind>
+pub(crate) fn load_local_pointer<S: Store>(
+    cpu: &mut Cpu<S>,
+    operand: i32,
+) -> Result<Flow, FaultKind>
     ensures { PerformsInstruction S.Store instruction.LoadLocalPointer operand cpu.old cpu.new result }
 {
     cpu.in_code(cpu.next())?;
