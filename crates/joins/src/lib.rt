@@ -10,9 +10,9 @@ mod opening;
 mod plan;
 mod share;
 mod starting;
-mod testing;
 mod stub;
-pub use stub::{joins_read_no_counters, start, starts_read_no_counters};
+mod testing;
 
 pub use channels::Stop;
 pub use ending::join;
+pub use stub::{joins_read_no_counters, start, starts_read_no_counters};

@@ -7,6 +7,7 @@ ghost use Rattle.channels.specs.Beside.{CountsBeside};
 ghost use Rattle.channels.specs.Moment.{IsSteady};
 ghost use Rattle.channels.specs.Settling.{here_in, SettlesIfRoom};
 ghost use Rattle.joins.specs.Locals.{untouched};
+
 use certificate::Module;
 use channels::{Here, Stop, Traffic};
 use machine_state::{Registers, TaggedStore};
@@ -31,10 +32,8 @@ pub fn start(
 
 pub fn starts_read_no_counters()
     ensures { (h : Instr) (target workspace : ℕ) (l : Local) → CountsBeside (start_turn h target workspace l) }
-{
-}
+{}
 
 pub fn joins_read_no_counters()
     ensures { (h : Instr) (block : ℕ) (l : Local) → CountsBeside (join_turn h block l) }
-{
-}
+{}
