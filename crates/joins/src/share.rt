@@ -5,12 +5,12 @@ ghost use Rattle.std.specs.Prelude.{option_to_list, IfOk};
 ghost use Rattle.std.specs.Option.{option_map};
 ghost use Rattle.module_format.specs.Contents.{branch_of};
 ghost use Rattle.machine_state.specs.Joins.{words_of, address_of, region_of, region_size, end_of, share_of};
-ghost use Rattle.machine_state.specs.Memory.{place_of};
+ghost use Rattle.machine_state.specs.Memory.{data_start};
 ghost use Rattle.machine_state.specs.Stretches.{stretch_view};
 ghost use Rattle.joins.specs.Sharing.{share_view};
 
 use certificate::{BranchRow, EndKind, EndRow, Interval, Parameter, ParameterKind};
-use machine_state::{End, Stretch, local_address, place_of};
+use machine_state::{DATA_START, End, Stretch, local_address, place_of};
 use std::alloc::{AllocError, Global};
 
 /// The address of the word of output link 0, MostNeg.
@@ -36,9 +36,9 @@ pub(crate) struct Share {
 
 /// The place of a frame word, in numbers without bound.
 fn place_of_word(base: u32, word: i32) -> i64
-    ensures { result ≡ pos (place_of base) +ℤ pos 4 *ℤ word }
+    ensures { result ≡ pos base -ℤ pos data_start +ℤ pos 4 *ℤ word }
 {
-    i64::from(place_of(base)) + 4 * i64::from(word)
+    i64::from(base) - i64::from(DATA_START) + 4 * i64::from(word)
 }
 
 /// How many words lie between two.

@@ -47,10 +47,10 @@ frame_address base k = local_address base k
 abbrev pub frame_base : ℕ → ℤ → ℕ
 frame_base workspace depth = (workspace + (2 ^ 32 - (4 * cast_unsigned w32 depth) % 2 ^ 32)) % 2 ^ 32
 
--- the places of frame words, in numbers without bound
+-- the places of frame words, in numbers without bound: word 0 may lie below the data area
 abbrev pub words_of : ℕ → Interval → Stretch
 words_of base i = record {
-  start = pos (place_of base) +ℤ pos 4 *ℤ i.lo;
+  start = pos base -ℤ pos data_start +ℤ pos 4 *ℤ i.lo;
   size = 4 * nat_abs (i.hi -ℤ i.lo);
 }
 
