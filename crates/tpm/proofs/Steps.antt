@@ -4,6 +4,7 @@ use Rattle.std.proofs.Common.{◌++◌, Option, Some, None, is_some, Ok, Err, sl
 use Rattle.std.proofs.Common.{◌∙◌, arith, cond, not, length, nat_lt, ℤ}
 use Rattle.std.proofs.lemmas.Bool.{leb-true}
 use Rattle.std.proofs.lemmas.List.{replicate_more}
+use Rattle.prefix_decoder.specs.declared.function.Fun.{Fun}
 use Rattle.prefix_decoder.specs.Functions.{fun_of, function_code, nibble}
 use Rattle.prefix_decoder.specs.Operand.{with_nibble, after_prefix}
 use Rattle.module_format.specs.Contents.{Contents}
@@ -66,7 +67,7 @@ steps_byte : (m : Contents) (p : ℕ) (task : Task) (byte : ℕ) (w : World)
 steps_byte m p task byte w =
     let operand = with_nibble task.registers.operand (nibble byte) in
     let site = site_of (at_here m p task) w in
-    let step = λ f. local_step site f operand (turns.local_here task w) in
+    let step = λ (f : Fun). local_step site f operand (turns.local_here task w) in
     elim (fun_of (function_code byte)) as (λ o. Steps w (elim o [
       | Some f ↦ settled (at_here m p task) false (step f) w
       | None ↦ prefix_turn (at_here m p task) (after_prefix (function_code byte) operand) w
