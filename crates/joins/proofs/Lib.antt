@@ -1,3 +1,4 @@
+pub mod JoinsBeside
 pub mod Leaving
 pub mod Taking
 pub mod Within

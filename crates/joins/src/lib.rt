@@ -15,4 +15,6 @@ mod testing;
 
 pub use channels::Stop;
 pub use ending::join;
-pub use stub::{joins_read_no_counters, start, starts_read_no_counters};
+mod laws;
+pub use laws::{joins_read_no_counters, starts_read_no_counters};
+pub use stub::start;

@@ -30,10 +30,3 @@ pub fn start(
     Err(Stop::Memory)
 }
 
-pub fn starts_read_no_counters()
-    ensures { (h : Instr) (target workspace : ℕ) (l : Local) → CountsBeside (start_turn h target workspace l) }
-{}
-
-pub fn joins_read_no_counters()
-    ensures { (h : Instr) (block : ℕ) (l : Local) → CountsBeside (join_turn h block l) }
-{}
