@@ -1,4 +1,3 @@
-pub mod JoinsBeside
 pub mod Leaving
 pub mod Taking
 pub mod Within

@@ -10,11 +10,7 @@ mod opening;
 mod plan;
 mod share;
 mod starting;
-mod stub;
 mod testing;
 
 pub use channels::Stop;
 pub use ending::join;
-mod laws;
-pub use laws::{joins_read_no_counters, starts_read_no_counters};
-pub use stub::start;

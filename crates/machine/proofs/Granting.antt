@@ -1,6 +1,7 @@
 -- What is granted, beside the counters and the fault that the machine keeps.
-use Rattle.std.proofs.Common.{◌≡◌, ℕ, true, false, List, Option, Result, Ok, Err, refl, sym, ap, ◌∙◌}
+use Rattle.std.proofs.Common.{◌≡◌, ℕ, true, false, List, Option, Result, Ok, Err, refl, sym, ap, subst, ◌∙◌}
 use Rattle.machine_state.specs.declared.fault.Fault.{Fault}
+use Rattle.machine_state.specs.Memory.{Memory}
 use Rattle.machine_state.specs.World.{World, Counters}
 use Rattle.machine_state.specs.declared.link.Link.{Link}
 use Rattle.machine_state.specs.declared.process.Exchange.{Exchange}
@@ -14,7 +15,9 @@ use Rattle.machine_state.proofs.Turns.{Ends, settled_ends}
 use Rattle.channels.specs.declared.stop.Stop.{Stop}
 use Rattle.channels.specs.declared.stop.Stop.TheVariants as stops
 use Rattle.channels.specs.Beside.{beside, counted_beside, CountsBeside}
-use Rattle.channels.specs.Settling.{Settles}
+use Rattle.module_format.specs.Contents.{Contents}
+use Rattle.channels.specs.declared.here.Here.{Here as Instance}
+use Rattle.channels.specs.Settling.{here_in, Settles}
 use Rattle.machine.specs.declared.checked.act.Act.{Act}
 use Rattle.machine.specs.Applying.{Applies, Grants, ran_by, world_by}
 
@@ -44,6 +47,14 @@ module _ (turn : World → Turn) (counts : CountsBeside turn) (c : Counters) (f 
       → later ≡ world_by (ran_by result) (beside c f after)
       → Applies (beside c f before) later kept (turn (beside c f before))
   settled_kept result settles kept later same is = rw (same, is) (settled_beside result settles)
+
+-- the same turn, however its module and the world before are named
+pub in_place : (turn : Here → Memory → World → Turn) (h : Instance) (m n : Contents) (v w after : World)
+    (result : Result Act Stop) → n ≡ m → v ≡ w → Applies w after result (turn (here_in n h) w.memory w)
+    → Applies v after result (turn (here_in m h) v.memory v)
+in_place turn h m n v w after result modules worlds applies =
+    subst (λ (c : Contents). Applies v after result (turn (here_in c h) v.memory v)) modules
+    (subst (λ (u : World). Applies u after result (turn (here_in n h) u.memory u)) (sym worlds) applies)
 
 -- ---- what goes out
 

@@ -1,6 +1,7 @@
 use Rattle.std.proofs.Common.{ℤ, rules, subst}
 use Rattle.std.proofs.lemmas.Int.{to_z-of_z}
 use Rattle.std.specs.Int.{w32}
+use Rattle.module_format.specs.Contents.{Contents, contents_of}
 use Rattle.machine_state.specs.Happens.{settled}
 use Rattle.channels.specs.Settling.{here_in}
 use Rattle.machine.specs.Applying.{Applies, outcome_at}
@@ -10,9 +11,14 @@ use Rattle.machine.proofs.checked.machine.Machine.instruct.Goals as goal
 pub returns-in-Ok : goal.returns-in-Ok
 returns-in-Ok c =
     let performs = c.in-Ok.ensures.performs in
-    let h = here_in c.args.module.now c.args.here.now in
+    let mine = c.args.module.now in
+    let theirs = contents_of c.tables.result.now in
     let w = c.args.self.now.world in
-    subst (λ (operand : ℤ). Applies w c.settle.new.self.world c.settle.result
-    (settled h c.args.slice (outcome_at h c.args.fun operand w) w)) (to_z-of_z w32 c.args.operand (search rules))
-    (rest_is_whole h c.args.slice w c.perform.new.self.world c.settle.new.self.world c.in-Ok.registers _
-    c.settle.result c.in-Ok.flow performs.0 performs.1 c.settle.ensures.memory c.settle.ensures.applies)
+    let later = c.settle.new.self.world in
+    let turn = λ (m : Contents) (operand : ℤ).
+    settled (here_in mine c.args.here.now) c.args.slice (outcome_at (here_in m c.args.here.now) c.args.fun operand w) w in
+    subst (λ (m : Contents). Applies w later c.settle.result (turn m c.args.operand)) c.tables.ensures.contents
+    (subst (λ (operand : ℤ). Applies w later c.settle.result (turn theirs operand))
+    (to_z-of_z w32 c.args.operand (search rules))
+    (rest_is_whole (here_in mine c.args.here.now) c.args.slice w c.perform.new.self.world later c.in-Ok.registers _
+    c.settle.result c.in-Ok.flow performs.0 performs.1 c.settle.ensures.memory c.settle.ensures.applies))
