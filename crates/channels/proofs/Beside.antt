@@ -26,7 +26,7 @@ module _ (c : Counters) (f : Option Fault) where
   either true x y p q = p
   either false x y p q = q
 
-  on_task-beside : (p : ℕ) (g : Task → Task) (w : World) → on_task p g (beside c f w) ≡ beside c f (on_task p g w)
+  pub on_task-beside : (p : ℕ) (g : Task → Task) (w : World) → on_task p g (beside c f w) ≡ beside c f (on_task p g w)
   on_task-beside p g w = cases (slice_get w.tasks p)
     where
       cases : (o : Option Task)

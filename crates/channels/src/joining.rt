@@ -15,7 +15,7 @@ ghost use Rattle.channels.specs.Starting.{with_process, unless_of};
 use crate::traffic::Traffic;
 use machine_state::{Channel, Holding, Join, Progress, Store, TaggedStore, Task};
 use process_queue::ListQueue;
-use std::alloc::AllocError;
+use std::alloc::{AllocError, Global};
 
 /// The channel in a cell, unless it is this opener's.
 fn without_channel(cell: Option<Channel>, opener: u64) -> Option<Channel>
@@ -50,6 +50,11 @@ fn put_both(tasks: &mut Vec<Task>, process: u64, task: Task, more: Task)
 }
 
 impl<S: Store> Traffic<S, ListQueue> {
+    /// Where its processes lie, and what a start of another needs comes from.
+    pub fn allocator(&self) -> Global {
+        *self.tasks.allocator()
+    }
+
     /// How many processes there are, those that have ended among them.
     pub fn count(&self) -> u64
         ensures { result ≡ length self.now.world.tasks }

@@ -1,6 +1,11 @@
+pub mod Entered
+pub mod HiddenWords
+pub mod JoinsBeside
 pub mod Leaving
+pub mod Mapped
+pub mod Passing
+pub mod Planned
+pub mod Settled
+pub mod SmallNumbers
 pub mod Taking
 pub mod Within
-pub mod Mapped
-pub mod HiddenWords
-pub mod Passing

@@ -4,5 +4,5 @@ pub mod Locals
 pub mod Opened
 pub mod Planning
 pub mod Sharing
-pub mod Starts
 pub mod Summary
+pub mod Testing

@@ -1,9 +1,10 @@
 -- What the first start of a PAR finds out, as the definitions have it.
-use Rattle.std.specs.Prelude.{◌≡◌, ℕ, pos, List, map, length}
+use Rattle.std.specs.Prelude.{◌≡◌, ℕ, pos, List, [], map, length}
 use Rattle.module_format.specs.declared.rows.Parameter.{Parameter}
 use Rattle.module_format.specs.Contents.{Par}
 use Rattle.machine_state.specs.Holding.{Holding}
-use Rattle.machine_state.specs.Joins.{channel_addresses, frame_base, hidden, named_from, with_ends, word_in}
+use Rattle.machine_state.specs.Joins.{Found, Plan, channel_addresses, frame_base, hidden, named_from, with_ends}
+use Rattle.machine_state.specs.Joins.{word_in}
 use Rattle.machine_state.specs.Memory.{Memory, place_of}
 use Rattle.machine_state.specs.Spans.{less}
 use Rattle.machine_state.specs.Views.{holding_view}
@@ -26,3 +27,16 @@ pub record IsOpening (memory : Memory) (h : Holding) (workspace : ℕ) (par : Pa
   pub words : o.words.items ≡ named_from par 0 parameters
   pub addresses : o.addresses.items ≡ map (word_in h memory o.base) o.words.items
   pub rest : holding_view o.rest ≡ opened_rest (length memory) h o.base par
+
+-- what the first start goes by, but for the members
+abbrev pub opening_plan : Opening → Found → List Parameter → Plan
+opening_plan o found parameters = record {
+  row = found.row;
+  par = found.par;
+  base = o.base;
+  parameters = parameters;
+  addresses = o.addresses.items;
+  started = 0;
+  rest = holding_view o.rest;
+  members = [];
+}

@@ -2,9 +2,12 @@
 #![tactic(auto)]
 
 mod ending;
+mod entering;
 mod faults;
 mod found;
+mod gifts;
 mod given;
+mod laws;
 mod open;
 mod opening;
 mod plan;
@@ -14,3 +17,5 @@ mod testing;
 
 pub use channels::Stop;
 pub use ending::join;
+pub use laws::{joins_read_no_counters, starts_read_no_counters};
+pub use starting::start;

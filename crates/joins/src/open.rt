@@ -1,14 +1,16 @@
 //! What an `endp` asks of an open join.
 
-ghost use Rattle.std.specs.Prelude.{◌≡◌, ◌==◌, ℕ, length};
+ghost use Rattle.std.specs.Prelude.{◌≡◌, ◌==◌, ℕ, Some, None, length, MatchOption};
 ghost use Rattle.std.specs.List.{list_all};
-ghost use Rattle.machine_state.specs.Joins.{opener_of};
+ghost use Rattle.machine_state.specs.Holding.{nothing};
+ghost use Rattle.machine_state.specs.Joins.{opened_by, opener_of};
 ghost use Rattle.machine_state.specs.Roles.{members_without};
-ghost use Rattle.machine_state.specs.Views.{join_view};
+ghost use Rattle.machine_state.specs.Views.{holding_view, join_view};
+ghost use Rattle.machine_state.specs.World.{holding_at};
 ghost use Rattle.joins.specs.Summary.{summary, open_of};
 
 use channels::Traffic;
-use machine_state::{Join, TaggedStore};
+use machine_state::{Holding, Join, TaggedStore};
 use process_queue::ListQueue;
 
 /// An open join, as one of its members ends.
@@ -48,6 +50,28 @@ fn summary(join: &Join, process: u64) -> Open
         block: join.block,
         started: join.started,
         is_last: is_last(&join.members, process),
+    }
+}
+
+/// The join that a process has open, if it has one.
+pub(crate) fn join_of(traffic: &Traffic<TaggedStore, ListQueue>, process: u64) -> Option<&Join>
+    ensures { let found = opened_by traffic.now.world process in
+        MatchOption result (found ≡ None) (λ join. found ≡ Some (join_view join.now)) }
+{
+    match &traffic.store().role(process)?.opened {
+        Some(join) => Some(join),
+        None => None,
+    }
+}
+
+/// What a process holds now. If there is no such process, that is `empty`, which holds nothing.
+pub(crate) fn held<'a>(store: &'a TaggedStore, process: u64, empty: &'a Holding) -> &'a Holding
+    requires { holding_view empty.now ≡ nothing }
+    ensures { holding_view result.now ≡ holding_at store.now.roles process }
+{
+    match store.role(process) {
+        Some(role) => role.held(),
+        None => empty,
     }
 }
 

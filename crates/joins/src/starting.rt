@@ -1,121 +1,159 @@
 //! `startp`: a branch starts.
 
-ghost use Rattle.std.specs.Prelude.{◌≡◌, ◌<◌, ◌^◌, ◌+◌, IfOk, length};
-ghost use Rattle.module_format.specs.Contents.{contents_of, branch_of, par_of};
-ghost use Rattle.module_format.specs.Contexts.{parameters_at};
-ghost use Rattle.machine_state.specs.declared.process.Mode.TheVariants.{Starting};
-ghost use Rattle.machine_state.specs.Turn.{between};
-ghost use Rattle.machine_state.specs.Moves.{enqueue};
-ghost use Rattle.machine_state.specs.Joins.{later_plan, later_faults, first_fault, frame_address, new_task};
-ghost use Rattle.machine_state.specs.Joins.{without_words, scheduling_addresses};
-ghost use Rattle.machine_state.specs.Views.{join_view};
+ghost use Rattle.std.specs.Prelude.{◌≡◌, ◌<◌, ◌^◌, ◌+◌, Some, None, IfSome, MatchOption, length};
+ghost use Rattle.module_format.specs.Contents.{contents_of};
+ghost use Rattle.machine_state.specs.World.{Join as Opened, holding_at};
+ghost use Rattle.machine_state.specs.Turn.{ran};
+ghost use Rattle.machine_state.specs.Joins.{first_plan, first_faults, first_fault, later_plan, opened_by};
+ghost use Rattle.machine_state.specs.Joins.{first_start, later_start, start_turn, branch_at, no_row_faults};
 ghost use Rattle.channels.specs.Moment.{IsSteady};
+ghost use Rattle.channels.specs.Settling.{here_in, SettlesIfRoom};
+ghost use Rattle.machine_state.specs.Faults.{fault_in};
+ghost use Rattle.std.specs.Option.{option_map};
 ghost use Rattle.joins.specs.Finding.{found_view};
-ghost use Rattle.joins.specs.Gifts.{IsGift};
-ghost use Rattle.joins.specs.Starts.{Finds};
+ghost use Rattle.joins.specs.Gifts.{IsGift, IsFirstGift};
+ghost use Rattle.joins.specs.Locals.{untouched};
+ghost use Rattle.joins.specs.Testing.{found_start, later_tests};
 
-use crate::found::Found;
-use crate::plan::Plan;
-use crate::share::{Frame, share_of};
-use crate::testing::{divide, test_later};
-use certificate::{BranchRow, ParRow, Parameter, Stack, Tables};
+use crate::entering::{advance, open};
+use crate::found::{Found, branch_at};
+use crate::gifts::{first_gift, later_gift};
+use crate::open::{held, join_of};
+use crate::testing::no_row_fault;
+use certificate::{Module, Tables};
 use channels::{Here, Stop, Traffic};
-use machine_state::{
-    Condition, Holding, Join, Mode, Progress, Registers, TaggedStore, Task, local_address,
-};
+use machine_state::{Fault, FaultKind, Holding, Join, Progress, Registers, TaggedStore};
 use process_queue::ListQueue;
-use std::alloc::Global;
 
-/// A branch at its first byte, with this workspace.
-fn new_task(branch: &BranchRow, workspace: u32) -> Task
-    ensures value { result ≡ new_task (branch_of branch.now) workspace }
-    ensures steady { IsSteady result }
+/// The branch of a module that begins at a code offset, if there is one. Its numbers are small, as the format says.
+fn found_in<'m>(module: &'m Module, target: u32) -> Option<Found<'m>>
+    ensures found { let found = branch_at «module».now target in
+        MatchOption result (found ≡ None) (λ f. found ≡ Some (found_view f)) }
+    ensures row { IfSome result (λ f. f.row < 2 ^ 32) }
+    ensures number { IfSome result (λ f. f.number + 1 < 2 ^ 32) }
 {
-    let registers = Registers {
-        workspace,
-        at: branch.entry,
-        began: branch.entry,
-        operand: 0,
-        stack: Stack::of_empty(None),
-    };
-    Task {
-        registers,
-        mode: Mode::Plain,
-        condition: Condition::Ready,
+    branch_at(module.tables(), target)
+}
+
+/// One more branch of the PAR that the process has open is started, where nothing is wrong and code follows.
+fn start_later(
+    traffic: &mut Traffic<TaggedStore, ListQueue>,
+    tables: &Tables,
+    here: &Here,
+    found: Found,
+    workspace: u32,
+    registers: Registers,
+    gift: (Progress, Holding),
+) -> Result<(), Stop>
+    requires code { length tables.now.code.now < 2 ^ 32 }
+    requires task { IsSteady here.now.task }
+    ensures { (join : Opened) → let w = traffic.old.world in
+        let m = contents_of tables.now in
+        let f = found_view found.entry in
+        let n = length w.memory in
+        let turn = later_start (here_in m here.now) join f workspace (untouched registers w) w in
+        opened_by w here.now.process ≡ Some join → first_fault (later_tests m n join f workspace) ≡ None →
+        IsGift m n (later_plan m join f.par) f.branch gift.0 gift.1 →
+        SettlesIfRoom (λ done. ran) w traffic.new.world result turn }
+{
+    here.check(here.is_followed(tables), FaultKind::OutsideCode)?;
+    advance(traffic, here, found, workspace, registers, gift.0, gift.1)?;
+    Ok(())
+}
+
+/// A PAR is open, and its first branch is started, where nothing is wrong and code follows.
+fn start_first(
+    traffic: &mut Traffic<TaggedStore, ListQueue>,
+    tables: &Tables,
+    here: &Here,
+    found: Found,
+    workspace: u32,
+    registers: Registers,
+    gift: (Join, Holding),
+) -> Result<(), Stop>
+    requires code { length tables.now.code.now < 2 ^ 32 }
+    requires task { IsSteady here.now.task }
+    ensures { let w = traffic.old.world in
+        let m = contents_of tables.now in
+        let f = found_view found.entry in
+        let holding = holding_at w.roles here.now.process in
+        let plan = first_plan m here.now.process here.now.task.registers.workspace holding w.memory f in
+        let turn = first_start (here_in m here.now) f workspace (untouched registers w) w in
+        first_fault (first_faults m w.memory holding plan f workspace) ≡ None →
+        IsFirstGift m (length w.memory) plan f (length w.tasks) gift.0 gift.1 →
+        SettlesIfRoom (λ done. ran) w traffic.new.world result turn }
+{
+    here.check(here.is_followed(tables), FaultKind::OutsideCode)?;
+    open(traffic, here, found, workspace, registers, gift.0, gift.1)?;
+    Ok(())
+}
+
+/// The fault of a start at which no branch begins.
+fn no_branch_fault(traffic: &Traffic<TaggedStore, ListQueue>, here: &Here, workspace: u32) -> Fault
+    ensures { let tests = no_row_faults (holding_at traffic.now.world.roles here.now.process) workspace in
+        option_map (fault_in here.now.process here.now.task.registers.began) (first_fault tests) ≡ Some result }
+{
+    let empty = Holding::nothing(traffic.allocator());
+    let holding = held(traffic.store(), here.process, &empty);
+    no_row_fault(here, holding, workspace)
+}
+
+/// A start by a branch of the module.
+fn start_found(
+    traffic: &mut Traffic<TaggedStore, ListQueue>,
+    module: &Module,
+    here: &Here,
+    found: Found,
+    workspace: u32,
+    registers: Registers,
+) -> Result<(), Stop>
+    requires row { found.row < 2 ^ 32 }
+    requires number { found.number + 1 < 2 ^ 32 }
+    requires task { IsSteady here.now.task }
+    ensures { let h = here_in «module».now here.now in
+        let w = traffic.old.world in
+        let turn = found_start h (found_view found.entry) workspace (untouched registers w) w in
+        SettlesIfRoom (λ done. ran) w traffic.new.world result turn }
+{
+    let tables = module.tables();
+    match join_of(traffic, here.process) {
+        Some(join) => {
+            let gift = later_gift(traffic, module, here, join, found, workspace)?;
+            start_later(traffic, tables, here, found, workspace, registers, gift)
+        }
+        None => {
+            let gift = first_gift(traffic, module, here, found, workspace)?;
+            start_first(traffic, tables, here, found, workspace, registers, gift)
+        }
     }
 }
 
-/// The process after a start of the PAR that it has open.
-fn starter(here: &Here, registers: Registers) -> Task
-    requires next { here.now.task.registers.at + 1 < 2 ^ 32 }
-    requires task { IsSteady here.now.task }
-    ensures value { let registers = between (here.now.task.registers.at + 1) registers in
-        result ≡ record here.now.task { registers = registers; mode = Starting } }
-    ensures steady { IsSteady result }
-{
-    let mode = Mode::Starting;
-    let task = here.continued(here.next(), registers);
-    Task { mode, ..task }
-}
-
-/// The branch is there, and is ready after all that are. What scheduling takes of its words is undefined.
-fn enter(traffic: &mut Traffic<TaggedStore, ListQueue>, workspace: u32, process: u64)
-    requires { 0 < traffic.old.room }
-    ensures { let w = traffic.old.world in
-        let memory = without_words (scheduling_addresses workspace) w.memory in
-        traffic.new.world ≡ enqueue process (record w { memory = memory }) }
-{
-    traffic.clear_word(local_address(workspace, -1));
-    traffic.clear_word(local_address(workspace, -2));
-    traffic.clear_word(local_address(workspace, -3));
-    traffic.enqueue(process);
-}
-
-/// The address of the join block.
-fn block_of(base: u32, par: &ParRow) -> u32
-    ensures { result ≡ frame_address base (par_of par.now).block }
-{
-    local_address(base, par.block)
-}
-
-/// What changes at a start of a PAR that is open: the join, and what the branch holds.
-fn later_gift(
-    alloc: Global,
-    end: u32,
-    tables: &Tables,
-    parameters: &[Parameter],
+/// Starts the branch that begins at a code offset, with this workspace: the process goes on after the instruction, and
+/// the branch is ready after all that are.
+///
+/// The first start of a PAR opens its join, with what the process holds; later ones go on with that. The fault is
+/// `EndNotHeld` where an end that the branch is to have is not there or is given twice, `NotOwn` where bytes that the
+/// start takes or gives are not held, `Undefined` where the first start finds such a word undefined, `JoinOrder` where
+/// no branch of the PAR is next there, or the first start finds the block or a channel not prepared, and `OutsideCode`
+/// if no code follows the instruction; the first of these in this order. Memory may run out before or after that: then
+/// nothing has changed.
+pub fn start(
+    traffic: &mut Traffic<TaggedStore, ListQueue>,
+    module: &Module,
     here: &Here,
-    join: &Join,
-    found: Found,
+    target: u32,
     workspace: u32,
-) -> Result<(Progress, Holding), Stop>
-    requires code { length tables.now.code.now < 2 ^ 32 }
-    requires number { found.number + 1 < 2 ^ 32 }
-    requires parameters { parameters.now ≡ parameters_at (contents_of tables.now) found.par.now.context }
-    ensures finds { let plan = later_plan (contents_of tables.now) (join_view join.now) (par_of found.entry.par.now) in
-        Finds here.now result (first_fault (later_faults end plan (found_view found.entry) workspace)) }
-    ensures gift { let plan = later_plan (contents_of tables.now) (join_view join.now) (par_of found.entry.par.now) in
-        IfOk result (λ x. IsGift (contents_of tables.now) end plan (branch_of found.entry.branch.now) x.0 x.1) }
+    registers: Registers,
+) -> Result<(), Stop>
+    requires { IsSteady here.now.task }
+    ensures { let h = here_in «module».now here.now in
+        let w = traffic.old.world in
+        let turn = start_turn h target workspace (untouched registers w) w in
+        SettlesIfRoom (λ done. ran) w traffic.new.world result turn }
 {
-    let frame = Frame {
-        base: join.base,
-        parameters,
-        addresses: &join.parameters,
+    let Some(found) = found_in(module, target) else {
+        let fault = no_branch_fault(traffic, here, workspace);
+        return Err(Stop::Fault(fault));
     };
-    let plan = Plan {
-        row: join.row,
-        par: found.par,
-        frame,
-        started: join.started,
-        rest: &join.rest,
-    };
-    let share = share_of(alloc, frame, found.branch)?;
-    test_later(alloc, here, end, plan, found, &share, workspace)?;
-    let gift = divide(alloc, end, tables, &join.rest, &share)?;
-    let to = Progress {
-        block: block_of(join.base, found.par),
-        started: found.number as u32 + 1,
-        rest: gift.rest,
-    };
-    Ok((to, gift.own))
+    start_found(traffic, module, here, found, workspace, registers)
 }

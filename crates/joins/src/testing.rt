@@ -14,7 +14,7 @@ ghost use Rattle.machine_state.specs.Views.{holding_view};
 ghost use Rattle.joins.specs.Finding.{found_view};
 ghost use Rattle.joins.specs.Planning.{plan_view};
 ghost use Rattle.joins.specs.Sharing.{share_view};
-ghost use Rattle.joins.specs.Starts.{Finds};
+ghost use Rattle.joins.specs.Testing.{Finds};
 
 use crate::faults::{
     ends_are_there, is_defined, is_next, is_prepared, may_open, may_read_named, may_schedule,

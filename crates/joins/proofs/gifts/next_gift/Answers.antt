@@ -8,7 +8,7 @@ use Rattle.machine_state.specs.Views.{holding_view}
 use Rattle.joins.specs.Finding.{found_view}
 use Rattle.joins.specs.Sharing.{share_view}
 use Rattle.joins.proofs.Passing.{next_number}
-use Rattle.joins.proofs.starting.later_gift.Goals as goal
+use Rattle.joins.proofs.gifts.next_gift.Goals as goal
 
 pub returns-clause-gift : goal.returns-clause-gift
 returns-clause-gift c =

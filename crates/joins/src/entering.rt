@@ -1,0 +1,174 @@
+//! What a start changes: its process goes on, and the branch is there.
+
+ghost use Rattle.std.specs.Prelude.{◌≡◌, ◌<◌, ◌^◌, ◌+◌, ◌++◌, Some, map, length, MatchResult};
+ghost use Rattle.module_format.specs.Contents.{Contents, branch_of, par_of};
+ghost use Rattle.module_format.specs.declared.rows.ChannelRow.{ChannelRow as Row};
+ghost use Rattle.machine_state.specs.World.{Join as Opened};
+ghost use Rattle.machine_state.specs.declared.process.Mode.TheVariants.{Starting};
+ghost use Rattle.machine_state.specs.Turn.{between};
+ghost use Rattle.machine_state.specs.Moves.{enqueue};
+ghost use Rattle.machine_state.specs.Joins.{Plan, frame_address, new_task, opened_by, later_plan, started, opened};
+ghost use Rattle.machine_state.specs.Joins.{without_words, scheduling_addresses, with_channels};
+ghost use Rattle.machine_state.specs.Joins.{block_addresses, channel_addresses};
+ghost use Rattle.channels.specs.Moment.{IsSteady};
+ghost use Rattle.channels.specs.Settling.{here_in};
+ghost use Rattle.joins.specs.Finding.{found_view};
+ghost use Rattle.joins.specs.Gifts.{IsGift, IsFirstGift};
+ghost use Rattle.joins.specs.Locals.{untouched};
+
+use crate::found::Found;
+use certificate::{BranchRow, ChannelRow, ParRow, Stack};
+use channels::{Here, Traffic};
+use machine_state::{
+    Channel, Condition, Holding, Join, Mode, Progress, Registers, TaggedStore, Task, local_address,
+};
+use process_queue::ListQueue;
+use std::alloc::AllocError;
+
+/// A branch at its first byte, with this workspace.
+fn new_task(branch: &BranchRow, workspace: u32) -> Task
+    ensures value { result ≡ new_task (branch_of branch.now) workspace }
+    ensures steady { IsSteady result }
+{
+    let registers = Registers {
+        workspace,
+        at: branch.entry,
+        began: branch.entry,
+        operand: 0,
+        stack: Stack::of_empty(None),
+    };
+    Task {
+        registers,
+        mode: Mode::Plain,
+        condition: Condition::Ready,
+    }
+}
+
+/// The process after a start of the PAR that it has open.
+fn starter(here: &Here, registers: Registers) -> Task
+    requires next { here.now.task.registers.at + 1 < 2 ^ 32 }
+    requires task { IsSteady here.now.task }
+    ensures value { let registers = between (here.now.task.registers.at + 1) registers in
+        result ≡ record here.now.task { registers = registers; mode = Starting } }
+    ensures steady { IsSteady result }
+{
+    let mode = Mode::Starting;
+    let task = here.continued(here.next(), registers);
+    Task { mode, ..task }
+}
+
+/// The branch is there, and is ready after all that are. What scheduling takes of its words is undefined.
+fn enter(traffic: &mut Traffic<TaggedStore, ListQueue>, workspace: u32, process: u64)
+    requires { 0 < traffic.old.room }
+    ensures { let w = traffic.old.world in
+        let memory = without_words (scheduling_addresses workspace) w.memory in
+        traffic.new.world ≡ enqueue process (record w { memory = memory }) }
+{
+    traffic.clear_word(local_address(workspace, -1));
+    traffic.clear_word(local_address(workspace, -2));
+    traffic.clear_word(local_address(workspace, -3));
+    traffic.enqueue(process);
+}
+
+/// One more branch of the PAR that the process has open is started. If memory runs out, nothing changes.
+pub(crate) fn advance(
+    traffic: &mut Traffic<TaggedStore, ListQueue>,
+    here: &Here,
+    found: Found,
+    workspace: u32,
+    registers: Registers,
+    to: Progress,
+    own: Holding,
+) -> Result<(), AllocError>
+    requires next { here.now.task.registers.at + 1 < 2 ^ 32 }
+    requires task { IsSteady here.now.task }
+    ensures { (m : Contents) (join : Opened) → let w = traffic.old.world in
+        let h = here_in m here.now in
+        let f = found_view found.entry in
+        let plan = later_plan m join f.par in
+        opened_by w here.now.process ≡ Some join → IsGift m (length w.memory) plan f.branch to own →
+        MatchResult result (λ _. traffic.new.world ≡ started h plan f workspace (untouched registers w) w)
+        (λ _. traffic.new.world ≡ w) }
+{
+    traffic.reserve()?;
+    traffic.count_next()?;
+    let process = traffic.count();
+    let task = starter(here, registers);
+    let branch = new_task(found.branch, workspace);
+    traffic.advance_join(here.process, task, to, branch, own)?;
+    enter(traffic, workspace, process);
+    Ok(())
+}
+
+/// The channels of a PAR are there, and nothing is in their words.
+fn add_channels(
+    traffic: &mut Traffic<TaggedStore, ListQueue>,
+    opener: u64,
+    base: u32,
+    channels: &[ChannelRow],
+)
+    ensures { let w = traffic.old.world in
+        let memory = without_words (map (λ (c : Row). frame_address base c.word) channels.now) w.memory in
+        let cells = with_channels opener base channels.now w.channels in
+        traffic.new ≡ record traffic.old { world = record w { memory = memory; channels = cells } } }
+{
+    for row in channels {
+        let address = local_address(base, row.word);
+        traffic.clear_word(address);
+        traffic.set_channel(
+            address,
+            Channel {
+                opener,
+                length: row.length,
+                waiting: None,
+                enabled: None,
+            },
+        );
+    }
+}
+
+/// The block of a PAR and the words of its channels are taken away, and the channels are there.
+fn take_block(traffic: &mut Traffic<TaggedStore, ListQueue>, opener: u64, base: u32, par: &ParRow)
+    ensures { let w = traffic.old.world in
+        let p = par_of par.now in
+        let memory = without_words (block_addresses base p ++ channel_addresses base p) w.memory in
+        let cells = with_channels opener base p.channels w.channels in
+        traffic.new ≡ record traffic.old { world = record w { memory = memory; channels = cells } } }
+{
+    let block = local_address(base, par.block);
+    traffic.clear_word(block);
+    traffic.clear_word(local_address(block, 1));
+    add_channels(traffic, opener, base, &par.channels);
+}
+
+/// A PAR is open, and its first branch is started. If memory runs out, nothing changes.
+pub(crate) fn open(
+    traffic: &mut Traffic<TaggedStore, ListQueue>,
+    here: &Here,
+    found: Found,
+    workspace: u32,
+    registers: Registers,
+    join: Join,
+    own: Holding,
+) -> Result<(), AllocError>
+    requires next { here.now.task.registers.at + 1 < 2 ^ 32 }
+    requires task { IsSteady here.now.task }
+    ensures { (m : Contents) (plan : Plan) → let w = traffic.old.world in
+        let h = here_in m here.now in
+        let f = found_view found.entry in
+        let there = opened h plan (untouched registers w) w in
+        plan.par ≡ f.par → IsFirstGift m (length w.memory) plan f (length w.tasks) join own →
+        MatchResult result (λ _. traffic.new.world ≡ started h plan f workspace there.0 there.1)
+        (λ _. traffic.new.world ≡ w) }
+{
+    traffic.reserve()?;
+    traffic.count_next()?;
+    let process = traffic.count();
+    let base = join.base;
+    let task = starter(here, registers);
+    let branch = new_task(found.branch, workspace);
+    traffic.open_join(here.process, task, join, branch, own)?;
+    take_block(traffic, here.process, base, found.par);
+    enter(traffic, workspace, process);
+    Ok(())
+}

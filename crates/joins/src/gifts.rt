@@ -1,0 +1,239 @@
+//! What changes hands at a start that is not at fault.
+
+ghost use Rattle.std.specs.Prelude.{◌≡◌, ◌<◌, ◌^◌, ◌+◌, ◌∷◌, [], IfOk, length};
+ghost use Rattle.module_format.specs.Contents.{contents_of, branch_of, par_of};
+ghost use Rattle.module_format.specs.Contexts.{parameters_at};
+ghost use Rattle.machine_state.specs.Joins.{first_plan, first_faults, first_fault, frame_address, holding_of};
+ghost use Rattle.machine_state.specs.Joins.{later_plan, later_faults, named_from, share_by};
+ghost use Rattle.machine_state.specs.Spans.{less};
+ghost use Rattle.machine_state.specs.Views.{holding_view, join_view};
+ghost use Rattle.machine_state.specs.World.{holding_at};
+ghost use Rattle.joins.specs.Finding.{found_view};
+ghost use Rattle.joins.specs.Gifts.{IsGift, IsFirstGift};
+ghost use Rattle.joins.specs.Opened.{opening_plan};
+ghost use Rattle.joins.specs.Testing.{Finds, later_tests};
+
+use crate::found::Found;
+use crate::open::held;
+use crate::opening::{Opening, prepare};
+use crate::plan::Plan;
+use crate::share::{Frame, share_of};
+use crate::testing::{Gift, divide, no_row_fault, test_first, test_later};
+use certificate::{Module, ParRow, Parameter, Tables};
+use channels::{Here, Stop, Traffic};
+use machine_state::{Holding, Join, Progress, TaggedStore, local_address};
+use process_queue::ListQueue;
+use std::alloc::{AllocError, Global};
+
+/// The address of the join block.
+fn block_of(base: u32, par: &ParRow) -> u32
+    ensures { result ≡ frame_address base (par_of par.now).block }
+{
+    local_address(base, par.block)
+}
+
+/// What changes at a start by the row of the PAR that is open: the join, and what the branch holds.
+fn next_gift(
+    alloc: Global,
+    end: u32,
+    tables: &Tables,
+    parameters: &[Parameter],
+    here: &Here,
+    join: &Join,
+    found: Found,
+    workspace: u32,
+) -> Result<(Progress, Holding), Stop>
+    requires code { length tables.now.code.now < 2 ^ 32 }
+    requires number { found.number + 1 < 2 ^ 32 }
+    requires parameters { parameters.now ≡ parameters_at (contents_of tables.now) found.par.now.context }
+    ensures finds { let plan = later_plan (contents_of tables.now) (join_view join.now) (par_of found.entry.par.now) in
+        Finds here.now result (first_fault (later_faults end plan (found_view found.entry) workspace)) }
+    ensures gift { let plan = later_plan (contents_of tables.now) (join_view join.now) (par_of found.entry.par.now) in
+        IfOk result (λ x. IsGift (contents_of tables.now) end plan (branch_of found.entry.branch.now) x.0 x.1) }
+{
+    let frame = Frame {
+        base: join.base,
+        parameters,
+        addresses: &join.parameters,
+    };
+    let plan = Plan {
+        row: join.row,
+        par: found.par,
+        frame,
+        started: join.started,
+        rest: &join.rest,
+    };
+    let share = share_of(alloc, frame, found.branch)?;
+    test_later(alloc, here, end, plan, found, &share, workspace)?;
+    let gift = divide(alloc, end, tables, &join.rest, &share)?;
+    let to = Progress {
+        block: block_of(join.base, found.par),
+        started: found.number as u32 + 1,
+        rest: gift.rest,
+    };
+    Ok((to, gift.own))
+}
+
+/// What changes at a start while a PAR is open: its join, and what the branch holds. The branch is one of its row.
+pub(crate) fn later_gift(
+    traffic: &Traffic<TaggedStore, ListQueue>,
+    module: &Module,
+    here: &Here,
+    join: &Join,
+    found: Found,
+    workspace: u32,
+) -> Result<(Progress, Holding), Stop>
+    requires { found.number + 1 < 2 ^ 32 }
+    ensures finds { let n = length traffic.now.world.memory in
+        let tests = later_tests «module».now n (join_view join.now) (found_view found.entry) workspace in
+        Finds here.now result (first_fault tests) }
+    ensures gift { let n = length traffic.now.world.memory in
+        let f = found_view found.entry in
+        let plan = later_plan «module».now (join_view join.now) f.par in
+        IfOk result (λ x. IsGift «module».now n plan f.branch x.0 x.1) }
+{
+    if found.row != join.row as usize {
+        return Err(Stop::Fault(no_row_fault(here, &join.rest, workspace)));
+    }
+    let parameters = module.parameters(u32::from(found.par.context));
+    next_gift(
+        traffic.allocator(),
+        traffic.store().size(),
+        module.tables(),
+        parameters,
+        here,
+        join,
+        found,
+        workspace,
+    )
+}
+
+/// What the branch holds, and what is left, at the first start of a PAR.
+fn first_division(
+    alloc: Global,
+    tables: &Tables,
+    parameters: &[Parameter],
+    here: &Here,
+    store: &TaggedStore,
+    holding: &Holding,
+    opening: &Opening,
+    found: Found,
+    workspace: u32,
+) -> Result<Gift, Stop>
+    requires code { length tables.now.code.now < 2 ^ 32 }
+    requires row { found.row < 2 ^ 32 }
+    requires words { opening.now.words.items ≡ named_from (par_of found.par.now) 0 parameters.now }
+    ensures finds { let f = found_view found.entry in
+        let plan = opening_plan opening.now f parameters.now in
+        let h = holding_view holding.now in
+        let tests = first_faults (contents_of tables.now) store.now.cells h plan f workspace in
+        Finds here.now result (first_fault tests) }
+    ensures own { let f = found_view found.entry in
+        let share = share_by (opening_plan opening.now f parameters.now) f.branch in
+        IfOk result (λ g. holding_view g.own ≡ holding_of (contents_of tables.now) (length store.now.cells) share) }
+    ensures rest { let f = found_view found.entry in
+        let plan = opening_plan opening.now f parameters.now in
+        IfOk result (λ g. holding_view g.rest ≡ less (length store.now.cells) plan.rest (share_by plan f.branch)) }
+{
+    let frame = Frame {
+        base: opening.base,
+        parameters,
+        addresses: &opening.addresses,
+    };
+    let plan = Plan {
+        row: found.row as u32,
+        par: found.par,
+        frame,
+        started: 0,
+        rest: &opening.rest,
+    };
+    let share = share_of(alloc, frame, found.branch)?;
+    test_first(
+        alloc,
+        here,
+        tables,
+        store,
+        holding,
+        plan,
+        &opening.words,
+        found,
+        &share,
+        workspace,
+    )?;
+    Ok(divide(alloc, store.size(), tables, &opening.rest, &share)?)
+}
+
+/// The join that the first start of a PAR opens, with its two members, and what is left to give.
+fn first_join(
+    alloc: Global,
+    opening: Opening,
+    rest: Holding,
+    found: Found,
+    opener: u64,
+    branch: u64,
+) -> Result<Join, AllocError>
+    requires { found.row < 2 ^ 32 }
+    ensures { IfOk result (λ j. join_view j ≡ record {
+      row = found.entry.row;
+      block = frame_address opening.base (par_of found.entry.par.now).block;
+      base = opening.base;
+      parameters = opening.addresses.items;
+      started = 1;
+      rest = holding_view rest;
+      members = opener ∷ branch ∷ [];
+    }) }
+{
+    let members = Vec::from_slice(alloc, &[opener, branch])?;
+    Ok(Join {
+        row: found.row as u32,
+        block: block_of(opening.base, found.par),
+        base: opening.base,
+        parameters: opening.addresses,
+        started: 1,
+        rest,
+        members,
+    })
+}
+
+/// What the first start of a PAR opens: the join, and what the branch holds.
+pub(crate) fn first_gift(
+    traffic: &Traffic<TaggedStore, ListQueue>,
+    module: &Module,
+    here: &Here,
+    found: Found,
+    workspace: u32,
+) -> Result<(Join, Holding), Stop>
+    requires { found.row < 2 ^ 32 }
+    ensures finds { let w = traffic.now.world in
+        let f = found_view found.entry in
+        let holding = holding_at w.roles here.now.process in
+        let plan = first_plan «module».now here.now.process here.now.task.registers.workspace holding w.memory f in
+        Finds here.now result (first_fault (first_faults «module».now w.memory holding plan f workspace)) }
+    ensures gift { let w = traffic.now.world in
+        let f = found_view found.entry in
+        let holding = holding_at w.roles here.now.process in
+        let plan = first_plan «module».now here.now.process here.now.task.registers.workspace holding w.memory f in
+        IfOk result (λ x. IsFirstGift «module».now (length w.memory) plan f (length w.tasks) x.0 x.1) }
+{
+    let alloc = traffic.allocator();
+    let store = traffic.store();
+    let empty = Holding::nothing(alloc);
+    let holding = held(store, here.process, &empty);
+    let parameters = module.parameters(u32::from(found.par.context));
+    let from = here.task.registers.workspace;
+    let opening = prepare(alloc, store, holding, from, found.par, parameters)?;
+    let gift = first_division(
+        alloc,
+        module.tables(),
+        parameters,
+        here,
+        store,
+        holding,
+        &opening,
+        found,
+        workspace,
+    )?;
+    let branch = traffic.count();
+    let join = first_join(alloc, opening, gift.rest, found, here.process, branch)?;
+    Ok((join, gift.own))
+}
