@@ -1,3 +1,4 @@
+pub mod EndSets
 pub mod Leaving
 pub mod Taking
 pub mod Within
