@@ -30,13 +30,6 @@ pub(crate) fn both(alloc: Global, some: &[Span], others: &[Span]) -> Result<Vec<
     Ok(spans)
 }
 
-/// Whether the end is one of these.
-pub(crate) fn is_listed(ends: &[End], end: End) -> bool
-    ensures { result ≡ is_listed ends.now end }
-{
-    ends.iter().any(|other| end.address == other.address && end.direction == other.direction)
-}
-
 /// The ends but for these. It takes time n log n in both.
 fn ends_without(alloc: Global, ends: &[End], taken: &[End]) -> Result<Vec<End>, AllocError>
     ensures { IfOk result (λ v. v.items ≡ filter (λ (end : HeldEnd). not (is_listed taken.now end)) ends.now) }
