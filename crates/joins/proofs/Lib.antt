@@ -1,3 +1,4 @@
+pub mod EndSets
 pub mod Entered
 pub mod HiddenWords
 pub mod JoinsBeside

@@ -1,3 +1,4 @@
+pub mod EndSets
 pub mod Finding
 pub mod Gifts
 pub mod Locals

@@ -1,6 +1,7 @@
 //! What may be wrong with a start.
 
 ghost use Rattle.std.specs.Prelude.{◌≡◌, ◌&&◌, ◌+◌, ◌*◌, ◌%◌, ◌^◌, ◌++◌, ℕ, ℤ, Option, [], true, pos, length};
+ghost use Rattle.std.specs.Prelude.{IfOk};
 ghost use Rattle.std.specs.List.{list_all, list_any};
 ghost use Rattle.std.specs.Int.{w32, cast_signed};
 ghost use Rattle.word_arithmetic.specs.Word.{least_word};
@@ -20,36 +21,46 @@ ghost use Rattle.joins.specs.Planning.{plan_view};
 ghost use Rattle.joins.specs.Sharing.{share_view};
 
 use crate::found::Found;
-use crate::given::is_listed;
+use crate::given::end_set::EndSet;
 use crate::plan::Plan;
 use crate::share::Share;
 use certificate::{BranchRow, ChannelRow, ParRow, Tables};
 use machine_state::{DATA_START, End, Holding, Stretch, TaggedStore, local_address, place_of};
+use std::alloc::{AllocError, Global};
 
-/// Whether no end stands twice.
-fn differ(ends: &[End]) -> bool
-    ensures { result ≡ differ ends.now }
+/// Whether no end stands twice. It takes time n log n.
+fn differ(alloc: Global, ends: &[End]) -> Result<bool, AllocError>
+    ensures { IfOk result (λ all. all ≡ differ ends.now) }
 {
-    for (number, end) in ends.iter().enumerate() {
-        if is_listed(&ends[number + 1..], *end) {
-            return false;
+    let mut seen = EndSet::new(alloc);
+    for end in ends {
+        if !seen.insert(*end)? {
+            return Ok(false);
         }
     }
-    true
+    Ok(true)
 }
 
-/// Whether all wanted ends are among these.
-fn are_listed(ends: &[End], wanted: &[End]) -> bool
-    ensures { result ≡ list_all (is_listed ends.now) wanted.now }
+/// Whether all wanted ends are among these. It takes time n log n in both.
+fn are_listed(alloc: Global, ends: &[End], wanted: &[End]) -> Result<bool, AllocError>
+    ensures { IfOk result (λ all. all ≡ list_all (is_listed ends.now) wanted.now) }
 {
-    wanted.iter().all(|end| is_listed(ends, *end))
+    let held = EndSet::of(alloc, ends)?;
+    Ok(wanted.iter().all(|end| held.contains(*end)))
 }
 
-/// Whether all wanted ends are among these, each once.
-pub(crate) fn ends_are_there(ends: &[End], wanted: &[End]) -> bool
-    ensures { result ≡ (list_all (is_listed ends.now) wanted.now && differ wanted.now) }
+/// Whether all wanted ends are among these, each once. It takes time n log n in both.
+pub(crate) fn ends_are_there(
+    alloc: Global,
+    ends: &[End],
+    wanted: &[End],
+) -> Result<bool, AllocError>
+    ensures { IfOk result (λ there. there ≡ (list_all (is_listed ends.now) wanted.now && differ wanted.now)) }
 {
-    are_listed(ends, wanted) && differ(wanted)
+    if !are_listed(alloc, ends, wanted)? {
+        return Ok(false);
+    }
+    differ(alloc, wanted)
 }
 
 /// Whether the words that scheduling takes below a workspace may all be written.

@@ -13,6 +13,9 @@ ghost use Rattle.machine_state.specs.Views.{holding_view};
 ghost use Rattle.machine_state.specs.World.{constants_start};
 ghost use Rattle.joins.specs.Sharing.{share_view};
 
+pub(crate) mod end_set;
+
+use crate::given::end_set::EndSet;
 use crate::share::Share;
 use certificate::Tables;
 use machine_state::{End, Holding, Span, Stretch, all_lie_in, places_within, without};
@@ -27,20 +30,14 @@ pub(crate) fn both(alloc: Global, some: &[Span], others: &[Span]) -> Result<Vec<
     Ok(spans)
 }
 
-/// Whether the end is one of these.
-pub(crate) fn is_listed(ends: &[End], end: End) -> bool
-    ensures { result ≡ is_listed ends.now end }
-{
-    ends.iter().any(|other| end.address == other.address && end.direction == other.direction)
-}
-
-/// The ends but for these.
+/// The ends but for these. It takes time n log n in both.
 fn ends_without(alloc: Global, ends: &[End], taken: &[End]) -> Result<Vec<End>, AllocError>
     ensures { IfOk result (λ v. v.items ≡ filter (λ (end : HeldEnd). not (is_listed taken.now end)) ends.now) }
 {
+    let gone = EndSet::of(alloc, taken)?;
     let mut left = Vec::new(alloc);
     for end in ends {
-        if !is_listed(taken, *end) {
+        if !gone.contains(*end) {
             left.push(*end)?;
         }
     }

@@ -8,7 +8,8 @@ ghost use Rattle.joins.specs.Opened.{IsOpening, opened_rest, word_stretch};
 ghost use Rattle.machine_state.specs.Views.{holding_view};
 ghost use Rattle.joins.specs.Sharing.{share_view};
 
-use crate::given::{is_listed, less};
+use crate::given::end_set::EndSet;
+use crate::given::less;
 use crate::plan::{addresses, frame_base, named};
 use crate::share::Share;
 use certificate::{ChannelRow, Direction, ParRow, Parameter};
@@ -79,11 +80,17 @@ fn add_channels(
     Ok(())
 }
 
-/// Both ends of each channel, each once.
-fn add_ends(ends: &mut Vec<End>, base: u32, channels: &[ChannelRow]) -> Result<(), AllocError>
+/// Both ends of each channel, each once. It takes time n log n in the ends and the channels.
+fn add_ends(
+    alloc: Global,
+    ends: &mut Vec<End>,
+    base: u32,
+    channels: &[ChannelRow],
+) -> Result<(), AllocError>
     ensures { let addresses = map (λ (c : Row). frame_address base c.word) channels.now in
         IfOk result (λ _. ends.new.items ≡ with_ends addresses ends.old.items) }
 {
+    let mut held = EndSet::of(alloc, ends)?;
     for channel in channels {
         let address = local_address(base, channel.word);
         let input = End {
@@ -94,7 +101,7 @@ fn add_ends(ends: &mut Vec<End>, base: u32, channels: &[ChannelRow]) -> Result<(
             address,
             direction: Direction::Out,
         };
-        if !is_listed(ends, input) {
+        if held.insert(input)? {
             ends.push(input)?;
             ends.push(output)?;
         }
@@ -115,7 +122,7 @@ fn rest(
 {
     let hidden = hidden(alloc, base, par)?;
     let mut rest = less(alloc, store.size(), holding, &hidden)?;
-    add_ends(&mut rest.ends, base, &par.channels)?;
+    add_ends(alloc, &mut rest.ends, base, &par.channels)?;
     Ok(rest)
 }
 

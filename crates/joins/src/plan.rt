@@ -1,6 +1,8 @@
 //! What starts go by, for the first of a PAR and for the later ones, and what may be wrong with them.
 
-ghost use Rattle.std.specs.Prelude.{◌≡◌, ◌==◌, ℕ, if◌then◌else◌, pos, Some, None, IfOk, map};
+ghost use Rattle.std.specs.Prelude.{◌≡◌, ◌==◌, ◌||◌, ℕ, if◌then◌else◌, pos, Some, None, IfOk, OnOk, map};
+ghost use Rattle.std.specs.BTreeSet.{contains};
+ghost use Rattle.std.specs.Ordering.{nat_cmp};
 ghost use Rattle.std.specs.List.{list_any};
 ghost use Rattle.module_format.specs.declared.rows.EndRow.{EndRow as Row};
 ghost use Rattle.module_format.specs.declared.rows.BranchRow.{BranchRow as Branching};
@@ -12,6 +14,7 @@ use crate::share::Frame;
 use certificate::{BranchRow, EndKind, EndRow, ParRow, Parameter};
 use machine_state::{Holding, TaggedStore, local_address, place_of};
 use std::alloc::{AllocError, Global};
+use std::collections::BTreeSet;
 
 /// What a start goes by.
 #[derive(Clone, Copy)]
@@ -32,53 +35,60 @@ pub(crate) fn frame_base(workspace: u32, depth: i32) -> u32
     workspace.wrapping_sub(depth.cast_unsigned().wrapping_mul(4))
 }
 
-/// Whether a branch names the parameter of this number.
-fn branch_names(branch: &BranchRow, number: u64) -> bool
-    ensures { result ≡ branch_names number (branch_of branch.now) }
+/// Adds the numbers that are listed.
+fn add_listed(numbers: &mut BTreeSet<u64>, listed: &[u16]) -> Result<(), AllocError>
+    ensures { OnOk result ((j : ℕ) → contains nat_cmp numbers.new j
+        ≡ (contains nat_cmp numbers.old j || list_any (λ (k : ℕ). k == j) listed.now)) }
 {
-    is_listed(&branch.written_parameters, number)
-        || is_listed(&branch.read_parameters, number)
-        || any_names(&branch.ends, number)
-}
-
-/// Whether the number is among these.
-fn is_listed(numbers: &[u16], number: u64) -> bool
-    ensures { result ≡ list_any (λ (k : ℕ). k == number) numbers.now }
-{
-    numbers.iter().any(|k| u64::from(*k) == number)
-}
-
-/// Whether one of the ends belongs to the parameter of this number.
-fn any_names(ends: &[EndRow], number: u64) -> bool
-    ensures { result ≡ list_any (λ (e : Row). names_end number e.kind) ends.now }
-{
-    ends.iter().any(|end| names_end(number, end.kind))
-}
-
-fn names_end(number: u64, kind: EndKind) -> bool
-    ensures { result ≡ names_end number kind }
-{
-    match kind {
-        EndKind::Parameter { number: j, .. } => u64::from(j.unsigned_abs()) == number,
-        _ => false,
+    for number in listed {
+        numbers.insert(u64::from(*number))?;
     }
+    Ok(())
 }
 
-/// Whether a row names the parameter of this number.
-#[tactic(auto, using(crate::proofs::Mapped::any_of_mapped))]
-fn row_names(par: &ParRow, number: u64) -> bool
-    ensures { result ≡ row_names (par_of par.now) number }
+/// Adds the numbers of the parameters that the ends belong to.
+fn add_of_ends(numbers: &mut BTreeSet<u64>, ends: &[EndRow]) -> Result<(), AllocError>
+    ensures { OnOk result ((j : ℕ) → contains nat_cmp numbers.new j
+        ≡ (contains nat_cmp numbers.old j || list_any (λ (e : Row). names_end j e.kind) ends.now)) }
 {
-    any_branch_names(&par.branches, number)
+    for end in ends {
+        if let EndKind::Parameter { number, .. } = end.kind {
+            numbers.insert(u64::from(number.unsigned_abs()))?;
+        }
+    }
+    Ok(())
 }
 
-fn any_branch_names(branches: &[BranchRow], number: u64) -> bool
-    ensures { result ≡ list_any (λ (b : Branching). branch_names number (branch_of b)) branches.now }
+/// Adds the numbers of the parameters that a branch names.
+fn add_named(numbers: &mut BTreeSet<u64>, branch: &BranchRow) -> Result<(), AllocError>
+    ensures { OnOk result ((j : ℕ) → contains nat_cmp numbers.new j
+        ≡ (contains nat_cmp numbers.old j || branch_names j (branch_of branch.now))) }
 {
-    branches.iter().any(|branch| branch_names(branch, number))
+    add_listed(numbers, &branch.written_parameters)?;
+    add_listed(numbers, &branch.read_parameters)?;
+    add_of_ends(numbers, &branch.ends)
 }
 
-/// The words of the parameters that a row names.
+/// The numbers of the parameters that branches name.
+fn numbers_by_branches(alloc: Global, branches: &[BranchRow]) -> Result<BTreeSet<u64>, AllocError>
+    ensures { IfOk result (λ numbers. (j : ℕ) → contains nat_cmp numbers j
+        ≡ list_any (λ (b : Branching). branch_names j (branch_of b)) branches.now) }
+{
+    let mut numbers = BTreeSet::new(alloc);
+    for branch in branches {
+        add_named(&mut numbers, branch)?;
+    }
+    Ok(numbers)
+}
+
+/// The numbers of the parameters that a row names. It takes time n log n in what its branches are given.
+fn named_numbers(alloc: Global, par: &ParRow) -> Result<BTreeSet<u64>, AllocError>
+    ensures { IfOk result (λ numbers. (j : ℕ) → contains nat_cmp numbers j ≡ row_names (par_of par.now) j) }
+{
+    numbers_by_branches(alloc, &par.branches)
+}
+
+/// The words of the parameters that a row names. It takes time n log n in those and in what its branches are given.
 pub(crate) fn named(
     alloc: Global,
     par: &ParRow,
@@ -86,18 +96,19 @@ pub(crate) fn named(
 ) -> Result<Vec<Option<i32>>, AllocError>
     ensures { IfOk result (λ v. v.items ≡ named_from (par_of par.now) 0 parameters.now) }
 {
+    let numbers = named_numbers(alloc, par)?;
     let mut words = Vec::new(alloc);
     for (number, parameter) in parameters.iter().enumerate() {
-        words.push(named_word(par, number as u64, parameter.word))?;
+        words.push(named_word(&numbers, number as u64, parameter.word))?;
     }
     Ok(words)
 }
 
-/// The word of the parameter of this number, if the row names it.
-fn named_word(par: &ParRow, number: u64, word: u16) -> Option<i32>
-    ensures { result ≡ (if row_names (par_of par.now) number then Some (pos word) else None) }
+/// The word of the parameter of this number, if it is among the numbers.
+fn named_word(numbers: &BTreeSet<u64>, number: u64, word: u16) -> Option<i32>
+    ensures { result ≡ (if contains nat_cmp numbers.now number then Some (pos word) else None) }
 {
-    if row_names(par, number) {
+    if numbers.contains(&number) {
         Some(i32::from(word))
     } else {
         None

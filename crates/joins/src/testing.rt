@@ -77,10 +77,8 @@ pub(crate) fn test_later(
         Finds here.now result (first_fault tests) }
 {
     let rest = plan.rest;
-    here.check(
-        ends_are_there(&rest.ends, &share.ends),
-        FaultKind::EndNotHeld,
-    )?;
+    let are_there = ends_are_there(alloc, &rest.ends, &share.ends)?;
+    here.check(are_there, FaultKind::EndNotHeld)?;
     let is_there = share_is_there(alloc, end, rest, share, workspace)?;
     here.check(is_there, FaultKind::NotOwn)?;
     here.check(is_next(plan, found, workspace), FaultKind::JoinOrder)?;
@@ -124,10 +122,8 @@ pub(crate) fn test_first(
         Finds here.now result (first_fault tests) }
 {
     let rest = plan.rest;
-    here.check(
-        ends_are_there(&rest.ends, &share.ends),
-        FaultKind::EndNotHeld,
-    )?;
+    let are_there = ends_are_there(alloc, &rest.ends, &share.ends)?;
+    here.check(are_there, FaultKind::EndNotHeld)?;
     let is_there = share_is_there(alloc, store.size(), rest, share, workspace)?;
     let is_held = is_there && words_are_held(holding, plan, words);
     here.check(is_held, FaultKind::NotOwn)?;

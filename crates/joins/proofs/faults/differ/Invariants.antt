@@ -1,7 +1,12 @@
-use Rattle.std.proofs.Common.{◌≡◌, drop}
-use Rattle.machine_state.specs.Spans.{differ}
+use Rattle.std.proofs.Common.{◌≡◌, true, take}
+use Rattle.machine_state.specs.declared.holding.End.{End}
+use Rattle.machine_state.specs.Spans.{differ, is_listed}
+use Rattle.joins.specs.EndSets.{has}
 use Rattle.joins.proofs.faults.differ.Given as goal
 
--- the rest decides
-abbrev pub invariant-loop-number : goal.invariant-loop-number
-invariant-loop-number l = differ l.ends ≡ differ (drop l.number l.ends)
+-- those so far are there, and differ
+abbrev pub invariant-loop-end : goal.invariant-loop-end
+invariant-loop-end l = record {
+  there : (end : End) → has l.seen end ≡ is_listed (take l.end-index l.ends) end;
+  apart : differ (take l.end-index l.ends) ≡ true;
+}
