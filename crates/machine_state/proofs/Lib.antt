@@ -16,6 +16,7 @@ pub mod Defined
 pub mod Agreeing
 pub mod Seeing
 pub mod Lines
+pub mod Waking
 pub mod Waiting
 pub mod Copying
 pub mod NormalSpans
@@ -39,3 +40,4 @@ pub mod WhoWaits
 pub mod Modes
 pub mod WhoEnabled
 pub mod WhatIsEnabled
+pub mod WhoStarts

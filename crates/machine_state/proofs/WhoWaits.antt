@@ -26,9 +26,9 @@ use Rattle.machine_state.specs.declared.process.Exchange.{Exchange}
 use Rattle.machine_state.specs.Memory.{Memory, place_of, word_at, with_word, byte_at, with_byte}
 use Rattle.machine_state.specs.Holding.{Holding, nothing, has_end}
 use Rattle.machine_state.specs.World.{World, Role, Join, held, holding_at, loaded, root_task}
-use Rattle.machine_state.specs.Site.{Site, Local, Outcome, receives, sends}
+use Rattle.machine_state.specs.Site.{Site, Local, Outcome, receives, sends, enables_channel}
 use Rattle.machine_state.specs.LocalStep.{copied, with_a_alone}
-use Rattle.machine_state.specs.Moves.{put, on_task, wake, leave, dispatch, rouse, rouse_task, rouse_enabling, cell_of}
+use Rattle.machine_state.specs.Moves.{put, on_task, wake, leave, dispatch, rouse, cell_of}
 use Rattle.machine_state.specs.Moves.{channel_at, fill, fill_condition, with_condition, link_index, with_channel}
 use Rattle.machine_state.specs.Moves.{with_input, with_output}
 use Rattle.machine_state.specs.Turn.{Here, Turn, at_here, between, continued}
@@ -43,10 +43,11 @@ use Rattle.machine_state.specs.Happens.{site_of, turn_by, world_by}
 use Rattle.machine_state.specs.ChannelLaws.{HaveTheirWaiters, WaitsTo, IsRecorded, AreRecorded, WhoWaitsIsRecorded}
 use Rattle.prefix_decoder.specs.Functions.{nibble}
 use Rattle.prefix_decoder.specs.Operand.{with_nibble}
-use Rattle.machine_state.proofs.Lines.{got_set, got_other, got_either}
+use Rattle.machine_state.proofs.Lines.{got_set, got_other, set_either, got_either}
 use Rattle.machine_state.proofs.Moving.{wake_only, rouse_only, on_task_only}
 use Rattle.machine_state.proofs.EveryInstruction.{Wants, each_step}
 use Rattle.machine_state.proofs.Starting.{first_tests}
+use Rattle.machine_state.proofs.Waking.{ready_was, wake_was, rouse_was}
 use Rattle.machine_state.proofs.Turns as turns
 use Rattle.machine_state.proofs.Turns.{Moved, Ends, Happened, turn_happens}
 use Rattle.machine_state.proofs.Waiting.{WaitsIn, reached}
@@ -61,7 +62,7 @@ use Rattle.machine_state.proofs.Roles.{told_of, opened_is, gives_back}
 use Rattle.machine_state.proofs.StartedApart.{join_is_open, found_row}
 use Rattle.machine_state.proofs.EndedApart.{on_role_roles, on_role_channels, on_role_tasks, carried, still_there}
 use Rattle.machine_state.proofs.EndedApart.{there_roles, at_there}
-use Rattle.machine_state.proofs.ChannelWaiters.{channel_there, same_channel, channels_have_their_waiters, set_either}
+use Rattle.machine_state.proofs.ChannelWaiters.{channel_there, same_channel, channels_have_their_waiters}
 use Rattle.machine_state.proofs.ChannelWaiters.{running_is_ready}
 use Rattle.machine_state.proofs.ApartLaws.{IsSmall, format_is_small, Stands, all_stand, own_role}
 
@@ -90,14 +91,16 @@ calm_ended : (c : Condition) → c ≡ Ended → IsCalm c
 calm_ended c is In e waits = let x : Ended ≡ Receiving e = sym is ∙ waits in cc
 calm_ended c is Out e waits = let x : Ended ≡ Sending e = sym is ∙ waits in cc
 
--- ---- a message that is asked for: its end is held
+-- ---- a message that is asked for, or what is enabled: its end is held
 
-abbrev AsksHeld : Site → Outcome → Type 0
+abbrev pub AsksHeld : Site → Outcome → Type 0
 AsksHeld s (receives e l) = has_end s.holding (record { address = e.channel; direction = In }) ≡ true
 AsksHeld s (sends e l) = has_end s.holding (record { address = e.channel; direction = Out }) ≡ true
+AsksHeld s (enables_channel guard address l) =
+    has_end s.holding (record { address = address; direction = In }) ≡ true
 AsksHeld s _ = ⊤
 
-asks_held : (s : Site) (r : Registers) (old : Memory)
+pub asks_held : (s : Site) (r : Registers) (old : Memory)
     → Wants s r old old (λ r m n. m ≡ n) (λ o other. AsksHeld s o)
 asks_held s r old = record {
   same_word = λ r m n place k own. ap (λ (m : Memory). word_at m place) k;
@@ -117,89 +120,13 @@ asks_held s r old = record {
   at_starts = λ to workspace r m n even k. tt;
   at_joins = λ block r m n k. tt;
   at_begins = λ r m n k. tt;
-  at_enables_channel = λ guard at r m n k held. tt;
+  at_enables_channel = λ guard at r m n k held. held;
   at_enables_skip = λ guard r m n k. tt;
   at_waits = λ r m n k. tt;
   at_disables_channel = λ guard at distance r m n k held. tt;
   at_disables_skip = λ guard distance r m n k. tt;
   at_ends_alternation = λ to r m n k. tt;
 }
-
--- ---- who waits after a move did so before
-
--- another process, as it was
-pub ready_was : (q : ℕ) (f : Task → Task) (v : World) → ((x : Task) → (f x).condition ≡ Ready) → (p : ℕ) (t : Task)
-    (d : Direction) (e : Exchange) → slice_get (on_task q f v).tasks p ≡ Some t → WaitsTo d t.condition e
-    → (q ≢ p) × (slice_get v.tasks p ≡ Some t)
-ready_was q f v ready p t d e here waits = on (slice_get v.tasks q) refl here
-  where
-    on : (o : Option Task) → slice_get v.tasks q ≡ o
-        → slice_get (elim o as (λ o. World) [
-          | None ↦ v
-          | Some task ↦ record v { tasks = slice_set v.tasks q (f task) }
-        ]).tasks p ≡ Some t → (q ≢ p) × (slice_get v.tasks p ≡ Some t)
-    on None none here = (
-      (λ e. let x : None ≡ Some t = sym none ∙ (ap (slice_get v.tasks) e ∙ here) in cc),
-      here,
-    )
-    on (Some x) there here = elim (set_either v.tasks q (f x) p t here) [
-      | inl new ↦ absurd (calm_ready t.condition (ap (λ (y : Task). y.condition) new.1 ∙ ready x) d e waits)
-      | inr old ↦ old
-    ]
-
-pub wake_was : (q : ℕ) (v : World) (p : ℕ) (t : Task) (d : Direction) (e : Exchange)
-    → slice_get (wake q v).tasks p ≡ Some t → WaitsTo d t.condition e → (q ≢ p) × (slice_get v.tasks p ≡ Some t)
-wake_was q v p t d e here waits =
-    ready_was q (λ task. record task { condition = Ready }) v (λ x. refl) p t d e here waits
-
--- a process that waits, before another one was roused
-pub rouse_was : (o : Option ℕ) (v : World) (p : ℕ) (t : Task) (d : Direction) (e : Exchange)
-    → slice_get (rouse o v).tasks p ≡ Some t → WaitsTo d t.condition e
-    → (x : Task) × (slice_get v.tasks p ≡ Some x) × WaitsTo d x.condition e
-rouse_was None v p t d e here waits = (t, here, waits)
-rouse_was (Some q) v p t d e here waits = on (slice_get v.tasks q) refl here
-  where
-    enabling : (x : Task) → slice_get v.tasks q ≡ Some x
-        → slice_get (on_task q (λ task. record task { mode = Enabling true }) v).tasks p ≡ Some t
-        → (x : Task) × (slice_get v.tasks p ≡ Some x) × WaitsTo d x.condition e
-    enabling x there here = elim (set_either v.tasks q (record x { mode = Enabling true }) p t
-        (ap (λ (o : Option Task). slice_get (elim o as (λ o. World) [
-          | None ↦ v
-          | Some task ↦ record v { tasks = slice_set v.tasks q (record task { mode = Enabling true }) }
-        ]).tasks p) (sym there) ∙ here)) [
-          | inl new ↦ (
-            x,
-            subst (λ n. slice_get v.tasks n ≡ Some x) new.0 there,
-            subst (λ (y : Task). WaitsTo d y.condition e) new.1 waits,
-          )
-          | inr old ↦ (t, old.1, waits)
-        ]
-
-    on_mode : (x : Task) → slice_get v.tasks q ≡ Some x → (mode : Mode)
-        → slice_get (rouse_enabling q mode v).tasks p ≡ Some t
-        → (x : Task) × (slice_get v.tasks p ≡ Some x) × WaitsTo d x.condition e
-    on_mode x there Plain here = (t, here, waits)
-    on_mode x there (Enabling is_ready) here = enabling x there here
-    on_mode x there (Disabling selection) here = (t, here, waits)
-    on_mode x there Starting here = (t, here, waits)
-
-    on_condition : (x : Task) → slice_get v.tasks q ≡ Some x → (mode : Mode) (c : Condition)
-        → slice_get (rouse_task q mode c v).tasks p ≡ Some t
-        → (x : Task) × (slice_get v.tasks p ≡ Some x) × WaitsTo d x.condition e
-    on_condition x there mode Alternating here = (t, (wake_was q v p t d e here waits).1, waits)
-    on_condition x there mode Ready here = on_mode x there mode here
-    on_condition x there mode (Sending s) here = on_mode x there mode here
-    on_condition x there mode (Receiving s) here = on_mode x there mode here
-    on_condition x there mode (OnLink s done) here = on_mode x there mode here
-    on_condition x there mode Stopped here = on_mode x there mode here
-    on_condition x there mode Ended here = on_mode x there mode here
-
-    on : (o : Option Task) → slice_get v.tasks q ≡ o → slice_get (elim o as (λ o. World) [
-      | None ↦ v
-      | Some task ↦ rouse_task q task.mode task.condition v
-    ]).tasks p ≡ Some t → (x : Task) × (slice_get v.tasks p ≡ Some x) × WaitsTo d x.condition e
-    on None there here = (t, here, waits)
-    on (Some task) there here = on_condition task there task.mode task.condition here
 
 -- ---- channels that stay
 
@@ -257,7 +184,7 @@ holding_now roles p = on (slice_get roles p)
 rouses : (o : Option ℕ) (v : World) → AreRecorded v.tasks v.roles v.channels
     → AreRecorded (rouse o v).tasks (rouse o v).roles (rouse o v).channels
 rouses o v all p t d e here waits =
-    let before = rouse_was o v p t d e here waits in
+    let before = rouse_was (λ c. WaitsTo d c e) (calm_ready Ready refl d e) o v p t here waits in
     let only = rouse_only o v in
     subst (λ (rs : List Role). IsRecorded rs (rouse o v).channels p d e) (sym only.roles)
     (subst (λ (cs : List (Option Channel)). IsRecorded v.roles cs p d e) (sym only.channels)
@@ -339,8 +266,8 @@ module _ (h : Here) (m : Contents) (o : ℕ) (j : Join) (par : Par) (v : World) 
       (join.closed o j par smaller).channels
   closes none p t0 d e at waits =
       let tasks = on_role_tasks o (λ role. record role { opened = None }) over in
-      let before = ready_was o (closed_task j par) smaller (λ x. refl) p t0 d e
-      (ap (λ (ts : List Task). slice_get ts p) (sym tasks) ∙ at) waits in
+      let before = ready_was (λ c. WaitsTo d c e) (calm_ready Ready refl d e) o (closed_task j par) smaller (λ x. refl)
+      p t0 (ap (λ (ts : List Task). slice_get ts p) (sym tasks) ∙ at) waits in
       let x = stays_open p t0 d e before.1 waits in
       let only = on_task_only o (closed_task j par) smaller in
       let at_over = ap (λ (rs : List Role). slice_get rs o) only.roles ∙ at_there h m o j par v r t here is idle in
@@ -476,7 +403,7 @@ module _ (h : Here) (w : World) (runs : w.queue.running ≡ Some h.process)
       → v.channels ≡ slice_set w.channels (cell_of source) (Some (record c { waiting = None }))
       → AreRecorded (wake other v).tasks (wake other v).roles (wake other v).channels
   meets u calm other source c at partner v tasks roles channels p t d e here waits =
-      let woken = wake_was other v p t d e here waits in
+      let woken = wake_was (λ c. WaitsTo d c e) (calm_ready Ready refl d e) other v p t here waits in
       let before = was u calm p t d e (ap (λ (ts : List Task). slice_get ts p) (sym tasks) ∙ woken.1) waits in
       let only = wake_only other v in
       subst (λ (rs : List Role). IsRecorded rs (wake other v).channels p d e) (sym (only.roles ∙ roles))

@@ -8,7 +8,7 @@ ghost use Rattle.machine_state.specs.EventLaws.{EventsCountBytes, FaultsAreKept,
 ghost use Rattle.machine_state.specs.Writing.{StepsWriteOwn, ArrivalsWriteOne, AcknowledgementsWriteNothing};
 ghost use Rattle.machine_state.specs.Seeing.{StepsSeeWhatTheyRead};
 ghost use Rattle.machine_state.specs.Waiting.{LinesAreReady, LinksHaveTheirWaiters, ArrivalsFillBuffers};
-ghost use Rattle.machine_state.specs.Waiting.{BranchesAreCounted};
+ghost use Rattle.machine_state.specs.Waiting.{BranchesAreCounted, OpenersAreStarting};
 ghost use Rattle.machine_state.specs.ChannelLaws.{ChannelsHaveTheirWaiters, WhoWaitsIsRecorded};
 ghost use Rattle.machine_state.specs.EnabledLaws.{WhoEnabledAlternates, WhoMayWaitHasNothingReady};
 ghost use Rattle.machine_state.specs.ApartLaws.{HoldingsStayApart};
@@ -68,11 +68,12 @@ pub fn steps_see_what_they_read()
 
 /// Who runs or waits for its turn is ready, and stands in the line once. Who waits on a link
 /// does wait there. Each live branch is counted by the join that its opener has open; who has a join open is one of its
-/// members, or has done its own endp.
+/// members, or has done its own endp. Until it has, it is starting branches, and nobody else is.
 pub fn waiting_is_in_order()
     ensures lines { LinesAreReady }
     ensures links { LinksHaveTheirWaiters }
     ensures branches { BranchesAreCounted }
+    ensures starters { OpenersAreStarting }
 {}
 
 /// Whoever an internal channel says to wait there does wait there. In all that a module that keeps the format does, a
