@@ -41,3 +41,5 @@ pub mod Modes
 pub mod WhoEnabled
 pub mod WhatIsEnabled
 pub mod WhoStarts
+pub mod OthersHold
+pub mod WhoWaitsOnLinks

@@ -31,4 +31,5 @@ pub mod Seeing
 pub mod Waiting
 pub mod ChannelLaws
 pub mod ApartLaws
+pub mod LinkLaws
 pub mod EnabledLaws

@@ -10,6 +10,7 @@ ghost use Rattle.machine_state.specs.Seeing.{StepsSeeWhatTheyRead};
 ghost use Rattle.machine_state.specs.Waiting.{LinesAreReady, LinksHaveTheirWaiters, ArrivalsFillBuffers};
 ghost use Rattle.machine_state.specs.Waiting.{BranchesAreCounted, OpenersAreStarting};
 ghost use Rattle.machine_state.specs.ChannelLaws.{ChannelsHaveTheirWaiters, WhoWaitsIsRecorded};
+ghost use Rattle.machine_state.specs.LinkLaws.{WhoWaitsOnLinksIsRecorded};
 ghost use Rattle.machine_state.specs.EnabledLaws.{WhoEnabledAlternates, WhoMayWaitHasNothingReady};
 ghost use Rattle.machine_state.specs.ApartLaws.{HoldingsStayApart};
 ghost use Rattle.machine_state.specs.SpanLaws.{RunsCoverTheTest};
@@ -66,12 +67,14 @@ pub fn steps_see_what_they_read()
     ensures { StepsSeeWhatTheyRead }
 {}
 
-/// Who runs or waits for its turn is ready, and stands in the line once. Who waits on a link
-/// does wait there. Each live branch is counted by the join that its opener has open; who has a join open is one of its
+/// Who runs or waits for its turn is ready, and stands in the line once. Whoever a link says to wait there does wait
+/// there; in all that a module that keeps the format does, whoever waits on a link is recorded there, and holds that
+/// end of it. Each live branch is counted by the join that its opener has open; who has a join open is one of its
 /// members, or has done its own endp. Until it has, it is starting branches, and nobody else is.
 pub fn waiting_is_in_order()
     ensures lines { LinesAreReady }
     ensures links { LinksHaveTheirWaiters }
+    ensures recorded { WhoWaitsOnLinksIsRecorded }
     ensures branches { BranchesAreCounted }
     ensures starters { OpenersAreStarting }
 {}
