@@ -43,3 +43,4 @@ pub mod WhatIsEnabled
 pub mod WhoStarts
 pub mod OthersHold
 pub mod WhoWaitsOnLinks
+pub mod EnabledIsHeld

@@ -266,8 +266,8 @@ module _ (h : Here) (m : Contents) (o : ℕ) (j : Join) (par : Par) (v : World) 
         (join.closed o j par smaller).channels
     closes none p t0 d e at waits =
         let tasks = on_role_tasks o (λ role. record role { opened = None }) over in
-        let before = ready_was (λ c. WaitsTo d c e) (calm_ready Ready refl d e) o (closed_task j par) smaller (λ x. refl)
-        p t0 (ap (λ (ts : List Task). slice_get ts p) (sym tasks) ∙ at) waits in
+        let before = ready_was (λ c. WaitsTo d c e) (calm_ready Ready refl d e) o (closed_task j par) smaller
+        (λ x. refl) p t0 (ap (λ (ts : List Task). slice_get ts p) (sym tasks) ∙ at) waits in
         let x = stays_open p t0 d e before.1 waits in
         let only = on_task_only o (closed_task j par) smaller in
         let at_over = ap (λ (rs : List Role). slice_get rs o) only.roles ∙ at_there h m o j par v r t here is idle in

@@ -431,12 +431,12 @@ module _ (h : Here) (w : World) (runs : w.queue.running ≡ Some h.process)
       (on_role_tasks h.process f (ended h l w)))
   moved o v (turns.it_begins l) asks holds =
       calms (record h.from { registers = between h.next l.registers; mode = Enabling false }) _ calm_from holds _ refl
-  moved o v (turns.it_enables guard address l s it_holds (turns.on_channel c inside here) once) asks holds =
+  moved o v (turns.it_enables guard address l s given (turns.on_channel c inside here) once) asks holds =
       calms (record h.from {
         registers = between h.next l.registers;
         mode = ready_or h.from.mode (is_some c.waiting);
       }) _ calm_from holds _ refl
-  moved o v (turns.it_enables guard address l s it_holds (turns.on_link k link on here) once) asks holds =
+  moved o v (turns.it_enables guard address l s given (turns.on_link k link on here) once) asks holds =
       calms_with (record h.from {
         registers = between h.next l.registers;
         mode = ready_or h.from.mode (is_some link.kept);
@@ -454,11 +454,11 @@ module _ (h : Here) (w : World) (runs : w.queue.running ≡ Some h.process)
         mode = Disabling None;
         condition = Alternating;
       }) _ (λ e done is. cc) holds _ refl
-  moved o v (turns.it_disables guard address distance l s it_holds (turns.on_channel c inside here) mine) asks holds =
+  moved o v (turns.it_disables guard address distance l s given (turns.on_channel c inside here) mine) asks holds =
       chooses (with_channel address (record c { enabled = None })) _
       (λ r mode m. calms (record h.from { registers = r; mode = mode }) _ calm_from holds _ refl) (is_some c.waiting)
       distance l
-  moved o v (turns.it_disables guard address distance l s it_holds (turns.on_link k link on here) mine) asks holds =
+  moved o v (turns.it_disables guard address distance l s given (turns.on_link k link on here) mine) asks holds =
       chooses (with_input k (record link { enabled = None })) _
       (λ r mode m. calms_with (record h.from { registers = r; mode = mode }) _ calm_from holds k link
       (record link { enabled = None }) here refl _ refl) (is_some link.kept) distance l

@@ -11,7 +11,7 @@ ghost use Rattle.machine_state.specs.Waiting.{LinesAreReady, LinksHaveTheirWaite
 ghost use Rattle.machine_state.specs.Waiting.{BranchesAreCounted, OpenersAreStarting};
 ghost use Rattle.machine_state.specs.ChannelLaws.{ChannelsHaveTheirWaiters, WhoWaitsIsRecorded};
 ghost use Rattle.machine_state.specs.LinkLaws.{WhoWaitsOnLinksIsRecorded};
-ghost use Rattle.machine_state.specs.EnabledLaws.{WhoEnabledAlternates, WhoMayWaitHasNothingReady};
+ghost use Rattle.machine_state.specs.EnabledLaws.{WhoEnabledAlternates, WhoMayWaitHasNothingReady, WhoEnabledHolds};
 ghost use Rattle.machine_state.specs.ApartLaws.{HoldingsStayApart};
 ghost use Rattle.machine_state.specs.SpanLaws.{RunsCoverTheTest};
 ghost use Rattle.machine_state.specs.SmallModules.{FirstEnds, JumpEnds, SlicedJumpEnds, CallEnds, LoopEnds};
@@ -82,12 +82,14 @@ pub fn waiting_is_in_order()
 /// Whoever an internal channel says to wait there does wait there. In all that a module that keeps the format does, a
 /// process that waits on an internal channel is recorded there and at no other channel, and holds that end of it.
 /// Whoever has enabled a channel or a link enables, waits or disables; while it waits, or enables and is not ready,
-/// nothing that it has enabled has a sender or a byte.
+/// nothing that it has enabled has a sender or a byte. Where the module keeps the format, it holds what it has enabled,
+/// and nobody else waits there to receive.
 pub fn channels_are_in_order()
     ensures waiters { ChannelsHaveTheirWaiters }
     ensures recorded { WhoWaitsIsRecorded }
     ensures enabled { WhoEnabledAlternates }
     ensures quiet { WhoMayWaitHasNothingReady }
+    ensures held { WhoEnabledHolds }
 {}
 
 /// Whatever a module that keeps the format does, no two processes hold the same, and nobody holds the blocks of open
