@@ -1,6 +1,6 @@
 -- What is enabled is held by who has enabled it, so that nobody else receives there.
 use Rattle.std.proofs.Common.{◌≡◌, ◌≢◌, ℕ, zero, suc, ◌+◌, ◌%◌, ◌^◌, ◌<◌, Bool, true, false, if◌then◌else◌}
-use Rattle.std.proofs.Common.{◌⊎◌, inl, inr, ℤ, pos, List, length, Option, Some, None, is_some, refl}
+use Rattle.std.proofs.Common.{◌⊎◌, inl, inr, List, length, Option, Some, None, is_some, refl}
 use Rattle.std.proofs.Common.{sym, ap, ◌∙◌, subst, slice_get, arith, replicate}
 use Rattle.std.proofs.lemmas.Bool.{cases_eq}
 use Rattle.std.specs.Prelude.{◌==◌, filter, not, slice_set}
@@ -13,7 +13,7 @@ use Rattle.machine_state.specs.declared.link.InputLink.{InputLink}
 use Rattle.machine_state.specs.declared.process.Channel.{Channel}
 use Rattle.machine_state.specs.declared.process.Task.{Task}
 use Rattle.machine_state.specs.declared.process.Mode.{Mode}
-use Rattle.machine_state.specs.declared.process.Mode.TheVariants.{Disabling, Starting}
+use Rattle.machine_state.specs.declared.process.Mode.TheVariants.{Starting}
 use Rattle.machine_state.specs.declared.process.Condition.{Condition}
 use Rattle.machine_state.specs.declared.process.Condition.TheVariants.{Ready, Sending, Receiving, OnLink, Alternating}
 use Rattle.machine_state.specs.declared.process.Condition.TheVariants.{Stopped, Ended}
@@ -23,12 +23,11 @@ use Rattle.machine_state.specs.Holding.{Holding, nothing, has_end}
 use Rattle.machine_state.specs.World.{World, Role, Join, Links, holding_at, loaded, input_word}
 use Rattle.machine_state.specs.Apart.{AllApart}
 use Rattle.machine_state.specs.Site.{Local, Outcome}
-use Rattle.machine_state.specs.LocalStep.{copied, with_a_alone}
+use Rattle.machine_state.specs.LocalStep.{copied}
 use Rattle.machine_state.specs.Moves.{put, on_task, wake, leave, dispatch, rouse, cell_of, fill, fill_condition}
 use Rattle.machine_state.specs.Moves.{with_condition, link_index, with_channel, with_input, with_output, channel_at}
 use Rattle.machine_state.specs.Turn.{Here, Turn, at_here, between, continued}
 use Rattle.machine_state.specs.Exchanges.{waits_at}
-use Rattle.machine_state.specs.Alternations.{chosen, selected, in_mode}
 use Rattle.machine_state.specs.Joins as join
 use Rattle.machine_state.specs.Joins.{joined, closed_task, started, on_role, opened, ended, given_back, later_plan}
 use Rattle.machine_state.specs.Joins.{Plan, Found, join_after, without_words, scheduling_addresses, without_channels}
@@ -40,7 +39,7 @@ use Rattle.machine_state.specs.EnabledLaws.{IsSending, WhoEnabledHolds}
 use Rattle.prefix_decoder.specs.Functions.{nibble}
 use Rattle.prefix_decoder.specs.Operand.{with_nibble}
 use Rattle.machine_state.proofs.Lines.{set_either}
-use Rattle.machine_state.proofs.Moving.{wake_only, rouse_only, on_task_only}
+use Rattle.machine_state.proofs.Moving.{wake_only, rouse_only, on_task_only, chosen_only}
 use Rattle.machine_state.proofs.EveryInstruction.{each_step}
 use Rattle.machine_state.proofs.Turns as turns
 use Rattle.machine_state.proofs.Turns.{Moved, Ends, Happened, local_here, turn_happens}
@@ -184,26 +183,6 @@ module _ (h : Here) (w : World) (there : slice_get w.tasks h.process ≡ Some h.
   input_goes v holds n new kept channels inputs =
       goes v.roles v.channels v.links.inputs holds (same_cells w v.roles v.channels channels)
       (input_set w v.roles n new kept v.links.inputs inputs)
-
-  -- what is selected makes no difference
-  chosen_channels : (is_ready : Bool) (distance : ℤ) (l : Local)
-      → (chosen h is_ready distance l w).channels ≡ w.channels
-  chosen_channels is_ready distance l = on (selected h.from.mode is_ready distance)
-    where
-      on : (b : Bool) → (if b
-          then in_mode h (Disabling (Some distance)) (with_a_alone (Some (pos 1)) l) w
-          else continued h h.next (with_a_alone (Some (pos 0)) l) w).channels ≡ w.channels
-      on true = refl
-      on false = refl
-
-  chosen_links : (is_ready : Bool) (distance : ℤ) (l : Local) → (chosen h is_ready distance l w).links ≡ w.links
-  chosen_links is_ready distance l = on (selected h.from.mode is_ready distance)
-    where
-      on : (b : Bool) → (if b
-          then in_mode h (Disabling (Some distance)) (with_a_alone (Some (pos 1)) l) w
-          else continued h h.next (with_a_alone (Some (pos 0)) l) w).links ≡ w.links
-      on true = refl
-      on false = refl
 
   -- a branch starts
   starts : (plan : Plan) (found : Found) (workspace : ℕ) (l : Local) (v : World) → v.links ≡ w.links
@@ -349,16 +328,16 @@ module _ (h : Here) (w : World) (there : slice_get w.tasks h.process ≡ Some h.
       let new : Channel = record c { enabled = None } in
       cell_goes v holds (cell_of address) (record c { enabled = None }) (λ p by. never p by)
       (ap (λ (cs : List (Option Channel)). slice_set cs (cell_of address) (Some new))
-      (chosen_channels (is_some c.waiting) distance l)) (chosen_links (is_some c.waiting) distance l)
+      (chosen_only h (is_some c.waiting) distance l w).channels) (chosen_only h (is_some c.waiting) distance l w).links
   moved o v (turns.it_disables guard address distance l s given (turns.on_link k link on here) mine) asks holds =
       let new : InputLink = record link { enabled = None } in
       input_goes v holds k (record link { enabled = None }) (λ p by. never p by)
-      (chosen_channels (is_some link.kept) distance l)
-      (ap (λ (ls : Links). slice_set ls.inputs k new) (chosen_links (is_some link.kept) distance l))
+      (chosen_only h (is_some link.kept) distance l w).channels
+      (ap (λ (ls : Links). slice_set ls.inputs k new) (chosen_only h (is_some link.kept) distance l w).links)
   moved o v (turns.it_disables_nothing guard address distance l off) asks holds =
-      stays v holds (chosen_channels false distance l) (chosen_links false distance l)
+      stays v holds (chosen_only h false distance l w).channels (chosen_only h false distance l w).links
   moved o v (turns.it_disables_a_skip guard distance l) asks holds =
-      stays v holds (chosen_channels guard distance l) (chosen_links guard distance l)
+      stays v holds (chosen_only h guard distance l w).channels (chosen_only h guard distance l w).links
   moved o v (turns.it_ends_alternation to l none) asks holds = stays v holds refl refl
 
   end_is_held : (o : Outcome) (t : Turn) → Ends h w o t → AsksHeld (site_of h w) o → HoldOn h w t.world.roles

@@ -44,3 +44,4 @@ pub mod WhoStarts
 pub mod OthersHold
 pub mod WhoWaitsOnLinks
 pub mod EnabledIsHeld
+pub mod ReadyStays

@@ -1,5 +1,5 @@
 -- What a process holds that neither runs nor has ended stays as it is, and so does what one in an alternation holds.
-use Rattle.std.proofs.Common.{◌≡◌, ◌≢◌, ℕ, Bool, true, false, if◌then◌else◌, ℤ, pos}
+use Rattle.std.proofs.Common.{◌≡◌, ◌≢◌, ℕ, Bool, true, false, if◌then◌else◌}
 use Rattle.std.proofs.Common.{List, length, Option, Some, None, is_some, refl, sym, ap, ◌∙◌, subst}
 use Rattle.std.proofs.Common.{slice_get, arith}
 use Rattle.std.proofs.lemmas.List.{length-set}
@@ -7,23 +7,22 @@ use Rattle.std.proofs.lemmas.Option.{slice_get_within}
 use Rattle.std.specs.Prelude.{◌==◌, filter, not, slice_set}
 use Rattle.module_format.specs.Contents.{Par}
 use Rattle.machine_state.specs.declared.process.Task.{Task}
-use Rattle.machine_state.specs.declared.process.Mode.TheVariants.{Disabling, Starting}
+use Rattle.machine_state.specs.declared.process.Mode.TheVariants.{Starting}
 use Rattle.machine_state.specs.declared.process.Condition.TheVariants.{Sending, Ended}
 use Rattle.machine_state.specs.Memory.{place_of}
 use Rattle.machine_state.specs.Holding.{Holding, nothing}
 use Rattle.machine_state.specs.World.{World, Role, Join, held, holding_at}
 use Rattle.machine_state.specs.Site.{Local, Outcome}
-use Rattle.machine_state.specs.LocalStep.{copied, with_a_alone}
+use Rattle.machine_state.specs.LocalStep.{copied}
 use Rattle.machine_state.specs.Moves.{put, on_task, leave, dispatch, with_channel}
 use Rattle.machine_state.specs.Turn.{Here, Turn, between, continued}
 use Rattle.machine_state.specs.Exchanges.{waits_at}
-use Rattle.machine_state.specs.Alternations.{chosen, selected, in_mode}
 use Rattle.machine_state.specs.Joins as join
 use Rattle.machine_state.specs.Joins.{joined, closed_task, started, on_role, opened, ended, given_back, later_plan}
 use Rattle.machine_state.specs.Joins.{Plan, Found, join_after, without_words, scheduling_addresses, holding_of}
 use Rattle.machine_state.specs.Joins.{share_by}
 use Rattle.machine_state.proofs.Lines.{got_set, got_other}
-use Rattle.machine_state.proofs.Moving.{wake_only, rouse_only, on_task_only}
+use Rattle.machine_state.proofs.Moving.{wake_only, rouse_only, on_task_only, chosen_only}
 use Rattle.machine_state.proofs.Turns as turns
 use Rattle.machine_state.proofs.Turns.{Moved, Ends}
 use Rattle.machine_state.proofs.Waiting.{WaitsIn, has_role}
@@ -90,16 +89,6 @@ module _ (h : Here) (w : World) (there : slice_get w.tasks h.process ≡ Some h.
     others = λ p t here differ alive. ap (λ (rs : List Role). holding_at rs p) roles;
     itself = λ inside. roles;
   }
-
-  -- what is selected makes no difference
-  chosen_roles : (is_ready : Bool) (distance : ℤ) (l : Local) → (chosen h is_ready distance l w).roles ≡ w.roles
-  chosen_roles is_ready distance l = on (selected h.from.mode is_ready distance)
-    where
-      on : (b : Bool) → (if b
-          then in_mode h (Disabling (Some distance)) (with_a_alone (Some (pos 1)) l) w
-          else continued h h.next (with_a_alone (Some (pos 0)) l) w).roles ≡ w.roles
-      on true = refl
-      on false = refl
 
   -- a branch starts
   starts : IsOutside h.from.mode → (plan : Plan) (found : Found) (workspace : ℕ) (l : Local) (v : World) (r : Role)
@@ -203,11 +192,12 @@ module _ (h : Here) (w : World) (there : slice_get w.tasks h.process ≡ Some h.
   moved o v (turns.it_is_ready l is) fits = same _ refl
   moved o v (turns.it_waits l is) fits = same _ refl
   moved o v (turns.it_disables guard address distance l s holds (turns.on_channel c inside here) mine) fits =
-      same _ (chosen_roles (is_some c.waiting) distance l)
+      same _ (chosen_only h (is_some c.waiting) distance l w).roles
   moved o v (turns.it_disables guard address distance l s holds (turns.on_link k link on here) mine) fits =
-      same _ (chosen_roles (is_some link.kept) distance l)
-  moved o v (turns.it_disables_nothing guard address distance l off) fits = same _ (chosen_roles false distance l)
-  moved o v (turns.it_disables_a_skip guard distance l) fits = same _ (chosen_roles guard distance l)
+      same _ (chosen_only h (is_some link.kept) distance l w).roles
+  moved o v (turns.it_disables_nothing guard address distance l off) fits =
+      same _ (chosen_only h false distance l w).roles
+  moved o v (turns.it_disables_a_skip guard distance l) fits = same _ (chosen_only h guard distance l w).roles
   moved o v (turns.it_ends_alternation to l none) fits = same _ refl
 
   pub others_hold : (o : Outcome) (t : Turn) → Ends h w o t → Fits h.from.mode o → HoldOn h w t.world.roles

@@ -12,6 +12,7 @@ ghost use Rattle.machine_state.specs.Waiting.{BranchesAreCounted, OpenersAreStar
 ghost use Rattle.machine_state.specs.ChannelLaws.{ChannelsHaveTheirWaiters, WhoWaitsIsRecorded};
 ghost use Rattle.machine_state.specs.LinkLaws.{WhoWaitsOnLinksIsRecorded};
 ghost use Rattle.machine_state.specs.EnabledLaws.{WhoEnabledAlternates, WhoMayWaitHasNothingReady, WhoEnabledHolds};
+ghost use Rattle.machine_state.specs.EnabledLaws.{WhatIsReadyStays};
 ghost use Rattle.machine_state.specs.ApartLaws.{HoldingsStayApart};
 ghost use Rattle.machine_state.specs.SpanLaws.{RunsCoverTheTest};
 ghost use Rattle.machine_state.specs.SmallModules.{FirstEnds, JumpEnds, SlicedJumpEnds, CallEnds, LoopEnds};
@@ -83,13 +84,15 @@ pub fn waiting_is_in_order()
 /// process that waits on an internal channel is recorded there and at no other channel, and holds that end of it.
 /// Whoever has enabled a channel or a link enables, waits or disables; while it waits, or enables and is not ready,
 /// nothing that it has enabled has a sender or a byte. Where the module keeps the format, it holds what it has enabled,
-/// and nobody else waits there to receive.
+/// and nobody else waits there to receive. What is enabled and has a sender or a byte keeps it, and stays enabled until
+/// its owner disables it.
 pub fn channels_are_in_order()
     ensures waiters { ChannelsHaveTheirWaiters }
     ensures recorded { WhoWaitsIsRecorded }
     ensures enabled { WhoEnabledAlternates }
     ensures quiet { WhoMayWaitHasNothingReady }
     ensures held { WhoEnabledHolds }
+    ensures kept { WhatIsReadyStays }
 {}
 
 /// Whatever a module that keeps the format does, no two processes hold the same, and nobody holds the blocks of open
