@@ -43,5 +43,6 @@ pub mod WhatIsEnabled
 pub mod WhoStarts
 pub mod OthersHold
 pub mod WhoWaitsOnLinks
+pub mod WaitingOnce
 pub mod EnabledIsHeld
 pub mod ReadyStays

@@ -1246,7 +1246,7 @@ module _ (h : Here) (w : World) (runs : w.queue.running ≡ Some h.process)
 -- ---- the other events
 
 -- who waits on two links waits on one
-same_link : (tasks : List Task) (p word other : ℕ) → WaitsOn tasks p word → WaitsOn tasks p other → word ≡ other
+pub same_link : (tasks : List Task) (p word other : ℕ) → WaitsOn tasks p word → WaitsOn tasks p other → word ≡ other
 same_link tasks p word other x y =
     let same : x.task ≡ y.task = only_one (slice_get tasks p) x.task y.task x.here y.here in
     let is : OnLink x.exchange x.done ≡ OnLink y.exchange y.done =

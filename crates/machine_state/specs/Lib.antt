@@ -32,4 +32,5 @@ pub mod Waiting
 pub mod ChannelLaws
 pub mod ApartLaws
 pub mod LinkLaws
+pub mod WaitingOnce
 pub mod EnabledLaws

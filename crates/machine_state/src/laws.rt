@@ -13,6 +13,7 @@ ghost use Rattle.machine_state.specs.ChannelLaws.{ChannelsHaveTheirWaiters, WhoW
 ghost use Rattle.machine_state.specs.LinkLaws.{WhoWaitsOnLinksIsRecorded};
 ghost use Rattle.machine_state.specs.EnabledLaws.{WhoEnabledAlternates, WhoMayWaitHasNothingReady, WhoEnabledHolds};
 ghost use Rattle.machine_state.specs.EnabledLaws.{WhatIsReadyStays};
+ghost use Rattle.machine_state.specs.WaitingOnce.{NobodyWaitsTwice, NoTwoWaitTogether};
 ghost use Rattle.machine_state.specs.ApartLaws.{HoldingsStayApart};
 ghost use Rattle.machine_state.specs.SpanLaws.{RunsCoverTheTest};
 ghost use Rattle.machine_state.specs.SmallModules.{FirstEnds, JumpEnds, SlicedJumpEnds, CallEnds, LoopEnds};
@@ -93,6 +94,13 @@ pub fn channels_are_in_order()
     ensures quiet { WhoMayWaitHasNothingReady }
     ensures held { WhoEnabledHolds }
     ensures kept { WhatIsReadyStays }
+{}
+
+/// A process that waits for a message is recorded at one channel or link. In all that a module that keeps the format
+/// does, no other one waits on the same.
+pub fn nobody_waits_twice()
+    ensures places { NobodyWaitsTwice }
+    ensures alone { NoTwoWaitTogether }
 {}
 
 /// Whatever a module that keeps the format does, no two processes hold the same, and nobody holds the blocks of open
