@@ -1,5 +1,5 @@
 -- Holdings stay apart in every world that a list of events leads to.
-use Rattle.std.proofs.Common.{◌≡◌, ◌≢◌, ℕ, zero, suc, ◌+◌, ◌*◌, ◌/◌, ◌%◌, ◌^◌, ◌<◌, ◌≤◌, Bool, true, false, ◌⊎◌, inl}
+use Rattle.std.proofs.Common.{◌≡◌, ◌≢◌, ℕ, zero, suc, ◌+◌, ◌*◌, ◌/◌, ◌%◌, ◌^◌, ◌<◌, ◌≤◌, Bool, true, false, inl}
 use Rattle.std.proofs.Common.{inr}
 use Rattle.std.proofs.Common.{if◌then◌else◌, ℤ, pos, List, [], ◌∷◌, ◌++◌, length, Option, Some, None, is_some, refl}
 use Rattle.std.proofs.Common.{sym}
@@ -55,7 +55,7 @@ use Rattle.machine_state.specs.Happens.{site_of, turn, world_after}
 use Rattle.machine_state.specs.ChannelLaws.{HaveTheirWaiters}
 use Rattle.prefix_decoder.specs.Functions.{nibble}
 use Rattle.prefix_decoder.specs.Operand.{with_nibble}
-use Rattle.machine_state.proofs.Lines.{got_other, got_either}
+use Rattle.machine_state.proofs.Lines.{got_other, got_either, got_within, set_either}
 use Rattle.machine_state.proofs.Moving.{wake_only, rouse_only, on_task_only}
 use Rattle.machine_state.proofs.Combining.{and_true}
 use Rattle.machine_state.proofs.SpanLaws.{or_true}
@@ -171,20 +171,11 @@ evens s r old = record {
   at_ends_alternation = λ to r m n k. k.1;
 }
 
--- what stands there after one was set: the new one, or what stood there
-set_one : {A : Type 0} (xs : List A) (k : ℕ) (y : A) (j : ℕ) (x : A) → slice_get (slice_set xs k y) j ≡ Some x
-    → (x ≡ y) ⊎ (slice_get xs j ≡ Some x)
-set_one [] k y j x is = absurd (cc)
-set_one (z ∷ zs) zero y zero x is = inl (let e : y ≡ x = cc in sym e)
-set_one (z ∷ zs) zero y (suc j) x is = inr is
-set_one (z ∷ zs) (suc k) y zero x is = inr is
-set_one (z ∷ zs) (suc k) y (suc j) x is = set_one zs k y j x is
-
 even_set : (tasks : List Task) (q : ℕ) (u : Task) → u.registers.workspace % 4 ≡ 0 → AllEven tasks
     → AllEven (slice_set tasks q u)
-even_set tasks q u even all p t here = elim (set_one tasks q u p t here) [
-  | inl e ↦ subst (λ (x : Task). x.registers.workspace % 4 ≡ 0) (sym e) even
-  | inr old ↦ all p t old
+even_set tasks q u even all p t here = elim (set_either tasks q u p t here) [
+  | inl it ↦ subst (λ (x : Task). x.registers.workspace % 4 ≡ 0) (sym it.1) even
+  | inr old ↦ all p t old.1
 ]
 
 even_push : (tasks : List Task) (u : Task) → u.registers.workspace % 4 ≡ 0 → AllEven tasks
@@ -239,11 +230,6 @@ pub record Stands (m : Contents) (w : World) : Type 0 where
   pub holders : HoldersIn m w.roles w.channels
   pub size : length w.channels ≡ m.data_words
   pub even : AllEven w.tasks
-
-got_within : {A : Type 0} (xs : List A) (p : ℕ) → p < length xs → (x : A) × (slice_get xs p ≡ Some x)
-got_within [] p low = absurd (omega (arith, low))
-got_within (x ∷ xs) zero low = (x, refl)
-got_within (x ∷ xs) (suc p) low = got_within xs p (omega (arith, low))
 
 -- roles and channels are as they were
 unchanged : (m : Contents) (w v : World) → Stands m w → v.roles ≡ w.roles → v.channels ≡ w.channels → AllEven v.tasks

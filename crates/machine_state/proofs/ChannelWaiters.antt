@@ -41,7 +41,7 @@ use Rattle.machine_state.specs.Waiting.{IsOver, is_member, AllReady, line_of}
 use Rattle.machine_state.specs.Happens.{turn, world_after}
 use Rattle.machine_state.specs.ChannelLaws.{WaitsAt, HaveTheirWaiters, ChannelsHaveTheirWaiters}
 use Rattle.machine_state.proofs.SpanLaws.{or_true}
-use Rattle.machine_state.proofs.Lines.{got_set, got_other, got_before}
+use Rattle.machine_state.proofs.Lines.{got_set, got_other, got_before, set_either}
 use Rattle.machine_state.proofs.Moving.{wake_only, rouse_only, on_task_only}
 use Rattle.machine_state.proofs.Among.{IsAmong, filter_keeps, none_among}
 use Rattle.machine_state.proofs.Claims.{only_one}
@@ -51,20 +51,6 @@ use Rattle.machine_state.proofs.Waiting.{WaitsIn, reached}
 use Rattle.machine_state.proofs.EveryWorld.{every_world}
 use Rattle.machine_state.proofs.EndedApart.{on_role_tasks, on_role_channels, is_not}
 use Rattle.machine_state.proofs.Roles.{told_of}
-
--- ---- a list in which one was set
-
--- what stands there: the new one, at its place, or what stood there, at another
-pub set_either : {A : Type 0} (xs : List A) (k : ℕ) (y : A) (j : ℕ) (x : A) → slice_get (slice_set xs k y) j ≡ Some x
-    → ((k ≡ j) × (x ≡ y)) ⊎ ((k ≢ j) × (slice_get xs j ≡ Some x))
-set_either [] k y j x is = absurd (cc)
-set_either (z ∷ zs) zero y zero x is = inl (refl, let e : y ≡ x = cc in sym e)
-set_either (z ∷ zs) zero y (suc j) x is = inr ((λ e. omega (arith, e)), is)
-set_either (z ∷ zs) (suc k) y zero x is = inr ((λ e. omega (arith, e)), is)
-set_either (z ∷ zs) (suc k) y (suc j) x is = elim (set_either zs k y j x is) [
-  | inl new ↦ inl (ap suc new.0, new.1)
-  | inr old ↦ inr ((λ e. old.0 (omega (arith, e))), old.1)
-]
 
 -- ---- the channels of a world
 

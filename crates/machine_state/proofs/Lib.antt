@@ -15,6 +15,7 @@ pub mod Defined
 pub mod Agreeing
 pub mod Seeing
 pub mod Lines
+pub mod Waking
 pub mod Waiting
 pub mod Copying
 pub mod NormalSpans
@@ -38,3 +39,9 @@ pub mod WhoWaits
 pub mod Modes
 pub mod WhoEnabled
 pub mod WhatIsEnabled
+pub mod WhoStarts
+pub mod OthersHold
+pub mod WhoWaitsOnLinks
+pub mod WaitingOnce
+pub mod EnabledIsHeld
+pub mod ReadyStays

@@ -23,6 +23,23 @@ got_other (z ∷ zs) zero (suc q) y differ = refl
 got_other (z ∷ zs) (suc p) zero y differ = refl
 got_other (z ∷ zs) (suc p) (suc q) y differ = got_other zs p q y (λ e. differ (ap suc e))
 
+pub got_within : {A : Type 0} (xs : List A) (p : ℕ) → p < length xs → (x : A) × (slice_get xs p ≡ Some x)
+got_within [] p low = absurd (omega (arith, low))
+got_within (x ∷ xs) zero low = (x, refl)
+got_within (x ∷ xs) (suc p) low = got_within xs p (omega (arith, low))
+
+-- what stands there after one was set: the new one, at its place, or what stood there, at another
+pub set_either : {A : Type 0} (xs : List A) (k : ℕ) (y : A) (j : ℕ) (x : A) → slice_get (slice_set xs k y) j ≡ Some x
+    → ((k ≡ j) × (x ≡ y)) ⊎ ((k ≢ j) × (slice_get xs j ≡ Some x))
+set_either [] k y j x is = absurd (cc)
+set_either (z ∷ zs) zero y zero x is = inl (refl, let e : y ≡ x = cc in sym e)
+set_either (z ∷ zs) zero y (suc j) x is = inr ((λ e. omega (arith, e)), is)
+set_either (z ∷ zs) (suc k) y zero x is = inr ((λ e. omega (arith, e)), is)
+set_either (z ∷ zs) (suc k) y (suc j) x is = elim (set_either zs k y j x is) [
+  | inl new ↦ inl (ap suc new.0, new.1)
+  | inr old ↦ inr ((λ e. old.0 (omega (arith, e))), old.1)
+]
+
 -- ---- the line
 
 pub ready_same : (tasks : List Task) (p : ℕ) (t : Task) (q : ℕ) → t.condition ≡ Ready → IsReadyAt tasks q

@@ -1,16 +1,20 @@
 -- What the moves of processes leave alone.
-use Rattle.std.proofs.Common.{◌≡◌, ℕ, Bool, true, false, if◌then◌else◌, List, length, Option, Some, None, refl}
+use Rattle.std.proofs.Common.{◌≡◌, ℕ, ℤ, pos, Bool, true, false, if◌then◌else◌, List, length, Option, Some, None}
+use Rattle.std.proofs.Common.{refl}
 use Rattle.std.proofs.Common.{◌∙◌, slice_get}
 use Rattle.std.proofs.lemmas.List.{length-set}
 use Rattle.std.specs.Prelude.{◌==◌, filter, not, slice_set}
 use Rattle.module_format.specs.Contents.{Par}
 use Rattle.machine_state.specs.declared.process.Task.{Task}
 use Rattle.machine_state.specs.declared.process.Mode.{Mode}
-use Rattle.machine_state.specs.declared.process.Mode.TheVariants.{Enabling}
+use Rattle.machine_state.specs.declared.process.Mode.TheVariants.{Enabling, Disabling}
 use Rattle.machine_state.specs.declared.process.Condition.{Condition}
 use Rattle.machine_state.specs.declared.process.Condition.TheVariants.{Ready, Alternating}
 use Rattle.machine_state.specs.World.{World, Join, Role}
-use Rattle.machine_state.specs.Turn.{Here}
+use Rattle.machine_state.specs.Site.{Local}
+use Rattle.machine_state.specs.LocalStep.{with_a_alone}
+use Rattle.machine_state.specs.Turn.{Here, continued}
+use Rattle.machine_state.specs.Alternations.{chosen, selected, in_mode}
 use Rattle.machine_state.specs.Moves.{on_task, wake, rouse, rouse_enabling, rouse_task}
 use Rattle.machine_state.specs.Moves.{dispatch, leave}
 use Rattle.machine_state.specs.Joins.{on_role, joined, closed_task}
@@ -81,6 +85,22 @@ rouse_only (Some p) w = on (slice_get w.tasks p)
         → OnlyTasks w (elim o [ None ↦ w | Some task ↦ rouse_task p task.mode task.condition w ])
     on None = nothing_changes w
     on (Some task) = on_condition task.mode task.condition
+
+-- what is selected makes a difference to the process and to memory alone
+pub record OnlySelected (w after : World) : Type 0 where
+  pub roles : after.roles ≡ w.roles
+  pub links : after.links ≡ w.links
+  pub channels : after.channels ≡ w.channels
+
+pub chosen_only : (h : Here) (is_ready : Bool) (distance : ℤ) (l : Local) (w : World)
+    → OnlySelected w (chosen h is_ready distance l w)
+chosen_only h is_ready distance l w = on (selected h.from.mode is_ready distance)
+  where
+    on : (b : Bool) → OnlySelected w (if b
+        then in_mode h (Disabling (Some distance)) (with_a_alone (Some (pos 1)) l) w
+        else continued h h.next (with_a_alone (Some (pos 0)) l) w)
+    on true = record { roles = refl; links = refl; channels = refl }
+    on false = record { roles = refl; links = refl; channels = refl }
 
 -- neither memory nor the counters have changed
 pub record Quiet (w after : World) : Type 0 where

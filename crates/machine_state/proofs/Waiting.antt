@@ -44,11 +44,10 @@ use Rattle.machine_state.proofs.SpanLaws.{or_true, or_left, or_right}
 use Rattle.machine_state.specs.Waiting.{IsReadyAt, AllReady, IsAbsent, line, Line, WaitsOn, Waiters}
 use Rattle.machine_state.proofs.EveryInstruction.{each_step}
 use Rattle.machine_state.proofs.Writing.{Message, messages}
-use Rattle.machine_state.proofs.Lines.{got_set, got_other, all_ready_without, absent_by_condition, push_line}
+use Rattle.machine_state.proofs.Claims.{only_one}
+use Rattle.machine_state.proofs.Lines.{got_set, got_other, got_within, set_either, all_ready_without}
+use Rattle.machine_state.proofs.Lines.{absent_by_condition, push_line}
 use Rattle.machine_state.proofs.Lines.{pick_line, got_before, got_last, got_either, all_ready_before, new_absent}
-
-same_some : {A : Type 0} (o : Option A) (x y : A) → o ≡ Some x → o ≡ Some y → x ≡ y
-same_some {A} o x y p q = let e : Some x ≡ Some y = sym p ∙ q in cc
 
 is_itself : (n : ℕ) → (n == n) ≡ true
 is_itself n = on (n == n) refl
@@ -57,22 +56,10 @@ is_itself n = on (n == n) refl
     on true e = e
     on false e = absurd (eqb-false n n e refl)
 
--- what stands in a list after one was set: that, or what stood there
-set_tells : {A : Type 0} (xs : List A) (k : ℕ) (y : A) (j : ℕ) (x : A) → slice_get (slice_set xs k y) j ≡ Some x
-    → ((k ≡ j) × (x ≡ y)) ⊎ ((k ≢ j) × (slice_get xs j ≡ Some x))
-set_tells [] k y j x h = absurd (cc)
-set_tells (z ∷ zs) zero y zero x h = inl (refl, let e : y ≡ x = cc in sym e)
-set_tells (z ∷ zs) zero y (suc j) x h = inr ((λ e. omega arith), h)
-set_tells (z ∷ zs) (suc k) y zero x h = inr ((λ e. omega arith), h)
-set_tells (z ∷ zs) (suc k) y (suc j) x h = elim (set_tells zs k y j x h) [
-  | inl e ↦ inl (ap suc e.0, e.1)
-  | inr old ↦ inr ((λ e. old.0 (omega arith)), old.1)
-]
-
 -- ---- what holds besides the line
 
 pub record Rest (tasks : List Task) (roles : List Role) (links : Links) : Type 0 where
-  pub few : length links.outputs ≤ 4
+  pub four : length links.outputs ≡ 4
   pub waiters : Waiters tasks links
   pub joins : (p : ℕ) (r : Role) (j : Join) → slice_get roles p ≡ Some r → r.opened ≡ Some j → Opens tasks p j
   pub counted : (p : ℕ) (r : Role) (o : ℕ) → slice_get roles p ≡ Some r → r.opener ≡ Some o
@@ -105,7 +92,7 @@ module _ (tasks : List Task) (q : ℕ) (t u : Task) (here : slice_get tasks q �
   changed_here p e = subst (λ n. slice_get (slice_set tasks q u) n ≡ Some u) e (got_set tasks q t u here)
 
   it_was : (p : ℕ) (x : Task) → q ≡ p → slice_get tasks p ≡ Some x → t.condition ≡ x.condition
-  it_was p x e there = ap (λ (v : Task). v.condition) (same_some (slice_get tasks p) t x
+  it_was p x e there = ap (λ (v : Task). v.condition) (only_one (slice_get tasks p) t x
       (subst (λ n. slice_get tasks n ≡ Some t) e here) there)
 
   waits_after : ((e : Exchange) (done : ℕ) → t.condition ≡ OnLink e done → u.condition ≡ OnLink e done)
@@ -170,7 +157,7 @@ module _ (tasks : List Task) (q : ℕ) (t u : Task) (here : slice_get tasks q �
   rest_after : (roles : List Role) (links : Links) → Calm t.condition u.condition → Rest tasks roles links
       → Rest (slice_set tasks q u) roles links
   rest_after roles links calm r = record {
-    few = r.few;
+    four = r.four;
     waiters = record {
       inputs = λ k l p a b. waits_after calm.link p (input_word k) (r.waiters.inputs k l p a b);
       outputs = λ k l p a b. waits_after calm.link p (output_word k) (r.waiters.outputs k l p a b);
@@ -187,9 +174,9 @@ rest_input : (tasks : List Task) (roles : List Role) (links : Links) (k : ℕ) (
     → ((p : ℕ) → l.waiting ≡ Some p → WaitsOn tasks p (input_word k)) → Rest tasks roles links
     → Rest tasks roles (record links { inputs = slice_set links.inputs k l })
 rest_input tasks roles links k l waits r = record {
-  few = r.few;
+  four = r.four;
   waiters = record {
-    inputs = λ j x p a b. elim (set_tells links.inputs k l j x a) [
+    inputs = λ j x p a b. elim (set_either links.inputs k l j x a) [
       | inl e ↦ subst (λ n. WaitsOn tasks p (input_word n)) e.0
           (waits p (ap (λ (i : InputLink). i.waiting) (sym e.1) ∙ b))
       | inr old ↦ r.waiters.inputs j x p old.1 b
@@ -206,10 +193,10 @@ rest_output : (tasks : List Task) (roles : List Role) (links : Links) (k : ℕ) 
     → ((p : ℕ) → l.waiting ≡ Some p → WaitsOn tasks p (output_word k)) → Rest tasks roles links
     → Rest tasks roles (record links { outputs = slice_set links.outputs k l })
 rest_output tasks roles links k l waits r = record {
-  few = (let same = length-set links.outputs k l in let few = r.few in omega arith);
+  four = length-set links.outputs k l ∙ r.four;
   waiters = record {
     inputs = r.waiters.inputs;
-    outputs = λ j x p a b. elim (set_tells links.outputs k l j x a) [
+    outputs = λ j x p a b. elim (set_either links.outputs k l j x a) [
       | inl e ↦ subst (λ n. WaitsOn tasks p (output_word n)) e.0
           (waits p (ap (λ (i : OutputLink). i.waiting) (sym e.1) ∙ b))
       | inr old ↦ r.waiters.outputs j x p old.1 b
@@ -236,19 +223,19 @@ rest_role : (tasks : List Task) (roles : List Role) (links : Links) (q : ℕ) (r
     → (IsOver tasks q → r.opened ≡ None → new.opened ≡ None) → StillCounts tasks roles q r new
     → Rest tasks roles links → Rest tasks (slice_set roles q new) links
 rest_role tasks roles links q r new here opener opened gone counts h = record {
-  few = h.few;
+  four = h.four;
   waiters = h.waiters;
-  joins = λ p x j a b. elim (set_tells roles q new p x a) [
+  joins = λ p x j a b. elim (set_either roles q new p x a) [
     | inl e ↦ subst (λ n. Opens tasks n j) e.0 (opened j (ap (λ (y : Role). y.opened) (sym e.1) ∙ b))
     | inr old ↦ h.joins p x j old.1 b
   ];
-  counted = λ p x o a b. elim (set_tells roles q new p x a) [
+  counted = λ p x o a b. elim (set_either roles q new p x a) [
     | inl e ↦ itself p x o e.0 e.1
         (h.counted q r o here (sym opener ∙ (ap (λ (y : Role). y.opener) (sym e.1) ∙ b)))
         (h.openers q r o here (sym opener ∙ (ap (λ (y : Role). y.opener) (sym e.1) ∙ b)))
     | inr old ↦ another p x o old.1 b (h.counted p x o old.1 b)
   ];
-  openers = λ p x o a b. elim (set_tells roles q new p x a) [
+  openers = λ p x o a b. elim (set_either roles q new p x a) [
     | inl e ↦ subst (λ n. o < n) e.0
         (h.openers q r o here (sym opener ∙ (ap (λ (y : Role). y.opener) (sym e.1) ∙ b)))
     | inr old ↦ h.openers p x o old.1 b
@@ -291,7 +278,7 @@ rest_role tasks roles links q r new here opener opened gone counts h = record {
     another p x o a b (inr c) = elim (cases_eq q o) [
       | inl e ↦
           let same : c.role ≡ r =
-          same_some (slice_get roles q) c.role r (subst (λ n. slice_get roles n ≡ Some c.role) (sym e) c.here) here in
+          only_one (slice_get roles q) c.role r (subst (λ n. slice_get roles n ≡ Some c.role) (sym e) c.here) here in
           by_opener p x o (counts p x c.join a (b ∙ ap (λ (n : ℕ). Some n) (sym e))
           (ap (λ (y : Role). y.opened) (sym same) ∙ c.is_open) c.member) e
       | inr differ ↦ inr (elsewhere o p differ c)
@@ -488,7 +475,7 @@ calm_receiving : (e : Exchange) → Calm (Receiving e) Ready
 calm_receiving e = record { link = λ x done is. absurd (cc); over = λ is. absurd (cc) }
 
 -- the link whose word is at an address
-link_found : (first address k : ℕ) → link_from first address ≡ Some k → address ≡ first + 4 * k
+pub link_found : (first address k : ℕ) → link_from first address ≡ Some k → address ≡ first + 4 * k
 link_found first address k is =
     on (address == first) (address == first + 4) (address == first + 8) (address == first + 12) refl refl refl refl is
   where
@@ -503,10 +490,24 @@ link_found first address k is =
         let e : 3 ≡ k = cc in let same = eqb-true address (first + 12) s in omega arith
     on false false false false p q r s is = absurd (cc)
 
-input_words : (k : ℕ) → input_word 0 + 4 * k ≡ input_word k
+-- there are four of them
+pub link_low : (first address k : ℕ) → link_from first address ≡ Some k → k < 4
+link_low first address k is =
+    on (address == first) (address == first + 4) (address == first + 8) (address == first + 12) is
+  where
+    on : (a b c d : Bool)
+        → (if a then Some 0 else if b then Some 1 else if c then Some 2 else if d then Some 3 else None) ≡ Some k
+        → k < 4
+    on true b c d is = let e : 0 ≡ k = cc in omega (arith, e)
+    on false true c d is = let e : 1 ≡ k = cc in omega (arith, e)
+    on false false true d is = let e : 2 ≡ k = cc in omega (arith, e)
+    on false false false true is = let e : 3 ≡ k = cc in omega (arith, e)
+    on false false false false is = absurd (cc)
+
+pub input_words : (k : ℕ) → input_word 0 + 4 * k ≡ input_word k
 input_words k = omega arith
 
-output_words : (k : ℕ) → output_word 0 + 4 * k ≡ output_word k
+pub output_words : (k : ℕ) → output_word 0 + 4 * k ≡ output_word k
 output_words k = omega arith
 
 -- the role of a process of which something is told
@@ -525,26 +526,20 @@ opened_is : (w : World) (p : ℕ) (r : Role) → slice_get w.roles p ≡ Some r 
 opened_is w p r here = ap (λ (o : Option Role). elim o as (λ o. Option Join)
     [ None ↦ None | Some role ↦ role.opened ]) here
 
-some_role : (roles : List Role) (p : ℕ) → p < length roles → (r : Role) × (slice_get roles p ≡ Some r)
-some_role [] p h = absurd (omega arith)
-some_role (r ∷ roles) zero h = (r, refl)
-some_role (r ∷ roles) (suc p) h = some_role roles p (omega arith)
-
 member_last : (members : List ℕ) (p : ℕ) → is_member (members ++ p ∷ []) p ≡ true
 member_last [] p = or_left _ _ (is_itself p)
 member_last (q ∷ qs) p = or_right (q == p) _ (member_last qs p)
 
--- each process has a role
-has_role : (w : World) (p : ℕ) (t : Task) → slice_get w.tasks p ≡ Some t → length w.roles ≡ length w.tasks
+-- each process has a role, and each role is of a process
+pub has_role : (w : World) (p : ℕ) (t : Task) → slice_get w.tasks p ≡ Some t → length w.roles ≡ length w.tasks
     → (r : Role) × (slice_get w.roles p ≡ Some r)
-has_role w p t there size = on (slice_get w.roles p) refl
-  where
-    on : (o : Option Role) → slice_get w.roles p ≡ o → (r : Role) × (slice_get w.roles p ≡ Some r)
-    on None none = absurd (
-        let inside = slice_get_within w.tasks p t there in
-        let some = some_role w.roles p (omega arith) in
-        let e : None ≡ Some some.0 = sym none ∙ some.1 in cc)
-    on (Some r) here = (r, here)
+has_role w p t there size =
+    let inside = slice_get_within w.tasks p t there in got_within w.roles p (omega (arith, inside, size))
+
+pub has_task : (w : World) (p : ℕ) (r : Role) → slice_get w.roles p ≡ Some r → length w.roles ≡ length w.tasks
+    → (t : Task) × (slice_get w.tasks p ≡ Some t)
+has_task w p r there size =
+    let inside = slice_get_within w.roles p r there in got_within w.tasks p (omega (arith, inside, size))
 
 -- ---- an instruction of the running process
 
@@ -583,7 +578,7 @@ module _ (h : Here) (w : World) (runs : w.queue.running ≡ Some h.process)
   is_ready : h.from.condition ≡ Ready
   is_ready =
       let first = in_front.ready.0 in
-      ap (λ (t : Task). t.condition) (same_some (slice_get w.tasks h.process) h.from first.task there first.here)
+      ap (λ (t : Task). t.condition) (only_one (slice_get w.tasks h.process) h.from first.task there first.here)
       ∙ first.ready
 
   absent : IsAbsent h.process w.queue.ready
@@ -650,7 +645,7 @@ module _ (h : Here) (w : World) (runs : w.queue.running ≡ Some h.process)
       on_process : (t : Task) → slice_get w.tasks other ≡ Some t → t.condition ≡ c → WaitsIn (wake other v)
       on_process t here was = elim (cases_eq h.process other) [
         | inl e ↦ absurd (
-            let mine : h.from ≡ t = same_some (slice_get w.tasks other) h.from t
+            let mine : h.from ≡ t = only_one (slice_get w.tasks other) h.from t
             (subst (λ n. slice_get w.tasks n ≡ Some h.from) e there) here in
             waits (sym was ∙ (ap (λ (x : Task). x.condition) (sym mine) ∙ is_ready)))
         | inr differ ↦
@@ -711,7 +706,7 @@ module _ (h : Here) (w : World) (runs : w.queue.running ≡ Some h.process)
           once = old.line.once;
         };
         rest = record {
-          few = old.rest.few;
+          four = old.rest.four;
           waiters = record {
             inputs = λ k l p a b. waits_before (old.rest.waiters.inputs k l p a b);
             outputs = λ k l p a b. waits_before (old.rest.waiters.outputs k l p a b);
@@ -765,7 +760,7 @@ module _ (h : Here) (w : World) (runs : w.queue.running ≡ Some h.process)
       old : WaitsIn given
       old = role_keeps h.process f v (λ r here. opener r) (λ r j here is. inl (members r j here is))
           (λ r here over none. absurd (
-          let mine : u ≡ over.task = same_some (slice_get (slice_set w.tasks h.process u) h.process) u over.task
+          let mine : u ≡ over.task = only_one (slice_get (slice_set w.tasks h.process u) h.process) u over.task
           (it_is u) over.here in
           let e : Ready ≡ Ended =
           sym is_ready ∙ (sym same ∙ (ap (λ (t : Task). t.condition) mine ∙ over.over)) in cc))
@@ -919,25 +914,25 @@ module _ (h : Here) (w : World) (runs : w.queue.running ≡ Some h.process)
               once = (not_there, (others u).once);
             };
             rest = record {
-              few = fewer.few;
+              four = fewer.four;
               waiters = record {
                 inputs = λ k l p a b. waits_after tasks o x.task (closed_task j par x.task) x.here not_linked p
                     (input_word k) (fewer.waiters.inputs k l p a b);
                 outputs = λ k l p a b. waits_after tasks o x.task (closed_task j par x.task) x.here not_linked p
                     (output_word k) (fewer.waiters.outputs k l p a b);
               };
-              joins = λ p y k a b. elim (set_tells (slice_set roles o (less r)) o (forgets (less r)) p y a) [
+              joins = λ p y k a b. elim (set_either (slice_set roles o (less r)) o (forgets (less r)) p y a) [
                 | inl e ↦ absurd (
                     let none : None ≡ Some k = sym (ap (λ (z : Role). z.opened) e.1) ∙ b in cc)
                 | inr old ↦ other_opens p y k old.0 old.1 b
               ];
-              counted = λ p y k a b. elim (set_tells (slice_set roles o (less r)) o (forgets (less r)) p y a) [
+              counted = λ p y k a b. elim (set_either (slice_set roles o (less r)) o (forgets (less r)) p y a) [
                 | inl e ↦ own_count p y k e.0
                     (fewer.counted o (less r) k again (ap (λ (z : Role). z.opener) (sym e.1) ∙ b))
                     (all.openers o r k here (ap (λ (z : Role). z.opener) (sym e.1) ∙ b))
                 | inr old ↦ other_count p y k old.0 (fewer.counted p y k old.1 b)
               ];
-              openers = λ p y k a b. elim (set_tells (slice_set roles o (less r)) o (forgets (less r)) p y a) [
+              openers = λ p y k a b. elim (set_either (slice_set roles o (less r)) o (forgets (less r)) p y a) [
                 | inl e ↦ subst (λ n. k < n) e.0 (all.openers o r k here
                     (ap (λ (z : Role). z.opener) (sym e.1) ∙ b))
                 | inr old ↦ fewer.openers p y k old.1 b
@@ -1014,7 +1009,7 @@ module _ (h : Here) (w : World) (runs : w.queue.running ≡ Some h.process)
           )
           other_count p y k differ (inr c) = elim (cases_eq o k) [
             | inl e ↦ absurd (
-                let same : c.role ≡ less r = same_some (slice_get (slice_set roles o (less r)) o) c.role (less r)
+                let same : c.role ≡ less r = only_one (slice_get (slice_set roles o (less r)) o) c.role (less r)
                 (subst (λ n. slice_get (slice_set roles o (less r)) n ≡ Some c.role) (sym e) c.here) again in
                 let is_it : Some c.join ≡ Some (record j {
                   members = filter (λ q. not (q == h.process)) j.members;
@@ -1086,7 +1081,7 @@ module _ (h : Here) (w : World) (runs : w.queue.running ≡ Some h.process)
       elim (keeps.rest.joins h.process r.0 j r.1 r.2) [
         | inl member ↦ member
         | inr over ↦ absurd (
-            let same : h.from ≡ over.task = same_some (slice_get w.tasks h.process) h.from over.task there over.here in
+            let same : h.from ≡ over.task = only_one (slice_get w.tasks h.process) h.from over.task there over.here in
             let e : Ready ≡ Ended = sym is_ready ∙ (ap (λ (t : Task). t.condition) same ∙ over.over) in cc)
       ]
 
@@ -1195,7 +1190,7 @@ module _ (h : Here) (w : World) (runs : w.queue.running ≡ Some h.process)
       (λ p x k a b shown member. inr (k, shown, member)) (rest u)) opener r.0 j par
       (got_other w.roles h.process opener gone (λ e. omega (arith, below)) ∙ r.1) r.2
       (λ x a b.
-      let same_one : gone ≡ x = same_some (slice_get roles h.process) gone x
+      let same_one : gone ≡ x = only_one (slice_get roles h.process) gone x
       (got_set w.roles h.process mine.0 gone mine.1) a in
       sym (ap (λ (z : Role). z.opened) same_one) ∙ (sym (opened_is w h.process mine.0 mine.1) ∙ none)))
   moved_keeps o after (turns.it_begins l) says =
@@ -1250,9 +1245,9 @@ module _ (h : Here) (w : World) (runs : w.queue.running ≡ Some h.process)
 -- ---- the other events
 
 -- who waits on two links waits on one
-same_link : (tasks : List Task) (p word other : ℕ) → WaitsOn tasks p word → WaitsOn tasks p other → word ≡ other
+pub same_link : (tasks : List Task) (p word other : ℕ) → WaitsOn tasks p word → WaitsOn tasks p other → word ≡ other
 same_link tasks p word other x y =
-    let same : x.task ≡ y.task = same_some (slice_get tasks p) x.task y.task x.here y.here in
+    let same : x.task ≡ y.task = only_one (slice_get tasks p) x.task y.task x.here y.here in
     let is : OnLink x.exchange x.done ≡ OnLink y.exchange y.done =
     sym x.waits ∙ (ap (λ (t : Task). t.condition) same ∙ y.waits) in
     let e : x.exchange ≡ y.exchange = cc in
@@ -1280,14 +1275,14 @@ not_ready t e done waits ready = let x : OnLink e done ≡ Ready = sym waits ∙
 
 module _ (w : World) (keeps : WaitsIn w) where
   -- a process that waits on a link goes on, and the link is free
-  frees : (p word : ℕ) (x : WaitsOn w.tasks p word) (links : Links) → length links.outputs ≤ 4
+  frees : (p word : ℕ) (x : WaitsOn w.tasks p word) (links : Links) → length links.outputs ≡ 4
       → ((k : ℕ) (l : InputLink) (q : ℕ) → slice_get links.inputs k ≡ Some l → l.waiting ≡ Some q
       → (word ≢ input_word k) × WaitsOn w.tasks q (input_word k))
       → ((k : ℕ) (l : OutputLink) (q : ℕ) → slice_get links.outputs k ≡ Some l → l.waiting ≡ Some q
       → (word ≢ output_word k) × WaitsOn w.tasks q (output_word k))
       → Rest (slice_set w.tasks p (record x.task { condition = Ready })) w.roles links
-  frees p word x links few inputs outputs = record {
-    few = few;
+  frees p word x links four inputs outputs = record {
+    four = four;
     waiters = record {
       inputs = λ k l q a b. let y = inputs k l q a b in waits_elsewhere w.tasks p _ q (input_word k)
           (λ e. y.0 (same_link w.tasks p word (input_word k) x
@@ -1307,10 +1302,10 @@ module _ (w : World) (keeps : WaitsIn w) where
   words_differ : (k j : ℕ) → k < 4 → output_word k ≡ input_word j → ⊥
   words_differ k j low e = omega arith
 
-  low_output : (k : ℕ) (l : OutputLink) → slice_get w.links.outputs k ≡ Some l → k < 4
+  pub low_output : (k : ℕ) (l : OutputLink) → slice_get w.links.outputs k ≡ Some l → k < 4
   low_output k l here =
       let inside = slice_get_within w.links.outputs k l here in
-      let few = keeps.rest.few in
+      let four = keeps.rest.four in
       omega arith
 
   -- with the last byte
@@ -1319,8 +1314,8 @@ module _ (w : World) (keeps : WaitsIn w) where
   fills_last p k byte link x m = wake_keeps p x.task (with_input k (record link { waiting = None })
       (record w { memory = m })) x.here (not_ready x.task x.exchange x.done x.waits) keeps.line
       (frees p (input_word k) x (record w.links { inputs = slice_set w.links.inputs k (record link { waiting = None }) })
-      keeps.rest.few
-      (λ j l q a b. elim (set_tells w.links.inputs k (record link { waiting = None }) j l a) [
+      keeps.rest.four
+      (λ j l q a b. elim (set_either w.links.inputs k (record link { waiting = None }) j l a) [
         | inl e ↦ absurd (
             let none : None ≡ Some q = sym (ap (λ (i : InputLink). i.waiting) e.1) ∙ b in cc)
         | inr old ↦ ((λ e. old.0 (omega arith)), keeps.rest.waiters.inputs j l q old.1 b)
@@ -1340,7 +1335,7 @@ module _ (w : World) (keeps : WaitsIn w) where
           once = keeps.line.once;
         };
         rest = record {
-          few = keeps.rest.few;
+          four = keeps.rest.four;
           waiters = record {
             inputs = λ j l q a b. further q (input_word j) (keeps.rest.waiters.inputs j l q a b);
             outputs = λ j l q a b. further q (output_word j) (keeps.rest.waiters.outputs j l q a b);
@@ -1406,9 +1401,9 @@ module _ (w : World) (keeps : WaitsIn w) where
       wake_keeps p x.task (with_output k (record { waiting = None }) w) x.here
       (not_ready x.task x.exchange x.done x.waits) keeps.line
       (frees p (output_word k) x (record w.links { outputs = slice_set w.links.outputs k (record { waiting = None }) })
-      (let same = length-set w.links.outputs k (record { waiting = None }) in let few = keeps.rest.few in omega arith)
+      (length-set w.links.outputs k (record { waiting = None }) ∙ keeps.rest.four)
       (λ j l q a b. ((λ e. words_differ k j (low_output k link here) e), keeps.rest.waiters.inputs j l q a b))
-      (λ j l q a b. elim (set_tells w.links.outputs k (record { waiting = None }) j l a) [
+      (λ j l q a b. elim (set_either w.links.outputs k (record { waiting = None }) j l a) [
         | inl e ↦ absurd (
             let none : None ≡ Some q = sym (ap (λ (i : OutputLink). i.waiting) e.1) ∙ b in cc)
         | inr old ↦ ((λ e. old.0 (omega arith)), keeps.rest.waiters.outputs j l q old.1 b)
@@ -1455,7 +1450,7 @@ loaded_waits : (m : Contents) → WaitsIn (loaded m)
 loaded_waits m = record {
   line = record { ready = (record { task = root_task m; here = refl; ready = refl }, tt); once = (tt, tt) };
   rest = record {
-    few = omega arith;
+    four = refl;
     waiters = record {
       inputs = λ k l p a b. absurd (
           let quiet : InputLink = record { kept = None; waiting = None; enabled = None } in

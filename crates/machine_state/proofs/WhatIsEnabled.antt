@@ -38,7 +38,7 @@ use Rattle.machine_state.specs.EnabledLaws.{IsInAlternation}
 use Rattle.machine_state.specs.EnabledLaws.{AllAlternate}
 use Rattle.prefix_decoder.specs.Functions.{nibble}
 use Rattle.prefix_decoder.specs.Operand.{with_nibble}
-use Rattle.machine_state.proofs.Lines.{got_set, got_other, got_either}
+use Rattle.machine_state.proofs.Lines.{got_set, got_other, set_either, got_either}
 use Rattle.machine_state.proofs.Moving.{rouse_only}
 use Rattle.machine_state.proofs.Turns as turns
 use Rattle.machine_state.proofs.Turns.{Moved, Ends, Happened, local_here, turn_happens}
@@ -47,14 +47,13 @@ use Rattle.machine_state.proofs.EveryWorld.{every_world}
 use Rattle.machine_state.proofs.Claims.{only_one}
 use Rattle.machine_state.proofs.Modes.{IsOutside, Fits, steps_fit}
 use Rattle.machine_state.proofs.EndedApart.{on_role_channels, on_role_tasks}
-use Rattle.machine_state.proofs.ChannelWaiters.{channel_there, set_either, made_is_quiet, left_channel}
+use Rattle.machine_state.proofs.ChannelWaiters.{channel_there, made_is_quiet, left_channel}
 use Rattle.machine_state.proofs.ChannelWaiters.{running_is_ready}
-use Rattle.module_format.specs.declared.rows.Direction.TheVariants.{Out}
 use Rattle.machine_state.specs.ChannelLaws.{HaveTheirWaiters}
 use Rattle.machine_state.specs.EnabledLaws.{MayWait, HasReady, a_sender, a_byte, NothingIsReady}
 use Rattle.machine_state.specs.EnabledLaws.{WhoMayWaitHasNothingReady}
 use Rattle.machine_state.proofs.ChannelWaiters.{channels_have_their_waiters}
-use Rattle.machine_state.proofs.WhoWaits.{rouse_was}
+use Rattle.machine_state.proofs.Waking.{rouse_was}
 use Rattle.machine_state.proofs.WhoEnabled.{not_plain, not_outside, set_enabled, set_link_enabled, on_role_links}
 use Rattle.machine_state.proofs.WhoEnabled.{it_has_enabled}
 use Rattle.machine_state.proofs.WhoEnabled.{who_enabled_alternates}
@@ -235,7 +234,8 @@ quiet_roused o v alternates old p t here waits has =
   where
     was : HasReady (rouse o v).tasks v.channels v.links.inputs p → HasReady v.tasks v.channels v.links.inputs p
     was (a_sender k c q x e at by waiting there sends) =
-        let y = rouse_was o v q x Out e there sends in a_sender k c q y.0 e at by waiting y.1 y.2
+        let y = rouse_was (λ c. c ≡ Sending e) (λ z. cc) o v q x there sends in
+        a_sender k c q y.0 e at by waiting y.1 y.2
     was (a_byte k l byte at by kept) = a_byte k l byte at by kept
 
 -- ---- an instruction of the running process

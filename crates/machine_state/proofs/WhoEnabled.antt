@@ -40,7 +40,7 @@ use Rattle.machine_state.specs.EnabledLaws.{AllAlternate, WhoEnabledAlternates}
 use Rattle.prefix_decoder.specs.Functions.{nibble}
 use Rattle.prefix_decoder.specs.Operand.{with_nibble}
 use Rattle.machine_state.proofs.SpanLaws.{or_left, or_right}
-use Rattle.machine_state.proofs.Lines.{got_set, got_other, got_before}
+use Rattle.machine_state.proofs.Lines.{got_set, got_other, set_either, got_before}
 use Rattle.machine_state.proofs.Moving.{wake_only, rouse_only, on_task_only}
 use Rattle.machine_state.proofs.Turns as turns
 use Rattle.machine_state.proofs.Turns.{Moved, Ends, Happened, local_here, turn_happens}
@@ -51,7 +51,7 @@ use Rattle.machine_state.proofs.Shares.{number_itself}
 use Rattle.machine_state.proofs.Modes.{IsOutside, Fits, steps_fit}
 use Rattle.machine_state.proofs.Roles.{told_of}
 use Rattle.machine_state.proofs.EndedApart.{on_role_channels, on_role_tasks}
-use Rattle.machine_state.proofs.ChannelWaiters.{channel_there, set_either, made_is_quiet, left_channel}
+use Rattle.machine_state.proofs.ChannelWaiters.{channel_there, made_is_quiet, left_channel}
 use Rattle.machine_state.proofs.ChannelWaiters.{running_is_ready}
 use Rattle.machine_state.proofs.ChannelWaiters.{opener_is_over}
 

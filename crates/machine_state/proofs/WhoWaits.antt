@@ -11,6 +11,7 @@ use Rattle.module_format.specs.declared.rows.Direction.{Direction}
 use Rattle.module_format.specs.declared.rows.Direction.TheVariants.{In, Out}
 use Rattle.module_format.specs.declared.rows.ChannelRow.{ChannelRow}
 use Rattle.machine_state.specs.declared.event.Event.{Event}
+use Rattle.machine_state.specs.declared.instruction.Instruction.{Instruction}
 use Rattle.machine_state.specs.declared.holding.End.{End}
 use Rattle.machine_state.specs.declared.link.InputLink.{InputLink}
 use Rattle.machine_state.specs.declared.process.Channel.{Channel}
@@ -25,9 +26,9 @@ use Rattle.machine_state.specs.declared.process.Exchange.{Exchange}
 use Rattle.machine_state.specs.Memory.{Memory, place_of, word_at, with_word, byte_at, with_byte}
 use Rattle.machine_state.specs.Holding.{Holding, nothing, has_end}
 use Rattle.machine_state.specs.World.{World, Role, Join, held, holding_at, loaded, root_task}
-use Rattle.machine_state.specs.Site.{Site, Local, Outcome, receives, sends}
+use Rattle.machine_state.specs.Site.{Site, Local, Outcome, receives, sends, enables_channel}
 use Rattle.machine_state.specs.LocalStep.{copied, with_a_alone}
-use Rattle.machine_state.specs.Moves.{put, on_task, wake, leave, dispatch, rouse, rouse_task, rouse_enabling, cell_of}
+use Rattle.machine_state.specs.Moves.{put, on_task, wake, leave, dispatch, rouse, cell_of}
 use Rattle.machine_state.specs.Moves.{channel_at, fill, fill_condition, with_condition, link_index, with_channel}
 use Rattle.machine_state.specs.Moves.{with_input, with_output}
 use Rattle.machine_state.specs.Turn.{Here, Turn, at_here, between, continued}
@@ -37,15 +38,16 @@ use Rattle.machine_state.specs.Joins as join
 use Rattle.machine_state.specs.Joins.{joined, closed_task, started, on_role, new_task, with_channels, without_channels}
 use Rattle.machine_state.specs.Joins.{frame_address, opened, opened_by, opener_of, ended, given_back, later_plan}
 use Rattle.machine_state.specs.Joins.{Plan, Found, join_after, without_words, scheduling_addresses, holding_of}
-use Rattle.machine_state.specs.Joins.{share_by}
+use Rattle.machine_state.specs.Joins.{share_by, branch_at, first_fault, first_faults}
 use Rattle.machine_state.specs.Happens.{site_of, turn, world_after}
 use Rattle.machine_state.specs.ChannelLaws.{HaveTheirWaiters, WaitsTo, IsRecorded, AreRecorded, WhoWaitsIsRecorded}
 use Rattle.prefix_decoder.specs.Functions.{nibble}
 use Rattle.prefix_decoder.specs.Operand.{with_nibble}
-use Rattle.machine_state.proofs.Lines.{got_set, got_other, got_either}
+use Rattle.machine_state.proofs.Lines.{got_set, got_other, set_either, got_either}
 use Rattle.machine_state.proofs.Moving.{wake_only, rouse_only, on_task_only}
 use Rattle.machine_state.proofs.EveryInstruction.{Wants, each_step}
 use Rattle.machine_state.proofs.Starting.{first_tests}
+use Rattle.machine_state.proofs.Waking.{ready_was, wake_was, rouse_was}
 use Rattle.machine_state.proofs.Turns as turns
 use Rattle.machine_state.proofs.Turns.{Moved, Ends, Happened, turn_happens}
 use Rattle.machine_state.proofs.Waiting.{WaitsIn, reached}
@@ -60,7 +62,7 @@ use Rattle.machine_state.proofs.Roles.{told_of, opened_is, gives_back}
 use Rattle.machine_state.proofs.StartedApart.{join_is_open, found_row}
 use Rattle.machine_state.proofs.EndedApart.{on_role_roles, on_role_channels, on_role_tasks, carried, still_there}
 use Rattle.machine_state.proofs.EndedApart.{there_roles, at_there}
-use Rattle.machine_state.proofs.ChannelWaiters.{channel_there, same_channel, channels_have_their_waiters, set_either}
+use Rattle.machine_state.proofs.ChannelWaiters.{channel_there, same_channel, channels_have_their_waiters}
 use Rattle.machine_state.proofs.ChannelWaiters.{running_is_ready}
 use Rattle.machine_state.proofs.ApartLaws.{IsSmall, format_is_small, Stands, all_stand, own_role}
 
@@ -89,14 +91,16 @@ calm_ended : (c : Condition) → c ≡ Ended → IsCalm c
 calm_ended c is In e waits = let x : Ended ≡ Receiving e = sym is ∙ waits in cc
 calm_ended c is Out e waits = let x : Ended ≡ Sending e = sym is ∙ waits in cc
 
--- ---- a message that is asked for: its end is held
+-- ---- a message that is asked for, or what is enabled: its end is held
 
-abbrev AsksHeld : Site → Outcome → Type 0
+abbrev pub AsksHeld : Site → Outcome → Type 0
 AsksHeld s (receives e l) = has_end s.holding (record { address = e.channel; direction = In }) ≡ true
 AsksHeld s (sends e l) = has_end s.holding (record { address = e.channel; direction = Out }) ≡ true
+AsksHeld s (enables_channel guard address l) =
+    has_end s.holding (record { address = address; direction = In }) ≡ true
 AsksHeld s _ = ⊤
 
-asks_held : (s : Site) (r : Registers) (old : Memory)
+pub asks_held : (s : Site) (r : Registers) (old : Memory)
     → Wants s r old old (λ r m n. m ≡ n) (λ o other. AsksHeld s o)
 asks_held s r old = record {
   same_word = λ r m n place k own. ap (λ (m : Memory). word_at m place) k;
@@ -116,7 +120,7 @@ asks_held s r old = record {
   at_starts = λ to workspace r m n even k. tt;
   at_joins = λ block r m n k. tt;
   at_begins = λ r m n k. tt;
-  at_enables_channel = λ guard at r m n k held. tt;
+  at_enables_channel = λ guard at r m n k held. held;
   at_enables_skip = λ guard r m n k. tt;
   at_waits = λ r m n k. tt;
   at_disables_channel = λ guard at distance r m n k held. tt;
@@ -124,85 +128,9 @@ asks_held s r old = record {
   at_ends_alternation = λ to r m n k. tt;
 }
 
--- ---- who waits after a move did so before
-
--- another process, as it was
-pub ready_was : (q : ℕ) (f : Task → Task) (v : World) → ((x : Task) → (f x).condition ≡ Ready) → (p : ℕ) (t : Task)
-    (d : Direction) (e : Exchange) → slice_get (on_task q f v).tasks p ≡ Some t → WaitsTo d t.condition e
-    → (q ≢ p) × (slice_get v.tasks p ≡ Some t)
-ready_was q f v ready p t d e here waits = on (slice_get v.tasks q) refl here
-  where
-    on : (o : Option Task) → slice_get v.tasks q ≡ o
-        → slice_get (elim o as (λ o. World) [
-          | None ↦ v
-          | Some task ↦ record v { tasks = slice_set v.tasks q (f task) }
-        ]).tasks p ≡ Some t → (q ≢ p) × (slice_get v.tasks p ≡ Some t)
-    on None none here = (
-      (λ e. let x : None ≡ Some t = sym none ∙ (ap (slice_get v.tasks) e ∙ here) in cc),
-      here,
-    )
-    on (Some x) there here = elim (set_either v.tasks q (f x) p t here) [
-      | inl new ↦ absurd (calm_ready t.condition (ap (λ (y : Task). y.condition) new.1 ∙ ready x) d e waits)
-      | inr old ↦ old
-    ]
-
-pub wake_was : (q : ℕ) (v : World) (p : ℕ) (t : Task) (d : Direction) (e : Exchange)
-    → slice_get (wake q v).tasks p ≡ Some t → WaitsTo d t.condition e → (q ≢ p) × (slice_get v.tasks p ≡ Some t)
-wake_was q v p t d e here waits =
-    ready_was q (λ task. record task { condition = Ready }) v (λ x. refl) p t d e here waits
-
--- a process that waits, before another one was roused
-pub rouse_was : (o : Option ℕ) (v : World) (p : ℕ) (t : Task) (d : Direction) (e : Exchange)
-    → slice_get (rouse o v).tasks p ≡ Some t → WaitsTo d t.condition e
-    → (x : Task) × (slice_get v.tasks p ≡ Some x) × WaitsTo d x.condition e
-rouse_was None v p t d e here waits = (t, here, waits)
-rouse_was (Some q) v p t d e here waits = on (slice_get v.tasks q) refl here
-  where
-    enabling : (x : Task) → slice_get v.tasks q ≡ Some x
-        → slice_get (on_task q (λ task. record task { mode = Enabling true }) v).tasks p ≡ Some t
-        → (x : Task) × (slice_get v.tasks p ≡ Some x) × WaitsTo d x.condition e
-    enabling x there here = elim (set_either v.tasks q (record x { mode = Enabling true }) p t
-        (ap (λ (o : Option Task). slice_get (elim o as (λ o. World) [
-          | None ↦ v
-          | Some task ↦ record v { tasks = slice_set v.tasks q (record task { mode = Enabling true }) }
-        ]).tasks p) (sym there) ∙ here)) [
-          | inl new ↦ (
-            x,
-            subst (λ n. slice_get v.tasks n ≡ Some x) new.0 there,
-            subst (λ (y : Task). WaitsTo d y.condition e) new.1 waits,
-          )
-          | inr old ↦ (t, old.1, waits)
-        ]
-
-    on_mode : (x : Task) → slice_get v.tasks q ≡ Some x → (mode : Mode)
-        → slice_get (rouse_enabling q mode v).tasks p ≡ Some t
-        → (x : Task) × (slice_get v.tasks p ≡ Some x) × WaitsTo d x.condition e
-    on_mode x there Plain here = (t, here, waits)
-    on_mode x there (Enabling is_ready) here = enabling x there here
-    on_mode x there (Disabling selection) here = (t, here, waits)
-    on_mode x there Starting here = (t, here, waits)
-
-    on_condition : (x : Task) → slice_get v.tasks q ≡ Some x → (mode : Mode) (c : Condition)
-        → slice_get (rouse_task q mode c v).tasks p ≡ Some t
-        → (x : Task) × (slice_get v.tasks p ≡ Some x) × WaitsTo d x.condition e
-    on_condition x there mode Alternating here = (t, (wake_was q v p t d e here waits).1, waits)
-    on_condition x there mode Ready here = on_mode x there mode here
-    on_condition x there mode (Sending s) here = on_mode x there mode here
-    on_condition x there mode (Receiving s) here = on_mode x there mode here
-    on_condition x there mode (OnLink s done) here = on_mode x there mode here
-    on_condition x there mode Stopped here = on_mode x there mode here
-    on_condition x there mode Ended here = on_mode x there mode here
-
-    on : (o : Option Task) → slice_get v.tasks q ≡ o → slice_get (elim o as (λ o. World) [
-      | None ↦ v
-      | Some task ↦ rouse_task q task.mode task.condition v
-    ]).tasks p ≡ Some t → (x : Task) × (slice_get v.tasks p ≡ Some x) × WaitsTo d x.condition e
-    on None there here = (t, here, waits)
-    on (Some task) there here = on_condition task there task.mode task.condition here
-
 -- ---- channels that stay
 
-kept_channel : (p base : ℕ) (rows : List ChannelRow) (cells : List (Option Channel)) (k : ℕ) (c : Channel)
+pub kept_channel : (p base : ℕ) (rows : List ChannelRow) (cells : List (Option Channel)) (k : ℕ) (c : Channel)
     → slice_get cells k ≡ Some (Some c) → ((a : ℕ) → IsAmong a (row_addresses base rows) → cell_of a ≡ k → ⊥)
     → slice_get (with_channels p base rows cells) k ≡ Some (Some c)
 kept_channel p base [] cells k c here none = here
@@ -213,7 +141,7 @@ kept_channel p base (row ∷ rows) cells k c here none = kept_channel p base row
     (λ e. none (frame_address base row.word) (inl refl) e) ∙ here)
     (λ a among cell. none a (inr among) cell)
 
-left_still : (o : ℕ) (cells : List (Option Channel)) (k : ℕ) (c : Channel) → slice_get cells k ≡ Some (Some c)
+pub left_still : (o : ℕ) (cells : List (Option Channel)) (k : ℕ) (c : Channel) → slice_get cells k ≡ Some (Some c)
     → c.opener ≢ o → slice_get (without_channels o cells) k ≡ Some (Some c)
 left_still o [] k c here differ = absurd (cc)
 left_still o (cell ∷ cells) (suc k) c here differ = left_still o cells k c here differ
@@ -240,7 +168,7 @@ as_recorded roles later channels cells p d e x same there = record {
   end = subst (λ (h : Holding). has_end h (record { address = e.channel; direction = d }) ≡ true) (sym same) x.end;
 }
 
-holding_now : (roles : List Role) (p : ℕ) → holding_at roles p
+pub holding_now : (roles : List Role) (p : ℕ) → holding_at roles p
     ≡ elim (opened_in roles p) as (λ o. Holding) [ None ↦ own_in roles p | Some join ↦ join.rest ]
 holding_now roles p = on (slice_get roles p)
   where
@@ -256,7 +184,7 @@ holding_now roles p = on (slice_get roles p)
 rouses : (o : Option ℕ) (v : World) → AreRecorded v.tasks v.roles v.channels
     → AreRecorded (rouse o v).tasks (rouse o v).roles (rouse o v).channels
 rouses o v all p t d e here waits =
-    let before = rouse_was o v p t d e here waits in
+    let before = rouse_was (λ c. WaitsTo d c e) (calm_ready Ready refl d e) o v p t here waits in
     let only = rouse_only o v in
     subst (λ (rs : List Role). IsRecorded rs (rouse o v).channels p d e) (sym only.roles)
     (subst (λ (cs : List (Option Channel)). IsRecorded v.roles cs p d e) (sym only.channels)
@@ -274,12 +202,11 @@ only_sends e Out x waits = (refl, let same : e ≡ x = cc in sym same)
 
 module _ (h : Here) (m : Contents) (o : ℕ) (j : Join) (par : Par) (v : World) (r : Role)
     (t : HoldersIn m v.roles v.channels) (here : slice_get v.roles o ≡ Some r) (is : r.opened ≡ Some j)
-    (idle : (c : Claim) → opener_in v.roles h.process ≡ Some o → claims (own_in v.roles h.process) c ≡ true → ⊥)
-    (all : AreRecorded v.tasks v.roles v.channels) where
+    (idle : (c : Claim) → opener_in v.roles h.process ≡ Some o → claims (own_in v.roles h.process) c ≡ true → ⊥) where
   abbrev fewer : Join
   fewer = record j { members = filter (λ q. not (q == h.process)) j.members }
 
-  abbrev smaller : World
+  abbrev pub smaller : World
   smaller = on_role o (λ role. record role {
     opened = Some (record j { members = filter (λ q. not (q == h.process)) j.members });
   }) v
@@ -288,37 +215,31 @@ module _ (h : Here) (m : Contents) (o : ℕ) (j : Join) (par : Par) (v : World) 
   with_fewer = record r { opened = Some (record j { members = filter (λ q. not (q == h.process)) j.members }) }
 
   -- what anyone holds is the same while the join is open
-  same_holding : (p : ℕ) → holding_at smaller.roles p ≡ holding_at v.roles p
+  pub same_holding : (p : ℕ) → holding_at smaller.roles p ≡ holding_at v.roles p
   same_holding p = ap (λ (rs : List Role). holding_at rs p) (there_roles h m o j par v r t here is idle)
       ∙ field_same held nothing v.roles o r with_fewer here
       (sym (ap (λ (o : Option Join). elim o as (λ o. Holding) [ None ↦ r.own | Some join ↦ join.rest ]) is)) p
 
-  same_channels : smaller.channels ≡ v.channels
+  pub same_channels : smaller.channels ≡ v.channels
   same_channels = on_role_channels o (λ role. record role {
     opened = Some (record j { members = filter (λ q. not (q == h.process)) j.members });
   }) v
 
-  same_tasks : smaller.tasks ≡ v.tasks
+  pub same_tasks : smaller.tasks ≡ v.tasks
   same_tasks = on_role_tasks o (λ role. record role {
     opened = Some (record j { members = filter (λ q. not (q == h.process)) j.members });
   }) v
 
-  stays_open : AreRecorded smaller.tasks smaller.roles smaller.channels
-  stays_open p t d e at waits =
-      let x = all p t d e (ap (λ (ts : List Task). slice_get ts p) (sym same_tasks) ∙ at) waits in
-      as_recorded v.roles smaller.roles v.channels smaller.channels p d e x (same_holding p)
-      (ap (λ (cs : List (Option Channel)). slice_get cs (cell_of e.channel)) same_channels ∙ x.here)
-
-  -- nobody waits on a channel of the join once no member is left
-  not_theirs : (length (filter (λ q. not (q == h.process)) j.members) == 0) ≡ true → (p : ℕ) (d : Direction)
-      (e : Exchange) → o ≢ p → (x : IsRecorded smaller.roles smaller.channels p d e) → x.channel.opener ≢ o
-  not_theirs none p d e differ x same =
+  -- nobody else holds an end of a channel of the join once no member is left
+  pub not_theirs : (length (filter (λ q. not (q == h.process)) j.members) == 0) ≡ true → (p : ℕ) (end : End)
+      (c : Channel) → slice_get smaller.channels (cell_of end.address) ≡ Some (Some c)
+      → has_end (holding_at smaller.roles p) end ≡ true → o ≢ p → c.opener ≢ o
+  not_theirs none p end c at holds differ same =
       let t1 = still_there h m o j par v r t here is idle in
-      let end : End = record { address = e.channel; direction = d } in
-      let owned : owner_in smaller.channels (cell_of e.channel) ≡ Some o =
-      ap owner_of x.here ∙ ap (λ (n : ℕ). Some n) same in
+      let owned : owner_in smaller.channels (cell_of end.address) ≡ Some o =
+      ap owner_of at ∙ ap (λ (n : ℕ). Some n) same in
       elim (now_claims t1 p (to_use end)
-      (subst (λ (h : Holding). has_end h end ≡ true) (holding_now smaller.roles p) x.end)) [
+      (subst (λ (h : Holding). has_end h end ≡ true) (holding_now smaller.roles p) holds)) [
         | inl mine ↦
             let above = lent_by t1 p o end mine owned in
             let it = reaches t1 o p (to_use end) above mine in
@@ -327,45 +248,82 @@ module _ (h : Here) (m : Contents) (o : ℕ) (j : Join) (par : Par) (v : World) 
             none_among (filter (λ q. not (q == h.process)) j.members) it.0 none
             (subst (λ (k : Join). IsAmong it.0 k.members)
             (only_one (opened_in smaller.roles o) it.2.join fewer it.2.is_open opened_is_fewer) it.2.member)
-        | inr own ↦ differ (only_one (owner_in smaller.channels (cell_of e.channel)) o p owned own.0)
+        | inr own ↦ differ (only_one (owner_in smaller.channels (cell_of end.address)) o p owned own.0)
       ]
 
   abbrev over : World
   over = on_task o (closed_task j par) smaller
 
-  closes : (length (filter (λ q. not (q == h.process)) j.members) == 0) ≡ true
-      → AreRecorded (join.closed o j par smaller).tasks (join.closed o j par smaller).roles
-      (join.closed o j par smaller).channels
-  closes none p t0 d e at waits =
-      let tasks = on_role_tasks o (λ role. record role { opened = None }) over in
-      let before = ready_was o (closed_task j par) smaller (λ x. refl) p t0 d e
-      (ap (λ (ts : List Task). slice_get ts p) (sym tasks) ∙ at) waits in
-      let x = stays_open p t0 d e before.1 waits in
-      let only = on_task_only o (closed_task j par) smaller in
-      let at_over = ap (λ (rs : List Role). slice_get rs o) only.roles ∙ at_there h m o j par v r t here is idle in
-      let roles = on_role_roles o (λ role. record role { opened = None }) over with_fewer at_over in
-      let channels = on_role_channels o (λ role. record role { opened = None }) over ∙ only.channels in
-      as_recorded smaller.roles (join.closed o j par smaller).roles smaller.channels
-      (join.closed o j par smaller).channels p d e x
-      (ap (λ (rs : List Role). holding_at rs p) roles
-      ∙ (field_other held nothing over.roles o (record with_fewer { opened = None }) p before.0
-      ∙ ap (λ (rs : List Role). holding_at rs p) only.roles))
-      (left_still o (on_role o (λ role. record role { opened = None }) over).channels (cell_of e.channel) x.channel
-      (ap (λ (cs : List (Option Channel)). slice_get cs (cell_of e.channel)) channels ∙ x.here)
-      (not_theirs none p d e before.0 x))
+  module _ (all : AreRecorded v.tasks v.roles v.channels) where
+    stays_open : AreRecorded smaller.tasks smaller.roles smaller.channels
+    stays_open p t d e at waits =
+        let x = all p t d e (ap (λ (ts : List Task). slice_get ts p) (sym same_tasks) ∙ at) waits in
+        as_recorded v.roles smaller.roles v.channels smaller.channels p d e x (same_holding p)
+        (ap (λ (cs : List (Option Channel)). slice_get cs (cell_of e.channel)) same_channels ∙ x.here)
 
-  pub ends_recorded : AreRecorded (joined h o j par v).tasks (joined h o j par v).roles (joined h o j par v).channels
-  unfolding dispatch
-  ends_recorded = on (length (filter (λ q. not (q == h.process)) j.members) == 0) refl
-    where
-      on : (b : Bool) → (length (filter (λ q. not (q == h.process)) j.members) == 0) ≡ b
-          → AreRecorded (if b then join.closed o j par smaller else dispatch h.pick (leave smaller)).tasks
-          (if b then join.closed o j par smaller else dispatch h.pick (leave smaller)).roles
-          (if b then join.closed o j par smaller else dispatch h.pick (leave smaller)).channels
-      on true none = closes none
-      on false some = stays_open
+    closes : (length (filter (λ q. not (q == h.process)) j.members) == 0) ≡ true
+        → AreRecorded (join.closed o j par smaller).tasks (join.closed o j par smaller).roles
+        (join.closed o j par smaller).channels
+    closes none p t0 d e at waits =
+        let tasks = on_role_tasks o (λ role. record role { opened = None }) over in
+        let before = ready_was (λ c. WaitsTo d c e) (calm_ready Ready refl d e) o (closed_task j par) smaller
+        (λ x. refl) p t0 (ap (λ (ts : List Task). slice_get ts p) (sym tasks) ∙ at) waits in
+        let x = stays_open p t0 d e before.1 waits in
+        let only = on_task_only o (closed_task j par) smaller in
+        let at_over = ap (λ (rs : List Role). slice_get rs o) only.roles ∙ at_there h m o j par v r t here is idle in
+        let roles = on_role_roles o (λ role. record role { opened = None }) over with_fewer at_over in
+        let channels = on_role_channels o (λ role. record role { opened = None }) over ∙ only.channels in
+        as_recorded smaller.roles (join.closed o j par smaller).roles smaller.channels
+        (join.closed o j par smaller).channels p d e x
+        (ap (λ (rs : List Role). holding_at rs p) roles
+        ∙ (field_other held nothing over.roles o (record with_fewer { opened = None }) p before.0
+        ∙ ap (λ (rs : List Role). holding_at rs p) only.roles))
+        (left_still o (on_role o (λ role. record role { opened = None }) over).channels (cell_of e.channel) x.channel
+        (ap (λ (cs : List (Option Channel)). slice_get cs (cell_of e.channel)) channels ∙ x.here)
+        (not_theirs none p (record { address = e.channel; direction = d }) x.channel x.here x.end before.0))
+
+    pub ends_recorded : AreRecorded (joined h o j par v).tasks (joined h o j par v).roles (joined h o j par v).channels
+    unfolding dispatch
+    ends_recorded = on (length (filter (λ q. not (q == h.process)) j.members) == 0) refl
+      where
+        on : (b : Bool) → (length (filter (λ q. not (q == h.process)) j.members) == 0) ≡ b
+            → AreRecorded (if b then join.closed o j par smaller else dispatch h.pick (leave smaller)).tasks
+            (if b then join.closed o j par smaller else dispatch h.pick (leave smaller)).roles
+            (if b then join.closed o j par smaller else dispatch h.pick (leave smaller)).channels
+        on true none = closes none
+        on false some = stays_open
 
 -- ---- an instruction of the running process
+
+module _ (h : Here) (w : World) (there : slice_get w.tasks h.process ≡ Some h.from) (keeps : WaitsIn w)
+    (waiters : HaveTheirWaiters w.tasks w.channels) (small : IsSmall h.contents) (st : Stands h.contents w) where
+  -- the channels of a first start lie in the places of no others
+  pub kept_at_start : (target workspace : ℕ) (found : Found) → branch_at h.contents target ≡ Some found
+      → opened_by w h.process ≡ None
+      → first_fault (first_faults h.contents w.memory (holding_at w.roles h.process) (turns.plan_of h w found) found
+      workspace) ≡ None → (k : ℕ) (c : Channel) → slice_get w.channels k ≡ Some (Some c)
+      → slice_get (with_channels h.process (turns.plan_of h w found).base (turns.plan_of h w found).par.channels
+      w.channels) k ≡ Some (Some c)
+  kept_at_start target workspace found is none tests k c at =
+      let plan = turns.plan_of h w found in
+      let r = own_role h w there keeps waiters small st in
+      let may = first_tests h.contents w.memory (holding_at w.roles h.process) plan found workspace tests in
+      let row = found_row h.contents target found is in
+      let words = small.words in
+      let closed = sym (opened_is h.contents w.roles w.channels st.holders h.process r.0 r.1) ∙ none in
+      let opens = join_is_open h.contents w.roles w.channels st.holders h.process r.0 r.1 closed st.size
+      (omega (arith, words)) w.memory h.from.registers.workspace (st.even h.process h.from there) found row
+      (small.rows found.row found.par row) may.1 in
+      kept_channel h.process plan.base plan.par.channels w.channels k c at (λ a among cell.
+      let inside = slice_get_within w.channels k (Some c) at in
+      let mine = new_owner h.process plan.base plan.par.channels w.channels a among (omega (arith, inside, cell)) in
+      let before : owner_in w.channels k ≡ Some c.opener = ap owner_of at in
+      let theirs = opens.still k c.opener before in
+      let cells = with_channels h.process plan.base plan.par.channels w.channels in
+      let same = only_one (owner_in cells k) h.process c.opener
+      (subst (λ n. owner_in cells n ≡ Some h.process) cell mine) theirs in
+      let join_there = st.holders.opens k c.opener before in
+      let z : None ≡ Some join_there.0 = sym none ∙ (ap (opened_in w.roles) same ∙ join_there.1) in cc)
 
 module _ (h : Here) (w : World) (runs : w.queue.running ≡ Some h.process)
     (there : slice_get w.tasks h.process ≡ Some h.from) (keeps : WaitsIn w)
@@ -475,7 +433,7 @@ module _ (h : Here) (w : World) (runs : w.queue.running ≡ Some h.process)
       → v.channels ≡ slice_set w.channels (cell_of source) (Some (record c { waiting = None }))
       → AreRecorded (wake other v).tasks (wake other v).roles (wake other v).channels
   meets u calm other source c at partner v tasks roles channels p t d e here waits =
-      let woken = wake_was other v p t d e here waits in
+      let woken = wake_was (λ c. WaitsTo d c e) (calm_ready Ready refl d e) other v p t here waits in
       let before = was u calm p t d e (ap (λ (ts : List Task). slice_get ts p) (sym tasks) ∙ woken.1) waits in
       let only = wake_only other v in
       subst (λ (rs : List Role). IsRecorded rs (wake other v).channels p d e) (sym (only.roles ∙ roles))
@@ -585,26 +543,10 @@ module _ (h : Here) (w : World) (runs : w.queue.running ≡ Some h.process)
       (record l { memory = copied l.memory (place_of e.address) (place_of wanted.address) e.length l.memory }) w)) refl
       refl refl
   moved o after (turns.starts_first target workspace l found is none tests) asks =
-      let plan = turns.plan_of h w found in
       let r = own_role h w there keeps waiters small st in
-      let may = first_tests h.contents w.memory (holding_at w.roles h.process) plan found workspace tests in
-      let row = found_row h.contents target found is in
-      let words = small.words in
-      let closed = sym (opened_is h.contents w.roles w.channels st.holders h.process r.0 r.1) ∙ none in
-      let opens = join_is_open h.contents w.roles w.channels st.holders h.process r.0 r.1 closed st.size
-      (omega (arith, words)) w.memory h.from.registers.workspace (st.even h.process h.from there) found row
-      (small.rows found.row found.par row) may.1 in
+      let plan = turns.plan_of h w found in
       starts_recorded plan found workspace (opened h plan l w).0 (opened h plan l w).1 r.0 r.1 refl refl
-      (λ k c at. kept_channel h.process plan.base plan.par.channels w.channels k c at (λ a among cell.
-      let inside = slice_get_within w.channels k (Some c) at in
-      let mine = new_owner h.process plan.base plan.par.channels w.channels a among (omega (arith, inside, cell)) in
-      let before : owner_in w.channels k ≡ Some c.opener = ap owner_of at in
-      let theirs = opens.still k c.opener before in
-      let cells = with_channels h.process plan.base plan.par.channels w.channels in
-      let same = only_one (owner_in cells k) h.process c.opener
-      (subst (λ n. owner_in cells n ≡ Some h.process) cell mine) theirs in
-      let join_there = st.holders.opens k c.opener before in
-      let z : None ≡ Some join_there.0 = sym none ∙ (ap (opened_in w.roles) same ∙ join_there.1) in cc))
+      (kept_at_start h w there keeps waiters small st target workspace found is none tests)
   moved o after (turns.starts_later target workspace l found j is is_open same tests) asks =
       let r = told_of (λ (x : Role). x.opened) w.roles h.process j is_open in
       starts_recorded (later_plan h.contents j found.par) found workspace l w r.0 r.1 refl refl (λ k c at. at)

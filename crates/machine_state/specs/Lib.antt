@@ -31,4 +31,6 @@ pub mod Seeing
 pub mod Waiting
 pub mod ChannelLaws
 pub mod ApartLaws
+pub mod LinkLaws
+pub mod WaitingOnce
 pub mod EnabledLaws

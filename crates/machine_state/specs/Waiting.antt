@@ -5,6 +5,7 @@ use Rattle.module_format.specs.Contents.{Contents}
 use Rattle.machine_state.specs.declared.event.Event.{Event}
 use Rattle.machine_state.specs.declared.process.Task.{Task}
 use Rattle.machine_state.specs.declared.process.Exchange.{Exchange}
+use Rattle.machine_state.specs.declared.process.Mode.TheVariants.{Starting}
 use Rattle.machine_state.specs.declared.process.Condition.TheVariants.{Ready, OnLink, Ended}
 use Rattle.machine_state.specs.declared.link.InputLink.{InputLink}
 use Rattle.machine_state.specs.declared.link.OutputLink.{OutputLink}
@@ -95,11 +96,35 @@ pub record Branches (tasks : List Task) (roles : List Role) : Type 0 where
   pub counted : (p : ℕ) (r : Role) (o : ℕ) → slice_get roles p ≡ Some r → r.opener ≡ Some o
       → IsGone tasks r p ⊎ IsCounted roles o p
 
+-- ---- starts of branches
+
+-- a process starts branches, and is ready
+pub record IsStarting (tasks : List Task) (p : ℕ) : Type 0 where
+  pub task : Task
+  pub here : slice_get tasks p ≡ Some task
+  pub starting : task.mode ≡ Starting
+  pub ready : task.condition ≡ Ready
+
+pub record HasOpened (roles : List Role) (p : ℕ) : Type 0 where
+  pub role : Role
+  pub here : slice_get roles p ≡ Some role
+  pub join : Join
+  pub is_open : role.opened ≡ Some join
+
+-- who has a join open is starting branches, or has done its own endp; nobody else is in the mode of a start
+pub record Starters (tasks : List Task) (roles : List Role) : Type 0 where
+  pub openers : (p : ℕ) → HasOpened roles p → IsStarting tasks p ⊎ IsOver tasks p
+  pub starters : (p : ℕ) (task : Task) → slice_get tasks p ≡ Some task → task.mode ≡ Starting → HasOpened roles p
+
 -- ---- of every world that a list of events leads to
 
 abbrev pub BranchesAreCounted : Type 0
 BranchesAreCounted = (m : Contents) (es : List Event)
     → Branches (world_after m es).tasks (world_after m es).roles
+
+abbrev pub OpenersAreStarting : Type 0
+OpenersAreStarting = (m : Contents) (es : List Event)
+    → Starters (world_after m es).tasks (world_after m es).roles
 
 abbrev pub LinesAreReady : Type 0
 LinesAreReady = (m : Contents) (es : List Event)

@@ -8,9 +8,12 @@ ghost use Rattle.machine_state.specs.EventLaws.{EventsCountBytes, FaultsAreKept,
 ghost use Rattle.machine_state.specs.Writing.{StepsWriteOwn, ArrivalsWriteOne, AcknowledgementsWriteNothing};
 ghost use Rattle.machine_state.specs.Seeing.{StepsSeeWhatTheyRead};
 ghost use Rattle.machine_state.specs.Waiting.{LinesAreReady, LinksHaveTheirWaiters, ArrivalsFillBuffers};
-ghost use Rattle.machine_state.specs.Waiting.{BranchesAreCounted};
+ghost use Rattle.machine_state.specs.Waiting.{BranchesAreCounted, OpenersAreStarting};
 ghost use Rattle.machine_state.specs.ChannelLaws.{ChannelsHaveTheirWaiters, WhoWaitsIsRecorded};
-ghost use Rattle.machine_state.specs.EnabledLaws.{WhoEnabledAlternates, WhoMayWaitHasNothingReady};
+ghost use Rattle.machine_state.specs.LinkLaws.{WhoWaitsOnLinksIsRecorded};
+ghost use Rattle.machine_state.specs.EnabledLaws.{WhoEnabledAlternates, WhoMayWaitHasNothingReady, WhoEnabledHolds};
+ghost use Rattle.machine_state.specs.EnabledLaws.{WhatIsReadyStays};
+ghost use Rattle.machine_state.specs.WaitingOnce.{NobodyWaitsTwice, NoTwoWaitTogether};
 ghost use Rattle.machine_state.specs.ApartLaws.{HoldingsStayApart};
 ghost use Rattle.machine_state.specs.SpanLaws.{RunsCoverTheTest};
 ghost use Rattle.machine_state.specs.SmallModules.{FirstEnds, JumpEnds, SlicedJumpEnds, CallEnds, LoopEnds};
@@ -66,24 +69,38 @@ pub fn steps_see_what_they_read()
     ensures { StepsSeeWhatTheyRead }
 {}
 
-/// Who runs or waits for its turn is ready, and stands in the line once. Who waits on a link
-/// does wait there. Each live branch is counted by the join that its opener has open; who has a join open is one of its
-/// members, or has done its own endp.
+/// Who runs or waits for its turn is ready, and stands in the line once. Whoever a link says to wait there does wait
+/// there; in all that a module that keeps the format does, whoever waits on a link is recorded there, and holds that
+/// end of it. Each live branch is counted by the join that its opener has open; who has a join open is one of its
+/// members, or has done its own endp. Until it has, it is starting branches, and nobody else is.
 pub fn waiting_is_in_order()
     ensures lines { LinesAreReady }
     ensures links { LinksHaveTheirWaiters }
+    ensures recorded { WhoWaitsOnLinksIsRecorded }
     ensures branches { BranchesAreCounted }
+    ensures starters { OpenersAreStarting }
 {}
 
 /// Whoever an internal channel says to wait there does wait there. In all that a module that keeps the format does, a
 /// process that waits on an internal channel is recorded there and at no other channel, and holds that end of it.
 /// Whoever has enabled a channel or a link enables, waits or disables; while it waits, or enables and is not ready,
-/// nothing that it has enabled has a sender or a byte.
+/// nothing that it has enabled has a sender or a byte. Where the module keeps the format, it holds what it has enabled,
+/// and nobody else waits there to receive. What is enabled and has a sender or a byte keeps it, and stays enabled until
+/// its owner disables it.
 pub fn channels_are_in_order()
     ensures waiters { ChannelsHaveTheirWaiters }
     ensures recorded { WhoWaitsIsRecorded }
     ensures enabled { WhoEnabledAlternates }
     ensures quiet { WhoMayWaitHasNothingReady }
+    ensures held { WhoEnabledHolds }
+    ensures kept { WhatIsReadyStays }
+{}
+
+/// A process that waits for a message is recorded at one channel or link. In all that a module that keeps the format
+/// does, no other one waits on the same.
+pub fn nobody_waits_twice()
+    ensures places { NobodyWaitsTwice }
+    ensures alone { NoTwoWaitTogether }
 {}
 
 /// Whatever a module that keeps the format does, no two processes hold the same, and nobody holds the blocks of open
