@@ -101,7 +101,7 @@ pub(crate) fn advance(
 }
 
 /// The channels of a PAR are there, and nothing is in their words.
-fn add_channels(
+fn create_channels(
     traffic: &mut Traffic<TaggedStore, ListQueue>,
     opener: u64,
     base: u32,
@@ -138,7 +138,7 @@ fn take_block(traffic: &mut Traffic<TaggedStore, ListQueue>, opener: u64, base: 
     let block = local_address(base, par.block);
     traffic.clear_word(block);
     traffic.clear_word(local_address(block, 1));
-    add_channels(traffic, opener, base, &par.channels);
+    create_channels(traffic, opener, base, &par.channels);
 }
 
 /// A PAR is open, and its first branch is started. If memory runs out, nothing changes.

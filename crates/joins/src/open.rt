@@ -1,4 +1,4 @@
-//! What an `endp` asks of an open join.
+//! What starts and joins ask of an open join.
 
 ghost use Rattle.std.specs.Prelude.{◌≡◌, ◌==◌, ℕ, Some, None, length, MatchOption};
 ghost use Rattle.std.specs.List.{list_all};

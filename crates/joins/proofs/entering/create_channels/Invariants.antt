@@ -1,6 +1,6 @@
 use Rattle.std.proofs.Common.{◌≡◌, drop}
 use Rattle.joins.proofs.Entered.{with_rows}
-use Rattle.joins.proofs.entering.add_channels.Given as goal
+use Rattle.joins.proofs.entering.create_channels.Given as goal
 
 -- with those of the rest all are there
 abbrev pub invariant-loop-row : goal.invariant-loop-row
