@@ -2,7 +2,6 @@
 use Rattle.std.specs.Prelude.{◌≡◌, ℕ, ◌⊎◌, ℤ, Bool, true, false, List, Option, Some, None, slice_get}
 use Rattle.module_format.specs.Contents.{Contents}
 use Rattle.machine_state.specs.declared.event.Event.{Event}
-use Rattle.machine_state.specs.declared.instruction.Instruction.{Instruction}
 use Rattle.machine_state.specs.declared.link.InputLink.{InputLink}
 use Rattle.machine_state.specs.declared.process.Task.{Task}
 use Rattle.machine_state.specs.declared.process.Channel.{Channel}

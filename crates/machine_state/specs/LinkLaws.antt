@@ -1,10 +1,9 @@
 -- Who waits on a link.
-use Rattle.std.specs.Prelude.{◌≡◌, ℕ, Bool, true, List, Some, slice_get}
+use Rattle.std.specs.Prelude.{◌≡◌, ℕ, true, List, Some, slice_get}
 use Rattle.module_format.specs.Contents.{Contents}
 use Rattle.module_format.specs.declared.rows.Direction.TheVariants.{In, Out}
 use Rattle.module_format.specs.Keeping.{Keeps}
 use Rattle.machine_state.specs.declared.event.Event.{Event}
-use Rattle.machine_state.specs.declared.instruction.Instruction.{Instruction}
 use Rattle.machine_state.specs.declared.link.InputLink.{InputLink}
 use Rattle.machine_state.specs.declared.link.OutputLink.{OutputLink}
 use Rattle.machine_state.specs.declared.process.Task.{Task}
