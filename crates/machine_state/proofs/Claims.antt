@@ -1,5 +1,5 @@
 -- What a holding claims: places to write, places to read, and ends. Two claims clash if two holders may not have them.
-use Rattle.std.proofs.Common.{◌≡◌, ℕ, ◌≤◌, Bool, true, false, Option, Some, refl, sym, ◌∙◌}
+use Rattle.std.proofs.Common.{◌≡◌, ℕ, ◌≤◌, Bool, true, false, Option, Some, None, refl, sym, ◌∙◌}
 use Rattle.machine_state.specs.declared.holding.End.{End}
 use Rattle.machine_state.specs.Holding.{Holding, nothing, may_write, may_read, has_end, IsApart}
 use Rattle.machine_state.proofs.SpanLaws.{or_left}
@@ -47,6 +47,9 @@ IsBehind size (to_use e) = ⊥
 
 pub only_one : {A : Type 0} (o : Option A) (x y : A) → o ≡ Some x → o ≡ Some y → x ≡ y
 only_one {A} o x y p q = let e : Some x ≡ Some y = sym p ∙ q in cc
+
+pub not_some : {A B : Type 0} (x : B) → None ≡ Some x → A
+not_some x e = absurd (cc)
 
 pub not_true : (b : Bool) → (b ≡ true → ⊥) → b ≡ false
 not_true true never = absurd (never refl)

@@ -44,7 +44,7 @@ use Rattle.machine_state.proofs.Turns as turns
 use Rattle.machine_state.proofs.Turns.{Moved, Ends, Happened, local_here, turn_happens}
 use Rattle.machine_state.proofs.Waiting.{WaitsIn, reached, link_found, input_words, low_output}
 use Rattle.machine_state.proofs.EveryWorld.{every_world}
-use Rattle.machine_state.proofs.Claims.{only_one, to_use}
+use Rattle.machine_state.proofs.Claims.{only_one, to_use, not_some}
 use Rattle.machine_state.proofs.Owners.{owner_of}
 use Rattle.machine_state.proofs.EvenWords.{even_place}
 use Rattle.machine_state.proofs.Holders.{IsWord, now_claims, outside_is_free}
@@ -115,9 +115,6 @@ input_set w roles n new kept inputs same k l p here by =
           ⊎ HoldsInput roles p i) it.0 (kept p (ap (λ (x : InputLink). x.enabled) (sym it.1) ∙ by))
       | inr other ↦ inl (l, other.1, by)
     ]
-
-never : {A : Type 0} (p : ℕ) → None ≡ Some p → A
-never p e = absurd (cc)
 
 module _ (h : Here) (w : World) (there : slice_get w.tasks h.process ≡ Some h.from)
     (waiters : HaveTheirWaiters w.tasks w.channels) (alternates : AllAlternate w.tasks w.channels w.links.inputs)
@@ -295,7 +292,7 @@ module _ (h : Here) (w : World) (there : slice_get w.tasks h.process ≡ Some h.
       starts plan found workspace (opened h plan l w).0 (opened h plan l w).1 refl (λ k c p here by.
       elim (made_is_quiet h.process plan.base plan.par.channels w.channels k c here) [
         | inl old ↦ old
-        | inr nobody ↦ never p (sym nobody.1 ∙ by)
+        | inr nobody ↦ not_some p (sym nobody.1 ∙ by)
       ]) holds
   moved o v (turns.starts_later target workspace l found j is is_open same tests) asks holds =
       starts (later_plan h.contents j found.par) found workspace l w refl (λ k c p here by. here) holds
@@ -325,12 +322,12 @@ module _ (h : Here) (w : World) (there : slice_get w.tasks h.process ≡ Some h.
   moved o v (turns.it_waits l is) asks holds = stays v holds refl refl
   moved o v (turns.it_disables guard address distance l s given (turns.on_channel c inside here) mine) asks holds =
       let new : Channel = record c { enabled = None } in
-      cell_goes v holds (cell_of address) (record c { enabled = None }) (λ p by. never p by)
+      cell_goes v holds (cell_of address) (record c { enabled = None }) (λ p by. not_some p by)
       (ap (λ (cs : List (Option Channel)). slice_set cs (cell_of address) (Some new))
       (chosen_only h (is_some c.waiting) distance l w).channels) (chosen_only h (is_some c.waiting) distance l w).links
   moved o v (turns.it_disables guard address distance l s given (turns.on_link k link on here) mine) asks holds =
       let new : InputLink = record link { enabled = None } in
-      input_goes v holds k (record link { enabled = None }) (λ p by. never p by)
+      input_goes v holds k (record link { enabled = None }) (λ p by. not_some p by)
       (chosen_only h (is_some link.kept) distance l w).channels
       (ap (λ (ls : Links). slice_set ls.inputs k new) (chosen_only h (is_some link.kept) distance l w).links)
   moved o v (turns.it_disables_nothing guard address distance l off) asks holds =
@@ -439,7 +436,7 @@ module _ (m : Contents) (w : World) (keeps : WaitsIn w)
 loaded_is_held : (m : Contents) → EnabledIsHeld (loaded m).roles (loaded m).channels (loaded m).links.inputs
 loaded_is_held m = record {
   at_channels = λ k c p here by. absurd (no_channel m.data_words k c here);
-  at_links = λ k l p here by. absurd (never p (quiet 4 k l here ∙ by));
+  at_links = λ k l p here by. absurd (not_some p (quiet 4 k l here ∙ by));
 }
   where
     no_channel : (n k : ℕ) (c : Channel) → slice_get (replicate n None) k ≡ Some (Some c) → ⊥

@@ -32,7 +32,20 @@ use Rattle.machine_state.proofs.Roles.{field_other, field_same, field_pushed, to
 use Rattle.machine_state.proofs.EndedApart.{on_role_roles}
 use Rattle.machine_state.proofs.ChannelWaiters.{opener_is_over}
 
--- a member of a join ends: what anyone holds is the same, but for its opener once the join is over
+-- a member of a join ends: what anyone holds is the same while the join is open
+pub smaller_holds : (h : Here) (o : ℕ) (j : Join) (v : World) (r : Role) → slice_get v.roles o ≡ Some r
+    → r.opened ≡ Some j → (p : ℕ) → holding_at (on_role o (λ role. record role {
+      opened = Some (record j { members = filter (λ q. not (q == h.process)) j.members });
+    }) v).roles p ≡ holding_at v.roles p
+smaller_holds h o j v r here is p =
+    ap (λ (rs : List Role). holding_at rs p) (on_role_roles o less v r here)
+    ∙ field_same held nothing v.roles o r (less r) here
+    (sym (ap (λ (x : Option Join). elim x as (λ o. Holding) [ None ↦ r.own | Some join ↦ join.rest ]) is)) p
+  where
+    less : Role → Role
+    less role = record role { opened = Some (record j { members = filter (λ q. not (q == h.process)) j.members }) }
+
+-- and that of all but its opener once it is over
 joined_holds : (h : Here) (o : ℕ) (j : Join) (par : Par) (v : World) (r : Role) → slice_get v.roles o ≡ Some r
     → r.opened ≡ Some j → (p : ℕ) → ((length (filter (λ q. not (q == h.process)) j.members) == 0) ≡ true → o ≢ p)
     → holding_at (joined h o j par v).roles p ≡ holding_at v.roles p
@@ -54,10 +67,6 @@ joined_holds h o j par v r here is p differ =
     roles : smaller.roles ≡ slice_set v.roles o (less r)
     roles = on_role_roles o less v r here
 
-    stays : holding_at smaller.roles p ≡ holding_at v.roles p
-    stays = ap (λ (rs : List Role). holding_at rs p) roles ∙ field_same held nothing v.roles o r (less r) here
-        (sym (ap (λ (x : Option Join). elim x as (λ o. Holding) [ None ↦ r.own | Some join ↦ join.rest ]) is)) p
-
     done : World
     done = on_task o (closed_task j par) smaller
 
@@ -69,13 +78,14 @@ joined_holds h o j par v r here is p differ =
         → holding_at (join.closed o j par smaller).roles p ≡ holding_at v.roles p
     closes none = ap (λ (rs : List Role). holding_at rs p) (on_role_roles o shut done (less r) again)
         ∙ (field_other held nothing done.roles o (shut (less r)) p (differ none)
-        ∙ (ap (λ (rs : List Role). holding_at rs p) (on_task_only o (closed_task j par) smaller).roles ∙ stays))
+        ∙ (ap (λ (rs : List Role). holding_at rs p) (on_task_only o (closed_task j par) smaller).roles
+        ∙ smaller_holds h o j v r here is p))
 
     on : (b : Bool) → (length (filter (λ q. not (q == h.process)) j.members) == 0) ≡ b
         → holding_at (if b then join.closed o j par smaller else dispatch h.pick (leave smaller)).roles p
         ≡ holding_at v.roles p
     on true none = closes none
-    on false some = stays
+    on false some = smaller_holds h o j v r here is p
 
 -- the other processes hold what they did, and the process itself does where it is in an alternation
 pub record HoldOn (h : Here) (w : World) (later : List Role) : Type 0 where

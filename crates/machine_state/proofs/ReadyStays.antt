@@ -43,7 +43,7 @@ use Rattle.machine_state.proofs.EveryInstruction.{each_step}
 use Rattle.machine_state.proofs.Turns as turns
 use Rattle.machine_state.proofs.Turns.{Moved, Ends, Happened, local_here, turn_happens}
 use Rattle.machine_state.proofs.Waiting.{WaitsIn, reached, link_found, input_words}
-use Rattle.machine_state.proofs.Claims.{Claim, claims, nothing_claimed, only_one}
+use Rattle.machine_state.proofs.Claims.{Claim, claims, nothing_claimed, only_one, not_some}
 use Rattle.machine_state.proofs.Modes.{IsOutside, Fits, steps_fit}
 use Rattle.machine_state.proofs.Roles.{own_in, opener_in, HoldersIn, field_set, field_other, told_of, opened_is}
 use Rattle.machine_state.proofs.Roles.{gives_back}
@@ -51,7 +51,7 @@ use Rattle.machine_state.proofs.EndedApart.{on_role_roles, on_role_channels, on_
 use Rattle.machine_state.proofs.ChannelWaiters.{channel_there, same_channel, waits_once, opener_is_over}
 use Rattle.machine_state.proofs.ChannelWaiters.{running_is_ready, channels_have_their_waiters}
 use Rattle.machine_state.proofs.ApartLaws.{IsSmall, Stands, all_stand, format_is_small, holdings_stay_apart}
-use Rattle.machine_state.proofs.WhoWaits.{AsksHeld, asks_held, left_still, kept_at_start, same_holding, not_theirs}
+use Rattle.machine_state.proofs.WhoWaits.{AsksHeld, asks_held, left_still, kept_at_start, not_theirs}
 use Rattle.machine_state.proofs.WhoEnabled.{not_outside, not_ended, on_role_links, who_enabled_alternates}
 use Rattle.machine_state.proofs.WhoWaitsOnLinks.{one_holds}
 use Rattle.machine_state.proofs.EnabledIsHeld.{enabled_is_held, only_receiver}
@@ -180,9 +180,6 @@ input_set w n old new at kept inputs same k p byte x = elim (cases_eq n k) [
   })
 ]
 
-not_some : {A : Type 0} (p : ℕ) → None ≡ Some p → A
-not_some p e = absurd (cc)
-
 -- nobody has enabled it, or this process has
 not_enabled : {A : Type 0} (o : Option ℕ) (p : ℕ) → is_some o ≡ false → o ≡ Some p → A
 not_enabled o p nobody by = absurd (
@@ -194,6 +191,12 @@ enabled_by o p q mine by = eqb-true p q (subst (λ (o : Option ℕ). is_by o q �
 sending : {tasks : List Task} {channels : List (Option Channel)} {k : ℕ} {o : Option ℕ} {q : ℕ} {e : Exchange}
     → HasSender tasks channels k o q e → IsWaiting tasks q (Sending e)
 sending x = record { task = x.sender; here = x.there; waits = x.sends }
+
+nothing_changes : (w after : World) → after.tasks ≡ w.tasks → after.channels ≡ w.channels
+    → after.links.inputs ≡ w.links.inputs → ReadyStays w after
+nothing_changes w after tasks channels inputs = together w after (λ k p q e x.
+    subst (λ (ts : List Task). IsWaiting ts q (Sending e)) (sym tasks) (sending x))
+    (cells_same w after.channels channels) (bytes_same w after.links.inputs inputs)
 
 -- ---- an instruction of the running process
 
@@ -356,12 +359,13 @@ module _ (h : Here) (w : World) (runs : w.queue.running ≡ Some h.process)
           let end = is_held.at_channels k x.channel p x.here x.by in
           let at : slice_get smaller.channels k ≡ Some (Some x.channel) =
           ap (λ (cs : List (Option Channel)). slice_get cs k) cells ∙ x.here in
-          let held_now : has_end (holding_at smaller.roles p) (record { address = end.0; direction = In }) ≡ true =
-          subst (λ (g : Holding). has_end g (record { address = end.0; direction = In }) ≡ true)
-          (sym (same_holding h h.contents o j par v r t here is idle p ∙ holding p has)) end.2 in
+          let held_now : has_end (holding_at v.roles p) (record { address = end.0; direction = In }) ≡ true =
+          subst (λ (g : Holding). has_end g (record { address = end.0; direction = In }) ≡ true) (sym (holding p has))
+          end.2 in
           let left = not_theirs h h.contents o j par v r t here is idle none p
           (record { address = end.0; direction = In }) x.channel
-          (subst (λ n. slice_get smaller.channels n ≡ Some (Some x.channel)) (sym end.1) at) held_now
+          (subst (λ n. slice_get v.channels n ≡ Some (Some x.channel)) (sym end.1)
+          (ap (λ (cs : List (Option Channel)). slice_get cs k) channels ∙ x.here)) held_now
           ((over none).0 p has) in (
             x.channel,
             left_still o (on_role o shut done).channels k x.channel
@@ -572,16 +576,10 @@ module _ (h : Here) (w : World) (runs : w.queue.running ≡ Some h.process)
   moved o v (turns.it_ends_alternation to l none) asks fits =
       stays (record h.from { registers = between to l.registers; mode = Plain }) v refl refl refl
 
-  unchanged : (v : World) → v.tasks ≡ w.tasks → v.channels ≡ w.channels → v.links.inputs ≡ w.links.inputs
-      → ReadyStays w v
-  unchanged v tasks channels inputs = together w v (λ k p q e x.
-      subst (λ (ts : List Task). IsWaiting ts q (Sending e)) (sym tasks) (sending x)) (cells_same w v.channels channels)
-      (bytes_same w v.links.inputs inputs)
-
   end_stays : (o : Outcome) (t : Turn) → Ends h w o t → AsksHeld (site_of h w) o → Fits h.from.mode o
       → ReadyStays w t.world
   unfolding dispatch
-  end_stays o t (turns.at_fault kind) asks fits = unchanged t.world refl refl refl
+  end_stays o t (turns.at_fault kind) asks fits = nothing_changes w t.world refl refl refl
   end_stays o t (turns.has_run {after = v} ends) asks fits =
       let kept = moved o v ends asks fits in record { senders = kept.senders; bytes = kept.bytes }
   end_stays o t (turns.has_emitted e l k on same) asks fits =
@@ -597,12 +595,6 @@ module _ (m : Contents) (w : World) where
       let one = only_one (slice_get w.tasks q) t s.sender (subst (λ n. slice_get w.tasks n ≡ Some t) same here)
       s.there in
       let z : OnLink e done ≡ Sending x = sym is ∙ (ap (λ (y : Task). y.condition) one ∙ s.sends) in cc
-
-  nothing_changes : (v : World) → v.tasks ≡ w.tasks → v.channels ≡ w.channels → v.links.inputs ≡ w.links.inputs
-      → ReadyStays w v
-  nothing_changes v tasks channels inputs = together w v (λ k p q e x.
-      subst (λ (ts : List Task). IsWaiting ts q (Sending e)) (sym tasks) (sending x)) (cells_same w v.channels channels)
-      (bytes_same w v.links.inputs inputs)
 
   fills : (p k byte : ℕ) (link : InputLink) → slice_get w.links.inputs k ≡ Some link
       → ReadyStays w (fill p k byte link w)
@@ -637,19 +629,19 @@ module _ (m : Contents) (w : World) where
 
       on_condition : (t : Task) → slice_get w.tasks p ≡ Some t → (c : Condition) → t.condition ≡ c
           → ReadyStays w (fill_condition p k byte link c w)
-      on_condition t here Ready is = nothing_changes w refl refl refl
-      on_condition t here (Sending e) is = nothing_changes w refl refl refl
-      on_condition t here (Receiving e) is = nothing_changes w refl refl refl
+      on_condition t here Ready is = nothing_changes w w refl refl refl
+      on_condition t here (Sending e) is = nothing_changes w w refl refl refl
+      on_condition t here (Receiving e) is = nothing_changes w w refl refl refl
       on_condition t here (OnLink e done) is = on_last t here e done is (done + 1 == e.length)
-      on_condition t here Alternating is = nothing_changes w refl refl refl
-      on_condition t here Stopped is = nothing_changes w refl refl refl
-      on_condition t here Ended is = nothing_changes w refl refl refl
+      on_condition t here Alternating is = nothing_changes w w refl refl refl
+      on_condition t here Stopped is = nothing_changes w w refl refl refl
+      on_condition t here Ended is = nothing_changes w w refl refl refl
 
       on : (o : Option Task) → slice_get w.tasks p ≡ o → ReadyStays w (elim o as (λ o. World) [
         | None ↦ w
         | Some task ↦ fill_condition p k byte link task.condition w
       ])
-      on None here = nothing_changes w refl refl refl
+      on None here = nothing_changes w w refl refl refl
       on (Some task) here = on_condition task here task.condition refl
 
   module _ (small : IsSmall m) (keeps : WaitsIn w) (waiters : HaveTheirWaiters w.tasks w.channels) (st : Stands m w)
@@ -657,9 +649,9 @@ module _ (m : Contents) (w : World) where
       (is_held : EnabledIsHeld w.roles w.channels w.links.inputs) where
     turn_stays : (e : Event) (t : Turn) → Happened m w e t → ReadyStays w t.world
     unfolding dispatch
-    turn_stays e t (turns.was_at_fault f is) = nothing_changes w refl refl refl
-    turn_stays e t (turns.it_rests rests) = nothing_changes w refl refl refl
-    turn_stays e t (turns.is_outside p task kind runs here) = nothing_changes t.world refl refl refl
+    turn_stays e t (turns.was_at_fault f is) = nothing_changes w w refl refl refl
+    turn_stays e t (turns.it_rests rests) = nothing_changes w w refl refl refl
+    turn_stays e t (turns.is_outside p task kind runs here) = nothing_changes w t.world refl refl refl
     turn_stays e t (turns.is_prefix p task byte operand runs here at none) =
         stays (at_here m p task 0) w runs here keeps waiters small st apart alternates is_held
         (record task { registers = record task.registers { at = task.registers.at + 1; operand = operand } }) t.world

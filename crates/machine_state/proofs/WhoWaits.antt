@@ -55,14 +55,15 @@ use Rattle.machine_state.proofs.Among.{IsAmong, none_among}
 use Rattle.machine_state.proofs.Claims.{Claim, to_use, claims, nothing_claimed, only_one}
 use Rattle.machine_state.proofs.Owners.{owner_in, owner_of, row_addresses, new_owner}
 use Rattle.machine_state.proofs.Holders.{now_claims, lent_by, reaches}
-use Rattle.machine_state.proofs.Roles.{own_in, opener_in, opened_in, HoldersIn, field_set, field_other, field_same}
+use Rattle.machine_state.proofs.Roles.{own_in, opener_in, opened_in, HoldersIn, field_set, field_other}
 use Rattle.machine_state.proofs.Roles.{field_pushed}
 use Rattle.machine_state.proofs.Roles.{told_of, opened_is, gives_back}
 use Rattle.machine_state.proofs.StartedApart.{join_is_open, found_row}
 use Rattle.machine_state.proofs.EndedApart.{on_role_roles, on_role_channels, on_role_tasks, carried, still_there}
-use Rattle.machine_state.proofs.EndedApart.{there_roles, at_there}
+use Rattle.machine_state.proofs.EndedApart.{at_there}
 use Rattle.machine_state.proofs.ChannelWaiters.{channel_there, same_channel, channels_have_their_waiters}
 use Rattle.machine_state.proofs.ChannelWaiters.{running_is_ready}
+use Rattle.machine_state.proofs.OthersHold.{smaller_holds}
 use Rattle.machine_state.proofs.ApartLaws.{IsSmall, format_is_small, Stands, all_stand, own_role}
 
 -- ---- conditions in which nobody waits on an internal channel
@@ -205,7 +206,7 @@ module _ (h : Here) (m : Contents) (o : ℕ) (j : Join) (par : Par) (v : World) 
   abbrev fewer : Join
   fewer = record j { members = filter (λ q. not (q == h.process)) j.members }
 
-  abbrev pub smaller : World
+  abbrev smaller : World
   smaller = on_role o (λ role. record role {
     opened = Some (record j { members = filter (λ q. not (q == h.process)) j.members });
   }) v
@@ -213,32 +214,27 @@ module _ (h : Here) (m : Contents) (o : ℕ) (j : Join) (par : Par) (v : World) 
   abbrev with_fewer : Role
   with_fewer = record r { opened = Some (record j { members = filter (λ q. not (q == h.process)) j.members }) }
 
-  -- what anyone holds is the same while the join is open
-  pub same_holding : (p : ℕ) → holding_at smaller.roles p ≡ holding_at v.roles p
-  same_holding p = ap (λ (rs : List Role). holding_at rs p) (there_roles h m o j par v r t here is idle)
-      ∙ field_same held nothing v.roles o r with_fewer here
-      (sym (ap (λ (o : Option Join). elim o as (λ o. Holding) [ None ↦ r.own | Some join ↦ join.rest ]) is)) p
-
-  pub same_channels : smaller.channels ≡ v.channels
+  same_channels : smaller.channels ≡ v.channels
   same_channels = on_role_channels o (λ role. record role {
     opened = Some (record j { members = filter (λ q. not (q == h.process)) j.members });
   }) v
 
-  pub same_tasks : smaller.tasks ≡ v.tasks
+  same_tasks : smaller.tasks ≡ v.tasks
   same_tasks = on_role_tasks o (λ role. record role {
     opened = Some (record j { members = filter (λ q. not (q == h.process)) j.members });
   }) v
 
   -- nobody else holds an end of a channel of the join once no member is left
   pub not_theirs : (length (filter (λ q. not (q == h.process)) j.members) == 0) ≡ true → (p : ℕ) (end : End)
-      (c : Channel) → slice_get smaller.channels (cell_of end.address) ≡ Some (Some c)
-      → has_end (holding_at smaller.roles p) end ≡ true → o ≢ p → c.opener ≢ o
+      (c : Channel) → slice_get v.channels (cell_of end.address) ≡ Some (Some c)
+      → has_end (holding_at v.roles p) end ≡ true → o ≢ p → c.opener ≢ o
   not_theirs none p end c at holds differ same =
       let t1 = still_there h m o j par v r t here is idle in
       let owned : owner_in smaller.channels (cell_of end.address) ≡ Some o =
-      ap owner_of at ∙ ap (λ (n : ℕ). Some n) same in
-      elim (now_claims t1 p (to_use end)
-      (subst (λ (h : Holding). has_end h end ≡ true) (holding_now smaller.roles p) holds)) [
+      ap (λ (cs : List (Option Channel)). owner_in cs (cell_of end.address)) same_channels
+      ∙ (ap owner_of at ∙ ap (λ (n : ℕ). Some n) same) in
+      elim (now_claims t1 p (to_use end) (subst (λ (h : Holding). has_end h end ≡ true)
+      (sym (smaller_holds h o j v r here is p) ∙ holding_now smaller.roles p) holds)) [
         | inl mine ↦
             let above = lent_by t1 p o end mine owned in
             let it = reaches t1 o p (to_use end) above mine in
@@ -257,7 +253,7 @@ module _ (h : Here) (m : Contents) (o : ℕ) (j : Join) (par : Par) (v : World) 
     stays_open : AreRecorded smaller.tasks smaller.roles smaller.channels
     stays_open p t d e at waits =
         let x = all p t d e (ap (λ (ts : List Task). slice_get ts p) (sym same_tasks) ∙ at) waits in
-        as_recorded v.roles smaller.roles v.channels smaller.channels p d e x (same_holding p)
+        as_recorded v.roles smaller.roles v.channels smaller.channels p d e x (smaller_holds h o j v r here is p)
         (ap (λ (cs : List (Option Channel)). slice_get cs (cell_of e.channel)) same_channels ∙ x.here)
 
     closes : (length (filter (λ q. not (q == h.process)) j.members) == 0) ≡ true
@@ -267,16 +263,17 @@ module _ (h : Here) (m : Contents) (o : ℕ) (j : Join) (par : Par) (v : World) 
         let tasks = on_role_tasks o (λ role. record role { opened = None }) over in
         let before = ready_was (λ c. WaitsTo d c e) (calm_ready Ready refl d e) o (closed_task j par) smaller
         (λ x. refl) p t0 (ap (λ (ts : List Task). slice_get ts p) (sym tasks) ∙ at) waits in
-        let x = stays_open p t0 d e before.1 waits in
+        let x = all p t0 d e (ap (λ (ts : List Task). slice_get ts p) (sym same_tasks) ∙ before.1) waits in
         let only = on_task_only o (closed_task j par) smaller in
         let at_over = ap (λ (rs : List Role). slice_get rs o) only.roles ∙ at_there h m o j par v r t here is idle in
         let roles = on_role_roles o (λ role. record role { opened = None }) over with_fewer at_over in
-        let channels = on_role_channels o (λ role. record role { opened = None }) over ∙ only.channels in
-        as_recorded smaller.roles (join.closed o j par smaller).roles smaller.channels
+        let channels = on_role_channels o (λ role. record role { opened = None }) over
+        ∙ (only.channels ∙ same_channels) in
+        as_recorded v.roles (join.closed o j par smaller).roles v.channels
         (join.closed o j par smaller).channels p d e x
         (ap (λ (rs : List Role). holding_at rs p) roles
         ∙ (field_other held nothing over.roles o (record with_fewer { opened = None }) p before.0
-        ∙ ap (λ (rs : List Role). holding_at rs p) only.roles))
+        ∙ (ap (λ (rs : List Role). holding_at rs p) only.roles ∙ smaller_holds h o j v r here is p)))
         (left_still o (on_role o (λ role. record role { opened = None }) over).channels (cell_of e.channel) x.channel
         (ap (λ (cs : List (Option Channel)). slice_get cs (cell_of e.channel)) channels ∙ x.here)
         (not_theirs none p (record { address = e.channel; direction = d }) x.channel x.here x.end before.0))
