@@ -87,8 +87,6 @@ impl<'a> Cursor<'a> {
     }
 
     /// Fails at an offset, unless it has failed before.
-    #[cold]
-    #[inline(never)]
     pub(crate) fn fail(&mut self, at: usize, kind: FormatFaultKind)
         ensures failure { self.new.failure ≡ failure_after self.old.failure false kind at }
         ensures stays { Stays self.old self.new }
@@ -99,8 +97,6 @@ impl<'a> Cursor<'a> {
     }
 
     /// Fails where memory runs out, unless it has failed before.
-    #[cold]
-    #[inline(never)]
     pub(crate) fn run_out_of_memory(&mut self)
         ensures failure { self.new.failure ≡ memory_after self.old.failure }
         ensures stays { Stays self.old self.new }

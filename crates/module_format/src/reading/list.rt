@@ -51,6 +51,9 @@ impl<T: MadeWith<Global> + Drop, const N: usize> Items<T> for SmallVec<T, N> {
     }
 
     fn reserve(&mut self, count: usize) -> Result<(), AllocError> {
+        if count <= N {
+            return Ok(());
+        }
         self.reserve(count)
     }
 
@@ -74,6 +77,7 @@ pub(crate) trait Reader {
 }
 
 /// Adds as many items as a number says to a list that is empty, as long as none fails.
+#[inline(always)]
 pub(crate) fn fill<R: Reader, L: Items<R::Item>>(
     reader: &mut R,
     count: u32,
@@ -126,6 +130,7 @@ impl<C, T: Listed<C>> Reader for Behind<'_, C, T> {
 }
 
 /// As many items as a number says, the first of them behind `low`.
+#[inline(always)]
 pub(crate) fn read_list<C, T: Listed<C>, L: Items<T>>(
     context: &C,
     low: T::Low,
