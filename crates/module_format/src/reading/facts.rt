@@ -50,6 +50,7 @@ fn read_step(lo: i32, hi: i32, from: &mut Cursor<'_>) -> Step
 
 /// A pointer's region, bounds and step.
 #[tactic(auto, unfolding(crate::specs::ReadingRows::pointer_at, crate::specs::Reading::and_then))]
+#[inline(always)]
 fn read_pointer(from: &mut Cursor<'_>) -> Fact
     ensures { Takes pointer_at from.old result from.new }
 {
@@ -101,6 +102,7 @@ fn read_loop(from: &mut Cursor<'_>) -> Fact
 
 /// A fact that registers and words have alike, behind its tag at an offset.
 #[tactic(auto, unfolding(crate::specs::ReadingRows::fact_at))]
+#[inline(always)]
 fn read_common_fact(code_len: usize, at: usize, tag: u8, from: &mut Cursor<'_>) -> Fact
     ensures { Takes (λ size. fact_at size code_len at tag) from.old result from.new }
 {
@@ -117,6 +119,7 @@ fn read_common_fact(code_len: usize, at: usize, tag: u8, from: &mut Cursor<'_>) 
 
 /// A fact of a register.
 #[tactic(auto, unfolding(crate::specs::ReadingRows::register_at, crate::specs::Reading::and_then))]
+#[inline(always)]
 fn read_register(code_len: usize, from: &mut Cursor<'_>) -> Fact
     ensures { Takes (λ size. register_at size code_len) from.old result from.new }
 {

@@ -9,7 +9,7 @@ ghost use Rattle.module_format.specs.Taking.{Takes};
 use crate::listed::Listed;
 use crate::reading::cursor::Cursor;
 use smallvec::SmallVec;
-use std::alloc::{AllocFailed, Global};
+use std::alloc::{AllocError, AllocFailed, Global};
 use std::default::MadeWith;
 
 /// What the items of a list are kept in.
@@ -18,6 +18,10 @@ pub(crate) trait Items<T: Drop>: Drop {
 
     fn empty(alloc: Global) -> Self
         ensures { items result ≡ [] };
+
+    /// Makes room for so many more items.
+    fn reserve(&mut self, count: usize) -> Result<(), AllocError>
+        ensures { items self.new ≡ items self.old };
 
     fn add(&mut self, item: T) -> Result<(), AllocFailed<T>>
         ensures { IfOk result (λ _. items self.new ≡ items self.old ++ item ∷ []) };
@@ -30,6 +34,10 @@ impl<T: Drop> Items<T> for Vec<T> {
         Vec::new(alloc)
     }
 
+    fn reserve(&mut self, count: usize) -> Result<(), AllocError> {
+        self.reserve_exact(count)
+    }
+
     fn add(&mut self, item: T) -> Result<(), AllocFailed<T>> {
         self.push(item)
     }
@@ -40,6 +48,13 @@ impl<T: MadeWith<Global> + Drop, const N: usize> Items<T> for SmallVec<T, N> {
 
     fn empty(alloc: Global) -> SmallVec<T, N> {
         SmallVec::new(alloc)
+    }
+
+    fn reserve(&mut self, count: usize) -> Result<(), AllocError> {
+        if count <= N {
+            return Ok(());
+        }
+        self.reserve(count)
     }
 
     fn add(&mut self, item: T) -> Result<(), AllocFailed<T>> {
@@ -61,7 +76,9 @@ pub(crate) trait Reader {
         ensures same { walk.context self.new ≡ walk.context self.old };
 }
 
-/// Adds as many items as a number says to a list that is empty, as long as none fails.
+/// Adds as many items as a number says to a list that is empty, as long as none fails. Room is made for all of them at
+/// once, but for no more than there are bytes left, since each item has one at least.
+#[inline(always)]
 pub(crate) fn fill<R: Reader, L: Items<R::Item>>(
     reader: &mut R,
     count: u32,
@@ -76,6 +93,10 @@ pub(crate) fn fill<R: Reader, L: Items<R::Item>>(
     ensures same { R.walk.context reader.new ≡ R.walk.context reader.old }
 {
     if from.has_failed() {
+        return;
+    }
+    if items.reserve(from.at_most_left(count)).is_err() {
+        from.run_out_of_memory();
         return;
     }
     for _ in 0..count {
@@ -110,6 +131,7 @@ impl<C, T: Listed<C>> Reader for Behind<'_, C, T> {
 }
 
 /// As many items as a number says, the first of them behind `low`.
+#[inline(always)]
 pub(crate) fn read_list<C, T: Listed<C>, L: Items<T>>(
     context: &C,
     low: T::Low,

@@ -64,6 +64,7 @@ impl Access {
 
 /// A region: its bytes and the range of its words.
 #[tactic(auto, unfolding(crate::specs::ReadingRows::region_at, crate::specs::Reading::and_then))]
+#[inline(always)]
 fn read_region(version: Version, access: Access, from: &mut Cursor<'_>) -> ParameterKind
     ensures { Takes (λ size. region_at size version (region_kind access)) from.old result from.new }
 {

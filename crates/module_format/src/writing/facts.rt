@@ -23,6 +23,7 @@ fn step_size(step: Step) -> u8
 
 /// A pointer: its region, bounds and step, behind the tag.
 #[tactic(auto, unfolding(crate::specs::Spelling::fact_bytes))]
+#[inline(always)]
 fn put_pointer(out: &mut Writer, region: u16, lo: i32, hi: i32, step: Step)
     ensures { Writes out.old (fact_bytes (Pointer region lo hi step)) out.new }
 {
@@ -35,6 +36,7 @@ fn put_pointer(out: &mut Writer, region: u16, lo: i32, hi: i32, step: Step)
 
 /// A tag, and what belongs to it.
 #[tactic(auto, unfolding(crate::specs::Spelling::fact_bytes))]
+#[inline(always)]
 pub(crate) fn put_fact(out: &mut Writer, fact: &Fact)
     ensures { Writes out.old (fact_bytes fact.now) out.new }
 {

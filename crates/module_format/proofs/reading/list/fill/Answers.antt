@@ -10,13 +10,14 @@ pub loop-init : goal.loop-init
 loop-init g c =
     let R = g.R.Reader.walk in
     let from = c.args.from.now in
+    let empty = c.reserve.ensures ∙ c.requires in
     record {
       size = refl;
       unfailed = is_unfailed from.failure (sym c.has_failed.ensures ∙ c.if-has_failed.false);
       fixed = refl;
-      gives = rw c.requires (begins (R.listing.reads (R.context c.args.reader.now) from.size) R.listing.behind
+      gives = rw empty (begins (R.listing.reads (R.context c.args.reader.now) from.size) R.listing.behind
           c.args.count (R.state c.args.reader.now) from.rest.now);
-      last = rw c.requires refl;
+      last = rw empty refl;
     }
 
 pub returns-then-has_failed-2-clause-takes : goal.returns-then-has_failed-2-clause-takes
@@ -48,7 +49,7 @@ loop-preserved g c =
     taken item R.listing.behind c.loop.from.failure
     (R.state c.loop.reader) c.loop.from.rest.now x left.failure left.rest.now so_far.unfailed still took in
     let more = map-append R.listing.view (g.L.Items.items c.loop.items) (c.read-item.result ∷ []) in
-    let added = when_ok c.add.result (sym c.is_err.ensures.value ∙ c.if-is_err.false) c.add.ensures in
+    let added = when_ok c.add.result (sym c.is_err-in-loop.ensures.value ∙ c.if-is_err-2.false) c.add.ensures in
     let next = c.read-item.ensures.next still in
     record {
       size = c.read-item.ensures.takes.same ∙ so_far.size;
