@@ -1,7 +1,8 @@
 pub mod Beside
 pub mod Counting
 pub mod LinkNumbers
-pub mod InPlace
+pub mod ListedCells
 pub mod MessagesBeside
+pub mod Removed
 pub mod TurnsBeside
 pub mod Uncounted

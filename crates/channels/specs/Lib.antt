@@ -4,6 +4,8 @@ pub mod Lending
 pub mod Delivering
 pub mod EnabledCounts
 pub mod Moment
+pub mod OpenedCells
+pub mod Removing
 pub mod Settling
 pub mod Sound
 pub mod Starting

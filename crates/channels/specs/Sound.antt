@@ -5,13 +5,17 @@ use Rattle.machine_state.specs.declared.process.Channel.{Channel}
 use Rattle.machine_state.specs.declared.process.Task.{Task}
 use Rattle.machine_state.specs.declared.link.InputLink.{InputLink}
 use Rattle.machine_state.specs.declared.link.OutputLink.{OutputLink}
+use Rattle.channels.specs.declared.opened.OpenedCells.{OpenedCells}
 use Rattle.channels.specs.EnabledCounts.{AreCounts, AreAll}
 use Rattle.channels.specs.Moment.{IsSteady}
+use Rattle.channels.specs.OpenedCells.{AreListed}
 
 pub record IsSound (tasks : List Task) (inputs : List InputLink) (outputs : List OutputLink)
-    (channels : List (Option Channel)) (counts : List ℕ) (are_all_counted : Bool) : Type 0 where
+    (channels : List (Option Channel)) (counts : List ℕ) (are_all_counted : Bool) (opened : OpenedCells)
+    : Type 0 where
   pub steady : All IsSteady tasks
   pub four_inputs : length inputs ≡ 4
   pub four_outputs : length outputs ≡ 4
   pub counted : AreCounts counts inputs channels
   pub all : AreAll are_all_counted counts inputs channels
+  pub listed : AreListed opened channels

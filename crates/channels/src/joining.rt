@@ -10,33 +10,13 @@ ghost use Rattle.machine_state.specs.Roles.{with_join, with_branch, branch_role}
 ghost use Rattle.machine_state.specs.Progressing.{progress_view};
 ghost use Rattle.machine_state.specs.Views.{holding_view, join_view};
 ghost use Rattle.channels.specs.Moment.{IsSteady};
-ghost use Rattle.channels.specs.Starting.{with_process, unless_of};
+ghost use Rattle.channels.specs.Starting.{with_process};
 
+use crate::removing::remove_all;
 use crate::traffic::Traffic;
-use machine_state::{Channel, Holding, Join, Progress, Store, TaggedStore, Task};
+use machine_state::{Holding, Join, Progress, Store, TaggedStore, Task};
 use process_queue::ListQueue;
 use std::alloc::{AllocError, Global};
-
-/// The channel in a cell, unless it is this opener's.
-fn without_channel(cell: Option<Channel>, opener: u64) -> Option<Channel>
-    ensures { result ≡ unless_of opener cell }
-{
-    let channel = cell?;
-    if channel.opener == opener {
-        None
-    } else {
-        Some(channel)
-    }
-}
-
-/// The channels but for those of this opener.
-fn remove_channels(channels: &mut [Option<Channel>], opener: u64)
-    ensures { channels.new ≡ without_channels opener channels.old }
-{
-    for cell in channels {
-        *cell = without_channel(*cell, opener);
-    }
-}
 
 /// The process of this number, if there is one, is this task, and there is one more process.
 fn put_both(tasks: &mut Vec<Task>, process: u64, task: Task, more: Task)
@@ -81,15 +61,20 @@ impl<S: Store> Traffic<S, ListQueue> {
         self.running = Some(process);
     }
 
-    /// The channels of this opener are no more. It takes time linear in the data words. What is enabled is counted no
-    /// more, and searched for from now on.
+    /// The channels of this opener are no more, and nobody has them enabled.
+    ///
+    /// It takes time linear in the channels that it has opened since it was last called for it. Where memory ran out
+    /// as channels were opened or processes counted, it takes time linear in all data words.
     pub fn remove_channels(&mut self, opener: u64)
         ensures { let w = self.old.world in
             self.new ≡ record self.old { world = record w { channels = without_channels opener w.channels } } }
     {
-        remove_channels(&mut self.channels, opener);
-        self.enabled_counts.clear();
-        self.are_all_counted = false;
+        remove_all(
+            &mut self.channels,
+            &mut self.enabled_counts,
+            &mut self.opened,
+            opener,
+        );
     }
 }
 

@@ -10,8 +10,10 @@ mod laws;
 mod links;
 mod message;
 mod messages;
+mod opened;
 mod outside;
 mod processor;
+mod removing;
 mod stop;
 mod traffic;
 

@@ -12,6 +12,7 @@ ghost use Rattle.channels.specs.Moment.{IsSteady, WaitsForMore};
 
 use crate::counts::{are_still_all, count_of, enabler_of, hand_over};
 use crate::enabled::{any_channel, any_input};
+use crate::opened::OpenedCells;
 use certificate::Tables;
 use machine_state::{
     Channel, Condition, Cpu, DATA_START, InputLink, Link, OutputLink, Registers, Store,
@@ -53,6 +54,8 @@ pub struct Traffic<S: Store, Q: ReadyQueue<S>> {
     pub(crate) enabled_counts: Vec<usize>,
     /// Whether nobody else has something enabled.
     pub(crate) are_all_counted: bool,
+    /// Where each process has opened channels.
+    pub(crate) opened: OpenedCells,
 }
 
 impl<S: Store, Q: ReadyQueue<S>> Model for Traffic<S, Q> {
@@ -78,7 +81,7 @@ impl<S: Store, Q: ReadyQueue<S>> Model for Traffic<S, Q> {
     } };
 
     ghost invariant = { λ t.
-        IsSound t.tasks.items t.inputs t.outputs t.channels.items t.enabled_counts.items t.are_all_counted };
+        IsSound t.tasks.items t.inputs t.outputs t.channels.items t.enabled_counts.items t.are_all_counted t.opened };
 }
 
 impl<S: Store> Traffic<S, ListQueue> {
@@ -213,13 +216,18 @@ impl<S: Store> Traffic<S, ListQueue> {
     }
 
     /// The channel at the address is this. Where there can be none, nothing changes.
+    ///
+    /// Where no channel of this opener was there, it is listed for its opener. If memory runs out there, only
+    /// `remove_channels` takes more time from then on: `reserve_cells` and `count_next` make sure that it does not.
     #[tactic(auto, using(crate::proofs::Counting::has_room))]
     pub fn set_channel(&mut self, address: u32, channel: Channel)
         ensures { self.new ≡ record self.old { world = with_channel address channel self.old.world } }
     {
         let place = cell_of(address);
         if place < self.channels.len() {
-            let before = enabler_of(self.channels[place]);
+            let was = self.channels[place];
+            let before = enabler_of(was);
+            self.opened.enlist(place, was, channel.opener);
             self.channels[place] = Some(channel);
             self.are_all_counted = are_still_all(
                 self.are_all_counted,
@@ -231,15 +239,29 @@ impl<S: Store> Traffic<S, ListQueue> {
     }
 
     /// One more process is counted, the next by number: so it takes constant time to tell whether it has something
-    /// enabled. If memory runs out, it is searched for.
+    /// enabled, and its channels are listed. If memory runs out, both are searched for.
+    ///
+    /// It is called once for each process, right before or after it is there.
     #[tactic(auto, using(crate::proofs::Uncounted::one_more_counted, crate::proofs::Uncounted::all_after_one_more))]
     pub fn count_next(&mut self) -> Result<(), AllocError>
         ensures { self.new ≡ self.old }
     {
-        if self.are_all_counted {
+        let count = self.tasks.len();
+        if self.opened.count() <= count {
+            self.opened.add_list()?;
+        }
+        if self.are_all_counted && self.enabled_counts.len() <= count {
             self.enabled_counts.push(0)?;
         }
         Ok(())
+    }
+
+    /// Makes room for this many more channels of a process, which `set_channel` can then list without memory. A process
+    /// that is not counted has no list, and nothing happens. If memory runs out, nothing changes.
+    pub fn reserve_cells(&mut self, opener: u64, count: usize) -> Result<(), AllocError>
+        ensures { self.new ≡ self.old }
+    {
+        self.opened.reserve(opener, count)
     }
 
     /// Whether the alternation of this process has something enabled.
@@ -312,6 +334,7 @@ impl Traffic<TaggedStore, ListQueue> {
             channels: vec![in alloc; None; tables.data_words as usize]?,
             enabled_counts: vec![in alloc; 0]?,
             are_all_counted: true,
+            opened: OpenedCells::new(alloc)?,
         })
     }
 }

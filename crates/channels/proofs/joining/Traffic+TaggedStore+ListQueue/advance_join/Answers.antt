@@ -20,4 +20,5 @@ invariant_of-self-2 c =
       four_outputs = c.self.invariant.four_outputs;
       counted = c.self.invariant.counted;
       all = c.self.invariant.all;
+      listed = c.self.invariant.listed;
     }

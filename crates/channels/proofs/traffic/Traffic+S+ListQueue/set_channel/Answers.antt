@@ -9,10 +9,10 @@ pub invariant_of-self : goal.invariant_of-self
 invariant_of-self g c =
     let channels = c.self.inside.channels.items in
     let place = c.cell_of-place.result in
-    let before = c.index.result.now in
+    let before = c.index-was.result.now in
     let within : place < length channels = omega arith in
     let there : slice_get channels place ≡ Some before =
-    slice_get_read channels (length channels) place before refl within c.index.ensures in
+    slice_get_read channels (length channels) place before refl within c.index-was.ensures in
     record {
       steady = c.self.invariant.steady;
       four_inputs = c.self.invariant.four_inputs;
@@ -22,7 +22,13 @@ invariant_of-self g c =
           (channel_recounted c.self.inside.enabled_counts.items c.self.inside.inputs channels place before
           (Some c.args.channel) there c.self.invariant.counted);
       all =
-          rw (c.hand_over.ensures, c.are_still_all-self-inside.ensures, c.deref.ensures.value, c.enabler_of-before.ensures)
+          rw (
+            c.hand_over.ensures,
+            c.are_still_all-self-inside.ensures,
+            c.deref.ensures.value,
+            c.enabler_of-before.ensures,
+          )
           (all_after_channel c.self.inside.are_all_counted c.self.inside.enabled_counts.items c.self.inside.inputs
           channels place before (Some c.args.channel) there c.self.invariant.all);
+      listed = c.enlist.ensures channels c.args.channel there refl c.self.invariant.listed;
     }

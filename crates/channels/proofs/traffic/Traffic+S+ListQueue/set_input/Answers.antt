@@ -22,4 +22,5 @@ invariant_of-self g c =
           rw (c.hand_over.ensures, c.are_still_all-self-inside.ensures, c.deref.ensures.value)
           (all_after_input c.self.inside.are_all_counted c.self.inside.enabled_counts.items inputs
           c.self.inside.channels.items place c.input-before.result c.args.input there c.self.invariant.all);
+      listed = c.self.invariant.listed;
     }
