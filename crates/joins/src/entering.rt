@@ -163,6 +163,7 @@ pub(crate) fn open(
 {
     traffic.reserve()?;
     traffic.count_next()?;
+    traffic.reserve_cells(here.process, found.par.channels.len())?;
     let process = traffic.count();
     let base = join.base;
     let task = starter(here, registers);
