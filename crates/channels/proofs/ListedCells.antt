@@ -8,7 +8,7 @@ use Rattle.std.proofs.lemmas.Bool.{cases_eq}
 use Rattle.std.proofs.lemmas.List.Elements.{Contains-append_left, Contains-push}
 use Rattle.machine_state.specs.declared.process.Channel.{Channel}
 use Rattle.machine_state.proofs.Lines.{got_set, got_other}
-use Rattle.machine_state.proofs.ChannelWaiters.{set_either}
+use Rattle.machine_state.proofs.Lines.{set_either}
 use Rattle.channels.specs.declared.opened.OpenedCells.{OpenedCells}
 use Rattle.channels.specs.Removing.{AreIn}
 use Rattle.channels.specs.OpenedCells.{words_of, listed, is_of, AreListed, KeepsListed, ListsAt}

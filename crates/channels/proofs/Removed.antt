@@ -6,7 +6,7 @@ use Rattle.std.proofs.lemmas.Bool.{eqb-false}
 use Rattle.std.proofs.lemmas.List.Elements.{Contains-push_cases}
 use Rattle.machine_state.specs.declared.process.Channel.{Channel}
 use Rattle.machine_state.specs.Joins.{without_channels}
-use Rattle.machine_state.proofs.ChannelWaiters.{set_either}
+use Rattle.machine_state.proofs.Lines.{set_either}
 use Rattle.channels.specs.EnabledCounts.{handed_over}
 use Rattle.channels.specs.Removing.{channel_in, Removes, IsGone, AreIn}
 use Rattle.channels.proofs.Counting.{channel_recounted}
