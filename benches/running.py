@@ -28,6 +28,11 @@ def checksum(running, times):
     return 31 * total + executed & 2**64 - 1
 
 
+def announced(straight):
+    """What so many bytes do that end with the message on link 0, whose sender then goes on."""
+    return (straight - 1) * "r" + "e."
+
+
 def turning(text, turn="r", lengths=(0,) * 8):
     return Running(module(looped(text), BASE + 3, lengths=lengths), "", turn)
 
@@ -52,7 +57,8 @@ def alternation():
 def link_copy():
     """Four bytes come on link 0, one by one, and go out on link 0. Each byte comes once nobody runs."""
     receive, send = "ldlp 1, mint, ldnlp 4, ldc 4, in", "ldlp 1, mint, ldc 4, out"
-    return turning(f"{receive}, {send}", len(code(receive)) * "r" + 4 * ".." + (len(code(send)) - 1) * "r" + "e.rr", ONE_LINK)
+    turn = len(code(receive)) * "r" + 4 * ".." + announced(len(code(send))) + "rr"
+    return turning(f"{receive}, {send}", turn, ONE_LINK)
 
 
 def exchange():
@@ -80,11 +86,6 @@ def joins(data_words):
     par = Par(0, 0, range(2, 6), [Branch("branch", workspace, (workspace - 3, workspace), [])], "rest")
     blocks = {"root": opening(par), "branch": f"ldlp {-workspace}, endp", "rest": "j root/0"}
     return Running(module_of(blocks, [par], data_words))
-
-
-def announced(straight):
-    """What so many bytes do that end with the message on link 0, whose sender then goes on."""
-    return (straight - 1) * "r" + "e."
 
 
 def alone():
@@ -122,9 +123,9 @@ def receiving(branch, channel):
 def crowd():
     """1,000 processes wait on channels of their own, 1,000 are ready, and another one goes round.
 
-    The root opens a PAR of groups, whose members wait, and of one more branch. That waits for a word of the last member.
-    Then it opens a PAR of groups, whose members go round, and of one more branch. That sends a message on link 0 and
-    goes round too; the first of the members runs meanwhile, and from then on.
+    The root opens a PAR of groups, whose members wait, and of one more branch. That branch waits for a word of the
+    last member. Then it opens a PAR of groups, whose members go round, and of one more branch, which sends a message
+    on link 0 and goes round too. The first of those members runs meanwhile, and from then on.
     """
     middle = 3 + GROUPS * GROUP_WORDS
     last = middle + 6 + GROUPS * GROUP_WORDS
