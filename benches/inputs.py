@@ -3,6 +3,8 @@
 import os
 import struct
 
+from modules import BASE, LINK, OUT, branch_row, module, par_row
+
 SOURCES = os.path.join(os.path.dirname(os.path.abspath(__file__)), "sources")
 
 MAX_CODE, MAX_DATA_WORDS, MAX_CONSTANTS = 65_535, 16_384, 16_384
@@ -11,78 +13,12 @@ MAX_PARS, MAX_BRANCHES, MAX_TABLES = 1_024, 64, 1_024
 
 LOAD_CONSTANT = b"\x40"  # ldc 0
 STOP_PROCESS = b"\x21\xf5"  # stopp
-BASE = 4  # the data word at which the root's workspace begins: call takes the four words below, others three
-UNKNOWN, NUMBER, READ_REGION, LINK, OUT = 0, 1, 1, 2, 2
-FUNCTIONS = "j ldlp pfix ldnl ldc ldnlp nfix ldl adc call cj ajw eqc stl stnl opr".split()
-OPERATIONS = {"in": 0x07, "out": 0x0B, "ret": 0x20, "mint": 0x42, "alt": 0x43, "altwt": 0x44, "altend": 0x45}
-OPERATIONS |= {"enbs": 0x49, "diss": 0x30}
-
-
-def spelled(function, operand):
-    """The bytes of a function with its operand."""
-    if 0 <= operand < 16:
-        return bytes([function << 4 | operand])
-    prefix, rest = (2, operand >> 4) if operand > 0 else (6, ~operand >> 4)
-    return spelled(prefix, rest) + bytes([function << 4 | operand & 15])
-
-
-def instruction(name, operand="0"):
-    """The bytes of a function with its operand, or of an operation."""
-    if name in OPERATIONS:
-        return spelled(FUNCTIONS.index("opr"), OPERATIONS[name])
-    return spelled(FUNCTIONS.index(name), int(operand))
-
-
-def code(text):
-    """The bytes of instructions, which commas separate."""
-    return b"".join(instruction(*words.split()) for words in text.split(","))
-
-
-def turning(text, lengths=(0,) * 8):
-    """A module that goes round and round on the reference machine, and that no certificate covers."""
-    body = code(text)
-    back = spelled(FUNCTIONS.index("j"), -len(body) - 2)  # two bytes
-    return module(body + back, BASE + 3, lengths=lengths)
-
-
-def module(
-    code, data_words=BASE, constants=b"", version=1, procedures=(), labels=(), pars=(), tables=(), lengths=(0,) * 8
-):
-    """The file of a module whose budget is the length of its code, and which ends at the code's end."""
-    sizes = (len(code), len(constants), data_words, BASE, len(code), len(code))
-    head = b"TPM%d" % version + struct.pack("<IIIIQI", *sizes)
-    counts = struct.pack("<III", len(procedures), len(labels), len(pars))
-    if version == 2:
-        counts += struct.pack("<II", 0, len(tables))  # no operations on double words
-    return b"".join([head, struct.pack("<8I", *lengths), counts, code, constants, *procedures, *labels, *pars, *tables])
+UNKNOWN, NUMBER, READ_REGION = 0, 1, 1
 
 
 def straight(loads):
     """`ldc 0` so many times, and `stopp`."""
     return module(LOAD_CONSTANT * loads + STOP_PROCESS)
-
-
-def arithmetic():
-    return turning("ldc 5, stl 1, ldl 1, adc 1, stl 1")
-
-
-def pointers():
-    return turning("ldc 5, ldlp 1, stnl 0, ldlp 1, ldnl 0, ldlp 2, stnl 0")
-
-
-def calls():
-    """Over the procedure, which only returns, and then round and round."""
-    return module(code("j 2, ret, call -4, j -4"), BASE + 3)
-
-
-def alternation():
-    return turning("alt, ldc 1, enbs, altwt, ldc 1, ldc 0, diss, altend")
-
-
-def link_copy():
-    """Four bytes come on link 0 and go out on link 0."""
-    receive, send = "ldlp 1, mint, ldnlp 4, ldc 4, in", "ldlp 1, mint, ldc 4, out"
-    return turning(f"{receive}, {send}", (4, 0, 0, 0, 4, 0, 0, 0))
 
 
 def labelled(has_entries):
@@ -119,18 +55,13 @@ def with_tables():
 
 def branch(entry):
     """A branch: three words below its workspace to write, one word to read, and the end of a link."""
-    intervals = struct.pack("<iiii", -11, -8, 0, 1)
-    end = struct.pack("<BiIB", LINK, 0, 0, OUT)
-    return struct.pack("<IiHHHHH", entry, -8, 1, 1, 0, 0, 1) + intervals + end
+    return branch_row(entry, -8, [(-11, -8)], [(0, 1)], [(LINK, 0, 0, OUT)])
 
 
 def with_pars():
     """As many PARs as the format allows, each without channels and with as many branches as it may have."""
     firsts = range(1, 1 + MAX_PARS * MAX_BRANCHES, MAX_BRANCHES)
-    pars = [
-        struct.pack("<HiiIHH", 0, 0, 0, 1, 0, MAX_BRANCHES) + b"".join(map(branch, range(first, first + MAX_BRANCHES)))
-        for first in firsts
-    ]
+    pars = [par_row(0, 0, 0, 1, [], [branch(it) for it in range(first, first + MAX_BRANCHES)]) for first in firsts]
     return module(LOAD_CONSTANT * (1 + MAX_PARS * MAX_BRANCHES), version=2, pars=pars)
 
 

@@ -1,5 +1,7 @@
 //! The calls that can be repeated, by name.
 
+use machine_state::Event;
+
 /// A call that is repeated on the bytes of one file.
 #[derive(Clone, Copy)]
 pub(crate) enum Call {
@@ -20,12 +22,31 @@ pub(crate) enum ModuleCall {
     Write,
     /// `verify`.
     Verify,
-    /// `Checked::apply` on one machine, so that the number of repetitions is the number of events.
-    Apply,
+    /// `Checked::apply` on one machine, so that the number of repetitions is the number of events. Its steps are this
+    /// event once a message has gone out on a link, and until then they are no slices.
+    Apply(Event),
 }
 
 /// The names, as they are listed if another one is given.
-pub(crate) const NAMES: &str = "read, write, verify, apply, lines, parse";
+pub(crate) const NAMES: &str = "read, write, verify, apply, slice, pick, lines, parse";
+
+/// One byte of the running process, which then goes on.
+pub(crate) const STEP: Event = Event::Step {
+    slice: false,
+    pick: 0,
+};
+
+/// The same, but after a jump the first ready process goes on.
+const SLICE: Event = Event::Step {
+    slice: true,
+    pick: 0,
+};
+
+/// The same, but after a jump the ready process with 500 in front of it goes on.
+const PICK: Event = Event::Step {
+    slice: true,
+    pick: 500,
+};
 
 /// The call of this name.
 pub(crate) fn call_named(name: &str) -> Option<Call> {
@@ -33,7 +54,9 @@ pub(crate) fn call_named(name: &str) -> Option<Call> {
         "read" => Some(Call::Read),
         "write" => Some(Call::OfModule(ModuleCall::Write)),
         "verify" => Some(Call::OfModule(ModuleCall::Verify)),
-        "apply" => Some(Call::OfModule(ModuleCall::Apply)),
+        "apply" => Some(Call::OfModule(ModuleCall::Apply(STEP))),
+        "slice" => Some(Call::OfModule(ModuleCall::Apply(SLICE))),
+        "pick" => Some(Call::OfModule(ModuleCall::Apply(PICK))),
         "lines" => Some(Call::Lines),
         "parse" => Some(Call::Parse),
         _ => None,

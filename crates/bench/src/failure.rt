@@ -15,7 +15,7 @@ use verifier::Refusal;
 pub(crate) enum Failure {
     /// Memory ran out.
     Memory,
-    /// The call refused its input.
+    /// The call refused its input, or the machine stands still.
     Refused,
 }
 

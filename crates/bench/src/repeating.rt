@@ -1,6 +1,6 @@
 //! The calls, repeated.
 
-use crate::call::{Call, ModuleCall};
+use crate::call::{Call, ModuleCall, STEP};
 use crate::failure::Failure;
 use certificate::{Module, write};
 use machine::Checked;
@@ -9,12 +9,6 @@ use occam_layout::{Line, lines};
 use occam_parser::parse;
 use std::alloc::Global;
 use verifier::verify;
-
-/// One byte of the running process, which then goes on.
-const STEP: Event = Event::Step {
-    slice: false,
-    pick: 0,
-};
 
 /// A checksum with one more number in it.
 fn mixed(checksum: u64, number: u64) -> u64 {
@@ -65,27 +59,33 @@ fn verify_repeatedly(alloc: Global, module: &Module, times: u64) -> Result<u64, 
     Ok(checksum)
 }
 
-/// The event after one that had this effect: a message that goes out is acknowledged, and to a process that waits a byte
-/// comes on link 0.
-fn next_event(effect: Effect<'_>) -> Event {
+/// The event after one that had this effect: a message that goes out is acknowledged, and once no process runs a byte
+/// comes on link 0. If no process waits for that byte, the machine stands still, and the module is refused.
+fn next_event(effect: Effect<'_>, step: Event) -> Result<Event, Failure> {
     match effect {
-        Effect::Emitted { link, .. } => Event::Acknowledge { link },
-        Effect::Idle => Event::Arrive {
+        Effect::Emitted { link, .. } => Ok(Event::Acknowledge { link }),
+        Effect::Idle => Ok(Event::Arrive {
             link: Link::Zero,
             byte: 1,
-        },
-        _ => STEP,
+        }),
+        Effect::Ran | Effect::Taken | Effect::Acknowledged => Ok(step),
+        Effect::Kept | Effect::Busy | Effect::Ignored => Err(Failure::Refused),
     }
 }
 
-/// Whether each event ran an instruction byte, and how many were executed.
-fn apply_repeatedly(machine: &mut Checked, times: u64) -> Result<u64, Failure> {
+/// Whether each event ran an instruction byte, and how many were executed. Steps are `later` once a message has gone
+/// out.
+fn apply_repeatedly(machine: &mut Checked, later: Event, times: u64) -> Result<u64, Failure> {
     let mut checksum = 0;
+    let mut step = STEP;
     let mut event = STEP;
     for _ in 0..times {
         let effect = machine.apply(event)?;
         let has_run = matches!(effect, Effect::Ran);
-        event = next_event(effect);
+        if matches!(effect, Effect::Emitted { .. }) {
+            step = later;
+        }
+        event = next_event(effect, step)?;
         checksum = mixed(checksum, u64::from(has_run));
     }
     Ok(mixed(checksum, machine.executed()))
@@ -96,8 +96,8 @@ fn of_module(alloc: Global, call: ModuleCall, module: &Module, times: u64) -> Re
     match call {
         ModuleCall::Write => write_repeatedly(alloc, module, times),
         ModuleCall::Verify => verify_repeatedly(alloc, module, times),
-        ModuleCall::Apply => match Checked::load(alloc, module) {
-            Ok(mut machine) => apply_repeatedly(&mut machine, times),
+        ModuleCall::Apply(later) => match Checked::load(alloc, module) {
+            Ok(mut machine) => apply_repeatedly(&mut machine, later, times),
             Err(error) => Err(error.into()),
         },
     }
