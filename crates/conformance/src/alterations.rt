@@ -5,6 +5,21 @@ use crate::modules::{READ, reading};
 use certificate::{FormatFault, MAGIC, TRUNCATED};
 use std::alloc::Global;
 
+/// The ways in which a file is altered.
+#[derive(Clone, Copy)]
+pub(crate) enum Ways {
+    /// Each byte from one place up to another set to each other value.
+    Bytes { from: u32, to: u32 },
+    /// Each bit altered.
+    Bits,
+}
+
+/// What looks at altered files one by one.
+pub(crate) trait Tally {
+    /// Takes up a file whose byte at this place was altered.
+    fn count(&mut self, alloc: Global, file: &[u8], at: usize);
+}
+
 /// How many files are read, valid and written back, how many have which fault, and the sum of the faults' offsets.
 #[derive(Clone, Copy)]
 struct Sums {
@@ -28,20 +43,6 @@ impl Sums {
         }
     }
 
-    /// Counts a file.
-    fn count(&mut self, alloc: Global, file: &[u8]) {
-        match reading(alloc, file) {
-            Ok(validity) => {
-                self.wrong = self.wrong.wrapping_add(u64::from(validity != READ));
-                self.add(0);
-            }
-            Err(FormatFault { number, offset }) => {
-                self.offsets = self.offsets.wrapping_add(offset as u64);
-                self.add(number);
-            }
-        }
-    }
-
     /// The numbers from none to C6, and the sum of the offsets.
     fn put(&self, out: &mut Answer) {
         for number in self.numbers {
@@ -57,49 +58,69 @@ impl Sums {
     }
 }
 
+impl Tally for Sums {
+    fn count(&mut self, alloc: Global, file: &[u8], _at: usize) {
+        match reading(alloc, file) {
+            Ok(validity) => {
+                self.wrong = self.wrong.wrapping_add(u64::from(validity != READ));
+                self.add(0);
+            }
+            Err(FormatFault { number, offset }) => {
+                self.offsets = self.offsets.wrapping_add(offset as u64);
+                self.add(number);
+            }
+        }
+    }
+}
+
 fn set(file: &mut [u8], at: usize, value: u8) {
     if let Some(byte) = file.get_mut(at) {
         *byte = value;
     }
 }
 
-/// Counts a file with one byte set to each other value.
-fn alter_byte(alloc: Global, bytes: &mut [u8], at: usize, sums: &mut Sums) {
-    let own = bytes.get(at).copied().unwrap_or(0);
+/// Counts the files with one byte set to each other value.
+fn alter_byte(alloc: Global, file: &mut [u8], at: usize, tally: &mut impl Tally) {
+    let own = file.get(at).copied().unwrap_or(0);
     for value in 0..=255 {
         if value != own {
-            set(bytes, at, value);
-            sums.count(alloc, bytes);
+            set(file, at, value);
+            tally.count(alloc, file, at);
         }
     }
-    set(bytes, at, own);
+    set(file, at, own);
 }
 
-/// Counts a file with each bit of one byte altered.
-fn alter_bits(alloc: Global, bytes: &mut [u8], at: usize, sums: &mut Sums) {
-    let own = bytes.get(at).copied().unwrap_or(0);
+/// Counts the files with each bit of one byte altered.
+fn alter_bits(alloc: Global, file: &mut [u8], at: usize, tally: &mut impl Tally) {
+    let own = file.get(at).copied().unwrap_or(0);
     for bit in [1, 2, 4, 8, 16, 32, 64, 128] {
-        set(bytes, at, own ^ bit);
-        sums.count(alloc, bytes);
+        set(file, at, own ^ bit);
+        tally.count(alloc, file, at);
     }
-    set(bytes, at, own);
+    set(file, at, own);
 }
 
-/// Each byte from one place up to another set to each other value. The file is as before afterwards.
-pub(crate) fn altered_bytes(alloc: Global, file: &mut [u8], from: u32, to: u32, out: &mut Answer) {
-    let mut sums = Sums::NONE;
-    for at in from..to {
-        alter_byte(alloc, file, at as usize, &mut sums);
+/// Counts the files that a file becomes in these ways. It is as before afterwards.
+pub(crate) fn alter(alloc: Global, file: &mut [u8], ways: Ways, tally: &mut impl Tally) {
+    match ways {
+        Ways::Bytes { from, to } => {
+            for at in from..to {
+                alter_byte(alloc, file, at as usize, tally);
+            }
+        }
+        Ways::Bits => {
+            for at in 0..file.len() {
+                alter_bits(alloc, file, at, tally);
+            }
+        }
     }
-    sums.put(out);
 }
 
-/// Each bit altered. The file is as before afterwards.
-pub(crate) fn altered_bits(alloc: Global, file: &mut [u8], out: &mut Answer) {
+/// How many of the altered files are read, and how many have which fault. The file is as before afterwards.
+pub(crate) fn altered_sums(alloc: Global, file: &mut [u8], ways: Ways, out: &mut Answer) {
     let mut sums = Sums::NONE;
-    for at in 0..file.len() {
-        alter_bits(alloc, file, at, &mut sums);
-    }
+    alter(alloc, file, ways, &mut sums);
     sums.put(out);
 }
 

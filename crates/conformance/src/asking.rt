@@ -1,6 +1,7 @@
 //! Asks the layers what the cases of a text ask.
 
-use crate::alterations::{altered_bits, altered_bytes, cuts};
+use crate::alterations::{Ways, altered_sums, cuts};
+use crate::altered_runs::altered_runs;
 use crate::answer::Answer;
 use crate::following::follow;
 use crate::lookups::look_up;
@@ -46,17 +47,25 @@ fn ask_file(alloc: Global, setting: &Setting, statement: Statement, out: &mut An
     }
 }
 
-/// The files with a byte altered: `FROM TO = SUMS`.
-fn ask_bytes(alloc: Global, file: &mut [u8], rest: &str, out: &mut Answer) -> Outcome {
-    let (range, expected) = question(rest);
+/// What is asked of the files with a byte altered: `FROM TO = ANSWER`.
+fn ask_bytes(
+    alloc: Global,
+    setting: &mut Setting,
+    statement: Statement,
+    out: &mut Answer,
+) -> Outcome {
+    let (range, expected) = question(statement.rest);
     let mut words = Words::of(range);
     let (from, to) = (words.number(), words.number());
-    altered_bytes(alloc, file, from, to, out);
-    if words.is_right() {
-        judged(out, expected)
-    } else {
-        Outcome::Unreadable
+    if !words.is_read() || to as usize > setting.file.len() {
+        return Outcome::Unreadable;
     }
+    let ways = Ways::Bytes { from, to };
+    if statement.word == "run_bytes" {
+        return altered_runs(alloc, setting, ways, expected, out);
+    }
+    altered_sums(alloc, &mut setting.file, ways, out);
+    judged(out, expected)
 }
 
 /// What is asked of a file or a source, and else of a module.
@@ -64,8 +73,9 @@ fn ask(alloc: Global, setting: &mut Setting, statement: Statement, out: &mut Ans
     match statement.word {
         "read" => read(alloc, &setting.file, out),
         "cuts" => cuts(alloc, &setting.file, out),
-        "bits" => altered_bits(alloc, &mut setting.file, out),
-        "bytes" => return ask_bytes(alloc, &mut setting.file, statement.rest, out),
+        "bits" => altered_sums(alloc, &mut setting.file, Ways::Bits, out),
+        "run_bits" => return altered_runs(alloc, setting, Ways::Bits, statement.rest, out),
+        "bytes" | "run_bytes" => return ask_bytes(alloc, setting, statement, out),
         "lines" | "parse" => return ask_source(alloc, &setting.source, statement, out),
         _ => return ask_file(alloc, setting, statement, out),
     }

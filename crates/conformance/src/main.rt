@@ -5,6 +5,7 @@
 #![tactic(auto)]
 
 mod alterations;
+mod altered_runs;
 mod answer;
 mod asking;
 mod edits;
@@ -22,6 +23,7 @@ mod statements;
 mod stepping;
 mod tokens;
 mod trees;
+mod watching;
 mod words;
 
 use asking::run_cases;
