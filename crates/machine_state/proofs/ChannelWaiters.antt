@@ -51,6 +51,7 @@ use Rattle.machine_state.proofs.Waiting.{WaitsIn, reached}
 use Rattle.machine_state.proofs.EveryWorld.{every_world}
 use Rattle.machine_state.proofs.EndedApart.{on_role_tasks, on_role_channels, is_not}
 use Rattle.machine_state.proofs.Roles.{told_of}
+use Rattle.machine_state.proofs.Changes.{of_every_world}
 
 -- ---- the channels of a world
 

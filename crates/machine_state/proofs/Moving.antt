@@ -1,7 +1,6 @@
 -- What the moves of processes leave alone.
 use Rattle.std.proofs.Common.{◌≡◌, ℕ, ℤ, pos, Bool, true, false, if◌then◌else◌, List, length, Option, Some, None}
-use Rattle.std.proofs.Common.{refl}
-use Rattle.std.proofs.Common.{◌∙◌, slice_get}
+use Rattle.std.proofs.Common.{refl, ap, ◌∙◌, slice_get}
 use Rattle.std.proofs.lemmas.List.{length-set}
 use Rattle.std.specs.Prelude.{◌==◌, filter, not, slice_set}
 use Rattle.module_format.specs.Contents.{Par}
@@ -13,11 +12,15 @@ use Rattle.machine_state.specs.declared.process.Condition.TheVariants.{Ready, Al
 use Rattle.machine_state.specs.World.{World, Join, Role}
 use Rattle.machine_state.specs.Site.{Local}
 use Rattle.machine_state.specs.LocalStep.{with_a_alone}
-use Rattle.machine_state.specs.Turn.{Here, continued}
+use Rattle.machine_state.specs.declared.process.Registers.{Registers}
+use Rattle.machine_state.specs.Memory.{Memory}
+use Rattle.machine_state.specs.Turn.{Here, between, continued}
 use Rattle.machine_state.specs.Alternations.{chosen, selected, in_mode}
 use Rattle.machine_state.specs.Moves.{on_task, wake, rouse, rouse_enabling, rouse_task}
 use Rattle.machine_state.specs.Moves.{dispatch, leave}
+use Rattle.machine_state.specs.Joins as join
 use Rattle.machine_state.specs.Joins.{on_role, joined, closed_task}
+use Rattle.machine_state.specs.EnabledLaws.{Disables}
 
 -- tasks and queue alone have changed, and no task has come or gone
 pub record OnlyTasks (w after : World) : Type 0 where
@@ -29,16 +32,20 @@ pub record OnlyTasks (w after : World) : Type 0 where
   pub fault : after.fault ≡ w.fault
   pub size : length after.tasks ≡ length w.tasks
 
-nothing_changes : (w : World) → OnlyTasks w w
-nothing_changes w = record {
+tasks_only : (w : World) (tasks : List Task) → length tasks ≡ length w.tasks
+    → OnlyTasks w (record w { tasks = tasks })
+tasks_only w tasks size = record {
   memory = refl;
   roles = refl;
   links = refl;
   channels = refl;
   counters = refl;
   fault = refl;
-  size = refl;
+  size = size;
 }
+
+nothing_changes : (w : World) → OnlyTasks w w
+nothing_changes w = tasks_only w w.tasks refl
 
 pub on_task_only : (p : ℕ) (f : Task → Task) (w : World) → OnlyTasks w (on_task p f w)
 on_task_only p f w = on (slice_get w.tasks p)
@@ -46,27 +53,27 @@ on_task_only p f w = on (slice_get w.tasks p)
     on : (o : Option Task) → OnlyTasks w
         (elim o [ None ↦ w | Some task ↦ record w { tasks = slice_set w.tasks p (f task) } ])
     on None = nothing_changes w
-    on (Some task) = record {
-      memory = refl;
-      roles = refl;
-      links = refl;
-      channels = refl;
-      counters = refl;
-      fault = refl;
-      size = length-set w.tasks p (f task);
-    }
+    on (Some task) = tasks_only w (slice_set w.tasks p (f task)) (length-set w.tasks p (f task))
+
+-- the tasks after a task was changed, where that task is there
+pub on_task_tasks : (q : ℕ) (f : Task → Task) (w : World) (t : Task) → slice_get w.tasks q ≡ Some t
+    → (on_task q f w).tasks ≡ slice_set w.tasks q (f t)
+on_task_tasks q f w t here = ap (λ (o : Option Task). (elim o as (λ o. World) [
+  | None ↦ w
+  | Some task ↦ record w { tasks = slice_set w.tasks q (f task) }
+]).tasks) here
 
 pub wake_only : (p : ℕ) (w : World) → OnlyTasks w (wake p w)
 wake_only p w =
-    let r = on_task_only p (λ task. record task { condition = Ready }) w in
+    let only = on_task_only p (λ task. record task { condition = Ready }) w in
     record {
-      memory = r.memory;
-      roles = r.roles;
-      links = r.links;
-      channels = r.channels;
-      counters = r.counters;
-      fault = r.fault;
-      size = r.size;
+      memory = only.memory;
+      roles = only.roles;
+      links = only.links;
+      channels = only.channels;
+      counters = only.counters;
+      fault = only.fault;
+      size = only.size;
     }
 
 pub rouse_only : (o : Option ℕ) (w : World) → OnlyTasks w (rouse o w)
@@ -86,7 +93,23 @@ rouse_only (Some p) w = on (slice_get w.tasks p)
     on None = nothing_changes w
     on (Some task) = on_condition task.mode task.condition
 
--- what is selected makes a difference to the process and to memory alone
+-- what is selected makes a difference to the registers and the mode of the process, and to memory, alone
+pub chooses : (h : Here) (w : World) (l : Local) (P : World → Type 0)
+    → ((r : Registers) (mode : Mode) (m : Memory) → r.workspace ≡ l.registers.workspace
+    → (Disables h.from.mode → Disables mode) → P (record w {
+      memory = m;
+      tasks = slice_set w.tasks h.process (record h.from { registers = r; mode = mode });
+    })) → (is_ready : Bool) (distance : ℤ) → P (chosen h is_ready distance l w)
+chooses h w l P kept is_ready distance = on (selected h.from.mode is_ready distance)
+  where
+    on : (b : Bool) → P (if b
+        then in_mode h (Disabling (Some distance)) (with_a_alone (Some (pos 1)) l) w
+        else continued h h.next (with_a_alone (Some (pos 0)) l) w)
+    on true = kept (between h.next (with_a_alone (Some (pos 1)) l).registers) (Disabling (Some distance)) l.memory refl
+        (λ disables. (Some distance, refl))
+    on false = kept (between h.next (with_a_alone (Some (pos 0)) l).registers) h.from.mode l.memory refl
+        (λ disables. disables)
+
 pub record OnlySelected (w after : World) : Type 0 where
   pub roles : after.roles ≡ w.roles
   pub links : after.links ≡ w.links
@@ -94,57 +117,86 @@ pub record OnlySelected (w after : World) : Type 0 where
 
 pub chosen_only : (h : Here) (is_ready : Bool) (distance : ℤ) (l : Local) (w : World)
     → OnlySelected w (chosen h is_ready distance l w)
-chosen_only h is_ready distance l w = on (selected h.from.mode is_ready distance)
+chosen_only h is_ready distance l w = chooses h w l (OnlySelected w)
+    (λ r mode m same further. record { roles = refl; links = refl; channels = refl }) is_ready distance
+
+-- ---- roles
+
+-- roles alone have changed
+pub record OnlyRoles (w after : World) : Type 0 where
+  pub memory : after.memory ≡ w.memory
+  pub tasks : after.tasks ≡ w.tasks
+  pub links : after.links ≡ w.links
+  pub channels : after.channels ≡ w.channels
+  pub counters : after.counters ≡ w.counters
+
+pub on_role_only : (p : ℕ) (f : Role → Role) (w : World) → OnlyRoles w (on_role p f w)
+on_role_only p f w = on (slice_get w.roles p)
   where
-    on : (b : Bool) → OnlySelected w (if b
-        then in_mode h (Disabling (Some distance)) (with_a_alone (Some (pos 1)) l) w
-        else continued h h.next (with_a_alone (Some (pos 0)) l) w)
-    on true = record { roles = refl; links = refl; channels = refl }
-    on false = record { roles = refl; links = refl; channels = refl }
+    on : (o : Option Role) → OnlyRoles w
+        (elim o [ None ↦ w | Some role ↦ record w { roles = slice_set w.roles p (f role) } ])
+    on None = record { memory = refl; tasks = refl; links = refl; channels = refl; counters = refl }
+    on (Some role) = record { memory = refl; tasks = refl; links = refl; channels = refl; counters = refl }
+
+-- the roles after a role was changed, where that role is there
+pub on_role_roles : (p : ℕ) (f : Role → Role) (w : World) (r : Role) → slice_get w.roles p ≡ Some r
+    → (on_role p f w).roles ≡ slice_set w.roles p (f r)
+on_role_roles p f w r here = ap (λ (o : Option Role). (elim o as (λ o. World) [
+  | None ↦ w
+  | Some role ↦ record w { roles = slice_set w.roles p (f role) }
+]).roles) here
+
+-- ---- a member of a join ends
+
+-- a join without a member
+abbrev pub without : ℕ → Join → Join
+without p j = record j { members = filter (λ q. not (q == p)) j.members }
+
+-- no other member is left
+abbrev pub is_last : ℕ → Join → Bool
+is_last p j = length (filter (λ q. not (q == p)) j.members) == 0
+
+abbrev pub with_opened : Option Join → Role → Role
+with_opened o role = record role { opened = o }
+
+-- the world in which the process is a member of its opener's join no more
+abbrev pub member_gone : Here → ℕ → Join → World → World
+member_gone h o j w = on_role o (with_opened (Some (without h.process j))) w
+
+-- the join goes on, or is over
+pub joined_either : (P : World → Type 0) (h : Here) (o : ℕ) (j : Join) (par : Par) (w : World)
+    → (is_last h.process j ≡ true → P (join.closed o j par (member_gone h o j w)))
+    → (is_last h.process j ≡ false → P (dispatch h.pick (leave (member_gone h o j w)))) → P (joined h o j par w)
+joined_either P h o j par w over more = on (is_last h.process j) refl
+  where
+    on : (b : Bool) → is_last h.process j ≡ b
+        → P (if b then join.closed o j par (member_gone h o j w) else dispatch h.pick (leave (member_gone h o j w)))
+    on true none = over none
+    on false some = more some
 
 -- neither memory nor the counters have changed
 pub record Quiet (w after : World) : Type 0 where
   pub memory : after.memory ≡ w.memory
   pub counters : after.counters ≡ w.counters
 
-pub quiet : (w after : World) → OnlyTasks w after → Quiet w after
-quiet w after only = record { memory = only.memory; counters = only.counters }
-
-pub quiet_more : (a b c : World) → Quiet a b → Quiet b c → Quiet a c
-quiet_more a b c p q = record { memory = q.memory ∙ p.memory; counters = q.counters ∙ p.counters }
-
-pub on_role_quiet : (p : ℕ) (f : Role → Role) (w : World) → Quiet w (on_role p f w)
-on_role_quiet p f w = on (slice_get w.roles p)
-  where
-    on : (o : Option Role) → Quiet w
-        (elim o [ None ↦ w | Some role ↦ record w { roles = slice_set w.roles p (f role) } ])
-    on None = record { memory = refl; counters = refl }
-    on (Some role) = record { memory = refl; counters = refl }
-
-pub joined_quiet : (h : Here) (opener : ℕ) (j : Join) (par : Par) (w : World) → Quiet w (joined h opener j par w)
+pub joined_quiet : (h : Here) (o : ℕ) (j : Join) (par : Par) (w : World) → Quiet w (joined h o j par w)
 unfolding dispatch
-joined_quiet h opener j par w = on (length members == 0)
+joined_quiet h o j par w = joined_either (Quiet w) h o j par w
+    (λ none. record {
+      memory = shut.memory ∙ (over.memory ∙ gone.memory);
+      counters = shut.counters ∙ (over.counters ∙ gone.counters);
+    })
+    (λ some. record { memory = gone.memory; counters = gone.counters })
   where
-    members : List ℕ
-    members = filter (λ q. not (q == h.process)) j.members
-
     there : World
-    there = on_role opener (λ role. record role { opened = Some (record j { members = members }) }) w
+    there = member_gone h o j w
 
-    reduced : Quiet w there
-    reduced = on_role_quiet opener (λ role. record role { opened = Some (record j { members = members }) }) w
+    gone : OnlyRoles w there
+    gone = on_role_only o (with_opened (Some (without h.process j))) w
 
-    over : World
-    over = on_role opener (λ role. record role { opened = None }) (on_task opener (closed_task j par) there)
+    over : OnlyTasks there (on_task o (closed_task j par) there)
+    over = on_task_only o (closed_task j par) there
 
-    closes : Quiet w over
-    closes = quiet_more w there over reduced
-        (quiet_more there (on_task opener (closed_task j par) there) over
-        (quiet there (on_task opener (closed_task j par) there) (on_task_only opener (closed_task j par) there))
-        (on_role_quiet opener (λ role. record role { opened = None }) (on_task opener (closed_task j par) there)))
-
-    on : (b : Bool)
-        → Quiet w (if b then Rattle.machine_state.specs.Joins.closed opener j par there
-        else dispatch h.pick (leave there))
-    on true = record { memory = closes.memory; counters = closes.counters }
-    on false = record { memory = reduced.memory; counters = reduced.counters }
+    shut : OnlyRoles (on_task o (closed_task j par) there)
+        (on_role o (with_opened None) (on_task o (closed_task j par) there))
+    shut = on_role_only o (with_opened None) (on_task o (closed_task j par) there)

@@ -50,7 +50,7 @@ use Rattle.machine_state.proofs.Combining.{and_true}
 use Rattle.machine_state.proofs.EveryInstruction.{Wants, here, scheduled, each_step}
 use Rattle.machine_state.proofs.Frame.{changes_more, changes_nothing, write_is_own, byte_is_own, copy_is_own, steps_change_own}
 use Rattle.machine_state.proofs.SpanLaws.{both_true, runs_tell}
-use Rattle.machine_state.proofs.Moving.{on_task_only, wake_only, rouse_only, on_role_quiet, joined_quiet}
+use Rattle.machine_state.proofs.Moving.{on_task_only, wake_only, rouse_only, on_role_only, joined_quiet}
 use Rattle.machine_state.proofs.Starting.{first_tests, later_tests}
 use Rattle.machine_state.proofs.Turns as turns
 use Rattle.machine_state.proofs.Turns.{Moved, Ends, Happened, local_here, plan_of, turn_happens}
@@ -348,7 +348,7 @@ module _ (h : Here) (w : World) where
 
   started_memory : (plan : Plan) (found : Found) (workspace : ℕ) (l : Local) (v : World)
       → (started h plan found workspace l v).memory ≡ without_words (scheduling_addresses workspace) l.memory
-  started_memory plan found workspace l v = (on_role_quiet h.process
+  started_memory plan found workspace l v = (on_role_only h.process
       (λ role. record role { opened = Some (join_after (length v.memory) plan found (length v.tasks)) })
       (put h.process (record h.from { registers = between h.next l.registers; mode = Starting })
       (without_words (scheduling_addresses workspace) l.memory) v)).memory
@@ -416,7 +416,7 @@ module _ (h : Here) (w : World) where
       only_own hold None w.memory l.memory _ own refl (joined_quiet h h.process j par (ended h l w)).memory
   moved_writes o after (turns.joins_opener block l opener j par none by is row same) own says =
       only_own hold None w.memory l.memory _ own refl ((joined_quiet h opener j par (given_back h (ended h l w))).memory
-      ∙ (on_role_quiet h.process (λ role. record role { own = nothing }) (ended h l w)).memory)
+      ∙ (on_role_only h.process (λ role. record role { own = nothing }) (ended h l w)).memory)
   moved_writes o after (turns.it_begins l) own says = only_own hold None w.memory l.memory _ own refl refl
   moved_writes o after (turns.it_enables guard address l s holds (turns.on_channel c inside there) once) own says =
       only_own hold None w.memory l.memory _ own refl refl
