@@ -344,4 +344,3 @@ on_role_links q f v = on (slice_get v.roles q)
     ]).links ≡ v.links
     on None = refl
     on (Some role) = refl
-
