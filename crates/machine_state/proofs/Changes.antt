@@ -170,6 +170,18 @@ pub data Onward (h : Here) (w : World) : Mode → Condition → Type 0 where
   disables : Disables h.from.mode → (mode : Mode) → Disables mode → Onward h w mode h.from.condition
   ends_alternation : Disables h.from.mode → has_enabled w h.process ≡ false → Onward h w Plain h.from.condition
 
+-- what is so of the condition in each of these cases
+pub onward_condition : (P : Condition → Type 0) (h : Here) (w : World) → P h.from.condition → P Stopped → P Alternating
+    → (mode : Mode) (c : Condition) → Onward h w mode c → P c
+onward_condition P h w same stopped waits mode c as_before = same
+onward_condition P h w same stopped waits mode c (stops is) = stopped
+onward_condition P h w same stopped waits mode c (begins is) = same
+onward_condition P h w same stopped waits mode c (enables is b) = same
+onward_condition P h w same stopped waits mode c (is_ready is) = same
+onward_condition P h w same stopped waits mode c (alternates is unready) = waits
+onward_condition P h w same stopped waits mode c (disables is later further) = same
+onward_condition P h w same stopped waits mode c (ends_alternation is none) = same
+
 -- another process that waits
 pub record Partner (h : Here) (w : World) (other : ℕ) (c : Condition) : Type 0 where
   pub task : Task

@@ -110,16 +110,6 @@ chooses h w l P kept is_ready distance = on (selected h.from.mode is_ready dista
     on false = kept (between h.next (with_a_alone (Some (pos 0)) l).registers) h.from.mode l.memory refl
         (λ disables. disables)
 
-pub record OnlySelected (w after : World) : Type 0 where
-  pub roles : after.roles ≡ w.roles
-  pub links : after.links ≡ w.links
-  pub channels : after.channels ≡ w.channels
-
-pub chosen_only : (h : Here) (is_ready : Bool) (distance : ℤ) (l : Local) (w : World)
-    → OnlySelected w (chosen h is_ready distance l w)
-chosen_only h is_ready distance l w = chooses h w l (OnlySelected w)
-    (λ r mode m same further. record { roles = refl; links = refl; channels = refl }) is_ready distance
-
 -- ---- roles
 
 -- roles alone have changed

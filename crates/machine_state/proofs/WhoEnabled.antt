@@ -21,7 +21,7 @@ use Rattle.machine_state.specs.World.{World, Links, Role, loaded}
 use Rattle.machine_state.specs.Moves.{cell_of}
 use Rattle.machine_state.specs.Turn.{Here, at_here}
 use Rattle.machine_state.specs.Alternations.{ready_or, is_by, has_enabled}
-use Rattle.machine_state.specs.Joins.{closed_task, without_channels, on_role}
+use Rattle.machine_state.specs.Joins.{closed_task, without_channels}
 use Rattle.machine_state.specs.Happens.{world_after}
 use Rattle.machine_state.specs.EnabledLaws.{HasEnabled, a_channel, a_link, Enables, Disables, Alternates}
 use Rattle.machine_state.specs.EnabledLaws.{IsInAlternation, AllAlternate, WhoEnabledAlternates}
@@ -334,13 +334,3 @@ loaded_alternates m p (a_link k l here is) = absurd (never 4 k here)
 pub who_enabled_alternates : WhoEnabledAlternates
 who_enabled_alternates m es = of_every_world m (λ ts rs cs ls. AllAlternate ts cs ls.inputs) (loaded_alternates m)
     (λ es ts rs cs ls all x. passed m (world_after m es) (reached m es) all ts rs cs ls x) es
-
-pub on_role_links : (q : ℕ) (f : Role → Role) (v : World) → (on_role q f v).links ≡ v.links
-on_role_links q f v = on (slice_get v.roles q)
-  where
-    on : (o : Option Role) → (elim o as (λ o. World) [
-      | None ↦ v
-      | Some role ↦ record v { roles = slice_set v.roles q (f role) }
-    ]).links ≡ v.links
-    on None = refl
-    on (Some role) = refl

@@ -51,7 +51,7 @@ use Rattle.machine_state.proofs.OthersHold.{HoldOn, others_hold, smaller_holds}
 use Rattle.machine_state.proofs.ApartLaws.{IsSmall, format_is_small, Stands, all_stand, own_role}
 use Rattle.machine_state.proofs.Changes as change
 use Rattle.machine_state.proofs.Changes.{Changed, Passed, Onward, Receives, Opening, GivesBack, Leaves, Roused, going}
-use Rattle.machine_state.proofs.Changes.{cell_is, with_cell, running_is_ready, of_every_world}
+use Rattle.machine_state.proofs.Changes.{cell_is, with_cell, onward_condition, running_is_ready, of_every_world}
 
 -- ---- who waits on an internal channel
 
@@ -297,14 +297,7 @@ module _ (h : Here) (w : World) (runs : w.queue.running ≡ Some h.process)
       record { channel = x.channel; here = kept x.channel x.here holds; waiting = x.waiting; end = holds }
 
   calm_onward : (mode : Mode) (c : Condition) → Onward h w mode c → IsCalm c
-  calm_onward mode c (change.stops is) = calm_stopped
-  calm_onward mode c (change.alternates is unready) = calm_alternating
-  calm_onward mode c change.as_before = calm_from
-  calm_onward mode c (change.begins is) = calm_from
-  calm_onward mode c (change.enables is b) = calm_from
-  calm_onward mode c (change.is_ready is) = calm_from
-  calm_onward mode c (change.disables is later further) = calm_from
-  calm_onward mode c (change.ends_alternation is none) = calm_from
+  calm_onward = onward_condition IsCalm h w calm_from calm_stopped calm_alternating
 
   calm_receives : (e : Exchange) (link new : InputLink) (c : Condition) → Receives h e link c new → IsCalm c
   calm_receives e link new c (change.no_byte none) = calm_link e 0

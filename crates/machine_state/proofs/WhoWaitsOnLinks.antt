@@ -34,7 +34,7 @@ use Rattle.machine_state.proofs.OthersHold.{HoldOn, others_hold}
 use Rattle.machine_state.proofs.ApartLaws.{holdings_stay_apart}
 use Rattle.machine_state.proofs.Changes as change
 use Rattle.machine_state.proofs.Changes.{Changed, Passed, Onward, Receives, going, with_link, with_sender, HoldsEnd}
-use Rattle.machine_state.proofs.Changes.{running_is_ready, of_every_world}
+use Rattle.machine_state.proofs.Changes.{onward_condition, running_is_ready, of_every_world}
 
 -- ---- an end has one holder
 
@@ -232,14 +232,7 @@ module _ (h : Here) (w : World) (runs : w.queue.running ≡ Some h.process)
           not_another p e x differ (word ∙ sym is) Out asks end
 
   off_onward : (mode : Mode) (c : Condition) → Onward h w mode c → IsOff c
-  off_onward mode c (change.stops is) = λ e done on. cc
-  off_onward mode c (change.alternates is unready) = λ e done on. cc
-  off_onward mode c change.as_before = off_from
-  off_onward mode c (change.begins is) = off_from
-  off_onward mode c (change.enables is b) = off_from
-  off_onward mode c (change.is_ready is) = off_from
-  off_onward mode c (change.disables is later further) = off_from
-  off_onward mode c (change.ends_alternation is none) = off_from
+  off_onward = onward_condition IsOff h w off_from (λ e done on. cc) (λ e done on. cc)
 
   receives : (r : Registers) (e : Exchange) (k : ℕ) (link new : InputLink) (c : Condition)
       → slice_get w.links.inputs k ≡ Some link → e.channel ≡ input_word k → HoldsEnd h w e.channel In
