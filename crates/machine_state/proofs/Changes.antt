@@ -46,11 +46,11 @@ use Rattle.machine_state.proofs.Moving.{OnlyRoles, wake_only, rouse_only, on_tas
 use Rattle.machine_state.proofs.Moving.{on_role_roles, without, is_last, with_opened, member_gone, joined_either}
 use Rattle.machine_state.proofs.Among.{IsAmong, filter_keeps, none_among}
 use Rattle.machine_state.proofs.Claims.{only_one, not_some}
-use Rattle.machine_state.proofs.EveryInstruction.{Wants, each_step}
+use Rattle.machine_state.proofs.EveryInstruction.{Wants, OfAsked, wants_asked, each_step}
 use Rattle.machine_state.proofs.Modes.{IsOutside, Fits, steps_fit}
 use Rattle.machine_state.proofs.Turns as turns
 use Rattle.machine_state.proofs.Turns.{Moved, Ends, Happened, local_here, plan_of, turn_happens}
-use Rattle.machine_state.proofs.Waiting.{WaitsIn, reached, link_found, link_low, input_words, output_words, has_role}
+use Rattle.machine_state.proofs.Waiting.{WaitsIn, reached, link_found, link_low, input_words, output_words, has_role, filled}
 use Rattle.machine_state.proofs.EveryWorld.{every_world}
 use Rattle.machine_state.proofs.Roles.{set_twice, told_of, field_at}
 use Rattle.machine_state.proofs.EndedApart.{is_not}
@@ -58,39 +58,13 @@ use Rattle.machine_state.proofs.EndedApart.{is_not}
 -- ---- a message that is asked for, or what is enabled: its end is held
 
 abbrev pub AsksHeld : Site → Outcome → Type 0
-AsksHeld s (receives e l) = has_end s.holding (record { address = e.channel; direction = In }) ≡ true
-AsksHeld s (sends e l) = has_end s.holding (record { address = e.channel; direction = Out }) ≡ true
-AsksHeld s (enables_channel guard address l) =
-    has_end s.holding (record { address = address; direction = In }) ≡ true
-AsksHeld s _ = ⊤
+AsksHeld s = OfAsked (λ e l. has_end s.holding (record { address = e.channel; direction = In }) ≡ true)
+    (λ e l. has_end s.holding (record { address = e.channel; direction = Out }) ≡ true)
+    (λ address. has_end s.holding (record { address = address; direction = In }) ≡ true)
 
 pub asks_held : (s : Site) (r : Registers) (old : Memory)
     → Wants s r old old (λ r m n. m ≡ n) (λ o other. AsksHeld s o)
-asks_held s r old = record {
-  same_word = λ r m n place k own. ap (λ (m : Memory). word_at m place) k;
-  same_byte = λ r m n place k own. ap (λ (m : Memory). byte_at m place) k;
-  stack = λ r m n stack k. k;
-  workspace = λ r m n e k. k;
-  word = λ r m n place v k own. ap (λ (m : Memory). with_word m place v) k;
-  byte = λ r m n place v k own. ap (λ (m : Memory). with_byte m place v) k;
-  copy = λ r m n source to count k read own. ap (λ (m : Memory). copied m source to count m) k;
-  at_fault = λ kind. tt;
-  at_goes = λ r m n k. tt;
-  at_jumps = λ to r m n k. tt;
-  at_lands = λ to r m n k. tt;
-  at_stops = λ r m n k. tt;
-  at_receives = λ e asked own k. asked.end;
-  at_sends = λ e asked own defined k. asked.end;
-  at_starts = λ to workspace r m n even k. tt;
-  at_joins = λ block r m n k. tt;
-  at_begins = λ r m n k. tt;
-  at_enables_channel = λ guard at r m n k held. held;
-  at_enables_skip = λ guard r m n k. tt;
-  at_waits = λ r m n k. tt;
-  at_disables_channel = λ guard at distance r m n k held. tt;
-  at_disables_skip = λ guard distance r m n k. tt;
-  at_ends_alternation = λ to r m n k. tt;
-}
+asks_held s r old = wants_asked s r old _ _ _ (λ e asked own. asked.end) (λ e asked defined. asked.end) (λ at held. held)
 
 -- ---- what is known of the running process and of who opened its join
 
@@ -616,16 +590,11 @@ module _ (m : Contents) (w : World) (keeps : WaitsIn w) where
   taken : (p k byte : ℕ) (link : InputLink) → slice_get w.links.inputs k ≡ Some link → link.waiting ≡ Some p
       → let v = fill p k byte link w in Passed m w v.tasks v.roles v.channels v.links
   taken p k byte link here waiting =
-      subst (λ (v : World). Passed m w v.tasks v.roles v.channels v.links) (sym filled)
+      subst (λ (v : World). Passed m w v.tasks v.roles v.channels v.links) (sym (filled w p (input_word k) k byte link x))
       (on (x.done + 1 == x.exchange.length))
     where
       x : WaitsOn w.tasks p (input_word k)
       x = keeps.rest.waiters.inputs k link p here waiting
-
-      filled : fill p k byte link w ≡ fill_condition p k byte link (OnLink x.exchange x.done) w
-      filled = ap (λ (o : Option Task). elim o as (λ o. World)
-          [ None ↦ w | Some task ↦ fill_condition p k byte link task.condition w ]) x.here
-          ∙ ap (λ (c : Condition). fill_condition p k byte link c w) x.waits
 
       memory : Memory
       memory = with_byte w.memory (place_of ((x.exchange.address + x.done) % 2 ^ 32)) (Some byte)

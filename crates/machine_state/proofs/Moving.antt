@@ -1,14 +1,15 @@
 -- What the moves of processes leave alone.
 use Rattle.std.proofs.Common.{◌≡◌, ℕ, ℤ, pos, Bool, true, false, if◌then◌else◌, List, length, Option, Some, None}
-use Rattle.std.proofs.Common.{refl, ap, ◌∙◌, slice_get}
+use Rattle.std.proofs.Common.{refl, sym, ap, ◌∙◌, slice_get}
 use Rattle.std.proofs.lemmas.List.{length-set}
 use Rattle.std.specs.Prelude.{◌==◌, filter, not, slice_set}
 use Rattle.module_format.specs.Contents.{Par}
 use Rattle.machine_state.specs.declared.process.Task.{Task}
 use Rattle.machine_state.specs.declared.process.Mode.{Mode}
-use Rattle.machine_state.specs.declared.process.Mode.TheVariants.{Enabling, Disabling}
+use Rattle.machine_state.specs.declared.process.Mode.TheVariants.{Plain, Enabling, Disabling, Starting}
 use Rattle.machine_state.specs.declared.process.Condition.{Condition}
-use Rattle.machine_state.specs.declared.process.Condition.TheVariants.{Ready, Alternating}
+use Rattle.machine_state.specs.declared.process.Condition.TheVariants.{Ready, Sending, Receiving, OnLink, Alternating}
+use Rattle.machine_state.specs.declared.process.Condition.TheVariants.{Stopped, Ended}
 use Rattle.machine_state.specs.World.{World, Join, Role}
 use Rattle.machine_state.specs.Site.{Local}
 use Rattle.machine_state.specs.LocalStep.{with_a_alone}
@@ -16,7 +17,7 @@ use Rattle.machine_state.specs.declared.process.Registers.{Registers}
 use Rattle.machine_state.specs.Memory.{Memory}
 use Rattle.machine_state.specs.Turn.{Here, between, continued}
 use Rattle.machine_state.specs.Alternations.{chosen, selected, in_mode}
-use Rattle.machine_state.specs.Moves.{on_task, wake, rouse, rouse_enabling, rouse_task}
+use Rattle.machine_state.specs.Moves.{on_task, enqueue, wake, rouse, rouse_enabling, rouse_task}
 use Rattle.machine_state.specs.Moves.{dispatch, leave}
 use Rattle.machine_state.specs.Joins as join
 use Rattle.machine_state.specs.Joins.{on_role, joined, closed_task}
@@ -92,6 +93,67 @@ rouse_only (Some p) w = on (slice_get w.tasks p)
         → OnlyTasks w (elim o [ None ↦ w | Some task ↦ rouse_task p task.mode task.condition w ])
     on None = nothing_changes w
     on (Some task) = on_condition task.mode task.condition
+
+-- ---- a move that has nothing to do with tasks
+
+-- it makes no difference whether it comes before a move of tasks or after
+module _ (move : World → World) (same : (w : World) → (move w).tasks ≡ w.tasks)
+    (sets : (w : World) (tasks : List Task) → move (record w { tasks = tasks }) ≡ record (move w) { tasks = tasks })
+    (queues : (p : ℕ) (w : World) → move (enqueue p w) ≡ enqueue p (move w)) where
+  pub on_task_beside : (p : ℕ) (f : Task → Task) (w : World) → move (on_task p f w) ≡ on_task p f (move w)
+  on_task_beside p f w = on (slice_get w.tasks p) ∙ ap (λ (ts : List Task). elim (slice_get ts p) as (λ o. World) [
+    | None ↦ move w
+    | Some task ↦ record (move w) { tasks = slice_set ts p (f task) }
+  ]) (sym (same w))
+    where
+      on : (o : Option Task) → move (elim o as (λ o. World) [
+        | None ↦ w
+        | Some task ↦ record w { tasks = slice_set w.tasks p (f task) }
+      ]) ≡ elim o as (λ o. World) [
+        | None ↦ move w
+        | Some task ↦ record (move w) { tasks = slice_set w.tasks p (f task) }
+      ]
+      on None = refl
+      on (Some task) = sets w (slice_set w.tasks p (f task))
+
+  pub wake_beside : (p : ℕ) (w : World) → move (wake p w) ≡ wake p (move w)
+  wake_beside p w =
+      queues p (on_task p (λ task. record task { condition = Ready }) w)
+      ∙ ap (enqueue p) (on_task_beside p (λ task. record task { condition = Ready }) w)
+
+  pub rouse_beside : (o : Option ℕ) (w : World) → move (rouse o w) ≡ rouse o (move w)
+  rouse_beside None w = refl
+  rouse_beside (Some p) w = on (slice_get w.tasks p) ∙ ap (λ (ts : List Task). elim (slice_get ts p) as (λ o. World) [
+    | None ↦ move w
+    | Some task ↦ rouse_task p task.mode task.condition (move w)
+  ]) (sym (same w))
+    where
+      on_mode : (mode : Mode) → move (rouse_enabling p mode w) ≡ rouse_enabling p mode (move w)
+      on_mode (Enabling is_ready) = on_task_beside p (λ task. record task { mode = Enabling true }) w
+      on_mode Plain = refl
+      on_mode (Disabling selection) = refl
+      on_mode Starting = refl
+
+      on_condition : (mode : Mode) (c : Condition) → move (rouse_task p mode c w) ≡ rouse_task p mode c (move w)
+      on_condition mode Alternating = wake_beside p w
+      on_condition mode Ready = on_mode mode
+      on_condition mode (Sending e) = on_mode mode
+      on_condition mode (Receiving e) = on_mode mode
+      on_condition mode (OnLink e done) = on_mode mode
+      on_condition mode Stopped = on_mode mode
+      on_condition mode Ended = on_mode mode
+
+      on : (o : Option Task) → move (elim o as (λ o. World) [
+        | None ↦ w
+        | Some task ↦ rouse_task p task.mode task.condition w
+      ]) ≡ elim o as (λ o. World) [
+        | None ↦ move w
+        | Some task ↦ rouse_task p task.mode task.condition (move w)
+      ]
+      on None = refl
+      on (Some task) = on_condition task.mode task.condition
+
+-- ---- what is selected
 
 -- what is selected makes a difference to the registers and the mode of the process, and to memory, alone
 pub chooses : (h : Here) (w : World) (l : Local) (P : World → Type 0)

@@ -15,6 +15,7 @@ use Rattle.machine_state.specs.LinkLaws.{IsAtLink, at_input, at_output}
 use Rattle.machine_state.specs.WaitingOnce.{Post, a_cell, an_input, an_output, recorded_at, NobodyWaitsTwice}
 use Rattle.machine_state.specs.WaitingOnce.{NoTwoWaitTogether}
 use Rattle.machine_state.specs.Happens.{world_after}
+use Rattle.machine_state.proofs.Lines.{told_in}
 use Rattle.machine_state.proofs.Claims.{only_one}
 use Rattle.machine_state.proofs.Waiting.{WaitsIn, reached, same_link, low_output}
 use Rattle.machine_state.proofs.ChannelWaiters.{waits_once, channels_have_their_waiters}
@@ -36,23 +37,11 @@ cell_there w k p is = on (slice_get w.channels k) refl is
 
 input_there : (w : World) (k p : ℕ) → recorded_at w (an_input k) ≡ Some p
     → (l : InputLink) × (slice_get w.links.inputs k ≡ Some l) × (l.waiting ≡ Some p)
-input_there w k p is = on (slice_get w.links.inputs k) refl is
-  where
-    on : (o : Option InputLink) → slice_get w.links.inputs k ≡ o
-        → elim o as (λ o. Option ℕ) [ None ↦ None | Some link ↦ link.waiting ] ≡ Some p
-        → (l : InputLink) × (slice_get w.links.inputs k ≡ Some l) × (l.waiting ≡ Some p)
-    on None here is = absurd (cc)
-    on (Some l) here is = (l, here, is)
+input_there w k p is = told_in (λ (l : InputLink). l.waiting) w.links.inputs k p is
 
 output_there : (w : World) (k p : ℕ) → recorded_at w (an_output k) ≡ Some p
     → (l : OutputLink) × (slice_get w.links.outputs k ≡ Some l) × (l.waiting ≡ Some p)
-output_there w k p is = on (slice_get w.links.outputs k) refl is
-  where
-    on : (o : Option OutputLink) → slice_get w.links.outputs k ≡ o
-        → elim o as (λ o. Option ℕ) [ None ↦ None | Some link ↦ link.waiting ] ≡ Some p
-        → (l : OutputLink) × (slice_get w.links.outputs k ≡ Some l) × (l.waiting ≡ Some p)
-    on None here is = absurd (cc)
-    on (Some l) here is = (l, here, is)
+output_there w k p is = told_in (λ (l : OutputLink). l.waiting) w.links.outputs k p is
 
 -- who waits on a channel does not wait on a link
 not_both : (w : World) (p k word : ℕ) → WaitsAt w.tasks p k → WaitsOn w.tasks p word → ⊥

@@ -47,7 +47,7 @@ use Rattle.machine_state.specs.Writing.{is_own, WritesWell, StepWrites, StepsWri
 use Rattle.machine_state.specs.Writing.{ArrivalsWriteOne, AcknowledgementsWriteNothing}
 use Rattle.machine_state.proofs.Reading.{length-with_byte, byte_at-with_byte, byte_at-with_byte_other}
 use Rattle.machine_state.proofs.Combining.{and_true}
-use Rattle.machine_state.proofs.EveryInstruction.{Wants, here, scheduled, each_step}
+use Rattle.machine_state.proofs.EveryInstruction.{Wants, OfAsked, wants_asked, here, scheduled, each_step}
 use Rattle.machine_state.proofs.Frame.{changes_more, changes_nothing, write_is_own, byte_is_own, copy_is_own, steps_change_own}
 use Rattle.machine_state.proofs.SpanLaws.{both_true, runs_tell}
 use Rattle.machine_state.proofs.Moving.{on_task_only, wake_only, rouse_only, on_role_only, joined_quiet}
@@ -109,43 +109,18 @@ all_at test place (suc n) (suc i) all inside =
 -- ---- what an outcome says of a message: it has a byte at least
 
 abbrev pub Message : Site → Memory → Outcome → Type 0
-Message s old (receives e l) = all_places (may_write s.holding) (place_of e.address) e.length ≡ true × (1 ≤ e.length)
-Message s old (sends e l) =
-    ((i : ℕ) → i < e.length → byte_at l.memory (place_of e.address + i) ≡ byte_at old (place_of e.address + i))
-    × (1 ≤ e.length)
-Message s old _ = ⊤
+Message s old = OfAsked
+    (λ e l. (all_places (may_write s.holding) (place_of e.address) e.length ≡ true) × (1 ≤ e.length))
+    (λ e l. ((i : ℕ) → i < e.length
+    → byte_at l.memory (place_of e.address + i) ≡ byte_at old (place_of e.address + i)) × (1 ≤ e.length)) (λ address. ⊤)
 
 pub messages : (s : Site) (r : Registers) (old : Memory)
     → Wants s r old old (λ r m n. m ≡ n) (λ o other. Message s old o)
-messages s r old = record {
-  same_word = λ r m n place k own. ap (λ (m : Memory). word_at m place) k;
-  same_byte = λ r m n place k own. ap (λ (m : Memory). byte_at m place) k;
-  stack = λ r m n stack k. k;
-  workspace = λ r m n e k. k;
-  word = λ r m n place v k own. ap (λ (m : Memory). with_word m place v) k;
-  byte = λ r m n place v k own. ap (λ (m : Memory). with_byte m place v) k;
-  copy = λ r m n source to count k read own. ap (λ (m : Memory). step.copied m source to count m) k;
-  at_fault = λ kind. tt;
-  at_goes = λ r m n k. tt;
-  at_jumps = λ to r m n k. tt;
-  at_lands = λ to r m n k. tt;
-  at_stops = λ r m n k. tt;
-  at_receives = λ e asked own k. (own, asked.some);
-  at_sends = λ e asked own defined k. (
-    (λ i inside. kept_scheduled r old (place_of e.address + i)
-        (all_at (λ place. is_some (byte_at (scheduled r old) place)) (place_of e.address) e.length i defined inside)),
-    asked.some,
-  );
-  at_starts = λ to workspace r m n even k. tt;
-  at_joins = λ block r m n k. tt;
-  at_begins = λ r m n k. tt;
-  at_enables_channel = λ guard at r m n k held. tt;
-  at_enables_skip = λ guard r m n k. tt;
-  at_waits = λ r m n k. tt;
-  at_disables_channel = λ guard at distance r m n k held. tt;
-  at_disables_skip = λ guard distance r m n k. tt;
-  at_ends_alternation = λ to r m n k. tt;
-}
+messages s r old = wants_asked s r old _ _ _ (λ e asked own. (own, asked.some)) (λ e asked defined. (
+  (λ i inside. kept_scheduled r old (place_of e.address + i)
+      (all_at (λ place. is_some (byte_at (scheduled r old) place)) (place_of e.address) e.length i defined inside)),
+  asked.some,
+)) (λ at held. tt)
 
 -- ---- a message that is copied
 
