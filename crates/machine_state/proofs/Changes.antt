@@ -372,22 +372,23 @@ module _ (h : Here) (w : World) (runs : w.queue.running ≡ Some h.process)
             (subst (λ n. slice_get w.tasks n ≡ Some h.from) e there)) ∙ running_is_ready h w runs there keeps));
       }
 
-  -- the other process becomes ready
+  -- the process goes on, and the other one becomes ready
   woken : (r : Registers) (m : Memory) (cells : List (Option Channel)) (other : ℕ) (c : Condition)
-      (x : Partner h w other c)
-      → let v : World = record w {
+      → condition_of w other ≡ c → (c ≡ Ready → ⊥)
+      → ((x : Partner h w other c) → Changed h w
+      (slice_set (going h w r h.from.mode h.from.condition) other (record x.task { condition = Ready }))
+      w.roles cells w.links) → let v = wake other (record w {
         memory = m;
         tasks = going h w r h.from.mode h.from.condition;
         channels = cells;
-      } in
-      Changed h w (slice_set (going h w r h.from.mode h.from.condition) other (record x.task { condition = Ready }))
-      w.roles cells w.links
-      → Changed h w (wake other v).tasks (wake other v).roles (wake other v).channels (wake other v).links
-  woken r m cells other c x changed =
+      }) in Changed h w v.tasks v.roles v.channels v.links
+  woken r m cells other c is waits changed =
+      let x = partner other c is waits in
       let u = record h.from { registers = r } in
       let v = record w { memory = m; tasks = slice_set w.tasks h.process u; channels = cells } in
       let only = wake_only other v in
-      parts (wake other v) _ _ _ _ changed (on_task_tasks other (λ task. record task { condition = Ready }) v x.task
+      parts (wake other v) _ _ _ _ (changed x)
+      (on_task_tasks other (λ task. record task { condition = Ready }) v x.task
       (got_other w.tasks h.process other u x.differ ∙ x.here)) only.roles only.channels only.links
 
   -- a branch starts
@@ -469,11 +470,9 @@ module _ (h : Here) (w : World) (runs : w.queue.running ≡ Some h.process)
   moved o v (turns.receives_first e l c inside here none) asks fits =
       waits_to_receive (between h.next l.registers) e c fits asks (channel_there w e.channel c here) none
   moved o v (turns.receives_from e l c other sent inside here waits is same) asks fits =
-      let x = partner other (Sending sent) is (λ e. cc) in
-      let r = between h.next l.registers in
-      woken r (copied l.memory (place_of sent.address) (place_of e.address) sent.length l.memory)
-      (with_cell w sent.channel (record c { waiting = None })) other (Sending sent) x
-      (meets_sender r e sent c other fits asks (channel_there w e.channel c here) waits x)
+      woken (between h.next l.registers) _ (with_cell w sent.channel (record c { waiting = None })) other (Sending sent)
+      is (λ e. cc) (meets_sender (between h.next l.registers) e sent c other fits asks
+      (channel_there w e.channel c here) waits)
   moved o v (turns.receives_none e l k link on here none) asks fits =
       receives_outside (between h.next l.registers) e k link _ _ fits asks
       (link_found (input_word 0) e.channel k on ∙ input_words k) here (no_byte none)
@@ -490,11 +489,9 @@ module _ (h : Here) (w : World) (runs : w.queue.running ≡ Some h.process)
       (waits_to_send (between h.next l.registers) e c v.tasks fits asks (channel_there w e.channel c here) none
       (rouses c.enabled x)) refl only.roles only.channels only.links
   moved o v (turns.sends_to e l c other wanted inside here waits is same) asks fits =
-      let x = partner other (Receiving wanted) is (λ e. cc) in
-      let r = between h.next l.registers in
-      woken r (copied l.memory (place_of e.address) (place_of wanted.address) e.length l.memory)
-      (with_cell w e.channel (record c { waiting = None })) other (Receiving wanted) x
-      (meets_receiver r e wanted c other fits asks (channel_there w e.channel c here) waits x)
+      woken (between h.next l.registers) _ (with_cell w e.channel (record c { waiting = None })) other
+      (Receiving wanted) is (λ e. cc) (meets_receiver (between h.next l.registers) e wanted c other fits asks
+      (channel_there w e.channel c here) waits)
   moved o v (turns.starts_first target workspace l found is none tests) asks fits =
       let plan = plan_of h w found in
       begins_branch fits plan found workspace (opened h plan l w).0

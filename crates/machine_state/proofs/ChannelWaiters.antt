@@ -104,13 +104,9 @@ calm_ended e (inr receives) = cc
 -- another one
 pub waits_elsewhere : (tasks : List Task) (q : ℕ) (u : Task) (p k : ℕ) → q ≢ p → WaitsAt tasks p k
     → WaitsAt (slice_set tasks q u) p k
-waits_elsewhere tasks q u p k differ w = record {
-  task = w.task;
-  here = got_other tasks q p u differ ∙ w.here;
-  exchange = w.exchange;
-  waits = w.waits;
-  at = w.at;
-}
+waits_elsewhere tasks q u p k differ w =
+    let here = got_other tasks q p u differ ∙ w.here in
+    record { task = w.task; here = here; exchange = w.exchange; waits = w.waits; at = w.at }
 
 -- one that waited on no channel, or waits as it did
 pub waits_still : (tasks : List Task) (q : ℕ) (t u : Task) → slice_get tasks q ≡ Some t

@@ -56,13 +56,21 @@ on_task_only p f w = on (slice_get w.tasks p)
     on None = nothing_changes w
     on (Some task) = tasks_only w (slice_set w.tasks p (f task)) (length-set w.tasks p (f task))
 
--- the tasks after a task was changed, where that task is there
+-- what is made of one that is there
+pub at_some : {A B : Type 0} (o : Option A) (x : A) (none : B) (some : A → B) → o ≡ Some x
+    → elim o as (λ o. B) [ None ↦ none | Some y ↦ some y ] ≡ some x
+at_some {A} {B} o x none some is =
+    ap (λ (o : Option A). elim o as (λ o. B) [ None ↦ none | Some y ↦ some y ]) is
+
+-- the world after a task was changed that is there, and its tasks
+pub on_task_is : (q : ℕ) (f : Task → Task) (w : World) (t : Task) → slice_get w.tasks q ≡ Some t
+    → on_task q f w ≡ record w { tasks = slice_set w.tasks q (f t) }
+on_task_is q f w t here =
+    at_some (slice_get w.tasks q) t w (λ task. record w { tasks = slice_set w.tasks q (f task) }) here
+
 pub on_task_tasks : (q : ℕ) (f : Task → Task) (w : World) (t : Task) → slice_get w.tasks q ≡ Some t
     → (on_task q f w).tasks ≡ slice_set w.tasks q (f t)
-on_task_tasks q f w t here = ap (λ (o : Option Task). (elim o as (λ o. World) [
-  | None ↦ w
-  | Some task ↦ record w { tasks = slice_set w.tasks q (f task) }
-]).tasks) here
+on_task_tasks q f w t here = ap (λ (v : World). v.tasks) (on_task_is q f w t here)
 
 pub wake_only : (p : ℕ) (w : World) → OnlyTasks w (wake p w)
 wake_only p w =
@@ -174,29 +182,36 @@ chooses h w l P kept is_ready distance = on (selected h.from.mode is_ready dista
 
 -- ---- roles
 
+-- neither memory nor the counters have changed
+pub record Quiet (w after : World) : Type 0 where
+  pub memory : after.memory ≡ w.memory
+  pub counters : after.counters ≡ w.counters
+
 -- roles alone have changed
 pub record OnlyRoles (w after : World) : Type 0 where
-  pub memory : after.memory ≡ w.memory
+  pub quiet : Quiet w after
   pub tasks : after.tasks ≡ w.tasks
   pub links : after.links ≡ w.links
   pub channels : after.channels ≡ w.channels
-  pub counters : after.counters ≡ w.counters
 
 pub on_role_only : (p : ℕ) (f : Role → Role) (w : World) → OnlyRoles w (on_role p f w)
 on_role_only p f w = on (slice_get w.roles p)
   where
     on : (o : Option Role) → OnlyRoles w
         (elim o [ None ↦ w | Some role ↦ record w { roles = slice_set w.roles p (f role) } ])
-    on None = record { memory = refl; tasks = refl; links = refl; channels = refl; counters = refl }
-    on (Some role) = record { memory = refl; tasks = refl; links = refl; channels = refl; counters = refl }
+    on None = record { quiet = record { memory = refl; counters = refl }; tasks = refl; links = refl; channels = refl }
+    on (Some role) =
+        record { quiet = record { memory = refl; counters = refl }; tasks = refl; links = refl; channels = refl }
 
--- the roles after a role was changed, where that role is there
+-- the world after a role was changed that is there, and its roles
+pub on_role_is : (p : ℕ) (f : Role → Role) (w : World) (r : Role) → slice_get w.roles p ≡ Some r
+    → on_role p f w ≡ record w { roles = slice_set w.roles p (f r) }
+on_role_is p f w r here =
+    at_some (slice_get w.roles p) r w (λ role. record w { roles = slice_set w.roles p (f role) }) here
+
 pub on_role_roles : (p : ℕ) (f : Role → Role) (w : World) (r : Role) → slice_get w.roles p ≡ Some r
     → (on_role p f w).roles ≡ slice_set w.roles p (f r)
-on_role_roles p f w r here = ap (λ (o : Option Role). (elim o as (λ o. World) [
-  | None ↦ w
-  | Some role ↦ record w { roles = slice_set w.roles p (f role) }
-]).roles) here
+on_role_roles p f w r here = ap (λ (v : World). v.roles) (on_role_is p f w r here)
 
 -- ---- a member of a join ends
 
@@ -226,19 +241,14 @@ joined_either P h o j par w over more = on (is_last h.process j) refl
     on true none = over none
     on false some = more some
 
--- neither memory nor the counters have changed
-pub record Quiet (w after : World) : Type 0 where
-  pub memory : after.memory ≡ w.memory
-  pub counters : after.counters ≡ w.counters
-
 pub joined_quiet : (h : Here) (o : ℕ) (j : Join) (par : Par) (w : World) → Quiet w (joined h o j par w)
 unfolding dispatch
 joined_quiet h o j par w = joined_either (Quiet w) h o j par w
     (λ none. record {
-      memory = shut.memory ∙ (over.memory ∙ gone.memory);
-      counters = shut.counters ∙ (over.counters ∙ gone.counters);
+      memory = shut.quiet.memory ∙ (over.memory ∙ gone.quiet.memory);
+      counters = shut.quiet.counters ∙ (over.counters ∙ gone.quiet.counters);
     })
-    (λ some. record { memory = gone.memory; counters = gone.counters })
+    (λ some. record { memory = gone.quiet.memory; counters = gone.quiet.counters })
   where
     there : World
     there = member_gone h o j w

@@ -47,7 +47,7 @@ use Rattle.machine_state.proofs.Writing.{Message, messages}
 use Rattle.machine_state.proofs.Claims.{only_one}
 use Rattle.machine_state.proofs.Lines.{got_set, got_other, got_within, set_either, all_ready_without}
 use Rattle.machine_state.proofs.Lines.{absent_by_condition, push_line, told_in}
-use Rattle.machine_state.proofs.Moving.{rouse_beside, on_role_only, chooses}
+use Rattle.machine_state.proofs.Moving.{rouse_beside, on_role_only, on_role_is, on_task_is, chooses}
 use Rattle.machine_state.proofs.Lines.{pick_line, got_before, got_last, got_either, all_ready_before, new_absent}
 
 is_itself : (n : ℕ) → (n == n) ≡ true
@@ -91,15 +91,9 @@ calm_ready c d ready = record {
 -- another process waits as before
 waits_elsewhere : (tasks : List Task) (q : ℕ) (u : Task) (p word : ℕ) → q ≢ p → WaitsOn tasks p word
     → WaitsOn (slice_set tasks q u) p word
-waits_elsewhere tasks q u p word differ x = record {
-  task = x.task;
-  here = got_other tasks q p u differ ∙ x.here;
-  exchange = x.exchange;
-  done = x.done;
-  waits = x.waits;
-  on = x.on;
-  more = x.more;
-}
+waits_elsewhere tasks q u p word differ x =
+    let here = got_other tasks q p u differ ∙ x.here in
+    record { task = x.task; here = here; exchange = x.exchange; done = x.done; waits = x.waits; on = x.on; more = x.more }
 
 module _ (tasks : List Task) (q : ℕ) (t u : Task) (here : slice_get tasks q ≡ Some t) where
   changed_here : (p : ℕ) → q ≡ p → slice_get (slice_set tasks q u) p ≡ Some u
@@ -308,20 +302,6 @@ role_keeps q f w opener opened gone counts h = on (slice_get w.roles q) refl
       rest = rest_role w.tasks w.roles w.links q r (f r) here (opener r here) (λ j is. opened r j here is)
           (gone r here) (counts r here) h.rest;
     }
-
-on_role_is : (q : ℕ) (f : Role → Role) (w : World) (r : Role) → slice_get w.roles q ≡ Some r
-    → on_role q f w ≡ record w { roles = slice_set w.roles q (f r) }
-on_role_is q f w r here = ap (λ (o : Option Role). elim o as (λ o. World) [
-  | None ↦ w
-  | Some r ↦ record w { roles = slice_set w.roles q (f r) }
-]) here
-
-on_task_is : (q : ℕ) (f : Task → Task) (w : World) (t : Task) → slice_get w.tasks q ≡ Some t
-    → on_task q f w ≡ record w { tasks = slice_set w.tasks q (f t) }
-on_task_is q f w t here = ap (λ (o : Option Task). elim o as (λ o. World) [
-  | None ↦ w
-  | Some t ↦ record w { tasks = slice_set w.tasks q (f t) }
-]) here
 
 -- ---- the queue
 

@@ -1,6 +1,6 @@
 -- Nobody waits for messages in two places, and no two processes wait in one.
 use Rattle.std.proofs.Common.{◌≡◌, ℕ, inl, inr, Option, Some, None, refl, sym, ap, ◌∙◌, subst, slice_get}
-use Rattle.std.proofs.Common.{arith}
+use Rattle.std.proofs.Common.{List, arith}
 use Rattle.machine_state.specs.declared.link.InputLink.{InputLink}
 use Rattle.machine_state.specs.declared.link.OutputLink.{OutputLink}
 use Rattle.machine_state.specs.declared.process.Channel.{Channel}
@@ -95,20 +95,20 @@ nobody_waits_twice m es =
     waits_in_one (world_after m es) (reached m es) (channels_have_their_waiters m es)
 
 -- two that are recorded at one link
+one_waiter : {A : Type 0} (waiting : A → Option ℕ) (links : List A) (k n p q : ℕ) (l x : A) → k ≡ n
+    → slice_get links k ≡ Some l → slice_get links n ≡ Some x → waiting l ≡ Some p → waiting x ≡ Some q → p ≡ q
+one_waiter waiting links k n p q l x number here there one two =
+    let link = only_one (slice_get links n) l x (subst (λ i. slice_get links i ≡ Some l) number here) there in
+    only_one (waiting l) p q one (ap waiting link ∙ two)
+
 linked_once : (w : World) → WaitsIn w → (p q : ℕ) (e f : Exchange) → e.channel ≡ f.channel
     → IsAtLink w.roles w.links p e → IsAtLink w.roles w.links q f → p ≡ q
 linked_once w keeps p q e f same (at_input k l here waiting word end) (at_input n x there other words ends) =
-    let words_are : input_word k ≡ input_word n = sym word ∙ (same ∙ words) in
-    let number : k ≡ n = omega (arith, words_are) in
-    let link = only_one (slice_get w.links.inputs n) l x
-    (subst (λ i. slice_get w.links.inputs i ≡ Some l) number here) there in
-    only_one l.waiting p q waiting (ap (λ (y : InputLink). y.waiting) link ∙ other)
+    one_waiter (λ (y : InputLink). y.waiting) w.links.inputs k n p q l x (omega (arith, word, same, words)) here there
+    waiting other
 linked_once w keeps p q e f same (at_output k l here waiting word end) (at_output n x there other words ends) =
-    let words_are : output_word k ≡ output_word n = sym word ∙ (same ∙ words) in
-    let number : k ≡ n = omega (arith, words_are) in
-    let link = only_one (slice_get w.links.outputs n) l x
-    (subst (λ i. slice_get w.links.outputs i ≡ Some l) number here) there in
-    only_one l.waiting p q waiting (ap (λ (y : OutputLink). y.waiting) link ∙ other)
+    one_waiter (λ (y : OutputLink). y.waiting) w.links.outputs k n p q l x (omega (arith, word, same, words)) here there
+    waiting other
 linked_once w keeps p q e f same (at_input k l here waiting word end) (at_output n x there other words ends) =
     absurd (let low = low_output w keeps n x there in omega (arith, low, word, same, words))
 linked_once w keeps p q e f same (at_output k l here waiting word end) (at_input n x there other words ends) =

@@ -326,7 +326,7 @@ module _ (h : Here) (w : World) where
   started_memory plan found workspace l v = (on_role_only h.process
       (λ role. record role { opened = Some (join_after (length v.memory) plan found (length v.tasks)) })
       (put h.process (record h.from { registers = between h.next l.registers; mode = Starting })
-      (without_words (scheduling_addresses workspace) l.memory) v)).memory
+      (without_words (scheduling_addresses workspace) l.memory) v)).quiet.memory
 
   moved_writes : (o : Outcome) (after : World) → Moved h w o after → LeavesOthers hold w.memory o
       → Message (site_of h w) w.memory o → Writes o after.memory
@@ -391,7 +391,7 @@ module _ (h : Here) (w : World) where
       only_own hold None w.memory l.memory _ own refl (joined_quiet h h.process j par (ended h l w)).memory
   moved_writes o after (turns.joins_opener block l opener j par none by is row same) own says =
       only_own hold None w.memory l.memory _ own refl ((joined_quiet h opener j par (given_back h (ended h l w))).memory
-      ∙ (on_role_only h.process (λ role. record role { own = nothing }) (ended h l w)).memory)
+      ∙ (on_role_only h.process (λ role. record role { own = nothing }) (ended h l w)).quiet.memory)
   moved_writes o after (turns.it_begins l) own says = only_own hold None w.memory l.memory _ own refl refl
   moved_writes o after (turns.it_enables guard address l s holds (turns.on_channel c inside there) once) own says =
       only_own hold None w.memory l.memory _ own refl refl
