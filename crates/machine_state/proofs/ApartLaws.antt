@@ -1,7 +1,7 @@
 -- Holdings stay apart in every world that a list of events leads to.
 use Rattle.std.proofs.Common.{◌≡◌, ◌≢◌, ℕ, zero, suc, ◌+◌, ◌*◌, ◌/◌, ◌%◌, ◌^◌, ◌<◌, ◌≤◌, Bool, true, false, inl}
 use Rattle.std.proofs.Common.{inr}
-use Rattle.std.proofs.Common.{if◌then◌else◌, ℤ, pos, List, [], ◌∷◌, ◌++◌, length, Option, Some, None, is_some, refl}
+use Rattle.std.proofs.Common.{if◌then◌else◌, ℤ, List, [], ◌∷◌, ◌++◌, length, Option, Some, None, is_some, refl}
 use Rattle.std.proofs.Common.{sym}
 use Rattle.std.proofs.Common.{ap, ◌∙◌, subst, slice_get, arith, eqb-true, replicate}
 use Rattle.std.proofs.lemmas.Bool.{cases_eq, leb-true, ltb-true}
@@ -38,13 +38,13 @@ use Rattle.machine_state.specs.ApartLaws.{HoldingsStayApart}
 use Rattle.machine_state.specs.Site.{Site, Local, Outcome, goes, jumps, lands, stops, fails, receives, sends, starts}
 use Rattle.machine_state.specs.Site.{joins, begins, enables_channel, enables_skip, waits, disables_channel}
 use Rattle.machine_state.specs.Site.{disables_skip, ends_alternation}
-use Rattle.machine_state.specs.LocalStep.{copied, with_a_alone}
-use Rattle.machine_state.specs.Moves.{put, on_task, wake, leave, dispatch, rouse, rouse_task, rouse_enabling, cell_of}
+use Rattle.machine_state.specs.LocalStep.{copied}
+use Rattle.machine_state.specs.Moves.{put, on_task, wake, leave, dispatch, cell_of}
 use Rattle.machine_state.specs.Moves.{fill, fill_condition, with_condition, link_index, with_channel}
 use Rattle.machine_state.specs.Moves.{with_input, with_output}
 use Rattle.machine_state.specs.Turn.{Here, Turn, at_here, between, continued}
 use Rattle.machine_state.specs.Exchanges.{waits_at}
-use Rattle.machine_state.specs.Alternations.{chosen, selected, in_mode, ready_or}
+use Rattle.machine_state.specs.Alternations.{chosen, ready_or}
 use Rattle.machine_state.specs.Joins as join
 use Rattle.machine_state.specs.Joins.{joined, closed_task, started, on_role, new_task, with_channels, without_channels}
 use Rattle.machine_state.specs.Joins.{frame_address, opened, opened_by, opener_of, ended, given_back, first_plan}
@@ -397,7 +397,8 @@ module _ (h : Here) (w : World) (there : slice_get w.tasks h.process ≡ Some h.
   moved_stands o after (turns.sends_first e l c inside here nobody) even =
       let v = waits_at h (Sending e) e.channel c l w in
       stays_with e.channel c (record c { waiting = Some h.process }) (channel_there w e.channel c here) refl _
-      (rouse_only c.enabled v).roles (rouse_only c.enabled v).channels (even_roused v.tasks _ c.enabled (rouses c.enabled v)
+      (rouse_only c.enabled v).roles (rouse_only c.enabled v).channels
+      (even_roused v.tasks _ c.enabled (rouses c.enabled v)
       (even_here (record h.from { registers = between h.next l.registers; condition = Sending e }) even))
   moved_stands o after (turns.sends_to e l c other wanted inside here partner is same) even =
       let v = with_channel e.channel (record c { waiting = None }) (continued h h.next
@@ -499,10 +500,12 @@ module _ (h : Here) (w : World) (there : slice_get w.tasks h.process ≡ Some h.
       (λ r mode m even. goes_on (record h.from { registers = r; mode = mode }) even _ refl refl refl)
       (is_some link.kept) distance l even
   moved_stands o after (turns.it_disables_nothing guard address distance l off) even =
-      chosen_stands (λ v. v) (λ r mode m even. goes_on (record h.from { registers = r; mode = mode }) even _ refl refl refl)
+      chosen_stands (λ v. v)
+      (λ r mode m even. goes_on (record h.from { registers = r; mode = mode }) even _ refl refl refl)
       false distance l even
   moved_stands o after (turns.it_disables_a_skip guard distance l) even =
-      chosen_stands (λ v. v) (λ r mode m even. goes_on (record h.from { registers = r; mode = mode }) even _ refl refl refl)
+      chosen_stands (λ v. v)
+      (λ r mode m even. goes_on (record h.from { registers = r; mode = mode }) even _ refl refl refl)
       guard distance l even
   moved_stands o after (turns.it_ends_alternation to l none) even =
       goes_on (record h.from { registers = between to l.registers; mode = Plain }) even _ refl refl refl

@@ -3,8 +3,7 @@
 use Rattle.std.proofs.Common.{◌≡◌, ◌≢◌, ℕ, ◌+◌, ◌<◌, Bool, true, false, if◌then◌else◌, ◌⊎◌, inl, inr, ℤ, List, []}
 use Rattle.std.proofs.Common.{◌∷◌, ◌++◌, length}
 use Rattle.std.proofs.Common.{Option, Some, None, is_some, refl, sym, ap, ◌∙◌, subst, slice_get, arith, eqb-true}
-use Rattle.std.proofs.lemmas.Bool.{cases_eq}
-use Rattle.std.specs.Prelude.{⊤, ◌%◌, ◌^◌, ◌==◌, filter, not, slice_set}
+use Rattle.std.specs.Prelude.{◌%◌, ◌^◌, ◌==◌, filter, not, slice_set}
 use Rattle.module_format.specs.Contents.{Contents, Par}
 use Rattle.module_format.specs.declared.rows.Direction.{Direction}
 use Rattle.module_format.specs.declared.rows.Direction.TheVariants.{In, Out}
@@ -20,29 +19,30 @@ use Rattle.machine_state.specs.declared.process.Condition.{Condition}
 use Rattle.machine_state.specs.declared.process.Condition.TheVariants.{Ready, Sending, Receiving, OnLink, Alternating}
 use Rattle.machine_state.specs.declared.process.Condition.TheVariants.{Stopped, Ended}
 use Rattle.machine_state.specs.declared.process.Exchange.{Exchange}
-use Rattle.machine_state.specs.Memory.{Memory, place_of, word_at, with_word, byte_at, with_byte}
+use Rattle.machine_state.specs.Memory.{Memory, place_of, with_byte}
 use Rattle.machine_state.specs.Holding.{Holding, nothing, has_end}
 use Rattle.machine_state.specs.World.{World, Links, Role, Join, holding_at, input_word, output_word, loaded}
-use Rattle.machine_state.specs.Site.{Site, Local, Outcome, receives, sends, enables_channel}
-use Rattle.machine_state.specs.LocalStep.{copied}
+use Rattle.machine_state.specs.Site.{Site, Local, Outcome}
 use Rattle.machine_state.specs.Moves.{put, on_task, wake, leave, dispatch, rouse, rouse_task, rouse_enabling, cell_of}
-use Rattle.machine_state.specs.Moves.{channel_at, fill, fill_condition, link_index, with_channel, with_input}
+use Rattle.machine_state.specs.Moves.{channel_at, fill, link_index, with_channel, with_input}
 use Rattle.machine_state.specs.Moves.{with_output}
-use Rattle.machine_state.specs.Turn.{Here, Turn, at_here, between, continued}
+use Rattle.machine_state.specs.Turn.{Here, Turn, at_here, between}
 use Rattle.machine_state.specs.Exchanges.{condition_of, waits_at}
 use Rattle.machine_state.specs.Alternations.{chosen, ready_or, is_by, has_enabled}
 use Rattle.machine_state.specs.Joins as join
 use Rattle.machine_state.specs.Joins.{joined, closed_task, started, on_role, new_task, with_channels, without_channels}
-use Rattle.machine_state.specs.Joins.{opened, opened_by, opener_of, ended, given_back, later_plan, Plan, Found, branch_at}
+use Rattle.machine_state.specs.Joins.{opened, opened_by, opener_of, ended, given_back, later_plan, Plan, Found}
+use Rattle.machine_state.specs.Joins.{branch_at}
 use Rattle.machine_state.specs.Joins.{first_fault, first_faults, join_after, holding_of, share_by}
 use Rattle.machine_state.specs.Happens.{site_of, turn, world_after}
 use Rattle.machine_state.specs.Waiting.{IsOver, is_member, AllReady, line_of, WaitsOn}
-use Rattle.machine_state.specs.EnabledLaws.{Enables, Disables, MayWait}
+use Rattle.machine_state.specs.EnabledLaws.{Enables, Disables}
 use Rattle.prefix_decoder.specs.Functions.{nibble}
 use Rattle.prefix_decoder.specs.Operand.{with_nibble}
 use Rattle.machine_state.proofs.SpanLaws.{or_true}
 use Rattle.machine_state.proofs.Lines.{got_set, got_other}
-use Rattle.machine_state.proofs.Moving.{OnlyRoles, wake_only, rouse_only, on_task_only, on_task_tasks, chooses, on_role_only}
+use Rattle.machine_state.proofs.Moving.{OnlyRoles, wake_only, rouse_only, on_task_only, on_task_tasks, chooses}
+use Rattle.machine_state.proofs.Moving.{on_role_only}
 use Rattle.machine_state.proofs.Moving.{on_role_roles, without, is_last, with_opened, member_gone, joined_either}
 use Rattle.machine_state.proofs.Among.{IsAmong, filter_keeps, none_among}
 use Rattle.machine_state.proofs.Claims.{only_one, not_some}
@@ -50,7 +50,8 @@ use Rattle.machine_state.proofs.EveryInstruction.{Wants, OfAsked, wants_asked, e
 use Rattle.machine_state.proofs.Modes.{IsOutside, Fits, steps_fit}
 use Rattle.machine_state.proofs.Turns as turns
 use Rattle.machine_state.proofs.Turns.{Moved, Ends, Happened, local_here, plan_of, turn_happens}
-use Rattle.machine_state.proofs.Waiting.{WaitsIn, reached, link_found, link_low, input_words, output_words, has_role, filled}
+use Rattle.machine_state.proofs.Waiting.{WaitsIn, reached, link_found, link_low, input_words, output_words, has_role}
+use Rattle.machine_state.proofs.Waiting.{filled}
 use Rattle.machine_state.proofs.EveryWorld.{every_world}
 use Rattle.machine_state.proofs.Roles.{set_twice, told_of, field_at}
 use Rattle.machine_state.proofs.EndedApart.{is_not}
@@ -64,7 +65,8 @@ AsksHeld s = OfAsked (λ e l. has_end s.holding (record { address = e.channel; d
 
 pub asks_held : (s : Site) (r : Registers) (old : Memory)
     → Wants s r old old (λ r m n. m ≡ n) (λ o other. AsksHeld s o)
-asks_held s r old = wants_asked s r old _ _ _ (λ e asked own. asked.end) (λ e asked defined. asked.end) (λ at held. held)
+asks_held s r old =
+    wants_asked s r old _ _ _ (λ e asked own. asked.end) (λ e asked defined. asked.end) (λ at held. held)
 
 -- ---- what is known of the running process and of who opened its join
 
@@ -563,7 +565,8 @@ module _ (h : Here) (w : World) (runs : w.queue.running ≡ Some h.process)
       let new : InputLink = record link { enabled = None } in
       chooses h w l (λ (v : World). let x = with_input k new v in
       Changed h w x.tasks x.roles x.channels x.links)
-      (λ r mode m same further. disables_a_link r mode k link fits (further fits) here mine) (is_some link.kept) distance
+      (λ r mode m same further. disables_a_link r mode k link fits (further fits) here mine)
+      (is_some link.kept) distance
   moved o v (turns.it_disables_nothing guard address distance l off) asks fits =
       disables_nothing fits false distance l
   moved o v (turns.it_disables_a_skip guard distance l) asks fits =
@@ -587,7 +590,8 @@ module _ (m : Contents) (w : World) (keeps : WaitsIn w) where
   taken : (p k byte : ℕ) (link : InputLink) → slice_get w.links.inputs k ≡ Some link → link.waiting ≡ Some p
       → let v = fill p k byte link w in Passed m w v.tasks v.roles v.channels v.links
   taken p k byte link here waiting =
-      subst (λ (v : World). Passed m w v.tasks v.roles v.channels v.links) (sym (filled w p (input_word k) k byte link x))
+      subst (λ (v : World). Passed m w v.tasks v.roles v.channels v.links)
+      (sym (filled w p (input_word k) k byte link x))
       (on (x.done + 1 == x.exchange.length))
     where
       x : WaitsOn w.tasks p (input_word k)

@@ -1,11 +1,10 @@
 -- Whoever an internal channel says to wait there does wait there.
 use Rattle.std.proofs.Common.{◌≡◌, ◌≢◌, ℕ, zero, suc, ◌+◌, Bool, true, false, if◌then◌else◌, ◌⊎◌, inl, inr}
-use Rattle.std.proofs.Common.{List, [], ◌∷◌, ◌++◌, Option, Some, None, is_some, refl, sym, ap, ◌∙◌, subst, slice_get, eqb-true}
+use Rattle.std.proofs.Common.{List, [], ◌∷◌, ◌++◌, Option, Some, None, is_some, refl, sym, ap, ◌∙◌, subst, slice_get}
 use Rattle.std.proofs.lemmas.Bool.{cases_eq}
 use Rattle.std.specs.Prelude.{◌==◌, replicate, slice_set}
 use Rattle.module_format.specs.Contents.{Contents}
 use Rattle.module_format.specs.declared.rows.ChannelRow.{ChannelRow}
-use Rattle.machine_state.specs.declared.event.Event.{Event}
 use Rattle.machine_state.specs.declared.process.Channel.{Channel}
 use Rattle.machine_state.specs.declared.process.Registers.{Registers}
 use Rattle.machine_state.specs.declared.process.Task.{Task}

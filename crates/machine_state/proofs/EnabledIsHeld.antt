@@ -1,6 +1,6 @@
 -- What a process has enabled it holds, and nobody else receives there.
-use Rattle.std.proofs.Common.{◌≡◌, ◌≢◌, ℕ, zero, suc, ◌<◌, ◌^◌, true, ◌⊎◌, inl, inr, List, [], ◌∷◌, Option, Some, None}
-use Rattle.std.proofs.Common.{is_some, refl, sym, ap, ◌∙◌, subst, slice_get, arith, replicate}
+use Rattle.std.proofs.Common.{◌≡◌, ◌≢◌, ℕ, zero, suc, ◌<◌, ◌^◌, true, ◌⊎◌, inl, inr, List, Option, Some, None}
+use Rattle.std.proofs.Common.{refl, sym, ap, ◌∙◌, subst, slice_get, arith, replicate}
 use Rattle.std.proofs.lemmas.Bool.{cases_eq}
 use Rattle.std.specs.Prelude.{slice_set}
 use Rattle.module_format.specs.Contents.{Contents}
@@ -19,7 +19,6 @@ use Rattle.machine_state.specs.Holding.{Holding, has_end}
 use Rattle.machine_state.specs.World.{World, Links, Role, holding_at, input_word, loaded}
 use Rattle.machine_state.specs.Moves.{cell_of}
 use Rattle.machine_state.specs.Turn.{Here, at_here}
-use Rattle.machine_state.specs.Exchanges.{condition_of}
 use Rattle.machine_state.specs.Apart.{AllApart}
 use Rattle.machine_state.specs.ChannelLaws.{HaveTheirWaiters, AreRecorded}
 use Rattle.machine_state.specs.LinkLaws.{IsAtLink, at_input, at_output, AreAtLinks}
@@ -27,7 +26,7 @@ use Rattle.machine_state.specs.EnabledLaws.{HasEnabled, a_channel, a_link, Alter
 use Rattle.machine_state.specs.EnabledLaws.{IsSending, WhoEnabledHolds}
 use Rattle.machine_state.specs.Happens.{world_after}
 use Rattle.machine_state.proofs.Lines.{set_either}
-use Rattle.machine_state.proofs.Waiting.{WaitsIn, reached, link_found, input_words, low_output}
+use Rattle.machine_state.proofs.Waiting.{WaitsIn, reached, low_output}
 use Rattle.machine_state.proofs.Claims.{only_one, to_use, not_some}
 use Rattle.machine_state.proofs.Owners.{owner_of}
 use Rattle.machine_state.proofs.EvenWords.{even_place}

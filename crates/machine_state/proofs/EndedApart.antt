@@ -1,13 +1,12 @@
 -- The end of a member of a join keeps holdings apart, and so does the end of the join.
-use Rattle.std.proofs.Common.{◌≡◌, ◌≢◌, ℕ, Bool, true, false, List, length, Option, Some, None}
-use Rattle.std.proofs.Common.{refl, sym, ap, ◌∙◌, subst, slice_get, eqb-true, if◌then◌else◌}
-use Rattle.std.specs.Prelude.{◌==◌, filter, not, slice_set}
+use Rattle.std.proofs.Common.{◌≡◌, ◌≢◌, ℕ, Bool, true, false, List, Option, Some, None}
+use Rattle.std.proofs.Common.{refl, sym, ap, ◌∙◌, subst, slice_get, eqb-true}
+use Rattle.std.specs.Prelude.{◌==◌, not, slice_set}
 use Rattle.module_format.specs.Contents.{Contents, Par}
 use Rattle.machine_state.specs.declared.process.Channel.{Channel}
 use Rattle.machine_state.specs.World.{World, Role, Join}
 use Rattle.machine_state.specs.Turn.{Here}
-use Rattle.machine_state.specs.Moves.{on_task, leave, dispatch}
-use Rattle.machine_state.specs.Joins as join
+use Rattle.machine_state.specs.Moves.{on_task, dispatch}
 use Rattle.machine_state.specs.Joins.{on_role, joined, closed_task, without_channels}
 use Rattle.machine_state.proofs.Lines.{got_set}
 use Rattle.machine_state.proofs.Moving.{on_task_only, on_role_only, with_opened, without, is_last, member_gone}

@@ -1,11 +1,10 @@
 -- What is enabled and has a sender or a byte keeps it over one event, until it is disabled.
-use Rattle.std.proofs.Common.{◌≡◌, ◌≢◌, ℕ, ◌+◌, true, false, ◌⊎◌, inl, inr, List, [], ◌∷◌, ◌++◌, Option, Some, None}
+use Rattle.std.proofs.Common.{◌≡◌, ◌≢◌, ℕ, ◌+◌, true, false, ◌⊎◌, inl, inr, List, [], ◌∷◌, Option, Some, None}
 use Rattle.std.proofs.Common.{is_some, refl, sym, ap, ◌∙◌, subst, slice_get, eqb-true}
 use Rattle.std.proofs.lemmas.Bool.{cases_eq}
 use Rattle.std.specs.Prelude.{slice_set}
 use Rattle.module_format.specs.Contents.{Contents, Par}
-use Rattle.module_format.specs.declared.rows.Direction.TheVariants.{In, Out}
-use Rattle.machine_state.specs.declared.event.Event.{Event}
+use Rattle.module_format.specs.declared.rows.Direction.TheVariants.{In}
 use Rattle.machine_state.specs.declared.link.InputLink.{InputLink}
 use Rattle.machine_state.specs.declared.process.Channel.{Channel}
 use Rattle.machine_state.specs.declared.process.Registers.{Registers}
@@ -19,8 +18,7 @@ use Rattle.machine_state.specs.Holding.{Holding, has_end}
 use Rattle.machine_state.specs.World.{World, Links, Role, holding_at, input_word, output_word}
 use Rattle.machine_state.specs.Moves.{cell_of}
 use Rattle.machine_state.specs.Turn.{Here, at_here}
-use Rattle.machine_state.specs.Exchanges.{condition_of}
-use Rattle.machine_state.specs.Alternations.{ready_or, is_by}
+use Rattle.machine_state.specs.Alternations.{is_by}
 use Rattle.machine_state.specs.Joins.{closed_task, without_channels}
 use Rattle.machine_state.specs.Happens.{turn, world_after}
 use Rattle.machine_state.specs.Apart.{AllApart}

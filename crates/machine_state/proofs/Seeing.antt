@@ -23,9 +23,10 @@ use Rattle.machine_state.specs.Holding.{Holding, nothing, may_read, may_read_wor
 use Rattle.machine_state.specs.World.{World, Role, Join, holding_at}
 use Rattle.machine_state.specs.Site.{Outcome, jumps, stops}
 use Rattle.machine_state.specs.LocalStep as step
-use Rattle.machine_state.specs.Moves.{on_task, wake, rouse, rouse_task, rouse_enabling, dispatch, leave, enqueue, counted, finished_where, put}
+use Rattle.machine_state.specs.Moves.{on_task, wake, rouse, dispatch, leave, enqueue, counted, finished_where, put}
 use Rattle.machine_state.specs.Moves.{with_channel, with_input, with_output, channel_at}
-use Rattle.machine_state.specs.Turn.{Turn, Effect, Here, at_here, answered, failed, followed, continued, between, left, waiting}
+use Rattle.machine_state.specs.Turn.{Turn, Effect, Here, at_here, answered, failed, followed, continued, between, left}
+use Rattle.machine_state.specs.Turn.{waiting}
 use Rattle.machine_state.specs.Turn as turn
 use Rattle.machine_state.specs.Exchanges as exchange
 use Rattle.machine_state.specs.Exchanges.{input_link, output_link, condition_of, waits_at, met, link_of}
@@ -33,7 +34,8 @@ use Rattle.machine_state.specs.Alternations as alternation
 use Rattle.machine_state.specs.Alternations.{Source}
 use Rattle.machine_state.specs.Joins as join
 use Rattle.machine_state.specs.Joins.{on_role, joined, closed_task}
-use Rattle.machine_state.specs.Seeing.{Agree, SameTurn, sent_by, sent_on, supply_by, supply, is_supplied, is_seen, StepsSeeWhatTheyRead}
+use Rattle.machine_state.specs.Seeing.{Agree, SameTurn, sent_by, sent_on, supply_by, supply, is_supplied, is_seen}
+use Rattle.machine_state.specs.Seeing.{StepsSeeWhatTheyRead}
 use Rattle.machine_state.specs.Happens as happens
 use Rattle.machine_state.specs.Happens.{settled}
 use Rattle.machine_state.specs.declared.event.Event.TheVariants.{Step}
@@ -53,7 +55,8 @@ use Rattle.module_format.specs.Contexts.{parameters_at}
 use Rattle.machine_state.proofs.Moving.{on_task_beside, wake_beside, rouse_beside}
 use Rattle.machine_state.proofs.Combining.{and_true}
 use Rattle.machine_state.proofs.EveryInstruction.{here, readable_word, each_step}
-use Rattle.machine_state.proofs.Agreeing.{Covers, byte_agrees, words_agree, word_same, copy_agrees, bytes_agree, Alike, alike}
+use Rattle.machine_state.proofs.Agreeing.{Covers, byte_agrees, words_agree, word_same, copy_agrees, bytes_agree, Alike}
+use Rattle.machine_state.proofs.Agreeing.{alike}
 use Rattle.machine_state.proofs.Agreeing as agreeing
 
 -- ---- moves that don't look at memory

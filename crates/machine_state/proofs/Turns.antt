@@ -1,5 +1,6 @@
 -- The ways in which a turn ends, each with the tests that were passed: every law of one event goes by these.
-use Rattle.std.proofs.Common.{◌≡◌, ℕ, ◌+◌, ◌&&◌, Bool, true, false, if◌then◌else◌, nat_le, nat_lt, ℤ, List, [], ◌∷◌, length}
+use Rattle.std.proofs.Common.{◌≡◌, ℕ, ◌+◌, ◌&&◌, Bool, true, false, if◌then◌else◌, nat_le, nat_lt, ℤ, List, [], ◌∷◌}
+use Rattle.std.proofs.Common.{length}
 use Rattle.std.proofs.Common.{Option, Some, None, is_some, Err, refl, slice_get}
 use Rattle.std.specs.Prelude.{◌==◌}
 use Rattle.prefix_decoder.specs.declared.function.Fun.{Fun}

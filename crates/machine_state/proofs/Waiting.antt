@@ -1,6 +1,6 @@
 -- Whoever stands in the line is ready, and stands there once; whoever a link says to wait does wait there.
 use Rattle.std.proofs.Common.{◌≡◌, ◌≢◌, ℕ, zero, suc, ◌+◌, ◌*◌, ◌<◌, ◌≤◌, Bool, true, false, if◌then◌else◌}
-use Rattle.std.proofs.Common.{◌⊎◌, inl, inr, ℤ, pos, List, [], ◌∷◌, ◌++◌, length, Option, Some, None, is_some}
+use Rattle.std.proofs.Common.{◌⊎◌, inl, inr, ℤ, List, [], ◌∷◌, ◌++◌, length, Option, Some, None, is_some}
 use Rattle.std.proofs.Common.{refl, sym, ap, ◌∙◌, subst, slice_get, arith, eqb-true}
 use Rattle.std.proofs.lemmas.Bool.{cases_eq, eqb-false}
 use Rattle.std.proofs.lemmas.List.{length-set, length-append}
@@ -19,22 +19,25 @@ use Rattle.machine_state.specs.declared.process.Condition.TheVariants.{Ready, Se
 use Rattle.machine_state.specs.declared.process.Condition.TheVariants.{Stopped, Ended}
 use Rattle.machine_state.specs.declared.process.Exchange.{Exchange}
 use Rattle.machine_state.specs.Memory.{Memory, place_of, with_byte}
-use Rattle.machine_state.specs.World.{World, Queue, Links, Role, Join, input_word, output_word, loaded, root_task, root_role}
+use Rattle.machine_state.specs.World.{World, Queue, Links, Role, Join, input_word, output_word, loaded, root_task}
+use Rattle.machine_state.specs.World.{root_role}
 use Rattle.machine_state.specs.Site.{Local, Outcome}
-use Rattle.machine_state.specs.LocalStep.{copied, with_a_alone}
+use Rattle.machine_state.specs.LocalStep.{copied}
 use Rattle.machine_state.specs.Moves.{on_task, wake, enqueue, leave, dispatch, rouse, rouse_task, rouse_enabling}
-use Rattle.machine_state.specs.Moves.{fill, fill_condition, with_condition, link_index, finished_where, with_channel, with_input, with_output, cell_of}
+use Rattle.machine_state.specs.Moves.{fill, fill_condition, with_condition, link_index, finished_where, with_channel}
+use Rattle.machine_state.specs.Moves.{with_input, with_output, cell_of}
 use Rattle.machine_state.specs.Turn.{Here, Turn, at_here, between, continued, waiting}
 use Rattle.machine_state.specs.Joins.{on_role, joined, closed_task, Plan, Found, started, opened, opened_by, opener_of}
 use Rattle.machine_state.specs.Joins.{ended, new_task, holding_of, share_by, join_after, with_channels, later_plan}
 use Rattle.machine_state.specs.Joins.{without_words, scheduling_addresses}
-use Rattle.machine_state.specs.Alternations.{chosen, selected, in_mode, ready_or}
+use Rattle.machine_state.specs.Alternations.{chosen, ready_or}
 use Rattle.machine_state.proofs.Turns as turns
 use Rattle.machine_state.proofs.Turns.{Moved, Ends, Happened, turn_happens}
 use Rattle.machine_state.specs.Happens.{site_of, turn, run_from, world_after}
 use Rattle.prefix_decoder.specs.Functions.{nibble}
 use Rattle.prefix_decoder.specs.Operand.{with_nibble}
-use Rattle.machine_state.specs.Waiting.{LinesAreReady, LinksHaveTheirWaiters, IsAwaited, ArrivalsFillBuffers, IsOver, is_member, Opens, IsGone, IsCounted, BranchesAreCounted}
+use Rattle.machine_state.specs.Waiting.{LinesAreReady, LinksHaveTheirWaiters, IsAwaited, ArrivalsFillBuffers, IsOver}
+use Rattle.machine_state.specs.Waiting.{is_member, Opens, IsGone, IsCounted, BranchesAreCounted}
 use Rattle.machine_state.specs.Writing.{wanted_by, wanted_on}
 use Rattle.machine_state.specs.declared.link.Link.{Link}
 use Rattle.machine_state.specs.Exchanges.{link_from, condition_of, waits_at}
@@ -93,7 +96,8 @@ waits_elsewhere : (tasks : List Task) (q : ℕ) (u : Task) (p word : ℕ) → q 
     → WaitsOn (slice_set tasks q u) p word
 waits_elsewhere tasks q u p word differ x =
     let here = got_other tasks q p u differ ∙ x.here in
-    record { task = x.task; here = here; exchange = x.exchange; done = x.done; waits = x.waits; on = x.on; more = x.more }
+    let e = x.exchange in
+    record { task = x.task; here = here; exchange = e; done = x.done; waits = x.waits; on = x.on; more = x.more }
 
 module _ (tasks : List Task) (q : ℕ) (t u : Task) (here : slice_get tasks q ≡ Some t) where
   changed_here : (p : ℕ) → q ≡ p → slice_get (slice_set tasks q u) p ≡ Some u
@@ -1291,7 +1295,8 @@ module _ (w : World) (keeps : WaitsIn w) where
 
   fill_keeps : (p k byte : ℕ) (link : InputLink) → slice_get w.links.inputs k ≡ Some link → link.waiting ≡ Some p
       → WaitsIn (fill p k byte link w)
-  fill_keeps p k byte link here waiting = subst (λ (v : World). WaitsIn v) (sym (filled w p (input_word k) k byte link x))
+  fill_keeps p k byte link here waiting =
+      subst (λ (v : World). WaitsIn v) (sym (filled w p (input_word k) k byte link x))
       (on_last (x.done + 1 == x.exchange.length) refl)
     where
       x : WaitsOn w.tasks p (input_word k)

@@ -3,7 +3,6 @@ use Rattle.std.proofs.Common.{◌≡◌, ◌≢◌, ℕ, zero, suc, ◌+◌, ◌
 use Rattle.std.proofs.Common.{Option, Some, None, is_some, refl, sym, ap, ◌∙◌, subst, slice_get}
 use Rattle.std.specs.Prelude.{slice_set}
 use Rattle.module_format.specs.Contents.{Contents}
-use Rattle.machine_state.specs.declared.event.Event.{Event}
 use Rattle.machine_state.specs.declared.link.InputLink.{InputLink}
 use Rattle.machine_state.specs.declared.process.Channel.{Channel}
 use Rattle.machine_state.specs.declared.process.Registers.{Registers}
@@ -12,7 +11,7 @@ use Rattle.machine_state.specs.declared.process.Mode.{Mode}
 use Rattle.machine_state.specs.declared.process.Mode.TheVariants.{Plain, Enabling, Disabling, Starting}
 use Rattle.machine_state.specs.declared.process.Condition.{Condition}
 use Rattle.machine_state.specs.declared.process.Condition.TheVariants.{Ready, Sending, Receiving, OnLink, Alternating}
-use Rattle.machine_state.specs.declared.process.Condition.TheVariants.{Stopped, Ended}
+use Rattle.machine_state.specs.declared.process.Condition.TheVariants.{Ended}
 use Rattle.machine_state.specs.declared.process.Exchange.{Exchange}
 use Rattle.machine_state.specs.World.{World, Links, Role, loaded, root_task}
 use Rattle.machine_state.specs.Moves.{cell_of}
@@ -21,10 +20,11 @@ use Rattle.machine_state.specs.Alternations.{ready_or}
 use Rattle.machine_state.specs.Joins.{closed_task, without_channels}
 use Rattle.machine_state.specs.Happens.{world_after}
 use Rattle.machine_state.specs.ChannelLaws.{HaveTheirWaiters}
-use Rattle.machine_state.specs.EnabledLaws.{HasEnabled, a_channel, a_link, Enables, Disables, Alternates, IsInAlternation}
+use Rattle.machine_state.specs.EnabledLaws.{HasEnabled, a_channel, a_link, Enables, Disables, Alternates}
+use Rattle.machine_state.specs.EnabledLaws.{IsInAlternation}
 use Rattle.machine_state.specs.EnabledLaws.{AllAlternate, MayWait, HasReady, a_sender, a_byte, NothingIsReady}
 use Rattle.machine_state.specs.EnabledLaws.{WhoMayWaitHasNothingReady}
-use Rattle.machine_state.proofs.Lines.{got_set, got_other, got_either, set_either}
+use Rattle.machine_state.proofs.Lines.{got_other, got_either, set_either}
 use Rattle.machine_state.proofs.Claims.{only_one, not_some}
 use Rattle.machine_state.proofs.Modes.{IsOutside}
 use Rattle.machine_state.proofs.Waking.{roused_was}
@@ -33,7 +33,8 @@ use Rattle.machine_state.proofs.ChannelWaiters.{new_is_quiet, left_channel, chan
 use Rattle.machine_state.proofs.WhoEnabled.{not_plain, not_outside, set_enabled, set_link_enabled, it_has_enabled}
 use Rattle.machine_state.proofs.WhoEnabled.{who_enabled_alternates}
 use Rattle.machine_state.proofs.Changes as change
-use Rattle.machine_state.proofs.Changes.{Changed, Passed, Onward, Receives, Partner, Roused, going, cell_is, with_cell, with_link}
+use Rattle.machine_state.proofs.Changes.{Changed, Passed, Onward, Receives, Partner, Roused, going, cell_is, with_cell}
+use Rattle.machine_state.proofs.Changes.{with_link}
 use Rattle.machine_state.proofs.Changes.{onward_condition, running_is_ready, of_every_world}
 
 ready_is_enabled : (ts : List Task) (cs : List (Option Channel)) (ls : List InputLink) (p : ℕ) → HasReady ts cs ls p

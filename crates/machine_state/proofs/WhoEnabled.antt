@@ -1,12 +1,11 @@
 -- Who has enabled something is in an alternation.
-use Rattle.std.proofs.Common.{◌≡◌, ◌≢◌, ℕ, zero, suc, ◌+◌, ◌||◌, Bool, true, false, ◌⊎◌, inl, inr, ℤ}
-use Rattle.std.proofs.Common.{List, [], ◌∷◌, ◌++◌, Option, Some, None, is_some, refl, sym, ap, ◌∙◌, subst}
+use Rattle.std.proofs.Common.{◌≡◌, ℕ, zero, suc, ◌+◌, ◌||◌, Bool, true, false, ◌⊎◌, inl, inr}
+use Rattle.std.proofs.Common.{List, [], ◌∷◌, Option, Some, None, is_some, refl, sym, ap, ◌∙◌, subst}
 use Rattle.std.proofs.Common.{slice_get, replicate}
 use Rattle.std.proofs.lemmas.Bool.{cases_eq}
 use Rattle.std.specs.Prelude.{slice_set}
 use Rattle.std.specs.List.{list_any}
 use Rattle.module_format.specs.Contents.{Contents}
-use Rattle.machine_state.specs.declared.event.Event.{Event}
 use Rattle.machine_state.specs.declared.link.InputLink.{InputLink}
 use Rattle.machine_state.specs.declared.process.Channel.{Channel}
 use Rattle.machine_state.specs.declared.process.Registers.{Registers}
@@ -15,7 +14,7 @@ use Rattle.machine_state.specs.declared.process.Mode.{Mode}
 use Rattle.machine_state.specs.declared.process.Mode.TheVariants.{Plain, Enabling, Disabling, Starting}
 use Rattle.machine_state.specs.declared.process.Condition.{Condition}
 use Rattle.machine_state.specs.declared.process.Condition.TheVariants.{Ready, Sending, Receiving, OnLink, Alternating}
-use Rattle.machine_state.specs.declared.process.Condition.TheVariants.{Stopped, Ended}
+use Rattle.machine_state.specs.declared.process.Condition.TheVariants.{Ended}
 use Rattle.machine_state.specs.declared.process.Exchange.{Exchange}
 use Rattle.machine_state.specs.World.{World, Links, Role, loaded}
 use Rattle.machine_state.specs.Moves.{cell_of}
@@ -23,7 +22,7 @@ use Rattle.machine_state.specs.Turn.{Here, at_here}
 use Rattle.machine_state.specs.Alternations.{ready_or, is_by, has_enabled}
 use Rattle.machine_state.specs.Joins.{closed_task, without_channels}
 use Rattle.machine_state.specs.Happens.{world_after}
-use Rattle.machine_state.specs.EnabledLaws.{HasEnabled, a_channel, a_link, Enables, Disables, Alternates}
+use Rattle.machine_state.specs.EnabledLaws.{HasEnabled, a_channel, a_link, Enables, Alternates}
 use Rattle.machine_state.specs.EnabledLaws.{IsInAlternation, AllAlternate, WhoEnabledAlternates}
 use Rattle.machine_state.proofs.SpanLaws.{or_left, or_right}
 use Rattle.machine_state.proofs.Lines.{got_set, got_other, set_either, got_before}
@@ -33,7 +32,8 @@ use Rattle.machine_state.proofs.Modes.{IsOutside}
 use Rattle.machine_state.proofs.Waiting.{WaitsIn, reached}
 use Rattle.machine_state.proofs.ChannelWaiters.{new_is_quiet, left_channel}
 use Rattle.machine_state.proofs.Changes as change
-use Rattle.machine_state.proofs.Changes.{Changed, Passed, Onward, Receives, Roused, going, cell_is, with_cell, with_link}
+use Rattle.machine_state.proofs.Changes.{Changed, Passed, Onward, Receives, Roused, going, cell_is, with_cell}
+use Rattle.machine_state.proofs.Changes.{with_link}
 use Rattle.machine_state.proofs.Changes.{running_is_ready, of_every_world}
 
 -- ---- modes and conditions

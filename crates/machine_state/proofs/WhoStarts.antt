@@ -1,5 +1,5 @@
 -- Who has a join open is starting branches or has ended, and nobody else is in the mode of a start.
-use Rattle.std.proofs.Common.{◌≡◌, ◌≢◌, ℕ, zero, suc, ◌+◌, Bool, true, false, ◌⊎◌, inl, inr, ℤ}
+use Rattle.std.proofs.Common.{◌≡◌, ℕ, zero, suc, ◌+◌, Bool, true, ◌⊎◌, inl, inr}
 use Rattle.std.proofs.Common.{List, [], ◌∷◌, ◌++◌, length, Option, Some, None, is_some, refl, sym, ap, ◌∙◌, subst}
 use Rattle.std.proofs.Common.{slice_get}
 use Rattle.std.proofs.lemmas.Bool.{cases_eq}
@@ -14,7 +14,7 @@ use Rattle.machine_state.specs.declared.process.Mode.{Mode}
 use Rattle.machine_state.specs.declared.process.Mode.TheVariants.{Plain, Enabling, Disabling, Starting}
 use Rattle.machine_state.specs.declared.process.Condition.{Condition}
 use Rattle.machine_state.specs.declared.process.Condition.TheVariants.{Ready, Sending, Receiving, OnLink, Alternating}
-use Rattle.machine_state.specs.declared.process.Condition.TheVariants.{Stopped, Ended}
+use Rattle.machine_state.specs.declared.process.Condition.TheVariants.{Ended}
 use Rattle.machine_state.specs.declared.process.Exchange.{Exchange}
 use Rattle.machine_state.specs.Holding.{nothing}
 use Rattle.machine_state.specs.World.{World, Links, Role, Join, loaded, root_task, input_word, output_word}
@@ -23,10 +23,10 @@ use Rattle.machine_state.specs.Alternations.{ready_or}
 use Rattle.machine_state.specs.Joins.{closed_task}
 use Rattle.machine_state.specs.Happens.{world_after}
 use Rattle.machine_state.specs.EnabledLaws.{Enables, Disables}
-use Rattle.machine_state.specs.Waiting.{IsOver, IsStarting, HasOpened, Starters, OpenersAreStarting, WaitsOn}
-use Rattle.machine_state.proofs.Lines.{got_set, got_other, got_either, set_either}
-use Rattle.machine_state.proofs.Claims.{only_one}
-use Rattle.machine_state.proofs.Roles.{opened_in, field_at, field_set, field_other, field_pushed, field_last, field_past}
+use Rattle.machine_state.specs.Waiting.{IsOver, IsStarting, HasOpened, OpenersAreStarting, WaitsOn}
+use Rattle.machine_state.proofs.Lines.{got_other, got_either, set_either}
+use Rattle.machine_state.proofs.Roles.{opened_in, field_at, field_set, field_other, field_pushed, field_last}
+use Rattle.machine_state.proofs.Roles.{field_past}
 use Rattle.machine_state.proofs.Roles.{told_of}
 use Rattle.machine_state.proofs.Moving.{with_opened, without}
 use Rattle.machine_state.proofs.Waiting.{WaitsIn, reached, has_task}

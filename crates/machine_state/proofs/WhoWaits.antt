@@ -1,16 +1,14 @@
 -- Who waits on an internal channel is recorded there, and holds that end of it.
-use Rattle.std.proofs.Common.{◌≡◌, ◌≢◌, ℕ, zero, suc, ◌+◌, Bool, true, false, if◌then◌else◌, ◌⊎◌, inl, inr}
-use Rattle.std.proofs.Common.{List, [], ◌∷◌, ◌++◌, length, Option, Some, None, is_some, refl, sym, ap, ◌∙◌, subst}
+use Rattle.std.proofs.Common.{◌≡◌, ◌≢◌, ℕ, zero, suc, ◌+◌, Bool, true, false, if◌then◌else◌, inl, inr}
+use Rattle.std.proofs.Common.{List, [], ◌∷◌, Option, Some, None, refl, sym, ap, ◌∙◌, subst}
 use Rattle.std.proofs.Common.{slice_get, arith, eqb-true}
 use Rattle.std.proofs.lemmas.Bool.{cases_eq}
-use Rattle.std.proofs.lemmas.List.{length-set}
 use Rattle.std.proofs.lemmas.Option.{slice_get_within}
 use Rattle.std.specs.Prelude.{◌==◌, slice_set}
 use Rattle.module_format.specs.Contents.{Contents, Par}
 use Rattle.module_format.specs.declared.rows.Direction.{Direction}
 use Rattle.module_format.specs.declared.rows.Direction.TheVariants.{In, Out}
 use Rattle.module_format.specs.declared.rows.ChannelRow.{ChannelRow}
-use Rattle.machine_state.specs.declared.event.Event.{Event}
 use Rattle.machine_state.specs.declared.holding.End.{End}
 use Rattle.machine_state.specs.declared.link.InputLink.{InputLink}
 use Rattle.machine_state.specs.declared.process.Channel.{Channel}
@@ -19,16 +17,14 @@ use Rattle.machine_state.specs.declared.process.Task.{Task}
 use Rattle.machine_state.specs.declared.process.Mode.{Mode}
 use Rattle.machine_state.specs.declared.process.Mode.TheVariants.{Plain, Starting}
 use Rattle.machine_state.specs.declared.process.Condition.{Condition}
-use Rattle.machine_state.specs.declared.process.Condition.TheVariants.{Ready, Sending, Receiving, OnLink, Alternating}
-use Rattle.machine_state.specs.declared.process.Condition.TheVariants.{Stopped, Ended}
+use Rattle.machine_state.specs.declared.process.Condition.TheVariants.{Ready, Sending, Receiving, OnLink}
+use Rattle.machine_state.specs.declared.process.Condition.TheVariants.{Ended}
 use Rattle.machine_state.specs.declared.process.Exchange.{Exchange}
 use Rattle.machine_state.specs.Holding.{Holding, nothing, has_end}
 use Rattle.machine_state.specs.World.{World, Links, Role, Join, held, holding_at, loaded, root_task}
 use Rattle.machine_state.specs.Moves.{cell_of}
 use Rattle.machine_state.specs.Turn.{Here, at_here}
-use Rattle.machine_state.specs.Exchanges.{condition_of}
-use Rattle.machine_state.specs.Joins.{closed_task, with_channels, without_channels, frame_address, opened_by}
-use Rattle.machine_state.specs.Joins.{Found, branch_at, first_fault, first_faults}
+use Rattle.machine_state.specs.Joins.{closed_task, with_channels, without_channels, frame_address}
 use Rattle.machine_state.specs.Happens.{world_after}
 use Rattle.machine_state.specs.ChannelLaws.{HaveTheirWaiters, WaitsTo, IsRecorded, AreRecorded, WhoWaitsIsRecorded}
 use Rattle.machine_state.proofs.Lines.{got_set, got_other, set_either, got_either}
@@ -41,13 +37,13 @@ use Rattle.machine_state.proofs.Among.{IsAmong, none_among}
 use Rattle.machine_state.proofs.Claims.{Claim, to_use, claims, nothing_claimed, only_one, not_some}
 use Rattle.machine_state.proofs.Owners.{owner_in, owner_of, row_addresses, new_owner}
 use Rattle.machine_state.proofs.Holders.{now_claims, lent_by, reaches}
-use Rattle.machine_state.proofs.Roles.{own_in, opener_in, opened_in, HoldersIn, field_set, field_other, field_pushed}
+use Rattle.machine_state.proofs.Roles.{own_in, opener_in, opened_in, HoldersIn, field_set, field_other}
 use Rattle.machine_state.proofs.Roles.{opened_is, opened_here, gives_back}
 use Rattle.machine_state.proofs.StartedApart.{join_is_open, found_row}
 use Rattle.machine_state.proofs.EndedApart.{reduced}
 use Rattle.machine_state.proofs.ChannelWaiters.{IsCalm, calm_as, calm_ready, calm_link, calm_alternating, calm_ended}
 use Rattle.machine_state.proofs.ChannelWaiters.{calm_stopped, same_channel, channels_have_their_waiters}
-use Rattle.machine_state.proofs.OthersHold.{HoldOn, others_hold, smaller_holds}
+use Rattle.machine_state.proofs.OthersHold.{others_hold, smaller_holds}
 use Rattle.machine_state.proofs.ApartLaws.{IsSmall, format_is_small, Stands, all_stand, own_role}
 use Rattle.machine_state.proofs.Changes as change
 use Rattle.machine_state.proofs.Changes.{Changed, Passed, Onward, Receives, Opening, GivesBack, Leaves, Roused, going}
@@ -374,15 +370,16 @@ module _ (m : Contents) (small : IsSmall m) (w : World) (keeps : WaitsIn w)
   passed ts rs cs ls (change.fills_last p k link here waiting x) = calms p _ calm_ready
   passed ts rs cs ls (change.fills_more p k x) = calms p _ (calm_link x.exchange (x.done + 1))
   passed ts rs cs ls (change.keeps_byte k byte link tasks here empty roused) = λ p t d e at waits.
-      let before = roused_was (λ c. WaitsTo d c e) (no_wait Ready calm_ready d e) w.tasks tasks link.enabled roused p t at
-      waits in
+      let before = roused_was (λ c. WaitsTo d c e) (no_wait Ready calm_ready d e) w.tasks tasks link.enabled roused p t
+      at waits in
       all p before.0 d e before.1 before.2
   passed ts rs cs ls (change.acknowledges p k link here waiting x) = calms p _ calm_ready
 
 loaded_recorded : (m : Contents) → AreRecorded (loaded m).tasks (loaded m).roles (loaded m).channels
 loaded_recorded m zero t d e here waits =
     let same : root_task m ≡ t = cc in
-    absurd (no_wait t.condition (calm_as t.condition Ready (sym (ap (λ (x : Task). x.condition) same)) calm_ready) d e waits)
+    let ready = sym (ap (λ (x : Task). x.condition) same) in
+    absurd (no_wait t.condition (calm_as t.condition Ready ready calm_ready) d e waits)
 loaded_recorded m (suc p) t d e here waits = absurd (cc)
 
 pub who_waits_is_recorded : WhoWaitsIsRecorded

@@ -1,12 +1,11 @@
 -- Who waits on a link is recorded there, and holds that end of it.
 use Rattle.std.proofs.Common.{◌≡◌, ◌≢◌, ℕ, zero, suc, ◌+◌, ◌<◌, true, inl, inr}
-use Rattle.std.proofs.Common.{List, [], ◌∷◌, ◌++◌, Option, Some, None, is_some, refl, sym, ap, ◌∙◌, subst, slice_get, arith}
+use Rattle.std.proofs.Common.{List, [], ◌∷◌, ◌++◌, Option, Some, None, refl, sym, ap, ◌∙◌, subst, slice_get, arith}
 use Rattle.std.proofs.lemmas.Bool.{cases_eq}
 use Rattle.std.specs.Prelude.{slice_set}
 use Rattle.module_format.specs.Contents.{Contents}
 use Rattle.module_format.specs.declared.rows.Direction.{Direction}
 use Rattle.module_format.specs.declared.rows.Direction.TheVariants.{In, Out}
-use Rattle.machine_state.specs.declared.event.Event.{Event}
 use Rattle.machine_state.specs.declared.holding.End.{End}
 use Rattle.machine_state.specs.declared.link.InputLink.{InputLink}
 use Rattle.machine_state.specs.declared.link.OutputLink.{OutputLink}

@@ -1,6 +1,7 @@
 -- Which bytes an event changes.
 use Rattle.std.proofs.Common.{◌≡◌, ℕ, zero, suc, ◌+◌, ◌%◌, ◌^◌, ◌<◌, ◌≤◌, ◌&&◌, Bool, true, false, if◌then◌else◌}
-use Rattle.std.proofs.Common.{◌⊎◌, inl, inr, ℤ, pos, negsuc, List, [], ◌∷◌, ◌++◌, length, Option, Some, None, is_some, Result, Ok}
+use Rattle.std.proofs.Common.{◌⊎◌, inl, inr, ℤ, pos, negsuc, List, [], ◌∷◌, ◌++◌, length, Option, Some, None, is_some}
+use Rattle.std.proofs.Common.{Result, Ok}
 use Rattle.std.proofs.Common.{Err, refl, sym, ap, ◌∙◌, subst, slice_get, arith, eqb-true}
 use Rattle.std.proofs.lemmas.Bool.{cases_lt, cases_eq, le-leb, lt-ltb}
 use Rattle.std.proofs.lemmas.List.{get_or_past}
@@ -21,11 +22,11 @@ use Rattle.machine_state.specs.declared.process.Condition.{Condition}
 use Rattle.machine_state.specs.declared.process.Condition.TheVariants.{Ready, Sending, Receiving, OnLink, Alternating}
 use Rattle.machine_state.specs.declared.process.Condition.TheVariants.{Stopped, Ended}
 use Rattle.machine_state.specs.declared.process.Exchange.{Exchange}
-use Rattle.machine_state.specs.Memory.{Memory, place_of, local_address, byte_at, with_byte, word_at, with_word}
+use Rattle.machine_state.specs.Memory.{Memory, place_of, local_address, byte_at, with_byte, with_word}
 use Rattle.machine_state.specs.Holding.{Holding, nothing, may_write, may_write_word, may_read_word}
 use Rattle.machine_state.specs.Spans.{Share, all_places, less, writes_place}
 use Rattle.machine_state.specs.World.{World, Role, Join, held, holding_at}
-use Rattle.machine_state.specs.Site.{Site, Local, Outcome, receives, sends}
+use Rattle.machine_state.specs.Site.{Site, Local, Outcome}
 use Rattle.machine_state.specs.LocalStep as step
 use Rattle.machine_state.specs.Moves.{wake, fill, fill_condition, dispatch, link_index, channel_at}
 use Rattle.machine_state.specs.Moves.{put, with_channel, with_input, with_output, with_condition}
@@ -36,19 +37,22 @@ use Rattle.machine_state.specs.declared.process.Mode.TheVariants.{Disabling, Sta
 use Rattle.prefix_decoder.specs.declared.function.Fun.{Fun}
 use Rattle.machine_state.specs.Joins.{Plan, Found, scheduling_places, scheduling_addresses, without_words}
 use Rattle.machine_state.specs.Joins.{word_passes, share_by, share_is_there, words_are_held, block_addresses}
-use Rattle.machine_state.specs.Joins.{channel_addresses, hidden, opened_by, later_plan, started, opened, ended, given_back}
+use Rattle.machine_state.specs.Joins.{channel_addresses, hidden, opened_by, later_plan, started, opened, ended}
+use Rattle.machine_state.specs.Joins.{given_back}
 use Rattle.machine_state.specs.Joins.{join_after, frame_address, named_from}
 use Rattle.machine_state.specs.Happens as happens
 use Rattle.machine_state.specs.Happens.{site_of, between, turn}
 use Rattle.machine_state.specs.Frame.{ChangesOwn, LeavesOthers}
 use Rattle.machine_state.specs.Writing.{outcome_of, of_waiting, Delivery, delivered_to, delivery_on, delivery_by}
 use Rattle.machine_state.specs.Writing.{delivery, is_delivered}
-use Rattle.machine_state.specs.Writing.{is_own, WritesWell, StepWrites, StepsWriteOwn, wanted_by, wanted_on, ArriveWrites}
+use Rattle.machine_state.specs.Writing.{is_own, WritesWell, StepWrites, StepsWriteOwn, wanted_by, wanted_on}
+use Rattle.machine_state.specs.Writing.{ArriveWrites}
 use Rattle.machine_state.specs.Writing.{ArrivalsWriteOne, AcknowledgementsWriteNothing}
 use Rattle.machine_state.proofs.Reading.{length-with_byte, byte_at-with_byte, byte_at-with_byte_other}
 use Rattle.machine_state.proofs.Combining.{and_true}
 use Rattle.machine_state.proofs.EveryInstruction.{Wants, OfAsked, wants_asked, here, scheduled, each_step}
-use Rattle.machine_state.proofs.Frame.{changes_more, changes_nothing, write_is_own, byte_is_own, copy_is_own, steps_change_own}
+use Rattle.machine_state.proofs.Frame.{changes_more, changes_nothing, write_is_own, byte_is_own, copy_is_own}
+use Rattle.machine_state.proofs.Frame.{steps_change_own}
 use Rattle.machine_state.proofs.SpanLaws.{both_true, runs_tell}
 use Rattle.machine_state.proofs.Moving.{on_task_only, wake_only, rouse_only, on_role_only, joined_quiet}
 use Rattle.machine_state.proofs.Starting.{first_tests, later_tests}
