@@ -1,7 +1,7 @@
 -- Holdings stay apart in every world that a list of events leads to.
 use Rattle.std.proofs.Common.{◌≡◌, ◌≢◌, ℕ, zero, suc, ◌+◌, ◌*◌, ◌/◌, ◌%◌, ◌^◌, ◌<◌, ◌≤◌, Bool, true, false, inl}
 use Rattle.std.proofs.Common.{inr}
-use Rattle.std.proofs.Common.{if◌then◌else◌, ℤ, pos, List, [], ◌∷◌, ◌++◌, length, Option, Some, None, is_some, refl}
+use Rattle.std.proofs.Common.{if◌then◌else◌, ℤ, List, [], ◌∷◌, ◌++◌, length, Option, Some, None, is_some, refl}
 use Rattle.std.proofs.Common.{sym}
 use Rattle.std.proofs.Common.{ap, ◌∙◌, subst, slice_get, arith, eqb-true, replicate}
 use Rattle.std.proofs.lemmas.Bool.{cases_eq, leb-true, ltb-true}
@@ -38,13 +38,13 @@ use Rattle.machine_state.specs.ApartLaws.{HoldingsStayApart}
 use Rattle.machine_state.specs.Site.{Site, Local, Outcome, goes, jumps, lands, stops, fails, receives, sends, starts}
 use Rattle.machine_state.specs.Site.{joins, begins, enables_channel, enables_skip, waits, disables_channel}
 use Rattle.machine_state.specs.Site.{disables_skip, ends_alternation}
-use Rattle.machine_state.specs.LocalStep.{copied, with_a_alone}
-use Rattle.machine_state.specs.Moves.{put, on_task, wake, leave, dispatch, rouse, rouse_task, rouse_enabling, cell_of}
+use Rattle.machine_state.specs.LocalStep.{copied}
+use Rattle.machine_state.specs.Moves.{put, on_task, wake, leave, dispatch, cell_of}
 use Rattle.machine_state.specs.Moves.{fill, fill_condition, with_condition, link_index, with_channel}
 use Rattle.machine_state.specs.Moves.{with_input, with_output}
 use Rattle.machine_state.specs.Turn.{Here, Turn, at_here, between, continued}
 use Rattle.machine_state.specs.Exchanges.{waits_at}
-use Rattle.machine_state.specs.Alternations.{chosen, selected, in_mode, ready_or}
+use Rattle.machine_state.specs.Alternations.{chosen, ready_or}
 use Rattle.machine_state.specs.Joins as join
 use Rattle.machine_state.specs.Joins.{joined, closed_task, started, on_role, new_task, with_channels, without_channels}
 use Rattle.machine_state.specs.Joins.{frame_address, opened, opened_by, opener_of, ended, given_back, first_plan}
@@ -56,7 +56,9 @@ use Rattle.machine_state.specs.ChannelLaws.{HaveTheirWaiters}
 use Rattle.prefix_decoder.specs.Functions.{nibble}
 use Rattle.prefix_decoder.specs.Operand.{with_nibble}
 use Rattle.machine_state.proofs.Lines.{got_other, got_either, got_within, set_either}
-use Rattle.machine_state.proofs.Moving.{wake_only, rouse_only, on_task_only}
+use Rattle.machine_state.proofs.Moving.{wake_only, rouse_only, on_task_only, chooses}
+use Rattle.machine_state.proofs.Changes as change
+use Rattle.machine_state.proofs.Changes.{Roused, rouses}
 use Rattle.machine_state.proofs.Combining.{and_true}
 use Rattle.machine_state.proofs.SpanLaws.{or_true}
 use Rattle.machine_state.proofs.EveryInstruction.{Wants, each_step}
@@ -197,32 +199,12 @@ even_on_task q f w even all = on (slice_get w.tasks q) refl
     on None here = all
     on (Some t) here = even_set w.tasks q (f t) (even t (all q t here)) all
 
-even_rouse : (o : Option ℕ) (w : World) → AllEven w.tasks → AllEven (rouse o w).tasks
-even_rouse None w all = all
-even_rouse (Some q) w all = on (slice_get w.tasks q)
-  where
-    on_mode : (mode : Mode) → AllEven (rouse_enabling q mode w).tasks
-    on_mode Plain = all
-    on_mode (Enabling is_ready) = even_on_task q (λ task. record task { mode = Enabling true }) w (λ t even. even) all
-    on_mode (Disabling selection) = all
-    on_mode Starting = all
-
-    on_condition : (mode : Mode) (c : Condition) → AllEven (rouse_task q mode c w).tasks
-    on_condition mode Alternating =
-        even_on_task q (λ task. record task { condition = Ready }) w (λ t even. even) all
-    on_condition mode Ready = on_mode mode
-    on_condition mode (Sending e) = on_mode mode
-    on_condition mode (Receiving e) = on_mode mode
-    on_condition mode (OnLink e done) = on_mode mode
-    on_condition mode Stopped = on_mode mode
-    on_condition mode Ended = on_mode mode
-
-    on : (o : Option Task) → AllEven (elim o as (λ o. World) [
-      | None ↦ w
-      | Some task ↦ rouse_task q task.mode task.condition w
-    ]).tasks
-    on None = all
-    on (Some task) = on_condition task.mode task.condition
+even_roused : (tasks later : List Task) (o : Option ℕ) → Roused tasks o later → AllEven tasks → AllEven later
+even_roused tasks later o (change.nobody deaf) all = all
+even_roused tasks later o (change.who_enables q t here is awake) all =
+    even_set tasks q (record t { mode = Enabling true }) (all q t here) all
+even_roused tasks later o (change.who_waits q t here is) all =
+    even_set tasks q (record t { condition = Ready }) (all q t here) all
 
 -- ---- what is so of every world
 
@@ -266,20 +248,14 @@ module _ (h : Here) (w : World) (there : slice_get w.tasks h.process ≡ Some h.
   even_here u even = even_set w.tasks h.process u even st.even
 
   -- what is selected makes no difference
-  chooses : (move : World → World)
+  chosen_stands : (move : World → World)
       → ((r : Registers) (mode : Mode) (m : Memory) → r.workspace % 4 ≡ 0 → Stands h.contents (move (record w {
         memory = m;
         tasks = slice_set w.tasks h.process (record h.from { registers = r; mode = mode });
       }))) → (is_ready : Bool) (distance : ℤ) (l : Local) → HasEven l
       → Stands h.contents (move (chosen h is_ready distance l w))
-  chooses move kept is_ready distance l even = on (selected h.from.mode is_ready distance)
-    where
-      on : (b : Bool) → Stands h.contents (move (if b
-          then in_mode h (Disabling (Some distance)) (with_a_alone (Some (pos 1)) l) w
-          else continued h h.next (with_a_alone (Some (pos 0)) l) w))
-      on true =
-          kept (between h.next (with_a_alone (Some (pos 1)) l).registers) (Disabling (Some distance)) l.memory even
-      on false = kept (between h.next (with_a_alone (Some (pos 0)) l).registers) h.from.mode l.memory even
+  chosen_stands move kept is_ready distance l even = chooses h w l (λ (v : World). Stands h.contents (move v))
+      (λ r mode m same further. kept r mode m (ap (λ n. n % 4) same ∙ even)) is_ready distance
 
   -- the role of the process
   pub own_role : (r : Role) × (slice_get w.roles h.process ≡ Some r)
@@ -421,7 +397,8 @@ module _ (h : Here) (w : World) (there : slice_get w.tasks h.process ≡ Some h.
   moved_stands o after (turns.sends_first e l c inside here nobody) even =
       let v = waits_at h (Sending e) e.channel c l w in
       stays_with e.channel c (record c { waiting = Some h.process }) (channel_there w e.channel c here) refl _
-      (rouse_only c.enabled v).roles (rouse_only c.enabled v).channels (even_rouse c.enabled v
+      (rouse_only c.enabled v).roles (rouse_only c.enabled v).channels
+      (even_roused v.tasks _ c.enabled (rouses c.enabled v)
       (even_here (record h.from { registers = between h.next l.registers; condition = Sending e }) even))
   moved_stands o after (turns.sends_to e l c other wanted inside here partner is same) even =
       let v = with_channel e.channel (record c { waiting = None }) (continued h h.next
@@ -515,18 +492,20 @@ module _ (h : Here) (w : World) (there : slice_get w.tasks h.process ≡ Some h.
         condition = Alternating;
       }) even _ refl refl refl
   moved_stands o after (turns.it_disables guard address distance l s holds (turns.on_channel c inside here) mine) even =
-      chooses (with_channel address (record c { enabled = None }))
+      chosen_stands (with_channel address (record c { enabled = None }))
       (λ r mode m even. stays_with address c (record c { enabled = None }) (channel_there w address c here) refl _ refl
       refl (even_here (record h.from { registers = r; mode = mode }) even)) (is_some c.waiting) distance l even
   moved_stands o after (turns.it_disables guard address distance l s holds (turns.on_link k link on here) mine) even =
-      chooses (with_input k (record link { enabled = None }))
+      chosen_stands (with_input k (record link { enabled = None }))
       (λ r mode m even. goes_on (record h.from { registers = r; mode = mode }) even _ refl refl refl)
       (is_some link.kept) distance l even
   moved_stands o after (turns.it_disables_nothing guard address distance l off) even =
-      chooses (λ v. v) (λ r mode m even. goes_on (record h.from { registers = r; mode = mode }) even _ refl refl refl)
+      chosen_stands (λ v. v)
+      (λ r mode m even. goes_on (record h.from { registers = r; mode = mode }) even _ refl refl refl)
       false distance l even
   moved_stands o after (turns.it_disables_a_skip guard distance l) even =
-      chooses (λ v. v) (λ r mode m even. goes_on (record h.from { registers = r; mode = mode }) even _ refl refl refl)
+      chosen_stands (λ v. v)
+      (λ r mode m even. goes_on (record h.from { registers = r; mode = mode }) even _ refl refl refl)
       guard distance l even
   moved_stands o after (turns.it_ends_alternation to l none) even =
       goes_on (record h.from { registers = between to l.registers; mode = Plain }) even _ refl refl refl
@@ -607,7 +586,7 @@ module _ (m : Contents) (small : IsSmall m) (w : World) (keeps : WaitsIn w)
   turn_stands e t (turns.is_kept {link = link} {byte = byte} input here nobody empty) =
       let v = with_input (link_index link) (record input { kept = Some byte }) w in
       unchanged m w _ st (rouse_only input.enabled v).roles (rouse_only input.enabled v).channels
-      (even_rouse input.enabled v st.even)
+      (even_roused v.tasks _ input.enabled (rouses input.enabled v) st.even)
   turn_stands e t (turns.is_acknowledged {link = link} output p here waiting) =
       let s = same_task p (λ task. record task { condition = Ready })
       (with_output (link_index link) (record { waiting = None }) w) refl refl refl (λ t even. even) in

@@ -1,10 +1,9 @@
--- What is enabled is held by who has enabled it, so that nobody else receives there.
-use Rattle.std.proofs.Common.{◌≡◌, ◌≢◌, ℕ, zero, suc, ◌+◌, ◌%◌, ◌^◌, ◌<◌, Bool, true, false, if◌then◌else◌}
-use Rattle.std.proofs.Common.{◌⊎◌, inl, inr, List, length, Option, Some, None, is_some, refl}
-use Rattle.std.proofs.Common.{sym, ap, ◌∙◌, subst, slice_get, arith, replicate}
+-- What a process has enabled it holds, and nobody else receives there.
+use Rattle.std.proofs.Common.{◌≡◌, ◌≢◌, ℕ, zero, suc, ◌<◌, ◌^◌, true, ◌⊎◌, inl, inr, List, Option, Some, None}
+use Rattle.std.proofs.Common.{refl, sym, ap, ◌∙◌, subst, slice_get, arith, replicate}
 use Rattle.std.proofs.lemmas.Bool.{cases_eq}
-use Rattle.std.specs.Prelude.{◌==◌, filter, not, slice_set}
-use Rattle.module_format.specs.Contents.{Contents, Par}
+use Rattle.std.specs.Prelude.{slice_set}
+use Rattle.module_format.specs.Contents.{Contents}
 use Rattle.module_format.specs.declared.rows.Direction.TheVariants.{In}
 use Rattle.machine_state.specs.declared.event.Event.{Event}
 use Rattle.machine_state.specs.declared.holding.End.{End}
@@ -12,52 +11,37 @@ use Rattle.machine_state.specs.declared.link.InputLink.{InputLink}
 use Rattle.machine_state.specs.declared.process.Channel.{Channel}
 use Rattle.machine_state.specs.declared.process.Task.{Task}
 use Rattle.machine_state.specs.declared.process.Mode.{Mode}
-use Rattle.machine_state.specs.declared.process.Mode.TheVariants.{Starting}
 use Rattle.machine_state.specs.declared.process.Condition.{Condition}
-use Rattle.machine_state.specs.declared.process.Condition.TheVariants.{Ready, Sending, Receiving, OnLink, Alternating}
-use Rattle.machine_state.specs.declared.process.Condition.TheVariants.{Stopped, Ended}
+use Rattle.machine_state.specs.declared.process.Condition.TheVariants.{Ready, Receiving, OnLink, Alternating}
 use Rattle.machine_state.specs.declared.process.Exchange.{Exchange}
-use Rattle.machine_state.specs.Memory.{place_of, with_byte}
-use Rattle.machine_state.specs.Holding.{Holding, nothing, has_end}
-use Rattle.machine_state.specs.World.{World, Role, Join, Links, holding_at, loaded, input_word}
+use Rattle.machine_state.specs.Memory.{place_of}
+use Rattle.machine_state.specs.Holding.{Holding, has_end}
+use Rattle.machine_state.specs.World.{World, Links, Role, holding_at, input_word, loaded}
+use Rattle.machine_state.specs.Moves.{cell_of}
+use Rattle.machine_state.specs.Turn.{Here, at_here}
 use Rattle.machine_state.specs.Apart.{AllApart}
-use Rattle.machine_state.specs.Site.{Local, Outcome}
-use Rattle.machine_state.specs.LocalStep.{copied}
-use Rattle.machine_state.specs.Moves.{put, on_task, wake, leave, dispatch, rouse, cell_of, fill, fill_condition}
-use Rattle.machine_state.specs.Moves.{with_condition, link_index, with_channel, with_input, with_output, channel_at}
-use Rattle.machine_state.specs.Turn.{Here, Turn, at_here, between, continued}
-use Rattle.machine_state.specs.Exchanges.{waits_at}
-use Rattle.machine_state.specs.Joins as join
-use Rattle.machine_state.specs.Joins.{joined, closed_task, started, on_role, opened, ended, given_back, later_plan}
-use Rattle.machine_state.specs.Joins.{Plan, Found, join_after, without_words, scheduling_addresses, without_channels}
-use Rattle.machine_state.specs.Happens.{site_of, turn, world_after}
 use Rattle.machine_state.specs.ChannelLaws.{HaveTheirWaiters, AreRecorded}
-use Rattle.machine_state.specs.LinkLaws.{AreAtLinks, IsAtLink, at_input, at_output}
+use Rattle.machine_state.specs.LinkLaws.{IsAtLink, at_input, at_output, AreAtLinks}
 use Rattle.machine_state.specs.EnabledLaws.{HasEnabled, a_channel, a_link, Alternates, AllAlternate, EnabledIsHeld}
 use Rattle.machine_state.specs.EnabledLaws.{IsSending, WhoEnabledHolds}
-use Rattle.prefix_decoder.specs.Functions.{nibble}
-use Rattle.prefix_decoder.specs.Operand.{with_nibble}
+use Rattle.machine_state.specs.Happens.{world_after}
 use Rattle.machine_state.proofs.Lines.{set_either}
-use Rattle.machine_state.proofs.Moving.{wake_only, rouse_only, on_task_only, chosen_only}
-use Rattle.machine_state.proofs.EveryInstruction.{each_step}
-use Rattle.machine_state.proofs.Turns as turns
-use Rattle.machine_state.proofs.Turns.{Moved, Ends, Happened, local_here, turn_happens}
-use Rattle.machine_state.proofs.Waiting.{WaitsIn, reached, link_found, input_words, low_output}
-use Rattle.machine_state.proofs.EveryWorld.{every_world}
+use Rattle.machine_state.proofs.Waiting.{WaitsIn, reached, low_output}
 use Rattle.machine_state.proofs.Claims.{only_one, to_use, not_some}
 use Rattle.machine_state.proofs.Owners.{owner_of}
 use Rattle.machine_state.proofs.EvenWords.{even_place}
 use Rattle.machine_state.proofs.Holders.{IsWord, now_claims, outside_is_free}
-use Rattle.machine_state.proofs.Modes.{steps_fit}
-use Rattle.machine_state.proofs.EndedApart.{on_role_channels}
-use Rattle.machine_state.proofs.ChannelWaiters.{channel_there, same_channel, made_is_quiet, left_channel}
+use Rattle.machine_state.proofs.ChannelWaiters.{same_channel, new_is_quiet, left_channel}
 use Rattle.machine_state.proofs.ChannelWaiters.{channels_have_their_waiters}
 use Rattle.machine_state.proofs.ApartLaws.{Stands, all_stand, format_is_small, holdings_stay_apart}
-use Rattle.machine_state.proofs.WhoWaits.{AsksHeld, asks_held, holding_now, who_waits_is_recorded}
-use Rattle.machine_state.proofs.WhoEnabled.{not_outside, not_ended, not_on_link, on_role_links}
+use Rattle.machine_state.proofs.WhoWaits.{holding_now, who_waits_is_recorded}
+use Rattle.machine_state.proofs.WhoEnabled.{not_outside, not_ended, not_on_link}
 use Rattle.machine_state.proofs.WhoEnabled.{who_enabled_alternates}
 use Rattle.machine_state.proofs.OthersHold.{HoldOn, others_hold}
 use Rattle.machine_state.proofs.WhoWaitsOnLinks.{one_holds, who_waits_on_links_is_recorded}
+use Rattle.machine_state.proofs.Changes as change
+use Rattle.machine_state.proofs.Changes.{Changed, Passed, Receives, cell_is, with_cell, with_link}
+use Rattle.machine_state.proofs.Changes.{of_every_world}
 
 -- ---- an instruction of the running process
 
@@ -78,43 +62,28 @@ abbrev FewerInputs : World → List Role → List InputLink → Type 0
 FewerInputs w roles inputs = (k : ℕ) (l : InputLink) (p : ℕ) → slice_get inputs k ≡ Some l → l.enabled ≡ Some p
     → ((d : InputLink) × (slice_get w.links.inputs k ≡ Some d) × (d.enabled ≡ Some p)) ⊎ HoldsInput roles p k
 
-same_cells : (w : World) (roles : List Role) (cells : List (Option Channel)) → cells ≡ w.channels
-    → FewerCells w roles cells
-same_cells w roles cells same k c p here by =
-    inl (c, ap (λ (cs : List (Option Channel)). slice_get cs k) (sym same) ∙ here, by)
-
-same_inputs : (w : World) (roles : List Role) (inputs : List InputLink) → inputs ≡ w.links.inputs
-    → FewerInputs w roles inputs
-same_inputs w roles inputs same k l p here by =
-    inl (l, ap (λ (ls : List InputLink). slice_get ls k) (sym same) ∙ here, by)
-
--- one channel was changed
+-- one of the channels or links was changed
 cell_set : (w : World) (roles : List Role) (n : ℕ) (new : Channel)
     → ((p : ℕ) → new.enabled ≡ Some p
     → ((d : Channel) × (slice_get w.channels n ≡ Some (Some d)) × (d.enabled ≡ Some p)) ⊎ HoldsCell roles p n)
-    → (cells : List (Option Channel)) → cells ≡ slice_set w.channels n (Some new) → FewerCells w roles cells
-cell_set w roles n new kept cells same k c p here by =
-    elim (set_either w.channels n (Some new) k (Some c)
-    (ap (λ (cs : List (Option Channel)). slice_get cs k) (sym same) ∙ here)) [
-      | inl it ↦
-          let e : c ≡ new = let x = it.1 in cc in
-          subst (λ i. ((d : Channel) × (slice_get w.channels i ≡ Some (Some d)) × (d.enabled ≡ Some p))
-          ⊎ HoldsCell roles p i) it.0 (kept p (ap (λ (x : Channel). x.enabled) (sym e) ∙ by))
-      | inr other ↦ inl (c, other.1, by)
-    ]
+    → FewerCells w roles (slice_set w.channels n (Some new))
+cell_set w roles n new kept k c p here by = elim (set_either w.channels n (Some new) k (Some c) here) [
+  | inl it ↦
+      let e : c ≡ new = let x = it.1 in cc in
+      subst (λ i. ((d : Channel) × (slice_get w.channels i ≡ Some (Some d)) × (d.enabled ≡ Some p))
+      ⊎ HoldsCell roles p i) it.0 (kept p (ap (λ (x : Channel). x.enabled) (sym e) ∙ by))
+  | inr other ↦ inl (c, other.1, by)
+]
 
 input_set : (w : World) (roles : List Role) (n : ℕ) (new : InputLink)
     → ((p : ℕ) → new.enabled ≡ Some p
     → ((d : InputLink) × (slice_get w.links.inputs n ≡ Some d) × (d.enabled ≡ Some p)) ⊎ HoldsInput roles p n)
-    → (inputs : List InputLink) → inputs ≡ slice_set w.links.inputs n new → FewerInputs w roles inputs
-input_set w roles n new kept inputs same k l p here by =
-    elim (set_either w.links.inputs n new k l
-    (ap (λ (ls : List InputLink). slice_get ls k) (sym same) ∙ here)) [
-      | inl it ↦
-          subst (λ i. ((d : InputLink) × (slice_get w.links.inputs i ≡ Some d) × (d.enabled ≡ Some p))
-          ⊎ HoldsInput roles p i) it.0 (kept p (ap (λ (x : InputLink). x.enabled) (sym it.1) ∙ by))
-      | inr other ↦ inl (l, other.1, by)
-    ]
+    → FewerInputs w roles (slice_set w.links.inputs n new)
+input_set w roles n new kept k l p here by = elim (set_either w.links.inputs n new k l here) [
+  | inl it ↦ subst (λ i. ((d : InputLink) × (slice_get w.links.inputs i ≡ Some d) × (d.enabled ≡ Some p))
+      ⊎ HoldsInput roles p i) it.0 (kept p (ap (λ (x : InputLink). x.enabled) (sym it.1) ∙ by))
+  | inr other ↦ inl (l, other.1, by)
+]
 
 module _ (h : Here) (w : World) (there : slice_get w.tasks h.process ≡ Some h.from)
     (waiters : HaveTheirWaiters w.tasks w.channels) (alternates : AllAlternate w.tasks w.channels w.links.inputs)
@@ -155,283 +124,108 @@ module _ (h : Here) (w : World) (there : slice_get w.tasks h.process ≡ Some h.
     ];
   }
 
-  -- channels and links are as they were, or one of them is
-  stays : (v : World) → HoldOn h w v.roles → v.channels ≡ w.channels → v.links ≡ w.links
-      → EnabledIsHeld v.roles v.channels v.links.inputs
-  stays v holds channels links =
-      goes v.roles v.channels v.links.inputs holds (same_cells w v.roles v.channels channels)
-      (same_inputs w v.roles v.links.inputs (ap (λ (ls : Links). ls.inputs) links))
+  same_inputs : (roles : List Role) → FewerInputs w roles w.links.inputs
+  same_inputs roles k l p here by = inl (l, here, by)
 
-  cell_goes : (v : World) → HoldOn h w v.roles → (n : ℕ) (new : Channel)
+  -- nothing that can be enabled was changed
+  stays : (roles : List Role) → HoldOn h w roles → EnabledIsHeld roles w.channels w.links.inputs
+  stays roles holds = goes roles w.channels w.links.inputs holds (λ k c p here by. inl (c, here, by))
+      (same_inputs roles)
+
+  -- one channel was changed, or one link
+  cell_goes : HoldOn h w w.roles → (n : ℕ) (new : Channel)
       → ((p : ℕ) → new.enabled ≡ Some p
-      → ((d : Channel) × (slice_get w.channels n ≡ Some (Some d)) × (d.enabled ≡ Some p)) ⊎ HoldsCell v.roles p n)
-      → v.channels ≡ slice_set w.channels n (Some new) → v.links ≡ w.links
-      → EnabledIsHeld v.roles v.channels v.links.inputs
-  cell_goes v holds n new kept channels links =
-      goes v.roles v.channels v.links.inputs holds (cell_set w v.roles n new kept v.channels channels)
-      (same_inputs w v.roles v.links.inputs (ap (λ (ls : Links). ls.inputs) links))
+      → ((d : Channel) × (slice_get w.channels n ≡ Some (Some d)) × (d.enabled ≡ Some p)) ⊎ HoldsCell w.roles p n)
+      → EnabledIsHeld w.roles (slice_set w.channels n (Some new)) w.links.inputs
+  cell_goes holds n new kept = goes w.roles (slice_set w.channels n (Some new)) w.links.inputs holds
+      (cell_set w w.roles n new kept) (same_inputs w.roles)
 
-  input_goes : (v : World) → HoldOn h w v.roles → (n : ℕ) (new : InputLink)
+  input_goes : HoldOn h w w.roles → (n : ℕ) (new : InputLink)
       → ((p : ℕ) → new.enabled ≡ Some p
-      → ((d : InputLink) × (slice_get w.links.inputs n ≡ Some d) × (d.enabled ≡ Some p)) ⊎ HoldsInput v.roles p n)
-      → v.channels ≡ w.channels → v.links.inputs ≡ slice_set w.links.inputs n new
-      → EnabledIsHeld v.roles v.channels v.links.inputs
-  input_goes v holds n new kept channels inputs =
-      goes v.roles v.channels v.links.inputs holds (same_cells w v.roles v.channels channels)
-      (input_set w v.roles n new kept v.links.inputs inputs)
+      → ((d : InputLink) × (slice_get w.links.inputs n ≡ Some d) × (d.enabled ≡ Some p)) ⊎ HoldsInput w.roles p n)
+      → EnabledIsHeld w.roles w.channels (slice_set w.links.inputs n new)
+  input_goes holds n new kept = goes w.roles w.channels (slice_set w.links.inputs n new) holds
+      (λ k c p here by. inl (c, here, by)) (input_set w w.roles n new kept)
 
-  -- a branch starts
-  starts : (plan : Plan) (found : Found) (workspace : ℕ) (l : Local) (v : World) → v.links ≡ w.links
-      → ((k : ℕ) (c : Channel) (p : ℕ) → slice_get v.channels k ≡ Some (Some c) → c.enabled ≡ Some p
-      → slice_get w.channels k ≡ Some (Some c)) → let x = started h plan found workspace l v in
-      HoldOn h w x.roles → EnabledIsHeld x.roles x.channels x.links.inputs
-  starts plan found workspace l v links old holds =
-      let u = record h.from { registers = between h.next l.registers; mode = Starting } in
-      let f : Role → Role = λ role. record role {
-        opened = Some (join_after (length v.memory) plan found (length v.tasks));
-      } in
-      let put_there = put h.process u (without_words (scheduling_addresses workspace) l.memory) v in
-      let x = started h plan found workspace l v in
-      goes x.roles x.channels x.links.inputs holds (λ k c p here by. inl (
-        c,
-        old k c p (ap (λ (cs : List (Option Channel)). slice_get cs k) (sym (on_role_channels h.process f put_there))
-            ∙ here) by,
-        by,
-      ))
-      (same_inputs w x.roles x.links.inputs
-      (ap (λ (ls : Links). ls.inputs) (on_role_links h.process f put_there ∙ links)))
+  -- the link where it receives is enabled by the same
+  received : HoldOn h w w.roles → (e : Exchange) (k : ℕ) (link new : InputLink) (c : Condition)
+      → slice_get w.links.inputs k ≡ Some link → Receives h e link c new
+      → EnabledIsHeld w.roles w.channels (slice_set w.links.inputs k new)
+  received holds e k link new c here (change.no_byte none) = input_goes holds k new (λ p by. inl (link, here, by))
+  received holds e k link new c here change.the_last = input_goes holds k new (λ p by. inl (link, here, by))
+  received holds e k link new c here change.one_of_more = input_goes holds k new (λ p by. inl (link, here, by))
 
-  -- a member of a join ends
-  joins : (v : World) (o : ℕ) (j : Join) (par : Par) → v.channels ≡ w.channels → v.links ≡ w.links
-      → let x = joined h o j par v in HoldOn h w x.roles → EnabledIsHeld x.roles x.channels x.links.inputs
-  unfolding dispatch
-  joins v o j par channels links holds =
-      let x = joined h o j par v in
-      goes x.roles x.channels x.links.inputs holds (λ k c p here by. inl (
-        c,
-        (on (length (filter (λ q. not (q == h.process)) j.members) == 0)).0 k c here,
-        by,
-      ))
-      (same_inputs w x.roles x.links.inputs (on (length (filter (λ q. not (q == h.process)) j.members) == 0)).1)
-    where
-      less : Role → Role
-      less role = record role { opened = Some (record j { members = filter (λ q. not (q == h.process)) j.members }) }
-
-      shut : Role → Role
-      shut role = record role { opened = None }
-
-      smaller : World
-      smaller = on_role o (λ role. record role {
-        opened = Some (record j { members = filter (λ q. not (q == h.process)) j.members });
-      }) v
-
-      done : World
-      done = on_task o (closed_task j par) smaller
-
-      cells : smaller.channels ≡ w.channels
-      cells = on_role_channels o less v ∙ channels
-
-      inputs : smaller.links.inputs ≡ w.links.inputs
-      inputs = ap (λ (ls : Links). ls.inputs) (on_role_links o less v ∙ links)
-
-      on : (b : Bool) → let x : World = if b then join.closed o j par smaller else dispatch h.pick (leave smaller) in
-          ((k : ℕ) (c : Channel) → slice_get x.channels k ≡ Some (Some c) → slice_get w.channels k ≡ Some (Some c))
-          × (x.links.inputs ≡ w.links.inputs)
-      on true = (
-        λ k c here. ap (λ (cs : List (Option Channel)). slice_get cs k) (sym (on_role_channels o shut done
-            ∙ ((on_task_only o (closed_task j par) smaller).channels ∙ cells)))
-            ∙ left_channel o (on_role o shut done).channels k c here,
-        ap (λ (ls : Links). ls.inputs) (on_role_links o shut done
-            ∙ (on_task_only o (closed_task j par) smaller).links) ∙ inputs,
-      )
-      on false = (λ k c here. ap (λ (cs : List (Option Channel)). slice_get cs k) (sym cells) ∙ here, inputs)
-
-  -- the channel was enabled by the same, or nobody has enabled it now
-  same_enabled : (roles : List Role) (address : ℕ) (old : Channel) → channel_at w address ≡ Some old → (n : ℕ)
-      → cell_of address ≡ n → (p : ℕ) → old.enabled ≡ Some p
-      → ((d : Channel) × (slice_get w.channels n ≡ Some (Some d)) × (d.enabled ≡ Some p)) ⊎ HoldsCell roles p n
-  same_enabled roles address old is n cell p by =
-      inl (old, subst (λ k. slice_get w.channels k ≡ Some (Some old)) cell (channel_there w address old is), by)
-
-  moved : (o : Outcome) (v : World) → Moved h w o v → AsksHeld (site_of h w) o → HoldOn h w v.roles
-      → EnabledIsHeld v.roles v.channels v.links.inputs
-  unfolding dispatch
-  moved o v (turns.it_goes l) asks holds = stays v holds refl refl
-  moved o v (turns.it_jumps to l) asks holds = stays v holds refl refl
-  moved o v (turns.it_is_sliced to l) asks holds = stays v holds refl refl
-  moved o v (turns.it_lands to l) asks holds = stays v holds refl refl
-  moved o v (turns.it_stops l) asks holds = stays v holds refl refl
-  moved o v (turns.receives_first e l c inside here nobody) asks holds =
-      cell_goes v holds (cell_of e.channel) (record c { waiting = Some h.process })
-      (same_enabled v.roles e.channel c here (cell_of e.channel) refl) refl refl
-  moved o v (turns.receives_from e l c other sent inside here partner is same) asks holds =
-      let at = channel_there w e.channel c here in
-      let cell = same_channel w other (cell_of e.channel) sent (waiters (cell_of e.channel) c other at partner) is in
-      let only = wake_only other (with_channel sent.channel (record c { waiting = None }) (continued h h.next
-      (record l { memory = copied l.memory (place_of sent.address) (place_of e.address) sent.length l.memory }) w)) in
-      cell_goes v holds (cell_of sent.channel) (record c { waiting = None })
-      (same_enabled v.roles e.channel c here (cell_of sent.channel) (sym cell)) only.channels only.links
-  moved o v (turns.receives_none e l k link on here none) asks holds =
-      input_goes v holds k (record link { waiting = Some h.process }) (λ p by. inl (link, here, by)) refl refl
-  moved o v (turns.receives_last e l k link byte on here kept one) asks holds =
-      input_goes v holds k (record link { kept = None }) (λ p by. inl (link, here, by)) refl refl
-  moved o v (turns.receives_one e l k link byte on here kept more) asks holds =
-      input_goes v holds k (record link { kept = None; waiting = Some h.process }) (λ p by. inl (link, here, by)) refl
-      refl
-  moved o v (turns.sends_first e l c inside here nobody) asks holds =
-      let only = rouse_only c.enabled (waits_at h (Sending e) e.channel c l w) in
-      cell_goes v holds (cell_of e.channel) (record c { waiting = Some h.process })
-      (same_enabled v.roles e.channel c here (cell_of e.channel) refl) only.channels only.links
-  moved o v (turns.sends_to e l c other wanted inside here partner is same) asks holds =
-      let only = wake_only other (with_channel e.channel (record c { waiting = None }) (continued h h.next
-      (record l { memory = copied l.memory (place_of e.address) (place_of wanted.address) e.length l.memory }) w)) in
-      cell_goes v holds (cell_of e.channel) (record c { waiting = None })
-      (same_enabled v.roles e.channel c here (cell_of e.channel) refl) only.channels only.links
-  moved o v (turns.starts_first target workspace l found is none tests) asks holds =
-      let plan = turns.plan_of h w found in
-      starts plan found workspace (opened h plan l w).0 (opened h plan l w).1 refl (λ k c p here by.
-      elim (made_is_quiet h.process plan.base plan.par.channels w.channels k c here) [
-        | inl old ↦ old
-        | inr nobody ↦ not_some p (sym nobody.1 ∙ by)
-      ]) holds
-  moved o v (turns.starts_later target workspace l found j is is_open same tests) asks holds =
-      starts (later_plan h.contents j found.par) found workspace l w refl (λ k c p here by. here) holds
-  moved o v (turns.joins_own block l j par is row whole) asks holds =
-      joins (ended h l w) h.process j par refl refl holds
-  moved o v (turns.joins_opener block l opener j par none by is row same) asks holds =
-      let f : Role → Role = λ role. record role { own = nothing } in
-      joins (given_back h (ended h l w)) opener j par (on_role_channels h.process f (ended h l w))
-      (on_role_links h.process f (ended h l w)) holds
-  moved o v (turns.it_begins l) asks holds = stays v holds refl refl
-  moved o v (turns.it_enables guard address l s given (turns.on_channel c inside here) once) asks holds =
-      cell_goes v holds (cell_of address) (record c { enabled = Some h.process }) (λ p by.
-      let same : h.process ≡ p = cc in inr (
+  changed : (ts : List Task) (rs : List Role) (cs : List (Option Channel)) (ls : Links) → Changed h w ts rs cs ls
+      → HoldOn h w rs → EnabledIsHeld rs cs ls.inputs
+  changed ts rs cs ls (change.goes_on r mode c x) holds = stays rs holds
+  changed ts rs cs ls (change.waits_to_receive r e c is asks at none) holds =
+      cell_goes holds (cell_of e.channel) (record c { waiting = Some h.process }) (λ p by. inl (c, at, by))
+  changed ts rs cs ls (change.waits_to_send r e c tasks is asks at none roused) holds =
+      cell_goes holds (cell_of e.channel) (record c { waiting = Some h.process }) (λ p by. inl (c, at, by))
+  changed ts rs cs ls (change.meets_sender r e sent c other is asks at waits x) holds =
+      let cell = same_channel w other (cell_of e.channel) sent (waiters (cell_of e.channel) c other at waits)
+      (ap (λ (o : Option Task). elim o as (λ o. Condition) [ None ↦ Ready | Some task ↦ task.condition ]) x.here
+      ∙ x.waits) in
+      cell_goes holds (cell_of sent.channel) (record c { waiting = None })
+      (λ p by. inl (c, subst (λ k. slice_get w.channels k ≡ Some (Some c)) (sym cell) at, by))
+  changed ts rs cs ls (change.meets_receiver r e wanted c other is asks at waits x) holds =
+      cell_goes holds (cell_of e.channel) (record c { waiting = None }) (λ p by. inl (c, at, by))
+  changed ts rs cs ls (change.receives_outside r e k link new c is asks word here x) holds =
+      received holds e k link new c here x
+  changed ts rs cs ls (change.sends_outside r e k is asks word low) holds = stays rs holds
+  changed ts rs cs ls (change.starts r role j own child cells is here plain awake opening) holds =
+      goes rs cells w.links.inputs holds (λ k c p there by. elim (new_is_quiet h w cells opening k c there) [
+        | inl old ↦ inl (c, old, by)
+        | inr quiet ↦ not_some p (sym quiet.1 ∙ by)
+      ]) (same_inputs rs)
+  changed ts rs cs ls (change.leaves_join r o roles x some) holds = stays rs holds
+  changed ts rs cs ls (change.closes_join r o roles x none par t here over) holds =
+      goes rs cs w.links.inputs holds (λ k c p there by. inl (c, left_channel o w.channels k c there, by))
+      (same_inputs rs)
+  changed ts rs cs ls (change.enables_a_channel r address c is asks at once) holds =
+      cell_goes holds (cell_of address) (record c { enabled = Some h.process }) (λ p by. inr (
         address,
         refl,
-        subst (λ n.
-            has_end (holding_at w.roles n) (record { address = address; direction = In }) ≡ true) same asks,
-      )) refl refl
-  moved o v (turns.it_enables guard address l s given (turns.on_link k link on here) once) asks holds =
-      input_goes v holds k (record link { enabled = Some h.process }) (λ p by.
-      let same : h.process ≡ p = cc in inr (subst (λ n. HoldsInput w.roles n k) same (subst (λ a.
-      has_end (holding_at w.roles h.process) (record { address = a; direction = In }) ≡ true)
-      (link_found (input_word 0) address k on ∙ input_words k) asks))) refl refl
-  moved o v (turns.it_enables_nothing guard address l off) asks holds = stays v holds refl refl
-  moved o v (turns.it_enables_a_skip guard l) asks holds = stays v holds refl refl
-  moved o v (turns.it_is_ready l is) asks holds = stays v holds refl refl
-  moved o v (turns.it_waits l is) asks holds = stays v holds refl refl
-  moved o v (turns.it_disables guard address distance l s given (turns.on_channel c inside here) mine) asks holds =
-      let new : Channel = record c { enabled = None } in
-      cell_goes v holds (cell_of address) (record c { enabled = None }) (λ p by. not_some p by)
-      (ap (λ (cs : List (Option Channel)). slice_set cs (cell_of address) (Some new))
-      (chosen_only h (is_some c.waiting) distance l w).channels) (chosen_only h (is_some c.waiting) distance l w).links
-  moved o v (turns.it_disables guard address distance l s given (turns.on_link k link on here) mine) asks holds =
-      let new : InputLink = record link { enabled = None } in
-      input_goes v holds k (record link { enabled = None }) (λ p by. not_some p by)
-      (chosen_only h (is_some link.kept) distance l w).channels
-      (ap (λ (ls : Links). slice_set ls.inputs k new) (chosen_only h (is_some link.kept) distance l w).links)
-  moved o v (turns.it_disables_nothing guard address distance l off) asks holds =
-      stays v holds (chosen_only h false distance l w).channels (chosen_only h false distance l w).links
-  moved o v (turns.it_disables_a_skip guard distance l) asks holds =
-      stays v holds (chosen_only h guard distance l w).channels (chosen_only h guard distance l w).links
-  moved o v (turns.it_ends_alternation to l none) asks holds = stays v holds refl refl
-
-  end_is_held : (o : Outcome) (t : Turn) → Ends h w o t → AsksHeld (site_of h w) o → HoldOn h w t.world.roles
-      → EnabledIsHeld t.world.roles t.world.channels t.world.links.inputs
-  unfolding dispatch
-  end_is_held o t (turns.at_fault kind) asks holds = held
-  end_is_held o t (turns.has_run {after = v} ends) asks holds = moved o v ends asks holds
-  end_is_held o t (turns.has_emitted e l k on same) asks holds =
-      goes w.roles w.channels w.links.inputs holds (same_cells w w.roles w.channels refl)
-      (same_inputs w w.roles w.links.inputs refl)
+        subst (λ n. has_end (holding_at w.roles n) (record { address = address; direction = In }) ≡ true)
+            (only_one (Some h.process) h.process p refl by) asks,
+      ))
+  changed ts rs cs ls (change.enables_a_link r k link is asks here once) holds =
+      input_goes holds k (record link { enabled = Some h.process })
+      (λ p by. inr (subst (λ n. HoldsInput w.roles n k) (only_one (Some h.process) h.process p refl by) asks))
+  changed ts rs cs ls (change.disables_a_channel r mode address c is further at mine) holds =
+      cell_goes holds (cell_of address) (record c { enabled = None }) (λ p by. not_some p by)
+  changed ts rs cs ls (change.disables_a_link r mode k link is further here mine) holds =
+      input_goes holds k (record link { enabled = None }) (λ p by. not_some p by)
 
 -- ---- every event
 
 module _ (m : Contents) (w : World) (keeps : WaitsIn w)
     (waiters : HaveTheirWaiters w.tasks w.channels) (alternates : AllAlternate w.tasks w.channels w.links.inputs)
     (held : EnabledIsHeld w.roles w.channels w.links.inputs) where
-  as_held : (v : World) → v.roles ≡ w.roles → v.channels ≡ w.channels
-      → FewerInputs w w.roles v.links.inputs → EnabledIsHeld v.roles v.channels v.links.inputs
-  as_held v roles channels inputs = subst (λ (rs : List Role). EnabledIsHeld rs v.channels v.links.inputs) (sym roles)
-      (record {
-        at_channels = λ k c p here by.
-            held.at_channels k c p (ap (λ (cs : List (Option Channel)). slice_get cs k) (sym channels) ∙ here) by;
-        at_links = λ k l p here by. elim (inputs k l p here by) [
-          | inl d ↦ held.at_links k d.0 p d.1 d.2
-          | inr mine ↦ mine
-        ];
-      })
+  -- a link was changed, which the same process has enabled
+  with_input : (k : ℕ) (old new : InputLink) → slice_get w.links.inputs k ≡ Some old → new.enabled ≡ old.enabled
+      → EnabledIsHeld w.roles w.channels (slice_set w.links.inputs k new)
+  with_input k old new at same = record {
+    at_channels = held.at_channels;
+    at_links = λ n l p here by. elim (set_either w.links.inputs k new n l here) [
+      | inl it ↦ subst (λ i. HoldsInput w.roles p i) it.0
+          (held.at_links k old p at (sym same ∙ (ap (λ (x : InputLink). x.enabled) (sym it.1) ∙ by)))
+      | inr other ↦ held.at_links n l p other.1 by
+    ];
+  }
 
-  fills : (p k byte : ℕ) (link : InputLink) → slice_get w.links.inputs k ≡ Some link
-      → let v = fill p k byte link w in EnabledIsHeld v.roles v.channels v.links.inputs
-  fills p k byte link at = on (slice_get w.tasks p)
-    where
-      on_last : (e : Exchange) (done : ℕ) (b : Bool) → let v : World = if b
-          then wake p (with_input k (record link { waiting = None }) (record w {
-            memory = with_byte w.memory (place_of ((e.address + done) % 2 ^ 32)) (Some byte);
-          }))
-          else with_condition p (OnLink e (done + 1)) (record w {
-            memory = with_byte w.memory (place_of ((e.address + done) % 2 ^ 32)) (Some byte);
-          }) in EnabledIsHeld v.roles v.channels v.links.inputs
-      on_last e done true =
-          let v = with_input k (record link { waiting = None }) (record w {
-            memory = with_byte w.memory (place_of ((e.address + done) % 2 ^ 32)) (Some byte);
-          }) in
-          let only = wake_only p v in
-          as_held (wake p v) only.roles only.channels (input_set w w.roles k (record link { waiting = None })
-          (λ q by. inl (link, at, by)) (wake p v).links.inputs (ap (λ (ls : Links). ls.inputs) only.links))
-      on_last e done false =
-          let f : Task → Task = λ task. record task { condition = OnLink e (done + 1) } in
-          let v = record w { memory = with_byte w.memory (place_of ((e.address + done) % 2 ^ 32)) (Some byte) } in
-          let only = on_task_only p f v in
-          as_held (on_task p f v) only.roles only.channels (same_inputs w w.roles (on_task p f v).links.inputs
-          (ap (λ (ls : Links). ls.inputs) only.links))
-
-      on_condition : (c : Condition)
-          → let v = fill_condition p k byte link c w in EnabledIsHeld v.roles v.channels v.links.inputs
-      on_condition Ready = held
-      on_condition (Sending e) = held
-      on_condition (Receiving e) = held
-      on_condition (OnLink e done) = on_last e done (done + 1 == e.length)
-      on_condition Alternating = held
-      on_condition Stopped = held
-      on_condition Ended = held
-
-      on : (o : Option Task) → let v : World = elim o as (λ o. World) [
-        | None ↦ w
-        | Some task ↦ fill_condition p k byte link task.condition w
-      ] in EnabledIsHeld v.roles v.channels v.links.inputs
-      on None = held
-      on (Some task) = on_condition task.condition
-
-  turn_is_held : (e : Event) (t : Turn) → Happened m w e t
-      → EnabledIsHeld t.world.roles t.world.channels t.world.links.inputs
-  unfolding dispatch
-  turn_is_held e t (turns.was_at_fault f is) = held
-  turn_is_held e t (turns.it_rests rests) = held
-  turn_is_held e t (turns.is_outside p task kind runs here) = held
-  turn_is_held e t (turns.is_prefix p task byte operand runs here at none) = held
-  turn_is_held e t (turns.is_step {pick = pick} p task byte f runs here at is ends) =
+  passed : (ts : List Task) (rs : List Role) (cs : List (Option Channel)) (ls : Links) → Passed m w ts rs cs ls
+      → EnabledIsHeld rs cs ls.inputs
+  passed ts rs cs ls change.nothing_happens = held
+  passed ts rs cs ls (change.it_runs p pick task runs here x) =
       let h = at_here m p task pick in
-      let operand = with_nibble task.registers.operand (nibble byte) in
-      end_is_held h w here waiters alternates held _ t ends
-      (each_step (site_of h w) task.registers w.memory w.memory (λ r m n. m ≡ n)
-      (λ o other. AsksHeld (site_of h w) o) (asks_held (site_of h w) task.registers w.memory) refl f operand)
-      (others_hold h w here keeps _ t ends (steps_fit (site_of h w) f operand (local_here task w)))
-  turn_is_held e t (turns.is_taken {link = link} {byte = byte} input p here waiting) =
-      fills p (link_index link) byte input here
-  turn_is_held e t (turns.is_kept {link = link} {byte = byte} input here nobody empty) =
-      let k = link_index link in
-      let v = with_input k (record input { kept = Some byte }) w in
-      let only = rouse_only input.enabled v in
-      as_held (rouse input.enabled v) only.roles only.channels
-      (input_set w w.roles k (record input { kept = Some byte })
-      (λ q by. inl (input, here, by)) (rouse input.enabled v).links.inputs (ap (λ (ls : Links). ls.inputs) only.links))
-  turn_is_held e t (turns.is_acknowledged {link = link} output p here waiting) =
-      let v = with_output (link_index link) (record { waiting = None }) w in
-      let only = wake_only p v in
-      as_held (wake p v) only.roles only.channels (same_inputs w w.roles (wake p v).links.inputs
-      (ap (λ (ls : Links). ls.inputs) only.links))
+      changed h w here waiters alternates held ts rs cs ls x (others_hold h w keeps ts rs cs ls x)
+  passed ts rs cs ls (change.fills_last p k link here waiting x) =
+      with_input k link (record link { waiting = None }) here refl
+  passed ts rs cs ls (change.fills_more p k x) = held
+  passed ts rs cs ls (change.keeps_byte k byte link tasks here empty roused) =
+      with_input k link (record link { kept = Some byte }) here refl
+  passed ts rs cs ls (change.acknowledges p k link here waiting x) = held
 
 loaded_is_held : (m : Contents) → EnabledIsHeld (loaded m).roles (loaded m).channels (loaded m).links.inputs
 loaded_is_held m = record {
@@ -457,10 +251,9 @@ loaded_is_held m = record {
 pub enabled_is_held : (m : Contents) (es : List Event)
     → let w = world_after m es in EnabledIsHeld w.roles w.channels w.links.inputs
 enabled_is_held m es =
-    every_world m (λ w. EnabledIsHeld w.roles w.channels w.links.inputs) (loaded_is_held m)
-    (λ es e held. turn_is_held m (world_after m es) (reached m es)
-    (channels_have_their_waiters m es) (who_enabled_alternates m es) held e
-    (turn m (world_after m es) e) (turn_happens m (world_after m es) e)) es
+    of_every_world m (λ ts rs cs ls. EnabledIsHeld rs cs ls.inputs) (loaded_is_held m)
+    (λ es ts rs cs ls held x. passed m (world_after m es) (reached m es) (channels_have_their_waiters m es)
+    (who_enabled_alternates m es) held ts rs cs ls x) es
 
 -- ---- nobody else receives there
 

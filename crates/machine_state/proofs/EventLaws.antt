@@ -20,7 +20,7 @@ use Rattle.machine_state.specs.Holding.{nothing}
 use Rattle.machine_state.specs.Happens.{answered, turn}
 use Rattle.machine_state.specs.EventLaws.{bytes_of, EventsCountBytes, FaultsAreKept, FaultsStay}
 use Rattle.machine_state.specs.Memory.{place_of, with_byte}
-use Rattle.machine_state.proofs.Moving.{on_task_only, wake_only, rouse_only, on_role_quiet, joined_quiet}
+use Rattle.machine_state.proofs.Moving.{on_task_only, wake_only, rouse_only, on_role_only, joined_quiet}
 use Rattle.machine_state.proofs.Turns as turns
 use Rattle.machine_state.proofs.Turns.{Moved, Ends, Happened, turn_happens}
 
@@ -114,14 +114,14 @@ moved_count h w o after (turns.sends_first e l c inside here nobody) =
 moved_count h w o after (turns.sends_to e l c other wanted inside here partner is same) =
     ap (λ (c : Counters). c.executed) (wake_count other _)
 moved_count h w o after (turns.starts_first target workspace l found is none tests) =
-    ap (λ (c : Counters). c.executed) (on_role_quiet h.process _ _).counters
+    ap (λ (c : Counters). c.executed) (on_role_only h.process _ _).quiet.counters
 moved_count h w o after (turns.starts_later target workspace l found j is is_open same tests) =
-    ap (λ (c : Counters). c.executed) (on_role_quiet h.process _ _).counters
+    ap (λ (c : Counters). c.executed) (on_role_only h.process _ _).quiet.counters
 moved_count h w o after (turns.joins_own block l j par is row all) =
     ap (λ (c : Counters). c.executed) (joined_count h h.process j par (ended h l w))
 moved_count h w o after (turns.joins_opener block l opener j par none by is row same) =
     ap (λ (c : Counters). c.executed) (joined_count h opener j par (given_back h (ended h l w))
-    ∙ (on_role_quiet h.process (λ role. record role { own = nothing }) (ended h l w)).counters)
+    ∙ (on_role_only h.process (λ role. record role { own = nothing }) (ended h l w)).quiet.counters)
 moved_count h w o after (turns.it_begins l) = refl
 moved_count h w o after (turns.it_enables guard address l s holds (turns.on_channel c inside here) once) = refl
 moved_count h w o after (turns.it_enables guard address l s holds (turns.on_link k link outside here) once) = refl

@@ -1,8 +1,8 @@
 -- The walk through every instruction, once: a law says what it wants of each outcome and what each change of the
 -- registers or of memory keeps. It is of one instruction in two memories; most laws are of one of them.
 use Rattle.std.proofs.Common.{◌≡◌, ◌≤◌, ◌^◌, ◌-◌, ◌+◌, ◌%◌, ℕ, zero, suc, ℤ, pos, negsuc, Bool, true, false}
-use Rattle.std.proofs.Common.{cond, Option, Some, None, refl, subst, int_lt, is_some}
-use Rattle.std.specs.Prelude.{◌==◌, not}
+use Rattle.std.proofs.Common.{cond, Option, Some, None, refl, ap, subst, int_lt, is_some}
+use Rattle.std.specs.Prelude.{⊤, ◌==◌, not}
 use Rattle.prefix_decoder.specs.declared.function.Fun.{Fun}
 use Rattle.module_format.specs.declared.rows.Direction.{Direction}
 use Rattle.module_format.specs.declared.rows.Direction.TheVariants.{In, Out}
@@ -94,6 +94,47 @@ pub record Wants (s : Site) (rs : Registers) (m0 n0 : Memory) (K : Registers →
       → R (disables_skip guard distance (here r m)) (disables_skip guard distance (here r n))
   pub at_ends_alternation : (to : ℕ) (r : Registers) (m n : Memory) → K r m n
       → R (ends_alternation to (here r m)) (ends_alternation to (here r n))
+
+-- a law that wants something of the messages that are asked for, and of what is enabled
+abbrev pub OfAsked : (Exchange → Local → Type 0) → (Exchange → Local → Type 0) → (ℕ → Type 0) → Outcome → Type 0
+OfAsked Received Sent Enabled (receives e l) = Received e l
+OfAsked Received Sent Enabled (sends e l) = Sent e l
+OfAsked Received Sent Enabled (enables_channel guard address l) = Enabled address
+OfAsked Received Sent Enabled _ = ⊤
+
+pub wants_asked : (s : Site) (rs : Registers) (old : Memory) (Received Sent : Exchange → Local → Type 0)
+    (Enabled : ℕ → Type 0)
+    → ((e : Exchange) → IsAsked s rs In e → all_places (may_write s.holding) (place_of e.address) e.length ≡ true
+    → Received e (here (record rs { stack = of_empty None }) (scheduled rs old)))
+    → ((e : Exchange) → IsAsked s rs Out e → step.are_defined (scheduled rs old) e.address e.length ≡ true
+    → Sent e (here (record rs { stack = of_empty None }) (scheduled rs old)))
+    → ((at : ℕ) → has_end s.holding (record { address = at; direction = In }) ≡ true → Enabled at)
+    → Wants s rs old old (λ r m n. m ≡ n) (λ o other. OfAsked Received Sent Enabled o)
+wants_asked s rs old Received Sent Enabled of_received of_sent of_enabled = record {
+  same_word = λ r m n place k own. ap (λ (m : Memory). word_at m place) k;
+  same_byte = λ r m n place k own. ap (λ (m : Memory). byte_at m place) k;
+  stack = λ r m n stack k. k;
+  workspace = λ r m n e k. k;
+  word = λ r m n place v k own. ap (λ (m : Memory). with_word m place v) k;
+  byte = λ r m n place v k own. ap (λ (m : Memory). with_byte m place v) k;
+  copy = λ r m n source to count k read own. ap (λ (m : Memory). step.copied m source to count m) k;
+  at_fault = λ kind. tt;
+  at_goes = λ r m n k. tt;
+  at_jumps = λ to r m n k. tt;
+  at_lands = λ to r m n k. tt;
+  at_stops = λ r m n k. tt;
+  at_receives = λ e asked own k. of_received e asked own;
+  at_sends = λ e asked own defined k. of_sent e asked defined;
+  at_starts = λ to workspace r m n even k. tt;
+  at_joins = λ block r m n k. tt;
+  at_begins = λ r m n k. tt;
+  at_enables_channel = λ guard at r m n k held. of_enabled at held;
+  at_enables_skip = λ guard r m n k. tt;
+  at_waits = λ r m n k. tt;
+  at_disables_channel = λ guard at distance r m n k held. tt;
+  at_disables_skip = λ guard distance r m n k. tt;
+  at_ends_alternation = λ to r m n k. tt;
+}
 
 -- ---- what may be written may be read
 

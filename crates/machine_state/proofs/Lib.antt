@@ -33,6 +33,7 @@ pub mod Roles
 pub mod EveryWorld
 pub mod EndedApart
 pub mod StartedApart
+pub mod Changes
 pub mod ChannelWaiters
 pub mod ApartLaws
 pub mod WhoWaits

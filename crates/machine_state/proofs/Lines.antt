@@ -40,6 +40,18 @@ set_either (z ∷ zs) (suc k) y (suc j) x is = elim (set_either zs k y j x is) [
   | inr old ↦ inr ((λ e. old.0 (omega (arith, e))), old.1)
 ]
 
+-- the one of which something is told
+pub told_in : {A B : Type 0} (told : B → Option A) (xs : List B) (p : ℕ) (x : A)
+    → elim (slice_get xs p) as (λ o. Option A) [ None ↦ None | Some y ↦ told y ] ≡ Some x
+    → (y : B) × (slice_get xs p ≡ Some y) × (told y ≡ Some x)
+told_in {A} {B} told xs p x is = on (slice_get xs p) refl is
+  where
+    on : (o : Option B) → slice_get xs p ≡ o
+        → elim o as (λ o. Option A) [ None ↦ None | Some y ↦ told y ] ≡ Some x
+        → (y : B) × (slice_get xs p ≡ Some y) × (told y ≡ Some x)
+    on None here is = absurd (cc)
+    on (Some y) here is = (y, here, is)
+
 -- ---- the line
 
 pub ready_same : (tasks : List Task) (p : ℕ) (t : Task) (q : ℕ) → t.condition ≡ Ready → IsReadyAt tasks q

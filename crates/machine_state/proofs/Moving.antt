@@ -1,23 +1,27 @@
 -- What the moves of processes leave alone.
 use Rattle.std.proofs.Common.{◌≡◌, ℕ, ℤ, pos, Bool, true, false, if◌then◌else◌, List, length, Option, Some, None}
-use Rattle.std.proofs.Common.{refl}
-use Rattle.std.proofs.Common.{◌∙◌, slice_get}
+use Rattle.std.proofs.Common.{refl, sym, ap, ◌∙◌, slice_get}
 use Rattle.std.proofs.lemmas.List.{length-set}
 use Rattle.std.specs.Prelude.{◌==◌, filter, not, slice_set}
 use Rattle.module_format.specs.Contents.{Par}
 use Rattle.machine_state.specs.declared.process.Task.{Task}
 use Rattle.machine_state.specs.declared.process.Mode.{Mode}
-use Rattle.machine_state.specs.declared.process.Mode.TheVariants.{Enabling, Disabling}
+use Rattle.machine_state.specs.declared.process.Mode.TheVariants.{Plain, Enabling, Disabling, Starting}
 use Rattle.machine_state.specs.declared.process.Condition.{Condition}
-use Rattle.machine_state.specs.declared.process.Condition.TheVariants.{Ready, Alternating}
+use Rattle.machine_state.specs.declared.process.Condition.TheVariants.{Ready, Sending, Receiving, OnLink, Alternating}
+use Rattle.machine_state.specs.declared.process.Condition.TheVariants.{Stopped, Ended}
 use Rattle.machine_state.specs.World.{World, Join, Role}
 use Rattle.machine_state.specs.Site.{Local}
 use Rattle.machine_state.specs.LocalStep.{with_a_alone}
-use Rattle.machine_state.specs.Turn.{Here, continued}
+use Rattle.machine_state.specs.declared.process.Registers.{Registers}
+use Rattle.machine_state.specs.Memory.{Memory}
+use Rattle.machine_state.specs.Turn.{Here, between, continued}
 use Rattle.machine_state.specs.Alternations.{chosen, selected, in_mode}
-use Rattle.machine_state.specs.Moves.{on_task, wake, rouse, rouse_enabling, rouse_task}
+use Rattle.machine_state.specs.Moves.{on_task, enqueue, wake, rouse, rouse_enabling, rouse_task}
 use Rattle.machine_state.specs.Moves.{dispatch, leave}
+use Rattle.machine_state.specs.Joins as join
 use Rattle.machine_state.specs.Joins.{on_role, joined, closed_task}
+use Rattle.machine_state.specs.EnabledLaws.{Disables}
 
 -- tasks and queue alone have changed, and no task has come or gone
 pub record OnlyTasks (w after : World) : Type 0 where
@@ -29,16 +33,20 @@ pub record OnlyTasks (w after : World) : Type 0 where
   pub fault : after.fault ≡ w.fault
   pub size : length after.tasks ≡ length w.tasks
 
-nothing_changes : (w : World) → OnlyTasks w w
-nothing_changes w = record {
+tasks_only : (w : World) (tasks : List Task) → length tasks ≡ length w.tasks
+    → OnlyTasks w (record w { tasks = tasks })
+tasks_only w tasks size = record {
   memory = refl;
   roles = refl;
   links = refl;
   channels = refl;
   counters = refl;
   fault = refl;
-  size = refl;
+  size = size;
 }
+
+nothing_changes : (w : World) → OnlyTasks w w
+nothing_changes w = tasks_only w w.tasks refl
 
 pub on_task_only : (p : ℕ) (f : Task → Task) (w : World) → OnlyTasks w (on_task p f w)
 on_task_only p f w = on (slice_get w.tasks p)
@@ -46,27 +54,35 @@ on_task_only p f w = on (slice_get w.tasks p)
     on : (o : Option Task) → OnlyTasks w
         (elim o [ None ↦ w | Some task ↦ record w { tasks = slice_set w.tasks p (f task) } ])
     on None = nothing_changes w
-    on (Some task) = record {
-      memory = refl;
-      roles = refl;
-      links = refl;
-      channels = refl;
-      counters = refl;
-      fault = refl;
-      size = length-set w.tasks p (f task);
-    }
+    on (Some task) = tasks_only w (slice_set w.tasks p (f task)) (length-set w.tasks p (f task))
+
+-- what is made of one that is there
+pub at_some : {A B : Type 0} (o : Option A) (x : A) (none : B) (some : A → B) → o ≡ Some x
+    → elim o as (λ o. B) [ None ↦ none | Some y ↦ some y ] ≡ some x
+at_some {A} {B} o x none some is =
+    ap (λ (o : Option A). elim o as (λ o. B) [ None ↦ none | Some y ↦ some y ]) is
+
+-- the world after a task was changed that is there, and its tasks
+pub on_task_is : (q : ℕ) (f : Task → Task) (w : World) (t : Task) → slice_get w.tasks q ≡ Some t
+    → on_task q f w ≡ record w { tasks = slice_set w.tasks q (f t) }
+on_task_is q f w t here =
+    at_some (slice_get w.tasks q) t w (λ task. record w { tasks = slice_set w.tasks q (f task) }) here
+
+pub on_task_tasks : (q : ℕ) (f : Task → Task) (w : World) (t : Task) → slice_get w.tasks q ≡ Some t
+    → (on_task q f w).tasks ≡ slice_set w.tasks q (f t)
+on_task_tasks q f w t here = ap (λ (v : World). v.tasks) (on_task_is q f w t here)
 
 pub wake_only : (p : ℕ) (w : World) → OnlyTasks w (wake p w)
 wake_only p w =
-    let r = on_task_only p (λ task. record task { condition = Ready }) w in
+    let only = on_task_only p (λ task. record task { condition = Ready }) w in
     record {
-      memory = r.memory;
-      roles = r.roles;
-      links = r.links;
-      channels = r.channels;
-      counters = r.counters;
-      fault = r.fault;
-      size = r.size;
+      memory = only.memory;
+      roles = only.roles;
+      links = only.links;
+      channels = only.channels;
+      counters = only.counters;
+      fault = only.fault;
+      size = only.size;
     }
 
 pub rouse_only : (o : Option ℕ) (w : World) → OnlyTasks w (rouse o w)
@@ -86,65 +102,163 @@ rouse_only (Some p) w = on (slice_get w.tasks p)
     on None = nothing_changes w
     on (Some task) = on_condition task.mode task.condition
 
--- what is selected makes a difference to the process and to memory alone
-pub record OnlySelected (w after : World) : Type 0 where
-  pub roles : after.roles ≡ w.roles
-  pub links : after.links ≡ w.links
-  pub channels : after.channels ≡ w.channels
+-- ---- a move that has nothing to do with tasks
 
-pub chosen_only : (h : Here) (is_ready : Bool) (distance : ℤ) (l : Local) (w : World)
-    → OnlySelected w (chosen h is_ready distance l w)
-chosen_only h is_ready distance l w = on (selected h.from.mode is_ready distance)
+-- it makes no difference whether it comes before a move of tasks or after
+module _ (move : World → World) (same : (w : World) → (move w).tasks ≡ w.tasks)
+    (sets : (w : World) (tasks : List Task) → move (record w { tasks = tasks }) ≡ record (move w) { tasks = tasks })
+    (queues : (p : ℕ) (w : World) → move (enqueue p w) ≡ enqueue p (move w)) where
+  pub on_task_beside : (p : ℕ) (f : Task → Task) (w : World) → move (on_task p f w) ≡ on_task p f (move w)
+  on_task_beside p f w = on (slice_get w.tasks p) ∙ ap (λ (ts : List Task). elim (slice_get ts p) as (λ o. World) [
+    | None ↦ move w
+    | Some task ↦ record (move w) { tasks = slice_set ts p (f task) }
+  ]) (sym (same w))
+    where
+      on : (o : Option Task) → move (elim o as (λ o. World) [
+        | None ↦ w
+        | Some task ↦ record w { tasks = slice_set w.tasks p (f task) }
+      ]) ≡ elim o as (λ o. World) [
+        | None ↦ move w
+        | Some task ↦ record (move w) { tasks = slice_set w.tasks p (f task) }
+      ]
+      on None = refl
+      on (Some task) = sets w (slice_set w.tasks p (f task))
+
+  pub wake_beside : (p : ℕ) (w : World) → move (wake p w) ≡ wake p (move w)
+  wake_beside p w =
+      queues p (on_task p (λ task. record task { condition = Ready }) w)
+      ∙ ap (enqueue p) (on_task_beside p (λ task. record task { condition = Ready }) w)
+
+  pub rouse_beside : (o : Option ℕ) (w : World) → move (rouse o w) ≡ rouse o (move w)
+  rouse_beside None w = refl
+  rouse_beside (Some p) w = on (slice_get w.tasks p) ∙ ap (λ (ts : List Task). elim (slice_get ts p) as (λ o. World) [
+    | None ↦ move w
+    | Some task ↦ rouse_task p task.mode task.condition (move w)
+  ]) (sym (same w))
+    where
+      on_mode : (mode : Mode) → move (rouse_enabling p mode w) ≡ rouse_enabling p mode (move w)
+      on_mode (Enabling is_ready) = on_task_beside p (λ task. record task { mode = Enabling true }) w
+      on_mode Plain = refl
+      on_mode (Disabling selection) = refl
+      on_mode Starting = refl
+
+      on_condition : (mode : Mode) (c : Condition) → move (rouse_task p mode c w) ≡ rouse_task p mode c (move w)
+      on_condition mode Alternating = wake_beside p w
+      on_condition mode Ready = on_mode mode
+      on_condition mode (Sending e) = on_mode mode
+      on_condition mode (Receiving e) = on_mode mode
+      on_condition mode (OnLink e done) = on_mode mode
+      on_condition mode Stopped = on_mode mode
+      on_condition mode Ended = on_mode mode
+
+      on : (o : Option Task) → move (elim o as (λ o. World) [
+        | None ↦ w
+        | Some task ↦ rouse_task p task.mode task.condition w
+      ]) ≡ elim o as (λ o. World) [
+        | None ↦ move w
+        | Some task ↦ rouse_task p task.mode task.condition (move w)
+      ]
+      on None = refl
+      on (Some task) = on_condition task.mode task.condition
+
+-- ---- what is selected
+
+-- what is selected makes a difference to the registers and the mode of the process, and to memory, alone
+pub chooses : (h : Here) (w : World) (l : Local) (P : World → Type 0)
+    → ((r : Registers) (mode : Mode) (m : Memory) → r.workspace ≡ l.registers.workspace
+    → (Disables h.from.mode → Disables mode) → P (record w {
+      memory = m;
+      tasks = slice_set w.tasks h.process (record h.from { registers = r; mode = mode });
+    })) → (is_ready : Bool) (distance : ℤ) → P (chosen h is_ready distance l w)
+chooses h w l P kept is_ready distance = on (selected h.from.mode is_ready distance)
   where
-    on : (b : Bool) → OnlySelected w (if b
+    on : (b : Bool) → P (if b
         then in_mode h (Disabling (Some distance)) (with_a_alone (Some (pos 1)) l) w
         else continued h h.next (with_a_alone (Some (pos 0)) l) w)
-    on true = record { roles = refl; links = refl; channels = refl }
-    on false = record { roles = refl; links = refl; channels = refl }
+    on true = kept (between h.next (with_a_alone (Some (pos 1)) l).registers) (Disabling (Some distance)) l.memory refl
+        (λ disables. (Some distance, refl))
+    on false = kept (between h.next (with_a_alone (Some (pos 0)) l).registers) h.from.mode l.memory refl
+        (λ disables. disables)
+
+-- ---- roles
 
 -- neither memory nor the counters have changed
 pub record Quiet (w after : World) : Type 0 where
   pub memory : after.memory ≡ w.memory
   pub counters : after.counters ≡ w.counters
 
-pub quiet : (w after : World) → OnlyTasks w after → Quiet w after
-quiet w after only = record { memory = only.memory; counters = only.counters }
+-- roles alone have changed
+pub record OnlyRoles (w after : World) : Type 0 where
+  pub quiet : Quiet w after
+  pub tasks : after.tasks ≡ w.tasks
+  pub links : after.links ≡ w.links
+  pub channels : after.channels ≡ w.channels
 
-pub quiet_more : (a b c : World) → Quiet a b → Quiet b c → Quiet a c
-quiet_more a b c p q = record { memory = q.memory ∙ p.memory; counters = q.counters ∙ p.counters }
-
-pub on_role_quiet : (p : ℕ) (f : Role → Role) (w : World) → Quiet w (on_role p f w)
-on_role_quiet p f w = on (slice_get w.roles p)
+pub on_role_only : (p : ℕ) (f : Role → Role) (w : World) → OnlyRoles w (on_role p f w)
+on_role_only p f w = on (slice_get w.roles p)
   where
-    on : (o : Option Role) → Quiet w
+    on : (o : Option Role) → OnlyRoles w
         (elim o [ None ↦ w | Some role ↦ record w { roles = slice_set w.roles p (f role) } ])
-    on None = record { memory = refl; counters = refl }
-    on (Some role) = record { memory = refl; counters = refl }
+    on None = record { quiet = record { memory = refl; counters = refl }; tasks = refl; links = refl; channels = refl }
+    on (Some role) =
+        record { quiet = record { memory = refl; counters = refl }; tasks = refl; links = refl; channels = refl }
 
-pub joined_quiet : (h : Here) (opener : ℕ) (j : Join) (par : Par) (w : World) → Quiet w (joined h opener j par w)
-unfolding dispatch
-joined_quiet h opener j par w = on (length members == 0)
+-- the world after a role was changed that is there, and its roles
+pub on_role_is : (p : ℕ) (f : Role → Role) (w : World) (r : Role) → slice_get w.roles p ≡ Some r
+    → on_role p f w ≡ record w { roles = slice_set w.roles p (f r) }
+on_role_is p f w r here =
+    at_some (slice_get w.roles p) r w (λ role. record w { roles = slice_set w.roles p (f role) }) here
+
+pub on_role_roles : (p : ℕ) (f : Role → Role) (w : World) (r : Role) → slice_get w.roles p ≡ Some r
+    → (on_role p f w).roles ≡ slice_set w.roles p (f r)
+on_role_roles p f w r here = ap (λ (v : World). v.roles) (on_role_is p f w r here)
+
+-- ---- a member of a join ends
+
+-- a join without a member
+abbrev pub without : ℕ → Join → Join
+without p j = record j { members = filter (λ q. not (q == p)) j.members }
+
+-- no other member is left
+abbrev pub is_last : ℕ → Join → Bool
+is_last p j = length (filter (λ q. not (q == p)) j.members) == 0
+
+abbrev pub with_opened : Option Join → Role → Role
+with_opened o role = record role { opened = o }
+
+-- the world in which the process is a member of its opener's join no more
+abbrev pub member_gone : Here → ℕ → Join → World → World
+member_gone h o j w = on_role o (with_opened (Some (without h.process j))) w
+
+-- the join goes on, or is over
+pub joined_either : (P : World → Type 0) (h : Here) (o : ℕ) (j : Join) (par : Par) (w : World)
+    → (is_last h.process j ≡ true → P (join.closed o j par (member_gone h o j w)))
+    → (is_last h.process j ≡ false → P (dispatch h.pick (leave (member_gone h o j w)))) → P (joined h o j par w)
+joined_either P h o j par w over more = on (is_last h.process j) refl
   where
-    members : List ℕ
-    members = filter (λ q. not (q == h.process)) j.members
+    on : (b : Bool) → is_last h.process j ≡ b
+        → P (if b then join.closed o j par (member_gone h o j w) else dispatch h.pick (leave (member_gone h o j w)))
+    on true none = over none
+    on false some = more some
 
+pub joined_quiet : (h : Here) (o : ℕ) (j : Join) (par : Par) (w : World) → Quiet w (joined h o j par w)
+unfolding dispatch
+joined_quiet h o j par w = joined_either (Quiet w) h o j par w
+    (λ none. record {
+      memory = shut.quiet.memory ∙ (over.memory ∙ gone.quiet.memory);
+      counters = shut.quiet.counters ∙ (over.counters ∙ gone.quiet.counters);
+    })
+    (λ some. record { memory = gone.quiet.memory; counters = gone.quiet.counters })
+  where
     there : World
-    there = on_role opener (λ role. record role { opened = Some (record j { members = members }) }) w
+    there = member_gone h o j w
 
-    reduced : Quiet w there
-    reduced = on_role_quiet opener (λ role. record role { opened = Some (record j { members = members }) }) w
+    gone : OnlyRoles w there
+    gone = on_role_only o (with_opened (Some (without h.process j))) w
 
-    over : World
-    over = on_role opener (λ role. record role { opened = None }) (on_task opener (closed_task j par) there)
+    over : OnlyTasks there (on_task o (closed_task j par) there)
+    over = on_task_only o (closed_task j par) there
 
-    closes : Quiet w over
-    closes = quiet_more w there over reduced
-        (quiet_more there (on_task opener (closed_task j par) there) over
-        (quiet there (on_task opener (closed_task j par) there) (on_task_only opener (closed_task j par) there))
-        (on_role_quiet opener (λ role. record role { opened = None }) (on_task opener (closed_task j par) there)))
-
-    on : (b : Bool)
-        → Quiet w (if b then Rattle.machine_state.specs.Joins.closed opener j par there
-        else dispatch h.pick (leave there))
-    on true = record { memory = closes.memory; counters = closes.counters }
-    on false = record { memory = reduced.memory; counters = reduced.counters }
+    shut : OnlyRoles (on_task o (closed_task j par) there)
+        (on_role o (with_opened None) (on_task o (closed_task j par) there))
+    shut = on_role_only o (with_opened None) (on_task o (closed_task j par) there)

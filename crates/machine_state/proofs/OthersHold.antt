@@ -1,91 +1,38 @@
 -- What a process holds that neither runs nor has ended stays as it is, and so does what one in an alternation holds.
-use Rattle.std.proofs.Common.{◌≡◌, ◌≢◌, ℕ, Bool, true, false, if◌then◌else◌}
-use Rattle.std.proofs.Common.{List, length, Option, Some, None, is_some, refl, sym, ap, ◌∙◌, subst}
-use Rattle.std.proofs.Common.{slice_get, arith}
+use Rattle.std.proofs.Common.{◌≡◌, ◌≢◌, ℕ, List, Option, Some, None, refl, sym, ap, ◌∙◌, subst, slice_get, arith}
 use Rattle.std.proofs.lemmas.List.{length-set}
 use Rattle.std.proofs.lemmas.Option.{slice_get_within}
-use Rattle.std.specs.Prelude.{◌==◌, filter, not, slice_set}
-use Rattle.module_format.specs.Contents.{Par}
+use Rattle.std.specs.Prelude.{slice_set}
+use Rattle.machine_state.specs.declared.process.Channel.{Channel}
 use Rattle.machine_state.specs.declared.process.Task.{Task}
-use Rattle.machine_state.specs.declared.process.Mode.TheVariants.{Starting}
-use Rattle.machine_state.specs.declared.process.Condition.TheVariants.{Sending, Ended}
-use Rattle.machine_state.specs.Memory.{place_of}
+use Rattle.machine_state.specs.declared.process.Mode.TheVariants.{Plain}
+use Rattle.machine_state.specs.declared.process.Condition.TheVariants.{Ended}
 use Rattle.machine_state.specs.Holding.{Holding, nothing}
-use Rattle.machine_state.specs.World.{World, Role, Join, held, holding_at}
-use Rattle.machine_state.specs.Site.{Local, Outcome}
-use Rattle.machine_state.specs.LocalStep.{copied}
-use Rattle.machine_state.specs.Moves.{put, on_task, leave, dispatch, with_channel}
-use Rattle.machine_state.specs.Turn.{Here, Turn, between, continued}
-use Rattle.machine_state.specs.Exchanges.{waits_at}
-use Rattle.machine_state.specs.Joins as join
-use Rattle.machine_state.specs.Joins.{joined, closed_task, started, on_role, opened, ended, given_back, later_plan}
-use Rattle.machine_state.specs.Joins.{Plan, Found, join_after, without_words, scheduling_addresses, holding_of}
-use Rattle.machine_state.specs.Joins.{share_by}
-use Rattle.machine_state.proofs.Lines.{got_set, got_other}
-use Rattle.machine_state.proofs.Moving.{wake_only, rouse_only, on_task_only, chosen_only}
-use Rattle.machine_state.proofs.Turns as turns
-use Rattle.machine_state.proofs.Turns.{Moved, Ends}
-use Rattle.machine_state.proofs.Waiting.{WaitsIn, has_role}
+use Rattle.machine_state.specs.World.{World, Links, Role, Join, held, holding_at}
+use Rattle.machine_state.specs.Turn.{Here}
+use Rattle.machine_state.proofs.Lines.{got_other}
+use Rattle.machine_state.proofs.Moving.{with_opened, without}
+use Rattle.machine_state.proofs.Waiting.{WaitsIn}
 use Rattle.machine_state.proofs.Claims.{only_one}
-use Rattle.machine_state.proofs.Modes.{IsOutside, Fits}
-use Rattle.machine_state.proofs.Roles.{field_other, field_same, field_pushed, told_of}
-use Rattle.machine_state.proofs.EndedApart.{on_role_roles}
-use Rattle.machine_state.proofs.ChannelWaiters.{opener_is_over}
+use Rattle.machine_state.proofs.Modes.{IsOutside}
+use Rattle.machine_state.proofs.Roles.{field_other, field_same, field_pushed}
+use Rattle.machine_state.proofs.Changes as change
+use Rattle.machine_state.proofs.Changes.{Changed, GivesBack, Leaves, going}
 
--- a member of a join ends: what anyone holds is the same while the join is open
-pub smaller_holds : (h : Here) (o : ℕ) (j : Join) (v : World) (r : Role) → slice_get v.roles o ≡ Some r
-    → r.opened ≡ Some j → (p : ℕ) → holding_at (on_role o (λ role. record role {
-      opened = Some (record j { members = filter (λ q. not (q == h.process)) j.members });
-    }) v).roles p ≡ holding_at v.roles p
-smaller_holds h o j v r here is p =
-    ap (λ (rs : List Role). holding_at rs p) (on_role_roles o less v r here)
-    ∙ field_same held nothing v.roles o r (less r) here
-    (sym (ap (λ (x : Option Join). elim x as (λ o. Holding) [ None ↦ r.own | Some join ↦ join.rest ]) is)) p
-  where
-    less : Role → Role
-    less role = record role { opened = Some (record j { members = filter (λ q. not (q == h.process)) j.members }) }
+-- a process has given back what it held: what the others hold is the same
+pub others_keep : (h : Here) (w : World) (o : ℕ) (roles : List Role) → GivesBack h w o roles → (p : ℕ)
+    → h.process ≢ p → holding_at roles p ≡ holding_at w.roles p
+others_keep h w o roles change.itself p differ = refl
+others_keep h w o roles (change.a_branch opener role here by none other) p differ =
+    field_other held nothing w.roles h.process (record role { own = nothing }) p differ
 
--- and that of all but its opener once it is over
-joined_holds : (h : Here) (o : ℕ) (j : Join) (par : Par) (v : World) (r : Role) → slice_get v.roles o ≡ Some r
-    → r.opened ≡ Some j → (p : ℕ) → ((length (filter (λ q. not (q == h.process)) j.members) == 0) ≡ true → o ≢ p)
-    → holding_at (joined h o j par v).roles p ≡ holding_at v.roles p
-unfolding dispatch
-joined_holds h o j par v r here is p differ =
-    on (length (filter (λ q. not (q == h.process)) j.members) == 0) refl
-  where
-    less : Role → Role
-    less role = record role { opened = Some (record j { members = filter (λ q. not (q == h.process)) j.members }) }
-
-    shut : Role → Role
-    shut role = record role { opened = None }
-
-    smaller : World
-    smaller = on_role o (λ role. record role {
-      opened = Some (record j { members = filter (λ q. not (q == h.process)) j.members });
-    }) v
-
-    roles : smaller.roles ≡ slice_set v.roles o (less r)
-    roles = on_role_roles o less v r here
-
-    done : World
-    done = on_task o (closed_task j par) smaller
-
-    again : slice_get done.roles o ≡ Some (less r)
-    again = ap (λ (rs : List Role). slice_get rs o) ((on_task_only o (closed_task j par) smaller).roles ∙ roles)
-        ∙ got_set v.roles o r (less r) here
-
-    closes : (length (filter (λ q. not (q == h.process)) j.members) == 0) ≡ true
-        → holding_at (join.closed o j par smaller).roles p ≡ holding_at v.roles p
-    closes none = ap (λ (rs : List Role). holding_at rs p) (on_role_roles o shut done (less r) again)
-        ∙ (field_other held nothing done.roles o (shut (less r)) p (differ none)
-        ∙ (ap (λ (rs : List Role). holding_at rs p) (on_task_only o (closed_task j par) smaller).roles
-        ∙ smaller_holds h o j v r here is p))
-
-    on : (b : Bool) → (length (filter (λ q. not (q == h.process)) j.members) == 0) ≡ b
-        → holding_at (if b then join.closed o j par smaller else dispatch h.pick (leave smaller)).roles p
-        ≡ holding_at v.roles p
-    on true none = closes none
-    on false some = smaller_holds h o j v r here is p
+-- a member of a join has ended: what anyone holds is the same while the join is open
+pub smaller_holds : (h : Here) (w : World) (o : ℕ) (roles : List Role) (x : Leaves h w o roles) (p : ℕ)
+    → holding_at (slice_set roles o (with_opened (Some (without h.process x.join)) x.role)) p ≡ holding_at roles p
+smaller_holds h w o roles x p =
+    field_same held nothing roles o x.role (with_opened (Some (without h.process x.join)) x.role) x.here
+    (sym (ap (λ (j : Option Join). elim j as (λ o. Holding) [ None ↦ x.role.own | Some join ↦ join.rest ])
+    x.is_open)) p
 
 -- the other processes hold what they did, and the process itself does where it is in an alternation
 pub record HoldOn (h : Here) (w : World) (later : List Role) : Type 0 where
@@ -93,125 +40,44 @@ pub record HoldOn (h : Here) (w : World) (later : List Role) : Type 0 where
       → holding_at later p ≡ holding_at w.roles p
   pub itself : (IsOutside h.from.mode → ⊥) → later ≡ w.roles
 
-module _ (h : Here) (w : World) (there : slice_get w.tasks h.process ≡ Some h.from) (keeps : WaitsIn w) where
-  same : (later : List Role) → later ≡ w.roles → HoldOn h w later
-  same later roles = record {
-    others = λ p t here differ alive. ap (λ (rs : List Role). holding_at rs p) roles;
-    itself = λ inside. roles;
-  }
+module _ (h : Here) (w : World) (keeps : WaitsIn w) where
+  same : HoldOn h w w.roles
+  same = record { others = λ p t here differ alive. refl; itself = λ inside. refl }
 
-  -- a branch starts
-  starts : IsOutside h.from.mode → (plan : Plan) (found : Found) (workspace : ℕ) (l : Local) (v : World) (r : Role)
-      → slice_get w.roles h.process ≡ Some r → v.roles ≡ w.roles
-      → HoldOn h w (started h plan found workspace l v).roles
-  starts outside plan found workspace l v r here roles = record {
-    others = λ p t at differ alive.
-        let low = slice_get_within w.tasks p t at in
-        let many = keeps.rest.size in
-        field_pushed held nothing given.roles new p (λ same. omega (arith, low, many, size, same))
-        ∙ (ap (λ (rs : List Role). holding_at rs p) given_roles
-        ∙ field_other held nothing w.roles h.process (f r) p differ);
-    itself = λ inside. absurd (inside outside);
-  }
-    where
-      f : Role → Role
-      f role = record role { opened = Some (join_after (length v.memory) plan found (length v.tasks)) }
+  outside : (later : List Role) → IsOutside h.from.mode
+      → ((p : ℕ) (t : Task) → slice_get w.tasks p ≡ Some t → h.process ≢ p → (t.condition ≡ Ended → ⊥)
+      → holding_at later p ≡ holding_at w.roles p) → HoldOn h w later
+  outside later is others = record { others = others; itself = λ inside. absurd (inside is) }
 
-      put_there : World
-      put_there = put h.process (record h.from { registers = between h.next l.registers; mode = Starting })
-          (without_words (scheduling_addresses workspace) l.memory) v
-
-      given : World
-      given = on_role h.process (λ role. record role {
-        opened = Some (join_after (length v.memory) plan found (length v.tasks));
-      }) put_there
-
-      new : Role
-      new = record {
-        own = holding_of h.contents (length v.memory) (share_by plan found.branch);
-        opener = Some h.process;
-        opened = None;
-      }
-
-      given_roles : given.roles ≡ slice_set w.roles h.process (f r)
-      given_roles = on_role_roles h.process f put_there r
-          (ap (λ (rs : List Role). slice_get rs h.process) roles ∙ here)
-          ∙ ap (λ (rs : List Role). slice_set rs h.process (f r)) roles
-
-      size : length given.roles ≡ length w.roles
-      size = ap (λ (rs : List Role). length rs) given_roles ∙ length-set w.roles h.process (f r)
-
-  moved : (o : Outcome) (v : World) → Moved h w o v → Fits h.from.mode o → HoldOn h w v.roles
-  unfolding dispatch
-  moved o v (turns.it_goes l) fits = same _ refl
-  moved o v (turns.it_jumps to l) fits = same _ refl
-  moved o v (turns.it_is_sliced to l) fits = same _ refl
-  moved o v (turns.it_lands to l) fits = same _ refl
-  moved o v (turns.it_stops l) fits = same _ refl
-  moved o v (turns.receives_first e l c inside here nobody) fits = same _ refl
-  moved o v (turns.receives_from e l c other sent inside here partner is equal) fits =
-      let memory = copied l.memory (place_of sent.address) (place_of e.address) sent.length l.memory in
-      same _ (wake_only other (with_channel sent.channel (record c { waiting = None })
-      (continued h h.next (record l { memory = memory }) w))).roles
-  moved o v (turns.receives_none e l k link on here none) fits = same _ refl
-  moved o v (turns.receives_last e l k link byte on here kept one) fits = same _ refl
-  moved o v (turns.receives_one e l k link byte on here kept more) fits = same _ refl
-  moved o v (turns.sends_first e l c inside here nobody) fits =
-      same _ (rouse_only c.enabled (waits_at h (Sending e) e.channel c l w)).roles
-  moved o v (turns.sends_to e l c other wanted inside here partner is equal) fits =
-      let memory = copied l.memory (place_of e.address) (place_of wanted.address) e.length l.memory in
-      same _ (wake_only other (with_channel e.channel (record c { waiting = None })
-      (continued h h.next (record l { memory = memory }) w))).roles
-  moved o v (turns.starts_first target workspace l found is none tests) fits =
-      let plan = turns.plan_of h w found in
-      let r = has_role w h.process h.from there keeps.rest.size in
-      starts fits plan found workspace (opened h plan l w).0 (opened h plan l w).1 r.0 r.1 refl
-  moved o v (turns.starts_later target workspace l found j is is_open equal tests) fits =
-      let r = has_role w h.process h.from there keeps.rest.size in
-      starts fits (later_plan h.contents j found.par) found workspace l w r.0 r.1 refl
-  moved o v (turns.joins_own block l j par is row whole) fits =
-      let r = told_of (λ (x : Role). x.opened) w.roles h.process j is in
-      record {
-        others = λ p t at differ alive. joined_holds h h.process j par (ended h l w) r.0 r.1 r.2 p (λ none. differ);
-        itself = λ inside. absurd (inside fits);
-      }
-  moved o v (turns.joins_opener block l opener j par none by is row equal) fits =
-      let f : Role → Role = λ role. record role { own = nothing } in
-      let x = given_back h (ended h l w) in
-      let mine = told_of (λ (x : Role). x.opener) w.roles h.process opener by in
-      let theirs = told_of (λ (x : Role). x.opened) w.roles opener j is in
-      let low = keeps.rest.openers h.process mine.0 opener mine.1 mine.2 in
-      let apart : h.process ≢ opener = λ e. omega (arith, low, e) in
-      let roles = on_role_roles h.process f (ended h l w) mine.0 mine.1 in
-      record {
-        others = λ p t at differ alive.
-            joined_holds h opener j par x theirs.0 (ap (λ (rs : List Role). slice_get rs opener) roles
-            ∙ (got_other w.roles h.process opener (f mine.0) apart ∙ theirs.1)) theirs.2 p (λ empty e.
-            let over = opener_is_over w keeps h.process opener theirs.0 j theirs.1 theirs.2 apart empty in
-            alive (ap (λ (y : Task). y.condition) (only_one (slice_get w.tasks p) t over.task at
-            (subst (λ n. slice_get w.tasks n ≡ Some over.task) e over.here)) ∙ over.over))
-            ∙ (ap (λ (rs : List Role). holding_at rs p) roles
-            ∙ field_other held nothing w.roles h.process (f mine.0) p differ);
-        itself = λ inside. absurd (inside fits);
-      }
-  moved o v (turns.it_begins l) fits = same _ refl
-  moved o v (turns.it_enables guard address l s holds (turns.on_channel c inside here) once) fits = same _ refl
-  moved o v (turns.it_enables guard address l s holds (turns.on_link k link on here) once) fits = same _ refl
-  moved o v (turns.it_enables_nothing guard address l off) fits = same _ refl
-  moved o v (turns.it_enables_a_skip guard l) fits = same _ refl
-  moved o v (turns.it_is_ready l is) fits = same _ refl
-  moved o v (turns.it_waits l is) fits = same _ refl
-  moved o v (turns.it_disables guard address distance l s holds (turns.on_channel c inside here) mine) fits =
-      same _ (chosen_only h (is_some c.waiting) distance l w).roles
-  moved o v (turns.it_disables guard address distance l s holds (turns.on_link k link on here) mine) fits =
-      same _ (chosen_only h (is_some link.kept) distance l w).roles
-  moved o v (turns.it_disables_nothing guard address distance l off) fits =
-      same _ (chosen_only h false distance l w).roles
-  moved o v (turns.it_disables_a_skip guard distance l) fits = same _ (chosen_only h guard distance l w).roles
-  moved o v (turns.it_ends_alternation to l none) fits = same _ refl
-
-  pub others_hold : (o : Outcome) (t : Turn) → Ends h w o t → Fits h.from.mode o → HoldOn h w t.world.roles
-  unfolding dispatch
-  others_hold o t (turns.at_fault kind) fits = same _ refl
-  others_hold o t (turns.has_run {after = v} ends) fits = moved o v ends fits
-  others_hold o t (turns.has_emitted e l k on equal) fits = same _ refl
+  pub others_hold : (ts : List Task) (rs : List Role) (cs : List (Option Channel)) (ls : Links)
+      → Changed h w ts rs cs ls → HoldOn h w rs
+  others_hold ts rs cs ls (change.goes_on r mode c x) = same
+  others_hold ts rs cs ls (change.waits_to_receive r e c is holds at none) = same
+  others_hold ts rs cs ls (change.waits_to_send r e c tasks is holds at none roused) = same
+  others_hold ts rs cs ls (change.meets_sender r e sent c other is holds at waits x) = same
+  others_hold ts rs cs ls (change.meets_receiver r e wanted c other is holds at waits x) = same
+  others_hold ts rs cs ls (change.receives_outside r e k link new c is holds word here receives) = same
+  others_hold ts rs cs ls (change.sends_outside r e k is holds word low) = same
+  others_hold ts rs cs ls (change.starts r role j own child cells is here calm awake opening) =
+      outside _ is (λ p t at differ alive.
+      let low = slice_get_within w.tasks p t at in
+      let many = keeps.rest.size in
+      let size = length-set w.roles h.process (with_opened (Some j) role) in
+      field_pushed held nothing (slice_set w.roles h.process (with_opened (Some j) role))
+      (record { own = own; opener = Some h.process; opened = None }) p
+      (λ same. omega (arith, low, many, size, same))
+      ∙ field_other held nothing w.roles h.process (with_opened (Some j) role) p differ)
+  others_hold ts rs cs ls (change.leaves_join r o roles x some) =
+      outside _ x.outside (λ p t at differ alive.
+      smaller_holds h w o roles x p ∙ others_keep h w o roles x.back p differ)
+  others_hold ts rs cs ls (change.closes_join r o roles x none par t here over) =
+      outside _ x.outside (λ p u at differ alive.
+      field_other held nothing roles o (with_opened None x.role) p
+      (λ e. alive (ap (λ (y : Task). y.condition) (only_one (slice_get w.tasks p) u t at
+      (sym (got_other w.tasks h.process p _ differ)
+      ∙ subst (λ n. slice_get (going h w r Plain Ended) n ≡ Some t) e here)) ∙ over))
+      ∙ others_keep h w o roles x.back p differ)
+  others_hold ts rs cs ls (change.enables_a_channel r address c is holds at once) = same
+  others_hold ts rs cs ls (change.enables_a_link r k link is holds here once) = same
+  others_hold ts rs cs ls (change.disables_a_channel r mode address c is further at mine) = same
+  others_hold ts rs cs ls (change.disables_a_link r mode k link is further here mine) = same

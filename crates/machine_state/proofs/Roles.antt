@@ -9,7 +9,7 @@ use Rattle.module_format.specs.Contents.{Contents}
 use Rattle.machine_state.specs.declared.process.Channel.{Channel}
 use Rattle.machine_state.specs.Holding.{Holding, nothing}
 use Rattle.machine_state.specs.World.{Role, Join}
-use Rattle.machine_state.proofs.Lines.{got_set, got_other, got_last}
+use Rattle.machine_state.proofs.Lines.{got_set, got_other, got_last, told_in}
 use Rattle.machine_state.proofs.Among.{IsAmong}
 use Rattle.machine_state.proofs.Claims.{Claim, claims, IsBehind}
 use Rattle.machine_state.proofs.Holders.{Holders}
@@ -92,13 +92,7 @@ module _ {A : Type 0} (f : Role → A) (d : A) where
 pub told_of : {A : Type 0} (f : Role → Option A) (roles : List Role) (p : ℕ) (x : A)
     → elim (slice_get roles p) as (λ o. Option A) [ None ↦ None | Some role ↦ f role ] ≡ Some x
     → (r : Role) × (slice_get roles p ≡ Some r) × (f r ≡ Some x)
-told_of {A = A} f roles p x is = on (slice_get roles p) refl is
-  where
-    on : (o : Option Role) → slice_get roles p ≡ o
-        → elim o as (λ o. Option A) [ None ↦ None | Some role ↦ f role ] ≡ Some x
-        → (r : Role) × (slice_get roles p ≡ Some r) × (f r ≡ Some x)
-    on None here is = absurd (cc)
-    on (Some r) here is = (r, here, is)
+told_of f roles p x is = told_in f roles p x is
 
 -- ---- the moves
 

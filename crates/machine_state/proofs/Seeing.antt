@@ -23,9 +23,10 @@ use Rattle.machine_state.specs.Holding.{Holding, nothing, may_read, may_read_wor
 use Rattle.machine_state.specs.World.{World, Role, Join, holding_at}
 use Rattle.machine_state.specs.Site.{Outcome, jumps, stops}
 use Rattle.machine_state.specs.LocalStep as step
-use Rattle.machine_state.specs.Moves.{on_task, wake, rouse, rouse_task, rouse_enabling, dispatch, leave, enqueue, counted, finished_where, put}
+use Rattle.machine_state.specs.Moves.{on_task, wake, rouse, dispatch, leave, enqueue, counted, finished_where, put}
 use Rattle.machine_state.specs.Moves.{with_channel, with_input, with_output, channel_at}
-use Rattle.machine_state.specs.Turn.{Turn, Effect, Here, at_here, answered, failed, followed, continued, between, left, waiting}
+use Rattle.machine_state.specs.Turn.{Turn, Effect, Here, at_here, answered, failed, followed, continued, between, left}
+use Rattle.machine_state.specs.Turn.{waiting}
 use Rattle.machine_state.specs.Turn as turn
 use Rattle.machine_state.specs.Exchanges as exchange
 use Rattle.machine_state.specs.Exchanges.{input_link, output_link, condition_of, waits_at, met, link_of}
@@ -33,7 +34,8 @@ use Rattle.machine_state.specs.Alternations as alternation
 use Rattle.machine_state.specs.Alternations.{Source}
 use Rattle.machine_state.specs.Joins as join
 use Rattle.machine_state.specs.Joins.{on_role, joined, closed_task}
-use Rattle.machine_state.specs.Seeing.{Agree, SameTurn, sent_by, sent_on, supply_by, supply, is_supplied, is_seen, StepsSeeWhatTheyRead}
+use Rattle.machine_state.specs.Seeing.{Agree, SameTurn, sent_by, sent_on, supply_by, supply, is_supplied, is_seen}
+use Rattle.machine_state.specs.Seeing.{StepsSeeWhatTheyRead}
 use Rattle.machine_state.specs.Happens as happens
 use Rattle.machine_state.specs.Happens.{settled}
 use Rattle.machine_state.specs.declared.event.Event.TheVariants.{Step}
@@ -50,9 +52,11 @@ use Rattle.std.specs.Int.{w32, cast_unsigned, cast_signed}
 use Rattle.machine_state.specs.Memory.{data_start}
 use Rattle.word_arithmetic.specs.Word.{least_word}
 use Rattle.module_format.specs.Contexts.{parameters_at}
+use Rattle.machine_state.proofs.Moving.{on_task_beside, wake_beside, rouse_beside}
 use Rattle.machine_state.proofs.Combining.{and_true}
 use Rattle.machine_state.proofs.EveryInstruction.{here, readable_word, each_step}
-use Rattle.machine_state.proofs.Agreeing.{Covers, byte_agrees, words_agree, word_same, copy_agrees, bytes_agree, Alike, alike}
+use Rattle.machine_state.proofs.Agreeing.{Covers, byte_agrees, words_agree, word_same, copy_agrees, bytes_agree, Alike}
+use Rattle.machine_state.proofs.Agreeing.{alike}
 use Rattle.machine_state.proofs.Agreeing as agreeing
 
 -- ---- moves that don't look at memory
@@ -61,17 +65,8 @@ abbrev IsBlind : (World → World) → Type 0
 IsBlind move = (w : World) (n : Memory) → move (record w { memory = n }) ≡ record (move w) { memory = n }
 
 on_task_blind : (p : ℕ) (f : Task → Task) → IsBlind (on_task p f)
-on_task_blind p f w n = on (slice_get w.tasks p)
-  where
-    on : (o : Option Task) → ◌≡◌ {A = World} (elim o as (λ o. World) [
-      | None ↦ record w { memory = n }
-      | Some task ↦ record w { memory = n; tasks = slice_set w.tasks p (f task) }
-    ]) (record (elim o as (λ o. World) [
-      | None ↦ w
-      | Some task ↦ record w { tasks = slice_set w.tasks p (f task) }
-    ]) { memory = n })
-    on None = refl
-    on (Some task) = refl
+on_task_blind p f w n =
+    sym (on_task_beside (λ w. record w { memory = n }) (λ w. refl) (λ w tasks. refl) (λ p w. refl) p f w)
 
 on_role_blind : (p : ℕ) (f : Role → Role) → IsBlind (on_role p f)
 on_role_blind p f w n = on (slice_get w.roles p)
@@ -87,38 +82,12 @@ on_role_blind p f w n = on (slice_get w.roles p)
     on (Some role) = refl
 
 wake_blind : (p : ℕ) → IsBlind (wake p)
-wake_blind p w n = ap (enqueue p) (on_task_blind p (λ task. record task { condition = Ready }) w n)
+wake_blind p w n =
+    sym (wake_beside (λ w. record w { memory = n }) (λ w. refl) (λ w tasks. refl) (λ p w. refl) p w)
 
 rouse_blind : (o : Option ℕ) → IsBlind (rouse o)
-rouse_blind None w n = refl
-rouse_blind (Some p) w n = on (slice_get w.tasks p)
-  where
-    on_mode : (mode : Mode)
-        → rouse_enabling p mode (record w { memory = n }) ≡ record (rouse_enabling p mode w) { memory = n }
-    on_mode (Enabling is_ready) = on_task_blind p (λ task. record task { mode = Enabling true }) w n
-    on_mode Plain = refl
-    on_mode (Disabling selection) = refl
-    on_mode Starting = refl
-
-    on_condition : (mode : Mode) (c : Condition)
-        → rouse_task p mode c (record w { memory = n }) ≡ record (rouse_task p mode c w) { memory = n }
-    on_condition mode Alternating = wake_blind p w n
-    on_condition mode Ready = on_mode mode
-    on_condition mode (Sending e) = on_mode mode
-    on_condition mode (Receiving e) = on_mode mode
-    on_condition mode (OnLink e done) = on_mode mode
-    on_condition mode Stopped = on_mode mode
-    on_condition mode Ended = on_mode mode
-
-    on : (o : Option Task) → ◌≡◌ {A = World} (elim o as (λ o. World) [
-      | None ↦ record w { memory = n }
-      | Some task ↦ rouse_task p task.mode task.condition (record w { memory = n })
-    ]) (record (elim o as (λ o. World) [
-      | None ↦ w
-      | Some task ↦ rouse_task p task.mode task.condition w
-    ]) { memory = n })
-    on None = refl
-    on (Some task) = on_condition task.mode task.condition
+rouse_blind o w n =
+    sym (rouse_beside (λ w. record w { memory = n }) (λ w. refl) (λ w tasks. refl) (λ p w. refl) o w)
 
 left_blind : (h : Here) → IsBlind (left h)
 unfolding dispatch

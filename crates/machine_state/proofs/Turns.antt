@@ -1,5 +1,6 @@
 -- The ways in which a turn ends, each with the tests that were passed: every law of one event goes by these.
-use Rattle.std.proofs.Common.{◌≡◌, ℕ, ◌+◌, ◌&&◌, Bool, true, false, if◌then◌else◌, nat_le, nat_lt, ℤ, List, [], ◌∷◌, length}
+use Rattle.std.proofs.Common.{◌≡◌, ℕ, ◌+◌, ◌&&◌, Bool, true, false, if◌then◌else◌, nat_le, nat_lt, ℤ, List, [], ◌∷◌}
+use Rattle.std.proofs.Common.{length}
 use Rattle.std.proofs.Common.{Option, Some, None, is_some, Err, refl, slice_get}
 use Rattle.std.specs.Prelude.{◌==◌}
 use Rattle.prefix_decoder.specs.declared.function.Fun.{Fun}
@@ -178,6 +179,29 @@ module _ (h : Here) (w : World) where
 
   -- ---- messages
 
+  -- on the channel at an address nobody waits, or another process does
+  at_channel : (o : Outcome) (address : ℕ) (first : Channel → Turn) (second : Channel → ℕ → Turn)
+      → ((c : Channel) → channel_at w address ≡ Some c → c.waiting ≡ None → Ends h w o (first c))
+      → ((c : Channel) (other : ℕ) → channel_at w address ≡ Some c → c.waiting ≡ Some other
+      → Ends h w o (second c other))
+      → Ends h w o (elim (channel_at w address) [
+        | None ↦ failed h EndNotHeld w
+        | Some c ↦ elim c.waiting [ None ↦ first c | Some other ↦ second c other ]
+      ])
+  at_channel o address first second p q = on (channel_at w address) refl
+    where
+      on_waiting : (c : Channel) → channel_at w address ≡ Some c → (waiting : Option ℕ) → c.waiting ≡ waiting
+          → Ends h w o (elim waiting [ None ↦ first c | Some other ↦ second c other ])
+      on_waiting c here None is = p c here is
+      on_waiting c here (Some other) is = q c other here is
+
+      on : (c : Option Channel) → channel_at w address ≡ c → Ends h w o (elim c [
+        | None ↦ failed h EndNotHeld w
+        | Some c ↦ elim c.waiting [ None ↦ first c | Some other ↦ second c other ]
+      ])
+      on None is = at_fault EndNotHeld
+      on (Some c) is = on_waiting c is c.waiting refl
+
   received_ends : (e : Exchange) (l : Local) → Ends h w (receives e l) (exchange.received h e l w)
   received_ends e l = on_link (input_link e.channel) refl
     where
@@ -189,23 +213,6 @@ module _ (h : Here) (w : World) where
           (λ same. is_followed (receives e l) _ (has_run (receives_from e l c other sent inside here partner is same)))
           (λ differ. at_fault UnequalLengths)
       on_partner c other inside here partner _ is = at_fault EndNotHeld
-
-      on_waiting : (c : Channel) → input_link e.channel ≡ None → channel_at w e.channel ≡ Some c
-          → (o : Option ℕ) → c.waiting ≡ o
-          → Ends h w (receives e l) (elim o [
-            | None ↦
-                followed h (answered ran (left h (waits_at h (Receiving e) e.channel c l w))) w
-            | Some other ↦ exchange.received_from h e c l w other (condition_of w other)
-          ])
-      on_waiting c inside here None is =
-          is_followed (receives e l) _ (has_run (receives_first e l c inside here is))
-      on_waiting c inside here (Some other) is = on_partner c other inside here is (condition_of w other) refl
-
-      on_channel : input_link e.channel ≡ None → (o : Option Channel) → channel_at w e.channel ≡ o
-          → Ends h w (receives e l)
-          (elim o [ None ↦ failed h EndNotHeld w | Some c ↦ exchange.received_inside h e c l w ])
-      on_channel inside None is = at_fault EndNotHeld
-      on_channel inside (Some c) is = on_waiting c inside is c.waiting refl
 
       on_kept : (k : ℕ) (link : InputLink) → input_link e.channel ≡ Some k → slice_get w.links.inputs k ≡ Some link
           → (o : Option ℕ) → link.kept ≡ o
@@ -244,7 +251,9 @@ module _ (h : Here) (w : World) where
             | None ↦ elim (channel_at w e.channel)
                 [ None ↦ failed h EndNotHeld w | Some c ↦ exchange.received_inside h e c l w ]
           ])
-      on_link None is = on_channel is (channel_at w e.channel) refl
+      on_link None inside = at_channel (receives e l) e.channel _ _
+          (λ c here nobody. is_followed (receives e l) _ (has_run (receives_first e l c inside here nobody)))
+          (λ c other here waits. on_partner c other inside here waits (condition_of w other) refl)
       on_link (Some k) is = on_input k is (slice_get w.links.inputs k) refl
 
   sent_ends : (e : Exchange) (l : Local) → Ends h w (sends e l) (exchange.sent h e l w)
@@ -259,29 +268,15 @@ module _ (h : Here) (w : World) where
           (λ differ. at_fault UnequalLengths)
       on_partner c other inside here partner _ is = at_fault EndNotHeld
 
-      on_waiting : (c : Channel) → output_link e.channel ≡ None → channel_at w e.channel ≡ Some c
-          → (o : Option ℕ) → c.waiting ≡ o
-          → Ends h w (sends e l) (elim o [
-            | None ↦ followed h
-                (answered ran (left h (rouse c.enabled (waits_at h (Sending e) e.channel c l w)))) w
-            | Some other ↦ exchange.sent_to h e c l w other (condition_of w other)
-          ])
-      on_waiting c inside here None is = is_followed (sends e l) _ (has_run (sends_first e l c inside here is))
-      on_waiting c inside here (Some other) is = on_partner c other inside here is (condition_of w other) refl
-
-      on_channel : output_link e.channel ≡ None → (o : Option Channel) → channel_at w e.channel ≡ o
-          → Ends h w (sends e l)
-          (elim o [ None ↦ failed h EndNotHeld w | Some c ↦ exchange.sent_inside h e c l w ])
-      on_channel inside None is = at_fault EndNotHeld
-      on_channel inside (Some c) is = on_waiting c inside is c.waiting refl
-
       on_link : (o : Option ℕ) → output_link e.channel ≡ o
           → Ends h w (sends e l) (elim o [
             | Some k ↦ exchange.sent_outside h k e l w
             | None ↦ elim (channel_at w e.channel)
                 [ None ↦ failed h EndNotHeld w | Some c ↦ exchange.sent_inside h e c l w ]
           ])
-      on_link None is = on_channel is (channel_at w e.channel) refl
+      on_link None inside = at_channel (sends e l) e.channel _ _
+          (λ c here nobody. is_followed (sends e l) _ (has_run (sends_first e l c inside here nobody)))
+          (λ c other here waits. on_partner c other inside here waits (condition_of w other) refl)
       on_link (Some k) is = by_test (sends e l) (link_length h.contents k == e.length) _ _
           (λ same. is_followed (sends e l) _ (has_emitted e l k is same)) (λ differ. at_fault UnequalLengths)
 

@@ -1,6 +1,6 @@
 -- Whoever stands in the line is ready, and stands there once; whoever a link says to wait does wait there.
 use Rattle.std.proofs.Common.{◌≡◌, ◌≢◌, ℕ, zero, suc, ◌+◌, ◌*◌, ◌<◌, ◌≤◌, Bool, true, false, if◌then◌else◌}
-use Rattle.std.proofs.Common.{◌⊎◌, inl, inr, ℤ, pos, List, [], ◌∷◌, ◌++◌, length, Option, Some, None, is_some}
+use Rattle.std.proofs.Common.{◌⊎◌, inl, inr, ℤ, List, [], ◌∷◌, ◌++◌, length, Option, Some, None, is_some}
 use Rattle.std.proofs.Common.{refl, sym, ap, ◌∙◌, subst, slice_get, arith, eqb-true}
 use Rattle.std.proofs.lemmas.Bool.{cases_eq, eqb-false}
 use Rattle.std.proofs.lemmas.List.{length-set, length-append}
@@ -19,22 +19,25 @@ use Rattle.machine_state.specs.declared.process.Condition.TheVariants.{Ready, Se
 use Rattle.machine_state.specs.declared.process.Condition.TheVariants.{Stopped, Ended}
 use Rattle.machine_state.specs.declared.process.Exchange.{Exchange}
 use Rattle.machine_state.specs.Memory.{Memory, place_of, with_byte}
-use Rattle.machine_state.specs.World.{World, Queue, Links, Role, Join, input_word, output_word, loaded, root_task, root_role}
+use Rattle.machine_state.specs.World.{World, Queue, Links, Role, Join, input_word, output_word, loaded, root_task}
+use Rattle.machine_state.specs.World.{root_role}
 use Rattle.machine_state.specs.Site.{Local, Outcome}
-use Rattle.machine_state.specs.LocalStep.{copied, with_a_alone}
+use Rattle.machine_state.specs.LocalStep.{copied}
 use Rattle.machine_state.specs.Moves.{on_task, wake, enqueue, leave, dispatch, rouse, rouse_task, rouse_enabling}
-use Rattle.machine_state.specs.Moves.{fill, fill_condition, with_condition, link_index, finished_where, with_channel, with_input, with_output, cell_of}
+use Rattle.machine_state.specs.Moves.{fill, fill_condition, with_condition, link_index, finished_where, with_channel}
+use Rattle.machine_state.specs.Moves.{with_input, with_output, cell_of}
 use Rattle.machine_state.specs.Turn.{Here, Turn, at_here, between, continued, waiting}
 use Rattle.machine_state.specs.Joins.{on_role, joined, closed_task, Plan, Found, started, opened, opened_by, opener_of}
 use Rattle.machine_state.specs.Joins.{ended, new_task, holding_of, share_by, join_after, with_channels, later_plan}
 use Rattle.machine_state.specs.Joins.{without_words, scheduling_addresses}
-use Rattle.machine_state.specs.Alternations.{chosen, selected, in_mode, ready_or}
+use Rattle.machine_state.specs.Alternations.{chosen, ready_or}
 use Rattle.machine_state.proofs.Turns as turns
 use Rattle.machine_state.proofs.Turns.{Moved, Ends, Happened, turn_happens}
 use Rattle.machine_state.specs.Happens.{site_of, turn, run_from, world_after}
 use Rattle.prefix_decoder.specs.Functions.{nibble}
 use Rattle.prefix_decoder.specs.Operand.{with_nibble}
-use Rattle.machine_state.specs.Waiting.{LinesAreReady, LinksHaveTheirWaiters, IsAwaited, ArrivalsFillBuffers, IsOver, is_member, Opens, IsGone, IsCounted, BranchesAreCounted}
+use Rattle.machine_state.specs.Waiting.{LinesAreReady, LinksHaveTheirWaiters, IsAwaited, ArrivalsFillBuffers, IsOver}
+use Rattle.machine_state.specs.Waiting.{is_member, Opens, IsGone, IsCounted, BranchesAreCounted}
 use Rattle.machine_state.specs.Writing.{wanted_by, wanted_on}
 use Rattle.machine_state.specs.declared.link.Link.{Link}
 use Rattle.machine_state.specs.Exchanges.{link_from, condition_of, waits_at}
@@ -46,7 +49,8 @@ use Rattle.machine_state.proofs.EveryInstruction.{each_step}
 use Rattle.machine_state.proofs.Writing.{Message, messages}
 use Rattle.machine_state.proofs.Claims.{only_one}
 use Rattle.machine_state.proofs.Lines.{got_set, got_other, got_within, set_either, all_ready_without}
-use Rattle.machine_state.proofs.Lines.{absent_by_condition, push_line}
+use Rattle.machine_state.proofs.Lines.{absent_by_condition, push_line, told_in}
+use Rattle.machine_state.proofs.Moving.{rouse_beside, on_role_only, on_role_is, on_task_is, chooses}
 use Rattle.machine_state.proofs.Lines.{pick_line, got_before, got_last, got_either, all_ready_before, new_absent}
 
 is_itself : (n : ℕ) → (n == n) ≡ true
@@ -87,6 +91,14 @@ calm_ready c d ready = record {
   over = λ is. absurd (let x : Ready ≡ Ended = sym ready ∙ is in cc);
 }
 
+-- another process waits as before
+waits_elsewhere : (tasks : List Task) (q : ℕ) (u : Task) (p word : ℕ) → q ≢ p → WaitsOn tasks p word
+    → WaitsOn (slice_set tasks q u) p word
+waits_elsewhere tasks q u p word differ x =
+    let here = got_other tasks q p u differ ∙ x.here in
+    let e = x.exchange in
+    record { task = x.task; here = here; exchange = e; done = x.done; waits = x.waits; on = x.on; more = x.more }
+
 module _ (tasks : List Task) (q : ℕ) (t u : Task) (here : slice_get tasks q ≡ Some t) where
   changed_here : (p : ℕ) → q ≡ p → slice_get (slice_set tasks q u) p ≡ Some u
   changed_here p e = subst (λ n. slice_get (slice_set tasks q u) n ≡ Some u) e (got_set tasks q t u here)
@@ -107,15 +119,7 @@ module _ (tasks : List Task) (q : ℕ) (t u : Task) (here : slice_get tasks q �
       on = x.on;
       more = x.more;
     }
-    | inr differ ↦ record {
-      task = x.task;
-      here = got_other tasks q p u differ ∙ x.here;
-      exchange = x.exchange;
-      done = x.done;
-      waits = x.waits;
-      on = x.on;
-      more = x.more;
-    }
+    | inr differ ↦ waits_elsewhere tasks q u p word differ x
   ]
 
   over_after : (t.condition ≡ Ended → u.condition ≡ Ended) → (p : ℕ) → IsOver tasks p
@@ -303,30 +307,6 @@ role_keeps q f w opener opened gone counts h = on (slice_get w.roles q) refl
           (gone r here) (counts r here) h.rest;
     }
 
-on_role_is : (q : ℕ) (f : Role → Role) (w : World) (r : Role) → slice_get w.roles q ≡ Some r
-    → on_role q f w ≡ record w { roles = slice_set w.roles q (f r) }
-on_role_is q f w r here = ap (λ (o : Option Role). elim o as (λ o. World) [
-  | None ↦ w
-  | Some r ↦ record w { roles = slice_set w.roles q (f r) }
-]) here
-
-on_task_is : (q : ℕ) (f : Task → Task) (w : World) (t : Task) → slice_get w.tasks q ≡ Some t
-    → on_task q f w ≡ record w { tasks = slice_set w.tasks q (f t) }
-on_task_is q f w t here = ap (λ (o : Option Task). elim o as (λ o. World) [
-  | None ↦ w
-  | Some t ↦ record w { tasks = slice_set w.tasks q (f t) }
-]) here
-
-role_tasks : (q : ℕ) (f : Role → Role) (w : World) → (on_role q f w).tasks ≡ w.tasks
-role_tasks q f w = on (slice_get w.roles q)
-  where
-    on : (o : Option Role) → (elim o as (λ o. World) [
-      | None ↦ w
-      | Some r ↦ record w { roles = slice_set w.roles q (f r) }
-    ]).tasks ≡ w.tasks
-    on None = refl
-    on (Some r) = refl
-
 -- ---- the queue
 
 enqueue_keeps : (q : ℕ) (w : World) → IsReadyAt w.tasks q → IsAbsent q (line w.queue) → WaitsIn w
@@ -425,48 +405,9 @@ rouse_keeps (Some q) w h = on (slice_get w.tasks q) refl
     on None here = h
     on (Some task) here = on_condition task here task.mode task.condition refl
 
-leave_on_task : (p : ℕ) (f : Task → Task) (v : World) → leave (on_task p f v) ≡ on_task p f (leave v)
-leave_on_task p f v = on (slice_get v.tasks p)
-  where
-    on : (o : Option Task) → ◌≡◌ {A = World} (leave (elim o as (λ o. World) [
-      | None ↦ v
-      | Some task ↦ record v { tasks = slice_set v.tasks p (f task) }
-    ])) (elim o as (λ o. World) [
-      | None ↦ leave v
-      | Some task ↦ record (leave v) { tasks = slice_set v.tasks p (f task) }
-    ])
-    on None = refl
-    on (Some task) = refl
-
 -- it makes no difference whether the process leaves the line before or after
 leave_rouse : (o : Option ℕ) (v : World) → leave (rouse o v) ≡ rouse o (leave v)
-leave_rouse None v = refl
-leave_rouse (Some q) v = on (slice_get v.tasks q)
-  where
-    on_mode : (mode : Mode) → leave (rouse_enabling q mode v) ≡ rouse_enabling q mode (leave v)
-    on_mode (Enabling is_ready) = leave_on_task q (λ task. record task { mode = Enabling true }) v
-    on_mode Plain = refl
-    on_mode (Disabling selection) = refl
-    on_mode Starting = refl
-
-    on_condition : (mode : Mode) (c : Condition) → leave (rouse_task q mode c v) ≡ rouse_task q mode c (leave v)
-    on_condition mode Alternating = ap (enqueue q) (leave_on_task q (λ task. record task { condition = Ready }) v)
-    on_condition mode Ready = on_mode mode
-    on_condition mode (Sending e) = on_mode mode
-    on_condition mode (Receiving e) = on_mode mode
-    on_condition mode (OnLink e done) = on_mode mode
-    on_condition mode Stopped = on_mode mode
-    on_condition mode Ended = on_mode mode
-
-    on : (o : Option Task) → ◌≡◌ {A = World} (leave (elim o as (λ o. World) [
-      | None ↦ v
-      | Some task ↦ rouse_task q task.mode task.condition v
-    ])) (elim o as (λ o. World) [
-      | None ↦ leave v
-      | Some task ↦ rouse_task q task.mode task.condition (leave v)
-    ])
-    on None = refl
-    on (Some task) = on_condition task.mode task.condition
+leave_rouse o v = rouse_beside leave (λ w. refl) (λ w tasks. refl) (λ p w. refl) o v
 
 calm_sending : (e : Exchange) → Calm (Sending e) Ready
 calm_sending e = record { link = λ x done is. absurd (cc); over = λ is. absurd (cc) }
@@ -514,13 +455,7 @@ output_words k = omega arith
 role_tells : {A : Type 0} (told : Role → Option A) (w : World) (p : ℕ) (x : A)
     → elim (slice_get w.roles p) as (λ o. Option A) [ None ↦ None | Some role ↦ told role ] ≡ Some x
     → (r : Role) × (slice_get w.roles p ≡ Some r) × (told r ≡ Some x)
-role_tells {A = A} told w p x is = on (slice_get w.roles p) refl is
-  where
-    on : (o : Option Role) → slice_get w.roles p ≡ o
-        → elim o as (λ o. Option A) [ None ↦ None | Some role ↦ told role ] ≡ Some x
-        → (r : Role) × (slice_get w.roles p ≡ Some r) × (told r ≡ Some x)
-    on None here is = absurd (cc)
-    on (Some r) here is = (r, here, is)
+role_tells told w p x is = told_in told w.roles p x is
 
 opened_is : (w : World) (p : ℕ) (r : Role) → slice_get w.roles p ≡ Some r → opened_by w p ≡ r.opened
 opened_is w p r here = ap (λ (o : Option Role). elim o as (λ o. Option Join)
@@ -790,7 +725,7 @@ module _ (h : Here) (w : World) (runs : w.queue.running ≡ Some h.process)
       }
 
       same_tasks : given.tasks ≡ slice_set w.tasks h.process u
-      same_tasks = role_tasks h.process f v
+      same_tasks = (on_role_only h.process f v).tasks
 
       size : length given.tasks ≡ length w.tasks
       size = ap (λ (ts : List Task). length ts) same_tasks ∙ length-set w.tasks h.process u
@@ -1066,13 +1001,8 @@ module _ (h : Here) (w : World) (runs : w.queue.running ≡ Some h.process)
         memory = m;
         tasks = slice_set w.tasks h.process (record h.from { registers = r; mode = mode });
       }))) → (is_ready : Bool) (distance : ℤ) (l : Local) → WaitsIn (move (chosen h is_ready distance l w))
-  chosen_keeps move kept is_ready distance l = on (selected h.from.mode is_ready distance)
-    where
-      on : (b : Bool) → WaitsIn (move (if b
-          then in_mode h (Disabling (Some distance)) (with_a_alone (Some (pos 1)) l) w
-          else continued h h.next (with_a_alone (Some (pos 0)) l) w))
-      on true = kept (between h.next (with_a_alone (Some (pos 1)) l).registers) (Disabling (Some distance)) l.memory
-      on false = kept (between h.next (with_a_alone (Some (pos 0)) l).registers) h.from.mode l.memory
+  chosen_keeps move kept is_ready distance l =
+      chooses h w l (λ (v : World). WaitsIn (move v)) (λ r mode m same further. kept r mode m) is_ready distance
 
   -- it is a member of its own join
   own_member : (j : Join) → opened_by w h.process ≡ Some j → is_member j.members h.process ≡ true
@@ -1253,25 +1183,19 @@ same_link tasks p word other x y =
     let e : x.exchange ≡ y.exchange = cc in
     sym x.on ∙ (ap (λ (e : Exchange). e.channel) e ∙ y.on)
 
--- another process waits as before
-waits_elsewhere : (tasks : List Task) (q : ℕ) (u : Task) (p word : ℕ) → q ≢ p → WaitsOn tasks p word
-    → WaitsOn (slice_set tasks q u) p word
-waits_elsewhere tasks q u p word differ x = record {
-  task = x.task;
-  here = got_other tasks q p u differ ∙ x.here;
-  exchange = x.exchange;
-  done = x.done;
-  waits = x.waits;
-  on = x.on;
-  more = x.more;
-}
-
 -- who waits on a link has not ended, and stands in no line
 not_over : (t : Task) (e : Exchange) (done : ℕ) → t.condition ≡ OnLink e done → t.condition ≡ Ended → ⊥
 not_over t e done waits over = let x : OnLink e done ≡ Ended = sym waits ∙ over in cc
 
 not_ready : (t : Task) (e : Exchange) (done : ℕ) → t.condition ≡ OnLink e done → t.condition ≡ Ready → ⊥
 not_ready t e done waits ready = let x : OnLink e done ≡ Ready = sym waits ∙ ready in cc
+
+-- a process that waits on a link takes a byte as one that waits
+pub filled : (w : World) (p word k byte : ℕ) (link : InputLink) (x : WaitsOn w.tasks p word)
+    → fill p k byte link w ≡ fill_condition p k byte link (OnLink x.exchange x.done) w
+filled w p word k byte link x = ap (λ (o : Option Task). elim o as (λ o. World)
+    [ None ↦ w | Some task ↦ fill_condition p k byte link task.condition w ]) x.here
+    ∙ ap (λ (c : Condition). fill_condition p k byte link c w) x.waits
 
 module _ (w : World) (keeps : WaitsIn w) where
   -- a process that waits on a link goes on, and the link is free
@@ -1371,15 +1295,12 @@ module _ (w : World) (keeps : WaitsIn w) where
 
   fill_keeps : (p k byte : ℕ) (link : InputLink) → slice_get w.links.inputs k ≡ Some link → link.waiting ≡ Some p
       → WaitsIn (fill p k byte link w)
-  fill_keeps p k byte link here waiting = subst (λ (v : World). WaitsIn v) (sym filled) (on_last (x.done + 1 == x.exchange.length) refl)
+  fill_keeps p k byte link here waiting =
+      subst (λ (v : World). WaitsIn v) (sym (filled w p (input_word k) k byte link x))
+      (on_last (x.done + 1 == x.exchange.length) refl)
     where
       x : WaitsOn w.tasks p (input_word k)
       x = keeps.rest.waiters.inputs k link p here waiting
-
-      filled : fill p k byte link w ≡ fill_condition p k byte link (OnLink x.exchange x.done) w
-      filled = ap (λ (o : Option Task). elim o as (λ o. World)
-          [ None ↦ w | Some task ↦ fill_condition p k byte link task.condition w ]) x.here
-          ∙ ap (λ (c : Condition). fill_condition p k byte link c w) x.waits
 
       memory : Memory
       memory = with_byte w.memory (place_of ((x.exchange.address + x.done) % 2 ^ 32)) (Some byte)

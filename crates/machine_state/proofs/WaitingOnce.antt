@@ -1,6 +1,6 @@
 -- Nobody waits for messages in two places, and no two processes wait in one.
 use Rattle.std.proofs.Common.{◌≡◌, ℕ, inl, inr, Option, Some, None, refl, sym, ap, ◌∙◌, subst, slice_get}
-use Rattle.std.proofs.Common.{arith}
+use Rattle.std.proofs.Common.{List, arith}
 use Rattle.machine_state.specs.declared.link.InputLink.{InputLink}
 use Rattle.machine_state.specs.declared.link.OutputLink.{OutputLink}
 use Rattle.machine_state.specs.declared.process.Channel.{Channel}
@@ -15,6 +15,7 @@ use Rattle.machine_state.specs.LinkLaws.{IsAtLink, at_input, at_output}
 use Rattle.machine_state.specs.WaitingOnce.{Post, a_cell, an_input, an_output, recorded_at, NobodyWaitsTwice}
 use Rattle.machine_state.specs.WaitingOnce.{NoTwoWaitTogether}
 use Rattle.machine_state.specs.Happens.{world_after}
+use Rattle.machine_state.proofs.Lines.{told_in}
 use Rattle.machine_state.proofs.Claims.{only_one}
 use Rattle.machine_state.proofs.Waiting.{WaitsIn, reached, same_link, low_output}
 use Rattle.machine_state.proofs.ChannelWaiters.{waits_once, channels_have_their_waiters}
@@ -36,23 +37,11 @@ cell_there w k p is = on (slice_get w.channels k) refl is
 
 input_there : (w : World) (k p : ℕ) → recorded_at w (an_input k) ≡ Some p
     → (l : InputLink) × (slice_get w.links.inputs k ≡ Some l) × (l.waiting ≡ Some p)
-input_there w k p is = on (slice_get w.links.inputs k) refl is
-  where
-    on : (o : Option InputLink) → slice_get w.links.inputs k ≡ o
-        → elim o as (λ o. Option ℕ) [ None ↦ None | Some link ↦ link.waiting ] ≡ Some p
-        → (l : InputLink) × (slice_get w.links.inputs k ≡ Some l) × (l.waiting ≡ Some p)
-    on None here is = absurd (cc)
-    on (Some l) here is = (l, here, is)
+input_there w k p is = told_in (λ (l : InputLink). l.waiting) w.links.inputs k p is
 
 output_there : (w : World) (k p : ℕ) → recorded_at w (an_output k) ≡ Some p
     → (l : OutputLink) × (slice_get w.links.outputs k ≡ Some l) × (l.waiting ≡ Some p)
-output_there w k p is = on (slice_get w.links.outputs k) refl is
-  where
-    on : (o : Option OutputLink) → slice_get w.links.outputs k ≡ o
-        → elim o as (λ o. Option ℕ) [ None ↦ None | Some link ↦ link.waiting ] ≡ Some p
-        → (l : OutputLink) × (slice_get w.links.outputs k ≡ Some l) × (l.waiting ≡ Some p)
-    on None here is = absurd (cc)
-    on (Some l) here is = (l, here, is)
+output_there w k p is = told_in (λ (l : OutputLink). l.waiting) w.links.outputs k p is
 
 -- who waits on a channel does not wait on a link
 not_both : (w : World) (p k word : ℕ) → WaitsAt w.tasks p k → WaitsOn w.tasks p word → ⊥
@@ -106,20 +95,20 @@ nobody_waits_twice m es =
     waits_in_one (world_after m es) (reached m es) (channels_have_their_waiters m es)
 
 -- two that are recorded at one link
+one_waiter : {A : Type 0} (waiting : A → Option ℕ) (links : List A) (k n p q : ℕ) (l x : A) → k ≡ n
+    → slice_get links k ≡ Some l → slice_get links n ≡ Some x → waiting l ≡ Some p → waiting x ≡ Some q → p ≡ q
+one_waiter waiting links k n p q l x number here there one two =
+    let link = only_one (slice_get links n) l x (subst (λ i. slice_get links i ≡ Some l) number here) there in
+    only_one (waiting l) p q one (ap waiting link ∙ two)
+
 linked_once : (w : World) → WaitsIn w → (p q : ℕ) (e f : Exchange) → e.channel ≡ f.channel
     → IsAtLink w.roles w.links p e → IsAtLink w.roles w.links q f → p ≡ q
 linked_once w keeps p q e f same (at_input k l here waiting word end) (at_input n x there other words ends) =
-    let words_are : input_word k ≡ input_word n = sym word ∙ (same ∙ words) in
-    let number : k ≡ n = omega (arith, words_are) in
-    let link = only_one (slice_get w.links.inputs n) l x
-    (subst (λ i. slice_get w.links.inputs i ≡ Some l) number here) there in
-    only_one l.waiting p q waiting (ap (λ (y : InputLink). y.waiting) link ∙ other)
+    one_waiter (λ (y : InputLink). y.waiting) w.links.inputs k n p q l x (omega (arith, word, same, words)) here there
+    waiting other
 linked_once w keeps p q e f same (at_output k l here waiting word end) (at_output n x there other words ends) =
-    let words_are : output_word k ≡ output_word n = sym word ∙ (same ∙ words) in
-    let number : k ≡ n = omega (arith, words_are) in
-    let link = only_one (slice_get w.links.outputs n) l x
-    (subst (λ i. slice_get w.links.outputs i ≡ Some l) number here) there in
-    only_one l.waiting p q waiting (ap (λ (y : OutputLink). y.waiting) link ∙ other)
+    one_waiter (λ (y : OutputLink). y.waiting) w.links.outputs k n p q l x (omega (arith, word, same, words)) here there
+    waiting other
 linked_once w keeps p q e f same (at_input k l here waiting word end) (at_output n x there other words ends) =
     absurd (let low = low_output w keeps n x there in omega (arith, low, word, same, words))
 linked_once w keeps p q e f same (at_output k l here waiting word end) (at_input n x there other words ends) =

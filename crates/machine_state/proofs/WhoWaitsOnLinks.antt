@@ -1,61 +1,39 @@
 -- Who waits on a link is recorded there, and holds that end of it.
-use Rattle.std.proofs.Common.{◌≡◌, ◌≢◌, ℕ, zero, suc, ◌+◌, ◌<◌, Bool, true, false, if◌then◌else◌, inl, inr, ℤ}
-use Rattle.std.proofs.Common.{pos, List, [], ◌∷◌, ◌++◌, length, Option, Some, None, is_some, refl, sym, ap, ◌∙◌, subst}
-use Rattle.std.proofs.Common.{slice_get, arith}
+use Rattle.std.proofs.Common.{◌≡◌, ◌≢◌, ℕ, zero, suc, ◌+◌, ◌<◌, true, inl, inr}
+use Rattle.std.proofs.Common.{List, [], ◌∷◌, ◌++◌, Option, Some, None, refl, sym, ap, ◌∙◌, subst, slice_get, arith}
 use Rattle.std.proofs.lemmas.Bool.{cases_eq}
-use Rattle.std.specs.Prelude.{◌%◌, ◌^◌, ◌==◌, filter, not, slice_set}
-use Rattle.module_format.specs.Contents.{Contents, Par}
+use Rattle.std.specs.Prelude.{slice_set}
+use Rattle.module_format.specs.Contents.{Contents}
 use Rattle.module_format.specs.declared.rows.Direction.{Direction}
 use Rattle.module_format.specs.declared.rows.Direction.TheVariants.{In, Out}
-use Rattle.machine_state.specs.declared.event.Event.{Event}
 use Rattle.machine_state.specs.declared.holding.End.{End}
 use Rattle.machine_state.specs.declared.link.InputLink.{InputLink}
 use Rattle.machine_state.specs.declared.link.OutputLink.{OutputLink}
+use Rattle.machine_state.specs.declared.process.Channel.{Channel}
 use Rattle.machine_state.specs.declared.process.Registers.{Registers}
 use Rattle.machine_state.specs.declared.process.Task.{Task}
 use Rattle.machine_state.specs.declared.process.Mode.{Mode}
-use Rattle.machine_state.specs.declared.process.Mode.TheVariants.{Plain, Enabling, Disabling, Starting}
+use Rattle.machine_state.specs.declared.process.Mode.TheVariants.{Plain, Starting}
 use Rattle.machine_state.specs.declared.process.Condition.{Condition}
-use Rattle.machine_state.specs.declared.process.Condition.TheVariants.{Ready, Sending, Receiving, OnLink, Alternating}
-use Rattle.machine_state.specs.declared.process.Condition.TheVariants.{Stopped, Ended}
+use Rattle.machine_state.specs.declared.process.Condition.TheVariants.{Ready, Sending, Receiving, OnLink, Ended}
 use Rattle.machine_state.specs.declared.process.Exchange.{Exchange}
-use Rattle.machine_state.specs.Memory.{Memory, place_of, with_byte}
 use Rattle.machine_state.specs.Holding.{Holding, nothing, has_end}
-use Rattle.machine_state.specs.World.{World, Links, Role, Join, held, holding_at, loaded, root_task, input_word}
-use Rattle.machine_state.specs.World.{output_word}
+use Rattle.machine_state.specs.World.{World, Links, Role, held, holding_at, loaded, root_task, input_word, output_word}
 use Rattle.machine_state.specs.Apart.{AllApart}
 use Rattle.machine_state.specs.Waiting.{WaitsOn}
-use Rattle.machine_state.specs.Site.{Local, Outcome}
-use Rattle.machine_state.specs.LocalStep.{copied, with_a_alone}
-use Rattle.machine_state.specs.Moves.{put, on_task, wake, leave, dispatch, rouse, fill, fill_condition}
-use Rattle.machine_state.specs.Moves.{with_condition, link_index, with_channel, with_input, with_output}
-use Rattle.machine_state.specs.Turn.{Here, Turn, at_here, between, continued}
-use Rattle.machine_state.specs.Exchanges.{waits_at}
-use Rattle.machine_state.specs.Alternations.{chosen, selected, in_mode, ready_or}
-use Rattle.machine_state.specs.Joins as join
-use Rattle.machine_state.specs.Joins.{joined, closed_task, started, on_role, new_task, opened, ended, given_back}
-use Rattle.machine_state.specs.Joins.{later_plan, Plan, Found, join_after, without_words, scheduling_addresses}
-use Rattle.machine_state.specs.Happens.{site_of, turn, world_after}
+use Rattle.machine_state.specs.Turn.{Here, at_here}
+use Rattle.machine_state.specs.Joins.{closed_task}
+use Rattle.machine_state.specs.Happens.{world_after}
 use Rattle.machine_state.specs.LinkLaws.{IsAtLink, at_input, at_output, AreAtLinks, WhoWaitsOnLinksIsRecorded}
-use Rattle.prefix_decoder.specs.Functions.{nibble}
-use Rattle.prefix_decoder.specs.Operand.{with_nibble}
 use Rattle.machine_state.proofs.Lines.{got_set, got_other, got_either, got_within, set_either}
-use Rattle.machine_state.proofs.Waking.{ready_was, wake_was, rouse_was, on_task_either}
-use Rattle.machine_state.proofs.Moving.{wake_only, rouse_only, on_task_only}
-use Rattle.machine_state.proofs.EveryInstruction.{each_step}
-use Rattle.machine_state.proofs.Turns as turns
-use Rattle.machine_state.proofs.Turns.{Moved, Ends, Happened, local_here, turn_happens}
-use Rattle.machine_state.proofs.Waiting.{WaitsIn, reached, link_found, link_low, input_words, output_words}
-use Rattle.machine_state.proofs.Waiting.{low_output}
-use Rattle.machine_state.proofs.EveryWorld.{every_world}
+use Rattle.machine_state.proofs.Waking.{ready_was, roused_was}
+use Rattle.machine_state.proofs.Waiting.{WaitsIn, reached, low_output}
 use Rattle.machine_state.proofs.Claims.{only_one}
-use Rattle.machine_state.proofs.Modes.{steps_fit}
-use Rattle.machine_state.proofs.EndedApart.{on_role_tasks}
-use Rattle.machine_state.proofs.WhoEnabled.{on_role_links}
-use Rattle.machine_state.proofs.ChannelWaiters.{running_is_ready}
 use Rattle.machine_state.proofs.OthersHold.{HoldOn, others_hold}
-use Rattle.machine_state.proofs.WhoWaits.{AsksHeld, asks_held}
 use Rattle.machine_state.proofs.ApartLaws.{holdings_stay_apart}
+use Rattle.machine_state.proofs.Changes as change
+use Rattle.machine_state.proofs.Changes.{Changed, Passed, Onward, Receives, going, with_link, with_sender, HoldsEnd}
+use Rattle.machine_state.proofs.Changes.{onward_condition, running_is_ready, of_every_world}
 
 -- ---- an end has one holder
 
@@ -78,53 +56,51 @@ one_holds w apart p q end differ mine theirs =
 
 -- ---- who waits after a move
 
--- the link of a message records the same process as before
+-- of some of the links, that of a message records the same process as before
+abbrev KeepsWaiter : {A : Type 0} → (A → Option ℕ) → (ℕ → ℕ) → List A → List A → ℕ → Exchange → Type 0
+KeepsWaiter {A} waiting word links later p e = (k : ℕ) (l : A) → slice_get links k ≡ Some l → waiting l ≡ Some p
+    → e.channel ≡ word k → (new : A) × (slice_get later k ≡ Some new) × (waiting new ≡ Some p)
+
+-- one of them was changed, and has the waiter that it had, or had another one
+link_set : {A : Type 0} (waiting : A → Option ℕ) (word : ℕ → ℕ) (links : List A) (n : ℕ) (old new : A) (p : ℕ)
+    (e : Exchange) → slice_get links n ≡ Some old
+    → (e.channel ≡ word n → waiting old ≡ Some p → waiting new ≡ Some p)
+    → KeepsWaiter waiting word links (slice_set links n new) p e
+link_set waiting word links n old new p e at same k l here waits there = elim (cases_eq n k) [
+  | inl it ↦ (
+    new,
+    subst (λ i. slice_get (slice_set links n new) i ≡ Some new) it (got_set links n old new at),
+    (
+        let one = only_one (slice_get links k) old l (subst (λ i. slice_get links i ≡ Some old) it at) here in
+        same (there ∙ ap word (sym it)) (ap waiting one ∙ waits)),
+  )
+  | inr differ ↦ (l, got_other links n k new differ ∙ here, waits)
+]
+
 abbrev KeepsInput : Links → Links → ℕ → Exchange → Type 0
-KeepsInput links later p e = (k : ℕ) (l : InputLink) → slice_get links.inputs k ≡ Some l → l.waiting ≡ Some p
-    → e.channel ≡ input_word k → (new : InputLink) × (slice_get later.inputs k ≡ Some new) × (new.waiting ≡ Some p)
+KeepsInput links later p e = KeepsWaiter (λ (l : InputLink). l.waiting) input_word links.inputs later.inputs p e
 
 abbrev KeepsOutput : Links → Links → ℕ → Exchange → Type 0
-KeepsOutput links later p e = (k : ℕ) (l : OutputLink) → slice_get links.outputs k ≡ Some l → l.waiting ≡ Some p
-    → e.channel ≡ output_word k → (new : OutputLink) × (slice_get later.outputs k ≡ Some new) × (new.waiting ≡ Some p)
+KeepsOutput links later p e = KeepsWaiter (λ (l : OutputLink). l.waiting) output_word links.outputs later.outputs p e
+
+input_set : (w : World) (n : ℕ) (old new : InputLink) (p : ℕ) (e : Exchange) → slice_get w.links.inputs n ≡ Some old
+    → (e.channel ≡ input_word n → old.waiting ≡ Some p → new.waiting ≡ Some p)
+    → KeepsInput w.links (with_link w n new) p e
+input_set w n old new p e at same =
+    link_set (λ (l : InputLink). l.waiting) input_word w.links.inputs n old new p e at same
+
+output_set : (w : World) (n : ℕ) (old : OutputLink) (o : Option ℕ) (p : ℕ) (e : Exchange)
+    → slice_get w.links.outputs n ≡ Some old
+    → (e.channel ≡ output_word n → old.waiting ≡ Some p → o ≡ Some p)
+    → KeepsOutput w.links (with_sender w n o) p e
+output_set w n old o p e at same =
+    link_set (λ (l : OutputLink). l.waiting) output_word w.links.outputs n old (record { waiting = o }) p e at same
 
 same_inputs : (links : Links) (p : ℕ) (e : Exchange) → KeepsInput links links p e
 same_inputs links p e k l here waits word = (l, here, waits)
 
 same_outputs : (links : Links) (p : ℕ) (e : Exchange) → KeepsOutput links links p e
 same_outputs links p e k l here waits word = (l, here, waits)
-
--- one input link was changed, and has the waiter that it had, or had another one
-input_set : (links : Links) (n : ℕ) (old new : InputLink) (p : ℕ) (e : Exchange)
-    → slice_get links.inputs n ≡ Some old
-    → (e.channel ≡ input_word n → old.waiting ≡ Some p → new.waiting ≡ Some p)
-    → KeepsInput links (record links { inputs = slice_set links.inputs n new }) p e
-input_set links n old new p e at same k l here waits word = elim (cases_eq n k) [
-  | inl it ↦ (
-    new,
-    subst (λ i. slice_get (slice_set links.inputs n new) i ≡ Some new) it (got_set links.inputs n old new at),
-    (
-        let one = only_one (slice_get links.inputs k) old l
-        (subst (λ i. slice_get links.inputs i ≡ Some old) it at) here in
-        same (word ∙ ap input_word (sym it)) (ap (λ (x : InputLink). x.waiting) one ∙ waits)),
-  )
-  | inr differ ↦ (l, got_other links.inputs n k new differ ∙ here, waits)
-]
-
-output_set : (links : Links) (n : ℕ) (old new : OutputLink) (p : ℕ) (e : Exchange)
-    → slice_get links.outputs n ≡ Some old
-    → (e.channel ≡ output_word n → old.waiting ≡ Some p → new.waiting ≡ Some p)
-    → KeepsOutput links (record links { outputs = slice_set links.outputs n new }) p e
-output_set links n old new p e at same k l here waits word = elim (cases_eq n k) [
-  | inl it ↦ (
-    new,
-    subst (λ i. slice_get (slice_set links.outputs n new) i ≡ Some new) it (got_set links.outputs n old new at),
-    (
-        let one = only_one (slice_get links.outputs k) old l
-        (subst (λ i. slice_get links.outputs i ≡ Some old) it at) here in
-        same (word ∙ ap output_word (sym it)) (ap (λ (x : OutputLink). x.waiting) one ∙ waits)),
-  )
-  | inr differ ↦ (l, got_other links.outputs n k new differ ∙ here, waits)
-]
 
 still_at : (roles later : List Role) (links after : Links) (p : ℕ) (e : Exchange)
     → holding_at later p ≡ holding_at roles p → KeepsInput links after p e → KeepsOutput links after p e
@@ -138,18 +114,6 @@ still_at roles later links after p e same inputs outputs (at_output k link here 
     at_output k new.0 new.1 new.2 word
     (subst (λ (h : Holding). has_end h (record { address = e.channel; direction = Out }) ≡ true) (sym same) end)
 
--- who is made ready or roused waits on no link, and the others do as before
-waits_woken : (q : ℕ) (v : World) (roles : List Role) (links : Links) → AreAtLinks v.tasks roles links
-    → AreAtLinks (wake q v).tasks roles links
-waits_woken q v roles links all p t e done here is =
-    all p t e done (wake_was (λ c. c ≡ OnLink e done) (λ z. cc) q v p t here is).1 is
-
-waits_roused : (o : Option ℕ) (v : World) (roles : List Role) (links : Links) → AreAtLinks v.tasks roles links
-    → AreAtLinks (rouse o v).tasks roles links
-waits_roused o v roles links all p t e done here is =
-    let before = rouse_was (λ c. c ≡ OnLink e done) (λ z. cc) o v p t here is in
-    all p before.0 e done before.1 before.2
-
 waits_pushed : (tasks : List Task) (u : Task) (roles : List Role) (links : Links) → u.condition ≡ Ready
     → AreAtLinks tasks roles links → AreAtLinks (tasks ++ u ∷ []) roles links
 waits_pushed tasks u roles links ready all p t e done here is = elim (got_either tasks u p t here) [
@@ -158,57 +122,54 @@ waits_pushed tasks u roles links ready all p t e done here is = elim (got_either
       let x : Ready ≡ OnLink e done = sym ready ∙ (ap (λ (y : Task). y.condition) (sym last.1) ∙ is) in cc)
 ]
 
-waits_as : (tasks after : List Task) (roles : List Role) (links later : Links) → after ≡ tasks → later ≡ links
-    → AreAtLinks tasks roles links → AreAtLinks after roles later
-waits_as tasks after roles links later a b all =
-    subst (λ (ts : List Task). AreAtLinks ts roles later) (sym a)
-    (subst (λ (ls : Links). AreAtLinks tasks roles ls) (sym b) all)
-
 -- ---- an instruction of the running process
+
+-- nobody waits on a link in this condition
+abbrev IsOff : Condition → Type 0
+IsOff c = (e : Exchange) (done : ℕ) → c ≡ OnLink e done → ⊥
+
+off_ready : (c : Condition) → c ≡ Ready → IsOff c
+off_ready c ready e done is = let x : Ready ≡ OnLink e done = sym ready ∙ is in cc
 
 module _ (h : Here) (w : World) (runs : w.queue.running ≡ Some h.process)
     (there : slice_get w.tasks h.process ≡ Some h.from) (keeps : WaitsIn w)
     (apart : AllApart w.roles w.channels) (all : AreAtLinks w.tasks w.roles w.links) where
-  ready : h.from.condition ≡ Ready
-  ready = running_is_ready h w runs there keeps
+  off_from : IsOff h.from.condition
+  off_from = off_ready h.from.condition (running_is_ready h w runs there keeps)
 
   -- the process goes on so, and the links have the waiters that they had, or it is one of them now
-  goes : (u : Task) (rs : List Role) (ls : Links)
-      → ((e : Exchange) (done : ℕ) → u.condition ≡ OnLink e done → IsAtLink rs ls h.process e) → HoldOn h w rs
+  goes : (r : Registers) (mode : Mode) (c : Condition) (rs : List Role) (ls : Links)
+      → ((e : Exchange) (done : ℕ) → c ≡ OnLink e done → IsAtLink rs ls h.process e) → HoldOn h w rs
       → ((p : ℕ) (e : Exchange) → h.process ≢ p → IsAtLink w.roles w.links p e
-      → KeepsInput w.links ls p e × KeepsOutput w.links ls p e) → (ts : List Task)
-      → ts ≡ slice_set w.tasks h.process u → AreAtLinks ts rs ls
-  goes u rs ls mine holds links ts tasks p t e done here is =
-      elim (set_either w.tasks h.process u p t (ap (λ (ts : List Task). slice_get ts p) (sym tasks) ∙ here)) [
-        | inl it ↦ subst (λ n. IsAtLink rs ls n e) it.0
-            (mine e done (ap (λ (x : Task). x.condition) (sym it.1) ∙ is))
-        | inr other ↦
-            let x = all p t e done other.1 is in
-            let kept = links p e other.0 x in
-            still_at w.roles rs w.links ls p e (holds.others p t other.1 other.0 (λ over.
-            let z : OnLink e done ≡ Ended = sym is ∙ over in cc)) kept.0 kept.1 x
-      ]
+      → KeepsInput w.links ls p e × KeepsOutput w.links ls p e) → AreAtLinks (going h w r mode c) rs ls
+  goes r mode c rs ls mine holds links p t e done here is = elim (set_either w.tasks h.process _ p t here) [
+    | inl it ↦ subst (λ n. IsAtLink rs ls n e) it.0 (mine e done (ap (λ (x : Task). x.condition) (sym it.1) ∙ is))
+    | inr other ↦
+        let x = all p t e done other.1 is in
+        let kept = links p e other.0 x in
+        still_at w.roles rs w.links ls p e (holds.others p t other.1 other.0 (λ over.
+        let z : OnLink e done ≡ Ended = sym is ∙ over in cc)) kept.0 kept.1 x
+  ]
 
   -- it does not wait on a link, and the links are as they were
-  calms : (u : Task) (rs : List Role) → ((e : Exchange) (done : ℕ) → u.condition ≡ OnLink e done → ⊥)
-      → HoldOn h w rs → (ts : List Task) → ts ≡ slice_set w.tasks h.process u → AreAtLinks ts rs w.links
-  calms u rs calm holds = goes u rs w.links (λ e done is. absurd (calm e done is)) holds
+  calms : (r : Registers) (mode : Mode) (c : Condition) (rs : List Role) → IsOff c → HoldOn h w rs
+      → AreAtLinks (going h w r mode c) rs w.links
+  calms r mode c rs off holds = goes r mode c rs w.links (λ e done is. absurd (off e done is)) holds
       (λ p e differ x. (same_inputs w.links p e, same_outputs w.links p e))
 
   -- one of the input links was changed, which has the same waiter
-  calms_with : (u : Task) (rs : List Role) → ((e : Exchange) (done : ℕ) → u.condition ≡ OnLink e done → ⊥)
-      → HoldOn h w rs → (k : ℕ) (old new : InputLink) → slice_get w.links.inputs k ≡ Some old
-      → new.waiting ≡ old.waiting → (ts : List Task) → ts ≡ slice_set w.tasks h.process u
-      → AreAtLinks ts rs (record w.links { inputs = slice_set w.links.inputs k new })
-  calms_with u rs calm holds k old new at same =
-      goes u rs (record w.links { inputs = slice_set w.links.inputs k new })
-      (λ e done is. absurd (calm e done is)) holds (λ p e differ x. (
-        input_set w.links k old new p e at (λ word waits. same ∙ waits),
-        same_outputs w.links p e,
-      ))
+  calms_with : (r : Registers) (mode : Mode) → HoldOn h w w.roles → (k : ℕ) (old new : InputLink)
+      → slice_get w.links.inputs k ≡ Some old → new.waiting ≡ old.waiting
+      → AreAtLinks (going h w r mode h.from.condition) w.roles (with_link w k new)
+  calms_with r mode holds k old new at same =
+      goes r mode h.from.condition w.roles (with_link w k new) (λ e done is. absurd (off_from e done is)) holds
+      (λ p e differ x. (input_set w k old new p e at (λ word waits. same ∙ waits), same_outputs w.links p e))
 
-  calm_from : (e : Exchange) (done : ℕ) → h.from.condition ≡ OnLink e done → ⊥
-  calm_from e done is = let x : Ready ≡ OnLink e done = sym ready ∙ is in cc
+  -- another process, which does not wait on a link, is ready
+  woken : (ts : List Task) (rs : List Role) (ls : Links) → AreAtLinks ts rs ls → (q : ℕ) (u : Task)
+      → u.condition ≡ Ready → AreAtLinks (slice_set ts q u) rs ls
+  woken ts rs ls before q u ready p t e n here is =
+      before p t e n (ready_was (λ c. c ≡ OnLink e n) (λ z. cc) ts q u ready p t here is).1 is
 
   -- nobody else holds the end of a link that it holds
   not_another : (p : ℕ) (e x : Exchange) → h.process ≢ p → e.channel ≡ x.channel → (direction : Direction)
@@ -229,24 +190,18 @@ module _ (h : Here) (w : World) (runs : w.queue.running ≡ Some h.process)
   no_input n k a low one two = omega (arith, low, one, two)
 
   -- it waits on an input link
-  waits_input : (u : Task) (e : Exchange) (done : ℕ) → u.condition ≡ OnLink e done → (k : ℕ) (old new : InputLink)
-      → slice_get w.links.inputs k ≡ Some old → e.channel ≡ input_word k
-      → has_end (holding_at w.roles h.process) (record { address = e.channel; direction = In }) ≡ true
-      → new.waiting ≡ Some h.process
-      → AreAtLinks (slice_set w.tasks h.process u) w.roles
-      (record w.links { inputs = slice_set w.links.inputs k new })
-  waits_input u e done waits k old new at word asks mine =
-      goes u w.roles (record w.links { inputs = slice_set w.links.inputs k new }) (λ x n is.
-      let z : OnLink e done ≡ OnLink x n = sym waits ∙ is in
+  waits_input : (r : Registers) (e : Exchange) (done k : ℕ) (old new : InputLink)
+      → slice_get w.links.inputs k ≡ Some old → e.channel ≡ input_word k → HoldsEnd h w e.channel In
+      → new.waiting ≡ Some h.process → HoldOn h w w.roles
+      → AreAtLinks (going h w r h.from.mode (OnLink e done)) w.roles (with_link w k new)
+  waits_input r e done k old new at word asks mine holds =
+      goes r h.from.mode (OnLink e done) w.roles (with_link w k new) (λ x n is.
       let same : e ≡ x = cc in
-      subst (λ (y : Exchange). IsAtLink w.roles (record w.links { inputs = slice_set w.links.inputs k new }) h.process
-      y) same (at_input k new (got_set w.links.inputs k old new at) mine word asks)) (record {
-        others = λ p t here differ alive. refl;
-        itself = λ inside. refl;
-      }) (λ p x differ at_link. (
-        input_set w.links k old new p x at (λ is waiting. absurd (clash p x differ is at_link)),
+      subst (λ (y : Exchange). IsAtLink w.roles (with_link w k new) h.process y) same
+      (at_input k new (got_set w.links.inputs k old new at) mine word asks)) holds (λ p x differ at_link. (
+        input_set w k old new p x at (λ is waiting. absurd (clash p x differ is at_link)),
         same_outputs w.links p x,
-      )) (slice_set w.tasks h.process u) refl
+      ))
     where
       clash : (p : ℕ) (x : Exchange) → h.process ≢ p → x.channel ≡ input_word k → IsAtLink w.roles w.links p x → ⊥
       clash p x differ is (at_input n l here waiting there end) =
@@ -254,338 +209,120 @@ module _ (h : Here) (w : World) (runs : w.queue.running ≡ Some h.process)
       clash p x differ is (at_output n l here waiting there end) = no_output k n l x.channel here is there
 
   -- it waits on an output link
-  waits_output : (u : Task) (e : Exchange) (done : ℕ) → u.condition ≡ OnLink e done → (k : ℕ) → k < 4
-      → e.channel ≡ output_word k
-      → has_end (holding_at w.roles h.process) (record { address = e.channel; direction = Out }) ≡ true
-      → AreAtLinks (slice_set w.tasks h.process u) w.roles
-      (record w.links { outputs = slice_set w.links.outputs k (record { waiting = Some h.process }) })
-  waits_output u e done waits k low word asks =
-      goes u w.roles later (λ x n is.
-      let z : OnLink e done ≡ OnLink x n = sym waits ∙ is in
+  waits_output : (r : Registers) (e : Exchange) (k : ℕ) → k < 4 → e.channel ≡ output_word k
+      → HoldsEnd h w e.channel Out → HoldOn h w w.roles
+      → AreAtLinks (going h w r h.from.mode (OnLink e 0)) w.roles (with_sender w k (Some h.process))
+  waits_output r e k low word asks holds =
+      let four = keeps.rest.four in
+      let old = got_within w.links.outputs k (omega (arith, four, low)) in
+      let new : OutputLink = record { waiting = Some h.process } in
+      let later = with_sender w k (Some h.process) in
+      goes r h.from.mode (OnLink e 0) w.roles later (λ x n is.
       let same : e ≡ x = cc in
       subst (λ (y : Exchange). IsAtLink w.roles later h.process y) same
-      (at_output k new (got_set w.links.outputs k old.0 new old.1) refl word asks)) (record {
-        others = λ p t here differ alive. refl;
-        itself = λ inside. refl;
-      }) (λ p x differ at_link. (
+      (at_output k new (got_set w.links.outputs k old.0 new old.1) refl word asks)) holds (λ p x differ at_link. (
         same_inputs w.links p x,
-        output_set w.links k old.0 new p x old.1 (λ is waiting. absurd (clash p x differ is at_link)),
-      )) (slice_set w.tasks h.process u) refl
+        output_set w k old.0 (Some h.process) p x old.1 (λ is waiting. absurd (clash p x differ is at_link)),
+      ))
     where
-      new : OutputLink
-      new = record { waiting = Some h.process }
-
-      later : Links
-      later = record w.links { outputs = slice_set w.links.outputs k (record { waiting = Some h.process }) }
-
-      old : (l : OutputLink) × (slice_get w.links.outputs k ≡ Some l)
-      old = got_within w.links.outputs k (let four = keeps.rest.four in omega (arith, four, low))
-
       clash : (p : ℕ) (x : Exchange) → h.process ≢ p → x.channel ≡ output_word k → IsAtLink w.roles w.links p x → ⊥
       clash p x differ is (at_input n l here waiting there end) = no_input k n x.channel low is there
       clash p x differ is (at_output n l here waiting there end) =
           not_another p e x differ (word ∙ sym is) Out asks end
 
-  -- what is selected makes no difference
-  chooses : (move : World → World) (rs : List Role)
-      → ((r : Registers) (mode : Mode) (m : Memory) → let v : World = record w {
-        memory = m;
-        tasks = slice_set w.tasks h.process (record h.from { registers = r; mode = mode });
-      } in AreAtLinks (move v).tasks rs (move v).links) → (is_ready : Bool) (distance : ℤ) (l : Local)
-      → let v = chosen h is_ready distance l w in AreAtLinks (move v).tasks rs (move v).links
-  chooses move rs kept is_ready distance l = on (selected h.from.mode is_ready distance)
-    where
-      on : (b : Bool) → let v : World = if b
-          then in_mode h (Disabling (Some distance)) (with_a_alone (Some (pos 1)) l) w
-          else continued h h.next (with_a_alone (Some (pos 0)) l) w in
-          AreAtLinks (move v).tasks rs (move v).links
-      on true = kept (between h.next (with_a_alone (Some (pos 1)) l).registers) (Disabling (Some distance)) l.memory
-      on false = kept (between h.next (with_a_alone (Some (pos 0)) l).registers) h.from.mode l.memory
+  off_onward : (mode : Mode) (c : Condition) → Onward h w mode c → IsOff c
+  off_onward = onward_condition IsOff h w off_from (λ e done on. cc) (λ e done on. cc)
 
-  -- a branch starts
-  starts : (plan : Plan) (found : Found) (workspace : ℕ) (l : Local) (v : World) → v.tasks ≡ w.tasks
-      → v.links ≡ w.links → let x = started h plan found workspace l v in HoldOn h w x.roles
-      → AreAtLinks x.tasks x.roles x.links
-  starts plan found workspace l v tasks links holds =
-      let u = record h.from { registers = between h.next l.registers; mode = Starting } in
-      let f : Role → Role = λ role. record role {
-        opened = Some (join_after (length v.memory) plan found (length v.tasks));
-      } in
-      let put_there = put h.process u (without_words (scheduling_addresses workspace) l.memory) v in
-      let given = on_role h.process f put_there in
-      let x = started h plan found workspace l v in
-      waits_pushed given.tasks (new_task found.branch workspace) x.roles x.links refl
-      (waits_as (slice_set w.tasks h.process u) given.tasks x.roles w.links x.links
-      (on_role_tasks h.process f put_there ∙ ap (λ (ts : List Task). slice_set ts h.process u) tasks)
-      (on_role_links h.process f put_there ∙ links)
-      (calms u x.roles calm_from holds (slice_set w.tasks h.process u) refl))
+  receives : (r : Registers) (e : Exchange) (k : ℕ) (link new : InputLink) (c : Condition)
+      → slice_get w.links.inputs k ≡ Some link → e.channel ≡ input_word k → HoldsEnd h w e.channel In
+      → HoldOn h w w.roles → Receives h e link c new
+      → AreAtLinks (going h w r h.from.mode c) w.roles (with_link w k new)
+  receives r e k link new c here word asks holds (change.no_byte none) =
+      waits_input r e 0 k link new here word asks refl holds
+  receives r e k link new c here word asks holds change.the_last = calms_with r h.from.mode holds k link new here refl
+  receives r e k link new c here word asks holds change.one_of_more =
+      waits_input r e 1 k link new here word asks refl holds
 
-  -- a member of a join ends
-  joins : (v : World) (o : ℕ) (j : Join) (par : Par) (rs : List Role) → v.links ≡ w.links
-      → AreAtLinks v.tasks rs w.links → AreAtLinks (joined h o j par v).tasks rs (joined h o j par v).links
-  unfolding dispatch
-  joins v o j par rs links old = on (length (filter (λ q. not (q == h.process)) j.members) == 0)
-    where
-      less : Role → Role
-      less role = record role { opened = Some (record j { members = filter (λ q. not (q == h.process)) j.members }) }
-
-      shut : Role → Role
-      shut role = record role { opened = None }
-
-      smaller : World
-      smaller = on_role o (λ role. record role {
-        opened = Some (record j { members = filter (λ q. not (q == h.process)) j.members });
-      }) v
-
-      done : World
-      done = on_task o (closed_task j par) smaller
-
-      stays : AreAtLinks smaller.tasks rs w.links
-      stays = waits_as v.tasks smaller.tasks rs w.links w.links (on_role_tasks o less v) refl old
-
-      closes : AreAtLinks (join.closed o j par smaller).tasks rs (join.closed o j par smaller).links
-      closes = waits_as done.tasks (join.closed o j par smaller).tasks rs w.links (join.closed o j par smaller).links
-          (on_role_tasks o shut done)
-          (on_role_links o shut done
-          ∙ ((on_task_only o (closed_task j par) smaller).links ∙ (on_role_links o less v ∙ links)))
-          (λ p t e n here is. stays p t e n (ready_was (λ c. c ≡ OnLink e n) (λ z. cc) o (closed_task j par) smaller
-          (λ x. refl) p t here is).1 is)
-
-      on : (b : Bool) → let x : World = if b then join.closed o j par smaller else dispatch h.pick (leave smaller) in
-          AreAtLinks x.tasks rs x.links
-      on true = closes
-      on false =
-          waits_as smaller.tasks smaller.tasks rs w.links smaller.links refl (on_role_links o less v ∙ links) stays
-
-  -- the partner of a message becomes ready
-  meets : (u : Task) → ((e : Exchange) (done : ℕ) → u.condition ≡ OnLink e done → ⊥) → (other : ℕ) (v : World)
-      → v.tasks ≡ slice_set w.tasks h.process u → v.links ≡ w.links → HoldOn h w (wake other v).roles
-      → AreAtLinks (wake other v).tasks (wake other v).roles (wake other v).links
-  meets u calm other v tasks links holds =
-      let x = wake other v in
-      waits_as x.tasks x.tasks x.roles w.links x.links refl ((wake_only other v).links ∙ links)
-      (waits_woken other v x.roles w.links (calms u x.roles calm holds v.tasks tasks))
-
-  moved : (o : Outcome) (v : World) → Moved h w o v → AsksHeld (site_of h w) o → HoldOn h w v.roles
-      → AreAtLinks v.tasks v.roles v.links
-  unfolding dispatch
-  moved o v (turns.it_goes l) asks holds =
-      calms (record h.from { registers = between h.next l.registers }) _ calm_from holds _ refl
-  moved o v (turns.it_jumps to l) asks holds =
-      calms (record h.from { registers = between to l.registers }) _ calm_from holds _ refl
-  moved o v (turns.it_is_sliced to l) asks holds =
-      calms (record h.from { registers = between to l.registers }) _ calm_from holds _ refl
-  moved o v (turns.it_lands to l) asks holds =
-      calms (record h.from { registers = between to l.registers }) _ calm_from holds _ refl
-  moved o v (turns.it_stops l) asks holds =
-      calms (record h.from { registers = between h.next l.registers; condition = Stopped }) _ (λ e done is. cc) holds _
-      refl
-  moved o v (turns.receives_first e l c inside here nobody) asks holds =
-      calms (record h.from { registers = between h.next l.registers; condition = Receiving e }) _ (λ x done is. cc)
-      holds _ refl
-  moved o v (turns.receives_from e l c other sent inside here partner is same) asks holds =
-      meets (record h.from { registers = between h.next l.registers }) calm_from other
-      (with_channel sent.channel (record c { waiting = None }) (continued h h.next
-      (record l { memory = copied l.memory (place_of sent.address) (place_of e.address) sent.length l.memory }) w)) refl
-      refl holds
-  moved o v (turns.receives_none e l k link on here none) asks holds =
-      waits_input (record h.from { registers = between h.next l.registers; condition = OnLink e 0 }) e 0 refl k link
-      (record link { waiting = Some h.process }) here (link_found (input_word 0) e.channel k on ∙ input_words k) asks
-      refl
-  moved o v (turns.receives_last e l k link byte on here kept one) asks holds =
-      calms_with (record h.from { registers = between h.next l.registers }) _ calm_from holds k link
-      (record link { kept = None }) here refl _ refl
-  moved o v (turns.receives_one e l k link byte on here kept more) asks holds =
-      waits_input (record h.from { registers = between h.next l.registers; condition = OnLink e 1 }) e 1 refl k link
-      (record link { kept = None; waiting = Some h.process }) here
-      (link_found (input_word 0) e.channel k on ∙ input_words k) asks refl
-  moved o v (turns.sends_first e l c inside here nobody) asks holds =
-      let x = waits_at h (Sending e) e.channel c l w in
-      let r = rouse c.enabled x in
-      waits_as r.tasks r.tasks r.roles w.links r.links refl (rouse_only c.enabled x).links
-      (waits_roused c.enabled x r.roles w.links
-      (calms (record h.from { registers = between h.next l.registers; condition = Sending e }) r.roles
-      (λ y done is. cc) holds x.tasks refl))
-  moved o v (turns.sends_to e l c other wanted inside here partner is same) asks holds =
-      meets (record h.from { registers = between h.next l.registers }) calm_from other
-      (with_channel e.channel (record c { waiting = None }) (continued h h.next
-      (record l { memory = copied l.memory (place_of e.address) (place_of wanted.address) e.length l.memory }) w)) refl
-      refl holds
-  moved o v (turns.starts_first target workspace l found is none tests) asks holds =
-      let plan = turns.plan_of h w found in
-      starts plan found workspace (opened h plan l w).0 (opened h plan l w).1 refl refl holds
-  moved o v (turns.starts_later target workspace l found j is is_open same tests) asks holds =
-      starts (later_plan h.contents j found.par) found workspace l w refl refl holds
-  moved o v (turns.joins_own block l j par is row whole) asks holds =
-      let u = record h.from { registers = between h.next l.registers; mode = Plain; condition = Ended } in
-      let x = ended h l w in
-      joins x h.process j par (joined h h.process j par x).roles refl
-      (calms u (joined h h.process j par x).roles (λ e done is. cc) holds x.tasks refl)
-  moved o v (turns.joins_opener block l opener j par none by is row same) asks holds =
-      let u = record h.from { registers = between h.next l.registers; mode = Plain; condition = Ended } in
-      let f : Role → Role = λ role. record role { own = nothing } in
-      let x = given_back h (ended h l w) in
-      joins x opener j par (joined h opener j par x).roles (on_role_links h.process f (ended h l w))
-      (calms u (joined h opener j par x).roles (λ e done is. cc) holds x.tasks
-      (on_role_tasks h.process f (ended h l w)))
-  moved o v (turns.it_begins l) asks holds =
-      calms (record h.from { registers = between h.next l.registers; mode = Enabling false }) _ calm_from holds _ refl
-  moved o v (turns.it_enables guard address l s given (turns.on_channel c inside here) once) asks holds =
-      calms (record h.from {
-        registers = between h.next l.registers;
-        mode = ready_or h.from.mode (is_some c.waiting);
-      }) _ calm_from holds _ refl
-  moved o v (turns.it_enables guard address l s given (turns.on_link k link on here) once) asks holds =
-      calms_with (record h.from {
-        registers = between h.next l.registers;
-        mode = ready_or h.from.mode (is_some link.kept);
-      }) _ calm_from holds k link (record link { enabled = Some h.process }) here refl _ refl
-  moved o v (turns.it_enables_nothing guard address l off) asks holds =
-      calms (record h.from { registers = between h.next l.registers }) _ calm_from holds _ refl
-  moved o v (turns.it_enables_a_skip guard l) asks holds =
-      calms (record h.from { registers = between h.next l.registers; mode = ready_or h.from.mode guard }) _ calm_from
-      holds _ refl
-  moved o v (turns.it_is_ready l is) asks holds =
-      calms (record h.from { registers = between h.next l.registers; mode = Disabling None }) _ calm_from holds _ refl
-  moved o v (turns.it_waits l is) asks holds =
-      calms (record h.from {
-        registers = between h.next l.registers;
-        mode = Disabling None;
-        condition = Alternating;
-      }) _ (λ e done is. cc) holds _ refl
-  moved o v (turns.it_disables guard address distance l s given (turns.on_channel c inside here) mine) asks holds =
-      chooses (with_channel address (record c { enabled = None })) _
-      (λ r mode m. calms (record h.from { registers = r; mode = mode }) _ calm_from holds _ refl) (is_some c.waiting)
-      distance l
-  moved o v (turns.it_disables guard address distance l s given (turns.on_link k link on here) mine) asks holds =
-      chooses (with_input k (record link { enabled = None })) _
-      (λ r mode m. calms_with (record h.from { registers = r; mode = mode }) _ calm_from holds k link
-      (record link { enabled = None }) here refl _ refl) (is_some link.kept) distance l
-  moved o v (turns.it_disables_nothing guard address distance l off) asks holds =
-      chooses (λ v. v) _ (λ r mode m. calms (record h.from { registers = r; mode = mode }) _ calm_from holds _ refl)
-      false distance l
-  moved o v (turns.it_disables_a_skip guard distance l) asks holds =
-      chooses (λ v. v) _ (λ r mode m. calms (record h.from { registers = r; mode = mode }) _ calm_from holds _ refl)
-      guard distance l
-  moved o v (turns.it_ends_alternation to l none) asks holds =
-      calms (record h.from { registers = between to l.registers; mode = Plain }) _ calm_from holds _ refl
-
-  end_at_links : (o : Outcome) (t : Turn) → Ends h w o t → AsksHeld (site_of h w) o → HoldOn h w t.world.roles
-      → AreAtLinks t.world.tasks t.world.roles t.world.links
-  unfolding dispatch
-  end_at_links o t (turns.at_fault kind) asks holds = all
-  end_at_links o t (turns.has_run {after = v} ends) asks holds = moved o v ends asks holds
-  end_at_links o t (turns.has_emitted e l k on same) asks holds =
-      waits_output (record h.from { registers = between h.next l.registers; condition = OnLink e 0 }) e 0 refl k
-      (link_low (output_word 0) e.channel k on) (link_found (output_word 0) e.channel k on ∙ output_words k) asks
+  changed : (ts : List Task) (rs : List Role) (cs : List (Option Channel)) (ls : Links) → Changed h w ts rs cs ls
+      → HoldOn h w rs → AreAtLinks ts rs ls
+  changed ts rs cs ls (change.goes_on r mode c x) holds = calms r mode c rs (off_onward mode c x) holds
+  changed ts rs cs ls (change.waits_to_receive r e c is asks at none) holds =
+      calms r h.from.mode (Receiving e) rs (λ x done on. cc) holds
+  changed ts rs cs ls (change.waits_to_send r e c tasks is asks at none roused) holds = λ p t x n here on.
+      let before = roused_was (λ c. c ≡ OnLink x n) (λ z. cc) (going h w r h.from.mode (Sending e)) tasks c.enabled
+      roused p t here on in
+      calms r h.from.mode (Sending e) rs (λ x done on. cc) holds p before.0 x n before.1 before.2
+  changed ts rs cs ls (change.meets_sender r e sent c other is asks at waits x) holds =
+      woken (going h w r h.from.mode h.from.condition) rs w.links
+      (calms r h.from.mode h.from.condition rs off_from holds) other (record x.task { condition = Ready }) refl
+  changed ts rs cs ls (change.meets_receiver r e wanted c other is asks at waits x) holds =
+      woken (going h w r h.from.mode h.from.condition) rs w.links
+      (calms r h.from.mode h.from.condition rs off_from holds) other (record x.task { condition = Ready }) refl
+  changed ts rs cs ls (change.receives_outside r e k link new c is asks word here x) holds =
+      receives r e k link new c here word asks holds x
+  changed ts rs cs ls (change.sends_outside r e k is asks word low) holds = waits_output r e k low word asks holds
+  changed ts rs cs ls (change.starts r role j own child cells is here plain awake opening) holds =
+      waits_pushed (going h w r Starting h.from.condition) child rs w.links awake
+      (calms r Starting h.from.condition rs off_from holds)
+  changed ts rs cs ls (change.leaves_join r o roles x some) holds = calms r Plain Ended rs (λ e done on. cc) holds
+  changed ts rs cs ls (change.closes_join r o roles x none par t here over) holds =
+      woken (going h w r Plain Ended) rs w.links (calms r Plain Ended rs (λ e done on. cc) holds) o
+      (closed_task x.join par t) refl
+  changed ts rs cs ls (change.enables_a_channel r address c is asks at once) holds =
+      calms r _ h.from.condition rs off_from holds
+  changed ts rs cs ls (change.enables_a_link r k link is asks here once) holds =
+      calms_with r _ holds k link (record link { enabled = Some h.process }) here refl
+  changed ts rs cs ls (change.disables_a_channel r mode address c is further at mine) holds =
+      calms r mode h.from.condition rs off_from holds
+  changed ts rs cs ls (change.disables_a_link r mode k link is further here mine) holds =
+      calms_with r mode holds k link (record link { enabled = None }) here refl
 
 -- ---- every event
 
 module _ (m : Contents) (w : World) (keeps : WaitsIn w)
     (apart : AllApart w.roles w.channels) (all : AreAtLinks w.tasks w.roles w.links) where
   -- a process that waited on a link is ready, and the link is free
-  frees : (p : ℕ) (v : World) → v.tasks ≡ w.tasks → v.roles ≡ w.roles
-      → ((q : ℕ) (e : Exchange) → p ≢ q → KeepsInput w.links v.links q e × KeepsOutput w.links v.links q e)
-      → AreAtLinks (wake p v).tasks (wake p v).roles (wake p v).links
-  frees p v tasks roles links q t e done here is =
-      let before = wake_was (λ c. c ≡ OnLink e done) (λ z. cc) p v q t here is in
+  frees : (p : ℕ) (u : Task) (ls : Links) → u.condition ≡ Ready
+      → ((q : ℕ) (e : Exchange) → p ≢ q → KeepsInput w.links ls q e × KeepsOutput w.links ls q e)
+      → AreAtLinks (slice_set w.tasks p u) w.roles ls
+  frees p u ls ready links q t e done here is =
+      let before = ready_was (λ c. c ≡ OnLink e done) (λ z. cc) w.tasks p u ready q t here is in
       let kept = links q e before.0 in
-      let only = wake_only p v in
-      subst (λ (ls : Links). IsAtLink (wake p v).roles ls q e) (sym only.links)
-      (still_at w.roles (wake p v).roles w.links v.links q e
-      (ap (λ (rs : List Role). holding_at rs q) (only.roles ∙ roles)) kept.0 kept.1
-      (all q t e done (ap (λ (ts : List Task). slice_get ts q) (sym tasks) ∙ before.1) is))
+      still_at w.roles w.roles w.links ls q e refl kept.0 kept.1 (all q t e done before.1 is)
 
   -- a byte more was taken
-  further : (p word : ℕ) (x : WaitsOn w.tasks p word) (m : Memory)
-      → let v = with_condition p (OnLink x.exchange (x.done + 1)) (record w { memory = m }) in
-      AreAtLinks v.tasks v.roles v.links
-  further p word x m q t e done here is =
-      let f : Task → Task = λ task. record task { condition = OnLink x.exchange (x.done + 1) } in
-      let v = record w { memory = m } in
-      let only = on_task_only p f v in
-      subst (λ (rs : List Role). IsAtLink rs (on_task p f v).links q e) (sym only.roles)
-      (subst (λ (ls : Links). IsAtLink w.roles ls q e) (sym only.links) (elim (on_task_either p f v q t here) [
-        | inl it ↦
-            let z : OnLink x.exchange (x.done + 1) ≡ OnLink e done =
-            sym (ap (λ (y : Task). y.condition) it.3) ∙ is in
-            let same : x.exchange ≡ e = cc in
-            subst (λ n. IsAtLink w.roles w.links n e) it.1
-            (subst (λ (y : Exchange). IsAtLink w.roles w.links p y) same
-            (all p x.task x.exchange x.done x.here x.waits))
-        | inr other ↦ all q t e done other.1 is
-      ]))
+  further : (p word : ℕ) (x : WaitsOn w.tasks p word)
+      → AreAtLinks (slice_set w.tasks p (record x.task { condition = OnLink x.exchange (x.done + 1) })) w.roles w.links
+  further p word x q t e done here is = elim (set_either w.tasks p _ q t here) [
+    | inl it ↦
+        let z : OnLink x.exchange (x.done + 1) ≡ OnLink e done = sym (ap (λ (y : Task). y.condition) it.1) ∙ is in
+        let same : x.exchange ≡ e = cc in
+        subst (λ n. IsAtLink w.roles w.links n e) it.0 (subst (λ (y : Exchange). IsAtLink w.roles w.links p y) same
+        (all p x.task x.exchange x.done x.here x.waits))
+    | inr other ↦ all q t e done other.1 is
+  ]
 
-  fills : (p k byte : ℕ) (link : InputLink) → slice_get w.links.inputs k ≡ Some link → link.waiting ≡ Some p
-      → let v = fill p k byte link w in AreAtLinks v.tasks v.roles v.links
-  fills p k byte link at waiting = subst (λ (v : World). AreAtLinks v.tasks v.roles v.links) (sym filled)
-      (on (x.done + 1 == x.exchange.length))
-    where
-      x : WaitsOn w.tasks p (input_word k)
-      x = keeps.rest.waiters.inputs k link p at waiting
-
-      filled : fill p k byte link w ≡ fill_condition p k byte link (OnLink x.exchange x.done) w
-      filled = ap (λ (o : Option Task). elim o as (λ o. World)
-          [ None ↦ w | Some task ↦ fill_condition p k byte link task.condition w ]) x.here
-          ∙ ap (λ (c : Condition). fill_condition p k byte link c w) x.waits
-
-      on : (b : Bool) → let v : World = if b
-          then wake p (with_input k (record link { waiting = None }) (record w {
-            memory = with_byte w.memory (place_of ((x.exchange.address + x.done) % 2 ^ 32)) (Some byte);
-          }))
-          else with_condition p (OnLink x.exchange (x.done + 1)) (record w {
-            memory = with_byte w.memory (place_of ((x.exchange.address + x.done) % 2 ^ 32)) (Some byte);
-          }) in AreAtLinks v.tasks v.roles v.links
-      on true = frees p (with_input k (record link { waiting = None }) (record w {
-        memory = with_byte w.memory (place_of ((x.exchange.address + x.done) % 2 ^ 32)) (Some byte);
-      })) refl refl (λ q e differ. (
-        input_set w.links k link (record link { waiting = None }) q e at (λ word waits. absurd (
-            let z : Some p ≡ Some q = sym waiting ∙ waits in let same : p ≡ q = cc in differ same)),
-        same_outputs w.links q e,
-      ))
-      on false =
-          let place = place_of ((x.exchange.address + x.done) % 2 ^ 32) in
-          further p (input_word k) x (with_byte w.memory place (Some byte))
-
-  turn_at_links : (e : Event) (t : Turn) → Happened m w e t
-      → AreAtLinks t.world.tasks t.world.roles t.world.links
-  unfolding dispatch
-  turn_at_links e t (turns.was_at_fault f is) = all
-  turn_at_links e t (turns.it_rests rests) = all
-  turn_at_links e t (turns.is_outside p task kind runs here) = all
-  turn_at_links e t (turns.is_prefix p task byte operand runs here at none) =
-      let h = at_here m p task 0 in
-      calms h w runs here keeps apart all
-      (record task { registers = record task.registers { at = task.registers.at + 1; operand = operand } }) _
-      (calm_from h w runs here keeps apart all) (record {
-        others = λ q t there differ alive. refl;
-        itself = λ inside. refl;
-      }) _ refl
-  turn_at_links e t (turns.is_step {pick = pick} p task byte f runs here at is ends) =
+  passed : (ts : List Task) (rs : List Role) (cs : List (Option Channel)) (ls : Links) → Passed m w ts rs cs ls
+      → AreAtLinks ts rs ls
+  passed ts rs cs ls change.nothing_happens = all
+  passed ts rs cs ls (change.it_runs p pick task runs here x) =
       let h = at_here m p task pick in
-      let operand = with_nibble task.registers.operand (nibble byte) in
-      end_at_links h w runs here keeps apart all _ t ends
-      (each_step (site_of h w) task.registers w.memory w.memory (λ r m n. m ≡ n)
-      (λ o other. AsksHeld (site_of h w) o) (asks_held (site_of h w) task.registers w.memory) refl f operand)
-      (others_hold h w here keeps _ t ends (steps_fit (site_of h w) f operand (local_here task w)))
-  turn_at_links e t (turns.is_taken {link = link} {byte = byte} input p here waiting) =
-      fills p (link_index link) byte input here waiting
-  turn_at_links e t (turns.is_kept {link = link} {byte = byte} input here nobody empty) =
-      let k = link_index link in
-      let v = with_input k (record input { kept = Some byte }) w in
-      let r = rouse input.enabled v in
-      waits_as r.tasks r.tasks r.roles v.links r.links refl (rouse_only input.enabled v).links
-      (waits_roused input.enabled v r.roles v.links
-      (subst (λ (rs : List Role). AreAtLinks w.tasks rs v.links) (sym (rouse_only input.enabled v).roles)
-      (λ q x e done there is. still_at w.roles w.roles w.links v.links q e refl
-      (input_set w.links k input (record input { kept = Some byte }) q e here (λ word waits. waits))
-      (same_outputs w.links q e) (all q x e done there is))))
-  turn_at_links e t (turns.is_acknowledged {link = link} output p here waiting) =
-      frees p (with_output (link_index link) (record { waiting = None }) w) refl refl (λ q e differ. (
-        same_inputs w.links q e,
-        output_set w.links (link_index link) output (record { waiting = None }) q e here (λ word waits. absurd (
-            let z : Some p ≡ Some q = sym waiting ∙ waits in let same : p ≡ q = cc in differ same)),
-      ))
+      changed h w runs here keeps apart all ts rs cs ls x (others_hold h w keeps ts rs cs ls x)
+  passed ts rs cs ls (change.fills_last p k link here waiting x) = frees p _ ls refl (λ q e differ. (
+    input_set w k link (record link { waiting = None }) q e here
+        (λ word waits. absurd (differ (only_one link.waiting p q waiting waits))),
+    same_outputs w.links q e,
+  ))
+  passed ts rs cs ls (change.fills_more p k x) = further p (input_word k) x
+  passed ts rs cs ls (change.keeps_byte k byte link tasks here empty roused) = λ p t e done at is.
+      let before = roused_was (λ c. c ≡ OnLink e done) (λ z. cc) w.tasks tasks link.enabled roused p t at is in
+      still_at w.roles w.roles w.links (with_link w k (record link { kept = Some byte })) p e refl
+      (input_set w k link (record link { kept = Some byte }) p e here (λ word waits. waits))
+      (same_outputs w.links p e) (all p before.0 e done before.1 before.2)
+  passed ts rs cs ls (change.acknowledges p k link here waiting x) = frees p _ ls refl (λ q e differ. (
+    same_inputs w.links q e,
+    output_set w k link None q e here (λ word waits. absurd (differ (only_one link.waiting p q waiting waits))),
+  ))
 
 loaded_at_links : (m : Contents) → AreAtLinks (loaded m).tasks (loaded m).roles (loaded m).links
 loaded_at_links m zero t e done here is =
@@ -595,7 +332,6 @@ loaded_at_links m (suc p) t e done here is = absurd (cc)
 
 pub who_waits_on_links_is_recorded : WhoWaitsOnLinksIsRecorded
 who_waits_on_links_is_recorded m es format =
-    every_world m (λ w. AreAtLinks w.tasks w.roles w.links) (loaded_at_links m)
-    (λ es e all. turn_at_links m (world_after m es) (reached m es)
-    (holdings_stay_apart m es format) all e
-    (turn m (world_after m es) e) (turn_happens m (world_after m es) e)) es
+    of_every_world m (λ ts rs cs ls. AreAtLinks ts rs ls) (loaded_at_links m)
+    (λ es ts rs cs ls all x. passed m (world_after m es) (reached m es) (holdings_stay_apart m es format) all ts rs cs
+    ls x) es

@@ -1,6 +1,7 @@
 -- Which bytes an event changes.
 use Rattle.std.proofs.Common.{◌≡◌, ℕ, zero, suc, ◌+◌, ◌%◌, ◌^◌, ◌<◌, ◌≤◌, ◌&&◌, Bool, true, false, if◌then◌else◌}
-use Rattle.std.proofs.Common.{◌⊎◌, inl, inr, ℤ, pos, negsuc, List, [], ◌∷◌, ◌++◌, length, Option, Some, None, is_some, Result, Ok}
+use Rattle.std.proofs.Common.{◌⊎◌, inl, inr, ℤ, pos, negsuc, List, [], ◌∷◌, ◌++◌, length, Option, Some, None, is_some}
+use Rattle.std.proofs.Common.{Result, Ok}
 use Rattle.std.proofs.Common.{Err, refl, sym, ap, ◌∙◌, subst, slice_get, arith, eqb-true}
 use Rattle.std.proofs.lemmas.Bool.{cases_lt, cases_eq, le-leb, lt-ltb}
 use Rattle.std.proofs.lemmas.List.{get_or_past}
@@ -21,11 +22,11 @@ use Rattle.machine_state.specs.declared.process.Condition.{Condition}
 use Rattle.machine_state.specs.declared.process.Condition.TheVariants.{Ready, Sending, Receiving, OnLink, Alternating}
 use Rattle.machine_state.specs.declared.process.Condition.TheVariants.{Stopped, Ended}
 use Rattle.machine_state.specs.declared.process.Exchange.{Exchange}
-use Rattle.machine_state.specs.Memory.{Memory, place_of, local_address, byte_at, with_byte, word_at, with_word}
+use Rattle.machine_state.specs.Memory.{Memory, place_of, local_address, byte_at, with_byte, with_word}
 use Rattle.machine_state.specs.Holding.{Holding, nothing, may_write, may_write_word, may_read_word}
 use Rattle.machine_state.specs.Spans.{Share, all_places, less, writes_place}
 use Rattle.machine_state.specs.World.{World, Role, Join, held, holding_at}
-use Rattle.machine_state.specs.Site.{Site, Local, Outcome, receives, sends}
+use Rattle.machine_state.specs.Site.{Site, Local, Outcome}
 use Rattle.machine_state.specs.LocalStep as step
 use Rattle.machine_state.specs.Moves.{wake, fill, fill_condition, dispatch, link_index, channel_at}
 use Rattle.machine_state.specs.Moves.{put, with_channel, with_input, with_output, with_condition}
@@ -36,21 +37,24 @@ use Rattle.machine_state.specs.declared.process.Mode.TheVariants.{Disabling, Sta
 use Rattle.prefix_decoder.specs.declared.function.Fun.{Fun}
 use Rattle.machine_state.specs.Joins.{Plan, Found, scheduling_places, scheduling_addresses, without_words}
 use Rattle.machine_state.specs.Joins.{word_passes, share_by, share_is_there, words_are_held, block_addresses}
-use Rattle.machine_state.specs.Joins.{channel_addresses, hidden, opened_by, later_plan, started, opened, ended, given_back}
+use Rattle.machine_state.specs.Joins.{channel_addresses, hidden, opened_by, later_plan, started, opened, ended}
+use Rattle.machine_state.specs.Joins.{given_back}
 use Rattle.machine_state.specs.Joins.{join_after, frame_address, named_from}
 use Rattle.machine_state.specs.Happens as happens
 use Rattle.machine_state.specs.Happens.{site_of, between, turn}
 use Rattle.machine_state.specs.Frame.{ChangesOwn, LeavesOthers}
 use Rattle.machine_state.specs.Writing.{outcome_of, of_waiting, Delivery, delivered_to, delivery_on, delivery_by}
 use Rattle.machine_state.specs.Writing.{delivery, is_delivered}
-use Rattle.machine_state.specs.Writing.{is_own, WritesWell, StepWrites, StepsWriteOwn, wanted_by, wanted_on, ArriveWrites}
+use Rattle.machine_state.specs.Writing.{is_own, WritesWell, StepWrites, StepsWriteOwn, wanted_by, wanted_on}
+use Rattle.machine_state.specs.Writing.{ArriveWrites}
 use Rattle.machine_state.specs.Writing.{ArrivalsWriteOne, AcknowledgementsWriteNothing}
 use Rattle.machine_state.proofs.Reading.{length-with_byte, byte_at-with_byte, byte_at-with_byte_other}
 use Rattle.machine_state.proofs.Combining.{and_true}
-use Rattle.machine_state.proofs.EveryInstruction.{Wants, here, scheduled, each_step}
-use Rattle.machine_state.proofs.Frame.{changes_more, changes_nothing, write_is_own, byte_is_own, copy_is_own, steps_change_own}
+use Rattle.machine_state.proofs.EveryInstruction.{Wants, OfAsked, wants_asked, here, scheduled, each_step}
+use Rattle.machine_state.proofs.Frame.{changes_more, changes_nothing, write_is_own, byte_is_own, copy_is_own}
+use Rattle.machine_state.proofs.Frame.{steps_change_own}
 use Rattle.machine_state.proofs.SpanLaws.{both_true, runs_tell}
-use Rattle.machine_state.proofs.Moving.{on_task_only, wake_only, rouse_only, on_role_quiet, joined_quiet}
+use Rattle.machine_state.proofs.Moving.{on_task_only, wake_only, rouse_only, on_role_only, joined_quiet}
 use Rattle.machine_state.proofs.Starting.{first_tests, later_tests}
 use Rattle.machine_state.proofs.Turns as turns
 use Rattle.machine_state.proofs.Turns.{Moved, Ends, Happened, local_here, plan_of, turn_happens}
@@ -109,43 +113,18 @@ all_at test place (suc n) (suc i) all inside =
 -- ---- what an outcome says of a message: it has a byte at least
 
 abbrev pub Message : Site → Memory → Outcome → Type 0
-Message s old (receives e l) = all_places (may_write s.holding) (place_of e.address) e.length ≡ true × (1 ≤ e.length)
-Message s old (sends e l) =
-    ((i : ℕ) → i < e.length → byte_at l.memory (place_of e.address + i) ≡ byte_at old (place_of e.address + i))
-    × (1 ≤ e.length)
-Message s old _ = ⊤
+Message s old = OfAsked
+    (λ e l. (all_places (may_write s.holding) (place_of e.address) e.length ≡ true) × (1 ≤ e.length))
+    (λ e l. ((i : ℕ) → i < e.length
+    → byte_at l.memory (place_of e.address + i) ≡ byte_at old (place_of e.address + i)) × (1 ≤ e.length)) (λ address. ⊤)
 
 pub messages : (s : Site) (r : Registers) (old : Memory)
     → Wants s r old old (λ r m n. m ≡ n) (λ o other. Message s old o)
-messages s r old = record {
-  same_word = λ r m n place k own. ap (λ (m : Memory). word_at m place) k;
-  same_byte = λ r m n place k own. ap (λ (m : Memory). byte_at m place) k;
-  stack = λ r m n stack k. k;
-  workspace = λ r m n e k. k;
-  word = λ r m n place v k own. ap (λ (m : Memory). with_word m place v) k;
-  byte = λ r m n place v k own. ap (λ (m : Memory). with_byte m place v) k;
-  copy = λ r m n source to count k read own. ap (λ (m : Memory). step.copied m source to count m) k;
-  at_fault = λ kind. tt;
-  at_goes = λ r m n k. tt;
-  at_jumps = λ to r m n k. tt;
-  at_lands = λ to r m n k. tt;
-  at_stops = λ r m n k. tt;
-  at_receives = λ e asked own k. (own, asked.some);
-  at_sends = λ e asked own defined k. (
-    (λ i inside. kept_scheduled r old (place_of e.address + i)
-        (all_at (λ place. is_some (byte_at (scheduled r old) place)) (place_of e.address) e.length i defined inside)),
-    asked.some,
-  );
-  at_starts = λ to workspace r m n even k. tt;
-  at_joins = λ block r m n k. tt;
-  at_begins = λ r m n k. tt;
-  at_enables_channel = λ guard at r m n k held. tt;
-  at_enables_skip = λ guard r m n k. tt;
-  at_waits = λ r m n k. tt;
-  at_disables_channel = λ guard at distance r m n k held. tt;
-  at_disables_skip = λ guard distance r m n k. tt;
-  at_ends_alternation = λ to r m n k. tt;
-}
+messages s r old = wants_asked s r old _ _ _ (λ e asked own. (own, asked.some)) (λ e asked defined. (
+  (λ i inside. kept_scheduled r old (place_of e.address + i)
+      (all_at (λ place. is_some (byte_at (scheduled r old) place)) (place_of e.address) e.length i defined inside)),
+  asked.some,
+)) (λ at held. tt)
 
 -- ---- a message that is copied
 
@@ -348,10 +327,10 @@ module _ (h : Here) (w : World) where
 
   started_memory : (plan : Plan) (found : Found) (workspace : ℕ) (l : Local) (v : World)
       → (started h plan found workspace l v).memory ≡ without_words (scheduling_addresses workspace) l.memory
-  started_memory plan found workspace l v = (on_role_quiet h.process
+  started_memory plan found workspace l v = (on_role_only h.process
       (λ role. record role { opened = Some (join_after (length v.memory) plan found (length v.tasks)) })
       (put h.process (record h.from { registers = between h.next l.registers; mode = Starting })
-      (without_words (scheduling_addresses workspace) l.memory) v)).memory
+      (without_words (scheduling_addresses workspace) l.memory) v)).quiet.memory
 
   moved_writes : (o : Outcome) (after : World) → Moved h w o after → LeavesOthers hold w.memory o
       → Message (site_of h w) w.memory o → Writes o after.memory
@@ -416,7 +395,7 @@ module _ (h : Here) (w : World) where
       only_own hold None w.memory l.memory _ own refl (joined_quiet h h.process j par (ended h l w)).memory
   moved_writes o after (turns.joins_opener block l opener j par none by is row same) own says =
       only_own hold None w.memory l.memory _ own refl ((joined_quiet h opener j par (given_back h (ended h l w))).memory
-      ∙ (on_role_quiet h.process (λ role. record role { own = nothing }) (ended h l w)).memory)
+      ∙ (on_role_only h.process (λ role. record role { own = nothing }) (ended h l w)).quiet.memory)
   moved_writes o after (turns.it_begins l) own says = only_own hold None w.memory l.memory _ own refl refl
   moved_writes o after (turns.it_enables guard address l s holds (turns.on_channel c inside there) once) own says =
       only_own hold None w.memory l.memory _ own refl refl
