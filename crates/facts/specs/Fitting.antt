@@ -5,7 +5,6 @@ use Rattle.std.specs.Prelude.{◌≡◌, ℕ, ◌+◌, ◌*◌, ◌≤◌, ◌<�
 use Rattle.std.specs.Int.{w32}
 use Rattle.prefix_decoder.specs.declared.function.Fun.{Fun}
 use Rattle.module_format.specs.Contents.{Contents, Label, label_at}
-use Rattle.certificate.specs.Rights.{may_write_word, may_read_word}
 use Rattle.machine_state.specs.declared.process.Mode as machine
 use Rattle.machine_state.specs.Memory.{Memory}
 use Rattle.machine_state.specs.Holding.{Holding}
@@ -18,14 +17,13 @@ use Rattle.states.specs.declared.rule.Rule.{Rule}
 use Rattle.states.specs.State.{State, label_state}
 use Rattle.facts.specs.Rules as rule
 use Rattle.facts.specs.Rules.{Ruling, falls, leads, ends, breaks}
-use Rattle.facts.specs.Meaning.{Activation, with_turns, HasFrame, Knows, SameMode, IsWellFormed}
+use Rattle.facts.specs.Meaning.{Activation, with_turns, words_of, HasFrame, Knows, SameMode, IsWellFormed}
 
 -- what holds behind an instruction: the frame is still there, and the state is known
 pub record After (m : Contents) (h : Holding) (mode : machine.Mode) (act : Activation) (s : State)
     (l : Local) : Type 0 where
-  pub frame : HasFrame h (length l.memory) (may_write_word m s.context)
-      (may_read_word m s.context) act.origin s.depth l.registers.workspace
-  pub knows : Knows m (may_read_word m s.context) s act l.registers l.memory
+  pub frame : HasFrame h (length l.memory) (words_of m s) act.layout.origin s.depth l.registers.workspace
+  pub knows : Knows m (words_of m s).reads act s.stack s.frame l.registers.stack l.memory
   pub same_mode : SameMode s.mode mode
 
 -- where an instruction runs: the module, what the process holds, its activation, its mode, memory and number before,

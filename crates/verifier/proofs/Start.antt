@@ -7,7 +7,6 @@ use Rattle.std.proofs.lemmas.Bool.{le-leb}
 use Rattle.std.proofs.lemmas.Int.{ints}
 use Rattle.std.specs.Prelude.{slice_get, int_le, int_lt}
 use Rattle.module_format.specs.Contents.{Contents, Par}
-use Rattle.certificate.specs.Rights as rights
 use Rattle.certificate.specs.Rights.{has_word}
 use Rattle.module_format.specs.Contexts.{root_context, own_context, branch_count, owner, context_at}
 use Rattle.machine_state.specs.declared.process.Mode.TheVariants as machine_modes
@@ -18,9 +17,10 @@ use Rattle.machine_state.specs.Holding.{may_write, may_write_word}
 use Rattle.machine_state.specs.World.{Role, padding, loaded_memory, root_holding, root_task, root_role, quiet_links}
 use Rattle.machine_state.specs.World.{loaded}
 use Rattle.machine_state.specs.Site.{Local}
-use Rattle.states.specs.State.{root_state}
+use Rattle.states.specs.State.{unknown, root_state}
 use Rattle.verifier.specs.Certified.{begins, IsCertified}
-use Rattle.facts.specs.Meaning.{Activation, means_unknown, nothing_known, IsOwnWord, HasFrame, both_plain, IsWellFormed}
+use Rattle.facts.specs.Meaning.{Activation, means_unknown, nothing_known, IsOwnWord, words_of, HasFrame, from_nowhere}
+use Rattle.facts.specs.Meaning.{MeansKnown, both_plain, IsWellFormed}
 use Rattle.verifier.specs.Point.{Decodes}
 use Rattle.machine_state.specs.Apart.{AllApart}
 use Rattle.verifier.specs.Invariant.{Meets, it_lives, Holds}
@@ -95,8 +95,8 @@ root_word m k h =
     }
 
 root_frame : (m : Contents) → IsWellFormed m
-    → HasFrame (root_holding m) (length (loaded_memory m)) (rights.may_write_word m 0) (rights.may_read_word m 0)
-    (pos (4 * m.base)) (pos 0) (data_start + 4 * m.base)
+    → HasFrame (root_holding m) (length (loaded_memory m)) (words_of m (root_state m)) (pos (4 * m.base)) (pos 0)
+    (data_start + 4 * m.base)
 root_frame m wf = record {
   small = rw (memory_length m) (omega (arith, wf.few_words, wf.short_code, wf.few_constants));
   own = λ k h. root_word m k (and-parts _ _ h).0;
@@ -153,19 +153,21 @@ module _ (m : Contents) (d : Decodes m) (wf : IsWellFormed m) (c : IsCertified m
 
   -- the root has no parameters, returns nowhere, and is in no loop
   abbrev root_activation : Activation
-  root_activation = record { origin = pos (4 * m.base); starts = λ j. 0; back = 0; turns = λ k. 0 }
+  root_activation = record {
+    layout = record { origin = pos (4 * m.base); starts = λ j. 0; back = 0 };
+    turns = λ k. 0;
+  }
+
+  -- nothing is known of a register
+  nothing_there : MeansKnown m (words_of m (root_state m)).reads root_activation.layout (loaded_memory m) unknown None
+  nothing_there = record { fact = means_unknown m root_activation.layout None; source = from_nowhere }
 
   root_after : After m (root_holding m) machine_modes.Plain root_activation (root_state m) root_local
   root_after = record {
     frame = root_frame m wf;
     knows = record {
-      stack = record {
-        a = means_unknown m root_activation None;
-        b = means_unknown m root_activation None;
-        c = means_unknown m root_activation None;
-      };
-      words = λ k. nothing_known m root_activation k _;
-      within = λ k out. refl;
+      registers = record { a = nothing_there; b = nothing_there; c = nothing_there };
+      words = λ k inside. nothing_known m root_activation k _;
     };
     same_mode = both_plain;
   }
