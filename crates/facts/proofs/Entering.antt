@@ -80,12 +80,15 @@ module _ (m : Contents) (layout : Layout) where
 
 -- ---- facts of words
 
-same_loop : (loop other : CountedLoop) → is_same_loop loop other ≡ true
-    → (loop.base ≡ other.base) × (loop.count ≡ other.count)
+pub same_loop : (loop other : CountedLoop) → is_same_loop loop other ≡ true
+    → (loop.base ≡ other.base) × (loop.count ≡ other.count) × (loop.weight ≡ other.weight)
 same_loop loop other t =
     let all = and-parts _ _ t in
-    let first = and-parts _ _ all.0 in
-    (same_word loop.base other.base first.0, same_number loop.count other.count first.1)
+    let first = and-parts _ _ all.0 in (
+      same_word loop.base other.base first.0,
+      same_number loop.count other.count first.1,
+      same_number loop.weight other.weight all.1,
+    )
 
 -- a number that is exactly this one
 constant_means : (m : Contents) (layout : Layout) (f : Fact) (v : Option ℤ) (number : ℤ) → is_constant f number ≡ true
@@ -177,18 +180,18 @@ words_said facts entry k (suc more) t low high =
       | inr p ↦ p.1
     ]
 
-entry_here : (entry : Entry) (entries : List Entry) (k : ℤ) → is_about entry k ≡ true
+pub entry_here : (entry : Entry) (entries : List Entry) (k : ℤ) → is_about entry k ≡ true
     → entry_fact (entry ∷ entries) k ≡ said_of entry.fact (is_word entry.word k)
 entry_here entry entries k e =
     ap (λ (b : Bool). cond b (said_of entry.fact (is_word entry.word k)) (entry_fact entries k)) e
 
-entry_later : (entry : Entry) (entries : List Entry) (k : ℤ) → is_about entry k ≡ false
+pub entry_later : (entry : Entry) (entries : List Entry) (k : ℤ) → is_about entry k ≡ false
     → entry_fact (entry ∷ entries) k ≡ entry_fact entries k
 entry_later entry entries k e =
     ap (λ (b : Bool). cond b (said_of entry.fact (is_word entry.word k)) (entry_fact entries k)) e
 
 -- what is known says of each word what the entries say
-entries_said : (facts : Facts) (entries : List Entry) (k : ℤ) → entries_hold facts entries ≡ true
+pub entries_said : (facts : Facts) (entries : List Entry) (k : ℤ) → entries_hold facts entries ≡ true
     → says (facts k) (entry_fact entries k) ≡ true
 entries_said facts [] k t = refl
 entries_said facts (entry ∷ entries) k t =
@@ -361,7 +364,7 @@ agrees_tells s t e =
       whole = p.1;
     }
 
-pub below_tells : (s : State) (t : Label) (price : ℕ) → below s t ≡ Ok price → (t.number ≤ s.number) × IsBelow s t
+pub below_tells : (s : State) (t : Label) (price : ℕ) → below s t ≡ Ok price → (cost s t ≤ s.number) × IsBelow s t
 unfolding below
 below_tells s t price h = first (ltb s.number (cost s t)) refl h
   where
@@ -379,10 +382,9 @@ below_tells s t price h = first (ltb s.number (cost s t)) refl h
 
     first : (b : Bool) → ltb s.number (cost s t) ≡ b
         → ◌≡◌ {A = Result ℕ Rule} (if b then Err rules.Budget else
-        (if agrees s t then Ok (cost s t) else Err rules.Label)) (Ok price) → (t.number ≤ s.number) × IsBelow s t
+        (if agrees s t then Ok (cost s t) else Err rules.Label)) (Ok price) → (cost s t ≤ s.number) × IsBelow s t
     first true e g = absurd (cc)
-    first false e g = let paid : cost s t ≤ s.number =
-        not_below s.number (cost s t) e in (omega arith, second (agrees s t) refl g)
+    first false e g = (not_below s.number (cost s t) e, second (agrees s t) refl g)
 
 -- what holds behind an instruction holds as the label's state, where the state is below the label
 pub label_after : (m : Contents) (h : Holding) (mode : machine.Mode) (act : Activation) (s : State) (t : Label)

@@ -48,12 +48,13 @@ use Rattle.facts.specs.Rules as rule
 use Rattle.facts.specs.Rules.{Ruling, falls, leads, ends, breaks}
 use Rattle.facts.specs.Meaning.{Layout, Activation, Means, says_nothing, is_number, frame_word, IsOwnWord, Words}
 use Rattle.facts.specs.Meaning.{words_of, HasFrame, ComesFrom, from_nowhere, from_word, MeansWord, MeansKnown}
-use Rattle.facts.specs.Meaning.{IsWellFormed, SameMode, both_plain, label_turns}
+use Rattle.facts.specs.Meaning.{IsWellFormed, SameMode, both_plain, dues, owed, label_turns}
 use Rattle.facts.specs.Fitting.{After, Here, rule_site, step_site, Fits, it_falls, it_leads, it_ends, it_breaks}
 use Rattle.facts.specs.Fitting.{HasNext, RulesFitSteps}
 use Rattle.facts.proofs.Words.{local_place, frame_word_is, stored_means, plain_means, knows_changed, write_follows}
 use Rattle.facts.proofs.Results.{ResultMeans, result_means, unary_result_means}
 use Rattle.facts.proofs.Entering.{below_tells, label_after}
+use Rattle.facts.proofs.Dues.{changed_dues, written_owed, label_owed}
 
 abbrev pub FitsIf : Here → Ruling → Outcome → Type 0
 FitsIf x r o = HasNext x r → Fits x r o
@@ -106,8 +107,8 @@ pub same_frame : {h : Holding} {old new : ℕ} {words : Words} {origin depth : �
 same_frame {h} {old} {new} {words} {origin} {depth} {workspace} e f =
     subst (λ size. HasFrame h size words origin depth workspace) e f
 
-enough : (n k total : ℕ) → ltb n k ≡ false → n ≡ total → n - k + k ≡ total
-enough n k total t e = elim (leb_tells (suc n) k) [
+enough : (n k due total : ℕ) → ltb n k ≡ false → n + due ≤ total → n - k + due + k ≤ total
+enough n k due total t e = elim (leb_tells (suc n) k) [
   | inl p ↦ let no' : true ≡ false = sym p.0 ∙ t in absurd
       (cc)
   | inr p ↦ let high : k ≤ n = omega (arith, p.1) in omega arith
@@ -236,7 +237,7 @@ module _ (x : Here) where
       (λ t. let no : true ≡ false = sym held ∙ ap (may_read_word x.h) (sym is) ∙ t in absurd (cc))
 
   goes_on_fits : (s : State) (l : Local) → After x.m x.h x.mode x.act s l → ChangesOwn x.h x.memory l.memory
-      → s.number ≡ x.number → FitsIf x (rule.goes_on (rule_site x) s) (step.goes_on (step_site x) l)
+      → owed s x.act ≤ x.owed → FitsIf x (rule.goes_on (rule_site x) s) (step.goes_on (step_site x) l)
   unfolding rule.goes_on rule.pays step.goes_on
   goes_on_fits s l a changes n =
       on_rule_test (ltb s.number x.len) _ _ _
@@ -244,7 +245,7 @@ module _ (x : Here) where
       (λ t next. let low = next _ refl in
       on_step_test (ltb (x.at + x.len) (length x.m.code)) (falls (record s { number = s.number - x.len })) _ _
       (λ u next. it_falls low (paid a) changes
-      (enough s.number x.len x.number t n))
+      (enough s.number x.len (dues s.frame x.act.turns) x.owed t n))
       (λ u. absurd (below_not _ _ low u)) next)
 
   -- ---- a write to a word of the frame
@@ -286,7 +287,7 @@ module _ (x : Here) where
   schedules_fits : (s : State) (l : Local) (r : State → Ruling) (o : Local → Outcome) → After x.m x.h x.mode x.act s l
       → ChangesOwn x.h x.memory l.memory
       → ((s' : State) (memory : Memory) → After x.m x.h x.mode x.act s' (record l { memory = memory })
-      → ChangesOwn x.h x.memory memory → s'.number ≡ s.number → FitsIf x (r s') (o (record l { memory = memory })))
+      → ChangesOwn x.h x.memory memory → owed s' x.act ≤ owed s x.act → FitsIf x (r s') (o (record l { memory = memory })))
       → FitsIf x (rule.schedules (rule_site x) s r) (step.schedules (step_site x) l o)
   unfolding rule.schedules step.schedules written
   schedules_fits s l r o a changes go =
@@ -299,13 +300,18 @@ module _ (x : Here) where
       write_step (written (s.depth +ℤ negsuc 1) Unknown (written (s.depth +ℤ negsuc 0) Unknown s))
       (record l { memory = m2 }) (negsuc 2) Unknown None _ _ a2 c2 (omega (arith, ints)) t2 (undefined_means m2)
       (λ m3 a3 c3.
+      let one = written_owed (s.depth +ℤ negsuc 0) Unknown s x.act in
+      let two = written_owed (s.depth +ℤ negsuc 1) Unknown (written (s.depth +ℤ negsuc 0) Unknown s) x.act in
+      let three = written_owed (s.depth +ℤ negsuc 2) Unknown
+      (written (s.depth +ℤ negsuc 1) Unknown (written (s.depth +ℤ negsuc 0) Unknown s)) x.act in
       go (written (s.depth +ℤ negsuc 2) Unknown
-      (written (s.depth +ℤ negsuc 1) Unknown (written (s.depth +ℤ negsuc 0) Unknown s))) m3 a3 c3 refl))))))
+      (written (s.depth +ℤ negsuc 1) Unknown (written (s.depth +ℤ negsuc 0) Unknown s))) m3 a3 c3
+      (omega (arith, one, two, three))))))))
 
   -- ---- leading to a label
 
   leads_fits : (wf : IsWellFormed x.m) (to : ℕ) (s : State) (l : Local) → After x.m x.h x.mode x.act s l
-      → ChangesOwn x.h x.memory l.memory → s.number + x.len ≡ x.number
+      → ChangesOwn x.h x.memory l.memory → owed s x.act + x.len ≤ x.owed
       → FitsIf x (rule.leads_to (rule_site x) to s) (step.leads_to (step_site x) to l)
   unfolding rule.leads_to step.leads_to
   leads_fits wf to s l a changes n =
@@ -318,9 +324,10 @@ module _ (x : Here) where
       on_below t e (Ok cost) is =
           let low = wf.labels to t e in
           let g = below_tells s t cost is in
+          let less = label_owed s t cost x.act (wf.pairs to t e) is in
           on_step_test (ltb to (length x.m.code)) (leads to) _ _
           (λ u next. it_leads (label_turns s.frame t.entries x.act.turns) e low
-          (label_after x.m x.h x.mode x.act s t l wf to e g.1 a) changes (omega (arith, g.0)))
+          (label_after x.m x.h x.mode x.act s t l wf to e g.1 a) changes (omega (arith, n, less)))
           (λ u. absurd (below_not to (length x.m.code) low u))
 
       on_label : (o : Option Label) → label_at x.m to ≡ o
@@ -370,7 +377,7 @@ module _ (x : Here) where
   }
 
   module _ (wf : IsWellFormed x.m) (s : State) (l : Local) (a : After x.m x.h x.mode x.act s l)
-      (changes : ChangesOwn x.h x.memory l.memory) (n : s.number ≡ x.number) where
+      (changes : ChangesOwn x.h x.memory l.memory) (n : owed s x.act ≤ x.owed) where
     ldc_fits : (e : ℤ) → FitsSigned w32 e
         → FitsIf x (rule.goes_on (rule_site x) (rule.push (rule.constant e) s))
         (step.goes_on (step_site x) (step.push (Some e) l))
@@ -410,11 +417,12 @@ module _ (x : Here) where
         write_step s l e s.stack.a.fact (Some v) _ _ a changes fits t
         (λ place inside. stored_means x.m x.act.layout s.stack.a.fact v l.memory place inside means) (λ memory b c.
         goes_on_fits (rule.pop (written (s.depth +ℤ e) s.stack.a.fact s)) (step.pop (record l { memory = memory }))
-        (after_stack b (record { a = b.knows.registers.b; b = b.knows.registers.c; c = unknown_means })) c n))))))
+        (after_stack b (record { a = b.knows.registers.b; b = b.knows.registers.c; c = unknown_means })) c
+        (omega (arith, n, changed_dues (one_word (s.depth +ℤ e) s.stack.a.fact) s.frame x.act.turns))))))))
 
     -- what A becomes
     becomes_fits : (s' : State) (l' : Local) (fact : Option Fact) (result : Option ℤ) → After x.m x.h x.mode x.act s' l'
-        → ChangesOwn x.h x.memory l'.memory → s'.number ≡ x.number → ResultMeans x.m x.act.layout fact result
+        → ChangesOwn x.h x.memory l'.memory → owed s' x.act ≤ x.owed → ResultMeans x.m x.act.layout fact result
         → FitsIf x (rule.becomes (rule_site x) fact s')
         (step.computes result (λ v. step.goes_on (step_site x) (step.with_a v l')))
     unfolding rule.becomes step.computes
@@ -435,12 +443,13 @@ module _ (x : Here) where
         (result_means x.m x.act.layout op s.stack.a.fact (Number e e) v e means
         (is_number (omega (arith, ints)) (omega (arith, ints)) fits))))
 
-    pays_fits : (s' : State) (r : State → Ruling) (o : Outcome) → s'.number ≡ s.number
-        → (s'.number - x.len + x.len ≡ x.number → FitsIf x (r (record s' { number = s'.number - x.len })) o)
+    pays_fits : (s' : State) (r : State → Ruling) (o : Outcome) → owed s' x.act ≤ owed s x.act
+        → (s'.number - x.len + dues s'.frame x.act.turns + x.len ≤ x.owed
+        → FitsIf x (r (record s' { number = s'.number - x.len })) o)
         → FitsIf x (rule.pays (rule_site x) s' r) o
     unfolding rule.pays
     pays_fits s' r o e go = on_rule_test (ltb s'.number x.len) _ _ _ (λ t next. it_breaks)
-        (λ t. go (enough s'.number x.len x.number t (e ∙ n)))
+        (λ t. go (enough s'.number x.len (dues s'.frame x.act.turns) x.owed t (omega (arith, e, n))))
 
     j_fits : (e : ℤ) → FitsSigned w32 e
         → FitsIf x (rule.instruction_rule (rule_site x) instructions.Jump e s)

@@ -1,7 +1,7 @@
 -- What the facts of a state mean of a process.
 use Rattle.std.specs.Prelude.{◌≡◌, ⊤, ℕ, ◌+◌, ◌*◌, ◌-◌, ◌≤◌, ◌<◌, ◌==◌, ℤ, pos, negsuc, ◌+ℤ◌, ◌-ℤ◌, ◌*ℤ◌, ◌≤ℤ◌}
 use Rattle.std.specs.Prelude.{FitsSigned, Bool, true, not, ◌&&◌, int_le, IsTrue, if◌then◌else◌, List, length, Option}
-use Rattle.std.specs.Prelude.{Some, None}
+use Rattle.std.specs.Prelude.{zero, suc, neg_ℤ, Some, None}
 use Rattle.std.specs.Int.{w32, int_wrap}
 use Rattle.std.specs.List.{AllByRecursion}
 use Rattle.module_format.specs.declared.fact.Fact.{Fact}
@@ -172,6 +172,32 @@ pub record Knows (m : Contents) (counts : ℤ → Bool) (act : Activation) (said
 -- the modes of a state and of a process (those of alternation and of starts come with them)
 pub data SameMode : states.Mode → machine.Mode → Type 0 where
   both_plain : SameMode states_modes.Plain machine_modes.Plain
+
+-- ---- what is owed
+
+-- what the loop whose index is in a word has still to pay: its weight for each turn that is left but this one
+abbrev pub loop_due : WordFact → ℕ → ℕ
+loop_due (Alone fact) turns = 0
+loop_due (Index loop) turns = loop.weight * (turns - 1)
+loop_due (Count loop) turns = 0
+
+-- what the loops have still to pay whose indices are in so many words from this one on
+abbrev pub dues_from : Facts → (ℤ → ℕ) → ℤ → ℕ → ℕ
+dues_from facts turns word zero = 0
+dues_from facts turns word (suc more) =
+    loop_due (facts word) (turns word) + dues_from facts turns (word +ℤ pos 1) more
+
+-- No frame has words farther from its word 0.
+unfoldable pub farthest_word : ℕ
+farthest_word = 16384
+
+-- what the loops of a frame have still to pay
+unfoldable pub dues : Facts → (ℤ → ℕ) → ℕ
+dues facts turns = dues_from facts turns (neg_ℤ (pos farthest_word)) (2 * farthest_word)
+
+-- What a process owes that is in a state in an activation: its number, and what the loops there have still to pay.
+abbrev pub owed : State → Activation → ℕ
+owed s act = s.number + dues s.frame act.turns
 
 -- ---- loops at a label
 

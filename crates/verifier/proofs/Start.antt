@@ -19,7 +19,7 @@ use Rattle.machine_state.specs.World.{loaded}
 use Rattle.machine_state.specs.Site.{Local}
 use Rattle.states.specs.State.{unknown, root_state}
 use Rattle.verifier.specs.Certified.{begins, IsCertified}
-use Rattle.facts.specs.Meaning.{Activation, means_unknown, nothing_known, IsOwnWord, words_of, HasFrame, from_nowhere}
+use Rattle.facts.specs.Meaning.{owed, Activation, means_unknown, nothing_known, IsOwnWord, words_of, HasFrame, from_nowhere}
 use Rattle.facts.specs.Meaning.{MeansKnown, both_plain, IsWellFormed}
 use Rattle.verifier.specs.Point.{Decodes}
 use Rattle.machine_state.specs.Apart.{AllApart}
@@ -27,6 +27,7 @@ use Rattle.verifier.specs.Invariant.{Meets, it_lives, Holds}
 use Rattle.machine_state.specs.Waiting.{Waiters}
 use Rattle.verifier.specs.Headline.{RunsWell}
 use Rattle.facts.specs.Fitting.{After}
+use Rattle.facts.proofs.Dues.{nothing_due}
 use Rattle.facts.proofs.Local.{readable}
 use Rattle.states.proofs.RowFacts.{and-parts, le-from, lt-from}
 use Rattle.verifier.proofs.Steps.{enter, lives_at}
@@ -179,23 +180,23 @@ module _ (m : Contents) (d : Decodes m) (wf : IsWellFormed m) (c : IsCertified m
       let lives = lives_at m d wf c (root_holding m) machine_modes.Plain en.act 0
       (Some (root_state m)) en.state root_local begins wf.some_code en.stands en.after in
       record {
-        dues = en.state.number ∷ [];
+        dues = owed en.state en.act ∷ [];
         table = record {
           each = λ p t h.
               let x = only (root_task m) t p h in
               record {
                 role = root_role m;
                 has_role = ap (λ n. slice_get (root_role m ∷ []) n) x.0;
-                due = en.state.number;
-                has_due = ap (λ n. slice_get (en.state.number ∷ []) n) x.0;
-                meets = subst (λ u. Meets m (root_holding m) (loaded_memory m) u en.state.number) x.1 (it_lives lives);
+                due = owed en.state en.act;
+                has_due = ap (λ n. slice_get (owed en.state en.act ∷ []) n) x.0;
+                meets = subst (λ u. Meets m (root_holding m) (loaded_memory m) u (owed en.state en.act)) x.1 (it_lives lives);
               };
         };
         line = record { ready = (record { task = root_task m; here = refl; ready = refl }, tt); once = (tt, tt) };
         few = omega arith;
         waiters = no_waiters m;
         apart = root_apart m;
-        owed = omega (arith, en.paid);
+        owed = let none = nothing_due root_activation.turns in omega (arith, en.paid, none);
         well = refl;
       }
 

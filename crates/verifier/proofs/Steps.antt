@@ -32,7 +32,7 @@ use Rattle.states.specs.State.{State, Facts, label_state}
 use Rattle.states.specs.Below.{below}
 use Rattle.facts.specs.Rules.{Ruling, falls, breaks, rule_at}
 use Rattle.verifier.specs.Certified.{falling, state_at, Reaches, follows, IsCertified}
-use Rattle.facts.specs.Meaning.{Activation, with_turns, at_label, word_at_place, frame_word, words_of}
+use Rattle.facts.specs.Meaning.{owed, Activation, with_turns, at_label, word_at_place, frame_word, words_of}
 use Rattle.facts.specs.Meaning.{ComesFrom, from_nowhere, from_word, from_test, MeansKnown, Knows, IsWellFormed}
 use Rattle.machine_state.specs.Frame.{ChangesOwn}
 use Rattle.verifier.specs.Point.{IsReading, Stands, Decodes}
@@ -42,6 +42,7 @@ use Rattle.states.proofs.RowFacts.{and-parts}
 use Rattle.facts.specs.Fitting.{After, Here, step_site, Fits, it_falls, it_leads, it_ends, it_breaks}
 use Rattle.facts.proofs.Local.{same_frame, elsewhere, function_fits}
 use Rattle.facts.proofs.Entering.{below_tells, label_after}
+use Rattle.facts.proofs.Dues.{label_owed}
 use Rattle.verifier.proofs.Given.{nothing_given, is_given, given_label, given_none, label_is_start}
 
 same_ok : {A E : Type 0} (r : Result A E) (x y : A) → r ≡ Ok x → r ≡ Ok y → x ≡ y
@@ -189,7 +190,7 @@ after_some (Some f) g e n rest i some h =
     let fg : f ≡ g = cc in
     (sym fg ∙ ap (λ (j : Instr). j.fun) is, ap (λ (j : Instr). j.operand) is, ap (λ (j : Instr). j.len) is)
 
-fits_pays : (x : Here) {r : Ruling} {o : Outcome} → Fits x r o → ((v : Rule) → r ≡ breaks v → ⊥) → x.len ≤ x.number
+fits_pays : (x : Here) {r : Ruling} {o : Outcome} → Fits x r o → ((v : Rule) → r ≡ breaks v → ⊥) → x.len ≤ x.owed
 fits_pays x (it_falls low after changes pay) whole = omega arith
 fits_pays x (it_leads turns label low after changes pay) whole = omega arith
 fits_pays x (it_ends changes pay) whole = pay
@@ -215,20 +216,20 @@ module _ (m : Contents) (d : Decodes m) (wf : IsWellFormed m) (c : IsCertified m
       ]
 
   -- the state behind, where one falls in, and its activation
-  pub record Entered (h : Holding) (mode : machine.Mode) (at number : ℕ) (before : Option State)
+  pub record Entered (h : Holding) (mode : machine.Mode) (at most : ℕ) (before : Option State)
       (l : Local) : Type 0 where
     pub state : State
     pub stands : state_at m at before ≡ Some state
     pub act : Activation
     pub after : After m h mode act state l
-    pub paid : state.number ≤ number
+    pub paid : owed state act ≤ most
 
   -- at a label, or where the tables give no state
   enter_on : (h : Holding) (mode : machine.Mode) (act : Activation) (at : ℕ) (s : State) (l : Local) (cost : ℕ)
       (label : Option Label) (begun : Option Begun) → label_at m at ≡ label → procedure_at m at ≡ begun
       → After m h mode act s l → elim label as (λ o. Result ℕ Rule)
       [ None ↦ cond (is_some begun) (Err rules.Flow) (Ok 0) | Some t ↦ below s t ] ≡ Ok cost
-      → Entered h mode at s.number (Some s) l
+      → Entered h mode at (owed s act) (Some s) l
   enter_on h mode act at s l cost None None no_label no_procedure a ok = record {
     state = s;
     stands = nothing_given m at (Some s) (given_none m at no_label no_procedure);
@@ -244,11 +245,11 @@ module _ (m : Contents) (d : Decodes m) (wf : IsWellFormed m) (c : IsCertified m
         stands = is_given m at (Some s) (label_state t) (given_label m at t e);
         act = at_label s t act;
         after = label_after m h mode act s t l wf at e b.1 a;
-        paid = b.0;
+        paid = label_owed s t cost act (wf.pairs at t e) ok;
       }
 
   pub enter : (h : Holding) (mode : machine.Mode) (act : Activation) (at : ℕ) (s : State) (l : Local)
-      → Reaches m at (Some s) → at < length m.code → After m h mode act s l → Entered h mode at s.number (Some s) l
+      → Reaches m at (Some s) → at < length m.code → After m h mode act s l → Entered h mode at (owed s act) (Some s) l
   enter h mode act at s l r low a =
       let holds = c.holds.each at (Some s) low r in
       enter_on h mode act at s l holds.cost (label_at m at) (procedure_at m at) refl refl a holds.enters
@@ -260,7 +261,7 @@ module _ (m : Contents) (d : Decodes m) (wf : IsWellFormed m) (c : IsCertified m
         registers = between at l.registers;
         mode = mode;
         condition = Ready;
-      }) s.number
+      }) (owed s act)
   lives_at h mode act at before s l r low st a =
       let holds = c.holds.each at before low r in
       record {
@@ -295,7 +296,7 @@ module _ (m : Contents) (d : Decodes m) (wf : IsWellFormed m) (c : IsCertified m
         act = act;
         mode = t.mode;
         memory = memory;
-        number = s.number;
+        owed = owed s act;
         at = t.registers.began;
         len = i.len;
       }
@@ -308,7 +309,7 @@ module _ (m : Contents) (d : Decodes m) (wf : IsWellFormed m) (c : IsCertified m
       let x = here_of h p.act memory t p.state p.instr in
       function_fits x wf p.state (record { registers = t.registers; memory = memory })
       p.here
-      (record { size = refl; others = λ place e. refl }) refl
+      (record { size = refl; others = λ place e. refl }) (omega arith)
       p.instr.fun p.instr.operand (d.fits t.registers.began p.instr p.reading.spelled)
       (has_next t.registers.began p.before p.state p.instr p.reached p.stands p.reading.spelled)
 
@@ -333,7 +334,7 @@ module _ (m : Contents) (d : Decodes m) (wf : IsWellFormed m) (c : IsCertified m
 
   -- the instruction can be paid
   can_pay : (h : Holding) (memory : Memory) (t : Task) (due : ℕ) (p : Stands m h memory t due)
-      → p.instr.len ≤ p.state.number
+      → p.instr.len ≤ owed p.state p.act
   can_pay h memory t due p = fits_pays (here_of h p.act memory t p.state p.instr) (point_fits h memory t due p)
       (unbroken h memory t due p (began_inside h memory t due p))
 
@@ -420,21 +421,22 @@ module _ (m : Contents) (d : Decodes m) (wf : IsWellFormed m) (c : IsCertified m
       let en = enter h t.mode p.act (t.registers.began + p.instr.len) s' l next low after in
       let lives =
       lives_at h t.mode en.act (t.registers.began + p.instr.len) (Some s') en.state l next low en.stands en.after in
-      comes_on en.state.number changes
+      comes_on (owed en.state en.act) changes
       (subst (λ n. Lives m h l.memory (record {
         registers = between n l.registers;
         mode = t.mode;
         condition =
             Ready;
-      }) en.state.number) at lives)
-      (omega (arith, p.paid, en.paid))
+      }) (owed en.state en.act)) at lives)
+      (omega (arith, p.paid, en.paid, pay))
   comes h memory t due p r o e last (it_leads {to = to} {l = l} {t = label} turns is low after changes pay) =
       let r = c.holds.starts to low (label_is_start m to label is) in
       let st : state_at m to r.0 ≡ Some (label_state label) =
       is_given m to r.0 (label_state label) (given_label m to label is) in
-      comes_to label.number changes (lives_at h t.mode (with_turns turns p.act) to r.0
-      (label_state label) l r.1 low st after) (omega (arith, p.paid))
-  comes h memory t due p r o e last (it_ends changes pay) = comes_down changes (omega (arith, p.paid))
+      comes_to (owed (label_state label) (with_turns turns p.act)) changes
+      (lives_at h t.mode (with_turns turns p.act) to r.0 (label_state label) l r.1 low st after)
+      (omega (arith, p.paid, pay))
+  comes h memory t due p r o e last (it_ends changes pay) = comes_down changes (omega (arith, p.paid, pay))
   comes h memory t due p r o e last (it_breaks {broken = v}) =
       absurd (unbroken h memory t due p (began_inside h memory t due p) v (sym e))
 

@@ -9,7 +9,7 @@ use Rattle.machine_state.specs.declared.process.Task.{Task}
 use Rattle.machine_state.specs.Memory.{Memory}
 use Rattle.machine_state.specs.Holding.{Holding}
 use Rattle.states.specs.State.{State}
-use Rattle.facts.specs.Meaning.{Activation}
+use Rattle.facts.specs.Meaning.{Activation, owed}
 use Rattle.facts.specs.Fitting.{After}
 use Rattle.verifier.specs.Certified.{Reaches, state_at}
 
@@ -22,7 +22,7 @@ pub record IsReading (m : Contents) (r : Registers) (i : Instr) (taken : ℕ) : 
   pub rest : read fuel (drop r.at m.code) r.operand taken ≡ Ok i
 
 -- The process is at a point of the code, in the state that the certificate has there and in some activation, and owes
--- what is left of its number.
+-- what is left of what it owed.
 pub record Stands (m : Contents) (h : Holding) (memory : Memory) (t : Task) (due : ℕ) : Type 0 where
   pub before : Option State
   pub state : State
@@ -33,7 +33,7 @@ pub record Stands (m : Contents) (h : Holding) (memory : Memory) (t : Task) (due
   pub reading : IsReading m t.registers instr taken
   pub act : Activation
   pub here : After m h t.mode act state (record { registers = t.registers; memory = memory })
-  pub paid : due + taken ≡ state.number
+  pub paid : due + taken ≡ owed state act
 
 -- What the decoder says of the code: an instruction has at least one byte, lies in the code, has an operand of a word,
 -- and is what the device reads.
