@@ -31,7 +31,7 @@ use Rattle.states.specs.declared.rule.Rule.TheVariants as rules
 use Rattle.states.specs.declared.known.Known.{Known}
 use Rattle.states.specs.State.{State, Facts, known, label_state, is_word, is_about, by_itself, is_alone, said_of, entry_fact}
 use Rattle.states.specs.Below.{below, agrees, implies, step_implies, is_constant, is_same_loop, says, words_say}
-use Rattle.states.specs.Below.{entries_hold, are_alike, is_whole, is_plain, cost}
+use Rattle.states.specs.Below.{entries_hold, are_alike, is_whole, is_plain, view, cost}
 use Rattle.states.specs.Rows.{IsRowOf, LoopFits, rise_from}
 use Rattle.facts.specs.Meaning.{Layout, Activation, with_turns, Means, says_nothing, is_number, is_pointer}
 use Rattle.facts.specs.Meaning.{is_code_address, word_of, region_start, code_address, IsOffset, MeansWord, is_fact}
@@ -344,7 +344,7 @@ pub record IsBelow (s : State) (t : Label) : Type 0 where
   pub entries : entries_hold s.frame t.entries ≡ true
   pub whole : list_all (is_whole s.frame) t.entries ≡ true
 
-agrees_tells : (s : State) (t : Label) → agrees s t ≡ true → IsBelow s t
+agrees_tells : (s : State) (t : Label) → agrees (view s) t ≡ true → IsBelow s t
 agrees_tells s t e =
     let p = and-parts _ _ e in
     let q = and-parts _ _ p.0 in
@@ -364,9 +364,9 @@ agrees_tells s t e =
       whole = p.1;
     }
 
-pub below_tells : (s : State) (t : Label) (price : ℕ) → below s t ≡ Ok price → (cost s t ≤ s.number) × IsBelow s t
+pub below_tells : (s : State) (t : Label) (price : ℕ) → below s t ≡ Ok price → (cost (view s) t ≤ s.number) × IsBelow s t
 unfolding below
-below_tells s t price h = first (ltb s.number (cost s t)) refl h
+below_tells s t price h = first (ltb s.number (cost (view s) t)) refl h
   where
     not_below : (m n : ℕ) → ltb m n ≡ false → n ≤ m
     not_below m n e = elim (leb_tells (suc m) n) [
@@ -375,16 +375,17 @@ below_tells s t price h = first (ltb s.number (cost s t)) refl h
           let high : n < suc m = p.1 in omega arith
     ]
 
-    second : (b : Bool) → agrees s t ≡ b
-        → ◌≡◌ {A = Result ℕ Rule} (if b then Ok (cost s t) else Err rules.Label) (Ok price) → IsBelow s t
+    second : (b : Bool) → agrees (view s) t ≡ b
+        → ◌≡◌ {A = Result ℕ Rule} (if b then Ok (cost (view s) t) else Err rules.Label) (Ok price) → IsBelow s t
     second true e g = agrees_tells s t e
     second false e g = absurd (cc)
 
-    first : (b : Bool) → ltb s.number (cost s t) ≡ b
+    first : (b : Bool) → ltb s.number (cost (view s) t) ≡ b
         → ◌≡◌ {A = Result ℕ Rule} (if b then Err rules.Budget else
-        (if agrees s t then Ok (cost s t) else Err rules.Label)) (Ok price) → (cost s t ≤ s.number) × IsBelow s t
+        (if agrees (view s) t then Ok (cost (view s) t) else Err rules.Label)) (Ok price)
+        → (cost (view s) t ≤ s.number) × IsBelow s t
     first true e g = absurd (cc)
-    first false e g = (not_below s.number (cost s t) e, second (agrees s t) refl g)
+    first false e g = (not_below s.number (cost (view s) t) e, second (agrees (view s) t) refl g)
 
 -- what holds behind an instruction holds as the label's state, where the state is below the label
 pub label_after : (m : Contents) (h : Holding) (mode : machine.Mode) (act : Activation) (s : State) (t : Label)

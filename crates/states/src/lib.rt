@@ -10,7 +10,7 @@ mod row;
 mod rule;
 mod state;
 
-pub use comparison::{below, cost_below};
+pub use comparison::{below, compare, cost_below};
 pub use implication::{implies, says};
 pub use known::{Guard, GuardKind, GuardName, Known, Loop, Mode, Source, WordFact};
 pub use rule::{
