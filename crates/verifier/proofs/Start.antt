@@ -15,7 +15,7 @@ use Rattle.machine_state.specs.declared.link.OutputLink.{OutputLink}
 use Rattle.machine_state.specs.Memory.{data_start}
 use Rattle.machine_state.specs.Holding.{may_write, may_write_word}
 use Rattle.machine_state.specs.World.{Role, padding, loaded_memory, root_holding, root_task, root_role, quiet_links}
-use Rattle.machine_state.specs.World.{loaded}
+use Rattle.machine_state.specs.World.{World, loaded}
 use Rattle.machine_state.specs.Site.{Local}
 use Rattle.states.specs.State.{unknown, root_state}
 use Rattle.verifier.specs.Certified.{begins, IsCertified}
@@ -25,13 +25,17 @@ use Rattle.verifier.specs.Point.{Decodes}
 use Rattle.machine_state.specs.Apart.{AllApart}
 use Rattle.verifier.specs.Invariant.{Meets, it_lives, Holds}
 use Rattle.machine_state.specs.Waiting.{Waiters}
-use Rattle.verifier.specs.Headline.{RunsWell}
+use Rattle.machine_state.specs.declared.event.Event.{Event}
+use Rattle.machine_state.specs.Happens.{happens}
+use Rattle.module_format.specs.Keeping.{Keeps}
+use Rattle.verifier.specs.Headline.{IsEvent, RunsWell}
+use Rattle.verifier.proofs.Kept.{decodes, well_formed}
 use Rattle.facts.specs.Fitting.{After}
 use Rattle.facts.proofs.Dues.{nothing_due}
 use Rattle.facts.proofs.Local.{readable}
 use Rattle.states.proofs.RowFacts.{and-parts, le-from, lt-from}
 use Rattle.verifier.proofs.Steps.{enter, lives_at}
-use Rattle.verifier.proofs.Worlds.{run_holds}
+use Rattle.verifier.proofs.Worlds.{happens_holds, run_holds}
 
 -- no branch comes before the root
 owner_of_root : (first : ℕ) (rows : List Par) → 0 < first → owner first rows 0 ≡ 0
@@ -204,3 +208,12 @@ module _ (m : Contents) (d : Decodes m) (wf : IsWellFormed m) (c : IsCertified m
   runs_well events are =
       let h = run_holds m d wf c events are (loaded m) loaded_holds in
       record { no_fault = h.well; apart = h.apart; within_budget = omega (arith, h.owed) }
+
+-- ---- the same of modules that keep the format
+
+pub loaded_world_holds : (m : Contents) → Keeps m → IsCertified m → Holds m (loaded m)
+loaded_world_holds m k c = loaded_holds m (decodes m k) (well_formed m k) c
+
+pub event_keeps_holding : (m : Contents) (e : Event) (w : World) → Keeps m → IsCertified m → IsEvent e → Holds m w
+    → Holds m (happens m w e)
+event_keeps_holding m e w k c is holds = happens_holds m (decodes m k) (well_formed m k) c e is w holds
