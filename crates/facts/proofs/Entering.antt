@@ -28,14 +28,15 @@ use Rattle.states.specs.declared.known.WordFact.{WordFact}
 use Rattle.states.specs.declared.known.WordFact.TheVariants.{Alone, Index, Count}
 use Rattle.states.specs.declared.rule.Rule.{Rule}
 use Rattle.states.specs.declared.rule.Rule.TheVariants as rules
-use Rattle.states.specs.State.{State, Facts, label_state, is_word, is_about, by_itself, is_alone, said_of, entry_fact}
+use Rattle.states.specs.declared.known.Known.{Known}
+use Rattle.states.specs.State.{State, Facts, known, label_state, is_word, is_about, by_itself, is_alone, said_of, entry_fact}
 use Rattle.states.specs.Below.{below, agrees, implies, step_implies, is_constant, is_same_loop, says, words_say}
-use Rattle.states.specs.Below.{entries_hold, are_alike, is_whole, is_plain, cost}
+use Rattle.states.specs.Below.{entries_hold, are_alike, is_whole, is_plain, view, cost}
 use Rattle.states.specs.Rows.{IsRowOf, LoopFits, rise_from}
-use Rattle.facts.specs.Meaning.{Activation, with_turns, Means, says_nothing, is_number, is_pointer, is_code_address}
-use Rattle.facts.specs.Meaning.{is_return_address, word_of, region_start, code_address, IsOffset, MeansWord, is_fact}
-use Rattle.facts.specs.Meaning.{is_index, is_count, frame_word, HasFrame, SameMode, both_plain, turns_from, label_turns}
-use Rattle.facts.specs.Meaning.{at_label, IsSpan, ArePairs, IsWellFormed}
+use Rattle.facts.specs.Meaning.{Layout, Activation, with_turns, Means, says_nothing, is_number, is_pointer}
+use Rattle.facts.specs.Meaning.{is_code_address, word_of, region_start, code_address, IsOffset, MeansWord, is_fact}
+use Rattle.facts.specs.Meaning.{is_index, is_count, frame_word, Words, words_of, HasFrame, from_nowhere, MeansKnown}
+use Rattle.facts.specs.Meaning.{SameMode, both_plain, turns_from, label_turns, at_label, IsSpan, ArePairs, IsWellFormed}
 use Rattle.states.proofs.RowFacts.{and-parts, le-from, lt-from, rise-parts, about-within, about-behind}
 use Rattle.facts.specs.Fitting.{After}
 use Rattle.facts.proofs.Words.{bool_cases, means_same, word_test, int_le_tells, itself_means}
@@ -48,7 +49,7 @@ same_word j k h = elim (word_test j k) [ inl p ↦ p.1 | inr p ↦ let no' : tru
 
 -- ---- facts of one value
 
-module _ (m : Contents) (act : Activation) where
+module _ (m : Contents) (layout : Layout) where
   -- a multiple of four is any offset too
   step_means : (step stride : Step) (offset : ℤ) → step_implies step stride ≡ true → IsOffset step offset
       → IsOffset stride offset
@@ -56,7 +57,7 @@ module _ (m : Contents) (act : Activation) where
   step_means Byte Word offset t stepped = absurd (cc)
   step_means Word Word offset t stepped = stepped
 
-  pub implies_means : (f g : Fact) (v : Option ℤ) → implies f g ≡ true → Means m act f v → Means m act g v
+  pub implies_means : (f g : Fact) (v : Option ℤ) → implies f g ≡ true → Means m layout f v → Means m layout g v
   implies_means f Unknown v t means = says_nothing
   implies_means (Number lo hi) (Number low high) None t means = elim means [ ]
   implies_means (Number lo hi) (Number low high) (Some a) t (is_number p q fits) =
@@ -70,51 +71,44 @@ module _ (m : Contents) (act : Activation) where
       let range = and-parts (int_le low lo) (int_le hi high) first.1 in
       is_pointer offset (omega (arith, ints, le-from low lo range.0)) (omega (arith, ints, le-from hi high range.1))
       (step_means step stride offset all.1 stepped)
-      (is ∙ ap (λ (r : ℕ). word_of (region_start m act r +ℤ offset)) (same_number region other first.0))
+      (is ∙ ap (λ (r : ℕ). word_of (region_start m layout r +ℤ offset)) (same_number region other first.0))
   implies_means (CodeAddress offset) (CodeAddress other) None t means = elim means [ ]
   implies_means (CodeAddress offset) (CodeAddress other) (Some a) t (is_code_address is) =
       is_code_address (is ∙ ap (λ (o : ℕ). word_of (pos (code_address m o))) (same_number offset other t))
   implies_means ReturnAddress ReturnAddress v t means = means
   implies_means f g v t means = absurd (cc)
 
-  -- a fact alone says nothing of turns
-  pub other_turns : (turns : ℤ → ℕ) (f : Fact) (v : Option ℤ) → Means m act f v → Means m (with_turns turns act) f v
-  other_turns turns Unknown v means = says_nothing
-  other_turns turns (Number lo hi) v (is_number low high fits) = is_number low high fits
-  other_turns turns (Pointer region lo hi step) v (is_pointer offset low high stepped is) =
-      is_pointer offset low high stepped is
-  other_turns turns (CodeAddress offset) v (is_code_address is) = is_code_address is
-  other_turns turns (Loop base count weight) v means = elim means [ ]
-  other_turns turns ReturnAddress v (is_return_address is) = is_return_address is
-
 -- ---- facts of words
 
-same_loop : (loop other : CountedLoop) → is_same_loop loop other ≡ true
-    → (loop.base ≡ other.base) × (loop.count ≡ other.count)
+pub same_loop : (loop other : CountedLoop) → is_same_loop loop other ≡ true
+    → (loop.base ≡ other.base) × (loop.count ≡ other.count) × (loop.weight ≡ other.weight)
 same_loop loop other t =
     let all = and-parts _ _ t in
-    let first = and-parts _ _ all.0 in
-    (same_word loop.base other.base first.0, same_number loop.count other.count first.1)
+    let first = and-parts _ _ all.0 in (
+      same_word loop.base other.base first.0,
+      same_number loop.count other.count first.1,
+      same_number loop.weight other.weight all.1,
+    )
 
 -- a number that is exactly this one
-constant_means : (m : Contents) (act : Activation) (f : Fact) (v : Option ℤ) (number : ℤ) → is_constant f number ≡ true
-    → Means m act f v → (FitsSigned w32 number) × (v ≡ Some number)
-constant_means m act (Number lo hi) None number t means = elim means [ ]
-constant_means m act (Number lo hi) (Some x) number t (is_number low high fits) =
+constant_means : (m : Contents) (layout : Layout) (f : Fact) (v : Option ℤ) (number : ℤ) → is_constant f number ≡ true
+    → Means m layout f v → (FitsSigned w32 number) × (v ≡ Some number)
+constant_means m layout (Number lo hi) None number t means = elim means [ ]
+constant_means m layout (Number lo hi) (Some x) number t (is_number low high fits) =
     let both = and-parts (is_word lo number) (is_word hi number) t in
     let first = same_word lo number both.0 in
     let last = same_word hi number both.1 in
     let is : x ≡ number = omega (arith, ints) in
     (subst (λ (z : ℤ). FitsSigned w32 z) is fits, ap (λ (z : ℤ). Some z) is)
-constant_means m act f v number t means = absurd (cc)
+constant_means m layout f v number t means = absurd (cc)
 
 module _ (m : Contents) (act : Activation) (turns : ℤ → ℕ) (k : ℤ) where
   -- each kind of word that a label may have: a fact alone
   alone_means : (v : Option ℤ) (said : WordFact) (wanted : Fact) → implies (by_itself said) wanted ≡ true
       → MeansWord m act k said v
       → MeansWord m (with_turns turns act) k (Alone wanted) v
-  alone_means v said wanted t means = is_fact (other_turns m act turns wanted v
-      (implies_means m act (by_itself said) wanted v t (itself_means m act k said v means)))
+  alone_means v said wanted t means =
+      is_fact (implies_means m act.layout (by_itself said) wanted v t (itself_means m act k said v means))
 
   -- the index of a loop
   index_means : (v : Option ℤ) (said : WordFact) (loop : CountedLoop) → says said (Index loop) ≡ true
@@ -122,7 +116,7 @@ module _ (m : Contents) (act : Activation) (turns : ℤ → ℕ) (k : ℤ) where
       → turns k ≡ turns_from said (Index loop) (act.turns k) → MeansWord m act k said v
       → MeansWord m (with_turns turns act) k (Index loop) v
   index_means v (Alone fact) loop t fits left (is_fact means) =
-      let constant = constant_means m act fact v loop.base t means in
+      let constant = constant_means m act.layout fact v loop.base t means in
       let some : 1 ≤ loop.count = fits.some in
       subst (λ (x : Option ℤ). MeansWord m (with_turns turns act) k (Index loop) x) (sym constant.1)
       (is_index (omega arith) (omega arith) (omega (arith, ints)) constant.0)
@@ -141,7 +135,7 @@ module _ (m : Contents) (act : Activation) (turns : ℤ → ℕ) (k : ℤ) where
       → turns (k -ℤ pos 1) ≡ turns_from first (Index loop) (act.turns (k -ℤ pos 1)) → MeansWord m act k said v
       → MeansWord m (with_turns turns act) k (Count loop) v
   count_means v (Alone fact) (Alone one) loop t u alike fits left (is_fact means) =
-      let constant = constant_means m act fact v (pos loop.count) t means in
+      let constant = constant_means m act.layout fact v (pos loop.count) t means in
       let some : 1 ≤ loop.count = fits.some in
       subst (λ (x : Option ℤ). MeansWord m (with_turns turns act) k (Count loop) x) (sym constant.1)
       (is_count (omega arith) (omega arith) (ap (λ (n : ℕ). pos n) (sym left)) constant.0)
@@ -186,18 +180,18 @@ words_said facts entry k (suc more) t low high =
       | inr p ↦ p.1
     ]
 
-entry_here : (entry : Entry) (entries : List Entry) (k : ℤ) → is_about entry k ≡ true
+pub entry_here : (entry : Entry) (entries : List Entry) (k : ℤ) → is_about entry k ≡ true
     → entry_fact (entry ∷ entries) k ≡ said_of entry.fact (is_word entry.word k)
 entry_here entry entries k e =
     ap (λ (b : Bool). cond b (said_of entry.fact (is_word entry.word k)) (entry_fact entries k)) e
 
-entry_later : (entry : Entry) (entries : List Entry) (k : ℤ) → is_about entry k ≡ false
+pub entry_later : (entry : Entry) (entries : List Entry) (k : ℤ) → is_about entry k ≡ false
     → entry_fact (entry ∷ entries) k ≡ entry_fact entries k
 entry_later entry entries k e =
     ap (λ (b : Bool). cond b (said_of entry.fact (is_word entry.word k)) (entry_fact entries k)) e
 
 -- what is known says of each word what the entries say
-entries_said : (facts : Facts) (entries : List Entry) (k : ℤ) → entries_hold facts entries ≡ true
+pub entries_said : (facts : Facts) (entries : List Entry) (k : ℤ) → entries_hold facts entries ≡ true
     → says (facts k) (entry_fact entries k) ≡ true
 entries_said facts [] k t = refl
 entries_said facts (entry ∷ entries) k t =
@@ -350,7 +344,7 @@ pub record IsBelow (s : State) (t : Label) : Type 0 where
   pub entries : entries_hold s.frame t.entries ≡ true
   pub whole : list_all (is_whole s.frame) t.entries ≡ true
 
-agrees_tells : (s : State) (t : Label) → agrees s t ≡ true → IsBelow s t
+agrees_tells : (s : State) (t : Label) → agrees (view s) t ≡ true → IsBelow s t
 agrees_tells s t e =
     let p = and-parts _ _ e in
     let q = and-parts _ _ p.0 in
@@ -370,9 +364,9 @@ agrees_tells s t e =
       whole = p.1;
     }
 
-pub below_tells : (s : State) (t : Label) (price : ℕ) → below s t ≡ Ok price → (t.number ≤ s.number) × IsBelow s t
+pub below_tells : (s : State) (t : Label) (price : ℕ) → below s t ≡ Ok price → (cost (view s) t ≤ s.number) × IsBelow s t
 unfolding below
-below_tells s t price h = first (ltb s.number (cost s t)) refl h
+below_tells s t price h = first (ltb s.number (cost (view s) t)) refl h
   where
     not_below : (m n : ℕ) → ltb m n ≡ false → n ≤ m
     not_below m n e = elim (leb_tells (suc m) n) [
@@ -381,58 +375,50 @@ below_tells s t price h = first (ltb s.number (cost s t)) refl h
           let high : n < suc m = p.1 in omega arith
     ]
 
-    second : (b : Bool) → agrees s t ≡ b
-        → ◌≡◌ {A = Result ℕ Rule} (if b then Ok (cost s t) else Err rules.Label) (Ok price) → IsBelow s t
+    second : (b : Bool) → agrees (view s) t ≡ b
+        → ◌≡◌ {A = Result ℕ Rule} (if b then Ok (cost (view s) t) else Err rules.Label) (Ok price) → IsBelow s t
     second true e g = agrees_tells s t e
     second false e g = absurd (cc)
 
-    first : (b : Bool) → ltb s.number (cost s t) ≡ b
+    first : (b : Bool) → ltb s.number (cost (view s) t) ≡ b
         → ◌≡◌ {A = Result ℕ Rule} (if b then Err rules.Budget else
-        (if agrees s t then Ok (cost s t) else Err rules.Label)) (Ok price) → (t.number ≤ s.number) × IsBelow s t
+        (if agrees (view s) t then Ok (cost (view s) t) else Err rules.Label)) (Ok price)
+        → (cost (view s) t ≤ s.number) × IsBelow s t
     first true e g = absurd (cc)
-    first false e g = let paid : cost s t ≤ s.number =
-        not_below s.number (cost s t) e in (omega arith, second (agrees s t) refl g)
-
--- who knows nothing of a word says nothing of it
-nothing_said : (wanted : WordFact) → says (Alone Unknown) wanted ≡ true → wanted ≡ Alone Unknown
-nothing_said (Alone Unknown) h = refl
-nothing_said (Alone (Number lo hi)) h = absurd (cc)
-nothing_said (Alone (Pointer region lo hi step)) h = absurd (cc)
-nothing_said (Alone (CodeAddress offset)) h = absurd (cc)
-nothing_said (Alone (Loop base count weight)) h = absurd (cc)
-nothing_said (Alone ReturnAddress) h = absurd (cc)
-nothing_said (Index loop) h = absurd (cc)
-nothing_said (Count loop) h = absurd (cc)
+    first false e g = (not_below s.number (cost (view s) t) e, second (agrees (view s) t) refl g)
 
 -- what holds behind an instruction holds as the label's state, where the state is below the label
 pub label_after : (m : Contents) (h : Holding) (mode : machine.Mode) (act : Activation) (s : State) (t : Label)
     (l : Local) → IsWellFormed m → (at : ℕ) → label_at m at ≡ Some t → IsBelow s t
     → After m h mode act s l → After m h mode (at_label s t act) (label_state t) l
 label_after m h mode act s t l wf at e g a = record {
-  frame = subst (λ d. HasFrame h (length l.memory) (may_write_word m t.context)
-      (may_read_word m t.context) act.origin d l.registers.workspace) g.depth
-      (subst (λ c. HasFrame h (length l.memory) (may_write_word m c)
-      (may_read_word m c) act.origin s.depth l.registers.workspace) g.context a.frame);
+  frame = subst (λ d. HasFrame h (length l.memory) (words_of m (label_state t)) act.layout.origin d
+      l.registers.workspace) g.depth
+      (subst (λ w. HasFrame h (length l.memory) w act.layout.origin s.depth l.registers.workspace) same_words a.frame);
   knows = record {
-    stack = record {
-      a = register s.stack.a.fact t.stack.a l.registers.stack.a g.a a.knows.stack.a;
-      b = register s.stack.b.fact t.stack.b l.registers.stack.b g.b a.knows.stack.b;
-      c = register s.stack.c.fact t.stack.c l.registers.stack.c g.c a.knows.stack.c;
+    registers = record {
+      a = register s.stack.a t.stack.a l.registers.stack.a g.a a.knows.registers.a;
+      b = register s.stack.b t.stack.b l.registers.stack.b g.b a.knows.registers.b;
+      c = register s.stack.c t.stack.c l.registers.stack.c g.c a.knows.registers.c;
     };
-    words = λ k. label_words m act s.frame t k (frame_word l.memory act.origin k) (wf.rows at t e)
-        (wf.pairs at t e) g.entries g.whole (a.knows.words k);
-    within = λ k out. nothing_said (entry_fact t.entries k) (subst (λ f. says f (entry_fact t.entries k) ≡ true)
-        (a.knows.within k (ap (λ c. may_read_word m c k) g.context ∙ out))
-        (entries_said s.frame t.entries k g.entries));
+    words = λ k inside. label_words m act s.frame t k (frame_word l.memory act.layout.origin k) (wf.rows at t e)
+        (wf.pairs at t e) g.entries g.whole
+        (a.knows.words k (ap (λ (w : Words). w.reads k) same_words ∙ inside));
   };
   same_mode = plain_mode s.mode mode g.plain a.same_mode;
 }
   where
-    register : (f wanted : Fact) (v : Option ℤ) → implies f wanted ≡ true → Means m act f v
-        → Means m (at_label s t act) wanted v
+    same_words : words_of m s ≡ words_of m (label_state t)
+    same_words = ap (λ (n : ℕ). in_context n) g.context
+      where
+        in_context : ℕ → Words
+        in_context n = record { writes = may_write_word m n; reads = may_read_word m n }
+
+    register : (f : Known) (wanted : Fact) (v : Option ℤ) → implies f.fact wanted ≡ true
+        → MeansKnown m (words_of m s).reads act.layout l.memory f v
+        → MeansKnown m (words_of m (label_state t)).reads act.layout l.memory (known wanted) v
     register f wanted v says_so means =
-        other_turns m act (label_turns s.frame t.entries act.turns) wanted v
-        (implies_means m act f wanted v says_so means)
+        record { fact = implies_means m act.layout f.fact wanted v says_so means.fact; source = from_nowhere }
 
     plain_mode : (p : states.Mode) (q : machine.Mode) → is_plain p ≡ true → SameMode p q → SameMode states_modes.Plain q
     plain_mode p q e both_plain = both_plain

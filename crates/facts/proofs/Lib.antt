@@ -3,4 +3,5 @@ pub mod Steps
 pub mod Words
 pub mod Results
 pub mod Entering
+pub mod Dues
 pub mod Local

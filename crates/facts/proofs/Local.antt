@@ -19,7 +19,6 @@ use Rattle.module_format.specs.Contents.{Contents, Label, label_at}
 use Rattle.module_format.specs.Contents.{Par, Branch}
 use Rattle.certificate.specs.Branches.{numbered_branch}
 use Rattle.certificate.specs.Rights as rights
-use Rattle.machine_state.specs.declared.process.Registers.{Registers}
 use Rattle.machine_state.specs.declared.process.Mode as machine
 use Rattle.machine_state.specs.declared.process.Mode.TheVariants as machine_modes
 use Rattle.machine_state.specs.declared.op.Op.{Op}
@@ -27,12 +26,12 @@ use Rattle.machine_state.specs.declared.op.Op.TheVariants as operations
 use Rattle.machine_state.specs.declared.instruction.Instruction.{Instruction}
 use Rattle.machine_state.specs.declared.instruction.Instruction.TheVariants as instructions
 use Rattle.machine_state.specs.Instructions.{instruction_of}
-use Rattle.machine_state.specs.declared.fault.FaultKind.TheVariants.{UnknownOperation, OutsideCode}
+use Rattle.machine_state.specs.declared.fault.FaultKind.TheVariants.{OutsideCode}
 use Rattle.machine_state.specs.Memory.{Memory, place_of, local_address, word_at, with_word}
 use Rattle.machine_state.specs.Holding.{Holding, covers, may_write, may_read, may_write_word, may_read_word}
 use Rattle.machine_state.specs.Frame.{ChangesOwn}
 use Rattle.machine_state.specs.LocalStep as step
-use Rattle.machine_state.specs.Site.{Outcome, goes, jumps, stops, fails, Local}
+use Rattle.machine_state.specs.Site.{Outcome, jumps, fails, Local}
 use Rattle.machine_state.specs.LocalStep.{target}
 use Rattle.machine_state.proofs.Reading.{length-with_word}
 use Rattle.machine_state.proofs.Frame.{write_is_own, changes_more}
@@ -41,18 +40,21 @@ use Rattle.states.specs.declared.known.Mode.TheVariants as states_modes
 use Rattle.states.specs.declared.known.Known.{Known}
 use Rattle.states.specs.declared.rule.Rule.{Rule}
 use Rattle.states.specs.declared.rule.Rule.TheVariants as rules
-use Rattle.states.specs.State.{State, written, known}
+use Rattle.states.specs.declared.known.WordFact.{WordFact}
+use Rattle.states.specs.State.{State, unknown, plain, one_word, written, known}
 use Rattle.states.specs.Below.{below}
 use Rattle.states.proofs.RowFacts.{and-parts}
 use Rattle.facts.specs.Rules as rule
 use Rattle.facts.specs.Rules.{Ruling, falls, leads, ends, breaks}
-use Rattle.facts.specs.Meaning.{Activation, Means, says_nothing, is_number, IsOwnWord, HasFrame, Knows, IsWellFormed}
-use Rattle.facts.specs.Meaning.{MeansKnown, SameMode, both_plain, label_turns}
+use Rattle.facts.specs.Meaning.{Layout, Activation, Means, says_nothing, is_number, frame_word, IsOwnWord, Words}
+use Rattle.facts.specs.Meaning.{words_of, HasFrame, ComesFrom, from_nowhere, from_word, MeansWord, MeansKnown}
+use Rattle.facts.specs.Meaning.{IsWellFormed, SameMode, both_plain, dues, owed, label_turns}
 use Rattle.facts.specs.Fitting.{After, Here, rule_site, step_site, Fits, it_falls, it_leads, it_ends, it_breaks}
 use Rattle.facts.specs.Fitting.{HasNext, RulesFitSteps}
-use Rattle.facts.proofs.Words.{local_place, frame_word_is, knows_written, means_same, stored_means, plain_means}
+use Rattle.facts.proofs.Words.{local_place, frame_word_is, stored_means, plain_means, knows_changed, write_follows}
 use Rattle.facts.proofs.Results.{ResultMeans, result_means, unary_result_means}
 use Rattle.facts.proofs.Entering.{below_tells, label_after}
+use Rattle.facts.proofs.Dues.{changed_dues, written_owed, label_owed}
 
 abbrev pub FitsIf : Here → Ruling → Outcome → Type 0
 FitsIf x r o = HasNext x r → Fits x r o
@@ -100,13 +102,13 @@ written_readable m n k h =
     of_branch None h = refl
     of_branch (Some found) h = or_true (rights.is_among found.1.writes k) (rights.is_among found.1.reads k) h
 
-same_frame : {h : Holding} {old new : ℕ} {writes reads : ℤ → Bool} {origin depth : ℤ} {workspace : ℕ} → old ≡ new
-    → HasFrame h old writes reads origin depth workspace → HasFrame h new writes reads origin depth workspace
-same_frame {h} {old} {new} {writes} {reads} {origin} {depth} {workspace} e f =
-    subst (λ size. HasFrame h size writes reads origin depth workspace) e f
+pub same_frame : {h : Holding} {old new : ℕ} {words : Words} {origin depth : ℤ} {workspace : ℕ} → old ≡ new
+    → HasFrame h old words origin depth workspace → HasFrame h new words origin depth workspace
+same_frame {h} {old} {new} {words} {origin} {depth} {workspace} e f =
+    subst (λ size. HasFrame h size words origin depth workspace) e f
 
-enough : (n k total : ℕ) → ltb n k ≡ false → n ≡ total → n - k + k ≡ total
-enough n k total t e = elim (leb_tells (suc n) k) [
+enough : (n k due total : ℕ) → ltb n k ≡ false → n + due ≤ total → n - k + due + k ≤ total
+enough n k due total t e = elim (leb_tells (suc n) k) [
   | inl p ↦ let no' : true ≡ false = sym p.0 ∙ t in absurd
       (cc)
   | inr p ↦ let high : k ≤ n = omega (arith, p.1) in omega arith
@@ -119,10 +121,44 @@ below_not a b low t = elim (leb_tells (suc a) b) [
       let high : b < suc a = p.1 in omega arith
 ]
 
--- paying changes nothing that is known
-paid : {m : Contents} {reads : ℤ → Bool} {s : State} {act : Activation} {r : Registers} {memory : Memory} {n : ℕ}
-    → Knows m reads s act r memory → Knows m reads (record s { number = n }) act r memory
-paid k = record { stack = k.stack; words = k.words; within = k.within }
+-- ---- what holds behind an instruction, where it changes one thing
+
+-- the number
+paid : {m : Contents} {h : Holding} {mode : machine.Mode} {act : Activation} {s : State} {l : Local} {n : ℕ}
+    → After m h mode act s l → After m h mode act (record s { number = n }) l
+paid a = record { frame = a.frame; knows = a.knows; same_mode = a.same_mode }
+
+-- the place in the code
+pub elsewhere : {m : Contents} {h : Holding} {mode : machine.Mode} {act : Activation} {s : State} {l : Local}
+    (at began : ℕ) (operand : ℤ) → After m h mode act s l
+    → After m h mode act s (record l { registers = record l.registers { at = at; began = began; operand = operand } })
+elsewhere at began operand a = record { frame = a.frame; knows = a.knows; same_mode = a.same_mode }
+
+-- ---- registers
+
+unknown_means : {m : Contents} {counts : ℤ → Bool} {layout : Layout} {memory : Memory} {v : Option ℤ}
+    → MeansKnown m counts layout memory unknown v
+unknown_means = record { fact = says_nothing; source = from_nowhere }
+
+-- what is loaded comes from its word, if it is a number
+loaded_source : {counts : ℤ → Bool} {memory : Memory} {origin : ℤ} {v : Option ℤ} (k : ℤ) (f : Fact) → counts k ≡ true
+    → v ≡ frame_word memory origin k → ComesFrom counts memory origin (rule.source_of k f) v
+loaded_source k (Number lo hi) inside is = from_word inside is
+loaded_source k Unknown inside is = from_nowhere
+loaded_source k (Pointer region lo hi step) inside is = from_nowhere
+loaded_source k (CodeAddress offset) inside is = from_nowhere
+loaded_source k (Loop base count weight) inside is = from_nowhere
+loaded_source k ReturnAddress inside is = from_nowhere
+
+loaded_means : (m : Contents) (counts : ℤ → Bool) (act : Activation) (k : ℤ) (f : WordFact) (memory : Memory)
+    (v : Option ℤ) → counts k ≡ true → MeansWord m act k f (frame_word memory act.layout.origin k)
+    → frame_word memory act.layout.origin k ≡ v → MeansKnown m counts act.layout memory (rule.loaded k f) v
+loaded_means m counts act k f memory v inside means is = record {
+  fact = subst (λ (x : Option ℤ). Means m act.layout (plain f) x) is (plain_means m act k f _ means);
+  source = loaded_source k (plain f) inside (sym is);
+}
+
+-- ---- modes
 
 rule_plain : {p : states.Mode} {q : machine.Mode} → SameMode p q → p ≡ states_modes.Plain
 rule_plain both_plain = refl
@@ -143,8 +179,8 @@ module _ (x : Here) where
 
   -- ---- one lemma for each pair of combinators
 
-  uses_fact : (fact : Fact) (v : Option ℤ) (r : Ruling) (o : ℤ → Outcome) → Means x.m x.act fact v
-      → ((a : ℤ) → Means x.m x.act fact (Some a) → FitsIf x r (o a))
+  uses_fact : (fact : Fact) (v : Option ℤ) (r : Ruling) (o : ℤ → Outcome) → Means x.m x.act.layout fact v
+      → ((a : ℤ) → Means x.m x.act.layout fact (Some a) → FitsIf x r (o a))
       → FitsIf x (elim fact as (λ f. Ruling) [ Unknown ↦ breaks rules.UnknownRegister | _ ↦ r ]) (step.uses v o)
   unfolding step.uses
   uses_fact Unknown v r o means go = λ next. it_breaks
@@ -158,11 +194,12 @@ module _ (x : Here) where
   uses_fact ReturnAddress None r o means go = elim means [ ]
   uses_fact ReturnAddress (Some a) r o means go = go a means
 
-  uses_fits : (k : Known) (v : Option ℤ) (r : Fact → Ruling) (o : ℤ → Outcome) → Means x.m x.act k.fact v
-      → ((a : ℤ) → Means x.m x.act k.fact (Some a) → FitsIf x (r k.fact) (o a))
+  uses_fits : {counts : ℤ → Bool} {memory : Memory} (k : Known) (v : Option ℤ) (r : Fact → Ruling) (o : ℤ → Outcome)
+      → MeansKnown x.m counts x.act.layout memory k v
+      → ((a : ℤ) → Means x.m x.act.layout k.fact (Some a) → FitsIf x (r k.fact) (o a))
       → FitsIf x (rule.uses k r) (step.uses v o)
   unfolding rule.uses
-  uses_fits k v r o means go = uses_fact k.fact v (r k.fact) o means go
+  uses_fits k v r o means go = uses_fact k.fact v (r k.fact) o means.fact go
 
   -- the frame's word at depth + e, which is written
   writes_word_fits : (s : State) (e : ℤ) (r : Ruling) (o : Outcome)
@@ -200,36 +237,36 @@ module _ (x : Here) where
       (λ t. let no : true ≡ false = sym held ∙ ap (may_read_word x.h) (sym is) ∙ t in absurd (cc))
 
   goes_on_fits : (s : State) (l : Local) → After x.m x.h x.mode x.act s l → ChangesOwn x.h x.memory l.memory
-      → s.number ≡ x.number → FitsIf x (rule.goes_on (rule_site x) s) (step.goes_on (step_site x) l)
+      → owed s x.act ≤ x.owed → FitsIf x (rule.goes_on (rule_site x) s) (step.goes_on (step_site x) l)
   unfolding rule.goes_on rule.pays step.goes_on
   goes_on_fits s l a changes n =
       on_rule_test (ltb s.number x.len) _ _ _
       (λ t next. it_breaks)
       (λ t next. let low = next _ refl in
       on_step_test (ltb (x.at + x.len) (length x.m.code)) (falls (record s { number = s.number - x.len })) _ _
-      (λ u next. it_falls low (record { frame = a.frame; knows = paid a.knows; same_mode = a.same_mode }) changes
-      (enough s.number x.len x.number t n))
+      (λ u next. it_falls low (paid a) changes
+      (enough s.number x.len (dues s.frame x.act.turns) x.owed t n))
       (λ u. absurd (below_not _ _ low u)) next)
 
   -- ---- a write to a word of the frame
 
   after_write : (s : State) (l : Local) (e : ℤ) (f : Fact) (v : Option ℤ) → After x.m x.h x.mode x.act s l
-      → rights.may_write_word x.m s.context (s.depth +ℤ e) ≡ true
-      → (w : IsOwnWord x.h (length l.memory) x.act.origin (s.depth +ℤ e))
-      → Means x.m x.act f (word_at (with_word l.memory w.place v) w.place)
+      → (w : IsOwnWord x.h (length l.memory) x.act.layout.origin (s.depth +ℤ e))
+      → Means x.m x.act.layout f (word_at (with_word l.memory w.place v) w.place)
       → After x.m x.h x.mode x.act (written (s.depth +ℤ e) f s) (record l { memory = with_word l.memory w.place v })
   unfolding written
-  after_write s l e f v a t w means = record {
+  after_write s l e f v a w means = record {
     frame = same_frame (sym (length-with_word l.memory w.place v)) a.frame;
-    knows = knows_written x.m x.h (rights.may_read_word x.m s.context) s x.act (s.depth +ℤ e) l.registers l.memory f v
-        (written_readable x.m s.context (s.depth +ℤ e) t) w a.knows means;
+    knows = knows_changed (one_word (s.depth +ℤ e) f)
+        (write_follows x.m x.h (words_of x.m s).reads x.act.layout (s.depth +ℤ e) l.memory f v w means) a.knows;
     same_mode = a.same_mode;
   }
 
   write_step : (s : State) (l : Local) (e : ℤ) (f : Fact) (v : Option ℤ) (r : Ruling) (o : Local → Outcome)
       → After x.m x.h x.mode x.act s l → ChangesOwn x.h x.memory l.memory
       → FitsSigned w32 e → rights.may_write_word x.m s.context (s.depth +ℤ e) ≡ true
-      → ((place : ℕ) → place + 4 ≤ length l.memory → Means x.m x.act f (word_at (with_word l.memory place v) place))
+      → ((place : ℕ) → place + 4 ≤ length l.memory
+      → Means x.m x.act.layout f (word_at (with_word l.memory place v) place))
       → ((memory : Memory) → After x.m x.h x.mode x.act (written (s.depth +ℤ e) f s) (record l { memory = memory })
       → ChangesOwn x.h x.memory memory → FitsIf x r (o (record l { memory = memory })))
       → FitsIf x r (step.writes (step_site x) (local_address l.registers.workspace e) v l o)
@@ -237,20 +274,20 @@ module _ (x : Here) where
       let w = a.frame.own (s.depth +ℤ e) t in
       writes_fits l (local_address l.registers.workspace e) w.place v r o
       (local_place a.frame e fits w.place w.is w.inside) w.mine
-      (go (with_word l.memory w.place v) (after_write s l e f v a t w (means w.place w.inside))
+      (go (with_word l.memory w.place v) (after_write s l e f v a w (means w.place w.inside))
       (changes_more x.h x.memory l.memory (with_word l.memory w.place v) changes
       (write_is_own x.h l.memory w.place v w.mine)))
 
   -- ---- scheduling, and what stands behind it
 
   undefined_means : (memory : Memory) (place : ℕ) → place + 4 ≤ length memory
-      → Means x.m x.act Unknown (word_at (with_word memory place None) place)
+      → Means x.m x.act.layout Unknown (word_at (with_word memory place None) place)
   undefined_means memory place inside = says_nothing
 
   schedules_fits : (s : State) (l : Local) (r : State → Ruling) (o : Local → Outcome) → After x.m x.h x.mode x.act s l
       → ChangesOwn x.h x.memory l.memory
       → ((s' : State) (memory : Memory) → After x.m x.h x.mode x.act s' (record l { memory = memory })
-      → ChangesOwn x.h x.memory memory → s'.number ≡ s.number → FitsIf x (r s') (o (record l { memory = memory })))
+      → ChangesOwn x.h x.memory memory → owed s' x.act ≤ owed s x.act → FitsIf x (r s') (o (record l { memory = memory })))
       → FitsIf x (rule.schedules (rule_site x) s r) (step.schedules (step_site x) l o)
   unfolding rule.schedules step.schedules written
   schedules_fits s l r o a changes go =
@@ -263,13 +300,18 @@ module _ (x : Here) where
       write_step (written (s.depth +ℤ negsuc 1) Unknown (written (s.depth +ℤ negsuc 0) Unknown s))
       (record l { memory = m2 }) (negsuc 2) Unknown None _ _ a2 c2 (omega (arith, ints)) t2 (undefined_means m2)
       (λ m3 a3 c3.
+      let one = written_owed (s.depth +ℤ negsuc 0) Unknown s x.act in
+      let two = written_owed (s.depth +ℤ negsuc 1) Unknown (written (s.depth +ℤ negsuc 0) Unknown s) x.act in
+      let three = written_owed (s.depth +ℤ negsuc 2) Unknown
+      (written (s.depth +ℤ negsuc 1) Unknown (written (s.depth +ℤ negsuc 0) Unknown s)) x.act in
       go (written (s.depth +ℤ negsuc 2) Unknown
-      (written (s.depth +ℤ negsuc 1) Unknown (written (s.depth +ℤ negsuc 0) Unknown s))) m3 a3 c3 refl))))))
+      (written (s.depth +ℤ negsuc 1) Unknown (written (s.depth +ℤ negsuc 0) Unknown s))) m3 a3 c3
+      (omega (arith, one, two, three))))))))
 
   -- ---- leading to a label
 
   leads_fits : (wf : IsWellFormed x.m) (to : ℕ) (s : State) (l : Local) → After x.m x.h x.mode x.act s l
-      → ChangesOwn x.h x.memory l.memory → s.number + x.len ≡ x.number
+      → ChangesOwn x.h x.memory l.memory → owed s x.act + x.len ≤ x.owed
       → FitsIf x (rule.leads_to (rule_site x) to s) (step.leads_to (step_site x) to l)
   unfolding rule.leads_to step.leads_to
   leads_fits wf to s l a changes n =
@@ -282,9 +324,10 @@ module _ (x : Here) where
       on_below t e (Ok cost) is =
           let low = wf.labels to t e in
           let g = below_tells s t cost is in
+          let less = label_owed s t cost x.act (wf.pairs to t e) is in
           on_step_test (ltb to (length x.m.code)) (leads to) _ _
           (λ u next. it_leads (label_turns s.frame t.entries x.act.turns) e low
-          (label_after x.m x.h x.mode x.act s t l wf to e g.1 a) changes (omega (arith, g.0)))
+          (label_after x.m x.h x.mode x.act s t l wf to e g.1 a) changes (omega (arith, n, less)))
           (λ u. absurd (below_not to (length x.m.code) low u))
 
       on_label : (o : Option Label) → label_at x.m to ≡ o
@@ -323,25 +366,26 @@ module _ (x : Here) where
 
   -- the registers and the number change, and all else stays known
   after_stack : {s : State} {l : Local} {said : Stack Known} {stack : Stack (Option ℤ)} {number : ℕ}
-      → After x.m x.h x.mode x.act s l → AreRelated (MeansKnown x.m x.act) said stack
+      → After x.m x.h x.mode x.act s l
+      → AreRelated (MeansKnown x.m (words_of x.m s).reads x.act.layout l.memory) said stack
       → After x.m x.h x.mode x.act (record s { stack = said; number = number })
       (record l { registers = record l.registers { stack = stack } })
   after_stack a related = record {
     frame = a.frame;
-    knows = record { stack = related; words = a.knows.words; within = a.knows.within };
+    knows = record { registers = related; words = a.knows.words };
     same_mode = a.same_mode;
   }
 
   module _ (wf : IsWellFormed x.m) (s : State) (l : Local) (a : After x.m x.h x.mode x.act s l)
-      (changes : ChangesOwn x.h x.memory l.memory) (n : s.number ≡ x.number) where
+      (changes : ChangesOwn x.h x.memory l.memory) (n : owed s x.act ≤ x.owed) where
     ldc_fits : (e : ℤ) → FitsSigned w32 e
         → FitsIf x (rule.goes_on (rule_site x) (rule.push (rule.constant e) s))
         (step.goes_on (step_site x) (step.push (Some e) l))
     ldc_fits e fits = goes_on_fits (rule.push (rule.constant e) s) (step.push (Some e) l)
         (after_stack a (record {
-          a = is_number (omega (arith, ints)) (omega (arith, ints)) fits;
-          b = a.knows.stack.a;
-          c = a.knows.stack.b;
+          a = record { fact = is_number (omega (arith, ints)) (omega (arith, ints)) fits; source = from_nowhere };
+          b = a.knows.registers.a;
+          c = a.knows.registers.b;
         })) changes n
 
     ldl_fits : (e : ℤ) → FitsSigned w32 e
@@ -356,11 +400,11 @@ module _ (x : Here) where
         (goes_on_fits (rule.push (rule.loaded (s.depth +ℤ e) (s.frame (s.depth +ℤ e))) s)
         (step.push (word_at l.memory w.place) l)
         (after_stack a (record {
-          a = plain_means x.m x.act (s.depth +ℤ e) (s.frame (s.depth +ℤ e)) (word_at l.memory w.place)
-              (means_same (a.knows.words (s.depth +ℤ e)) refl
-              (frame_word_is l.memory x.act.origin (s.depth +ℤ e) w.place w.is));
-          b = a.knows.stack.a;
-          c = a.knows.stack.b;
+          a = loaded_means x.m (words_of x.m s).reads x.act (s.depth +ℤ e) (s.frame (s.depth +ℤ e)) l.memory
+              (word_at l.memory w.place) t (a.knows.words (s.depth +ℤ e) t)
+              (frame_word_is l.memory x.act.layout.origin (s.depth +ℤ e) w.place w.is);
+          b = a.knows.registers.a;
+          c = a.knows.registers.b;
         })) changes n))))
 
     stl_fits : (e : ℤ) → FitsSigned w32 e
@@ -368,16 +412,17 @@ module _ (x : Here) where
         (step.instruction_step (step_site x) instructions.StoreLocal e l)
     unfolding rule.instruction_rule step.instruction_step written
     stl_fits e fits =
-        in_plain_step s a.same_mode _ _ (uses_fits s.stack.a l.registers.stack.a _ _ a.knows.stack.a (λ v means.
+        in_plain_step s a.same_mode _ _ (uses_fits s.stack.a l.registers.stack.a _ _ a.knows.registers.a (λ v means.
         in_plain_rule s a.same_mode _ _ (beside_plain_rule s a.same_mode _ _ (writes_word_fits s e _ _ (λ t.
         write_step s l e s.stack.a.fact (Some v) _ _ a changes fits t
-        (λ place inside. stored_means x.m x.act s.stack.a.fact v l.memory place inside means) (λ memory b c.
+        (λ place inside. stored_means x.m x.act.layout s.stack.a.fact v l.memory place inside means) (λ memory b c.
         goes_on_fits (rule.pop (written (s.depth +ℤ e) s.stack.a.fact s)) (step.pop (record l { memory = memory }))
-        (after_stack b (record { a = b.knows.stack.b; b = b.knows.stack.c; c = says_nothing })) c n))))))
+        (after_stack b (record { a = b.knows.registers.b; b = b.knows.registers.c; c = unknown_means })) c
+        (omega (arith, n, changed_dues (one_word (s.depth +ℤ e) s.stack.a.fact) s.frame x.act.turns))))))))
 
     -- what A becomes
     becomes_fits : (s' : State) (l' : Local) (fact : Option Fact) (result : Option ℤ) → After x.m x.h x.mode x.act s' l'
-        → ChangesOwn x.h x.memory l'.memory → s'.number ≡ x.number → ResultMeans x.m x.act fact result
+        → ChangesOwn x.h x.memory l'.memory → owed s' x.act ≤ x.owed → ResultMeans x.m x.act.layout fact result
         → FitsIf x (rule.becomes (rule_site x) fact s')
         (step.computes result (λ v. step.goes_on (step_site x) (step.with_a v l')))
     unfolding rule.becomes step.computes
@@ -386,24 +431,25 @@ module _ (x : Here) where
     becomes_fits s' l' (Some f) (Some v) b c e means =
         in_plain_rule s' b.same_mode _ _ (beside_plain_rule s' b.same_mode _ _
         (goes_on_fits (rule.with_a (known f) s') (step.with_a v l')
-        (after_stack b (record { a = means; b = b.knows.stack.b; c = b.knows.stack.c })) c e))
+        (after_stack b (record { a = record { fact = means; source = from_nowhere }; b = b.knows.registers.b; c = b.knows.registers.c })) c e))
 
     constant_fits : (op : BinaryOperation) (e : ℤ) → FitsSigned w32 e
         → FitsIf x (rule.instruction_rule (rule_site x) (instructions.WithConstant op) e s)
         (step.instruction_step (step_site x) (instructions.WithConstant op) e l)
     unfolding rule.instruction_rule step.instruction_step
     constant_fits op e fits =
-        in_plain_step s a.same_mode _ _ (uses_fits s.stack.a l.registers.stack.a _ _ a.knows.stack.a (λ v means.
+        in_plain_step s a.same_mode _ _ (uses_fits s.stack.a l.registers.stack.a _ _ a.knows.registers.a (λ v means.
         becomes_fits s l _ _ a changes n
-        (result_means x.m x.act op s.stack.a.fact (Number e e) v e means
+        (result_means x.m x.act.layout op s.stack.a.fact (Number e e) v e means
         (is_number (omega (arith, ints)) (omega (arith, ints)) fits))))
 
-    pays_fits : (s' : State) (r : State → Ruling) (o : Outcome) → s'.number ≡ s.number
-        → (s'.number - x.len + x.len ≡ x.number → FitsIf x (r (record s' { number = s'.number - x.len })) o)
+    pays_fits : (s' : State) (r : State → Ruling) (o : Outcome) → owed s' x.act ≤ owed s x.act
+        → (s'.number - x.len + dues s'.frame x.act.turns + x.len ≤ x.owed
+        → FitsIf x (r (record s' { number = s'.number - x.len })) o)
         → FitsIf x (rule.pays (rule_site x) s' r) o
     unfolding rule.pays
     pays_fits s' r o e go = on_rule_test (ltb s'.number x.len) _ _ _ (λ t next. it_breaks)
-        (λ t. go (enough s'.number x.len x.number t (e ∙ n)))
+        (λ t. go (enough s'.number x.len (dues s'.frame x.act.turns) x.owed t (omega (arith, e, n))))
 
     j_fits : (e : ℤ) → FitsSigned w32 e
         → FitsIf x (rule.instruction_rule (rule_site x) instructions.Jump e s)
@@ -417,7 +463,7 @@ module _ (x : Here) where
         leads_fits wf (target (x.at + x.len) (pos k))
         (rule.without_registers (record s' { number = s'.number - x.len }))
         (step.without_registers (record l { memory = memory }))
-        (after_stack b (record { a = says_nothing; b = says_nothing; c = says_nothing })) c left)))))
+        (after_stack b (record { a = unknown_means; b = unknown_means; c = unknown_means })) c left)))))
 
     operation_fits : (op : Op) → FitsIf x (rule.operation_rule (rule_site x) op s)
         (step.operation_step (step_site x) op l)
@@ -425,7 +471,7 @@ module _ (x : Here) where
     operation_fits operations.Reverse =
         in_plain_step s a.same_mode _ _ (in_plain_rule s a.same_mode _ _ (beside_plain_rule s a.same_mode _ _
         (goes_on_fits (rule.reverse s) (step.reverse l)
-        (after_stack a (record { a = a.knows.stack.b; b = a.knows.stack.a; c = a.knows.stack.c })) changes n)))
+        (after_stack a (record { a = a.knows.registers.b; b = a.knows.registers.a; c = a.knows.registers.c })) changes n)))
     operation_fits operations.MinimumInteger =
         beside_plain_rule s a.same_mode _ _
         (beside_plain_step s a.same_mode _ _ (ldc_fits least_word (record { sfits = lit< tt })))
@@ -434,14 +480,14 @@ module _ (x : Here) where
         (schedules_fits s l _ _ a changes
         (λ s' memory b c e. pays_fits s' _ _ e (λ left next. it_ends c (omega arith))))))
     operation_fits (operations.Binary op) =
-        in_plain_step s a.same_mode _ _ (uses_fits s.stack.a l.registers.stack.a _ _ a.knows.stack.a (λ v means.
-        uses_fits s.stack.b l.registers.stack.b _ _ a.knows.stack.b (λ u other.
+        in_plain_step s a.same_mode _ _ (uses_fits s.stack.a l.registers.stack.a _ _ a.knows.registers.a (λ v means.
+        uses_fits s.stack.b l.registers.stack.b _ _ a.knows.registers.b (λ u other.
         becomes_fits (rule.pop s) (step.pop l) _ _
-        (after_stack a (record { a = a.knows.stack.b; b = a.knows.stack.c; c = says_nothing }))
-        changes n (result_means x.m x.act op s.stack.b.fact s.stack.a.fact u v other means))))
+        (after_stack a (record { a = a.knows.registers.b; b = a.knows.registers.c; c = unknown_means }))
+        changes n (result_means x.m x.act.layout op s.stack.b.fact s.stack.a.fact u v other means))))
     operation_fits (operations.Unary op) =
-        in_plain_step s a.same_mode _ _ (uses_fits s.stack.a l.registers.stack.a _ _ a.knows.stack.a (λ v means.
-        becomes_fits s l _ _ a changes n (unary_result_means x.m x.act op s.stack.a.fact v means)))
+        in_plain_step s a.same_mode _ _ (uses_fits s.stack.a l.registers.stack.a _ _ a.knows.registers.a (λ v means.
+        becomes_fits s l _ _ a changes n (unary_result_means x.m x.act.layout op s.stack.a.fact v means)))
     operation_fits _ = λ next. it_breaks
 
     instruction_fits : (i : Instruction) (e : ℤ) → FitsSigned w32 e

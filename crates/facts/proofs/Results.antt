@@ -13,16 +13,16 @@ use Rattle.module_format.specs.declared.fact.Fact.{Fact}
 use Rattle.module_format.specs.declared.fact.Fact.TheVariants.{Unknown, Number, Pointer, CodeAddress, Loop}
 use Rattle.module_format.specs.declared.fact.Fact.TheVariants.{ReturnAddress}
 use Rattle.module_format.specs.Contents.{Contents}
-use Rattle.facts.specs.Meaning.{Activation, Means, is_number}
+use Rattle.facts.specs.Meaning.{Layout, Means, is_number}
 use Rattle.facts.specs.Rules.{range_of, number_in, result_fact, unary_result_fact}
 
-module _ (m : Contents) (act : Activation) where
+module _ (m : Contents) (layout : Layout) where
   -- the range of a number, in which its value lies
   record Lies (r : Ends) (v : ℤ) : Type 0 where
     range : IsRange r
     member : InRange r v
 
-  lies : (fact : Fact) (v : ℤ) (r : Ends) → Means m act fact (Some v) → range_of fact ≡ Some r → Lies r v
+  lies : (fact : Fact) (v : ℤ) (r : Ends) → Means m layout fact (Some v) → range_of fact ≡ Some r → Lies r v
   lies (Number lo hi) v r (is_number low high fits) is = record {
     range = ((words_in_order_are_ranges lo hi r).0 is).0;
     member = (members_lie_between lo hi v r is).1 (low, high);
@@ -35,10 +35,10 @@ module _ (m : Contents) (act : Activation) where
 
   -- the fact, if there is one, holds of the result, and there is one
   abbrev pub ResultMeans : Option Fact → Option ℤ → Type 0
-  ResultMeans fact result = IfSome fact (λ f. IsSomeAnd result (λ v. Means m act f (Some v)))
+  ResultMeans fact result = IfSome fact (λ f. IsSomeAnd result (λ v. Means m layout f (Some v)))
 
   in_range : (t : Ends) (result : Option ℤ) → IsSomeAnd result (IsWordIn t)
-      → IsSomeAnd result (λ v. Means m act (number_in t) (Some v))
+      → IsSomeAnd result (λ v. Means m layout (number_in t) (Some v))
   in_range t None h = h
   in_range t (Some v) h = is_number h.member.from_lo h.member.to_hi h.word
 
@@ -48,8 +48,8 @@ module _ (m : Contents) (act : Activation) where
   of_range None result holds = tt
   of_range (Some t) result holds = in_range t result (holds t refl)
 
-  pub result_means : (op : BinaryOperation) (left right : Fact) (x y : ℤ) → Means m act left (Some x)
-      → Means m act right (Some y) → ResultMeans (result_fact op left right) (computed op x y)
+  pub result_means : (op : BinaryOperation) (left right : Fact) (x y : ℤ) → Means m layout left (Some x)
+      → Means m layout right (Some y) → ResultMeans (result_fact op left right) (computed op x y)
   unfolding result_fact
   result_means op left right x y p q = on_left (range_of left) refl
     where
@@ -75,7 +75,7 @@ module _ (m : Contents) (act : Activation) where
       on_left None is = tt
       on_left (Some r) is = on_right r (lies left x r p is) (range_of right) refl
 
-  pub unary_result_means : (op : UnaryOperation) (operand : Fact) (x : ℤ) → Means m act operand (Some x)
+  pub unary_result_means : (op : UnaryOperation) (operand : Fact) (x : ℤ) → Means m layout operand (Some x)
       → ResultMeans (unary_result_fact op operand) (unary_computed op x)
   unfolding unary_result_fact
   unary_result_means op operand x p = on_operand (range_of operand) refl

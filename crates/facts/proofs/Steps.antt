@@ -25,7 +25,7 @@ use Rattle.states.specs.State.{State, known, written}
 use Rattle.states.specs.Below.{below}
 use Rattle.machine_state.specs.declared.cpu.Flow.{Flow}
 use Rattle.facts.specs.Rules.{Ruling, Site, leads, breaks, outside_alternation, outside_starts, alone, uses, forward}
-use Rattle.facts.specs.Rules.{writes_word, reads_word, schedules, pays, leads_to, goes_on, goes_to, push, pop}
+use Rattle.facts.specs.Rules.{writes_word, reads_word, leads_to, goes_on, goes_to, push, pop}
 use Rattle.facts.specs.Rules.{loaded, instruction_rule, rule_of, rule, rule_at, has_rule, operation_rule, op_has_rule}
 use Rattle.facts.specs.Rules.{instruction_has_rule}
 use Rattle.facts.specs.Telling.{Admits, Advances}

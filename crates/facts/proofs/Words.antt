@@ -9,16 +9,22 @@ use Rattle.module_format.specs.declared.fact.Fact.{Fact}
 use Rattle.module_format.specs.declared.fact.Fact.TheVariants.{Unknown, Number, Pointer, CodeAddress, Loop}
 use Rattle.module_format.specs.declared.fact.Fact.TheVariants.{ReturnAddress}
 use Rattle.module_format.specs.Contents.{Contents}
-use Rattle.machine_state.specs.declared.process.Registers.{Registers}
 use Rattle.machine_state.specs.Memory.{Memory, place_of, local_address, data_start, word_at, with_word}
 use Rattle.machine_state.specs.Holding.{Holding}
 use Rattle.machine_state.proofs.Reading.{word_at-with_word, word_at-with_word_other}
 use Rattle.states.specs.declared.known.WordFact.{WordFact}
 use Rattle.states.specs.declared.known.WordFact.TheVariants.{Alone, Index, Count}
-use Rattle.states.specs.State.{State, is_word, is_tied, by_itself, handed_out, plain, with_fact, written}
-use Rattle.facts.specs.Meaning.{Activation, Means, says_nothing, is_number, is_pointer, is_code_address}
+use Rattle.states.specs.declared.known.Known.{Known}
+use Rattle.states.specs.declared.known.Source.{Source}
+use Rattle.states.specs.declared.known.Source.TheVariants.{Nowhere, From, Test}
+use Rattle.states.specs.State.{Facts, Change, is_word, is_parted, by_itself, handed_out, plain, changed, one_word}
+use Rattle.states.specs.State.{without_source, forgets}
+use Rattle.module_format.specs.declared.stack.Stack.{Stack}
+use Rattle.module_format.specs.Stack.{mapped}
+use Rattle.facts.specs.Meaning.{Layout, Activation, Means, says_nothing, is_number, is_pointer, is_code_address}
 use Rattle.facts.specs.Meaning.{is_return_address, MeansWord, is_fact, is_index, is_count, place_in, word_at_place}
-use Rattle.facts.specs.Meaning.{frame_word, IsOwnWord, HasFrame, Knows}
+use Rattle.facts.specs.Meaning.{frame_word, IsOwnWord, Words, HasFrame, ComesFrom, from_nowhere, from_word, from_test}
+use Rattle.facts.specs.Meaning.{MeansKnown, Knows}
 
 -- a word named from the workspace is the frame's word at depth + e
 address_of_word : (workspace place : ℕ) (e : ℤ) → FitsSigned w32 e → place < 1048576
@@ -26,11 +32,11 @@ address_of_word : (workspace place : ℕ) (e : ℤ) → FitsSigned w32 e → pla
 unfolding place_of local_address
 address_of_word workspace place e fits small is = omega (arith, ints)
 
-pub local_place : {h : Holding} {size : ℕ} {writes reads : ℤ → Bool} {origin depth : ℤ} {workspace : ℕ}
-    → HasFrame h size writes reads origin depth workspace → (e : ℤ) → FitsSigned w32 e
+pub local_place : {h : Holding} {size : ℕ} {words : Words} {origin depth : ℤ} {workspace : ℕ}
+    → HasFrame h size words origin depth workspace → (e : ℤ) → FitsSigned w32 e
     → (place : ℕ) → pos place ≡ place_in origin (depth +ℤ e) → place + 4 ≤ size
     → place_of (local_address workspace e) ≡ place
-local_place {h} {size} {writes} {reads} {origin} {depth} {workspace} f e fits place is inside =
+local_place {h} {size} {words} {origin} {depth} {workspace} f e fits place is inside =
     address_of_word workspace place e fits (omega (arith, f.small, inside)) (omega (arith, ints, f.start, is))
 
 -- the test of two numbers
@@ -63,31 +69,31 @@ means_same {m} {act} {k} {f} {g} {v} {u} means p q =
     subst (λ x. MeansWord m act k g x) q (subst (λ x. MeansWord m act k x v) p means)
 
 -- a value that is known is a word
-pub means_word : (m : Contents) (act : Activation) (f : Fact) (v : ℤ) → Means m act f (Some v)
+pub means_word : (m : Contents) (layout : Layout) (f : Fact) (v : ℤ) → Means m layout f (Some v)
     → (f ≡ Unknown) ⊎ FitsSigned w32 v
-means_word m act Unknown v says_nothing = inl refl
-means_word m act (Number lo hi) v (is_number low high fits) = inr fits
-means_word m act (Pointer region lo hi step) v (is_pointer offset low high stepped is) =
+means_word m layout Unknown v says_nothing = inl refl
+means_word m layout (Number lo hi) v (is_number low high fits) = inr fits
+means_word m layout (Pointer region lo hi step) v (is_pointer offset low high stepped is) =
     inr (subst (λ (z : ℤ). FitsSigned w32 z) (sym is) (SFits-int_wrap w32 _))
-means_word m act (CodeAddress offset) v (is_code_address is) =
+means_word m layout (CodeAddress offset) v (is_code_address is) =
     inr (subst (λ (z : ℤ). FitsSigned w32 z) (sym is) (SFits-int_wrap w32 _))
-means_word m act (Loop base count weight) v means = elim means [ ]
-means_word m act ReturnAddress v (is_return_address is) =
+means_word m layout (Loop base count weight) v means = elim means [ ]
+means_word m layout ReturnAddress v (is_return_address is) =
     inr (subst (λ (z : ℤ). FitsSigned w32 z) (sym is) (SFits-int_wrap w32 _))
 
 -- what is known of a word that is stored is known of the word that is read
-pub stored_means : (m : Contents) (act : Activation) (f : Fact) (v : ℤ) (memory : Memory) (place : ℕ)
-    → place + 4 ≤ length memory → Means m act f (Some v)
-    → Means m act f (word_at (with_word memory place (Some v)) place)
-stored_means m act f v memory place inside means = elim (means_word m act f v means) [
-  | inl unknown ↦ subst (λ (g : Fact). Means m act g (word_at (with_word memory place (Some v)) place))
+pub stored_means : (m : Contents) (layout : Layout) (f : Fact) (v : ℤ) (memory : Memory) (place : ℕ)
+    → place + 4 ≤ length memory → Means m layout f (Some v)
+    → Means m layout f (word_at (with_word memory place (Some v)) place)
+stored_means m layout f v memory place inside means = elim (means_word m layout f v means) [
+  | inl unknown ↦ subst (λ (g : Fact). Means m layout g (word_at (with_word memory place (Some v)) place))
       (sym unknown) says_nothing
-  | inr fits ↦ subst (λ (x : Option ℤ). Means m act f x) (sym (word_at-with_word memory place v inside fits)) means
+  | inr fits ↦ subst (λ (x : Option ℤ). Means m layout f x) (sym (word_at-with_word memory place v inside fits)) means
 ]
 
 -- what is known of a word of a loop says this by itself
 pub itself_means : (m : Contents) (act : Activation) (k : ℤ) (f : WordFact) (v : Option ℤ) → MeansWord m act k f v
-    → Means m act (by_itself f) v
+    → Means m act.layout (by_itself f) v
 itself_means m act k (Alone f) v (is_fact means) = means
 itself_means m act k (Index loop) None means = elim means [ ]
 itself_means m act k (Index loop) (Some x) (is_index some most is fits) =
@@ -98,10 +104,10 @@ itself_means m act k (Count loop) (Some x) (is_count some most is fits) =
 
 -- what is handed out of it
 pub plain_means : (m : Contents) (act : Activation) (k : ℤ) (f : WordFact) (v : Option ℤ) → MeansWord m act k f v
-    → Means m act (plain f) v
+    → Means m act.layout (plain f) v
 plain_means m act k f v means = handed_means (by_itself f) (itself_means m act k f v means)
   where
-    handed_means : (g : Fact) → Means m act g v → Means m act (handed_out g) v
+    handed_means : (g : Fact) → Means m act.layout g v → Means m act.layout (handed_out g) v
     handed_means Unknown known = says_nothing
     handed_means (Number lo hi) known = known
     handed_means (Pointer region lo hi step) known = known
@@ -127,60 +133,104 @@ words_apart origin j k place other is other_is differ = elim (int_le_tells j k) 
   | inr p ↦ inr (omega (arith, ints, p.1, is, other_is))
 ]
 
--- what is left of a loop of which word k is written is true by itself
-left_means : (m : Contents) (act : Activation) (j k : ℤ) (f : WordFact) (v : Option ℤ) → MeansWord m act j f v
-    → MeansWord m act j (cond (is_tied j f k) (Alone (by_itself f)) f) v
-left_means m act j k f v means = elim (bool_cases (is_tied j f k)) [
-  | inl e ↦ means_same (is_fact (itself_means m act j f v means))
+-- ---- changes of what is known of words
+
+-- what is left of a loop whose other word is touched is true by itself
+left_means : (m : Contents) (act : Activation) (touches : ℤ → Bool) (k : ℤ) (f : WordFact) (v : Option ℤ)
+    → MeansWord m act k f v → MeansWord m act k (cond (is_parted touches k f) (Alone (by_itself f)) f) v
+left_means m act touches k f v means = elim (bool_cases (is_parted touches k f)) [
+  | inl e ↦ means_same (is_fact (itself_means m act k f v means))
       (sym (ap (λ (b : Bool). cond b (Alone (by_itself f)) f) e)) refl
   | inr e ↦ means_same means (sym (ap (λ (b : Bool). cond b (Alone (by_itself f)) f) e)) refl
 ]
 
--- the facts after a write
-pub knows_written : (m : Contents) (h : Holding) (reads : ℤ → Bool) (s : State) (act : Activation) (k : ℤ)
-    (r : Registers) (memory : Memory) (f : Fact) (v : Option ℤ)
-    → reads k ≡ true → (w : IsOwnWord h (length memory) act.origin k)
-    → Knows m reads s act r memory → Means m act f (word_at (with_word memory w.place v) w.place)
-    → Knows m reads (written k f s) act r (with_word memory w.place v)
-unfolding written
-knows_written m h reads s act k r memory f v readable w known here = record {
-  stack = record { a = known.stack.a; b = known.stack.b; c = known.stack.c };
-  words = words;
-  within = within;
+-- Memory changed as what is known did: a touched word has what the change leaves of it, and the others are the same.
+pub record Follows (m : Contents) (counts : ℤ → Bool) (layout : Layout) (change : Change)
+    (old new : Memory) : Type 0 where
+  pub touched : (k : ℤ) (f : Fact) → counts k ≡ true → change.touches k ≡ true
+      → Means m layout f (frame_word old layout.origin k)
+      → Means m layout (change.leaves k f) (frame_word new layout.origin k)
+  pub kept : (k : ℤ) → counts k ≡ true → change.touches k ≡ false
+      → frame_word new layout.origin k ≡ frame_word old layout.origin k
+
+-- a register that speaks of no touched word
+source_means : {counts : ℤ → Bool} {old new : Memory} {origin : ℤ} (touches : ℤ → Bool)
+    → ((k : ℤ) → counts k ≡ true → touches k ≡ false → frame_word new origin k ≡ frame_word old origin k)
+    → (source : Source) (v : Option ℤ) → ComesFrom counts old origin source v
+    → ComesFrom counts new origin (without_source touches source) v
+source_means touches kept Nowhere v comes = from_nowhere
+source_means {counts} {old} {new} {origin} touches kept (From word) v (from_word inside is) =
+    elim (bool_cases (touches word)) [
+      | inl e ↦ subst (λ (s : Source). ComesFrom counts new origin s v)
+          (sym (ap (λ (b : Bool). cond b Nowhere (From word)) e)) from_nowhere
+      | inr e ↦ subst (λ (s : Source). ComesFrom counts new origin s v)
+          (sym (ap (λ (b : Bool). cond b Nowhere (From word)) e)) (from_word inside (is ∙ sym (kept word inside e)))
+    ]
+source_means {counts} {old} {new} {origin} touches kept (Test word lo hi within) v (from_test x inside is tested) =
+    elim (bool_cases (touches word)) [
+      | inl e ↦ subst (λ (s : Source). ComesFrom counts new origin s v)
+          (sym (ap (λ (b : Bool). cond b Nowhere (Test word lo hi within)) e)) from_nowhere
+      | inr e ↦ subst (λ (s : Source). ComesFrom counts new origin s v)
+          (sym (ap (λ (b : Bool). cond b Nowhere (Test word lo hi within)) e))
+          (from_test x inside (kept word inside e ∙ is) tested)
+    ]
+
+-- The law of changes: what was known before, and is changed as memory is, is known afterwards.
+pub knows_changed : {m : Contents} {counts : ℤ → Bool} {act : Activation} {said : Stack Known} {facts : Facts}
+    {stack : Stack (Option ℤ)} {old new : Memory} (change : Change) → Follows m counts act.layout change old new
+    → Knows m counts act said facts stack old
+    → Knows m counts act (mapped (forgets change.touches) said) (changed change facts) stack new
+knows_changed {m} {counts} {act} {said} {facts} {stack} {old} {new} change follows known = record {
+  registers = record {
+    a = register said.a stack.a known.registers.a;
+    b = register said.b stack.b known.registers.b;
+    c = register said.c stack.c known.registers.c;
+  };
+  words = λ k inside. elim (bool_cases (change.touches k)) [
+    | inl e ↦ means_same
+        (is_fact (follows.touched k (by_itself (facts k)) inside e
+        (itself_means m act k (facts k) _ (known.words k inside))))
+        (sym (ap (λ (b : Bool). cond b (Alone (change.leaves k (by_itself (facts k))))
+        (cond (is_parted change.touches k (facts k)) (Alone (by_itself (facts k))) (facts k))) e)) refl
+    | inr e ↦ means_same (left_means m act change.touches k (facts k) _ (known.words k inside))
+        (sym (ap (λ (b : Bool). cond b (Alone (change.leaves k (by_itself (facts k))))
+        (cond (is_parted change.touches k (facts k)) (Alone (by_itself (facts k))) (facts k))) e))
+        (sym (follows.kept k inside e))
+  ];
 }
   where
-    is_here : (j : ℤ) → is_word j k ≡ true → with_fact k f s.frame j ≡ Alone f
-    is_here j e = ap (λ (b : Bool). cond b (Alone f) (cond (is_tied j (s.frame j) k) (Alone (by_itself (s.frame j)))
-        (s.frame j))) e
+    register : (known : Known) (v : Option ℤ) → MeansKnown m counts act.layout old known v
+        → MeansKnown m counts act.layout new (forgets change.touches known) v
+    register known v means = record {
+      fact = means.fact;
+      source = source_means change.touches follows.kept known.source v means.source;
+    }
 
-    is_there : (j : ℤ) → is_word j k ≡ false
-        → with_fact k f s.frame j ≡ cond (is_tied j (s.frame j) k) (Alone (by_itself (s.frame j))) (s.frame j)
-    is_there j e = ap (λ (b : Bool). cond b (Alone f) (cond (is_tied j (s.frame j) k) (Alone (by_itself (s.frame j)))
-        (s.frame j))) e
+-- a write to a word of the frame leaves the others
+pub word_elsewhere : (memory : Memory) (origin j k : ℤ) (place : ℕ) (v : Option ℤ) → pos place ≡ place_in origin k
+    → (j ≡ k → ⊥) → frame_word (with_word memory place v) origin j ≡ frame_word memory origin j
+word_elsewhere memory origin j k place v is differ = at_place (place_in origin j) refl
+  where
+    at_place : (other : ℤ) → other ≡ place_in origin j
+        → word_at_place (with_word memory place v) other ≡ word_at_place memory other
+    at_place (pos other) there =
+        word_at-with_word_other memory place other v (words_apart origin j k other place there is differ)
+    at_place (negsuc n) there = refl
 
-    is_nothing : (j : ℤ) → is_word j k ≡ false → reads j ≡ false → with_fact k f s.frame j ≡ Alone Unknown
-    is_nothing j e outside =
-        is_there j e ∙ ap (λ (x : WordFact). cond (is_tied j x k) (Alone (by_itself x)) x) (known.within j outside)
-
-    at_place : (j place : ℤ) → (j ≡ k → ⊥) → place ≡ place_in act.origin j
-        → word_at_place memory place ≡ word_at_place (with_word memory w.place v) place
-    at_place j (pos place) differ is =
-        sym (word_at-with_word_other memory w.place place v (words_apart act.origin j k place w.place is w.is differ))
-    at_place j (negsuc n) differ is = refl
-
-    other : (j : ℤ) → (j ≡ k → ⊥) → frame_word memory act.origin j ≡ frame_word
-        (with_word memory w.place v) act.origin j
-    other j differ = at_place j (place_in act.origin j) differ refl
-
-    words : (j : ℤ) → MeansWord m act j (with_fact k f s.frame j) (frame_word (with_word memory w.place v) act.origin j)
-    words j = elim (word_test j k) [
-      | inl e ↦ means_same (is_fact here) (sym (is_here j e.0))
-          (ap (word_at_place (with_word memory w.place v)) (w.is ∙ ap (place_in act.origin) (sym e.1)))
-      | inr e ↦ means_same (left_means m act j k (s.frame j) _ (known.words j)) (sym (is_there j e.0)) (other j e.1)
-    ]
-
-    within : (j : ℤ) → reads j ≡ false → with_fact k f s.frame j ≡ Alone Unknown
-    within j outside = elim (word_test j k) [
-      | inl e ↦ let x : true ≡ false = sym readable ∙ ap reads (sym e.1) ∙ outside in absurd (cc)
-      | inr e ↦ is_nothing j e.0 outside
-    ]
+-- one word that is written
+pub write_follows : (m : Contents) (h : Holding) (counts : ℤ → Bool) (layout : Layout) (k : ℤ) (memory : Memory)
+    (f : Fact) (v : Option ℤ) (w : IsOwnWord h (length memory) layout.origin k)
+    → Means m layout f (word_at (with_word memory w.place v) w.place)
+    → Follows m counts layout (one_word k f) memory (with_word memory w.place v)
+write_follows m h counts layout k memory f v w here = record {
+  touched = λ j said inside e means. elim (word_test j k) [
+    | inl same ↦ subst (λ (x : Option ℤ). Means m layout f x)
+        (sym (frame_word_is (with_word memory w.place v) layout.origin j w.place
+        (w.is ∙ ap (place_in layout.origin) (sym same.1)))) here
+    | inr differ ↦ let no' : true ≡ false = sym e ∙ differ.0 in absurd (cc)
+  ];
+  kept = λ j inside e. elim (word_test j k) [
+    | inl same ↦ let no' : true ≡ false = sym same.0 ∙ e in absurd (cc)
+    | inr differ ↦ word_elsewhere memory layout.origin j k w.place v w.is differ.1
+  ];
+}

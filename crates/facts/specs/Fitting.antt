@@ -5,7 +5,6 @@ use Rattle.std.specs.Prelude.{◌≡◌, ℕ, ◌+◌, ◌*◌, ◌≤◌, ◌<�
 use Rattle.std.specs.Int.{w32}
 use Rattle.prefix_decoder.specs.declared.function.Fun.{Fun}
 use Rattle.module_format.specs.Contents.{Contents, Label, label_at}
-use Rattle.certificate.specs.Rights.{may_write_word, may_read_word}
 use Rattle.machine_state.specs.declared.process.Mode as machine
 use Rattle.machine_state.specs.Memory.{Memory}
 use Rattle.machine_state.specs.Holding.{Holding}
@@ -18,25 +17,24 @@ use Rattle.states.specs.declared.rule.Rule.{Rule}
 use Rattle.states.specs.State.{State, label_state}
 use Rattle.facts.specs.Rules as rule
 use Rattle.facts.specs.Rules.{Ruling, falls, leads, ends, breaks}
-use Rattle.facts.specs.Meaning.{Activation, with_turns, HasFrame, Knows, SameMode, IsWellFormed}
+use Rattle.facts.specs.Meaning.{Activation, with_turns, words_of, HasFrame, Knows, owed, SameMode, IsWellFormed}
 
 -- what holds behind an instruction: the frame is still there, and the state is known
 pub record After (m : Contents) (h : Holding) (mode : machine.Mode) (act : Activation) (s : State)
     (l : Local) : Type 0 where
-  pub frame : HasFrame h (length l.memory) (may_write_word m s.context)
-      (may_read_word m s.context) act.origin s.depth l.registers.workspace
-  pub knows : Knows m (may_read_word m s.context) s act l.registers l.memory
+  pub frame : HasFrame h (length l.memory) (words_of m s) act.layout.origin s.depth l.registers.workspace
+  pub knows : Knows m (words_of m s).reads act s.stack s.frame l.registers.stack l.memory
   pub same_mode : SameMode s.mode mode
 
--- where an instruction runs: the module, what the process holds, its activation, its mode, memory and number before,
--- and the place of the instruction
+-- where an instruction runs: the module, what the process holds, its activation, its mode, memory and what it owed
+-- before, and the place of the instruction
 pub record Here : Type 0 where
   pub m : Contents
   pub h : Holding
   pub act : Activation
   pub mode : machine.Mode
   pub memory : Memory
-  pub number : ℕ
+  pub owed : ℕ
   pub at : ℕ
   pub len : ℕ
 
@@ -54,14 +52,14 @@ step_site x = record {
 }
 
 -- A ruling and an outcome fit each other. Behind the instruction the activation is the same; at a label its loops may
--- have other turns left.
+-- have other turns left. Of what was owed each byte of the instruction is paid.
 pub data Fits (x : Here) : Ruling → Outcome → Type 0 where
   it_falls : {s : State} {l : Local} → x.at + x.len < length x.m.code → After x.m x.h x.mode x.act s l
-      → ChangesOwn x.h x.memory l.memory → s.number + x.len ≡ x.number → Fits x (falls s) (goes l)
+      → ChangesOwn x.h x.memory l.memory → owed s x.act + x.len ≤ x.owed → Fits x (falls s) (goes l)
   it_leads : {to : ℕ} {l : Local} {t : Label} (turns : ℤ → ℕ) → label_at x.m to ≡ Some t → to < length x.m.code
       → After x.m x.h x.mode (with_turns turns x.act) (label_state t) l → ChangesOwn x.h x.memory l.memory
-      → t.number + x.len ≤ x.number → Fits x (leads to) (jumps to l)
-  it_ends : {l : Local} → ChangesOwn x.h x.memory l.memory → x.len ≤ x.number → Fits x ends (stops l)
+      → owed (label_state t) (with_turns turns x.act) + x.len ≤ x.owed → Fits x (leads to) (jumps to l)
+  it_ends : {l : Local} → ChangesOwn x.h x.memory l.memory → x.len ≤ x.owed → Fits x ends (stops l)
   it_breaks : {broken : Rule} {o : Outcome} → Fits x (breaks broken) o
 
 -- what falls through has code behind it
@@ -72,6 +70,6 @@ HasNext x r = (s : State) → r ≡ falls s → x.at + x.len < length x.m.code
 abbrev pub RulesFitSteps : Type 0
 RulesFitSteps =
     (x : Here) (s : State) (l : Local) (f : Fun) (e : ℤ) → IsWellFormed x.m → After x.m x.h x.mode x.act s l
-    → ChangesOwn x.h x.memory l.memory → s.number ≡ x.number
+    → ChangesOwn x.h x.memory l.memory → owed s x.act ≤ x.owed
     → FitsSigned w32 e → HasNext x (rule.rule (rule_site x) f e s)
     → Fits x (rule.rule (rule_site x) f e s) (step.local_step (step_site x) f e l)

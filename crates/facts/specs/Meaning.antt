@@ -1,6 +1,7 @@
 -- What the facts of a state mean of a process.
 use Rattle.std.specs.Prelude.{◌≡◌, ⊤, ℕ, ◌+◌, ◌*◌, ◌-◌, ◌≤◌, ◌<◌, ◌==◌, ℤ, pos, negsuc, ◌+ℤ◌, ◌-ℤ◌, ◌*ℤ◌, ◌≤ℤ◌}
-use Rattle.std.specs.Prelude.{FitsSigned, Bool, true, false, IsTrue, if◌then◌else◌, List, length, Option, Some, None}
+use Rattle.std.specs.Prelude.{FitsSigned, Bool, true, not, ◌&&◌, int_le, IsTrue, if◌then◌else◌, List, length, Option}
+use Rattle.std.specs.Prelude.{zero, suc, neg_ℤ, Some, None}
 use Rattle.std.specs.Int.{w32, int_wrap}
 use Rattle.std.specs.List.{AllByRecursion}
 use Rattle.module_format.specs.declared.fact.Fact.{Fact}
@@ -12,7 +13,9 @@ use Rattle.module_format.specs.declared.rows.Entry.{Entry}
 use Rattle.module_format.specs.Order.{is_stepped}
 use Rattle.module_format.specs.Contents.{Contents, Label, label_at}
 use Rattle.module_format.specs.Stack.{AreRelated}
-use Rattle.machine_state.specs.declared.process.Registers.{Registers}
+use Rattle.certificate.specs.Rights as rights
+use Rattle.word_arithmetic.specs.Word.{truth}
+use Rattle.module_format.specs.declared.stack.Stack.{Stack}
 use Rattle.machine_state.specs.declared.process.Mode as machine
 use Rattle.machine_state.specs.declared.process.Mode.TheVariants as machine_modes
 use Rattle.machine_state.specs.Memory.{Memory, word_at, data_start}
@@ -21,18 +24,23 @@ use Rattle.machine_state.specs.World.{constants_start}
 use Rattle.states.specs.declared.known.Mode as states
 use Rattle.states.specs.declared.known.Mode.TheVariants as states_modes
 use Rattle.states.specs.declared.known.Known.{Known}
+use Rattle.states.specs.declared.known.Source.{Source}
+use Rattle.states.specs.declared.known.Source.TheVariants.{Nowhere, From, Test}
 use Rattle.states.specs.declared.known.Loop.{Loop as CountedLoop}
 use Rattle.states.specs.declared.known.WordFact.{WordFact}
 use Rattle.states.specs.declared.known.WordFact.TheVariants.{Alone, Index, Count}
 use Rattle.states.specs.State.{State, Facts, entry_fact}
 use Rattle.states.specs.Rows.{IsRowOf}
 
--- One activation of the root, a procedure or a branch: where its regions lie, where it returns to, and the turns that
--- its loops have left. The machine keeps none of it.
-pub record Activation : Type 0 where
+-- Where the regions of an activation lie, and where it returns to.
+pub record Layout : Type 0 where
   pub origin : ℤ  -- the place of frame word 0
   pub starts : ℕ → ℕ  -- the address of the first byte of what parameter j names
   pub back : ℕ  -- the code offset to which it returns
+
+-- One activation of the root, a procedure or a branch. The machine keeps none of it.
+pub record Activation : Type 0 where
+  pub layout : Layout
   pub turns : ℤ → ℕ  -- the turns left of the loop whose index is in this word
 
 -- the same activation, but for the turns of its loops
@@ -47,10 +55,10 @@ code_address m offset = data_start + 4 * m.data_words + offset
 
 -- the address where a region starts: 0 is the frame, whose offsets count from its word 0, 1 the constants, and 2 + j
 -- what parameter j names
-abbrev pub region_start : Contents → Activation → ℕ → ℤ
-region_start m act region =
-    if region == 0 then pos data_start +ℤ act.origin
-    else (if region == 1 then pos (data_start + constants_start m) else pos (act.starts (region - 2)))
+abbrev pub region_start : Contents → Layout → ℕ → ℤ
+region_start m layout region =
+    if region == 0 then pos data_start +ℤ layout.origin
+    else (if region == 1 then pos (data_start + constants_start m) else pos (layout.starts (region - 2)))
 
 -- an address as the machine has it: the word that it is modulo 2^32
 abbrev pub word_of : ℤ → ℤ
@@ -62,28 +70,28 @@ IsOffset Byte offset = ⊤
 IsOffset Word offset = IsTrue (is_stepped offset)
 
 -- A fact holds of a value, which is none where it is undefined. No value alone is a loop.
-pub data Means (m : Contents) (act : Activation) : Fact → Option ℤ → Type 0 where
-  says_nothing : {v : Option ℤ} → Means m act Unknown v
-  is_number : {lo hi x : ℤ} → lo ≤ℤ x → x ≤ℤ hi → FitsSigned w32 x → Means m act (Number lo hi) (Some x)
+pub data Means (m : Contents) (layout : Layout) : Fact → Option ℤ → Type 0 where
+  says_nothing : {v : Option ℤ} → Means m layout Unknown v
+  is_number : {lo hi x : ℤ} → lo ≤ℤ x → x ≤ℤ hi → FitsSigned w32 x → Means m layout (Number lo hi) (Some x)
   is_pointer : {region : ℕ} {lo hi x : ℤ} {step : Step} (offset : ℤ) → lo ≤ℤ offset → offset ≤ℤ hi
-      → IsOffset step offset → x ≡ word_of (region_start m act region +ℤ offset)
-      → Means m act (Pointer region lo hi step) (Some x)
+      → IsOffset step offset → x ≡ word_of (region_start m layout region +ℤ offset)
+      → Means m layout (Pointer region lo hi step) (Some x)
   is_code_address : {offset : ℕ} {x : ℤ} → x ≡ word_of (pos (code_address m offset))
-      → Means m act (CodeAddress offset) (Some x)
-  is_return_address : {x : ℤ} → x ≡ word_of (pos (code_address m act.back)) → Means m act ReturnAddress (Some x)
+      → Means m layout (CodeAddress offset) (Some x)
+  is_return_address : {x : ℤ} → x ≡ word_of (pos (code_address m layout.back)) → Means m layout ReturnAddress (Some x)
 
 -- What is known of word k holds of its value: by itself; or it is the index of a loop that has c turns left, base +
 -- count - c; or the count of one, c.
 pub data MeansWord (m : Contents) (act : Activation) (k : ℤ) : WordFact → Option ℤ → Type 0 where
-  is_fact : {fact : Fact} {v : Option ℤ} → Means m act fact v → MeansWord m act k (Alone fact) v
+  is_fact : {fact : Fact} {v : Option ℤ} → Means m act.layout fact v → MeansWord m act k (Alone fact) v
   is_index : {loop : CountedLoop} {x : ℤ} → 1 ≤ act.turns k → act.turns k ≤ loop.count
       → x ≡ loop.base +ℤ pos loop.count -ℤ pos (act.turns k) → FitsSigned w32 x
       → MeansWord m act k (Index loop) (Some x)
   is_count : {loop : CountedLoop} {x : ℤ} → 1 ≤ act.turns (k -ℤ pos 1) → act.turns (k -ℤ pos 1) ≤ loop.count
       → x ≡ pos (act.turns (k -ℤ pos 1)) → FitsSigned w32 x → MeansWord m act k (Count loop) (Some x)
 
-pub means_unknown : (m : Contents) (act : Activation) (v : Option ℤ) → Means m act Unknown v
-means_unknown m act v = says_nothing
+pub means_unknown : (m : Contents) (layout : Layout) (v : Option ℤ) → Means m layout Unknown v
+means_unknown m layout v = says_nothing
 
 pub nothing_known : (m : Contents) (act : Activation) (k : ℤ) (v : Option ℤ) → MeansWord m act k (Alone Unknown) v
 nothing_known m act k v = is_fact says_nothing
@@ -115,30 +123,81 @@ pub record IsOwnWord (h : Holding) (size : ℕ) (origin k : ℤ) : Type 0 where
   pub inside : place + 4 ≤ size
   pub mine : may_write_word h place ≡ true
 
--- Where the frame lies: the words that the context may write are the process's own, it may read those that the context
--- may read, and the workspace is `depth` words from frame word 0.
-pub record HasFrame (h : Holding) (size : ℕ) (writes reads : ℤ → Bool) (origin depth : ℤ) (workspace : ℕ) : Type 0 where
+-- the words of a frame that count for a process: those that it may write, and those that it may read
+pub record Words : Type 0 where
+  pub writes : ℤ → Bool
+  pub reads : ℤ → Bool
+
+-- the words that count in a state: those that its context may use
+abbrev pub words_of : Contents → State → Words
+words_of m s = record { writes = rights.may_write_word m s.context; reads = rights.may_read_word m s.context }
+
+-- Where the frame lies: the words that count as written are the process's own, it may read those that count as read,
+-- and the workspace is `depth` words from frame word 0.
+pub record HasFrame (h : Holding) (size : ℕ) (words : Words) (origin depth : ℤ) (workspace : ℕ) : Type 0 where
   pub small : size ≤ 1048576
-  pub own : (k : ℤ) → writes k ≡ true → IsOwnWord h size origin k
-  pub readable : (k : ℤ) → reads k ≡ true → IsReadableWord h size origin k
+  pub own : (k : ℤ) → words.writes k ≡ true → IsOwnWord h size origin k
+  pub readable : (k : ℤ) → words.reads k ≡ true → IsReadableWord h size origin k
   pub start : pos workspace ≡ pos data_start +ℤ place_in origin depth
+
+-- ---- registers
+
+-- the number lies from lo to hi, or it does not where `inside` is false
+abbrev pub is_tested : ℤ → ℤ → Bool → ℤ → Bool
+is_tested lo hi inside x = if inside then int_le lo x && int_le x hi else not (int_le lo x && int_le x hi)
+
+-- Where a value comes from: from a word that counts, which has it still; or it is whether that word lies in a range.
+pub data ComesFrom (counts : ℤ → Bool) (memory : Memory) (origin : ℤ) : Source → Option ℤ → Type 0 where
+  from_nowhere : {v : Option ℤ} → ComesFrom counts memory origin Nowhere v
+  from_word : {word : ℤ} {v : Option ℤ} → counts word ≡ true → v ≡ frame_word memory origin word
+      → ComesFrom counts memory origin (From word) v
+  from_test : {word lo hi : ℤ} {inside : Bool} {v : Option ℤ} (x : ℤ) → counts word ≡ true
+      → frame_word memory origin word ≡ Some x → v ≡ Some (truth (is_tested lo hi inside x))
+      → ComesFrom counts memory origin (Test word lo hi inside) v
+
+-- what is known of a register holds of its value
+pub record MeansKnown (m : Contents) (counts : ℤ → Bool) (layout : Layout) (memory : Memory) (known : Known)
+    (v : Option ℤ) : Type 0 where
+  pub fact : Means m layout known.fact v
+  pub source : ComesFrom counts memory layout.origin known.source v
 
 -- ---- states
 
--- what is known of a register holds of its word
-abbrev pub MeansKnown : Contents → Activation → Known → Option ℤ → Type 0
-MeansKnown m act known word = Means m act known.fact word
-
--- all that the state says holds in an activation, and it says nothing of a word that the context may not read
-pub record Knows (m : Contents) (reads : ℤ → Bool) (s : State) (act : Activation) (r : Registers)
-    (memory : Memory) : Type 0 where
-  pub stack : AreRelated (MeansKnown m act) s.stack r.stack
-  pub words : (k : ℤ) → MeansWord m act k (s.frame k) (frame_word memory act.origin k)
-  pub within : (k : ℤ) → reads k ≡ false → s.frame k ≡ Alone Unknown
+-- All that is said of registers and words holds in an activation, of the words that count.
+pub record Knows (m : Contents) (counts : ℤ → Bool) (act : Activation) (said : Stack Known) (facts : Facts)
+    (stack : Stack (Option ℤ)) (memory : Memory) : Type 0 where
+  pub registers : AreRelated (MeansKnown m counts act.layout memory) said stack
+  pub words : (k : ℤ) → counts k ≡ true → MeansWord m act k (facts k) (frame_word memory act.layout.origin k)
 
 -- the modes of a state and of a process (those of alternation and of starts come with them)
 pub data SameMode : states.Mode → machine.Mode → Type 0 where
   both_plain : SameMode states_modes.Plain machine_modes.Plain
+
+-- ---- what is owed
+
+-- what the loop whose index is in a word has still to pay: its weight for each turn that is left but this one
+abbrev pub loop_due : WordFact → ℕ → ℕ
+loop_due (Alone fact) turns = 0
+loop_due (Index loop) turns = loop.weight * (turns - 1)
+loop_due (Count loop) turns = 0
+
+-- what the loops have still to pay whose indices are in so many words from this one on
+abbrev pub dues_from : Facts → (ℤ → ℕ) → ℤ → ℕ → ℕ
+dues_from facts turns word zero = 0
+dues_from facts turns word (suc more) =
+    loop_due (facts word) (turns word) + dues_from facts turns (word +ℤ pos 1) more
+
+-- No frame has words farther from its word 0.
+unfoldable pub farthest_word : ℕ
+farthest_word = 16384
+
+-- what the loops of a frame have still to pay
+unfoldable pub dues : Facts → (ℤ → ℕ) → ℕ
+dues facts turns = dues_from facts turns (neg_ℤ (pos farthest_word)) (2 * farthest_word)
+
+-- What a process owes that is in a state in an activation: its number, and what the loops there have still to pay.
+abbrev pub owed : State → Activation → ℕ
+owed s act = s.number + dues s.frame act.turns
 
 -- ---- loops at a label
 

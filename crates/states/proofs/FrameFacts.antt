@@ -1,6 +1,6 @@
 -- What is known of the words of a frame, written over a label's row.
 use Rattle.std.proofs.Common.{◌≡◌, ℕ, ℤ, pos, negsuc, ◌+ℤ◌, ◌-ℤ◌, ◌≤ℤ◌, ◌<ℤ◌, nat_abs, Bool, true, false, ◌&&◌, cond}
-use Rattle.std.proofs.Common.{eqb, List, [], Some, None, refl, sym, ap, ◌∙◌, arith, ◌⊎◌, inl, inr}
+use Rattle.std.proofs.Common.{eqb, List, Some, refl, sym, ap, ◌∙◌, arith, ◌⊎◌, inl, inr}
 use std.Path.{fun_ext}
 use Rattle.std.specs.Prelude.{int_le, option_map, unwrap_or}
 use Rattle.std.proofs.lemmas.Bool.{cases_eq, cases_lt}
@@ -10,7 +10,7 @@ use Rattle.module_format.specs.declared.fact.Fact.{Fact}
 use Rattle.module_format.specs.declared.rows.Entry.{Entry}
 use Rattle.states.specs.declared.overlay.Written.{Written}
 use Rattle.states.specs.Lookup.{lookup}
-use Rattle.states.specs.State.{Facts, by_itself, is_word, is_tied, with_fact, entry_fact}
+use Rattle.states.specs.State.{Facts, by_itself, is_word, is_at, is_parted, with_fact, entry_fact}
 use Rattle.states.specs.declared.known.Loop.{Loop}
 use Rattle.states.specs.declared.known.LoopWord.{LoopWord}
 use Rattle.states.specs.declared.known.LoopWord.TheVariants as words
@@ -101,14 +101,14 @@ part-index : (before behind : Bool) (loop : Loop)
 part-index true behind loop = refl
 part-index false behind loop = refl
 
--- the word before one is the word that one is behind
-before-behind : (w j : ℤ) → is_word j (w -ℤ pos 1) ≡ is_word w (j +ℤ pos 1)
-before-behind w j = elim (word-cases j (w -ℤ pos 1)) [
-  | inl h ↦ let same = h.1 in h.0 ∙ sym (is_word-same w (j +ℤ pos 1) (omega (arith, ints)))
-  | inr h ↦ h ∙ sym (elim (word-cases w (j +ℤ pos 1)) [
+-- two numbers are the same where two others are that lie as far apart
+as-far : (j k u w : ℤ) → j -ℤ k ≡ u -ℤ w → is_word j k ≡ is_word u w
+as-far j k u w far = elim (word-cases j k) [
+  | inl h ↦ let same = h.1 in h.0 ∙ sym (is_word-same u w (omega (arith, ints)))
+  | inr h ↦ h ∙ sym (elim (word-cases u w) [
     | inl g ↦
         let same = g.1 in
-        let yes = is_word-same j (w -ℤ pos 1) (omega (arith, ints)) in
+        let yes = is_word-same j k (omega (arith, ints)) in
         let clash : true ≡ false = sym yes ∙ h in
         absurd (cc)
     | inr g ↦ g
@@ -118,12 +118,15 @@ before-behind w j = elim (word-cases j (w -ℤ pos 1)) [
 -- what is known of a word once those are parted that are in a loop with word w
 parted-word : (w j : ℤ) (fact : WordFact)
     → parted_if (is_word j (w +ℤ pos 1)) words.Count (parted_if (is_word j (w -ℤ pos 1)) words.Index fact)
-    ≡ cond (is_tied j fact w) (Alone (by_itself fact)) fact
+    ≡ cond (is_parted (is_at w) j fact) (Alone (by_itself fact)) fact
 parted-word w j (Alone fact) = refl
 parted-word w j (Index loop) =
     part-index (is_word j (w -ℤ pos 1)) (is_word j (w +ℤ pos 1)) loop
-    ∙ ap (λ b. cond b (Alone (by_itself (Index loop))) (Index loop)) (before-behind w j)
-parted-word w j (Count loop) = refl
+    ∙ ap (λ b. cond b (Alone (by_itself (Index loop))) (Index loop))
+    (as-far j (w -ℤ pos 1) (j +ℤ pos 1) w (omega (arith, ints)))
+parted-word w j (Count loop) =
+    ap (λ b. cond b (Alone (by_itself (Count loop))) (Count loop))
+    (as-far j (w +ℤ pos 1) (j -ℤ pos 1) w (omega (arith, ints)))
 
 -- a word is written once the words are parted that can be in a loop with it
 pub parts-write : (w : ℤ) (fact : Fact) (facts : Facts)

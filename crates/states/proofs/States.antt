@@ -14,7 +14,7 @@ use Rattle.module_format.specs.Contents.{Contents, procedure_of}
 use Rattle.module_format.specs.Contexts.{context_at, own_context, owner, branch_count, root_context, procedure_context}
 use Rattle.certificate.specs.Rights.{has_word}
 use Rattle.states.specs.declared.known.Known.{Known}
-use Rattle.states.specs.State.{State, Facts, with_fact, forgets, written}
+use Rattle.states.specs.State.{State, Facts, is_at, with_fact, forgets, written}
 use Rattle.states.specs.Room.{Covers}
 use Rattle.states.specs.declared.state.State.{State as InMemory}
 use Rattle.states.specs.Views.{CanWrite}
@@ -22,14 +22,14 @@ use Rattle.states.proofs.RowFacts.{and-parts, le-from, lt-from}
 
 -- a state whose fields are those of one with a word written is that one
 pub written-fields : (word w v : ℤ) (fact : Fact) (s : State) (a b c : Known) (frame : Facts)
-    → a ≡ forgets w s.stack.a → b ≡ forgets w s.stack.b → c ≡ forgets w s.stack.c → frame ≡ with_fact v fact s.frame
-    → w ≡ word → v ≡ word
+    → a ≡ forgets (is_at w) s.stack.a → b ≡ forgets (is_at w) s.stack.b → c ≡ forgets (is_at w) s.stack.c
+    → frame ≡ with_fact v fact s.frame → w ≡ word → v ≡ word
     → ◌≡◌ {A = State} (record s { stack = record { a = a; b = b; c = c }; frame = frame }) (written word fact s)
 unfolding written
 written-fields word w v fact s a b c frame p q r f w_is v_is =
-    let a_is = p ∙ ap (λ (z : ℤ). forgets z s.stack.a) w_is in
-    let b_is = q ∙ ap (λ (z : ℤ). forgets z s.stack.b) w_is in
-    let c_is = r ∙ ap (λ (z : ℤ). forgets z s.stack.c) w_is in
+    let a_is = p ∙ ap (λ (z : ℤ). forgets (is_at z) s.stack.a) w_is in
+    let b_is = q ∙ ap (λ (z : ℤ). forgets (is_at z) s.stack.b) w_is in
+    let c_is = r ∙ ap (λ (z : ℤ). forgets (is_at z) s.stack.c) w_is in
     let frame_is = f ∙ ap (λ (z : ℤ). with_fact z fact s.frame) v_is in
     λ i. record s { stack = record { a = a_is i; b = b_is i; c = c_is i }; frame = frame_is i }
 

@@ -8,6 +8,8 @@ use Rattle.module_format.specs.declared.fact.Fact.TheVariants.{ReturnAddress}
 use Rattle.module_format.specs.declared.fact.Step.{Step}
 use Rattle.module_format.specs.declared.fact.Step.TheVariants.{Byte, Word}
 use Rattle.module_format.specs.declared.rows.Entry.{Entry}
+use Rattle.module_format.specs.declared.stack.Stack.{Stack}
+use Rattle.module_format.specs.Stack.{mapped}
 use Rattle.module_format.specs.Contents.{Label}
 use Rattle.states.specs.declared.rule.Rule.{Rule}
 use Rattle.states.specs.declared.rule.Rule.TheVariants as rules
@@ -99,9 +101,34 @@ price facts entry = elim entry.fact [
   | _ ↦ 0
 ]
 
+-- ---- what is compared with a label
+
+-- Where a process would go on, and what is known there.
+pub record View : Type 0 where
+  pub context : ℕ
+  pub depth : ℤ
+  pub stack : Stack Fact
+  pub frame : Facts
+  pub is_settled : Bool  -- it is in the middle of nothing
+
 -- the label's number, and the loops that are entered
-abbrev pub cost : State → Label → ℕ
-cost s t = t.number + sum_by (price s.frame) t.entries
+abbrev pub cost : View → Label → ℕ
+cost v t = t.number + sum_by (price v.frame) t.entries
+
+-- it is where the label is, and knows at least as much
+abbrev pub agrees : View → Label → Bool
+agrees v t =
+    (v.context == t.context) && is_word v.depth t.depth && v.is_settled
+    && implies v.stack.a t.stack.a && implies v.stack.b t.stack.b && implies v.stack.c t.stack.c
+    && entries_hold v.frame t.entries && list_all (is_whole v.frame) t.entries
+
+-- What it costs one who may pay this number to go on as the label, or the rule that is broken: the number does not
+-- cover it, or less is known. The number has no bound.
+abbrev pub compared : ℕ → View → Label → Result ℕ Rule
+compared number v t =
+    if nat_lt number (cost v t) then Err rules.Budget
+    else if agrees v t then Ok (cost v t)
+    else Err rules.Label
 
 -- ---- states
 
@@ -111,16 +138,16 @@ is_plain Enabling = false
 is_plain (Disabling done) = false
 is_plain (Starting row started) = false
 
--- the state stands where the label's does, and knows at least as much
-abbrev pub agrees : State → Label → Bool
-agrees s t =
-    (s.context == t.context) && is_word s.depth t.depth && is_plain s.mode
-    && implies s.stack.a.fact t.stack.a && implies s.stack.b.fact t.stack.b && implies s.stack.c.fact t.stack.c
-    && entries_hold s.frame t.entries && list_all (is_whole s.frame) t.entries
+-- a state, as it is compared
+abbrev pub view : State → View
+view s = record {
+  context = s.context;
+  depth = s.depth;
+  stack = mapped (λ known. known.fact) s.stack;
+  frame = s.frame;
+  is_settled = is_plain s.mode;
+}
 
 -- what going on as the label costs, or the rule that is broken: the state cannot pay, or it knows less
 unfoldable pub below : State → Label → Result ℕ Rule
-below s t =
-    if nat_lt s.number (cost s t) then Err rules.Budget
-    else if agrees s t then Ok (cost s t)
-    else Err rules.Label
+below s t = compared s.number (view s) t

@@ -72,16 +72,36 @@ no_facts = λ _. Alone Unknown
 abbrev pub is_word : ℤ → ℤ → Bool
 is_word j k = int_le j k && int_le k j
 
--- word j, of which this is known, is in one loop with word k
-abbrev pub is_tied : ℤ → WordFact → ℤ → Bool
-is_tied j (Alone fact) k = false
-is_tied j (Index loop) k = is_word k (j +ℤ pos 1)
-is_tied j (Count loop) k = is_word j (k +ℤ pos 1)
+-- this word
+abbrev pub is_at : ℤ → ℤ → Bool
+is_at k = λ j. is_word j k
 
--- word k has this fact from now on; a loop that loses one of its words leaves what the other says by itself
+-- ---- changes of what is known of words
+
+-- How what is known of words changes: which words are touched, and what is known of each of these afterwards, by its
+-- number and what it said by itself before.
+pub record Change : Type 0 where
+  pub touches : ℤ → Bool
+  pub leaves : ℤ → Fact → Fact
+
+-- the other word of the loop is touched in which this word is
+abbrev pub is_parted : (ℤ → Bool) → ℤ → WordFact → Bool
+is_parted touches k (Alone fact) = false
+is_parted touches k (Index loop) = touches (k +ℤ pos 1)
+is_parted touches k (Count loop) = touches (k -ℤ pos 1)
+
+-- What is known after a change. A loop that loses one of its words leaves what the other says by itself.
+abbrev pub changed : Change → Facts → Facts
+changed change facts = λ k.
+    if change.touches k then Alone (change.leaves k (by_itself (facts k)))
+    else if is_parted change.touches k (facts k) then Alone (by_itself (facts k)) else facts k
+
+-- word k has this fact from now on
+abbrev pub one_word : ℤ → Fact → Change
+one_word k fact = record { touches = is_at k; leaves = λ j said. fact }
+
 abbrev pub with_fact : ℤ → Fact → Facts → Facts
-with_fact k fact facts = λ j.
-    if is_word j k then Alone fact else if is_tied j (facts j) k then Alone (by_itself (facts j)) else facts j
+with_fact k fact facts = changed (one_word k fact) facts
 
 -- ---- entries
 
@@ -104,18 +124,18 @@ entry_fact (entry ∷ entries) k =
 
 -- ---- sources
 
--- a source that speaks of word k says nothing once k is written
-abbrev pub without_source : ℤ → Source → Source
-without_source k Nowhere = Nowhere
-without_source k (From word) = if is_word word k then Nowhere else From word
-without_source k (Test word lo hi inside) = if is_word word k then Nowhere else Test word lo hi inside
+-- a source that speaks of a word says nothing once the word is touched
+abbrev pub without_source : (ℤ → Bool) → Source → Source
+without_source touches Nowhere = Nowhere
+without_source touches (From word) = if touches word then Nowhere else From word
+without_source touches (Test word lo hi inside) = if touches word then Nowhere else Test word lo hi inside
 
-abbrev pub forgets : ℤ → Known → Known
-forgets k known = record known { source = without_source k known.source }
+abbrev pub forgets : (ℤ → Bool) → Known → Known
+forgets touches known = record known { source = without_source touches known.source }
 
 -- word k has this fact, and no register speaks of what it was
 unfoldable pub written : ℤ → Fact → State → State
-written k fact s = record s { stack = mapped (forgets k) s.stack; frame = with_fact k fact s.frame }
+written k fact s = record s { stack = mapped (forgets (is_at k)) s.stack; frame = with_fact k fact s.frame }
 
 -- ---- states
 

@@ -1,8 +1,8 @@
 //! When a state may go on as a label's.
 
-ghost use Rattle.std.specs.Prelude.{◌≡◌, ◌≤◌, SomeIff};
+ghost use Rattle.std.specs.Prelude.{◌≡◌, ◌≤◌, SomeIff, IfOk};
 ghost use Rattle.module_format.specs.Contents.{label_of};
-ghost use Rattle.states.specs.Below.{cost, is_plain, agrees, below};
+ghost use Rattle.states.specs.Below.{view, cost, is_plain, agrees, compared, below};
 ghost use Rattle.states.specs.Rows.{AreApart};
 ghost use Rattle.states.specs.Views.{state_of};
 ghost use Rattle.states.specs.Numbers.{reported};
@@ -22,7 +22,7 @@ fn is_plain(mode: Mode) -> bool
 /// Whether a state stands where a label's does, and knows at least as much.
 fn agrees(state: &State, row: &LabelRow) -> bool
     requires { AreApart row.now.entries.items }
-    ensures { result ≡ agrees (state_of state.now) (label_of row.now) }
+    ensures { result ≡ agrees (view (state_of state.now)) (label_of row.now) }
 {
     state.context == u32::from(row.context)
         && state.depth == row.depth
@@ -34,13 +34,27 @@ fn agrees(state: &State, row: &LabelRow) -> bool
         && state.frame.is_whole(&row.entries)
 }
 
-/// The label's number and the price of the loops that are entered, where the state's number covers them.
-fn cost(state: &State, row: &LabelRow) -> Option<u64>
-    ensures { let cost = cost (state_of state.now) (label_of row.now) in SomeIff result (cost ≤ state.now.number) cost }
+/// The label's number and the price of the loops that are entered, if this number covers them.
+fn cost(number: u128, state: &State, row: &LabelRow) -> Option<u128>
+    ensures { let cost = cost (view (state_of state.now)) (label_of row.now) in SomeIff result (cost ≤ number) cost }
 {
-    let left = state.number.checked_sub(row.number)?;
+    let left = number.checked_sub(u128::from(row.number))?;
     let left = state.frame.left_of(left, &row.entries)?;
-    Some(state.number - left)
+    Some(number - left)
+}
+
+/// What it costs a state that may pay this number to go on as a label's, by what it knows. `Rule::Budget`: the
+/// number does not cover it. `Rule::Label`: it is elsewhere, or knows less.
+pub fn compare(number: u128, state: &State, row: &LabelRow) -> Result<u128, Rule>
+    requires { AreApart row.now.entries.items }
+    ensures compared { result ≡ compared number (view (state_of state.now)) (label_of row.now) }
+    ensures covered { IfOk result (λ cost. cost ≤ number) }
+{
+    let cost = cost(number, state, row).ok_or(Rule::Budget)?;
+    if !agrees(state, row) {
+        return Err(Rule::Label);
+    }
+    Ok(cost)
 }
 
 /// What it costs a state to go on as a label's: the label's number, and for each loop that it enters the
@@ -52,11 +66,8 @@ pub fn cost_below(state: &State, row: &LabelRow) -> Result<u64, Rule>
     requires { AreApart row.now.entries.items }
     ensures { result ≡ below (state_of state.now) (label_of row.now) }
 {
-    let cost = cost(state, row).ok_or(Rule::Budget)?;
-    if !agrees(state, row) {
-        return Err(Rule::Label);
-    }
-    Ok(cost)
+    let cost = compare(u128::from(state.number), state, row)?;
+    Ok(cost as u64)
 }
 
 /// What `cost_below` answers, with the rule as its number.

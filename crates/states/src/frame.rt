@@ -249,9 +249,9 @@ impl<'a> Frame<'a> {
     }
 
     /// What it costs to enter the loop that an entry wants: its weight for each turn but the first, where its
-    /// words are constants. None where that is no number of 64 bits.
-    fn price(&self, entry: &Entry) -> Option<u64>
-        ensures { SomeIff result (price (frame_facts self.now) entry.now < 2 ^ 64) (price (frame_facts self.now) entry.now) }
+    /// words are constants. None where that is no number of 128 bits.
+    fn price(&self, entry: &Entry) -> Option<u128>
+        ensures { SomeIff result (price (frame_facts self.now) entry.now < 2 ^ 128) (price (frame_facts self.now) entry.now) }
     {
         match entry.fact {
             Fact::Loop {
@@ -266,14 +266,14 @@ impl<'a> Frame<'a> {
                 if !holds_constant(self.fact_at(word + 1), i64::from(count)) {
                     return Some(0);
                 }
-                weight.checked_mul(u64::from(count.saturating_sub(1)))
+                u128::from(weight).checked_mul(u128::from(count.saturating_sub(1)))
             }
             _ => Some(0),
         }
     }
 
     /// What is left of a number once the loops are entered that a row wants, where it covers them.
-    pub(crate) fn left_of(&self, number: u64, row: &[Entry]) -> Option<u64>
+    pub(crate) fn left_of(&self, number: u128, row: &[Entry]) -> Option<u128>
         ensures { let prices = sum_by (price (frame_facts self.now)) row.now in SomeIff result (prices ≤ number) (number - prices) }
     {
         let mut left = number;

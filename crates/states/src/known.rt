@@ -5,7 +5,7 @@ ghost use Rattle.states.specs.State.{by_itself, handed_out, plain, is_alone};
 ghost use Rattle.states.specs.Rows.{LoopFits};
 ghost use Rattle.states.specs.Frames.{is_loop_word};
 
-use certificate::Fact;
+use certificate::{EndKind, Fact};
 
 /// A loop that a frame counts in two words, its index and its count.
 #[derive(Clone, Copy, Debug, PartialEq, Eq)]
@@ -119,13 +119,29 @@ pub struct Known {
     pub source: Source,
 }
 
-/// What a guard of an alternation is known by.
-#[derive(Clone, Copy, Debug, PartialEq, Eq)]
-pub enum Guard {
+/// What a guard of an alternation waits for.
+#[derive(Clone, Copy)]
+pub enum GuardKind {
+    /// A sender at this channel.
+    Channel(EndKind),
+    /// Nothing: it is always ready.
+    Skip,
+}
+
+/// What the truth of a guard is known by.
+#[derive(Clone, Copy)]
+pub enum GuardName {
     /// A constant.
     Constant(i32),
     /// The value of a frame word.
     Word(i32),
+}
+
+/// A guard of an alternation, as it was enabled.
+#[derive(Clone, Copy)]
+pub struct Guard {
+    pub kind: GuardKind,
+    pub name: GuardName,
 }
 
 /// What a state is in the middle of.

@@ -10,9 +10,9 @@ mod row;
 mod rule;
 mod state;
 
-pub use comparison::{below, cost_below};
+pub use comparison::{below, compare, cost_below};
 pub use implication::{implies, says};
-pub use known::{Guard, Known, Loop, Mode, Source, WordFact};
+pub use known::{Guard, GuardKind, GuardName, Known, Loop, Mode, Source, WordFact};
 pub use rule::{
     ALTERNATION, BUDGET, CALL, CHANNEL, FLOW, FORWARD, INSTRUCTION_START, LABEL, MEMORY,
     MESSAGE_LENGTH, NUMBER, OWN_WORD, PAR, POINTER, REGIONS_MEET, Rule, RuleFault, SPELLING,

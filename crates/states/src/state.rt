@@ -6,7 +6,7 @@ ghost use Rattle.module_format.specs.Contents.{Contents, contents_of, procedure_
 ghost use Rattle.certificate.specs.Rights.{may_write_word, may_read_word};
 ghost use Rattle.module_format.specs.Keeping.{Keeps};
 ghost use Rattle.module_format.specs.Stack.{pushed, popped, reversed};
-ghost use Rattle.states.specs.State.{unknown, known, without_source, forgets, written, begun, root_state};
+ghost use Rattle.states.specs.State.{unknown, known, is_at, without_source, forgets, written, begun, root_state};
 ghost use Rattle.states.specs.State.{procedure_state, label_state};
 ghost use Rattle.states.specs.Rows.{LoopFits, IsRowOf};
 ghost use Rattle.states.specs.Views.{state_of, CanWrite, BelongsTo, IsUsable};
@@ -38,7 +38,7 @@ pub struct State<'a> {
 
 /// The source, once a word is written.
 fn without_source(word: i32, source: Source) -> Source
-    ensures { result ≡ without_source word source }
+    ensures { result ≡ without_source (is_at word) source }
 {
     match source {
         Source::From { word: from } if from == word => Source::Nowhere,
@@ -49,7 +49,7 @@ fn without_source(word: i32, source: Source) -> Source
 
 /// What is known of a register, once a word is written.
 fn forgets(word: i32, known: Known) -> Known
-    ensures { result ≡ forgets word known }
+    ensures { result ≡ forgets (is_at word) known }
 {
     Known {
         fact: known.fact,

@@ -18,7 +18,7 @@ use Rattle.states.specs.Rows.{IsRowOf}
 use Rattle.states.proofs.LabelRows.{label_rows}
 use Rattle.verifier.specs.Judge.{first_start}
 use Rattle.verifier.specs.declared.rows.Rows.{Rows}
-use Rattle.verifier.specs.Judging.{RiseFrom, label_in, LabelsLeft, ProceduresLeft, AreLeft, IsLabelRow, Begins}
+use Rattle.verifier.specs.Judging.{RiseFrom, label_in, LabelsLeft, ProceduresLeft, AreLeft, Begins}
 use Rattle.verifier.proofs.Given.{start_of_none}
 use Rattle.verifier.proofs.Judging.{no_first_start}
 

@@ -7,7 +7,6 @@ use Rattle.std.proofs.lemmas.Bool.{le-leb}
 use Rattle.std.proofs.lemmas.Int.{ints}
 use Rattle.std.specs.Prelude.{slice_get, int_le, int_lt}
 use Rattle.module_format.specs.Contents.{Contents, Par}
-use Rattle.certificate.specs.Rights as rights
 use Rattle.certificate.specs.Rights.{has_word}
 use Rattle.module_format.specs.Contexts.{root_context, own_context, branch_count, owner, context_at}
 use Rattle.machine_state.specs.declared.process.Mode.TheVariants as machine_modes
@@ -16,21 +15,27 @@ use Rattle.machine_state.specs.declared.link.OutputLink.{OutputLink}
 use Rattle.machine_state.specs.Memory.{data_start}
 use Rattle.machine_state.specs.Holding.{may_write, may_write_word}
 use Rattle.machine_state.specs.World.{Role, padding, loaded_memory, root_holding, root_task, root_role, quiet_links}
-use Rattle.machine_state.specs.World.{loaded}
+use Rattle.machine_state.specs.World.{World, loaded}
 use Rattle.machine_state.specs.Site.{Local}
-use Rattle.states.specs.State.{root_state}
+use Rattle.states.specs.State.{unknown, root_state}
 use Rattle.verifier.specs.Certified.{begins, IsCertified}
-use Rattle.facts.specs.Meaning.{Activation, means_unknown, nothing_known, IsOwnWord, HasFrame, both_plain, IsWellFormed}
+use Rattle.facts.specs.Meaning.{owed, Activation, means_unknown, nothing_known, IsOwnWord, words_of, HasFrame, from_nowhere}
+use Rattle.facts.specs.Meaning.{MeansKnown, both_plain, IsWellFormed}
 use Rattle.verifier.specs.Point.{Decodes}
 use Rattle.machine_state.specs.Apart.{AllApart}
 use Rattle.verifier.specs.Invariant.{Meets, it_lives, Holds}
 use Rattle.machine_state.specs.Waiting.{Waiters}
-use Rattle.verifier.specs.Headline.{RunsWell}
+use Rattle.machine_state.specs.declared.event.Event.{Event}
+use Rattle.machine_state.specs.Happens.{happens}
+use Rattle.module_format.specs.Keeping.{Keeps}
+use Rattle.verifier.specs.Headline.{IsEvent, RunsWell}
+use Rattle.verifier.proofs.Kept.{decodes, well_formed}
 use Rattle.facts.specs.Fitting.{After}
+use Rattle.facts.proofs.Dues.{nothing_due}
 use Rattle.facts.proofs.Local.{readable}
 use Rattle.states.proofs.RowFacts.{and-parts, le-from, lt-from}
 use Rattle.verifier.proofs.Steps.{enter, lives_at}
-use Rattle.verifier.proofs.Worlds.{run_holds}
+use Rattle.verifier.proofs.Worlds.{happens_holds, run_holds}
 
 -- no branch comes before the root
 owner_of_root : (first : ℕ) (rows : List Par) → 0 < first → owner first rows 0 ≡ 0
@@ -95,8 +100,8 @@ root_word m k h =
     }
 
 root_frame : (m : Contents) → IsWellFormed m
-    → HasFrame (root_holding m) (length (loaded_memory m)) (rights.may_write_word m 0) (rights.may_read_word m 0)
-    (pos (4 * m.base)) (pos 0) (data_start + 4 * m.base)
+    → HasFrame (root_holding m) (length (loaded_memory m)) (words_of m (root_state m)) (pos (4 * m.base)) (pos 0)
+    (data_start + 4 * m.base)
 root_frame m wf = record {
   small = rw (memory_length m) (omega (arith, wf.few_words, wf.short_code, wf.few_constants));
   own = λ k h. root_word m k (and-parts _ _ h).0;
@@ -153,19 +158,21 @@ module _ (m : Contents) (d : Decodes m) (wf : IsWellFormed m) (c : IsCertified m
 
   -- the root has no parameters, returns nowhere, and is in no loop
   abbrev root_activation : Activation
-  root_activation = record { origin = pos (4 * m.base); starts = λ j. 0; back = 0; turns = λ k. 0 }
+  root_activation = record {
+    layout = record { origin = pos (4 * m.base); starts = λ j. 0; back = 0 };
+    turns = λ k. 0;
+  }
+
+  -- nothing is known of a register
+  nothing_there : MeansKnown m (words_of m (root_state m)).reads root_activation.layout (loaded_memory m) unknown None
+  nothing_there = record { fact = means_unknown m root_activation.layout None; source = from_nowhere }
 
   root_after : After m (root_holding m) machine_modes.Plain root_activation (root_state m) root_local
   root_after = record {
     frame = root_frame m wf;
     knows = record {
-      stack = record {
-        a = means_unknown m root_activation None;
-        b = means_unknown m root_activation None;
-        c = means_unknown m root_activation None;
-      };
-      words = λ k. nothing_known m root_activation k _;
-      within = λ k out. refl;
+      registers = record { a = nothing_there; b = nothing_there; c = nothing_there };
+      words = λ k inside. nothing_known m root_activation k _;
     };
     same_mode = both_plain;
   }
@@ -177,23 +184,23 @@ module _ (m : Contents) (d : Decodes m) (wf : IsWellFormed m) (c : IsCertified m
       let lives = lives_at m d wf c (root_holding m) machine_modes.Plain en.act 0
       (Some (root_state m)) en.state root_local begins wf.some_code en.stands en.after in
       record {
-        dues = en.state.number ∷ [];
+        dues = owed en.state en.act ∷ [];
         table = record {
           each = λ p t h.
               let x = only (root_task m) t p h in
               record {
                 role = root_role m;
                 has_role = ap (λ n. slice_get (root_role m ∷ []) n) x.0;
-                due = en.state.number;
-                has_due = ap (λ n. slice_get (en.state.number ∷ []) n) x.0;
-                meets = subst (λ u. Meets m (root_holding m) (loaded_memory m) u en.state.number) x.1 (it_lives lives);
+                due = owed en.state en.act;
+                has_due = ap (λ n. slice_get (owed en.state en.act ∷ []) n) x.0;
+                meets = subst (λ u. Meets m (root_holding m) (loaded_memory m) u (owed en.state en.act)) x.1 (it_lives lives);
               };
         };
         line = record { ready = (record { task = root_task m; here = refl; ready = refl }, tt); once = (tt, tt) };
         few = omega arith;
         waiters = no_waiters m;
         apart = root_apart m;
-        owed = omega (arith, en.paid);
+        owed = let none = nothing_due root_activation.turns in omega (arith, en.paid, none);
         well = refl;
       }
 
@@ -201,3 +208,12 @@ module _ (m : Contents) (d : Decodes m) (wf : IsWellFormed m) (c : IsCertified m
   runs_well events are =
       let h = run_holds m d wf c events are (loaded m) loaded_holds in
       record { no_fault = h.well; apart = h.apart; within_budget = omega (arith, h.owed) }
+
+-- ---- the same of modules that keep the format
+
+pub loaded_world_holds : (m : Contents) → Keeps m → IsCertified m → Holds m (loaded m)
+loaded_world_holds m k c = loaded_holds m (decodes m k) (well_formed m k) c
+
+pub event_keeps_holding : (m : Contents) (e : Event) (w : World) → Keeps m → IsCertified m → IsEvent e → Holds m w
+    → Holds m (happens m w e)
+event_keeps_holding m e w k c is holds = happens_holds m (decodes m k) (well_formed m k) c e is w holds

@@ -1,8 +1,8 @@
 -- One byte of one process.
 use Rattle.std.proofs.Common.{◌≡◌, ℕ, zero, suc, ◌+◌, ◌*◌, ◌≤◌, ◌<◌, Bool, true, cond, is_some, inl, inr, ℤ, List, [], ◌∷◌}
 use Rattle.std.proofs.Common.{length, drop, Option, Some, None, Result, Ok, Err, refl, sym, ap, ◌∙◌, subst, arith}
-use Rattle.std.proofs.Common.{add-one}
-use Rattle.std.proofs.lemmas.Bool.{cases_lt, cases_Bool}
+use Rattle.std.proofs.Common.{add-one, pos}
+use Rattle.std.proofs.lemmas.Bool.{cases_lt}
 use Rattle.std.specs.Prelude.{slice_get}
 use Rattle.prefix_decoder.specs.declared.function.Fun.{Fun}
 use Rattle.prefix_decoder.specs.declared.decoding.Instr.{Instr}
@@ -10,8 +10,8 @@ use Rattle.prefix_decoder.specs.declared.decoding.DecodeFault.{DecodeFault}
 use Rattle.prefix_decoder.specs.Functions.{fun_of, function_code, nibble}
 use Rattle.prefix_decoder.specs.Operand.{with_nibble, after_prefix}
 use Rattle.prefix_decoder.specs.Fetching.{ended_or, read, fetched}
+use Rattle.module_format.specs.declared.stack.Stack.{Stack}
 use Rattle.module_format.specs.Contents.{Contents, Label, label_at}
-use Rattle.certificate.specs.Rights as rights
 use Rattle.certificate.specs.Starts.{procedure_at, Entered as Begun}
 use Rattle.machine_state.specs.declared.process.Registers.{Registers}
 use Rattle.machine_state.specs.declared.process.Task.{Task}
@@ -25,20 +25,24 @@ use Rattle.machine_state.specs.LocalStep.{local_step}
 use Rattle.machine_state.specs.Happens.{between}
 use Rattle.states.specs.declared.rule.Rule.{Rule}
 use Rattle.states.specs.declared.rule.Rule.TheVariants as rules
-use Rattle.states.specs.State.{State, label_state}
+use Rattle.states.specs.declared.known.Known.{Known}
+use Rattle.states.specs.declared.known.Source.{Source}
+use Rattle.states.specs.declared.known.Source.TheVariants.{Nowhere, From, Test}
+use Rattle.states.specs.State.{State, Facts, label_state}
 use Rattle.states.specs.Below.{below}
 use Rattle.facts.specs.Rules.{Ruling, falls, breaks, rule_at}
 use Rattle.verifier.specs.Certified.{falling, state_at, Reaches, follows, IsCertified}
-use Rattle.facts.specs.Meaning.{Activation, with_turns, at_label, nothing_known, word_at_place, frame_word}
-use Rattle.facts.specs.Meaning.{IsReadableWord, HasFrame, Knows, IsWellFormed}
+use Rattle.facts.specs.Meaning.{owed, Activation, with_turns, at_label, word_at_place, frame_word, words_of}
+use Rattle.facts.specs.Meaning.{ComesFrom, from_nowhere, from_word, from_test, MeansKnown, Knows, IsWellFormed}
 use Rattle.machine_state.specs.Frame.{ChangesOwn}
 use Rattle.verifier.specs.Point.{IsReading, Stands, Decodes}
 use Rattle.verifier.specs.Invariant.{Lives}
 use Rattle.facts.proofs.Words.{means_same, frame_word_is}
 use Rattle.states.proofs.RowFacts.{and-parts}
 use Rattle.facts.specs.Fitting.{After, Here, step_site, Fits, it_falls, it_leads, it_ends, it_breaks}
-use Rattle.facts.proofs.Local.{function_fits}
+use Rattle.facts.proofs.Local.{same_frame, elsewhere, function_fits}
 use Rattle.facts.proofs.Entering.{below_tells, label_after}
+use Rattle.facts.proofs.Dues.{label_owed}
 use Rattle.verifier.proofs.Given.{nothing_given, is_given, given_label, given_none, label_is_start}
 
 same_ok : {A E : Type 0} (r : Result A E) (x y : A) → r ≡ Ok x → r ≡ Ok y → x ≡ y
@@ -65,28 +69,51 @@ four_readable h place e =
     let r = and-parts _ _ q.0 in
     (r.0, r.1, q.1, p.1)
 
-pub knows_agree : (m : Contents) (h : Holding) (reads : ℤ → Bool) (s : State) (act : Activation) (r : Registers)
-    (memory later : Memory) → ((k : ℤ) → reads k ≡ true → IsReadableWord h (length memory) act.origin k)
-    → ((place : ℕ) → may_read h place ≡ true → byte_at later place ≡ byte_at memory place)
-    → Knows m reads s act r memory → Knows m reads s act r later
-knows_agree m h reads s act r memory later readable agree known = record {
-  stack = known.stack;
-  words = λ k. elim (cases_Bool (reads k)) [
-    | inl inside ↦ means_same (known.words k) refl (same k inside)
-    | inr outside ↦ means_same (nothing_known m act k (frame_word later act.origin k))
-        (sym (known.within k outside)) refl
-  ];
-  within = known.within;
+-- what is known of words and registers, in a memory that has the same words
+knows_agree : {m : Contents} {counts : ℤ → Bool} {act : Activation} {said : Stack Known} {facts : Facts}
+    {stack : Stack (Option ℤ)} {memory later : Memory}
+    → ((k : ℤ) → counts k ≡ true → frame_word memory act.layout.origin k ≡ frame_word later act.layout.origin k)
+    → Knows m counts act said facts stack memory → Knows m counts act said facts stack later
+knows_agree {m} {counts} {act} {said} {facts} {stack} {memory} {later} same known = record {
+  registers = record {
+    a = register said.a stack.a known.registers.a;
+    b = register said.b stack.b known.registers.b;
+    c = register said.c stack.c known.registers.c;
+  };
+  words = λ k inside. means_same (known.words k inside) refl (same k inside);
 }
   where
-    same : (k : ℤ) → reads k ≡ true → frame_word memory act.origin k ≡ frame_word later act.origin k
+    comes : (source : Source) (v : Option ℤ) → ComesFrom counts memory act.layout.origin source v
+        → ComesFrom counts later act.layout.origin source v
+    comes Nowhere v from_nowhere = from_nowhere
+    comes (From word) v (from_word inside is) = from_word inside (is ∙ same word inside)
+    comes (Test word lo hi within) v (from_test x inside is tested) =
+        from_test x inside (sym (same word inside) ∙ is) tested
+
+    register : (known : Known) (v : Option ℤ) → MeansKnown m counts act.layout memory known v
+        → MeansKnown m counts act.layout later known v
+    register known v means = record { fact = means.fact; source = comes known.source v means.source }
+
+-- all that holds behind an instruction holds whatever happens to bytes that the process may not read
+pub after_agrees : {m : Contents} {h : Holding} {mode : machine.Mode} {act : Activation} {s : State} {l : Local}
+    (later : Memory) → length later ≡ length l.memory
+    → ((place : ℕ) → may_read h place ≡ true → byte_at later place ≡ byte_at l.memory place)
+    → After m h mode act s l → After m h mode act s (record l { memory = later })
+after_agrees {m} {h} {mode} {act} {s} {l} later size agree a = record {
+  frame = same_frame (sym size) a.frame;
+  knows = knows_agree same a.knows;
+  same_mode = a.same_mode;
+}
+  where
+    same : (k : ℤ) → (words_of m s).reads k ≡ true
+        → frame_word l.memory act.layout.origin k ≡ frame_word later act.layout.origin k
     same k inside =
-        let w = readable k inside in
+        let w = a.frame.readable k inside in
         let four = four_readable h w.place w.readable in
-        let at : (place : ℕ) → may_read h place ≡ true → byte_at memory place ≡ byte_at later place =
+        let at : (place : ℕ) → may_read h place ≡ true → byte_at l.memory place ≡ byte_at later place =
         λ place e. sym (agree place e) in
-        frame_word_is memory act.origin k w.place w.is
-        ∙ word_same memory later w.place (at _ four.0) (at _ four.1) (at _ four.2) (at _ four.3)
+        frame_word_is l.memory act.layout.origin k w.place w.is
+        ∙ word_same l.memory later w.place (at _ four.0) (at _ four.1) (at _ four.2) (at _ four.3)
         ∙ sym (ap (word_at_place later) (sym w.is))
 
 -- ---- reading the code
@@ -163,7 +190,7 @@ after_some (Some f) g e n rest i some h =
     let fg : f ≡ g = cc in
     (sym fg ∙ ap (λ (j : Instr). j.fun) is, ap (λ (j : Instr). j.operand) is, ap (λ (j : Instr). j.len) is)
 
-fits_pays : (x : Here) {r : Ruling} {o : Outcome} → Fits x r o → ((v : Rule) → r ≡ breaks v → ⊥) → x.len ≤ x.number
+fits_pays : (x : Here) {r : Ruling} {o : Outcome} → Fits x r o → ((v : Rule) → r ≡ breaks v → ⊥) → x.len ≤ x.owed
 fits_pays x (it_falls low after changes pay) whole = omega arith
 fits_pays x (it_leads turns label low after changes pay) whole = omega arith
 fits_pays x (it_ends changes pay) whole = pay
@@ -189,20 +216,20 @@ module _ (m : Contents) (d : Decodes m) (wf : IsWellFormed m) (c : IsCertified m
       ]
 
   -- the state behind, where one falls in, and its activation
-  pub record Entered (h : Holding) (mode : machine.Mode) (at number : ℕ) (before : Option State)
+  pub record Entered (h : Holding) (mode : machine.Mode) (at most : ℕ) (before : Option State)
       (l : Local) : Type 0 where
     pub state : State
     pub stands : state_at m at before ≡ Some state
     pub act : Activation
     pub after : After m h mode act state l
-    pub paid : state.number ≤ number
+    pub paid : owed state act ≤ most
 
   -- at a label, or where the tables give no state
   enter_on : (h : Holding) (mode : machine.Mode) (act : Activation) (at : ℕ) (s : State) (l : Local) (cost : ℕ)
       (label : Option Label) (begun : Option Begun) → label_at m at ≡ label → procedure_at m at ≡ begun
       → After m h mode act s l → elim label as (λ o. Result ℕ Rule)
       [ None ↦ cond (is_some begun) (Err rules.Flow) (Ok 0) | Some t ↦ below s t ] ≡ Ok cost
-      → Entered h mode at s.number (Some s) l
+      → Entered h mode at (owed s act) (Some s) l
   enter_on h mode act at s l cost None None no_label no_procedure a ok = record {
     state = s;
     stands = nothing_given m at (Some s) (given_none m at no_label no_procedure);
@@ -218,11 +245,11 @@ module _ (m : Contents) (d : Decodes m) (wf : IsWellFormed m) (c : IsCertified m
         stands = is_given m at (Some s) (label_state t) (given_label m at t e);
         act = at_label s t act;
         after = label_after m h mode act s t l wf at e b.1 a;
-        paid = b.0;
+        paid = label_owed s t cost act (wf.pairs at t e) ok;
       }
 
   pub enter : (h : Holding) (mode : machine.Mode) (act : Activation) (at : ℕ) (s : State) (l : Local)
-      → Reaches m at (Some s) → at < length m.code → After m h mode act s l → Entered h mode at s.number (Some s) l
+      → Reaches m at (Some s) → at < length m.code → After m h mode act s l → Entered h mode at (owed s act) (Some s) l
   enter h mode act at s l r low a =
       let holds = c.holds.each at (Some s) low r in
       enter_on h mode act at s l holds.cost (label_at m at) (procedure_at m at) refl refl a holds.enters
@@ -234,7 +261,7 @@ module _ (m : Contents) (d : Decodes m) (wf : IsWellFormed m) (c : IsCertified m
         registers = between at l.registers;
         mode = mode;
         condition = Ready;
-      }) s.number
+      }) (owed s act)
   lives_at h mode act at before s l r low st a =
       let holds = c.holds.each at before low r in
       record {
@@ -254,20 +281,11 @@ module _ (m : Contents) (d : Decodes m) (wf : IsWellFormed m) (c : IsCertified m
                 rest = d.reads at holds.instr holds.spelled;
               };
           act = act;
-          frame = subst (λ n. HasFrame h n (rights.may_write_word m s.context)
-              (rights.may_read_word m s.context) act.origin s.depth l.registers.workspace) (sym size) a.frame;
-          knows = known_between
-              (knows_agree m h (rights.may_read_word m s.context) s act l.registers l.memory later a.frame.readable
-              (λ place e. agree place e refl) a.knows);
-          mode = a.same_mode;
+          here = elsewhere at at (pos 0) (after_agrees later size (λ place e. agree place e refl) a);
           paid = omega arith;
         };
         room = λ place e. absurd (cc);
       }
-    where
-      known_between : {reads : ℤ → Bool} {s : State} {act : Activation} {r : Registers} {memory : Memory}
-          → Knows m reads s act r memory → Knows m reads s act (between at r) memory
-      known_between k = record { stack = k.stack; words = k.words; within = k.within }
 
   -- how the rule at the process's point and the step fit, with the whole instruction read
   abbrev pub here_of : Holding → Activation → Memory → Task → State → Instr → Here
@@ -278,7 +296,7 @@ module _ (m : Contents) (d : Decodes m) (wf : IsWellFormed m) (c : IsCertified m
         act = act;
         mode = t.mode;
         memory = memory;
-        number = s.number;
+        owed = owed s act;
         at = t.registers.began;
         len = i.len;
       }
@@ -290,8 +308,8 @@ module _ (m : Contents) (d : Decodes m) (wf : IsWellFormed m) (c : IsCertified m
   point_fits h memory t due p =
       let x = here_of h p.act memory t p.state p.instr in
       function_fits x wf p.state (record { registers = t.registers; memory = memory })
-      (record { frame = p.frame; knows = p.knows; same_mode = p.mode })
-      (record { size = refl; others = λ place e. refl }) refl
+      p.here
+      (record { size = refl; others = λ place e. refl }) (omega arith)
       p.instr.fun p.instr.operand (d.fits t.registers.began p.instr p.reading.spelled)
       (has_next t.registers.began p.before p.state p.instr p.reached p.stands p.reading.spelled)
 
@@ -316,7 +334,7 @@ module _ (m : Contents) (d : Decodes m) (wf : IsWellFormed m) (c : IsCertified m
 
   -- the instruction can be paid
   can_pay : (h : Holding) (memory : Memory) (t : Task) (due : ℕ) (p : Stands m h memory t due)
-      → p.instr.len ≤ p.state.number
+      → p.instr.len ≤ owed p.state p.act
   can_pay h memory t due p = fits_pays (here_of h p.act memory t p.state p.instr) (point_fits h memory t due p)
       (unbroken h memory t due p (began_inside h memory t due p))
 
@@ -360,9 +378,8 @@ module _ (m : Contents) (d : Decodes m) (wf : IsWellFormed m) (c : IsCertified m
               ≡ Ok p.instr) same b.rest);
         };
         act = p.act;
-        frame = p.frame;
-        knows = record { stack = p.knows.stack; words = p.knows.words; within = p.knows.within };
-        mode = p.mode;
+        here = elsewhere (t.registers.at + 1) t.registers.began (after_prefix (function_code byte)
+            (with_nibble t.registers.operand (nibble byte))) p.here;
         paid = omega (arith, p.paid);
       }
 
@@ -404,21 +421,22 @@ module _ (m : Contents) (d : Decodes m) (wf : IsWellFormed m) (c : IsCertified m
       let en = enter h t.mode p.act (t.registers.began + p.instr.len) s' l next low after in
       let lives =
       lives_at h t.mode en.act (t.registers.began + p.instr.len) (Some s') en.state l next low en.stands en.after in
-      comes_on en.state.number changes
+      comes_on (owed en.state en.act) changes
       (subst (λ n. Lives m h l.memory (record {
         registers = between n l.registers;
         mode = t.mode;
         condition =
             Ready;
-      }) en.state.number) at lives)
-      (omega (arith, p.paid, en.paid))
+      }) (owed en.state en.act)) at lives)
+      (omega (arith, p.paid, en.paid, pay))
   comes h memory t due p r o e last (it_leads {to = to} {l = l} {t = label} turns is low after changes pay) =
       let r = c.holds.starts to low (label_is_start m to label is) in
       let st : state_at m to r.0 ≡ Some (label_state label) =
       is_given m to r.0 (label_state label) (given_label m to label is) in
-      comes_to label.number changes (lives_at h t.mode (with_turns turns p.act) to r.0
-      (label_state label) l r.1 low st after) (omega (arith, p.paid))
-  comes h memory t due p r o e last (it_ends changes pay) = comes_down changes (omega (arith, p.paid))
+      comes_to (owed (label_state label) (with_turns turns p.act)) changes
+      (lives_at h t.mode (with_turns turns p.act) to r.0 (label_state label) l r.1 low st after)
+      (omega (arith, p.paid, pay))
+  comes h memory t due p r o e last (it_ends changes pay) = comes_down changes (omega (arith, p.paid, pay))
   comes h memory t due p r o e last (it_breaks {broken = v}) =
       absurd (unbroken h memory t due p (began_inside h memory t due p) v (sym e))
 

@@ -462,9 +462,7 @@ stands_whatever m h memory t c due p = record {
   taken = p.taken;
   reading = p.reading;
   act = p.act;
-  frame = p.frame;
-  knows = p.knows;
-  mode = p.mode;
+  here = p.here;
   paid = p.paid;
 }
 
@@ -689,7 +687,7 @@ module _ (m : Contents) where
   roused_meets g memory t is_ready due enabling (it_lives l) = it_lives (record {
     claim = λ later size agree bytes.
         let old = l.claim later size agree bytes in
-        absurd (no_enabling old.state.mode is_ready (subst (λ mode. SameMode old.state.mode mode) enabling old.mode));
+        absurd (no_enabling old.state.mode is_ready (subst (λ mode. SameMode old.state.mode mode) enabling old.here.same_mode));
     room = l.room;
   })
 

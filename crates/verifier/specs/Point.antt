@@ -4,13 +4,13 @@ use Rattle.std.specs.Int.{w32}
 use Rattle.prefix_decoder.specs.declared.decoding.Instr.{Instr}
 use Rattle.prefix_decoder.specs.Fetching.{read, fetched}
 use Rattle.module_format.specs.Contents.{Contents}
-use Rattle.certificate.specs.Rights.{may_write_word, may_read_word}
 use Rattle.machine_state.specs.declared.process.Registers.{Registers}
 use Rattle.machine_state.specs.declared.process.Task.{Task}
 use Rattle.machine_state.specs.Memory.{Memory}
 use Rattle.machine_state.specs.Holding.{Holding}
 use Rattle.states.specs.State.{State}
-use Rattle.facts.specs.Meaning.{Activation, HasFrame, Knows, SameMode}
+use Rattle.facts.specs.Meaning.{Activation, owed}
+use Rattle.facts.specs.Fitting.{After}
 use Rattle.verifier.specs.Certified.{Reaches, state_at}
 
 -- The bytes from here on, with the operand so far, are the rest of the instruction that began.
@@ -22,7 +22,7 @@ pub record IsReading (m : Contents) (r : Registers) (i : Instr) (taken : ℕ) : 
   pub rest : read fuel (drop r.at m.code) r.operand taken ≡ Ok i
 
 -- The process is at a point of the code, in the state that the certificate has there and in some activation, and owes
--- what is left of its number.
+-- what is left of what it owed.
 pub record Stands (m : Contents) (h : Holding) (memory : Memory) (t : Task) (due : ℕ) : Type 0 where
   pub before : Option State
   pub state : State
@@ -32,11 +32,8 @@ pub record Stands (m : Contents) (h : Holding) (memory : Memory) (t : Task) (due
   pub taken : ℕ
   pub reading : IsReading m t.registers instr taken
   pub act : Activation
-  pub frame : HasFrame h (length memory) (may_write_word m state.context)
-      (may_read_word m state.context) act.origin state.depth t.registers.workspace
-  pub knows : Knows m (may_read_word m state.context) state act t.registers memory
-  pub mode : SameMode state.mode t.mode
-  pub paid : due + taken ≡ state.number
+  pub here : After m h t.mode act state (record { registers = t.registers; memory = memory })
+  pub paid : due + taken ≡ owed state act
 
 -- What the decoder says of the code: an instruction has at least one byte, lies in the code, has an operand of a word,
 -- and is what the device reads.

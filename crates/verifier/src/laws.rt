@@ -3,7 +3,7 @@ ghost use Rattle.std.specs.Prelude.{◌≡◌, ℕ, Ok};
 ghost use Rattle.module_format.specs.Contents.{Contents};
 ghost use Rattle.module_format.specs.Keeping.{Keeps};
 ghost use Rattle.machine_state.specs.declared.event.Event.{Event};
-ghost use Rattle.machine_state.specs.World.{World};
+ghost use Rattle.machine_state.specs.World.{World, loaded};
 ghost use Rattle.machine_state.specs.Happens.{happens};
 ghost use Rattle.states.specs.declared.rule.Rule.{Rule};
 ghost use Rattle.verifier.specs.Certified.{IsCertified, IsRefused};
@@ -22,6 +22,11 @@ pub fn verdict_is_right()
     ensures accepts { (m : Contents) → Keeps m → verdict m ≡ Ok tt → IsCertified m }
     ensures refuses { (m : Contents) (rule : Rule) (at : ℕ) → Keeps m
         → verdict m ≡ refused rule at → IsRefused m rule at }
+{}
+
+/// The invariant of a certified module holds of its loaded world.
+pub fn loaded_worlds_hold_the_invariant()
+    ensures { (m : Contents) → Keeps m → IsCertified m → Holds m (loaded m) }
 {}
 
 /// Whatever event comes to whatever world in which the invariant of a certified module holds, it holds

@@ -14,7 +14,7 @@ returns-then-not-holds_constant-2 c =
     (frame_facts c.args.self.now) c.args.entry.now c.in-Loop.base c.in-Loop.count c.in-Loop.weight _ _
     c.fact_at-in-Loop.result c.in-Loop.is (omega (arith, ints)) c.fact_at-in-Loop.ensures.value
     (omega (arith, ints, count_is)) (sym c.holds_constant-in-Loop.ensures ∙ c.if-not-holds_constant-2.true) in
-    (subst (λ (n : ℕ). n < 18446744073709551616) (sym none) (omega arith), sym none)
+    (subst (λ (n : ℕ). n < 340282366920938463463374607431768211456) (sym none) (omega arith), sym none)
 
 pub returns-else-not-holds_constant-2 : goal.returns-else-not-holds_constant-2
 returns-else-not-holds_constant-2 c =
@@ -28,6 +28,7 @@ returns-else-not-holds_constant-2 c =
     (omega (arith, ints, base_is)) (omega (arith, ints, count_is))
     (sym c.holds_constant.ensures ∙ c.if-not-holds_constant.false)
     (sym c.holds_constant-in-Loop.ensures ∙ c.if-not-holds_constant-2.false) in
-    subst (λ (n : ℕ). SomeIff c.checked_mul.result (n < 18446744073709551616) n)
-    (ap (λ n. c.in-Loop.weight * n) (c.from-in-Loop-2.ensures ∙ c.saturating_sub.ensures)
-    ∙ sym due) c.checked_mul.ensures
+    subst (λ (n : ℕ). SomeIff c.checked_mul.result (n < 340282366920938463463374607431768211456) n)
+    (ap (λ (n : ℕ). n * c.from-in-Loop-3.result) c.from-in-Loop-2.ensures
+    ∙ (ap (λ (n : ℕ). c.in-Loop.weight * n) (c.from-in-Loop-3.ensures ∙ c.saturating_sub.ensures)
+    ∙ sym due)) c.checked_mul.ensures
