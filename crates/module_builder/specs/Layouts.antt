@@ -26,12 +26,15 @@ value code lengths end (Number n) = n
 value code lengths end (DistanceTo label) = pos (place code lengths label) -ℤ pos end
 value code lengths end (Between from to) = pos (place code lengths to) -ℤ pos (place code lengths from)
 
--- The bytes that an item takes, if it ends here. For the address of a constant they are enough for each place
--- that the constants can have: they begin at a word, at most three bytes behind the code. Two are for `ldpi`.
+-- The bytes of `ldc` in the address of a constant, which ends here. They are enough for each place that the
+-- constants can have: they begin at a word, at most three bytes behind the code.
+abbrev pub load_len : List ℕ → ℕ → ℕ → ℕ
+load_len lengths end offset = length (spelling LoadConstant (pos ((sum lengths - end) + 3 + offset)))
+
+-- the bytes that an item takes, if it ends here; two of the address of a constant are for `ldpi`
 abbrev pub bytes_of : Code → List ℕ → ℕ → Item → ℕ
 bytes_of code lengths end (Instruction fun operand) = length (spelling fun (value code lengths end operand))
-bytes_of code lengths end (ConstantAddress offset) =
-    length (spelling LoadConstant (pos ((sum lengths - end) + 3 + offset))) + 2
+bytes_of code lengths end (ConstantAddress offset) = load_len lengths end offset + 2
 
 -- the bytes that items take, of which the first has this number
 abbrev pub bytes_from : Code → List ℕ → ℕ → List Item → List ℕ

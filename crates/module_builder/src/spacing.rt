@@ -21,7 +21,7 @@ pub(crate) struct Spacing {
 
 impl Spacing {
     ghost use Rattle.module_builder.specs.Drafts.{IsPlaced, IsComplete, OfItem, OfOperand};
-    ghost use Rattle.module_builder.specs.Layouts.{offset, place, value, bytes_of, needed};
+    ghost use Rattle.module_builder.specs.Layouts.{offset, place, value, load_len, bytes_of, needed};
 
     /// The places that follow from lengths, if the code isn't too long.
     pub(crate) fn of(alloc: Global, lengths: Vec<u8>) -> Result<Spacing, GenFault>
@@ -76,6 +76,23 @@ impl Spacing {
         }
     }
 
+    /// The code's end.
+    pub(crate) fn end(&self) -> u32
+        ensures value { result ≡ sum self.now.lengths.items }
+        ensures short { result ≤ MAX_LONG_CODE }
+    {
+        self.offset(self.lengths.len())
+    }
+
+    /// The bytes of `ldc` in the address of a constant, which ends here.
+    pub(crate) fn load_len(&self, end: u32, offset: u16) -> u8
+        requires { end ≤ sum self.now.lengths.items }
+        ensures value { result ≡ load_len self.now.lengths.items end offset }
+        ensures small { result ≤ 8 }
+    {
+        spelling_len((self.end() - end + 3 + u32::from(offset)) as i32)
+    }
+
     /// The bytes that an item takes, if it ends here.
     fn bytes_of(&self, draft: &Draft, end: u32, item: Item) -> u8
         requires placed { OfItem (IsPlaced draft.now) item }
@@ -85,10 +102,7 @@ impl Spacing {
     {
         match item {
             Item::Instruction { fun: _, operand } => spelling_len(self.value(draft, end, operand)),
-            Item::ConstantAddress { offset } => {
-                let behind = self.offset(self.lengths.len()) - end;
-                2 + spelling_len((behind + 3 + u32::from(offset)) as i32)
-            }
+            Item::ConstantAddress { offset } => self.load_len(end, offset) + 2,
         }
     }
 
