@@ -1,0 +1,5 @@
+pub mod Lengths
+pub mod Growing
+pub mod Progress
+pub mod Spelled
+pub mod Places

@@ -1,0 +1,4 @@
+pub mod Drafts
+pub mod Layouts
+pub mod Spacing
+pub mod Spelling
