@@ -12,12 +12,14 @@ use Rattle.module_format.specs.Contents.{Label}
 use Rattle.states.specs.declared.known.Loop.{Loop as CountedLoop}
 use Rattle.states.specs.declared.known.WordFact.{WordFact}
 use Rattle.states.specs.declared.known.WordFact.TheVariants.{Alone, Index, Count}
-use Rattle.states.specs.State.{State, Facts, Change, one_word, no_facts, by_itself, is_alone, is_parted, changed, is_word, is_about}
+use Rattle.states.specs.State.{State, Facts, Change, one_word, no_facts, by_itself, is_alone, is_parted, changed}
+use Rattle.states.specs.State.{is_word, is_about}
 use Rattle.states.specs.State.{said_of, entry_fact, written, label_state}
 use Rattle.states.specs.Below.{below, says, words_say, entries_hold, are_alike, is_whole, price}
 use Rattle.states.proofs.RowFacts.{and-parts}
 use Rattle.states.proofs.Prices.{price-due}
-use Rattle.facts.specs.Meaning.{Activation, ArePairs, IsSpan, loop_due, dues_from, farthest_word, dues, owed, turns_from}
+use Rattle.facts.specs.Meaning.{Activation, ArePairs, IsSpan, loop_due, dues_from, farthest_word, dues, owed}
+use Rattle.facts.specs.Meaning.{turns_from}
 use Rattle.facts.specs.Meaning.{label_turns, at_label}
 use Rattle.facts.proofs.Words.{bool_cases, word_test}
 use Rattle.facts.proofs.Entering.{same_loop, entries_said, entry_here, entry_later, below_tells}
@@ -39,7 +41,8 @@ changed_from change facts turns word (suc more) =
     let rest = changed_from change facts turns (word +ℤ pos 1) more in
     omega (arith, here, rest)
 
-pub changed_dues : (change : Change) (facts : Facts) (turns : ℤ → ℕ) → dues (changed change facts) turns ≤ dues facts turns
+pub changed_dues : (change : Change) (facts : Facts) (turns : ℤ → ℕ)
+    → dues (changed change facts) turns ≤ dues facts turns
 unfolding dues
 changed_dues change facts turns = changed_from change facts turns (neg_ℤ (pos farthest_word)) (2 * farthest_word)
 
@@ -191,7 +194,8 @@ loop_price facts entry base count weight is pair said whole =
         ∙ ap (λ (x : Fact). says (facts (entry.word +ℤ pos 1)) (said_of x false)) (sym is) ∙ count_said) in
         omega (arith, here, paid)
 
--- what a word adds at the entries of a label is the price of the entry whose first word it is, or is added by the others
+-- what a word adds at the entries of a label is the price of the entry whose first word it is, or is added by the
+-- others
 entered_here : (facts : Facts) (entry : Entry) (entries : List Entry) (k : ℤ) → IsSpan entry.span entry.fact
     → words_say facts entry entry.span ≡ true → is_whole facts entry ≡ true
     → entered (is_alone (facts k)) (entry_fact (entry ∷ entries) k)
@@ -225,7 +229,8 @@ entered_here facts entry entries k pair said whole = elim (bool_cases (is_about 
 
     on_word : ((is_word entry.word k ≡ true) × (entry.word ≡ k))
         ⊎ ((is_word entry.word k ≡ false) × (entry.word ≡ k → ⊥))
-        → entered (is_alone (facts k)) (said_of entry.fact (is_word entry.word k)) ≤ once entry.word (price facts entry) k
+        → entered (is_alone (facts k)) (said_of entry.fact (is_word entry.word k))
+        ≤ once entry.word (price facts entry) k
     on_word (inl p) =
         let first : entered (is_alone (facts k)) (said_of entry.fact (is_word entry.word k))
         ≡ entered (is_alone (facts entry.word)) (said_of entry.fact true) =

@@ -29,7 +29,8 @@ use Rattle.states.specs.declared.known.WordFact.TheVariants.{Alone, Index, Count
 use Rattle.states.specs.declared.rule.Rule.{Rule}
 use Rattle.states.specs.declared.rule.Rule.TheVariants as rules
 use Rattle.states.specs.declared.known.Known.{Known}
-use Rattle.states.specs.State.{State, Facts, known, label_state, is_word, is_about, by_itself, is_alone, said_of, entry_fact}
+use Rattle.states.specs.State.{State, Facts, known, label_state, is_word, is_about, by_itself, is_alone, said_of}
+use Rattle.states.specs.State.{entry_fact}
 use Rattle.states.specs.Below.{below, agrees, implies, step_implies, is_constant, is_same_loop, says, words_say}
 use Rattle.states.specs.Below.{entries_hold, are_alike, is_whole, is_plain, view, cost}
 use Rattle.states.specs.Rows.{IsRowOf, LoopFits, rise_from}
@@ -38,6 +39,7 @@ use Rattle.facts.specs.Meaning.{is_code_address, word_of, region_start, code_add
 use Rattle.facts.specs.Meaning.{is_index, is_count, frame_word, Words, words_of, HasFrame, from_nowhere, MeansKnown}
 use Rattle.facts.specs.Meaning.{SameMode, both_plain, turns_from, label_turns, at_label, IsSpan, ArePairs, IsWellFormed}
 use Rattle.states.proofs.RowFacts.{and-parts, le-from, lt-from, rise-parts, about-within, about-behind}
+use Rattle.facts.specs.Regions.{scope_of, HoldsNamed}
 use Rattle.facts.specs.Fitting.{After}
 use Rattle.facts.proofs.Words.{bool_cases, means_same, word_test, int_le_tells, itself_means}
 
@@ -364,7 +366,8 @@ agrees_tells s t e =
       whole = p.1;
     }
 
-pub below_tells : (s : State) (t : Label) (price : ℕ) → below s t ≡ Ok price → (cost (view s) t ≤ s.number) × IsBelow s t
+pub below_tells : (s : State) (t : Label) (price : ℕ) → below s t ≡ Ok price
+    → (cost (view s) t ≤ s.number) × IsBelow s t
 unfolding below
 below_tells s t price h = first (ltb s.number (cost (view s) t)) refl h
   where
@@ -405,6 +408,7 @@ label_after m h mode act s t l wf at e g a = record {
         (wf.pairs at t e) g.entries g.whole
         (a.knows.words k (ap (λ (w : Words). w.reads k) same_words ∙ inside));
   };
+  named = subst (λ (n : ℕ). HoldsNamed m h (scope_of m n act.layout) l.memory) g.context a.named;
   same_mode = plain_mode s.mode mode g.plain a.same_mode;
 }
   where

@@ -29,7 +29,6 @@ use Rattle.machine_state.specs.Instructions.{instruction_of}
 use Rattle.machine_state.specs.declared.fault.FaultKind.TheVariants.{OutsideCode}
 use Rattle.machine_state.specs.Memory.{Memory, place_of, local_address, word_at, with_word}
 use Rattle.machine_state.specs.Holding.{Holding, covers, may_write, may_read, may_write_word, may_read_word}
-use Rattle.machine_state.specs.Frame.{ChangesOwn}
 use Rattle.machine_state.specs.LocalStep as step
 use Rattle.machine_state.specs.Site.{Outcome, jumps, fails, Local}
 use Rattle.machine_state.specs.LocalStep.{target}
@@ -44,12 +43,15 @@ use Rattle.states.specs.declared.known.WordFact.{WordFact}
 use Rattle.states.specs.State.{State, unknown, plain, one_word, written, known}
 use Rattle.states.specs.Below.{below}
 use Rattle.states.proofs.RowFacts.{and-parts}
+use Rattle.facts.specs.Regions.{scope_of}
+use Rattle.facts.proofs.Regions.{keeps_more, write_keeps}
 use Rattle.facts.specs.Rules as rule
 use Rattle.facts.specs.Rules.{Ruling, falls, leads, ends, breaks}
 use Rattle.facts.specs.Meaning.{Layout, Activation, Means, says_nothing, is_number, frame_word, IsOwnWord, Words}
 use Rattle.facts.specs.Meaning.{words_of, HasFrame, ComesFrom, from_nowhere, from_word, MeansWord, MeansKnown}
 use Rattle.facts.specs.Meaning.{IsWellFormed, SameMode, both_plain, dues, owed, label_turns}
-use Rattle.facts.specs.Fitting.{After, Here, rule_site, step_site, Fits, it_falls, it_leads, it_ends, it_breaks}
+use Rattle.facts.specs.Fitting.{Changes, After, Here, rule_site, step_site, Fits, it_falls, it_leads, it_ends}
+use Rattle.facts.specs.Fitting.{it_breaks}
 use Rattle.facts.specs.Fitting.{HasNext, RulesFitSteps}
 use Rattle.facts.proofs.Words.{local_place, frame_word_is, stored_means, plain_means, knows_changed, write_follows}
 use Rattle.facts.proofs.Results.{ResultMeans, result_means, unary_result_means}
@@ -126,13 +128,14 @@ below_not a b low t = elim (leb_tells (suc a) b) [
 -- the number
 paid : {m : Contents} {h : Holding} {mode : machine.Mode} {act : Activation} {s : State} {l : Local} {n : ℕ}
     → After m h mode act s l → After m h mode act (record s { number = n }) l
-paid a = record { frame = a.frame; knows = a.knows; same_mode = a.same_mode }
+paid a = record { frame = a.frame; knows = a.knows; named = a.named; same_mode = a.same_mode }
 
 -- the place in the code
 pub elsewhere : {m : Contents} {h : Holding} {mode : machine.Mode} {act : Activation} {s : State} {l : Local}
     (at began : ℕ) (operand : ℤ) → After m h mode act s l
     → After m h mode act s (record l { registers = record l.registers { at = at; began = began; operand = operand } })
-elsewhere at began operand a = record { frame = a.frame; knows = a.knows; same_mode = a.same_mode }
+elsewhere at began operand a =
+    record { frame = a.frame; knows = a.knows; named = a.named; same_mode = a.same_mode }
 
 -- ---- registers
 
@@ -236,47 +239,52 @@ module _ (x : Here) where
       (λ t. subst (λ p. FitsIf x r (o (word_at l.memory p))) (sym is) go)
       (λ t. let no : true ≡ false = sym held ∙ ap (may_read_word x.h) (sym is) ∙ t in absurd (cc))
 
-  goes_on_fits : (s : State) (l : Local) → After x.m x.h x.mode x.act s l → ChangesOwn x.h x.memory l.memory
+  goes_on_fits : (s : State) (l : Local) → After x.m x.h x.mode x.act s l → s.context ≡ x.context → Changes x l.memory
       → owed s x.act ≤ x.owed → FitsIf x (rule.goes_on (rule_site x) s) (step.goes_on (step_site x) l)
   unfolding rule.goes_on rule.pays step.goes_on
-  goes_on_fits s l a changes n =
+  goes_on_fits s l a same changes n =
       on_rule_test (ltb s.number x.len) _ _ _
       (λ t next. it_breaks)
       (λ t next. let low = next _ refl in
       on_step_test (ltb (x.at + x.len) (length x.m.code)) (falls (record s { number = s.number - x.len })) _ _
-      (λ u next. it_falls low (paid a) changes
+      (λ u next. it_falls low (paid a) same changes
       (enough s.number x.len (dues s.frame x.act.turns) x.owed t n))
       (λ u. absurd (below_not _ _ low u)) next)
 
   -- ---- a write to a word of the frame
 
   after_write : (s : State) (l : Local) (e : ℤ) (f : Fact) (v : Option ℤ) → After x.m x.h x.mode x.act s l
+      → rights.may_write_word x.m s.context (s.depth +ℤ e) ≡ true
       → (w : IsOwnWord x.h (length l.memory) x.act.layout.origin (s.depth +ℤ e))
       → Means x.m x.act.layout f (word_at (with_word l.memory w.place v) w.place)
       → After x.m x.h x.mode x.act (written (s.depth +ℤ e) f s) (record l { memory = with_word l.memory w.place v })
   unfolding written
-  after_write s l e f v a w means = record {
+  after_write s l e f v a t w means = record {
     frame = same_frame (sym (length-with_word l.memory w.place v)) a.frame;
     knows = knows_changed (one_word (s.depth +ℤ e) f)
         (write_follows x.m x.h (words_of x.m s).reads x.act.layout (s.depth +ℤ e) l.memory f v w means) a.knows;
+    named = (write_keeps x.m x.h (scope_of x.m s.context x.act.layout) (s.depth +ℤ e) l.memory v t w).named a.named;
     same_mode = a.same_mode;
   }
 
   write_step : (s : State) (l : Local) (e : ℤ) (f : Fact) (v : Option ℤ) (r : Ruling) (o : Local → Outcome)
-      → After x.m x.h x.mode x.act s l → ChangesOwn x.h x.memory l.memory
+      → After x.m x.h x.mode x.act s l → s.context ≡ x.context → Changes x l.memory
       → FitsSigned w32 e → rights.may_write_word x.m s.context (s.depth +ℤ e) ≡ true
       → ((place : ℕ) → place + 4 ≤ length l.memory
       → Means x.m x.act.layout f (word_at (with_word l.memory place v) place))
       → ((memory : Memory) → After x.m x.h x.mode x.act (written (s.depth +ℤ e) f s) (record l { memory = memory })
-      → ChangesOwn x.h x.memory memory → FitsIf x r (o (record l { memory = memory })))
+      → Changes x memory → FitsIf x r (o (record l { memory = memory })))
       → FitsIf x r (step.writes (step_site x) (local_address l.registers.workspace e) v l o)
-  write_step s l e f v r o a changes fits t means go =
+  write_step s l e f v r o a same changes fits t means go =
       let w = a.frame.own (s.depth +ℤ e) t in
       writes_fits l (local_address l.registers.workspace e) w.place v r o
       (local_place a.frame e fits w.place w.is w.inside) w.mine
-      (go (with_word l.memory w.place v) (after_write s l e f v a w (means w.place w.inside))
-      (changes_more x.h x.memory l.memory (with_word l.memory w.place v) changes
-      (write_is_own x.h l.memory w.place v w.mine)))
+      (go (with_word l.memory w.place v) (after_write s l e f v a t w (means w.place w.inside)) (record {
+        own = changes_more x.h x.memory l.memory (with_word l.memory w.place v) changes.own
+            (write_is_own x.h l.memory w.place v w.mine);
+        keeps = keeps_more changes.keeps (write_keeps x.m x.h (scope_of x.m x.context x.act.layout) (s.depth +ℤ e)
+            l.memory v (ap (λ (n : ℕ). rights.may_write_word x.m n (s.depth +ℤ e)) (sym same) ∙ t) w);
+      }))
 
   -- ---- scheduling, and what stands behind it
 
@@ -285,36 +293,38 @@ module _ (x : Here) where
   undefined_means memory place inside = says_nothing
 
   schedules_fits : (s : State) (l : Local) (r : State → Ruling) (o : Local → Outcome) → After x.m x.h x.mode x.act s l
-      → ChangesOwn x.h x.memory l.memory
+      → s.context ≡ x.context → Changes x l.memory
       → ((s' : State) (memory : Memory) → After x.m x.h x.mode x.act s' (record l { memory = memory })
-      → ChangesOwn x.h x.memory memory → owed s' x.act ≤ owed s x.act → FitsIf x (r s') (o (record l { memory = memory })))
+      → s'.context ≡ x.context → Changes x memory → owed s' x.act ≤ owed s x.act
+      → FitsIf x (r s') (o (record l { memory = memory })))
       → FitsIf x (rule.schedules (rule_site x) s r) (step.schedules (step_site x) l o)
   unfolding rule.schedules step.schedules written
-  schedules_fits s l r o a changes go =
+  schedules_fits s l r o a same changes go =
       writes_word_fits s (negsuc 0) _ _
       (λ t0. writes_word_fits s (negsuc 1) _ _ (λ t1. writes_word_fits s (negsuc 2) _ _ (λ t2.
-      write_step s l (negsuc 0) Unknown None _ _ a changes (omega (arith, ints)) t0 (undefined_means l.memory)
+      write_step s l (negsuc 0) Unknown None _ _ a same changes (omega (arith, ints)) t0 (undefined_means l.memory)
       (λ m1 a1 c1.
-      write_step (written (s.depth +ℤ negsuc 0) Unknown s) (record l { memory = m1 }) (negsuc 1) Unknown None _ _ a1 c1
+      write_step (written (s.depth +ℤ negsuc 0) Unknown s) (record l { memory = m1 }) (negsuc 1) Unknown None _ _ a1
+      same c1
       (omega (arith, ints)) t1 (undefined_means m1) (λ m2 a2 c2.
       write_step (written (s.depth +ℤ negsuc 1) Unknown (written (s.depth +ℤ negsuc 0) Unknown s))
-      (record l { memory = m2 }) (negsuc 2) Unknown None _ _ a2 c2 (omega (arith, ints)) t2 (undefined_means m2)
+      (record l { memory = m2 }) (negsuc 2) Unknown None _ _ a2 same c2 (omega (arith, ints)) t2 (undefined_means m2)
       (λ m3 a3 c3.
       let one = written_owed (s.depth +ℤ negsuc 0) Unknown s x.act in
       let two = written_owed (s.depth +ℤ negsuc 1) Unknown (written (s.depth +ℤ negsuc 0) Unknown s) x.act in
       let three = written_owed (s.depth +ℤ negsuc 2) Unknown
       (written (s.depth +ℤ negsuc 1) Unknown (written (s.depth +ℤ negsuc 0) Unknown s)) x.act in
       go (written (s.depth +ℤ negsuc 2) Unknown
-      (written (s.depth +ℤ negsuc 1) Unknown (written (s.depth +ℤ negsuc 0) Unknown s))) m3 a3 c3
+      (written (s.depth +ℤ negsuc 1) Unknown (written (s.depth +ℤ negsuc 0) Unknown s))) m3 a3 same c3
       (omega (arith, one, two, three))))))))
 
   -- ---- leading to a label
 
   leads_fits : (wf : IsWellFormed x.m) (to : ℕ) (s : State) (l : Local) → After x.m x.h x.mode x.act s l
-      → ChangesOwn x.h x.memory l.memory → owed s x.act + x.len ≤ x.owed
+      → s.context ≡ x.context → Changes x l.memory → owed s x.act + x.len ≤ x.owed
       → FitsIf x (rule.leads_to (rule_site x) to s) (step.leads_to (step_site x) to l)
   unfolding rule.leads_to step.leads_to
-  leads_fits wf to s l a changes n =
+  leads_fits wf to s l a same changes n =
       on_label (label_at x.m to) refl
     where
       on_below : (t : Label) → label_at x.m to ≡ Some t → (b : Result ℕ Rule) → below s t ≡ b
@@ -327,7 +337,8 @@ module _ (x : Here) where
           let less = label_owed s t cost x.act (wf.pairs to t e) is in
           on_step_test (ltb to (length x.m.code)) (leads to) _ _
           (λ u next. it_leads (label_turns s.frame t.entries x.act.turns) e low
-          (label_after x.m x.h x.mode x.act s t l wf to e g.1 a) changes (omega (arith, n, less)))
+          (label_after x.m x.h x.mode x.act s t l wf to e g.1 a) (sym g.1.context ∙ same) changes
+          (omega (arith, n, less)))
           (λ u. absurd (below_not to (length x.m.code) low u))
 
       on_label : (o : Option Label) → label_at x.m to ≡ o
@@ -373,11 +384,12 @@ module _ (x : Here) where
   after_stack a related = record {
     frame = a.frame;
     knows = record { registers = related; words = a.knows.words };
+    named = a.named;
     same_mode = a.same_mode;
   }
 
   module _ (wf : IsWellFormed x.m) (s : State) (l : Local) (a : After x.m x.h x.mode x.act s l)
-      (changes : ChangesOwn x.h x.memory l.memory) (n : owed s x.act ≤ x.owed) where
+      (same : s.context ≡ x.context) (changes : Changes x l.memory) (n : owed s x.act ≤ x.owed) where
     ldc_fits : (e : ℤ) → FitsSigned w32 e
         → FitsIf x (rule.goes_on (rule_site x) (rule.push (rule.constant e) s))
         (step.goes_on (step_site x) (step.push (Some e) l))
@@ -386,7 +398,7 @@ module _ (x : Here) where
           a = record { fact = is_number (omega (arith, ints)) (omega (arith, ints)) fits; source = from_nowhere };
           b = a.knows.registers.a;
           c = a.knows.registers.b;
-        })) changes n
+        })) same changes n
 
     ldl_fits : (e : ℤ) → FitsSigned w32 e
         → FitsIf x (rule.instruction_rule (rule_site x) instructions.LoadLocal e s)
@@ -405,7 +417,7 @@ module _ (x : Here) where
               (frame_word_is l.memory x.act.layout.origin (s.depth +ℤ e) w.place w.is);
           b = a.knows.registers.a;
           c = a.knows.registers.b;
-        })) changes n))))
+        })) same changes n))))
 
     stl_fits : (e : ℤ) → FitsSigned w32 e
         → FitsIf x (rule.instruction_rule (rule_site x) instructions.StoreLocal e s)
@@ -414,24 +426,29 @@ module _ (x : Here) where
     stl_fits e fits =
         in_plain_step s a.same_mode _ _ (uses_fits s.stack.a l.registers.stack.a _ _ a.knows.registers.a (λ v means.
         in_plain_rule s a.same_mode _ _ (beside_plain_rule s a.same_mode _ _ (writes_word_fits s e _ _ (λ t.
-        write_step s l e s.stack.a.fact (Some v) _ _ a changes fits t
+        write_step s l e s.stack.a.fact (Some v) _ _ a same changes fits t
         (λ place inside. stored_means x.m x.act.layout s.stack.a.fact v l.memory place inside means) (λ memory b c.
         goes_on_fits (rule.pop (written (s.depth +ℤ e) s.stack.a.fact s)) (step.pop (record l { memory = memory }))
-        (after_stack b (record { a = b.knows.registers.b; b = b.knows.registers.c; c = unknown_means })) c
+        (after_stack b (record { a = b.knows.registers.b; b = b.knows.registers.c; c = unknown_means })) same c
         (omega (arith, n, changed_dues (one_word (s.depth +ℤ e) s.stack.a.fact) s.frame x.act.turns))))))))
 
     -- what A becomes
     becomes_fits : (s' : State) (l' : Local) (fact : Option Fact) (result : Option ℤ) → After x.m x.h x.mode x.act s' l'
-        → ChangesOwn x.h x.memory l'.memory → owed s' x.act ≤ x.owed → ResultMeans x.m x.act.layout fact result
+        → s'.context ≡ x.context → Changes x l'.memory → owed s' x.act ≤ x.owed
+        → ResultMeans x.m x.act.layout fact result
         → FitsIf x (rule.becomes (rule_site x) fact s')
         (step.computes result (λ v. step.goes_on (step_site x) (step.with_a v l')))
     unfolding rule.becomes step.computes
-    becomes_fits s' l' None result b c e means = λ next. it_breaks
-    becomes_fits s' l' (Some f) None b c e means = absurd means
-    becomes_fits s' l' (Some f) (Some v) b c e means =
+    becomes_fits s' l' None result b same' c e means = λ next. it_breaks
+    becomes_fits s' l' (Some f) None b same' c e means = absurd means
+    becomes_fits s' l' (Some f) (Some v) b same' c e means =
         in_plain_rule s' b.same_mode _ _ (beside_plain_rule s' b.same_mode _ _
         (goes_on_fits (rule.with_a (known f) s') (step.with_a v l')
-        (after_stack b (record { a = record { fact = means; source = from_nowhere }; b = b.knows.registers.b; c = b.knows.registers.c })) c e))
+        (after_stack b (record {
+          a = record { fact = means; source = from_nowhere };
+          b = b.knows.registers.b;
+          c = b.knows.registers.c;
+        })) same' c e))
 
     constant_fits : (op : BinaryOperation) (e : ℤ) → FitsSigned w32 e
         → FitsIf x (rule.instruction_rule (rule_site x) (instructions.WithConstant op) e s)
@@ -439,7 +456,7 @@ module _ (x : Here) where
     unfolding rule.instruction_rule step.instruction_step
     constant_fits op e fits =
         in_plain_step s a.same_mode _ _ (uses_fits s.stack.a l.registers.stack.a _ _ a.knows.registers.a (λ v means.
-        becomes_fits s l _ _ a changes n
+        becomes_fits s l _ _ a same changes n
         (result_means x.m x.act.layout op s.stack.a.fact (Number e e) v e means
         (is_number (omega (arith, ints)) (omega (arith, ints)) fits))))
 
@@ -458,12 +475,12 @@ module _ (x : Here) where
     j_fits (negsuc k) fits = in_plain_rule s a.same_mode _ _ (λ next. it_breaks)
     j_fits (pos k) fits =
         in_plain_step s a.same_mode _ _ (in_plain_rule s a.same_mode _ _ (beside_plain_rule s a.same_mode _ _
-        (schedules_fits s l _ _ a changes (λ s' memory b c e.
+        (schedules_fits s l _ _ a same changes (λ s' memory b same' c e.
         pays_fits s' _ _ e (λ left.
         leads_fits wf (target (x.at + x.len) (pos k))
         (rule.without_registers (record s' { number = s'.number - x.len }))
         (step.without_registers (record l { memory = memory }))
-        (after_stack b (record { a = unknown_means; b = unknown_means; c = unknown_means })) c left)))))
+        (after_stack b (record { a = unknown_means; b = unknown_means; c = unknown_means })) same' c left)))))
 
     operation_fits : (op : Op) → FitsIf x (rule.operation_rule (rule_site x) op s)
         (step.operation_step (step_site x) op l)
@@ -471,23 +488,24 @@ module _ (x : Here) where
     operation_fits operations.Reverse =
         in_plain_step s a.same_mode _ _ (in_plain_rule s a.same_mode _ _ (beside_plain_rule s a.same_mode _ _
         (goes_on_fits (rule.reverse s) (step.reverse l)
-        (after_stack a (record { a = a.knows.registers.b; b = a.knows.registers.a; c = a.knows.registers.c })) changes n)))
+        (after_stack a (record { a = a.knows.registers.b; b = a.knows.registers.a; c = a.knows.registers.c }))
+        same changes n)))
     operation_fits operations.MinimumInteger =
         beside_plain_rule s a.same_mode _ _
         (beside_plain_step s a.same_mode _ _ (ldc_fits least_word (record { sfits = lit< tt })))
     operation_fits operations.StopProcess =
         in_plain_step s a.same_mode _ _ (in_plain_rule s a.same_mode _ _ (beside_plain_rule s a.same_mode _ _
-        (schedules_fits s l _ _ a changes
-        (λ s' memory b c e. pays_fits s' _ _ e (λ left next. it_ends c (omega arith))))))
+        (schedules_fits s l _ _ a same changes
+        (λ s' memory b same' c e. pays_fits s' _ _ e (λ left next. it_ends c (omega arith))))))
     operation_fits (operations.Binary op) =
         in_plain_step s a.same_mode _ _ (uses_fits s.stack.a l.registers.stack.a _ _ a.knows.registers.a (λ v means.
         uses_fits s.stack.b l.registers.stack.b _ _ a.knows.registers.b (λ u other.
         becomes_fits (rule.pop s) (step.pop l) _ _
         (after_stack a (record { a = a.knows.registers.b; b = a.knows.registers.c; c = unknown_means }))
-        changes n (result_means x.m x.act.layout op s.stack.b.fact s.stack.a.fact u v other means))))
+        same changes n (result_means x.m x.act.layout op s.stack.b.fact s.stack.a.fact u v other means))))
     operation_fits (operations.Unary op) =
         in_plain_step s a.same_mode _ _ (uses_fits s.stack.a l.registers.stack.a _ _ a.knows.registers.a (λ v means.
-        becomes_fits s l _ _ a changes n (unary_result_means x.m x.act.layout op s.stack.a.fact v means)))
+        becomes_fits s l _ _ a same changes n (unary_result_means x.m x.act.layout op s.stack.a.fact v means)))
     operation_fits _ = λ next. it_breaks
 
     instruction_fits : (i : Instruction) (e : ℤ) → FitsSigned w32 e
@@ -514,4 +532,4 @@ module _ (x : Here) where
     function_fits f e fits = option_fits (instruction_of f e) e fits
 
 pub rules_fit_steps : RulesFitSteps
-rules_fit_steps x s l f e wf a changes n fits next = function_fits x wf s l a changes n f e fits next
+rules_fit_steps x s l f e wf a same changes n fits next = function_fits x wf s l a same changes n f e fits next

@@ -15,6 +15,7 @@ use Rattle.machine_state.specs.Site as steps
 use Rattle.machine_state.specs.Site.{Outcome, goes, jumps, stops, Local}
 use Rattle.states.specs.declared.rule.Rule.{Rule}
 use Rattle.states.specs.State.{State, label_state}
+use Rattle.facts.specs.Regions.{scope_of, HoldsNamed, Keeps}
 use Rattle.facts.specs.Rules as rule
 use Rattle.facts.specs.Rules.{Ruling, falls, leads, ends, breaks}
 use Rattle.facts.specs.Meaning.{Activation, with_turns, words_of, HasFrame, Knows, owed, SameMode, IsWellFormed}
@@ -24,19 +25,26 @@ pub record After (m : Contents) (h : Holding) (mode : machine.Mode) (act : Activ
     (l : Local) : Type 0 where
   pub frame : HasFrame h (length l.memory) (words_of m s) act.layout.origin s.depth l.registers.workspace
   pub knows : Knows m (words_of m s).reads act s.stack s.frame l.registers.stack l.memory
+  pub named : HoldsNamed m h (scope_of m s.context act.layout) l.memory
   pub same_mode : SameMode s.mode mode
 
--- where an instruction runs: the module, what the process holds, its activation, its mode, memory and what it owed
--- before, and the place of the instruction
+-- where an instruction runs: the module, what the process holds, its context and activation, its mode, memory and what
+-- it owed before, and the place of the instruction
 pub record Here : Type 0 where
   pub m : Contents
   pub h : Holding
+  pub context : ℕ
   pub act : Activation
   pub mode : machine.Mode
   pub memory : Memory
   pub owed : ℕ
   pub at : ℕ
   pub len : ℕ
+
+-- What an instruction leaves of memory: it changes own bytes only, and no others than its activation may.
+pub record Changes (x : Here) (new : Memory) : Type 0 where
+  pub own : ChangesOwn x.h x.memory new
+  pub keeps : Keeps x.m x.h (scope_of x.m x.context x.act.layout) x.memory new
 
 abbrev pub rule_site : Here → rule.Site
 rule_site x = record { contents = x.m; at = x.at; length = x.len }
@@ -55,11 +63,11 @@ step_site x = record {
 -- have other turns left. Of what was owed each byte of the instruction is paid.
 pub data Fits (x : Here) : Ruling → Outcome → Type 0 where
   it_falls : {s : State} {l : Local} → x.at + x.len < length x.m.code → After x.m x.h x.mode x.act s l
-      → ChangesOwn x.h x.memory l.memory → owed s x.act + x.len ≤ x.owed → Fits x (falls s) (goes l)
+      → s.context ≡ x.context → Changes x l.memory → owed s x.act + x.len ≤ x.owed → Fits x (falls s) (goes l)
   it_leads : {to : ℕ} {l : Local} {t : Label} (turns : ℤ → ℕ) → label_at x.m to ≡ Some t → to < length x.m.code
-      → After x.m x.h x.mode (with_turns turns x.act) (label_state t) l → ChangesOwn x.h x.memory l.memory
+      → After x.m x.h x.mode (with_turns turns x.act) (label_state t) l → t.context ≡ x.context → Changes x l.memory
       → owed (label_state t) (with_turns turns x.act) + x.len ≤ x.owed → Fits x (leads to) (jumps to l)
-  it_ends : {l : Local} → ChangesOwn x.h x.memory l.memory → x.len ≤ x.owed → Fits x ends (stops l)
+  it_ends : {l : Local} → Changes x l.memory → x.len ≤ x.owed → Fits x ends (stops l)
   it_breaks : {broken : Rule} {o : Outcome} → Fits x (breaks broken) o
 
 -- what falls through has code behind it
@@ -70,6 +78,6 @@ HasNext x r = (s : State) → r ≡ falls s → x.at + x.len < length x.m.code
 abbrev pub RulesFitSteps : Type 0
 RulesFitSteps =
     (x : Here) (s : State) (l : Local) (f : Fun) (e : ℤ) → IsWellFormed x.m → After x.m x.h x.mode x.act s l
-    → ChangesOwn x.h x.memory l.memory → owed s x.act ≤ x.owed
+    → s.context ≡ x.context → Changes x l.memory → owed s x.act ≤ x.owed
     → FitsSigned w32 e → HasNext x (rule.rule (rule_site x) f e s)
     → Fits x (rule.rule (rule_site x) f e s) (step.local_step (step_site x) f e l)

@@ -3,4 +3,5 @@ pub mod Telling
 pub mod Places
 pub mod Successions
 pub mod Meaning
+pub mod Regions
 pub mod Fitting

@@ -128,9 +128,13 @@ pub record Words : Type 0 where
   pub writes : ℤ → Bool
   pub reads : ℤ → Bool
 
+-- the words that a context may use
+abbrev pub words_in : Contents → ℕ → Words
+words_in m context = record { writes = rights.may_write_word m context; reads = rights.may_read_word m context }
+
 -- the words that count in a state: those that its context may use
 abbrev pub words_of : Contents → State → Words
-words_of m s = record { writes = rights.may_write_word m s.context; reads = rights.may_read_word m s.context }
+words_of m s = words_in m s.context
 
 -- Where the frame lies: the words that count as written are the process's own, it may read those that count as read,
 -- and the workspace is `depth` words from frame word 0.

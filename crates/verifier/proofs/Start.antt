@@ -8,7 +8,8 @@ use Rattle.std.proofs.lemmas.Int.{ints}
 use Rattle.std.specs.Prelude.{slice_get, int_le, int_lt}
 use Rattle.module_format.specs.Contents.{Contents, Par}
 use Rattle.certificate.specs.Rights.{has_word}
-use Rattle.module_format.specs.Contexts.{root_context, own_context, branch_count, owner, context_at}
+use Rattle.module_format.specs.Contexts.{root_context, own_context, branch_count, owner, context_at, own_parameters}
+use Rattle.module_format.specs.Contexts.{parameters_at}
 use Rattle.machine_state.specs.declared.process.Mode.TheVariants as machine_modes
 use Rattle.machine_state.specs.declared.link.InputLink.{InputLink}
 use Rattle.machine_state.specs.declared.link.OutputLink.{OutputLink}
@@ -19,9 +20,11 @@ use Rattle.machine_state.specs.World.{World, loaded}
 use Rattle.machine_state.specs.Site.{Local}
 use Rattle.states.specs.State.{unknown, root_state}
 use Rattle.verifier.specs.Certified.{begins, IsCertified}
-use Rattle.facts.specs.Meaning.{owed, Activation, means_unknown, nothing_known, IsOwnWord, words_of, HasFrame, from_nowhere}
+use Rattle.facts.specs.Meaning.{owed, Activation, means_unknown, nothing_known, IsOwnWord, words_of, HasFrame}
+use Rattle.facts.specs.Meaning.{from_nowhere}
 use Rattle.facts.specs.Meaning.{MeansKnown, both_plain, IsWellFormed}
-use Rattle.verifier.specs.Point.{Decodes}
+use Rattle.verifier.specs.Point.{Behind, nobody_waits, owed_behind, Decodes}
+use Rattle.module_format.specs.declared.rows.Parameter.{Parameter}
 use Rattle.machine_state.specs.Apart.{AllApart}
 use Rattle.verifier.specs.Invariant.{Meets, it_lives, Holds}
 use Rattle.machine_state.specs.Waiting.{Waiters}
@@ -52,6 +55,18 @@ root_is m =
     ap (λ (b : Bool). if b then own_context m (owner first m.pars 0) else None)
     (le-leb 1 (first + branch_count m.pars) (omega arith))
     ∙ ap (own_context m) (owner_of_root first m.pars (omega arith))
+
+root_has_none : (m : Contents) → parameters_at m 0 ≡ []
+unfolding parameters_at
+root_has_none m =
+    let first : ℕ = 1 + length m.procedures in
+    ap (λ (b : Bool). if b then own_parameters m (owner first m.pars 0) else [])
+    (le-leb 1 (first + branch_count m.pars) (omega arith))
+    ∙ ap (own_parameters m) (owner_of_root first m.pars (omega arith))
+
+nothing_at : (j : ℕ) (p : Parameter) → slice_get [] j ≡ Some p → ⊥
+nothing_at zero p h = cc
+nothing_at (suc j) p h = cc
 
 memory_length : (m : Contents) → length (loaded_memory m) ≡ 4 * m.data_words + length m.code + padding
     (length m.code) + length m.constants
@@ -174,26 +189,35 @@ module _ (m : Contents) (d : Decodes m) (wf : IsWellFormed m) (c : IsCertified m
       registers = record { a = nothing_there; b = nothing_there; c = nothing_there };
       words = λ k inside. nothing_known m root_activation k _;
     };
+    named = record {
+      each = λ j p found. absurd (nothing_at j p (subst (λ (ps : List Parameter). slice_get ps j ≡ Some p)
+          (root_has_none m) found));
+    };
     same_mode = both_plain;
   }
+
+  -- nobody waits for its return
+  nobody_behind : Behind m (root_holding m) 0 root_activation.layout (loaded_memory m) []
+  nobody_behind = nobody_waits (λ some. absurd (omega arith))
 
   loaded_holds : Holds m (loaded m)
   loaded_holds =
       let en = enter m d wf c (root_holding m) machine_modes.Plain root_activation 0
-      (root_state m) root_local begins wf.some_code root_after in
+      (root_state m) root_local [] begins wf.some_code root_after nobody_behind in
       let lives = lives_at m d wf c (root_holding m) machine_modes.Plain en.act 0
-      (Some (root_state m)) en.state root_local begins wf.some_code en.stands en.after in
+      (Some (root_state m)) en.state root_local [] begins wf.some_code en.stands en.after en.behind in
+      let due : ℕ = owed en.state en.act + owed_behind [] in
       record {
-        dues = owed en.state en.act ∷ [];
+        dues = due ∷ [];
         table = record {
           each = λ p t h.
               let x = only (root_task m) t p h in
               record {
                 role = root_role m;
                 has_role = ap (λ n. slice_get (root_role m ∷ []) n) x.0;
-                due = owed en.state en.act;
-                has_due = ap (λ n. slice_get (owed en.state en.act ∷ []) n) x.0;
-                meets = subst (λ u. Meets m (root_holding m) (loaded_memory m) u (owed en.state en.act)) x.1 (it_lives lives);
+                due = owed en.state en.act + owed_behind [];
+                has_due = ap (λ n. slice_get (due ∷ []) n) x.0;
+                meets = subst (λ u. Meets m (root_holding m) (loaded_memory m) u (due)) x.1 (it_lives lives);
               };
         };
         line = record { ready = (record { task = root_task m; here = refl; ready = refl }, tt); once = (tt, tt) };

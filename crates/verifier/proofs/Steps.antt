@@ -1,5 +1,6 @@
 -- One byte of one process.
-use Rattle.std.proofs.Common.{◌≡◌, ℕ, zero, suc, ◌+◌, ◌*◌, ◌≤◌, ◌<◌, Bool, true, cond, is_some, inl, inr, ℤ, List, [], ◌∷◌}
+use Rattle.std.proofs.Common.{◌≡◌, ℕ, zero, suc, ◌+◌, ◌*◌, ◌≤◌, ◌<◌, Bool, true, cond, is_some, inl, inr, ℤ, List, []}
+use Rattle.std.proofs.Common.{◌∷◌}
 use Rattle.std.proofs.Common.{length, drop, Option, Some, None, Result, Ok, Err, refl, sym, ap, ◌∙◌, subst, arith}
 use Rattle.std.proofs.Common.{add-one, pos}
 use Rattle.std.proofs.lemmas.Bool.{cases_lt}
@@ -32,17 +33,23 @@ use Rattle.states.specs.State.{State, Facts, label_state}
 use Rattle.states.specs.Below.{below}
 use Rattle.facts.specs.Rules.{Ruling, falls, breaks, rule_at}
 use Rattle.verifier.specs.Certified.{falling, state_at, Reaches, follows, IsCertified}
-use Rattle.facts.specs.Meaning.{owed, Activation, with_turns, at_label, word_at_place, frame_word, words_of}
+use Rattle.facts.specs.Meaning.{owed, Layout, Means, Activation, with_turns, at_label, word_at_place, frame_word}
+use Rattle.facts.specs.Meaning.{words_of}
 use Rattle.facts.specs.Meaning.{ComesFrom, from_nowhere, from_word, from_test, MeansKnown, Knows, IsWellFormed}
 use Rattle.machine_state.specs.Frame.{ChangesOwn}
-use Rattle.verifier.specs.Point.{IsReading, Stands, Decodes}
+use Rattle.verifier.specs.Point.{IsReading, Caller, Behind, nobody_waits, it_returns, owed_behind, Stands, Decodes}
 use Rattle.verifier.specs.Invariant.{Lives}
 use Rattle.facts.proofs.Words.{means_same, frame_word_is}
 use Rattle.states.proofs.RowFacts.{and-parts}
 use Rattle.facts.specs.Fitting.{After, Here, step_site, Fits, it_falls, it_leads, it_ends, it_breaks}
-use Rattle.facts.proofs.Local.{same_frame, elsewhere, function_fits}
+use Rattle.facts.proofs.Local.{readable_byte, same_frame, elsewhere, function_fits}
 use Rattle.facts.proofs.Entering.{below_tells, label_after}
 use Rattle.facts.proofs.Dues.{label_owed}
+use Rattle.facts.proofs.Regions.{keeps_all, keeps_more}
+use Rattle.facts.specs.Regions.{Scope, scope_of, IsRegion, IsNamed, Keeps}
+use Rattle.module_format.specs.declared.fact.Fact.TheVariants.{Number}
+use Rattle.module_format.specs.declared.rows.ParameterKind.{ParameterKind}
+use Rattle.module_format.specs.declared.rows.ParameterKind.TheVariants.{Value, ReadRegion, WrittenRegion, Channels}
 use Rattle.verifier.proofs.Given.{nothing_given, is_given, given_label, given_none, label_is_start}
 
 same_ok : {A E : Type 0} (r : Result A E) (x y : A) → r ≡ Ok x → r ≡ Ok y → x ≡ y
@@ -94,6 +101,53 @@ knows_agree {m} {counts} {act} {said} {facts} {stack} {memory} {later} same know
         → MeansKnown m counts act.layout later known v
     register known v means = record { fact = means.fact; source = comes known.source v means.source }
 
+-- ---- what parameters name, and who waits
+
+module _ (h : Holding) (memory later : Memory) (size : length later ≡ length memory)
+    (agree : (place : ℕ) → may_read h place ≡ true → byte_at later place ≡ byte_at memory place) where
+  region_agrees : {m : Contents} {may_use : ℕ → Bool} {scope : Scope} {place bytes : ℕ} {lo hi : ℤ}
+      → ((q : ℕ) → may_use q ≡ true → may_read h q ≡ true) → IsRegion m may_use scope memory place bytes lo hi
+      → IsRegion m may_use scope later place bytes lo hi
+  region_agrees {m} {may_use} {scope} {place} {bytes} {lo} {hi} reads region = record {
+    held = region.held;
+    beside = region.beside;
+    numbers = λ i fits. subst (λ (v : Option ℤ). Means m scope.layout (Number lo hi) v)
+        (word_same memory later (place + 4 * i)
+        (same i (place + 4 * i) 0 (omega arith) (omega arith))
+        (same i (place + 4 * i + 1) 1 (omega arith) (omega arith))
+        (same i (place + 4 * i + 2) 2 (omega arith) (omega arith))
+        (same i (place + 4 * i + 3) 3 (omega arith) (omega arith)))
+        (region.numbers i fits);
+  }
+    where
+      same : (i q n : ℕ) → q ≡ place + (4 * i + n) → 4 * i + n < bytes → byte_at memory q ≡ byte_at later q
+      same i q n is within = sym (agree q (ap (may_read h) is
+          ∙ reads (place + (4 * i + n)) (region.held (4 * i + n) within)))
+
+  named_agrees : (m : Contents) (scope : Scope) (kind : ParameterKind) (start : ℕ) → IsNamed m h scope memory kind start
+      → IsNamed m h scope later kind start
+  named_agrees m scope (Value lo hi) start named = tt
+  named_agrees m scope (ReadRegion bytes lo hi) start named = region_agrees (λ q e. e) named
+  named_agrees m scope (WrittenRegion bytes lo hi) start named = region_agrees (readable_byte h) named
+  named_agrees m scope (Channels count len ends) start named = named
+
+  agree_keeps : (m : Contents) (scope : Scope) → Keeps m h scope memory later
+  agree_keeps m scope = record {
+    size = size;
+    bytes = λ place e. inl (agree place e);
+    named = λ has. record {
+      each = λ j p found. named_agrees m scope p.kind (scope.layout.starts j) (has.each j p found);
+    };
+  }
+
+behind_keeps : {m : Contents} {h : Holding} {context : ℕ} {layout : Layout} {old new : Memory} {callers : List Caller}
+    → Keeps m h (scope_of m context layout) old new → Behind m h context layout old callers
+    → Behind m h context layout new callers
+behind_keeps keeps (nobody_waits procedure) = nobody_waits procedure
+behind_keeps keeps (it_returns reached resumes rest) =
+    it_returns reached (λ later more. resumes later (keeps_more keeps more))
+    (λ later more. rest later (keeps_more keeps more))
+
 -- all that holds behind an instruction holds whatever happens to bytes that the process may not read
 pub after_agrees : {m : Contents} {h : Holding} {mode : machine.Mode} {act : Activation} {s : State} {l : Local}
     (later : Memory) → length later ≡ length l.memory
@@ -102,6 +156,7 @@ pub after_agrees : {m : Contents} {h : Holding} {mode : machine.Mode} {act : Act
 after_agrees {m} {h} {mode} {act} {s} {l} later size agree a = record {
   frame = same_frame (sym size) a.frame;
   knows = knows_agree same a.knows;
+  named = (agree_keeps h l.memory later size agree m (scope_of m s.context act.layout)).named a.named;
   same_mode = a.same_mode;
 }
   where
@@ -191,8 +246,8 @@ after_some (Some f) g e n rest i some h =
     (sym fg ∙ ap (λ (j : Instr). j.fun) is, ap (λ (j : Instr). j.operand) is, ap (λ (j : Instr). j.len) is)
 
 fits_pays : (x : Here) {r : Ruling} {o : Outcome} → Fits x r o → ((v : Rule) → r ≡ breaks v → ⊥) → x.len ≤ x.owed
-fits_pays x (it_falls low after changes pay) whole = omega arith
-fits_pays x (it_leads turns label low after changes pay) whole = omega arith
+fits_pays x (it_falls low after same changes pay) whole = omega arith
+fits_pays x (it_leads turns label low after same changes pay) whole = omega arith
 fits_pays x (it_ends changes pay) whole = pay
 fits_pays x (it_breaks {broken = v}) whole = absurd (whole v refl)
 
@@ -216,29 +271,32 @@ module _ (m : Contents) (d : Decodes m) (wf : IsWellFormed m) (c : IsCertified m
       ]
 
   -- the state behind, where one falls in, and its activation
-  pub record Entered (h : Holding) (mode : machine.Mode) (at most : ℕ) (before : Option State)
-      (l : Local) : Type 0 where
+  pub record Entered (h : Holding) (mode : machine.Mode) (at most : ℕ) (before : Option State) (l : Local)
+      (callers : List Caller) : Type 0 where
     pub state : State
     pub stands : state_at m at before ≡ Some state
     pub act : Activation
     pub after : After m h mode act state l
     pub paid : owed state act ≤ most
+    pub behind : Behind m h state.context act.layout l.memory callers
 
   -- at a label, or where the tables give no state
-  enter_on : (h : Holding) (mode : machine.Mode) (act : Activation) (at : ℕ) (s : State) (l : Local) (cost : ℕ)
-      (label : Option Label) (begun : Option Begun) → label_at m at ≡ label → procedure_at m at ≡ begun
-      → After m h mode act s l → elim label as (λ o. Result ℕ Rule)
+  enter_on : (h : Holding) (mode : machine.Mode) (act : Activation) (at : ℕ) (s : State) (l : Local)
+      (callers : List Caller) (cost : ℕ) (label : Option Label) (begun : Option Begun) → label_at m at ≡ label
+      → procedure_at m at ≡ begun
+      → After m h mode act s l → Behind m h s.context act.layout l.memory callers → elim label as (λ o. Result ℕ Rule)
       [ None ↦ cond (is_some begun) (Err rules.Flow) (Ok 0) | Some t ↦ below s t ] ≡ Ok cost
-      → Entered h mode at (owed s act) (Some s) l
-  enter_on h mode act at s l cost None None no_label no_procedure a ok = record {
+      → Entered h mode at (owed s act) (Some s) l callers
+  enter_on h mode act at s l callers cost None None no_label no_procedure a behind ok = record {
     state = s;
     stands = nothing_given m at (Some s) (given_none m at no_label no_procedure);
     act = act;
     after = a;
     paid = omega arith;
+    behind = behind;
   }
-  enter_on h mode act at s l cost None (Some e) no_label begins a ok = absurd (cc)
-  enter_on h mode act at s l cost (Some t) begun e f a ok =
+  enter_on h mode act at s l callers cost None (Some e) no_label begins a behind ok = absurd (cc)
+  enter_on h mode act at s l callers cost (Some t) begun e f a behind ok =
       let b = below_tells s t cost ok in
       record {
         state = label_state t;
@@ -246,23 +304,25 @@ module _ (m : Contents) (d : Decodes m) (wf : IsWellFormed m) (c : IsCertified m
         act = at_label s t act;
         after = label_after m h mode act s t l wf at e b.1 a;
         paid = label_owed s t cost act (wf.pairs at t e) ok;
+        behind = subst (λ (n : ℕ). Behind m h n act.layout l.memory callers) b.1.context behind;
       }
 
   pub enter : (h : Holding) (mode : machine.Mode) (act : Activation) (at : ℕ) (s : State) (l : Local)
-      → Reaches m at (Some s) → at < length m.code → After m h mode act s l → Entered h mode at (owed s act) (Some s) l
-  enter h mode act at s l r low a =
+      (callers : List Caller) → Reaches m at (Some s) → at < length m.code → After m h mode act s l
+      → Behind m h s.context act.layout l.memory callers → Entered h mode at (owed s act) (Some s) l callers
+  enter h mode act at s l callers r low a behind =
       let holds = c.holds.each at (Some s) low r in
-      enter_on h mode act at s l holds.cost (label_at m at) (procedure_at m at) refl refl a holds.enters
+      enter_on h mode act at s l callers holds.cost (label_at m at) (procedure_at m at) refl refl a behind holds.enters
 
   -- between two instructions
   pub lives_at : (h : Holding) (mode : machine.Mode) (act : Activation) (at : ℕ) (before : Option State) (s : State)
-      (l : Local) → Reaches m at before → at < length m.code → state_at m at before ≡ Some s
-      → After m h mode act s l → Lives m h l.memory (record {
+      (l : Local) (callers : List Caller) → Reaches m at before → at < length m.code → state_at m at before ≡ Some s
+      → After m h mode act s l → Behind m h s.context act.layout l.memory callers → Lives m h l.memory (record {
         registers = between at l.registers;
         mode = mode;
         condition = Ready;
-      }) (owed s act)
-  lives_at h mode act at before s l r low st a =
+      }) (owed s act + owed_behind callers)
+  lives_at h mode act at before s l callers r low st a behind =
       let holds = c.holds.each at before low r in
       record {
         claim = λ later size agree bytes. record {
@@ -282,6 +342,9 @@ module _ (m : Contents) (d : Decodes m) (wf : IsWellFormed m) (c : IsCertified m
               };
           act = act;
           here = elsewhere at at (pos 0) (after_agrees later size (λ place e. agree place e refl) a);
+          callers = callers;
+          behind = behind_keeps (agree_keeps h l.memory later size (λ place e. agree place e refl) m
+              (scope_of m s.context act.layout)) behind;
           paid = omega arith;
         };
         room = λ place e. absurd (cc);
@@ -293,6 +356,7 @@ module _ (m : Contents) (d : Decodes m) (wf : IsWellFormed m) (c : IsCertified m
       record {
         m = m;
         h = h;
+        context = s.context;
         act = act;
         mode = t.mode;
         memory = memory;
@@ -308,8 +372,7 @@ module _ (m : Contents) (d : Decodes m) (wf : IsWellFormed m) (c : IsCertified m
   point_fits h memory t due p =
       let x = here_of h p.act memory t p.state p.instr in
       function_fits x wf p.state (record { registers = t.registers; memory = memory })
-      p.here
-      (record { size = refl; others = λ place e. refl }) (omega arith)
+      p.here refl (record { own = record { size = refl; others = λ place e. refl }; keeps = keeps_all }) (omega arith)
       p.instr.fun p.instr.operand (d.fits t.registers.began p.instr p.reading.spelled)
       (has_next t.registers.began p.before p.state p.instr p.reached p.stands p.reading.spelled)
 
@@ -380,6 +443,8 @@ module _ (m : Contents) (d : Decodes m) (wf : IsWellFormed m) (c : IsCertified m
         act = p.act;
         here = elsewhere (t.registers.at + 1) t.registers.began (after_prefix (function_code byte)
             (with_nibble t.registers.operand (nibble byte))) p.here;
+        callers = p.callers;
+        behind = p.behind;
         paid = omega (arith, p.paid);
       }
 
@@ -414,29 +479,36 @@ module _ (m : Contents) (d : Decodes m) (wf : IsWellFormed m) (c : IsCertified m
   comes : (h : Holding) (memory : Memory) (t : Task) (due : ℕ) (p : Stands m h memory t due) (r : Ruling) (o : Outcome)
       → r ≡ rule_at m t.registers.began p.instr p.state → p.taken + 1 ≡ p.instr.len
       → Fits (here_of h p.act memory t p.state p.instr) r o → Comes h memory t due o
-  comes h memory t due p r o e last (it_falls {s = s'} {l = l} low after changes pay) =
+  comes h memory t due p r o e last (it_falls {s = s'} {l = l} low after same changes pay) =
       let next : Reaches m (t.registers.began + p.instr.len) (Some s') =
       follows p.reached p.stands p.reading.spelled refl (ap falling e) in
       let at : t.registers.began + p.instr.len ≡ t.registers.at + 1 = omega (arith, p.reading.at_is) in
-      let en = enter h t.mode p.act (t.registers.began + p.instr.len) s' l next low after in
+      let behind : Behind m h s'.context p.act.layout l.memory p.callers =
+      subst (λ (n : ℕ). Behind m h n p.act.layout l.memory p.callers) (sym same)
+      (behind_keeps changes.keeps p.behind) in
+      let en = enter h t.mode p.act (t.registers.began + p.instr.len) s' l p.callers next low after behind in
       let lives =
-      lives_at h t.mode en.act (t.registers.began + p.instr.len) (Some s') en.state l next low en.stands en.after in
-      comes_on (owed en.state en.act) changes
+      lives_at h t.mode en.act (t.registers.began + p.instr.len) (Some s') en.state l p.callers next low en.stands
+      en.after en.behind in
+      comes_on (owed en.state en.act + owed_behind p.callers) changes.own
       (subst (λ n. Lives m h l.memory (record {
         registers = between n l.registers;
         mode = t.mode;
         condition =
             Ready;
-      }) (owed en.state en.act)) at lives)
+      }) (owed en.state en.act + owed_behind p.callers)) at lives)
       (omega (arith, p.paid, en.paid, pay))
-  comes h memory t due p r o e last (it_leads {to = to} {l = l} {t = label} turns is low after changes pay) =
+  comes h memory t due p r o e last (it_leads {to = to} {l = l} {t = label} turns is low after same changes pay) =
       let r = c.holds.starts to low (label_is_start m to label is) in
       let st : state_at m to r.0 ≡ Some (label_state label) =
       is_given m to r.0 (label_state label) (given_label m to label is) in
-      comes_to (owed (label_state label) (with_turns turns p.act)) changes
-      (lives_at h t.mode (with_turns turns p.act) to r.0 (label_state label) l r.1 low st after)
+      let behind : Behind m h label.context p.act.layout l.memory p.callers =
+      subst (λ (n : ℕ). Behind m h n p.act.layout l.memory p.callers) (sym same)
+      (behind_keeps changes.keeps p.behind) in
+      comes_to (owed (label_state label) (with_turns turns p.act) + owed_behind p.callers) changes.own
+      (lives_at h t.mode (with_turns turns p.act) to r.0 (label_state label) l p.callers r.1 low st after behind)
       (omega (arith, p.paid, pay))
-  comes h memory t due p r o e last (it_ends changes pay) = comes_down changes (omega (arith, p.paid, pay))
+  comes h memory t due p r o e last (it_ends changes pay) = comes_down changes.own (omega (arith, p.paid, pay))
   comes h memory t due p r o e last (it_breaks {broken = v}) =
       absurd (unbroken h memory t due p (began_inside h memory t due p) v (sym e))
 

@@ -463,6 +463,8 @@ stands_whatever m h memory t c due p = record {
   reading = p.reading;
   act = p.act;
   here = p.here;
+  callers = p.callers;
+  behind = p.behind;
   paid = p.paid;
 }
 
@@ -687,7 +689,8 @@ module _ (m : Contents) where
   roused_meets g memory t is_ready due enabling (it_lives l) = it_lives (record {
     claim = λ later size agree bytes.
         let old = l.claim later size agree bytes in
-        absurd (no_enabling old.state.mode is_ready (subst (λ mode. SameMode old.state.mode mode) enabling old.here.same_mode));
+        absurd (no_enabling old.state.mode is_ready
+        (subst (λ mode. SameMode old.state.mode mode) enabling old.here.same_mode));
     room = l.room;
   })
 

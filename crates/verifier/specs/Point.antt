@@ -1,5 +1,7 @@
 -- A process at a point of the code.
-use Rattle.std.specs.Prelude.{◌≡◌, ℕ, ◌+◌, ◌≤◌, pos, FitsSigned, length, drop, Option, Some, Ok}
+use Rattle.std.specs.Prelude.{◌≡◌, ℕ, ◌+◌, ◌≤◌, ◌<◌, ℤ, pos, true, FitsSigned, List, [], ◌∷◌, length, drop, Option}
+use Rattle.std.specs.Prelude.{Some}
+use Rattle.std.specs.Prelude.{Ok}
 use Rattle.std.specs.Int.{w32}
 use Rattle.prefix_decoder.specs.declared.decoding.Instr.{Instr}
 use Rattle.prefix_decoder.specs.Fetching.{read, fetched}
@@ -9,7 +11,8 @@ use Rattle.machine_state.specs.declared.process.Task.{Task}
 use Rattle.machine_state.specs.Memory.{Memory}
 use Rattle.machine_state.specs.Holding.{Holding}
 use Rattle.states.specs.State.{State}
-use Rattle.facts.specs.Meaning.{Activation, owed}
+use Rattle.facts.specs.Meaning.{Layout, Activation, words_of, HasFrame, MeansWord, frame_word, owed}
+use Rattle.facts.specs.Regions.{scope_of, HoldsNamed, Keeps}
 use Rattle.facts.specs.Fitting.{After}
 use Rattle.verifier.specs.Certified.{Reaches, state_at}
 
@@ -21,8 +24,42 @@ pub record IsReading (m : Contents) (r : Registers) (i : Instr) (taken : ℕ) : 
   pub spelled : fetched m.code r.began ≡ Ok i
   pub rest : read fuel (drop r.at m.code) r.operand taken ≡ Ok i
 
+-- ---- activations that wait for a return
+
+-- An activation that waits until the one that it called returns, and the state in which it goes on then.
+pub record Caller : Type 0 where
+  pub act : Activation
+  pub state : State
+  pub workspace : ℕ
+
+-- All that is known of the words of a caller holds, and it has what its parameters name.
+pub record Resumes (m : Contents) (h : Holding) (c : Caller) (memory : Memory) : Type 0 where
+  pub frame : HasFrame h (length memory) (words_of m c.state) c.act.layout.origin c.state.depth c.workspace
+  pub words : (k : ℤ) → (words_of m c.state).reads k ≡ true
+      → MeansWord m c.act k (c.state.frame k) (frame_word memory c.act.layout.origin k)
+  pub named : HoldsNamed m h (scope_of m c.state.context c.act.layout) memory
+
+-- Those that wait for an activation of a context to return, the one that called it first. Whatever it still changes,
+-- each goes on in its state, which falls into the offset of the return. An activation of a procedure has a caller.
+pub data Behind (m : Contents) (h : Holding) : ℕ → Layout → Memory → List Caller → Type 0 where
+  nobody_waits : {context : ℕ} {layout : Layout} {memory : Memory} → (1 ≤ context → length m.procedures < context)
+      → Behind m h context layout memory []
+  it_returns : {context : ℕ} {layout : Layout} {memory : Memory} {c : Caller} {cs : List Caller}
+      → Reaches m layout.back (Some c.state)
+      → ((later : Memory) → Keeps m h (scope_of m context layout) memory later → Resumes m h c later)
+      → ((later : Memory) → Keeps m h (scope_of m context layout) memory later
+      → Behind m h c.state.context c.act.layout later cs)
+      → Behind m h context layout memory (c ∷ cs)
+
+-- what those owe that wait
+abbrev pub owed_behind : List Caller → ℕ
+owed_behind [] = 0
+owed_behind (c ∷ cs) = owed c.state c.act + owed_behind cs
+
+-- ---- a process
+
 -- The process is at a point of the code, in the state that the certificate has there and in some activation, and owes
--- what is left of what it owed.
+-- what is left of what it owed, and what those owe that wait for its return.
 pub record Stands (m : Contents) (h : Holding) (memory : Memory) (t : Task) (due : ℕ) : Type 0 where
   pub before : Option State
   pub state : State
@@ -33,7 +70,9 @@ pub record Stands (m : Contents) (h : Holding) (memory : Memory) (t : Task) (due
   pub reading : IsReading m t.registers instr taken
   pub act : Activation
   pub here : After m h t.mode act state (record { registers = t.registers; memory = memory })
-  pub paid : due + taken ≡ owed state act
+  pub callers : List Caller
+  pub behind : Behind m h state.context act.layout memory callers
+  pub paid : due + taken ≡ owed state act + owed_behind callers
 
 -- What the decoder says of the code: an instruction has at least one byte, lies in the code, has an operand of a word,
 -- and is what the device reads.

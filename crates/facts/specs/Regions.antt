@@ -1,0 +1,82 @@
+-- What the parameters of an activation name, and what an activation may change.
+use Rattle.std.specs.Prelude.{◌≡◌, ◌⊎◌, ⊤, ℕ, ◌+◌, ◌*◌, ◌≤◌, ◌<◌, ℤ, pos, ◌+ℤ◌, ◌≤ℤ◌, ◌<ℤ◌, Bool, true, List, length}
+use Rattle.std.specs.Prelude.{slice_get, Some}
+use Rattle.module_format.specs.declared.fact.Fact.TheVariants.{Number}
+use Rattle.module_format.specs.declared.rows.Parameter.{Parameter}
+use Rattle.module_format.specs.declared.rows.ParameterKind.{ParameterKind}
+use Rattle.module_format.specs.declared.rows.ParameterKind.TheVariants.{Value, ReadRegion, WrittenRegion, Channels}
+use Rattle.module_format.specs.declared.rows.Direction.{Direction}
+use Rattle.module_format.specs.Contents.{Contents}
+use Rattle.module_format.specs.Contexts.{parameters_at}
+use Rattle.certificate.specs.Rights.{gives_element}
+use Rattle.machine_state.specs.Memory.{Memory, byte_at, word_at, place_of}
+use Rattle.machine_state.specs.Holding.{Holding, may_write, may_read, has_end}
+use Rattle.facts.specs.Meaning.{Layout, Words, words_in, Means, place_in}
+
+-- the byte at a place is one of frame word k
+pub record IsByteOf (origin k : ℤ) (place : ℕ) : Type 0 where
+  pub low : place_in origin k ≤ℤ pos place
+  pub high : pos place <ℤ (place_in origin k +ℤ pos 4)
+
+-- What an activation may reach: words of its frame, and what its parameters name.
+pub record Scope : Type 0 where
+  pub words : Words
+  pub layout : Layout
+  pub parameters : List Parameter
+
+-- the scope of an activation of a context
+abbrev pub scope_of : Contents → ℕ → Layout → Scope
+scope_of m context layout =
+    record { words = words_in m context; layout = layout; parameters = parameters_at m context }
+
+-- ---- what parameters name
+
+-- So many bytes from a place on, each of which may be used so. No word of the frame that counts as written has one of
+-- them, and each word is a number from lo to hi.
+pub record IsRegion (m : Contents) (may_use : ℕ → Bool) (scope : Scope) (memory : Memory) (place size : ℕ)
+    (lo hi : ℤ) : Type 0 where
+  pub held : (i : ℕ) → i < size → may_use (place + i) ≡ true
+  pub beside : (k : ℤ) (i : ℕ) → scope.words.writes k ≡ true → i < size
+      → IsByteOf scope.layout.origin k (place + i) → ⊥
+  pub numbers : (i : ℕ) → 4 * i + 4 ≤ size → Means m scope.layout (Number lo hi) (word_at memory (place + 4 * i))
+
+-- the ends of channels that lie from an address on: those that a parameter of this kind brings
+pub record HasEnds (h : Holding) (kind : ParameterKind) (start : ℕ) : Type 0 where
+  pub each : (element : ℕ) (direction : Direction) → gives_element kind element direction ≡ true
+      → has_end h (record { address = start + 4 * element; direction = direction }) ≡ true
+
+-- the process holds what a parameter of this kind names, which begins at this address
+abbrev pub IsNamed : Contents → Holding → Scope → Memory → ParameterKind → ℕ → Type 0
+IsNamed m h scope memory (Value lo hi) start = ⊤
+IsNamed m h scope memory (ReadRegion size lo hi) start =
+    IsRegion m (may_read h) scope memory (place_of start) size lo hi
+IsNamed m h scope memory (WrittenRegion size lo hi) start =
+    IsRegion m (may_write h) scope memory (place_of start) size lo hi
+IsNamed m h scope memory (Channels count len ends) start = HasEnds h (Channels count len ends) start
+
+-- the process holds what each parameter of the scope names
+pub record HoldsNamed (m : Contents) (h : Holding) (scope : Scope) (memory : Memory) : Type 0 where
+  pub each : (j : ℕ) (p : Parameter) → slice_get scope.parameters j ≡ Some p
+      → IsNamed m h scope memory p.kind (scope.layout.starts j)
+
+-- ---- what an activation changes
+
+-- the byte at a place is one of a region that is written, which begins at this address
+abbrev pub IsWrittenAt : ParameterKind → ℕ → ℕ → Type 0
+IsWrittenAt (Value lo hi) start place = ⊥
+IsWrittenAt (ReadRegion size lo hi) start place = ⊥
+IsWrittenAt (WrittenRegion size lo hi) start place = (place_of start ≤ place) × (place < place_of start + size)
+IsWrittenAt (Channels count len ends) start place = ⊥
+
+-- The activation may change the byte at a place.
+pub data MayChange (scope : Scope) (place : ℕ) : Type 0 where
+  in_frame : (k : ℤ) → scope.words.writes k ≡ true → IsByteOf scope.layout.origin k place → MayChange scope place
+  in_region : (j : ℕ) (p : Parameter) → slice_get scope.parameters j ≡ Some p
+      → IsWrittenAt p.kind (scope.layout.starts j) place → MayChange scope place
+
+-- What steps of an activation leave of memory: of the bytes that the process may read only those have changed that the
+-- activation may change, and what its parameters name is still there.
+pub record Keeps (m : Contents) (h : Holding) (scope : Scope) (old new : Memory) : Type 0 where
+  pub size : length new ≡ length old
+  pub bytes : (place : ℕ) → may_read h place ≡ true → (byte_at new place ≡ byte_at old place) ⊎ MayChange scope place
+  pub named : HoldsNamed m h scope old → HoldsNamed m h scope new
