@@ -3,64 +3,174 @@ use prefix_decoder::Fun;
 use std::alloc::Global;
 use std::test::*;
 
-/// Adds instructions of one byte.
-fn fill(draft: &mut Draft, count: usize) -> Result<(), GenFault> {
-    for _ in 0..count {
-        draft.push(Item::Instruction {
-            fun: Fun::Operate,
-            operand: Operand::Number(0),
-        })?;
+/// A step of writing a draft whose labels go by their numbers.
+#[derive(Clone, Copy)]
+enum Step {
+    /// This many instructions of one byte.
+    Fill(usize),
+    Place(usize),
+    Jump(usize),
+    Distance(usize, usize),
+    Address(u16),
+}
+
+/// Takes a step, if the draft has its labels.
+fn take(draft: &mut Draft, step: Step) -> Result<(), GenFault> {
+    let count = draft.labels().len();
+    match step {
+        Step::Fill(count) => {
+            for _ in 0..count {
+                draft.push(Item::Instruction {
+                    fun: Fun::Operate,
+                    operand: Operand::Number(0),
+                })?;
+            }
+        }
+        Step::Place(index) if index < count => {
+            let label = Label { index };
+            if !draft.is_placed(label) {
+                draft.place(label);
+            }
+        }
+        Step::Jump(index) if index < count => {
+            let operand = Operand::DistanceTo(Label { index });
+            draft.push(Item::Instruction {
+                fun: Fun::Jump,
+                operand,
+            })?;
+        }
+        Step::Distance(from, to) if from < count && to < count => {
+            let from = Label { index: from };
+            let to = Label { index: to };
+            draft.push(Item::Instruction {
+                fun: Fun::LoadConstant,
+                operand: Operand::Between { from, to },
+            })?;
+        }
+        Step::Address(offset) => draft.push(Item::ConstantAddress { offset })?,
+        _ => {}
     }
     Ok(())
 }
 
-/// Adds a jump to a label.
-fn jump(draft: &mut Draft, label: Label) -> Result<(), GenFault> {
-    draft.push(Item::Instruction {
-        fun: Fun::Jump,
-        operand: Operand::DistanceTo(label),
-    })
-}
-
-/// The length of a jump over this many bytes.
-fn forward(alloc: Global, count: usize) -> Result<Option<u8>, Fail> {
+/// What steps make of this many labels: the lengths of the items and the code. Both are empty if a label is not
+/// placed.
+fn made(alloc: Global, labels: usize, steps: &[Step]) -> Result<(Vec<u8>, Vec<u8>), GenFault> {
     let mut draft = Draft::new(alloc);
-    let label = draft.label()?;
-    jump(&mut draft, label)?;
-    fill(&mut draft, count)?;
-    draft.place(label);
-    Ok(layout(alloc, &draft)?.lengths.first().copied())
-}
-
-/// The length of a jump back over this many bytes and itself.
-fn backward(alloc: Global, count: usize) -> Result<Option<u8>, Fail> {
-    let mut draft = Draft::new(alloc);
-    let label = draft.label()?;
-    draft.place(label);
-    fill(&mut draft, count)?;
-    jump(&mut draft, label)?;
-    Ok(layout(alloc, &draft)?.lengths.last().copied())
+    for _ in 0..labels {
+        let _ = draft.label()?;
+    }
+    for step in steps {
+        take(&mut draft, *step)?;
+    }
+    if !draft.is_complete() {
+        return Ok((Vec::new(alloc), Vec::new(alloc)));
+    }
+    let layout = layout(alloc, &draft)?;
+    let code = spell(alloc, &draft, &layout)?;
+    Ok((layout.lengths, code))
 }
 
 #[test]
 fn boundaries_of_length(rt: HostRuntime) -> Result<(), Fail> {
-    for (count, len) in [
-        (0, 1),
+    let forward = [
         (15, 1),
         (16, 2),
         (255, 2),
         (256, 3),
         (4095, 3),
         (4096, 4),
-    ] {
-        assert_eq!(rt; forward(rt.alloc(), count)?, Some(len), "over {count}");
+        (65535, 4),
+        (65536, 5),
+    ];
+    for (count, len) in forward {
+        let (lengths, _) = made(
+            rt.alloc(),
+            1,
+            &[Step::Jump(0), Step::Fill(count), Step::Place(0)],
+        )?;
+        assert_eq!(rt; lengths.first().copied(), Some(len), "over {count}");
     }
-    for (count, len) in [(0, 2), (254, 2), (255, 3), (4093, 3), (4094, 4)] {
-        assert_eq!(rt;
-            backward(rt.alloc(), count)?,
-            Some(len),
-            "back over {count}"
-        );
+    let backward = [
+        (254, 2),
+        (255, 3),
+        (4093, 3),
+        (4094, 4),
+        (65532, 4),
+        (65533, 5),
+    ];
+    for (count, len) in backward {
+        let (lengths, _) = made(
+            rt.alloc(),
+            1,
+            &[Step::Place(0), Step::Fill(count), Step::Jump(0)],
+        )?;
+        assert_eq!(rt; lengths.last().copied(), Some(len), "back over {count}");
     }
+    Ok(())
+}
+
+/// Each jump is over the next one, so that one that grows makes the one before it grow.
+#[test]
+fn a_chain_grows_whole(rt: HostRuntime) -> Result<(), Fail> {
+    for (count, len) in [(15, 1), (16, 2)] {
+        let steps = [
+            Step::Jump(0),
+            Step::Fill(14),
+            Step::Jump(1),
+            Step::Place(0),
+            Step::Fill(14),
+            Step::Jump(2),
+            Step::Place(1),
+            Step::Fill(count),
+            Step::Place(2),
+        ];
+        let (lengths, _) = made(rt.alloc(), 3, &steps)?;
+        assert_eq!(rt; lengths.first().copied(), Some(len), "over {count}");
+    }
+    Ok(())
+}
+
+#[test]
+fn code(rt: HostRuntime) -> Result<(), Fail> {
+    let cases: [(&[Step], &[u8]); 4] = [
+        (
+            &[Step::Fill(1), Step::Address(12), Step::Fill(1)],
+            &[0xf0, 0x4f, 0x80, 0x21, 0xfb, 0xf0],
+        ),
+        (
+            &[Step::Fill(1), Step::Address(12), Step::Fill(4)],
+            &[0xf0, 0x21, 0x43, 0x21, 0xfb, 0xf0, 0xf0, 0xf0, 0xf0],
+        ),
+        (
+            &[
+                Step::Distance(0, 1),
+                Step::Distance(1, 0),
+                Step::Place(0),
+                Step::Fill(2),
+                Step::Place(1),
+            ],
+            &[0x42, 0x60, 0x4e, 0xf0, 0xf0],
+        ),
+        (
+            &[Step::Place(0), Step::Jump(0), Step::Place(1), Step::Jump(1)],
+            &[0x60, 0x0e, 0x60, 0x0e],
+        ),
+    ];
+    for (steps, code) in cases {
+        let (_, bytes) = made(rt.alloc(), 2, steps)?;
+        assert_eq!(rt; bytes.as_slice(), code, "{code:?}");
+    }
+    Ok(())
+}
+
+#[test]
+fn limit(rt: HostRuntime) -> Result<(), Fail> {
+    let (_, code) = made(rt.alloc(), 0, &[Step::Fill(262_143)])?;
+    assert_eq!(rt; code.len(), 262_143);
+    assert_eq!(rt;
+        made(rt.alloc(), 0, &[Step::Fill(262_144)]).err(),
+        Some(GenFault::Limit)
+    );
     Ok(())
 }
