@@ -1,5 +1,5 @@
 -- What a plain Step can do, and what runs of them come to.
-use Rattle.std.proofs.Common.{◌≡◌, ◌≢◌, ℕ, zero, suc, ◌+◌, ◌-◌, ◌<◌, ◌≤◌, nat_le, Bool, true, false, List, [], ◌∷◌}
+use Rattle.std.proofs.Common.{◌≡◌, ◌≢◌, ℕ, ◌+◌, ◌-◌, ◌<◌, ◌≤◌, nat_le, Bool, true, false, List, [], ◌∷◌}
 use Rattle.std.proofs.Common.{◌++◌, Option, Some, None, is_some, Ok, Err, slice_get, replicate, refl, ap, sym, subst}
 use Rattle.std.proofs.Common.{◌∙◌, arith, cond, not, length, nat_lt, ℤ}
 use Rattle.std.proofs.lemmas.Bool.{leb-true}
@@ -28,10 +28,11 @@ use Rattle.machine_state.specs.Happens.{most_executed}
 use Rattle.machine_state.proofs.EventLaws.{events_count_bytes, faults_are_kept}
 use Rattle.machine_state.proofs.Turns as turns
 use Rattle.machine_state.proofs.Turns.{Ends, settled_ends}
-use Rattle.machine_state.proofs.Waiting.{lines_are_ready}
 use Rattle.machine.specs.Asking.{Execution, is_running}
 use Rattle.machine.specs.Lending.{shown}
-use Rattle.verifier.specs.Headline.{AreEvents, IsWell, RunsWell}
+use Rattle.verifier.specs.Certified.{IsCertified}
+use Rattle.verifier.specs.Invariant.{Holds}
+use Rattle.verifier.proofs.Start.{loaded_world_holds, event_keeps_holding}
 use Rattle.tpm.specs.Running.{plain_step, world_at}
 
 -- ---- one Step
@@ -188,55 +189,49 @@ pub world_more : (m : Contents) (n : ℕ) → world_at m (n + 1) ≡ happens m (
 world_more m n = ap (λ (es : List Event). run_from m (loaded m) es) (sym (replicate_more n plain_step)) ∙ run_more m
     (loaded m) (replicate n plain_step) plain_step
 
-are_steps : (n : ℕ) → AreEvents (replicate n plain_step)
-are_steps zero = tt
-are_steps (suc n) = (tt, are_steps n)
-
--- a module that runs well does so in Steps
-pub well_at : (m : Contents) (n : ℕ) → RunsWell m → IsWell (world_at m n) m.budget
-well_at m n well = well (replicate n plain_step) (are_steps n)
-
--- The machine runs this module, and is where some number of Steps leads.
+-- The machine runs this module, is where some number of Steps leads, and the module's invariant holds there.
 pub record IsAt (m : Contents) (machine : Execution) : Type 0 where
   pub contents : machine.contents ≡ m
+  pub holds : Holds m machine.world
   pub count : ℕ
   pub world : machine.world ≡ world_at m count
 
-pub at_start : (m : Contents) (machine : Execution) → machine ≡ record { contents = m; world = loaded m }
-    → IsAt m machine
-at_start m machine is = record {
+pub at_start : (m : Contents) (machine : Execution) → Keeps m → IsCertified m
+    → machine ≡ record { contents = m; world = loaded m } → IsAt m machine
+at_start m machine keeps certified is = record {
   contents = ap (λ (x : Execution). x.contents) is;
+  holds = subst (λ (x : Execution). Holds m x.world) (sym is) (loaded_world_holds m keeps certified);
   count = 0;
   world = ap (λ (x : Execution). x.world) is;
 }
 
-pub at_next : (m : Contents) (machine later : Execution) → IsAt m machine → later.contents ≡ machine.contents
-    → later.world ≡ happens machine.contents machine.world plain_step → IsAt m later
-at_next m machine later at same stepped = record {
+-- the invariant holds after one more Step
+holds_next : (m : Contents) (machine : Execution) → Keeps m → IsCertified m → IsAt m machine
+    → Holds m (happens machine.contents machine.world plain_step)
+holds_next m machine keeps certified at =
+    subst (λ (x : Contents). Holds m (happens x machine.world plain_step)) (sym at.contents)
+    (event_keeps_holding m plain_step machine.world keeps certified tt at.holds)
+
+pub at_next : (m : Contents) (machine later : Execution) → Keeps m → IsCertified m → IsAt m machine
+    → later.contents ≡ machine.contents → later.world ≡ happens machine.contents machine.world plain_step
+    → IsAt m later
+at_next m machine later keeps certified at same stepped = record {
   contents = same ∙ at.contents;
+  holds = subst (λ (w : World). Holds m w) (sym stepped) (holds_next m machine keeps certified at);
   count = at.count + 1;
   world = stepped ∙ ap (λ (x : Contents). happens x machine.world plain_step) at.contents ∙ ap
       (λ (w : World). happens m w plain_step) at.world
       ∙ sym (world_more m at.count);
 }
 
--- where Steps lead in a module that runs well, there is no fault, and no more is executed than the budget
-pub within : (m : Contents) (machine : Execution) → RunsWell m → IsAt m machine
-    → machine.world.counters.executed ≤ m.budget
-within m machine well at = let here = well_at m at.count well in rw at.world here.within_budget
+-- where the invariant holds, no more is executed than the budget
+pub within : (m : Contents) (machine : Execution) → IsAt m machine → machine.world.counters.executed ≤ m.budget
+within m machine at = omega (arith, at.holds.owed)
 
-pub none_at : (m : Contents) (machine : Execution) → RunsWell m → IsAt m machine → machine.world.fault ≡ None
-none_at m machine well at = let here = well_at m at.count well in ap (λ (w : World). w.fault) at.world ∙ here.no_fault
-
-pub none_next : (m : Contents) (machine : Execution) → RunsWell m → IsAt m machine
+-- and the next Step meets no fault
+pub none_next : (m : Contents) (machine : Execution) → Keeps m → IsCertified m → IsAt m machine
     → (happens machine.contents machine.world plain_step).fault ≡ None
-none_next m machine well at =
-    let later : Execution = record {
-      contents = machine.contents;
-      world =
-          happens machine.contents machine.world plain_step;
-    } in
-    none_at m later well (at_next m machine later at refl refl)
+none_next m machine keeps certified at = (holds_next m machine keeps certified at).well
 
 -- what is not, is
 pub not_both : (b : Bool) → b ≡ true → not b ≡ true → ⊥
@@ -256,12 +251,6 @@ pub idle_count : (m : Contents) (machine later : Execution) → machine.contents
     → (turn machine.contents machine.world plain_step).answer ≡ Ok idle → later.world ≡ machine.world
 idle_count m machine later at stepped told = stepped ∙ idle_stays machine.contents machine.world told
 
--- ---- who runs is there
-
-pub line_at : (m : Contents) (machine : Execution) → IsAt m machine → Line machine.world.tasks machine.world.queue
-line_at m machine at =
-    subst (λ (w : World). Line w.tasks w.queue) (sym at.world) (lines_are_ready m (replicate at.count plain_step))
-
 -- nobody runs then
 pub idle_ends : (m : Contents) (machine later : Execution) → IsAt m machine
     → later.world ≡ happens machine.contents machine.world plain_step
@@ -270,9 +259,9 @@ pub idle_ends : (m : Contents) (machine later : Execution) → IsAt m machine
 idle_ends m machine later at stepped small told =
     ap is_running (idle_count m machine later at.contents stepped told)
     ∙ ap is_some (nobody_runs machine.world (turn machine.contents machine.world plain_step)
-    (steps machine.contents machine.world) told (line_at m machine at) small)
+    (steps machine.contents machine.world) told at.holds.line small)
 
 -- no run of a module that keeps the format comes near the greatest count
-pub small : (m : Contents) (machine : Execution) → Keeps m → RunsWell m → IsAt m machine
+pub small : (m : Contents) (machine : Execution) → Keeps m → IsAt m machine
     → machine.world.counters.executed < most_executed
-small m machine keeps well at = let low = within m machine well at in let most = keeps.bounds.budget in omega arith
+small m machine keeps at = let low = within m machine at in let most = keeps.bounds.budget in omega arith

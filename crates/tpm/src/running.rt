@@ -3,7 +3,7 @@
 ghost use Rattle.std.specs.Prelude.{◌≡◌, ◌+◌, IfOk, OnOk, None, true, false, Ok};
 ghost use Rattle.module_format.specs.Keeping.{Keeps};
 ghost use Rattle.machine_state.specs.Happens.{happens, turn, idle};
-ghost use Rattle.verifier.specs.Headline.{RunsWell};
+ghost use Rattle.verifier.specs.Certified.{IsCertified};
 ghost use Rattle.tpm.specs.Running.{EndsIn, plain_step};
 
 use crate::report::Report;
@@ -39,7 +39,7 @@ fn step(machine: &mut Checked<'_>) -> Result<bool, AllocError>
 /// Makes Steps until nobody runs, and tells what was executed and how the run ended.
 pub fn run_out(alloc: Global, module: &Module<'_>) -> Result<Report, AllocError>
     requires keeps { Keeps «module».now }
-    requires well { RunsWell «module».now }
+    requires certified { IsCertified «module».now }
     ensures { IfOk result (EndsIn «module».now) }
 {
     let mut machine = Checked::load(alloc, module)?;
