@@ -175,7 +175,24 @@ source_means {counts} {old} {new} {origin} touches kept (Test word lo hi within)
           (from_test x inside (kept word inside e ∙ is) tested)
     ]
 
--- The law of changes: what was known before, and is changed as memory is, is known afterwards.
+-- The law of changes, of words: what was known of them, and is changed as memory is, is known afterwards.
+pub words_changed : (m : Contents) (counts : ℤ → Bool) (act : Activation) (facts : Facts) (old new : Memory)
+    (change : Change) → Follows m counts act.layout change old new
+    → ((k : ℤ) → counts k ≡ true → MeansWord m act k (facts k) (frame_word old act.layout.origin k))
+    → (k : ℤ) → counts k ≡ true → MeansWord m act k (changed change facts k) (frame_word new act.layout.origin k)
+words_changed m counts act facts old new change follows words k inside = elim (bool_cases (change.touches k)) [
+  | inl e ↦ means_same
+      (is_fact (follows.touched k (by_itself (facts k)) inside e
+      (itself_means m act k (facts k) _ (words k inside))))
+      (sym (ap (λ (b : Bool). cond b (Alone (change.leaves k (by_itself (facts k))))
+      (cond (is_parted change.touches k (facts k)) (Alone (by_itself (facts k))) (facts k))) e)) refl
+  | inr e ↦ means_same (left_means m act change.touches k (facts k) _ (words k inside))
+      (sym (ap (λ (b : Bool). cond b (Alone (change.leaves k (by_itself (facts k))))
+      (cond (is_parted change.touches k (facts k)) (Alone (by_itself (facts k))) (facts k))) e))
+      (sym (follows.kept k inside e))
+]
+
+-- The same of registers besides, which forget their sources in the words that are touched.
 pub knows_changed : {m : Contents} {counts : ℤ → Bool} {act : Activation} {said : Stack Known} {facts : Facts}
     {stack : Stack (Option ℤ)} {old new : Memory} (change : Change) → Follows m counts act.layout change old new
     → Knows m counts act said facts stack old
@@ -186,17 +203,7 @@ knows_changed {m} {counts} {act} {said} {facts} {stack} {old} {new} change follo
     b = register said.b stack.b known.registers.b;
     c = register said.c stack.c known.registers.c;
   };
-  words = λ k inside. elim (bool_cases (change.touches k)) [
-    | inl e ↦ means_same
-        (is_fact (follows.touched k (by_itself (facts k)) inside e
-        (itself_means m act k (facts k) _ (known.words k inside))))
-        (sym (ap (λ (b : Bool). cond b (Alone (change.leaves k (by_itself (facts k))))
-        (cond (is_parted change.touches k (facts k)) (Alone (by_itself (facts k))) (facts k))) e)) refl
-    | inr e ↦ means_same (left_means m act change.touches k (facts k) _ (known.words k inside))
-        (sym (ap (λ (b : Bool). cond b (Alone (change.leaves k (by_itself (facts k))))
-        (cond (is_parted change.touches k (facts k)) (Alone (by_itself (facts k))) (facts k))) e))
-        (sym (follows.kept k inside e))
-  ];
+  words = words_changed m counts act facts old new change follows known.words;
 }
   where
     register : (known : Known) (v : Option ℤ) → MeansKnown m counts act.layout old known v
