@@ -3,8 +3,8 @@
 use crate::answer::Answer;
 use crate::tokens::{write_character, write_name, write_text};
 use occam_parser::{
-    Action, Branch, ChainOperator, Choice, Constant, ConstantValue, Construct, Declaration, Expr,
-    Formal, FormalKind, Guard, Item, Names, Operand, Operation, PairOperator, Place,
+    Action, Body, Branch, ChainOperator, Choice, Constant, ConstantValue, Construct, Declaration,
+    Expr, Formal, FormalKind, Guard, Item, Names, Operand, Operation, PairOperator, Place,
     PrefixOperator, Proc, Process, Replicator, ValueType,
 };
 
@@ -128,28 +128,55 @@ fn write_process<'p>(out: &mut Answer, level: u32, process: &'p Process<'p>) {
         write_declaration(out, declaration);
     }
     write_indent(out, level);
-    write_first_line(out, &process.construct);
-    write_components(out, level.saturating_add(1), &process.construct)
+    write_construct(out, level.saturating_add(1), &process.construct)
 }
 
-fn write_first_line(out: &mut Answer, construct: &Construct) {
+/// A construct whose components are at a level.
+#[cycle(write_process)]
+fn write_construct<'p>(out: &mut Answer, level: u32, construct: &'p Construct<'p>) {
     match construct {
         Construct::Action(action) => write_action(out, action),
-        Construct::Seq { replicator, .. } => write_head(out, "SEQ", replicator),
-        Construct::Par { replicator, .. } => write_head(out, "PAR", replicator),
-        Construct::If { replicator, .. } => write_head(out, "IF", replicator),
-        Construct::Alt { replicator, .. } => write_head(out, "ALT", replicator),
+        Construct::Seq(components) => {
+            out.put("SEQ\n");
+            write_processes(out, level, components)
+        }
+        Construct::Par(components) => {
+            out.put("PAR\n");
+            write_processes(out, level, components)
+        }
+        Construct::If(choices) => {
+            out.put("IF\n");
+            write_choices(out, level, choices)
+        }
+        Construct::Alt(branches) => {
+            out.put("ALT\n");
+            write_branches(out, level, branches)
+        }
+        Construct::Replicated { replicator, body } => {
+            write_replicated(out, level, replicator, body);
+        }
     }
 }
 
 #[cycle(write_process)]
-fn write_components<'p>(out: &mut Answer, level: u32, construct: &'p Construct<'p>) {
-    match construct {
-        Construct::Action(_) => {},
-        Construct::Seq { components, .. } => write_processes(out, level, components),
-        Construct::Par { components, .. } => write_processes(out, level, components),
-        Construct::If { choices, .. } => write_choices(out, level, choices),
-        Construct::Alt { branches, .. } => write_branches(out, level, branches),
+fn write_replicated<'p>(out: &mut Answer, level: u32, replicator: &Replicator, body: &'p Body<'p>) {
+    match body {
+        Body::Seq(process) => {
+            write_head(out, "SEQ ", replicator);
+            write_process(out, level, process);
+        }
+        Body::Par(process) => {
+            write_head(out, "PAR ", replicator);
+            write_process(out, level, process);
+        }
+        Body::If(choice) => {
+            write_head(out, "IF ", replicator);
+            write_choice(out, level, choice);
+        }
+        Body::Alt(branch) => {
+            write_head(out, "ALT ", replicator);
+            write_branch(out, level, branch);
+        }
     }
 }
 
@@ -163,32 +190,40 @@ fn write_processes<'p>(out: &mut Answer, level: u32, processes: &'p Vec<Process<
 #[cycle(write_process)]
 fn write_choices<'p>(out: &mut Answer, level: u32, choices: &'p Vec<Choice<'p>>) {
     for choice in choices {
-        write_indent(out, level);
-        write_expr(out, &choice.condition);
-        out.put("\n");
-        write_process(out, level.saturating_add(1), &choice.process);
+        write_choice(out, level, choice);
     }
+}
+
+#[cycle(write_process)]
+fn write_choice<'p>(out: &mut Answer, level: u32, choice: &'p Choice<'p>) {
+    write_indent(out, level);
+    write_expr(out, &choice.condition);
+    out.put("\n");
+    write_process(out, level.saturating_add(1), &choice.process);
 }
 
 #[cycle(write_process)]
 fn write_branches<'p>(out: &mut Answer, level: u32, branches: &'p Vec<Branch<'p>>) {
     for branch in branches {
-        write_indent(out, level);
-        write_guard(out, &branch.guard);
-        write_process(out, level.saturating_add(1), &branch.process);
+        write_branch(out, level, branch);
     }
 }
 
-fn write_head(out: &mut Answer, word: &str, replicator: &Option<Replicator>) {
+#[cycle(write_process)]
+fn write_branch<'p>(out: &mut Answer, level: u32, branch: &'p Branch<'p>) {
+    write_indent(out, level);
+    write_guard(out, &branch.guard);
+    write_process(out, level.saturating_add(1), &branch.process);
+}
+
+/// The line that a block under a replicator begins with.
+fn write_head(out: &mut Answer, word: &str, replicator: &Replicator) {
     out.put(word);
-    if let Some(replicator) = replicator {
-        out.put(" ");
-        write_name(out, replicator.name);
-        out.put(" = ");
-        write_expr(out, &replicator.base);
-        out.put(" FOR ");
-        write_expr(out, &replicator.count);
-    }
+    write_name(out, replicator.name);
+    out.put(" = ");
+    write_expr(out, &replicator.base);
+    out.put(" FOR ");
+    write_expr(out, &replicator.count);
     out.put("\n");
 }
 

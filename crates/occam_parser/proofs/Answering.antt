@@ -1,39 +1,50 @@
 -- How the program answers.
-use Rattle.std.proofs.Common.{◌≡◌, ◌⊎◌, inl, inr, Option, Some, None, Result, Ok, Err, ap, subst, ◌∙◌}
+use Rattle.std.proofs.Common.{◌≡◌, ℕ, List, [], ◌∷◌, Option, Some, None, Result, Ok, Err, refl, ap, subst, ◌∙◌}
+use Rattle.std.proofs.Common.{inl, inr, sym}
 use Rattle.occam_parser.specs.declared.fault.LineError.{LineError}
 use Rattle.occam_parser.specs.declared.fault.LineError.TheVariants as errors
+use Rattle.occam_parser.specs.declared.fault.Refusal.{Refusal}
+use Rattle.occam_parser.specs.declared.fault.Refusal.TheVariants as refusals
 use Rattle.occam_parser.specs.declared.fault.ParseFault.{ParseFault}
-use Rattle.occam_parser.specs.Reading.{Fails, Gives}
-use Rattle.occam_parser.specs.Told.{out_of_memory, IsTold, IsToldOf}
+use Rattle.occam_parser.specs.Reading.{Gives}
+use Rattle.occam_parser.specs.Blocks.{Row}
+use Rattle.occam_parser.specs.Told.{out_of_memory, Lacks, IsToldOf, IsTold, IsRefusal}
 
--- a fault of a line is a fault of what rests on it
-pub told : {A B : Type 0} (e : LineError) (t : ParseFault) (read : Option A) (whole : Option B) → IsTold e t
-    → Fails e read → (read ≡ None → whole ≡ None) → (t ≡ out_of_memory) ⊎ (whole ≡ None)
-told errors.Memory t read whole i h f = inl i
-told (errors.Fault fault) t read whole i h f = inr (f h)
+-- a fault of what was read is a fault of what rests on it
+pub passed_on : {A B : Type 0} (t : Refusal) (read : Option A) (whole : Option B) → (read ≡ None → whole ≡ None)
+    → Lacks t read → Lacks t whole
+passed_on refusals.Memory read whole f h = tt
+passed_on (refusals.Fault fault left) read whole f h = f h
 
--- the same where the line's result is told as a whole
-pub told_found : {X Y : Type 0} (view : X → Y) (gave : Result X LineError) (x : X) (read : Option Y)
-    → IsToldOf gave (Ok x) → Gives view gave read → read ≡ Some (view x)
-told_found view (Ok y) x read i g = let same : y ≡ x = cc in g ∙ ap (λ z. Some (view z)) same
-told_found view (Err e) x read i g = absurd (cc (i.1))
+pub lacks_none : {A : Type 0} (t : Refusal) (read : Option A) → read ≡ None → Lacks t read
+lacks_none refusals.Memory read e = tt
+lacks_none (refusals.Fault fault left) read e = e
 
-pub told_lost : {X Y B : Type 0} (view : X → Y) (gave : Result X LineError) (t : ParseFault) (read : Option Y)
-    (whole : Option B) → IsToldOf gave (Err t) → Gives view gave read → (read ≡ None → whole ≡ None)
-    → (t ≡ out_of_memory) ⊎ (whole ≡ None)
-told_lost view (Ok y) t read whole i g f = absurd (cc)
-told_lost view (Err e) t read whole i g f =
-    let same : i.0 ≡ t = cc (i.1) in
-    subst (λ u. (u ≡ out_of_memory) ⊎ (whole ≡ None)) same (told e i.0 read whole i.2 g f)
+-- what a line gave, told as a whole
+pub told_found : {X Y : Type 0} (view : X → Y) (gave : Result X LineError) (left : ℕ) (x : X) (read : Option Y)
+    → IsToldOf gave left (Ok x) → Gives view gave read → read ≡ Some (view x)
+told_found view (Ok y) left x read i g = let same : y ≡ x = cc in g ∙ ap (λ z. Some (view z)) same
+told_found view (Err errors.Memory) left x read i g = absurd (cc)
+told_found view (Err (errors.Fault fault)) left x read i g = absurd (cc)
 
--- the same of lines
-pub passed_on : {A B : Type 0} (t : ParseFault) (read : Option A) (whole : Option B) → (read ≡ None → whole ≡ None)
-    → (t ≡ out_of_memory) ⊎ (read ≡ None) → (t ≡ out_of_memory) ⊎ (whole ≡ None)
-passed_on t read whole f (inl h) = inl h
-passed_on t read whole f (inr h) = inr (f h)
+pub told_lost : {X Y B : Type 0} (view : X → Y) (gave : Result X LineError) (left : ℕ) (t : Refusal) (read : Option Y)
+    (whole : Option B) → IsToldOf gave left (Err t) → Gives view gave read → (read ≡ None → whole ≡ None)
+    → Lacks t whole
+told_lost view (Ok y) left t read whole i g f = absurd (cc)
+told_lost view (Err errors.Memory) left t read whole i g f =
+    let same : t ≡ refusals.Memory = cc in subst (λ u. Lacks u whole) (sym same) tt
+told_lost view (Err (errors.Fault fault)) left t read whole i g f =
+    let same : t ≡ refusals.Fault fault left = cc in subst (λ u. Lacks u whole) (sym same) (f g)
 
 -- what is there isn't missed
-pub told_of_program : {A : Type 0} (t : ParseFault) (read : Option A) (x : A) → read ≡ Some x
-    → (t ≡ out_of_memory) ⊎ (read ≡ None) → t ≡ out_of_memory
-told_of_program t read x e (inl h) = h
-told_of_program t read x e (inr h) = absurd (cc)
+pub told_of_program : {A : Type 0} (rows : List Row) (t : Refusal) (told : ParseFault) (read : Option A) (x : A)
+    → read ≡ Some x → Lacks t read → IsTold rows t told → told ≡ out_of_memory
+told_of_program rows refusals.Memory told read x e h i = i
+told_of_program rows (refusals.Fault fault left) told read x e h i = absurd (cc)
+
+-- why these lines are refused, where no line is at fault of no lines
+pub refused_so : {A : Type 0} (rows : List Row) (t : Refusal) (told : ParseFault) (read : Option A)
+    → (rows ≡ [] → read ≡ None → ⊥) → Lacks t read → IsTold rows t told → IsRefusal rows told
+refused_so rows refusals.Memory told read none h i = inl i
+refused_so [] (refusals.Fault fault left) told read none h i = absurd (none refl h)
+refused_so (row ∷ rows) (refusals.Fault fault left) told read none h i = inr i

@@ -1,30 +1,30 @@
 -- What is written on lines is read again.
-use Rattle.std.proofs.Common.{◌≡◌, ℕ, zero, suc, ◌+◌, ◌<◌, ◌≤◌, Bool, true, false, cond, List, [], ◌∷◌, ◌++◌, length}
+use Rattle.std.proofs.Common.{◌≡◌, ℕ, zero, suc, ◌+◌, ◌<◌, ◌≤◌, true, false, cond, List, [], ◌∷◌, ◌++◌, length}
 use Rattle.std.proofs.Common.{◌==◌, Option, Some, None, refl, sym, ap, subst, arith, append_assoc}
 use Rattle.std.proofs.Common.{length-append, ◌∙◌}
 use Rattle.std.proofs.lemmas.Bool.{eq-eqb}
 use Rattle.std.proofs.lemmas.Bool.Decides.{nat_tests}
 use Rattle.occam_parser.specs.declared.head.BlockKind.{BlockKind}
-use Rattle.occam_parser.specs.declared.head.BlockKind.TheVariants as block
-use Rattle.occam_parser.specs.Expressions.{Expression, written}
+use Rattle.occam_parser.specs.Expressions.{written}
 use Rattle.occam_parser.specs.Reading.{◌>>=◌}
-use Rattle.occam_parser.specs.Lines.{Declaration, Replicator, Action, Guard, Head, Declares, Acts, Opens}
-use Rattle.occam_parser.specs.Lines.{written_declaration, written_action, written_replicator, block_word}
-use Rattle.occam_parser.specs.Lines.{written_guard, FitsDeclaration, FitsAction, FitsReplicator}
+use Rattle.occam_parser.specs.Lines.{Declaration, Replicator, Action, Head, Declares, Acts, Opens}
+use Rattle.occam_parser.specs.Lines.{written_declaration, written_action, written_guard, FitsDeclaration, FitsAction}
+use Rattle.occam_parser.specs.Lines.{FitsReplicator}
 use Rattle.occam_parser.specs.LineReading.{head_at, whole_at, guard_at}
-use Rattle.occam_parser.specs.Blocks.{Row, Process, Declared, Does, Construct, Act, Block, Components, NoComponent}
-use Rattle.occam_parser.specs.Blocks.{Further, Component, Plain, Chosen, Guarded, declaration_line, lines_of}
-use Rattle.occam_parser.specs.Blocks.{lines_of_construct, lines_of_components, lines_of_component, HasRightCount}
-use Rattle.occam_parser.specs.Blocks.{IsOf, FitsProcess, FitsConstruct, FitComponents, FitsComponent}
+use Rattle.occam_parser.specs.Blocks.{Row, Process, Declared, Does, Construct, Act, Block, Replicated, Body, One, Part}
+use Rattle.occam_parser.specs.Blocks.{Processes, part_of, Components, NoComponent, Further, Component, Plain, Chosen}
+use Rattle.occam_parser.specs.Blocks.{Guarded, declaration_line, block_row, lines_of, lines_of_construct}
+use Rattle.occam_parser.specs.Blocks.{lines_of_components, lines_of_component, FitsProcess, FitsConstruct}
+use Rattle.occam_parser.specs.Blocks.{FitComponents, FitsComponent}
 use Rattle.occam_parser.specs.BlockReading.{ReadsLines, begins_at, Beginning, begun, beginning_from}
-use Rattle.occam_parser.specs.BlockReading.{with_declarations, count_of, components_of, is_some, block_with}
-use Rattle.occam_parser.specs.BlockReading.{process_behind, process_with, head_row, headed_with, plain}
-use Rattle.occam_parser.specs.BlockReading.{process_at, component_at}
+use Rattle.occam_parser.specs.BlockReading.{with_declarations, components_of, only_one, block_with, replicated_with}
+use Rattle.occam_parser.specs.BlockReading.{body_with, construct_behind, process_behind, process_with, head_row}
+use Rattle.occam_parser.specs.BlockReading.{headed_with, plain, process_at, component_at}
 use Rattle.occam_parser.specs.Terminals.{Terminal}
 use Rattle.occam_parser.proofs.Levelled.{IsHeaded, choice_is, branch_is}
 use Rattle.occam_parser.proofs.LineAgain.{head_again, whole_line_again, guard_again}
 use Rattle.occam_parser.proofs.Turns.{ContinuesBlock, block_begins, block_goes_on, block_ends, at_again}
-use Rattle.occam_parser.proofs.Turns.{first_row_again, wants_more, wants_no_more}
+use Rattle.occam_parser.proofs.Turns.{first_row_again}
 
 -- no line that is deeper than this level comes next
 abbrev pub Stops : ℕ → List Row → Type 0
@@ -58,13 +58,6 @@ with_one_more (f ∷ found) d p = ap (Declared f) (with_one_more found d p)
 
 -- ---- components
 
--- a block of one is a block under a replicator
-single_count : (r : Option Replicator) (cs : Components) → HasRightCount r cs → is_some r ≡ true → count_of cs ≡ 1
-single_count None cs h e = absurd (cc)
-single_count (Some r) NoComponent h e = absurd h
-single_count (Some r) (Further NoComponent c) h e = refl
-single_count (Some r) (Further (Further cs b) c) h e = absurd h
-
 -- a component begins at its level, and has a line at least
 record Starts (level : ℕ) (rows rest : List Row) : Type 0 where
   here : begins_at level (rows ++ rest) ≡ true
@@ -85,11 +78,13 @@ starts_process (Declared d p) level rest = starts_row level
     rest refl
 starts_process (Does line (Act a)) level rest =
     starts_row level (record { number = line; level = level; terminals = written_action a }) [] rest refl
-starts_process (Does line (Block kind r cs)) level rest =
-    starts_row level (record { number = line; level = level; terminals = block_word kind ∷ written_replicator r })
-    (lines_of_components cs (level + 1)) rest refl
+starts_process (Does line (Block kind cs)) level rest =
+    starts_row level (block_row line level kind None) (lines_of_components cs (level + 1)) rest refl
+starts_process (Does line (Replicated r (One kind c))) level rest =
+    starts_row level (block_row line level kind (Some r)) (lines_of_component c (level + 1)) rest refl
 
-starts_component : (c : Component) (level : ℕ) (rest : List Row) → Starts level (lines_of_component c level) rest
+starts_component : {part : Part} (c : Component part) (level : ℕ) (rest : List Row)
+    → Starts level (lines_of_component c level) rest
 starts_component (Plain p) level rest = starts_process p level rest
 starts_component (Chosen line e p) level rest =
     starts_row level (record { number = line; level = level; terminals = written e }) (lines_of p (level + 1)) rest
@@ -98,17 +93,24 @@ starts_component (Guarded line g p) level rest =
     starts_row level (record { number = line; level = level; terminals = written_guard g }) (lines_of p (level + 1))
     rest refl
 
-block_again : (item : ReadsLines Component) (kind : BlockKind) (r : Option Replicator) (cs : Components) (level : ℕ)
-    (rest : List Row) → HasRightCount r cs → begins_at level rest ≡ false
-    → ContinuesBlock item level (is_some r) (lines_of_components cs level ++ rest) cs rest
-    → block_with kind r (components_of item level (is_some r) (lines_of_components cs level ++ rest)) ≡ Some
-    (Block kind r cs, rest)
+block_again : (kind : BlockKind) (item : ReadsLines (Component (part_of kind))) (cs : Components (part_of kind))
+    (level : ℕ) (rest : List Row) → begins_at level rest ≡ false
+    → ContinuesBlock item level (lines_of_components cs level ++ rest) cs rest
+    → block_with kind (components_of item level (lines_of_components cs level ++ rest)) ≡ Some (Block kind cs, rest)
 unfolding block_with
-block_again item kind r cs level rest right stops c =
-    let over = wants_no_more level (is_some r) (count_of cs) rest stops
-    (λ e. let one = single_count r cs right e in omega arith) in
-    ap (λ (o : Option (Components × List Row)). o >>= λ x. Some (Block kind r x.0, x.1))
-    (block_ends item level (is_some r) (lines_of_components cs level ++ rest) cs rest over c)
+block_again kind item cs level rest stops c =
+    ap (λ (o : Option (Components (part_of kind) × List Row)). o >>= λ x. Some (Block kind x.0, x.1))
+    (block_ends item level (lines_of_components cs level ++ rest) cs rest stops c)
+
+replicated_again : (kind : BlockKind) (r : Replicator) (read : Option (Component (part_of kind) × List Row))
+    (c : Component (part_of kind)) (level : ℕ) (rest : List Row) → begins_at level rest ≡ false
+    → read ≡ Some (c, rest)
+    → replicated_with r (only_one level (body_with kind read)) ≡ Some (Replicated r (One kind c), rest)
+unfolding replicated_with only_one body_with
+replicated_again kind r read c level rest stops e =
+    ap (λ (o : Option (Component (part_of kind) × List Row)). replicated_with r (only_one level (body_with kind o))) e
+    ∙ ap (λ b. cond {A = Option (Body × List Row)} b None (Some (One kind c, rest)) >>= λ x. Some
+    (Replicated r x.0, x.1)) stops
 
 fits_low : (p : Process) (level : ℕ) → FitsProcess p level → level ≤ 64
 fits_low (Declared d p) level fits = fits.0
@@ -122,13 +124,10 @@ process_one : (m level : ℕ) (p : Process) (rows rest : List Row)
 unfolding process_at process_with
 process_one m level p rows rest e = e
 
-plain_of : (m level : ℕ) (kind : BlockKind) (p : Process) (rows rest : List Row) → IsOf kind (Plain p)
-    → process_at (suc m) level rows ≡ Some (p, rest) → component_at (suc m) level kind rows ≡ Some (Plain p, rest)
+plain_of : (m level : ℕ) (p : Process) (rows rest : List Row) → process_at (suc m) level rows ≡ Some (p, rest)
+    → component_at (suc m) level Processes rows ≡ Some (Plain p, rest)
 unfolding process_at component_at
-plain_of m level block.Seq p rows rest is e = ap plain e
-plain_of m level block.Par p rows rest is e = ap plain e
-plain_of m level block.If p rows rest is e = absurd is
-plain_of m level block.Alt p rows rest is e = absurd is
+plain_of m level p rows rest e = ap plain e
 
 -- the levels that are left
 left : (n level : ℕ) → n + level ≡ 65 → level ≤ 64 → (m : ℕ) × (n ≡ suc m) × (m + (level + 1) ≡ 65)
@@ -153,38 +152,28 @@ below_again p m level rest e low fits reads =
     let one = process_one k.0 (level + 1) p rows rest (reads k.0 k.2) in
     (n.0, n.1, ap (λ j. process_at j (level + 1) rows) k.1 ∙ one)
 
--- the kind of a block with a component that has a head
-kind_of_headed : (kind : BlockKind) (line : ℕ) (p : Process)
-    → ((e : Expression) → IsOf kind (Chosen line e p) → kind ≡ block.If)
-    × ((g : Guard) → IsOf kind (Guarded line g p) → kind ≡ block.Alt)
-kind_of_headed block.Seq line p = ((λ e is. absurd is), (λ g is. absurd is))
-kind_of_headed block.Par line p = ((λ e is. absurd is), (λ g is. absurd is))
-kind_of_headed block.If line p = ((λ e is. refl), (λ g is. absurd is))
-kind_of_headed block.Alt line p = ((λ e is. absurd is), (λ g is. refl))
-
-headed_again : {A : Type 0} (says : List Terminal → Option A) (write : A → List Terminal)
-    (make : ℕ → A → Process → Component) (k kind : BlockKind) (m level line : ℕ) (head : A) (p : Process)
-    (rest : List Row) → IsHeaded says make k → kind ≡ k → level ≤ 64 → says (write head) ≡ Some head
+headed_again : {A : Type 0} {part : Part} (says : List Terminal → Option A) (write : A → List Terminal)
+    (make : ℕ → A → Process → Component part) (m level line : ℕ) (head : A) (p : Process)
+    (rest : List Row) → IsHeaded says make → level ≤ 64 → says (write head) ≡ Some head
     → ReadsBelow p m level rest
-    → component_at m level kind
+    → component_at m level part
     (record { number = line; level = level; terminals = write head } ∷ (lines_of p (level + 1) ++ rest))
     ≡ Some (make line head p, rest)
 unfolding headed_with head_row
-headed_again {A} says write make k kind m level line head p rest is same low said below =
+headed_again {A} {part} says write make m level line head p rest is low said below =
     let r : Row = record { number = line; level = level; terminals = write head } in
     let rows = lines_of p (level + 1) ++ rest in
-    let made : Option ((ℕ × A) × List Row) → Option (Component × List Row) =
+    let made : Option ((ℕ × A) × List Row) → Option (Component part × List Row) =
     λ o. o >>= λ h. process_at below.0 (level + 1) h.1 >>= λ q. Some (make h.0.0 h.0.1 q.0, q.1)
     in
-    ap (λ (j : BlockKind). component_at m level j (r ∷ rows)) same
-    ∙ ap (λ n. component_at n level k (r ∷ rows)) below.1
-    ∙ ap (λ (item : ReadsLines Component). item (r ∷ rows)) (is below.0 level)
+    ap (λ n. component_at n level part (r ∷ rows)) below.1
+    ∙ ap (λ (item : ReadsLines (Component part)). item (r ∷ rows)) (is below.0 level)
     ∙ ap (λ (o : Option (Row × List Row)). made (o >>= λ q. says q.0.terminals >>= λ h. Some
     ((q.0.number, h), q.1))) (first_row_again level r rows refl low)
     ∙ ap (λ (o : Option A). made (o >>= λ h. Some ((line, h), rows))) said
     ∙ ap (λ (o : Option (Process × List Row)). o >>= λ q. Some (make line head q.0, q.1)) below.2
 
-acts_again : (component : BlockKind → ReadsLines Component) (level : ℕ) (found : List Declaration) (line : ℕ)
+acts_again : (component : (part : Part) → ReadsLines (Component part)) (level : ℕ) (found : List Declaration) (line : ℕ)
     (a : Action) (rest : List Row) → level ≤ 64 → FitsAction a
     → (beginning_from level found (record { number = line; level = level; terminals = written_action a } ∷ rest) >>=
     λ b. process_behind component level b.0 b.1 b.0.start) ≡ Some
@@ -194,28 +183,18 @@ acts_again component level found line a rest low fits =
     (beginning_row level found (record { number = line; level = level; terminals = written_action a }) rest
     (Acts a) refl low (head_again line (Acts a) fits))
 
-opens_again : (component : BlockKind → ReadsLines Component) (level : ℕ) (found : List Declaration) (line : ℕ)
-    (kind : BlockKind) (r : Option Replicator) (cs : Components) (rows rest : List Row) → level ≤ 64
-    → FitsReplicator r
-    → block_with kind r (components_of (component kind) (level + 1) (is_some r) rows) ≡ Some (Block kind r cs, rest)
-    → (beginning_from level found (record {
-      number = line;
-      level = level;
-      terminals =
-          block_word kind ∷ written_replicator r;
-    } ∷ rows) >>= λ b. process_behind component level b.0 b.1 b.0.start)
-    ≡ Some (with_declarations found (Does line (Block kind r cs)), rest)
-opens_again component level found line kind r cs rows rest low fits h =
+opens_again : (component : (part : Part) → ReadsLines (Component part)) (level : ℕ) (found : List Declaration)
+    (line : ℕ) (kind : BlockKind) (r : Option Replicator) (c : Construct) (rows rest : List Row) → level ≤ 64
+    → FitsReplicator r → construct_behind component (level + 1) kind r rows ≡ Some (c, rest)
+    → (beginning_from level found (block_row line level kind r ∷ rows) >>= λ b. process_behind component level b.0 b.1
+    b.0.start) ≡ Some (with_declarations found (Does line c), rest)
+opens_again component level found line kind r c rows rest low fits h =
     ap (λ (o : Option (Beginning × List Row)). o >>= λ b. process_behind component level b.0 b.1 b.0.start)
-    (beginning_row level found (record {
-      number = line;
-      level = level;
-      terminals =
-          block_word kind ∷ written_replicator r;
-    }) rows (Opens kind r) refl low (head_again line (Opens kind r) fits))
+    (beginning_row level found (block_row line level kind r) rows (Opens kind r) refl low
+    (head_again line (Opens kind r) fits))
     ∙ ap (λ (o : Option (Construct × List Row)). o >>= λ x. Some (with_declarations found (Does line x.0), x.1)) h
 
-declares_again : (component : BlockKind → ReadsLines Component) (level : ℕ) (found : List Declaration)
+declares_again : (component : (part : Part) → ReadsLines (Component part)) (level : ℕ) (found : List Declaration)
     (d : Declaration) (rows : List Row) → level ≤ 64 → FitsDeclaration (declaration_line d) d
     → (beginning_from level found (record {
       number = declaration_line d;
@@ -251,47 +230,47 @@ mutual
       (component_at m (level + 1)) level b.0 b.1 b.0.start) ≡ Some (with_declarations found (Does line c), rest)
   construct_reads (Act a) line m level found rest e low fits stops =
       acts_again (component_at m (level + 1)) level found line a rest low fits
-  construct_reads (Block kind r cs) line m level found rest e low fits stops =
-      opens_again (component_at m (level + 1)) level found line kind r cs
-      (lines_of_components cs (level + 1) ++ rest) rest low fits.0
-      (block_again (component_at m (level + 1) kind) kind r cs (level + 1) rest fits.1 (stops (level + 1) (omega arith))
-      (components_read cs kind (is_some r) m (level + 1) rest e fits.2 (stops_deeper level rest stops)
-      (λ t. let one = single_count r cs fits.1 t in omega arith)))
+  construct_reads (Block kind cs) line m level found rest e low fits stops =
+      opens_again (component_at m (level + 1)) level found line kind None (Block kind cs)
+      (lines_of_components cs (level + 1) ++ rest) rest low tt
+      (block_again kind (component_at m (level + 1) (part_of kind)) cs (level + 1) rest (stops (level + 1) (omega arith))
+      (components_read cs m (level + 1) rest e fits (stops_deeper level rest stops)))
+  construct_reads (Replicated r (One kind c)) line m level found rest e low fits stops =
+      let rows = lines_of_component c (level + 1) ++ rest in
+      opens_again (component_at m (level + 1)) level found line kind (Some r) (Replicated r (One kind c)) rows rest low
+      fits.0
+      (replicated_again kind r (component_at m (level + 1) (part_of kind) rows) c (level + 1) rest
+      (stops (level + 1) (omega arith))
+      (component_reads c m (level + 1) rest e fits.1 (stops_deeper level rest stops)))
 
-  components_read : (cs : Components) (kind : BlockKind) (single : Bool) (m level : ℕ) (rest : List Row)
-      → m + level ≡ 65 → FitComponents cs kind level → Stops level rest → (single ≡ true → count_of cs ≤ 1)
-      → ContinuesBlock (component_at m level kind) level single (lines_of_components cs level ++ rest) cs rest
-  components_read NoComponent kind single m level rest e fits stops few =
-      block_begins (component_at m level kind) level single rest
-  components_read (Further cs c) kind single m level rest e fits stops few =
+  components_read : {part : Part} (cs : Components part) (m level : ℕ) (rest : List Row)
+      → m + level ≡ 65 → FitComponents cs level → Stops level rest
+      → ContinuesBlock (component_at m level part) level (lines_of_components cs level ++ rest) cs rest
+  components_read {part} NoComponent m level rest e fits stops =
+      block_begins (component_at m level part) level rest
+  components_read {part} (Further cs c) m level rest e fits stops =
       let start = starts_component c level rest in
       let rows = lines_of_component c level ++ rest in
-      let before = components_read cs kind single m level rows e fits.0 start.stops
-      (λ t. let few = few t in omega arith) in
-      subst (λ us. ContinuesBlock (component_at m level kind) level single us (Further cs c) rest)
+      let before = components_read cs m level rows e fits.0 start.stops in
+      subst (λ us. ContinuesBlock (component_at m level part) level us (Further cs c) rest)
       (sym (append_assoc (lines_of_components cs level) (lines_of_component c level) rest))
-      (block_goes_on (component_at m level kind) level single (lines_of_components cs level ++ rows) cs rows rest c
-      (wants_more level single (count_of cs) rows start.here (λ t. let few = few t in omega arith))
-      (component_reads c kind m level rest e fits.1 fits.2 stops)
-      start.some
-      before)
+      (block_goes_on (component_at m level part) level (lines_of_components cs level ++ rows) cs rows rest c
+      start.here (component_reads c m level rest e fits.1 stops) start.some before)
 
-  component_reads : (c : Component) (kind : BlockKind) (m level : ℕ) (rest : List Row) → m + level ≡ 65 → IsOf kind c
+  component_reads : {part : Part} (c : Component part) (m level : ℕ) (rest : List Row) → m + level ≡ 65
       → FitsComponent c level → Stops level rest
-      → component_at m level kind (lines_of_component c level ++ rest) ≡ Some (c, rest)
-  component_reads (Plain p) kind m level rest e is fits stops =
+      → component_at m level part (lines_of_component c level ++ rest) ≡ Some (c, rest)
+  component_reads (Plain p) m level rest e fits stops =
       let n = left m level e (fits_low p level fits) in
-      ap (λ k. component_at k level kind (lines_of p level ++ rest)) n.1
-      ∙ plain_of n.0 level kind p (lines_of p level ++ rest) rest is
+      ap (λ k. component_at k level Processes (lines_of p level ++ rest)) n.1
+      ∙ plain_of n.0 level p (lines_of p level ++ rest) rest
       (process_one n.0 level p (lines_of p level ++ rest) rest (process_reads p n.0 level [] rest n.2 fits stops))
-  component_reads (Chosen line x p) kind m level rest e is fits stops =
-      headed_again whole_at written Chosen block.If kind m level line x p rest choice_is
-      ((kind_of_headed kind line p).0 x is) fits.0 (whole_line_again x fits.1)
+  component_reads (Chosen line x p) m level rest e fits stops =
+      headed_again whole_at written Chosen m level line x p rest choice_is fits.0 (whole_line_again x fits.1)
       (below_again p m level rest e fits.0 fits.2
       (λ k l. process_reads p k (level + 1) [] rest l fits.2 (stops_deeper level rest stops)))
-  component_reads (Guarded line g p) kind m level rest e is fits stops =
-      headed_again guard_at written_guard Guarded block.Alt kind m level line g p rest branch_is
-      ((kind_of_headed kind line p).1 g is) fits.0 (guard_again g fits.1)
+  component_reads (Guarded line g p) m level rest e fits stops =
+      headed_again guard_at written_guard Guarded m level line g p rest branch_is fits.0 (guard_again g fits.1)
       (below_again p m level rest e fits.0 fits.2
       (λ k l. process_reads p k (level + 1) [] rest l fits.2 (stops_deeper level rest stops)))
 

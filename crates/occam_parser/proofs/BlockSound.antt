@@ -1,10 +1,9 @@
 -- What is read of lines is written so, and fits.
 use Rattle.std.proofs.Common.{◌≡◌, ℕ, zero, suc, ◌+◌, ◌≤◌, Bool, true, false, cond, List, [], ◌∷◌, ◌++◌, length}
-use Rattle.std.proofs.Common.{Option, Some, None, refl, sym, ap, subst, arith, append_assoc}
+use Rattle.std.proofs.Common.{Option, Some, None, refl, sym, ap, subst, append_assoc}
 use Rattle.std.proofs.Common.{append-nil, ◌∙◌}
 use Rattle.std.specs.List.{AllByRecursion}
 use Rattle.occam_parser.specs.declared.head.BlockKind.{BlockKind}
-use Rattle.occam_parser.specs.declared.head.BlockKind.TheVariants as block
 use Rattle.occam_parser.specs.Terminals.{Terminal}
 use Rattle.occam_parser.specs.Expressions.{written}
 use Rattle.occam_parser.specs.Reading.{◌>>=◌}
@@ -13,18 +12,19 @@ use Rattle.occam_parser.specs.Lines.{written_declaration, written_head}
 use Rattle.occam_parser.specs.Lines.{written_guard, IsWhole, FitsGuard, FitsDeclaration, FitsHead}
 use Rattle.occam_parser.specs.Lines.{Constants, Variables, Channels}
 use Rattle.occam_parser.specs.LineReading.{head_at, whole_at, guard_at}
-use Rattle.occam_parser.specs.Blocks.{Row, Process, Does, Construct, Act, Block, Components, NoComponent}
-use Rattle.occam_parser.specs.Blocks.{Further, Component, Plain, Chosen, Guarded, declaration_line, lines_of}
-use Rattle.occam_parser.specs.Blocks.{lines_of_components, lines_of_component, IsOne, HasRightCount}
-use Rattle.occam_parser.specs.Blocks.{IsOf, FitsProcess, FitComponents, FitsComponent}
-use Rattle.occam_parser.specs.BlockReading.{ReadsLines, is_at, first_row, Beginning, begun, beginning_from}
-use Rattle.occam_parser.specs.BlockReading.{with_declarations, count_of, wants, component_step, components_from}
-use Rattle.occam_parser.specs.BlockReading.{components_of, is_some, block_with, process_behind, process_with}
-use Rattle.occam_parser.specs.BlockReading.{head_row, headed_with, plain, component_with, process_at}
-use Rattle.occam_parser.specs.BlockReading.{component_at}
-use Rattle.occam_parser.proofs.Options.{bind_some, at_some}
+use Rattle.occam_parser.specs.Blocks.{Row, Process, Does, Construct, Act, Block, Replicated, Body, One, Part}
+use Rattle.occam_parser.specs.Blocks.{Processes, Choices, Branches, part_of, Components, NoComponent, Further}
+use Rattle.occam_parser.specs.Blocks.{Component, Plain, Chosen, Guarded, declaration_line, block_row, lines_of}
+use Rattle.occam_parser.specs.Blocks.{lines_of_construct, lines_of_components, lines_of_component}
+use Rattle.occam_parser.specs.Blocks.{FitsProcess, FitsConstruct, FitComponents, FitsComponent}
+use Rattle.occam_parser.specs.BlockReading.{ReadsLines, is_at, first_row, begins_at, Beginning, begun}
+use Rattle.occam_parser.specs.BlockReading.{beginning_from, with_declarations, component_step, components_from}
+use Rattle.occam_parser.specs.BlockReading.{components_of, only_one, block_with, replicated_with, body_with}
+use Rattle.occam_parser.specs.BlockReading.{construct_behind, process_behind, process_with, head_row, headed_with}
+use Rattle.occam_parser.specs.BlockReading.{plain, component_with, process_at, component_at}
+use Rattle.occam_parser.proofs.Options.{bind_some, at_some, not_chosen}
 use Rattle.occam_parser.proofs.LineSound.{head_sound, whole_sound, guard_sound}
-use Rattle.occam_parser.proofs.Turns.{at_is, first_row_is, wants_first, wants_one}
+use Rattle.occam_parser.proofs.Turns.{at_is, first_row_is}
 
 pub row_eq : (r : Row) (level : ℕ) (ts : List Terminal) → r.level ≡ level → r.terminals ≡ ts
     → r ≡ record { number = r.number; level = level; terminals = ts }
@@ -142,84 +142,53 @@ beginning_sound level (r ∷ rows) found x e = begins_if (is_at level r) level f
 
 -- ---- components
 
-abbrev pub SoundComponent : BlockKind → ℕ → ReadsLines Component → Type 0
-SoundComponent kind level item =
-    (rows : List Row) (x : Component) (rest : List Row) → item rows ≡ Some (x, rest)
-    → (rows ≡ lines_of_component x level ++ rest) × IsOf kind x × FitsComponent x level
+abbrev pub SoundComponent : {part : Part} → ℕ → ReadsLines (Component part) → Type 0
+SoundComponent {part} level item =
+    (rows : List Row) (x : Component part) (rest : List Row) → item rows ≡ Some (x, rest)
+    → (rows ≡ lines_of_component x level ++ rest) × FitsComponent x level
 
 -- what the components of a block were read from
-pub record AreRead (kind : BlockKind) (level : ℕ) (single : Bool) (whole : List Row) (x : Components × List Row)
-    : Type 0 where
-  pub are : whole ≡ lines_of_components x.0 level ++ x.1
-  pub fit : FitComponents x.0 kind level
-  pub one : single ≡ true → count_of x.0 ≡ 1
+abbrev pub AreRead : {part : Part} → ℕ → List Row → Components part × List Row → Type 0
+AreRead level whole x = (whole ≡ lines_of_components x.0 level ++ x.1) × FitComponents x.0 level
 
-pub record Found (kind : BlockKind) (level : ℕ) (single : Bool) (found : Components) : Type 0 where
-  pub fit : FitComponents found kind level
-  pub few : single ≡ true → count_of found ≤ 1
+step_sound : {part : Part} (level : ℕ) (more : Option (Components part × List Row)) (found : Components part)
+    (rows : List Row) (b : Bool) (x : Components part × List Row) → FitComponents found level
+    → ((x : Components part × List Row) → more ≡ Some x → AreRead level (lines_of_components found level ++ rows) x)
+    → component_step more found rows b ≡ Some x → AreRead level (lines_of_components found level ++ rows) x
+step_sound level more found rows true x f m e = m x e
+step_sound level more found rows false x f m e =
+    at_some (AreRead level (lines_of_components found level ++ rows)) (found, rows) x e (refl, f)
 
-step_sound : (item : ReadsLines Component) (kind : BlockKind) (level : ℕ) (single : Bool)
-    (more : Option (Components × List Row)) (found : Components) (rows : List Row) (o : Option Bool)
-    (x : Components × List Row) → Found kind level single found
-    → ((x : Components × List Row) → more ≡ Some x → wants level single (count_of found) rows ≡ Some true
-    → AreRead kind level single (lines_of_components found level ++ rows) x)
-    → wants level single (count_of found) rows ≡ o → component_step more found rows o ≡ Some x
-    → AreRead kind level single (lines_of_components found level ++ rows) x
-step_sound item kind level single more found rows None x f m w e = absurd (cc)
-step_sound item kind level single more found rows (Some true) x f m w e = m x e w
-step_sound item kind level single more found rows (Some false) x f m w e =
-    at_some (AreRead kind level single (lines_of_components found level ++ rows)) (found, rows) x e
-    (record {
-      are = refl;
-      fit = f.fit;
-      one = λ s. let some =
-          wants_one level single (count_of found) rows w s in let few = f.few s in omega arith;
-    })
-
-components_sound : (item : ReadsLines Component) (kind : BlockKind) (level : ℕ) (single : Bool)
-    → SoundComponent kind level item → (n : ℕ) (found : Components) (rows : List Row) (x : Components × List Row)
-    → Found kind level single found → components_from item level single n found rows ≡ Some x
-    → AreRead kind level single (lines_of_components found level ++ rows) x
+components_sound : {part : Part} (item : ReadsLines (Component part)) (level : ℕ) → SoundComponent level item → (n : ℕ)
+    (found : Components part) (rows : List Row) (x : Components part × List Row) → FitComponents found level
+    → components_from item level n found rows ≡ Some x → AreRead level (lines_of_components found level ++ rows) x
 unfolding components_from
-components_sound item kind level single s zero found rows x f e =
-    step_sound item kind level single None found rows (wants level single (count_of found) rows) x f
-    (λ y h w. absurd (cc)) refl e
-components_sound item kind level single s (suc n) found rows x f e =
-    step_sound item kind level single (item rows >>= λ y. components_from item level single n (Further found y.0)
-    y.1) found rows (wants level single (count_of found) rows) x f
-    (λ y h w.
+components_sound item level s zero found rows x f e =
+    step_sound level None found rows (begins_at level rows) x f (λ y h. absurd (cc)) e
+components_sound item level s (suc n) found rows x f e =
+    step_sound level (item rows >>= λ y. components_from item level n (Further found y.0) y.1) found rows
+    (begins_at level rows) x f
+    (λ y h.
     let c = bind_some (item rows) _ y h in
     let is = s rows c.0.0 c.0.1 c.1 in
-    let next : Found kind level single (Further found c.0.0) =
-    record {
-      fit = (f.fit, is.1, is.2);
-      few = λ t. let none =
-          wants_first level single (count_of found) rows w t in omega arith;
-    } in
-    let rest = components_sound item kind level single s n (Further found c.0.0) c.0.1 y next c.2 in
+    let rest = components_sound item level s n (Further found c.0.0) c.0.1 y (f, is.1) c.2 in
     let whole = ap (λ us. lines_of_components found level ++ us) is.0 ∙ sym
     (append_assoc (lines_of_components found level) (lines_of_component c.0.0 level) c.0.1) in
-    record { are = whole ∙ rest.are; fit = rest.fit; one = rest.one })
-    refl
+    (whole ∙ rest.0, rest.1))
     e
 
-pub block_read : (item : ReadsLines Component) (kind : BlockKind) (level : ℕ) (single : Bool) (rows : List Row)
-    (x : Components × List Row) → SoundComponent kind level item → components_of item level single rows ≡ Some x
-    → AreRead kind level single rows x
+block_read : {part : Part} (item : ReadsLines (Component part)) (level : ℕ) (rows : List Row)
+    (x : Components part × List Row) → SoundComponent level item → components_of item level rows ≡ Some x
+    → AreRead level rows x
 unfolding components_of
-block_read item kind level single rows x s e =
-    components_sound item kind level single s (length rows) NoComponent rows x
-    (record { fit = tt; few = λ t. omega arith }) e
+block_read item level rows x s e = components_sound item level s (length rows) NoComponent rows x tt e
 
-is_one : (cs : Components) → count_of cs ≡ 1 → IsOne cs
-is_one NoComponent e = absurd (omega arith)
-is_one (Further NoComponent c) e = tt
-is_one (Further (Further cs b) c) e = absurd (omega arith)
-
-right_count : (replicator : Option Replicator) (cs : Components) → (is_some replicator ≡ true → count_of cs ≡ 1)
-    → HasRightCount replicator cs
-right_count None cs one = tt
-right_count (Some r) cs one = is_one cs (one refl)
+only_one_is : {A : Type 0} (level : ℕ) (read : Option (A × List Row)) (x : A × List Row)
+    → only_one level read ≡ Some x → read ≡ Some x
+unfolding only_one
+only_one_is level read x e =
+    let y = bind_some read _ x e in
+    y.1 ∙ ap Some (not_chosen (begins_at level y.0.1) y.0 x y.2).1
 
 -- ---- processes
 
@@ -235,14 +204,38 @@ joined : (ds : List Declaration) (p : Process) (level : ℕ) (rest : List Row)
 joined ds p level rest = sym (append_assoc (declared_rows level ds) (lines_of p level) rest) ∙ ap (λ us. us ++ rest)
     (sym (with_written ds p level))
 
-behind_sound : (component : BlockKind → ReadsLines Component) (level : ℕ)
-    → ((kind : BlockKind) → SoundComponent kind (level + 1) (component kind))
+-- what was read behind the head of a block
+abbrev pub IsConstruct : BlockKind → Option Replicator → ℕ → ℕ → List Row → Construct × List Row → Type 0
+IsConstruct kind r line level after x =
+    (block_row line level kind r ∷ after ≡ lines_of_construct x.0 line level ++ x.1)
+    × (FitsHead line (Opens kind r) → FitsConstruct x.0 level)
+
+construct_sound : (component : (part : Part) → ReadsLines (Component part)) (level line : ℕ)
+    → ((part : Part) → SoundComponent (level + 1) (component part)) → (kind : BlockKind) (r : Option Replicator)
+    (after : List Row) (x : Construct × List Row) → construct_behind component (level + 1) kind r after ≡ Some x
+    → IsConstruct kind r line level after x
+unfolding block_with replicated_with body_with
+construct_sound component level line s kind None after x e =
+    let y = bind_some (components_of (component (part_of kind)) (level + 1) after) _ x e in
+    let read = block_read (component (part_of kind)) (level + 1) after y.0 (s (part_of kind)) y.1 in
+    at_some (IsConstruct kind None line level after) (Block kind y.0.0, y.0.1) x y.2
+    (ap (λ us. block_row line level kind None ∷ us) read.0, λ fits. read.1)
+construct_sound component level line s kind (Some r) after x e =
+    let y = bind_some (only_one (level + 1) (body_with kind (component (part_of kind) after))) _ x e in
+    let is = only_one_is (level + 1) (body_with kind (component (part_of kind) after)) y.0 y.1 in
+    let z = bind_some (component (part_of kind) after) _ y.0 is in
+    let read = s (part_of kind) after z.0.0 z.0.1 z.1 in
+    let made = ap (λ (o : Option (Body × List Row)). o >>= λ w. Some (Replicated r w.0, w.1)) z.2 ∙ y.2 in
+    at_some (IsConstruct kind (Some r) line level after) (Replicated r (One kind z.0.0), z.0.1) x made
+    (ap (λ us. block_row line level kind (Some r) ∷ us) read.0, λ fits. (fits, read.1))
+
+behind_sound : (component : (part : Part) → ReadsLines (Component part)) (level : ℕ)
+    → ((part : Part) → SoundComponent (level + 1) (component part))
     → (ds : List Declaration) (line : ℕ) (h : Head) (after rows : List Row) (x : Process × List Row)
     → level ≤ 64 → AllDeclared ds → FitsHead line h
     → rows ≡ declared_rows level ds ++ record { number = line; level = level; terminals = written_head h } ∷ after
     → process_behind component level (record { declarations = ds; line = line; start = h }) after h ≡ Some x
     → IsProcessOf level rows x
-unfolding block_with
 behind_sound component level s ds line (Acts a) after rows x low all fits whole e =
     at_some (IsProcessOf level rows) (with_declarations ds (Does line (Act a)), after) x e (
       whole ∙ joined ds (Does line (Act a)) level after,
@@ -250,24 +243,18 @@ behind_sound component level s ds line (Acts a) after rows x low all fits whole 
           (low, fits),
     )
 behind_sound component level s ds line (Opens kind replicator) after rows x low all fits whole e =
-    let c = bind_some (components_of (component kind) (level + 1) (is_some replicator) after >>= λ y. Some
-    (Block kind replicator y.0, y.1)) _ x e in
-    let y = bind_some (components_of (component kind) (level + 1) (is_some replicator) after) _ c.0 c.1 in
-    let read = block_read (component kind) kind (level + 1) (is_some replicator) after y.0 (s kind) y.1 in
-    let construct = Block kind replicator y.0.0 in
-    let body = ap (λ us. declared_rows level ds ++ record
-    { number = line; level = level; terminals = written_head (Opens kind replicator) } ∷ us) read.are in
-    at_some (IsProcessOf level rows) (with_declarations ds (Does line construct), y.0.1) x
-    (ap (λ (o : Option (Construct × List Row)). o >>= λ z. Some (with_declarations ds (Does line z.0), z.1))
-    y.2 ∙ c.2) (
-      whole ∙ body ∙ joined ds (Does line construct) level y.0.1,
-      with_fits ds (Does line construct) level low all
-          (low, (fits, right_count replicator y.0.0 read.one, read.fit)),
+    let c = bind_some (construct_behind component (level + 1) kind replicator after) _ x e in
+    let read = construct_sound component level line s kind replicator after c.0 c.1 in
+    let body = ap (λ us. declared_rows level ds ++ us) read.0 in
+    at_some (IsProcessOf level rows) (with_declarations ds (Does line c.0.0), c.0.1) x c.2 (
+      whole ∙ body ∙ joined ds (Does line c.0.0) level c.0.1,
+      with_fits ds (Does line c.0.0) level low all
+          (low, read.1 fits),
     )
 behind_sound component level s ds line (Declares d) after rows x low all fits whole e = absurd (cc)
 
-process_with_sound : (component : BlockKind → ReadsLines Component) (level : ℕ)
-    → ((kind : BlockKind) → SoundComponent kind (level + 1) (component kind))
+process_with_sound : (component : (part : Part) → ReadsLines (Component part)) (level : ℕ)
+    → ((part : Part) → SoundComponent (level + 1) (component part))
     → SoundProcess level (process_with component level)
 unfolding process_with
 process_with_sound component level s rows x rest e =
@@ -298,21 +285,21 @@ head_row_sound {A} says write fits said level rows x e =
     ((r.0.0.number, c.0), r.0.1) x c.2 (first.0 ∙ ap (λ q. q ∷ r.0.1) row, at.1, w.1)
 
 -- a component that is made of a head and a process is written as the head's line, and below it the process
-abbrev pub IsMadeOf : {A : Type 0} → (A → List Terminal) → (A → Type 0) → (ℕ → A → Process → Component)
-    → BlockKind → ℕ → Type 0
-IsMadeOf {A} write fits make kind level = (line : ℕ) (head : A) (p : Process) → level ≤ 64 → fits head
+abbrev pub IsMadeOf : {A : Type 0} → {part : Part} → (A → List Terminal) → (A → Type 0)
+    → (ℕ → A → Process → Component part) → ℕ → Type 0
+IsMadeOf {A} write fits make level = (line : ℕ) (head : A) (p : Process) → level ≤ 64 → fits head
     → FitsProcess p (level + 1)
     → (lines_of_component (make line head p) level
     ≡ record { number = line; level = level; terminals = write head } ∷ lines_of p (level + 1))
-    × IsOf kind (make line head p) × FitsComponent (make line head p) level
+    × FitsComponent (make line head p) level
 
-headed_sound : {A : Type 0} (says : List Terminal → Option A) (write : A → List Terminal) (fits : A → Type 0)
-    (make : ℕ → A → Process → Component) (kind : BlockKind) (p : ReadsLines Process) (level : ℕ)
+headed_sound : {A : Type 0} {part : Part} (says : List Terminal → Option A) (write : A → List Terminal)
+    (fits : A → Type 0) (make : ℕ → A → Process → Component part) (p : ReadsLines Process) (level : ℕ)
     → ((ts : List Terminal) (head : A) → says ts ≡ Some head → (ts ≡ write head) × fits head)
-    → IsMadeOf write fits make kind level → SoundProcess (level + 1) p
-    → SoundComponent kind level (headed_with says make p level)
+    → IsMadeOf write fits make level → SoundProcess (level + 1) p
+    → SoundComponent level (headed_with says make p level)
 unfolding headed_with
-headed_sound says write fits make kind p level said made s rows x rest e =
+headed_sound {A} {part} says write fits make p level said made s rows x rest e =
     let h = bind_some (head_row says level rows) _ (x, rest) e in
     let y = bind_some (p h.0.1) _ (x, rest) h.2 in
     let f = head_row_sound says write fits said level rows h.0 h.1 in
@@ -320,31 +307,29 @@ headed_sound says write fits make kind p level said made s rows x rest e =
     let m = made h.0.0.0 h.0.0.1 y.0.0 f.1 f.2 q.1 in
     let row : Row = record { number = h.0.0.0; level = level; terminals = write h.0.0.1 } in
     let whole = f.0 ∙ ap (λ us. row ∷ us) q.0 ∙ ap (λ us. us ++ y.0.1) (sym m.0) in
-    at_some (λ (z : Component × List Row). (rows ≡ lines_of_component z.0 level ++ z.1) × IsOf kind z.0 ×
-    FitsComponent z.0 level) (make h.0.0.0 h.0.0.1 y.0.0, y.0.1) (x, rest) y.2 (whole, m.1, m.2)
+    at_some (λ (z : Component part × List Row). (rows ≡ lines_of_component z.0 level ++ z.1)
+    × FitsComponent z.0 level) (make h.0.0.0 h.0.0.1 y.0.0, y.0.1) (x, rest) y.2 (whole, m.1)
 
-choice_made : (level : ℕ) → IsMadeOf written IsWhole Chosen block.If level
-choice_made level line e p low fits below = (refl, tt, (low, fits, below))
+choice_made : (level : ℕ) → IsMadeOf written IsWhole Chosen level
+choice_made level line e p low fits below = (refl, (low, fits, below))
 
-branch_made : (level : ℕ) → IsMadeOf written_guard FitsGuard Guarded block.Alt level
-branch_made level line g p low fits below = (refl, tt, (low, fits, below))
+branch_made : (level : ℕ) → IsMadeOf written_guard FitsGuard Guarded level
+branch_made level line g p low fits below = (refl, (low, fits, below))
 
-plain_sound : (kind : BlockKind) (level : ℕ) (p : ReadsLines Process) → ((q : Process) → IsOf kind (Plain q))
-    → SoundProcess level p → SoundComponent kind level (λ rows. plain (p rows))
-plain_sound kind level p is s rows x rest e =
+plain_sound : (level : ℕ) (p : ReadsLines Process) → SoundProcess level p
+    → SoundComponent level (λ rows. plain (p rows))
+plain_sound level p s rows x rest e =
     let y = bind_some (p rows) _ (x, rest) e in
-    let h = s rows y.0.0 y.0.1 y.1 in
-    at_some (λ (z : Component × List Row). (rows ≡ lines_of_component z.0 level ++ z.1) × IsOf kind z.0 ×
-    FitsComponent z.0 level) (Plain y.0.0, y.0.1) (x, rest) y.2 (h.0, is y.0.0, h.1)
+    at_some (λ (z : Component Processes × List Row). (rows ≡ lines_of_component z.0 level ++ z.1)
+    × FitsComponent z.0 level) (Plain y.0.0, y.0.1) (x, rest) y.2 (s rows y.0.0 y.0.1 y.1)
 
 component_with_sound : (p q : ReadsLines Process) (level : ℕ) → SoundProcess level p → SoundProcess (level + 1) q
-    → (kind : BlockKind) → SoundComponent kind level (component_with p q level kind)
-component_with_sound p q level s t block.Seq = plain_sound block.Seq level p (λ x. tt) s
-component_with_sound p q level s t block.Par = plain_sound block.Par level p (λ x. tt) s
-component_with_sound p q level s t block.If =
-    headed_sound whole_at written IsWhole Chosen block.If q level whole_sound (choice_made level) t
-component_with_sound p q level s t block.Alt =
-    headed_sound guard_at written_guard FitsGuard Guarded block.Alt q level guard_sound (branch_made level) t
+    → (part : Part) → SoundComponent level (component_with p q level part)
+component_with_sound p q level s t Processes = plain_sound level p s
+component_with_sound p q level s t Choices =
+    headed_sound whole_at written IsWhole Chosen q level whole_sound (choice_made level) t
+component_with_sound p q level s t Branches =
+    headed_sound guard_at written_guard FitsGuard Guarded q level guard_sound (branch_made level) t
 
 mutual
   unfolding process_at component_at
@@ -354,9 +339,9 @@ mutual
   process_sound (suc n) level rows x rest e =
       process_with_sound (component_at n (level + 1)) level (component_sound n (level + 1)) rows x rest e
 
-  component_sound : (n level : ℕ) (kind : BlockKind) → SoundComponent kind level (component_at n level kind)
-  component_sound zero level kind rows x rest e = absurd (cc)
-  component_sound (suc n) level kind rows x rest e =
+  component_sound : (n level : ℕ) (part : Part) → SoundComponent level (component_at n level part)
+  component_sound zero level part rows x rest e = absurd (cc)
+  component_sound (suc n) level part rows x rest e =
       component_with_sound (process_with (component_at n (level + 1)) level) (process_at n (level + 1)) level
       (process_with_sound (component_at n (level + 1)) level (component_sound n (level + 1)))
-      (process_sound n (level + 1)) kind rows x rest e
+      (process_sound n (level + 1)) part rows x rest e

@@ -20,3 +20,4 @@ pub mod SeenBlocks
 pub mod Taken
 pub mod SeenItems
 pub mod Items
+pub mod Numbered

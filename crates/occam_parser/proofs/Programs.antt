@@ -271,3 +271,11 @@ program_fails start found r rows e c =
 pub program_ends : (start : List Row) (found : List ProgramItem) → ContinuesProgram start found []
     → program_at start ≡ Some found
 program_ends start found c = c.so_far ∙ no_items c.turns found
+
+-- no line is a program without items
+pub no_rows : (rows : List Row) → rows ≡ [] → program_at rows ≡ None → ⊥
+unfolding program_at
+no_rows rows e none =
+    let found : program_at rows ≡ Some [] = ap program_at e ∙ no_items 0 [] in
+    let same : ◌≡◌ {A = Option (List ProgramItem)} (Some []) None = sym found ∙ none in
+    absurd (cc)

@@ -1,91 +1,73 @@
 -- A block that is read component by component.
 use Rattle.std.proofs.Common.{◌≡◌, ℕ, zero, suc, ◌<◌, ◌≤◌, Bool, true, false, not, ◌&&◌, cond, List, [], ◌∷◌}
 use Rattle.std.proofs.Common.{length, nat_lt, ◌==◌, Option, Some, None, refl, ap, arith, ◌∙◌}
-use Rattle.std.proofs.lemmas.Bool.{eqb-true, eq-eqb, eqb-false, ltb-false, le-ltb}
-use Rattle.std.proofs.lemmas.Bool.Decides.{nat_tests}
+use Rattle.std.proofs.lemmas.Bool.{eqb-true, eq-eqb, ltb-false, le-ltb}
 use Rattle.occam_parser.specs.Reading.{◌>>=◌}
-use Rattle.occam_parser.specs.Blocks.{Row, Components, NoComponent, Further, Component}
+use Rattle.occam_parser.specs.Blocks.{Row, Part, Components, NoComponent, Further, Component}
 use Rattle.occam_parser.proofs.Options.{at_some}
-use Rattle.occam_parser.specs.BlockReading.{ReadsLines, is_at, first_row, begins_at, count_of, wants, component_step}
+use Rattle.occam_parser.specs.BlockReading.{ReadsLines, is_at, first_row, begins_at, component_step}
 use Rattle.occam_parser.specs.BlockReading.{components_from, components_of}
 
 -- what is left of a block's reading, when these components were found
-pub record ContinuesBlock (item : ReadsLines Component) (level : ℕ) (single : Bool) (start : List Row)
-    (found : Components) (rows : List Row) : Type 0 where
+pub record ContinuesBlock {part : Part} (item : ReadsLines (Component part)) (level : ℕ) (start : List Row)
+    (found : Components part) (rows : List Row) : Type 0 where
   pub turns : ℕ
   pub enough : length rows ≤ turns
-  pub so_far : components_of item level single start ≡ components_from item level single turns found rows
+  pub so_far : components_of item level start ≡ components_from item level turns found rows
 
-pub block_begins : (item : ReadsLines Component) (level : ℕ) (single : Bool) (start : List Row)
-    → ContinuesBlock item level single start NoComponent start
+pub block_begins : {part : Part} (item : ReadsLines (Component part)) (level : ℕ) (start : List Row)
+    → ContinuesBlock item level start NoComponent start
 unfolding components_of
-block_begins item level single start = record { turns = length start; enough = omega arith; so_far = refl }
+block_begins item level start = record { turns = length start; enough = omega arith; so_far = refl }
 
-block_turn : (item : ReadsLines Component) (level : ℕ) (single : Bool) (n : ℕ) (found : Components)
-    (rows rest : List Row) (x : Component) → wants level single (count_of found) rows ≡ Some true
+block_turn : {part : Part} (item : ReadsLines (Component part)) (level : ℕ) (n : ℕ) (found : Components part)
+    (rows rest : List Row) (x : Component part) → begins_at level rows ≡ true
     → item rows ≡ Some (x, rest) → length rows ≤ n → length rest < length rows
-    → (m : ℕ) × (length rest ≤ m) × (components_from item level single n found rows ≡ components_from item level
-    single m (Further found x) rest)
+    → (m : ℕ) × (length rest ≤ m)
+    × (components_from item level n found rows ≡ components_from item level m (Further found x) rest)
 unfolding components_from
-block_turn item level single zero found rows rest x w e enough less = absurd (omega arith)
-block_turn item level single (suc n) found rows rest x w e enough less = (
+block_turn item level zero found rows rest x w e enough less = absurd (omega arith)
+block_turn {part} item level (suc n) found rows rest x w e enough less = (
   n,
   omega arith,
-  ap (component_step (item rows >>= λ y. components_from item level single n (Further found y.0)
-      y.1) found rows) w ∙ ap (λ (o : Option (Component × List Row)). o >>= λ y. components_from item level single
-      n (Further found y.0) y.1) e,
+  ap (component_step (item rows >>= λ y. components_from item level n (Further found y.0) y.1) found rows) w ∙ ap
+      (λ (o : Option (Component part × List Row)). o >>= λ y. components_from item level n (Further found y.0) y.1) e,
 )
 
-pub block_goes_on : (item : ReadsLines Component) (level : ℕ) (single : Bool) (start : List Row) (found : Components)
-    (rows rest : List Row) (x : Component) → wants level single (count_of found) rows ≡ Some true
-    → item rows ≡ Some (x, rest) → length rest < length rows
-    → ContinuesBlock item level single start found rows
-    → ContinuesBlock item level single start (Further found x) rest
-block_goes_on item level single start found rows rest x w e less c =
-    let t = block_turn item level single c.turns found rows rest x w e c.enough less in
+pub block_goes_on : {part : Part} (item : ReadsLines (Component part)) (level : ℕ) (start : List Row)
+    (found : Components part) (rows rest : List Row) (x : Component part) → begins_at level rows ≡ true
+    → item rows ≡ Some (x, rest) → length rest < length rows → ContinuesBlock item level start found rows
+    → ContinuesBlock item level start (Further found x) rest
+block_goes_on item level start found rows rest x w e less c =
+    let t = block_turn item level c.turns found rows rest x w e c.enough less in
     record { turns = t.0; enough = t.1; so_far = c.so_far ∙ t.2 }
 
-fails_at : (item : ReadsLines Component) (level : ℕ) (single : Bool) (n : ℕ) (found : Components) (rows : List Row)
-    → wants level single (count_of found) rows ≡ Some true → item rows ≡ None
-    → components_from item level single n found rows ≡ None
+fails_at : {part : Part} (item : ReadsLines (Component part)) (level : ℕ) (n : ℕ) (found : Components part)
+    (rows : List Row) → begins_at level rows ≡ true → item rows ≡ None
+    → components_from item level n found rows ≡ None
 unfolding components_from
-fails_at item level single zero found rows w e = ap (component_step None found rows) w
-fails_at item level single (suc n) found rows w e =
-    ap (component_step (item rows >>= λ y. components_from item level single n (Further found y.0) y.1) found rows)
-    w ∙ ap (λ (o : Option (Component × List Row)). o >>= λ y. components_from item level single n
-    (Further found y.0) y.1) e
+fails_at item level zero found rows w e = ap (component_step None found rows) w
+fails_at {part} item level (suc n) found rows w e =
+    ap (component_step (item rows >>= λ y. components_from item level n (Further found y.0) y.1) found rows) w
+    ∙ ap (λ (o : Option (Component part × List Row)). o >>= λ y. components_from item level n (Further found y.0) y.1)
+    e
 
-pub block_fails : (item : ReadsLines Component) (level : ℕ) (single : Bool) (start : List Row) (found : Components)
-    (rows : List Row) → wants level single (count_of found) rows ≡ Some true → item rows ≡ None
-    → ContinuesBlock item level single start found rows
-    → components_of item level single start ≡ None
-block_fails item level single start found rows w e c = c.so_far ∙ fails_at item level single c.turns found rows w e
+pub block_fails : {part : Part} (item : ReadsLines (Component part)) (level : ℕ) (start : List Row)
+    (found : Components part) (rows : List Row) → begins_at level rows ≡ true → item rows ≡ None
+    → ContinuesBlock item level start found rows → components_of item level start ≡ None
+block_fails item level start found rows w e c = c.so_far ∙ fails_at item level c.turns found rows w e
 
-stops_at : (item : ReadsLines Component) (level : ℕ) (single : Bool) (n : ℕ) (found : Components) (rows : List Row)
-    → wants level single (count_of found) rows ≡ None → components_from item level single n found rows ≡ None
+ends_at : {part : Part} (item : ReadsLines (Component part)) (level : ℕ) (n : ℕ) (found : Components part)
+    (rows : List Row) → begins_at level rows ≡ false → components_from item level n found rows ≡ Some (found, rows)
 unfolding components_from
-stops_at item level single zero found rows w = ap (component_step None found rows) w
-stops_at item level single (suc n) found rows w =
-    ap (component_step (item rows >>= λ y. components_from item level single n (Further found y.0) y.1) found rows) w
+ends_at item level zero found rows w = ap (component_step None found rows) w
+ends_at item level (suc n) found rows w =
+    ap (component_step (item rows >>= λ y. components_from item level n (Further found y.0) y.1) found rows) w
 
-pub block_stops : (item : ReadsLines Component) (level : ℕ) (single : Bool) (start : List Row) (found : Components)
-    (rows : List Row) → wants level single (count_of found) rows ≡ None
-    → ContinuesBlock item level single start found rows → components_of item level single start ≡ None
-block_stops item level single start found rows w c = c.so_far ∙ stops_at item level single c.turns found rows w
-
-ends_at : (item : ReadsLines Component) (level : ℕ) (single : Bool) (n : ℕ) (found : Components) (rows : List Row)
-    → wants level single (count_of found) rows ≡ Some false
-    → components_from item level single n found rows ≡ Some (found, rows)
-unfolding components_from
-ends_at item level single zero found rows w = ap (component_step None found rows) w
-ends_at item level single (suc n) found rows w =
-    ap (component_step (item rows >>= λ y. components_from item level single n (Further found y.0) y.1) found rows) w
-
-pub block_ends : (item : ReadsLines Component) (level : ℕ) (single : Bool) (start : List Row) (found : Components)
-    (rows : List Row) → wants level single (count_of found) rows ≡ Some false
-    → ContinuesBlock item level single start found rows
-    → components_of item level single start ≡ Some (found, rows)
-block_ends item level single start found rows w c = c.so_far ∙ ends_at item level single c.turns found rows w
+pub block_ends : {part : Part} (item : ReadsLines (Component part)) (level : ℕ) (start : List Row)
+    (found : Components part) (rows : List Row) → begins_at level rows ≡ false
+    → ContinuesBlock item level start found rows → components_of item level start ≡ Some (found, rows)
+block_ends item level start found rows w c = c.so_far ∙ ends_at item level c.turns found rows w
 
 -- ---- lines at a level
 
@@ -129,64 +111,3 @@ first_row_is level (s ∷ rows) r rest e = found_row (is_at level s) level s r r
 pub first_row_again : (level : ℕ) (r : Row) (rest : List Row) → r.level ≡ level → level ≤ 64
     → first_row level (r ∷ rest) ≡ Some (r, rest)
 first_row_again level r rest e low = ap (λ b. cond b (Some (r, rest)) None) (at_again level r e low)
-
--- ---- whether a block goes on
-
-wanted : (b s p q : Bool) → cond b (cond (s && p) None (Some true)) (cond (s && q) None (Some false)) ≡ Some true
-    → s ≡ true → p ≡ false
-wanted true true true q e t = absurd (cc)
-wanted true true false q e t = refl
-wanted true false p q e t = absurd (cc)
-wanted false true p true e t = absurd (cc)
-wanted false true p false e t = absurd (cc)
-wanted false false p q e t = absurd (cc)
-
-unwanted : (b s p q : Bool) → cond b (cond (s && p) None (Some true)) (cond (s && q) None (Some false)) ≡ Some false
-    → s ≡ true → q ≡ false
-unwanted true true true q e t = absurd (cc)
-unwanted true true false q e t = absurd (cc)
-unwanted true false p q e t = absurd (cc)
-unwanted false true p true e t = absurd (cc)
-unwanted false true p false e t = refl
-unwanted false false p q e t = absurd (cc)
-
--- under a replicator a further component is the first
-pub wants_first : (level : ℕ) (single : Bool) (count : ℕ) (rows : List Row)
-    → wants level single count rows ≡ Some true → single ≡ true → count ≡ 0
-wants_first level single count rows e s =
-    let none = ltb-false 0 count (wanted (begins_at level rows) single (nat_lt 0 count) (count == 0) e s) in
-    omega arith
-
--- under a replicator there is one
-pub wants_one : (level : ℕ) (single : Bool) (count : ℕ) (rows : List Row)
-    → wants level single count rows ≡ Some false → single ≡ true → 0 < count
-wants_one level single count rows e s =
-    let some = eqb-false count 0 (unwanted (begins_at level rows) single (nat_lt 0 count) (count == 0) e s) in
-    omega arith
-
-goes : (b s p q : Bool) → b ≡ true → (s ≡ true → p ≡ false)
-    → cond b (cond (s && p) None (Some true)) (cond (s && q) None (Some false)) ≡ Some true
-goes true true true q e f = let never = f refl in absurd (cc)
-goes true true false q e f = refl
-goes true false p q e f = refl
-goes false s p q e f = absurd (cc)
-
-halts : (b s p q : Bool) → b ≡ false → (s ≡ true → q ≡ false)
-    → cond b (cond (s && p) None (Some true)) (cond (s && q) None (Some false)) ≡ Some false
-halts true s p q e f = absurd (cc)
-halts false true p true e f = let never = f refl in absurd (cc)
-halts false true p false e f = refl
-halts false false p q e f = refl
-
-pub wants_more : (level : ℕ) (single : Bool) (count : ℕ) (rows : List Row) → begins_at level rows ≡ true
-    → (single ≡ true → count ≡ 0) → wants level single count rows ≡ Some true
-wants_more level single count rows b f = goes (begins_at level rows) single (nat_lt 0 count) (count == 0) b
-    (λ s. le-ltb 0 count (let none = f s in omega arith))
-
-not_none : (count : ℕ) → 0 < count → (count == 0) ≡ false
-not_none count h = grind (arith, nat_tests)
-
-pub wants_no_more : (level : ℕ) (single : Bool) (count : ℕ) (rows : List Row) → begins_at level rows ≡ false
-    → (single ≡ true → 0 < count) → wants level single count rows ≡ Some false
-wants_no_more level single count rows b f = halts (begins_at level rows) single (nat_lt 0 count) (count == 0) b
-    (λ s. not_none count (f s))

@@ -3,14 +3,14 @@ use Rattle.std.specs.Prelude.{ℕ, zero, suc, ◌+◌, Bool, true, false, not, �
 use Rattle.std.specs.Prelude.{length, nat_lt, ◌==◌, if◌then◌else◌, Option, Some, None}
 use Rattle.occam_parser.specs.declared.symbol.Mark.TheVariants as mark
 use Rattle.occam_parser.specs.declared.head.BlockKind.{BlockKind}
-use Rattle.occam_parser.specs.declared.head.BlockKind.TheVariants as block
 use Rattle.occam_parser.specs.Terminals.{Terminal, Mark}
 use Rattle.occam_parser.specs.Reading.{◌>>=◌, behind}
 use Rattle.occam_parser.specs.Lines.{Declaration, Replicator, Head, Declares, Acts, Opens}
 use Rattle.occam_parser.specs.LineReading.{ended, head_at, whole_at, guard_at, constant_at, proc_head_at}
-use Rattle.occam_parser.specs.Blocks.{Row, Process, Declared, Does, Construct, Act, Block, Components, NoComponent}
-use Rattle.occam_parser.specs.Blocks.{Further, Component, Plain, Chosen, Guarded, Procedure, ProgramItem}
-use Rattle.occam_parser.specs.Blocks.{GlobalConstant, GlobalProcedure}
+use Rattle.occam_parser.specs.Blocks.{Row, Process, Declared, Does, Construct, Act, Block, Replicated, Body, One, Part}
+use Rattle.occam_parser.specs.Blocks.{Processes, Choices, Branches, part_of, Components, NoComponent, Further}
+use Rattle.occam_parser.specs.Blocks.{Component, Plain, Chosen, Guarded, Procedure, ProgramItem, GlobalConstant}
+use Rattle.occam_parser.specs.Blocks.{GlobalProcedure}
 
 -- what is read from the first lines, and the lines behind, if it is there
 abbrev pub ReadsLines : Type 0 → Type 0
@@ -57,58 +57,57 @@ with_declarations (d ∷ ds) p = Declared d (with_declarations ds p)
 
 -- ---- components
 
-abbrev pub count_of : Components → ℕ
-count_of NoComponent = 0
-count_of (Further cs c) = count_of cs + 1
-
--- Whether a block with so many components goes on. Under a replicator it has one, no more and no fewer.
-abbrev pub wants : ℕ → Bool → ℕ → List Row → Option Bool
-wants level single count rows =
-    if begins_at level rows then (if single && nat_lt 0 count then None else Some true)
-    else (if single && (count == 0) then None else Some false)
-
--- with one component more
-abbrev pub further : Components → Option (Component × List Row) → Option (Components × List Row)
-further found read = read >>= λ x. Some (Further found x.0, x.1)
-
-abbrev pub component_step : Option (Components × List Row) → Components → List Row → Option Bool
-    → Option (Components × List Row)
-component_step more found rows None = None
-component_step more found rows (Some false) = Some (found, rows)
-component_step more found rows (Some true) = more
+-- one more component where a line at the level comes next
+abbrev pub component_step : {part : Part} → Option (Components part × List Row) → Components part → List Row → Bool
+    → Option (Components part × List Row)
+component_step more found rows false = Some (found, rows)
+component_step more found rows true = more
 
 -- The number bounds the turns: the count of the lines is enough.
-unfoldable pub components_from : ReadsLines Component → ℕ → Bool → ℕ → Components → ReadsLines Components
-components_from item level single zero found rows =
-    component_step None found rows (wants level single (count_of found) rows)
-components_from item level single (suc n) found rows =
-    component_step (item rows >>= λ x. components_from item level single n (Further found x.0) x.1) found rows
-    (wants level single (count_of found) rows)
+unfoldable pub components_from : {part : Part} → ReadsLines (Component part) → ℕ → ℕ → Components part
+    → ReadsLines (Components part)
+components_from item level zero found rows = component_step None found rows (begins_at level rows)
+components_from item level (suc n) found rows =
+    component_step (item rows >>= λ x. components_from item level n (Further found x.0) x.1) found rows
+    (begins_at level rows)
 
-unfoldable pub components_of : ReadsLines Component → ℕ → Bool → ReadsLines Components
-components_of item level single rows = components_from item level single (length rows) NoComponent rows
+unfoldable pub components_of : {part : Part} → ReadsLines (Component part) → ℕ → ReadsLines (Components part)
+components_of item level rows = components_from item level (length rows) NoComponent rows
+
+-- what was read, unless another line at the level follows
+unfoldable pub only_one : {A : Type 0} → ℕ → Option (A × List Row) → Option (A × List Row)
+only_one level read = read >>= λ x. if begins_at level x.1 then None else Some x
 
 -- ---- processes
 
-abbrev pub is_some : {A : Type 0} → Option A → Bool
-is_some None = false
-is_some (Some x) = true
-
--- a block whose components are at a level
-unfoldable pub block_with : BlockKind → Option Replicator → Option (Components × List Row)
+-- a block without a replicator
+unfoldable pub block_with : (kind : BlockKind) → Option (Components (part_of kind) × List Row)
     → Option (Construct × List Row)
-block_with kind replicator read = read >>= λ x. Some (Block kind replicator x.0, x.1)
+block_with kind read = read >>= λ x. Some (Block kind x.0, x.1)
 
-abbrev pub process_behind : (BlockKind → ReadsLines Component) → ℕ → Beginning → List Row → Head
+-- a block under a replicator
+unfoldable pub replicated_with : Replicator → Option (Body × List Row) → Option (Construct × List Row)
+replicated_with replicator read = read >>= λ x. Some (Replicated replicator x.0, x.1)
+
+unfoldable pub body_with : (kind : BlockKind) → Option (Component (part_of kind) × List Row) → Option (Body × List Row)
+body_with kind read = read >>= λ x. Some (One kind x.0, x.1)
+
+abbrev pub construct_behind : ((part : Part) → ReadsLines (Component part)) → ℕ → BlockKind → Option Replicator
+    → ReadsLines Construct
+construct_behind component level kind None rows = block_with kind (components_of (component (part_of kind)) level rows)
+construct_behind component level kind (Some replicator) rows =
+    replicated_with replicator (only_one level (body_with kind (component (part_of kind) rows)))
+
+abbrev pub process_behind : ((part : Part) → ReadsLines (Component part)) → ℕ → Beginning → List Row → Head
     → Option (Process × List Row)
 process_behind component level b rows (Acts a) = Some (with_declarations b.declarations (Does b.line (Act a)), rows)
 process_behind component level b rows (Opens kind replicator) = do
-  x ← block_with kind replicator (components_of (component kind) (level + 1) (is_some replicator) rows)
+  x ← construct_behind component (level + 1) kind replicator rows
   Some (with_declarations b.declarations (Does b.line x.0), x.1)
 process_behind component level b rows (Declares d) = None
 
 -- a process at a level, from the components that stand one level deeper
-unfoldable pub process_with : (BlockKind → ReadsLines Component) → ℕ → ReadsLines Process
+unfoldable pub process_with : ((part : Part) → ReadsLines (Component part)) → ℕ → ReadsLines Process
 process_with component level rows = do
   b ← beginning_from level [] rows
   process_behind component level b.0 b.1 b.0.start
@@ -121,21 +120,20 @@ head_row says level rows = do
   Some ((r.0.number, head), r.1)
 
 -- a component that is made of what its line says, and of the process below
-unfoldable pub headed_with : {A : Type 0} → (List Terminal → Option A) → (ℕ → A → Process → Component)
-    → ReadsLines Process → ℕ → ReadsLines Component
+unfoldable pub headed_with : {A : Type 0} → {part : Part} → (List Terminal → Option A)
+    → (ℕ → A → Process → Component part) → ReadsLines Process → ℕ → ReadsLines (Component part)
 headed_with says make process level rows = do
   head ← head_row says level rows
   p ← process head.1
   Some (make head.0.0 head.0.1 p.0, p.1)
 
-abbrev pub plain : Option (Process × List Row) → Option (Component × List Row)
+abbrev pub plain : Option (Process × List Row) → Option (Component Processes × List Row)
 plain read = read >>= λ p. Some (Plain p.0, p.1)
 
-abbrev pub component_with : (process deeper : ReadsLines Process) → ℕ → BlockKind → ReadsLines Component
-component_with process deeper level block.Seq rows = plain (process rows)
-component_with process deeper level block.Par rows = plain (process rows)
-component_with process deeper level block.If rows = headed_with whole_at Chosen deeper level rows
-component_with process deeper level block.Alt rows = headed_with guard_at Guarded deeper level rows
+abbrev pub component_with : (process deeper : ReadsLines Process) → ℕ → (part : Part) → ReadsLines (Component part)
+component_with process deeper level Processes rows = plain (process rows)
+component_with process deeper level Choices rows = headed_with whole_at Chosen deeper level rows
+component_with process deeper level Branches rows = headed_with guard_at Guarded deeper level rows
 
 abbrev pub no_lines : {A : Type 0} → ReadsLines A
 no_lines rows = None
@@ -146,14 +144,10 @@ unfoldable mutual
   process_at zero level = no_lines
   process_at (suc n) level = process_with (component_at n (level + 1)) level
 
-  pub component_at : ℕ → ℕ → BlockKind → ReadsLines Component
-  component_at zero level kind = no_lines
-  component_at (suc n) level kind = component_with (process_with (component_at n (level + 1)) level)
-      (process_at n (level + 1)) level kind
-
--- the same processes as components
-unfoldable pub plain_at : ℕ → ℕ → ReadsLines Component
-plain_at n level rows = plain (process_at n level rows)
+  pub component_at : ℕ → ℕ → (part : Part) → ReadsLines (Component part)
+  component_at zero level part = no_lines
+  component_at (suc n) level part = component_with (process_with (component_at n (level + 1)) level)
+      (process_at n (level + 1)) level part
 
 -- ---- programs
 

@@ -26,6 +26,18 @@ rows_of lines = map row_of lines
 
 -- ---- trees
 
+-- what stands side by side below the head of a block
+pub data Part : Type 0 where
+  Processes : Part
+  Choices : Part
+  Branches : Part
+
+abbrev pub part_of : BlockKind → Part
+part_of block.Seq = Processes
+part_of block.Par = Processes
+part_of block.If = Choices
+part_of block.Alt = Branches
+
 mutual
   -- declarations, and then a construct with the number of its line
   pub data Process : Type 0 where
@@ -34,18 +46,23 @@ mutual
 
   pub data Construct : Type 0 where
     Act : (action : Action) → Construct
-    Block : (kind : BlockKind) → (replicator : Option Replicator) → (components : Components) → Construct
+    Block : (kind : BlockKind) → (components : Components (part_of kind)) → Construct
+    Replicated : (replicator : Replicator) → (body : Body) → Construct
+
+  -- the one component under a replicator
+  pub data Body : Type 0 where
+    One : (kind : BlockKind) → (component : Component (part_of kind)) → Body
 
   -- from the first one on
-  pub data Components : Type 0 where
-    NoComponent : Components
-    Further : (components : Components) → (last : Component) → Components
+  pub data Components : Part → Type 0 where
+    NoComponent : {part : Part} → Components part
+    Further : {part : Part} → (components : Components part) → (last : Component part) → Components part
 
   -- a process of a SEQ or PAR, a choice of an IF, a branch of an ALT
-  pub data Component : Type 0 where
-    Plain : (process : Process) → Component
-    Chosen : (line : ℕ) → (condition : Expression) → (process : Process) → Component
-    Guarded : (line : ℕ) → (guard : Guard) → (process : Process) → Component
+  pub data Component : Part → Type 0 where
+    Plain : (process : Process) → Component Processes
+    Chosen : (line : ℕ) → (condition : Expression) → (process : Process) → Component Choices
+    Guarded : (line : ℕ) → (guard : Guard) → (process : Process) → Component Branches
 
 pub record Procedure : Type 0 where
   pub line : ℕ
@@ -63,6 +80,11 @@ declaration_line (Constants c) = c.line
 declaration_line (Variables n) = n.line
 declaration_line (Channels n) = n.line
 
+-- the line that a block begins with
+abbrev pub block_row : ℕ → ℕ → BlockKind → Option Replicator → Row
+block_row line level kind replicator =
+    record { number = line; level = level; terminals = block_word kind ∷ written_replicator replicator }
+
 abbrev mutual
   pub lines_of : Process → ℕ → List Row
   lines_of (Declared d p) level = record {
@@ -75,42 +97,27 @@ abbrev mutual
 
   pub lines_of_construct : Construct → ℕ → ℕ → List Row
   lines_of_construct (Act a) line level = record { number = line; level = level; terminals = written_action a } ∷ []
-  lines_of_construct (Block kind replicator components) line level =
-      record { number = line; level = level; terminals = block_word kind ∷ written_replicator replicator } ∷
-      lines_of_components components (level + 1)
+  lines_of_construct (Block kind components) line level =
+      block_row line level kind None ∷ lines_of_components components (level + 1)
+  lines_of_construct (Replicated replicator body) line level = lines_of_body body replicator line level
 
-  pub lines_of_components : Components → ℕ → List Row
+  pub lines_of_body : Body → Replicator → ℕ → ℕ → List Row
+  lines_of_body (One kind component) replicator line level =
+      block_row line level kind (Some replicator) ∷ lines_of_component component (level + 1)
+
+  pub lines_of_components : {part : Part} → Components part → ℕ → List Row
   lines_of_components NoComponent level = []
   lines_of_components (Further cs c) level = lines_of_components cs level ++ lines_of_component c level
 
-  pub lines_of_component : Component → ℕ → List Row
+  pub lines_of_component : {part : Part} → Component part → ℕ → List Row
   lines_of_component (Plain p) level = lines_of p level
   lines_of_component (Chosen line e p) level =
       record { number = line; level = level; terminals = written e } ∷ lines_of p (level + 1)
   lines_of_component (Guarded line g p) level =
       record { number = line; level = level; terminals = written_guard g } ∷ lines_of p (level + 1)
 
--- ---- when they fit
+-- ---- when they fit: each line is at level 64 at most
 
--- under a replicator stands exactly one component
-abbrev pub IsOne : Components → Type 0
-IsOne NoComponent = ⊥
-IsOne (Further NoComponent c) = Unit {0}
-IsOne (Further (Further cs b) c) = ⊥
-
-abbrev pub HasRightCount : Option Replicator → Components → Type 0
-HasRightCount None cs = Unit {0}
-HasRightCount (Some r) cs = IsOne cs
-
--- what a block is made of
-abbrev pub IsOf : BlockKind → Component → Type 0
-IsOf block.Seq (Plain p) = Unit {0}
-IsOf block.Par (Plain p) = Unit {0}
-IsOf block.If (Chosen line e p) = Unit {0}
-IsOf block.Alt (Guarded line g p) = Unit {0}
-IsOf kind c = ⊥
-
--- each line is at level 64 at most
 abbrev mutual
   pub FitsProcess : Process → ℕ → Type 0
   FitsProcess (Declared d p) level = (level ≤ 64) × FitsDeclaration (declaration_line d) d × FitsProcess p level
@@ -118,14 +125,17 @@ abbrev mutual
 
   pub FitsConstruct : Construct → ℕ → Type 0
   FitsConstruct (Act a) level = FitsAction a
-  FitsConstruct (Block kind replicator cs) level =
-      FitsReplicator replicator × HasRightCount replicator cs × FitComponents cs kind (level + 1)
+  FitsConstruct (Block kind components) level = FitComponents components (level + 1)
+  FitsConstruct (Replicated replicator body) level = FitsReplicator (Some replicator) × FitsBody body (level + 1)
 
-  pub FitComponents : Components → BlockKind → ℕ → Type 0
-  FitComponents NoComponent kind level = Unit {0}
-  FitComponents (Further cs c) kind level = FitComponents cs kind level × IsOf kind c × FitsComponent c level
+  pub FitsBody : Body → ℕ → Type 0
+  FitsBody (One kind component) level = FitsComponent component level
 
-  pub FitsComponent : Component → ℕ → Type 0
+  pub FitComponents : {part : Part} → Components part → ℕ → Type 0
+  FitComponents NoComponent level = Unit {0}
+  FitComponents (Further cs c) level = FitComponents cs level × FitsComponent c level
+
+  pub FitsComponent : {part : Part} → Component part → ℕ → Type 0
   FitsComponent (Plain p) level = FitsProcess p level
   FitsComponent (Chosen line e p) level = (level ≤ 64) × IsWhole e × FitsProcess p (level + 1)
   FitsComponent (Guarded line g p) level = (level ≤ 64) × FitsGuard g × FitsProcess p (level + 1)

@@ -1,13 +1,15 @@
 -- How a fault of one line is told.
-use Rattle.std.specs.Prelude.{◌≡◌, ◌⊎◌, ℕ, Bool, List, [], ◌∷◌, ◌++◌, length, ◌<◌, Option, Some, None, Result}
-use Rattle.std.specs.Prelude.{Ok, Err}
+use Rattle.std.specs.Prelude.{◌≡◌, ◌⊎◌, ℕ, Bool, true, false, List, [], ◌∷◌, ◌++◌, length, ◌<◌, ◌≤◌, Option, Some, None}
+use Rattle.std.specs.Prelude.{Result, Ok, Err}
 use Rattle.std.specs.Borrow.{Bor}
 use Rattle.occam_layout.specs.declared.token.Line.{Line}
 use Rattle.occam_layout.specs.declared.token.Token.{Token}
 use Rattle.occam_parser.specs.declared.fault.LineError.{LineError}
 use Rattle.occam_parser.specs.declared.fault.LineError.TheVariants as errors
 use Rattle.occam_parser.specs.declared.fault.ParseFault.{ParseFault}
-use Rattle.occam_parser.specs.declared.fault.TheConstants.{MEMORY}
+use Rattle.occam_parser.specs.declared.fault.TheConstants.{UNEXPECTED_TOKEN, MIXTURE, MEMORY}
+use Rattle.occam_parser.specs.declared.fault.Refusal.{Refusal}
+use Rattle.occam_parser.specs.declared.fault.Refusal.TheVariants as refusals
 use Rattle.occam_parser.specs.declared.symbol.Mark.{Mark}
 use Rattle.occam_parser.specs.declared.symbol.Mark.TheVariants as mark
 use Rattle.occam_parser.specs.declared.tree.ValueType.{ValueType}
@@ -17,26 +19,48 @@ use Rattle.occam_parser.specs.Terminals.{Terminal, terminals_of}
 use Rattle.occam_parser.specs.Views.{expression_of, operation_of}
 use Rattle.occam_parser.specs.Reading.{Reads, ◌>>=◌, Fails, Gives, behind, list_of}
 use Rattle.occam_parser.specs.LineReading.{shape_at, name_at, only}
-use Rattle.occam_parser.specs.Blocks.{Row, Procedure, ProgramItem, GlobalProcedure}
+use Rattle.occam_parser.specs.Blocks.{Row, rows_of, Procedure, ProgramItem, GlobalProcedure}
+use Rattle.occam_parser.specs.BlockReading.{begins_at}
 
--- want of memory, which no line is to blame for
+-- memory ran out, which no line is to blame for
 abbrev pub out_of_memory : ParseFault
 out_of_memory = record { number = MEMORY; line = 0 }
 
--- want of memory is told so; which fault is told, and its line, isn't said here
-abbrev pub IsTold : LineError → ParseFault → Type 0
-IsTold errors.Memory told = told ≡ out_of_memory
-IsTold (errors.Fault fault) told = Unit {0}
+-- a line of these has this number
+abbrev pub IsNumbered : List Row → ℕ → Type 0
+IsNumbered [] number = ⊥
+IsNumbered (row ∷ rows) number = (row.number ≡ number) ⊎ IsNumbered rows number
 
--- what a line gave, with its error told
-abbrev pub IsToldOf : {A : Type 0} → Result A LineError → Result A ParseFault → Type 0
-IsToldOf (Ok x) told = told ≡ Ok x
-IsToldOf (Err e) told = (fault : ParseFault) × (told ≡ Err fault) × IsTold e fault
+-- a fault of the grammar, at one of these lines
+pub record IsAtLine (rows : List Row) (fault : ParseFault) : Type 0 where
+  pub least : UNEXPECTED_TOKEN ≤ fault.number
+  pub greatest : fault.number ≤ MIXTURE
+  pub line : IsNumbered rows fault.line
+
+-- why these lines are refused: memory ran out, or one of them is at fault
+abbrev pub IsRefusal : List Row → ParseFault → Type 0
+IsRefusal rows fault = (fault ≡ out_of_memory) ⊎ IsAtLine rows fault
+
+-- a refusal of these lines, as it is told
+abbrev pub IsTold : List Row → Refusal → ParseFault → Type 0
+IsTold rows refusals.Memory told = told ≡ out_of_memory
+IsTold [] (refusals.Fault fault left) told = Unit {0}
+IsTold (row ∷ rows) (refusals.Fault fault left) told = IsAtLine (row ∷ rows) told
+
+-- what a line gave, with its fault placed
+abbrev pub IsToldOf : {A : Type 0} → Result A LineError → ℕ → Result A Refusal → Type 0
+IsToldOf (Ok x) left told = told ≡ Ok x
+IsToldOf (Err errors.Memory) left told = told ≡ Err refusals.Memory
+IsToldOf (Err (errors.Fault fault)) left told = told ≡ Err (refusals.Fault fault left)
 
 -- Memory may always run out. Else it is what reading gives; a fault comes exactly where that is nothing.
-abbrev pub Tells : {X Y : Type 0} → (X → Y) → Result X ParseFault → Option Y → Type 0
+abbrev pub Lacks : {Y : Type 0} → Refusal → Option Y → Type 0
+Lacks refusals.Memory read = Unit {0}
+Lacks (refusals.Fault fault left) read = read ≡ None
+
+abbrev pub Tells : {X Y : Type 0} → (X → Y) → Result X Refusal → Option Y → Type 0
 Tells view (Ok x) read = read ≡ Some (view x)
-Tells view (Err e) read = (e ≡ out_of_memory) ⊎ (read ≡ None)
+Tells view (Err e) read = Lacks e read
 
 -- what was looked for is answered, unless memory ran out
 abbrev pub Answers : {X Y : Type 0} → (X → Y) → Result X ParseFault → Y → Type 0
@@ -81,18 +105,24 @@ abbrev pub IsAll : {A : Type 0} → Result (A × Bor (List Token)) LineError →
 IsAll (Err e) answer = answer ≡ Err e
 IsAll (Ok x) answer = Gives (λ y. y) answer (only x.0 (terminals_of x.1.now))
 
--- What was read, pushed: its fault, or want of memory, or one item more and the lines behind.
-abbrev pub Pushes : {A : Type 0} → Result (A × Bor (List Line)) ParseFault → (old new : List A)
-    → Result (Bor (List Line)) ParseFault → Type 0
+-- What was read, pushed: its refusal, or a lack of memory, or one item more and the lines behind.
+abbrev pub Pushes : {A : Type 0} → Result (A × Bor (List Line)) Refusal → (old new : List A)
+    → Result (Bor (List Line)) Refusal → Type 0
 Pushes (Err e) old new answer = answer ≡ Err e
-Pushes (Ok x) old new (Err e) = e ≡ out_of_memory
+Pushes (Ok x) old new (Err e) = e ≡ refusals.Memory
 Pushes (Ok x) old new (Ok rest) = (new ≡ old ++ x.0 ∷ []) × (rest.now ≡ x.1.now)
 
--- What a head has, beside what was read below it: the fault of that, or both, and the lines behind.
-abbrev pub StandsAbove : {A B : Type 0} → A → Result (B × Bor (List Line)) ParseFault
-    → Result ((A × B) × Bor (List Line)) ParseFault → Type 0
+-- What a head has, beside what was read below it: the refusal of that, or both, and the lines behind.
+abbrev pub StandsAbove : {A B : Type 0} → A → Result (B × Bor (List Line)) Refusal
+    → Result ((A × B) × Bor (List Line)) Refusal → Type 0
 StandsAbove head (Err e) answer = answer ≡ Err e
 StandsAbove head (Ok x) answer = answer ≡ Ok ((head, x.0), x.1)
+
+-- What was read, if no other line at the level follows: its refusal, or a fault, or the same.
+abbrev pub IsOnlyOne : {A : Type 0} → ℕ → (read answer : Result (A × Bor (List Line)) Refusal) → Type 0
+IsOnlyOne level (Err e) answer = answer ≡ Err e
+IsOnlyOne level (Ok x) (Err e) = begins_at level (rows_of x.1.now) ≡ true
+IsOnlyOne level (Ok x) (Ok y) = (y.0 ≡ x.0) × (y.1.now ≡ x.1.now) × (begins_at level (rows_of x.1.now) ≡ false)
 
 -- a procedure that was read, as an item
 abbrev pub as_item : Option (Procedure × List Row) → Option (ProgramItem × List Row)

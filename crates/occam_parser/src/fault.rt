@@ -1,9 +1,12 @@
 //! Why some lines are no program.
 
-ghost use Rattle.std.specs.Prelude.{◌≡◌};
-ghost use Rattle.occam_parser.specs.Told.{out_of_memory, IsToldOf};
+ghost use Rattle.std.specs.Prelude.{◌≡◌, ◌≤◌, ◌<◌, length};
+ghost use Rattle.occam_parser.specs.Blocks.{rows_of};
+ghost use Rattle.occam_parser.specs.Told.{IsTold, IsToldOf, IsNumbered};
 ghost use Rattle.occam_parser.specs.declared.fault.LineError.TheVariants.{Memory, Fault as at_fault};
+ghost use Rattle.occam_parser.specs.declared.fault.Refusal.TheVariants.{Memory as OutOfMemory, Fault as refused_at};
 
+use occam_layout::Line;
 use std::alloc::AllocFailed;
 
 /// A token, or a line, stands where the grammar has another or none.
@@ -22,7 +25,7 @@ pub const MEMORY: u8 = 20;
 pub struct ParseFault {
     /// One of the named numbers of this crate.
     pub number: u8,
-    /// The number of the line at fault, or 0 for want of memory.
+    /// The number of the line at fault, or 0 where memory ran out.
     pub line: u32,
 }
 
@@ -36,31 +39,67 @@ pub(crate) enum Fault {
 }
 
 impl Fault {
-    /// This fault, told at a line.
-    pub(crate) fn at(self, line: u32) -> ParseFault {
-        let number = match self {
+    /// This fault of a line, where `left` lines are left from that line on.
+    pub(crate) fn at(self, left: usize) -> Refusal
+        ensures { result ≡ refused_at self left }
+    {
+        Refusal::Fault(self, left)
+    }
+
+    fn number(self) -> u8
+        ensures least { UNEXPECTED_TOKEN ≤ result }
+        ensures greatest { result ≤ MIXTURE }
+    {
+        match self {
             Fault::UnexpectedToken => UNEXPECTED_TOKEN,
             Fault::MissingBody => MISSING_BODY,
             Fault::Nesting => NESTING,
             Fault::Mixture => MIXTURE,
-        };
-        ParseFault { number, line }
+        }
     }
 }
 
-/// Want of memory, which no line is to blame for.
-const OUT_OF_MEMORY: ParseFault = ParseFault {
-    number: MEMORY,
-    line: 0,
-};
+/// Why some lines gave nothing.
+#[derive(Drop)]
+pub(crate) enum Refusal {
+    Memory,
+    /// What is wrong, and how many lines are left from the line at fault on: 0 where a line is missing behind the last.
+    Fault(Fault, usize),
+}
 
-impl<T: Drop> From<AllocFailed<T>> for ParseFault {
-    ghost use Rattle.occam_parser.specs.Told.{out_of_memory};
+impl Refusal {
+    /// This refusal, told at a line. Where a line is missing behind the last, that is told at the last one.
+    pub(crate) fn told(self, lines: &[Line<'_>]) -> ParseFault
+        ensures { IsTold (rows_of lines.now) self result }
+    {
+        match self {
+            Refusal::Memory => ParseFault {
+                number: MEMORY,
+                line: 0,
+            },
+            Refusal::Fault(fault, left) => ParseFault {
+                number: fault.number(),
+                line: number_of(lines, left),
+            },
+        }
+    }
+}
 
-    ghost from_gives = { λ _ e. e ≡ out_of_memory };
+/// The number of the line from which on so many lines are left; that of the last one where none is left.
+fn number_of(lines: &[Line<'_>], left: usize) -> u32
+    ensures { 0 < length lines.now → IsNumbered (rows_of lines.now) result }
+{
+    match lines.get(lines.len().saturating_sub(left.max(1))) {
+        Some(line) => line.number,
+        None => 0,
+    }
+}
 
-    fn from(_e: AllocFailed<T>) -> ParseFault {
-        OUT_OF_MEMORY
+impl<T: Drop> From<AllocFailed<T>> for Refusal {
+    ghost from_gives = { λ _ e. e ≡ OutOfMemory };
+
+    fn from(_e: AllocFailed<T>) -> Refusal {
+        Refusal::Memory
     }
 }
 
@@ -71,14 +110,14 @@ pub(crate) enum LineError {
     Fault(Fault),
 }
 
-/// What a line gave, with an error told at it.
-pub(crate) fn at_line<T>(gave: Result<T, LineError>, line: u32) -> Result<T, ParseFault>
-    ensures { IsToldOf gave result }
+/// What a line gave, from which on `left` lines are left.
+pub(crate) fn at_line<T>(gave: Result<T, LineError>, left: usize) -> Result<T, Refusal>
+    ensures { IsToldOf gave left result }
 {
     match gave {
         Ok(found) => Ok(found),
-        Err(LineError::Memory) => Err(OUT_OF_MEMORY),
-        Err(LineError::Fault(fault)) => Err(fault.at(line)),
+        Err(LineError::Memory) => Err(Refusal::Memory),
+        Err(LineError::Fault(fault)) => Err(fault.at(left)),
     }
 }
 

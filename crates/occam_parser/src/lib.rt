@@ -16,7 +16,7 @@ pub use expression::MAX_NESTING;
 pub use fault::{MEMORY, MISSING_BODY, MIXTURE, NESTING, ParseFault, UNEXPECTED_TOKEN};
 pub use program::parse;
 pub use tree::{
-    Action, Branch, ChainOperator, Choice, Constant, ConstantValue, Construct, Declaration, Expr,
-    Formal, FormalKind, Guard, Item, Names, Operand, Operation, PairOperator, Place,
+    Action, Body, Branch, ChainOperator, Choice, Constant, ConstantValue, Construct, Declaration,
+    Expr, Formal, FormalKind, Guard, Item, Names, Operand, Operation, PairOperator, Place,
     PrefixOperator, Proc, Process, Program, Replicator, ValueType,
 };

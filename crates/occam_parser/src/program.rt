@@ -1,28 +1,28 @@
 //! Programs: constants and procedures.
 
-ghost use Rattle.std.specs.Prelude.{◌≡◌, ◌≤◌, ◌<◌, List, length, map, IfOk};
-ghost use Rattle.occam_parser.specs.Told.{Tells, Answers, as_item};
+ghost use Rattle.std.specs.Prelude.{◌≡◌, ◌≤◌, ◌<◌, List, length, map, IfOk, IfErr};
+ghost use Rattle.occam_parser.specs.Told.{Tells, Answers, IsRefusal, as_item};
 ghost use Rattle.occam_parser.specs.Terminals.{terminals_of};
 ghost use Rattle.occam_parser.specs.Blocks.{Row, ProgramItem, row_of, rows_of, IsProgram};
 ghost use Rattle.occam_parser.specs.BlockReading.{behind_colon, procedure_at, item_at, program_at};
 ghost use Rattle.occam_parser.specs.BlockViews.{item_of, items_of};
 
-use crate::block::{process, push};
+use crate::block::{MAX_LEVEL, process, push};
 use crate::declaration::{constant, proc_head};
-use crate::fault::{Fault, ParseFault, at_line};
+use crate::fault::{Fault, ParseFault, Refusal, at_line};
 use crate::symbol::{Mark, Symbol, behind, first};
 use crate::tree::{Item, Proc, Program};
 use occam_layout::{Line, Token};
 use std::alloc::Global;
 
-/// The lines behind the colon that ends a procedure. Where no line is left for it, that is told at the line `last`.
+/// The lines behind the colon that ends a procedure.
 #[tactic(auto, unfolding(crate::specs::BlockReading::behind_colon))]
-fn behind_colon<'l, 'a>(last: u32, lines: &'l [Line<'a>]) -> Result<&'l [Line<'a>], ParseFault>
+fn behind_colon<'l, 'a>(lines: &'l [Line<'a>]) -> Result<&'l [Line<'a>], Refusal>
     ensures found { Tells (λ rest. rows_of rest.now) result (behind_colon (rows_of lines.now)) }
     ensures within { IfOk result (λ rest. length rest.now ≤ length lines.now) }
 {
     let Some((line, rest)) = lines.split_first() else {
-        return Err(Fault::UnexpectedToken.at(last));
+        return Err(Fault::UnexpectedToken.at(0));
     };
     let is_colon = match behind(Mark::Colon, &line.tokens) {
         Some(after) => line.level == 0 && after.is_empty(),
@@ -30,8 +30,10 @@ fn behind_colon<'l, 'a>(last: u32, lines: &'l [Line<'a>]) -> Result<&'l [Line<'a
     };
     if is_colon {
         Ok(rest)
+    } else if line.level > MAX_LEVEL {
+        Err(Fault::Nesting.at(lines.len()))
     } else {
-        Err(Fault::UnexpectedToken.at(line.number))
+        Err(Fault::UnexpectedToken.at(lines.len()))
     }
 }
 
@@ -39,17 +41,17 @@ fn behind_colon<'l, 'a>(last: u32, lines: &'l [Line<'a>]) -> Result<&'l [Line<'a
 #[tactic(auto, unfolding(crate::specs::BlockReading::procedure_at))]
 fn proc<'l, 'a>(
     alloc: Global,
-    last: u32,
     line: u32,
     tokens: &[Token<'a>],
     lines: &'l [Line<'a>],
-) -> Result<(Item<'a>, &'l [Line<'a>]), ParseFault>
+) -> Result<(Item<'a>, &'l [Line<'a>]), Refusal>
     ensures found { Tells (λ x. (item_of x.0, rows_of x.1.now)) result (as_item (procedure_at line (terminals_of tokens.now) (rows_of lines.now))) }
     ensures within { IfOk result (λ x. length x.1.now ≤ length lines.now) }
 {
-    let head = at_line(proc_head(alloc, tokens), line)?;
-    let (body, rest) = process(alloc, line, 1, lines)?;
-    let rest = behind_colon(last, rest)?;
+    let owner = lines.len() + 1;
+    let head = at_line(proc_head(alloc, tokens), owner)?;
+    let (body, rest) = process(alloc, owner, 1, lines)?;
+    let rest = behind_colon(rest)?;
     Ok((
         Item::Proc(Proc {
             line,
@@ -61,43 +63,42 @@ fn proc<'l, 'a>(
     ))
 }
 
-/// The item that begins with a line, and the lines behind it. The last of all lines is the line `last`.
+/// The item that begins with a line, and the lines behind it.
 #[tactic(auto, unfolding(crate::specs::BlockReading::item_at, crate::specs::BlockReading::item_with))]
 fn item<'l, 'a>(
     alloc: Global,
-    last: u32,
     line: &Line<'a>,
     lines: &'l [Line<'a>],
-) -> Result<(Item<'a>, &'l [Line<'a>]), ParseFault>
+) -> Result<(Item<'a>, &'l [Line<'a>]), Refusal>
     ensures found { Tells (λ x. (item_of x.0, rows_of x.1.now)) result (item_at (row_of line.now) (rows_of lines.now)) }
     ensures within { IfOk result (λ x. length x.1.now ≤ length lines.now) }
 {
+    let left = lines.len() + 1;
+    if line.level > MAX_LEVEL {
+        return Err(Fault::Nesting.at(left));
+    }
     if line.level > 0 {
-        return Err(Fault::UnexpectedToken.at(line.number));
+        return Err(Fault::UnexpectedToken.at(left));
     }
     match first(&line.tokens) {
         Some((Symbol::Mark(Mark::Val), rest)) => {
-            let constant = at_line(constant(alloc, line.number, rest), line.number)?;
+            let constant = at_line(constant(alloc, line.number, rest), left)?;
             Ok((Item::Constant(constant), lines))
         }
-        Some((Symbol::Mark(Mark::Proc), rest)) => proc(alloc, last, line.number, rest, lines),
-        _ => Err(Fault::UnexpectedToken.at(line.number)),
+        Some((Symbol::Mark(Mark::Proc), rest)) => proc(alloc, line.number, rest, lines),
+        _ => Err(Fault::UnexpectedToken.at(left)),
     }
 }
 
 /// The items that some lines are.
 #[tactic(auto, using(crate::proofs::Programs::program_ends, crate::proofs::SeenItems::left_len_is))]
-fn items<'a>(alloc: Global, lines: &[Line<'a>]) -> Result<Vec<Item<'a>>, ParseFault>
+fn items<'a>(alloc: Global, lines: &[Line<'a>]) -> Result<Vec<Item<'a>>, Refusal>
     ensures { Tells (λ v. map item_of v.items) result (program_at (rows_of lines.now)) }
 {
-    let last = match lines.last() {
-        Some(line) => line.number,
-        None => 0,
-    };
     let mut found = Vec::new(alloc);
     let mut next = lines.split_first();
     while let Some((line, after)) = next {
-        let rest = push(&mut found, item(alloc, last, line, after))?;
+        let rest = push(&mut found, item(alloc, line, after))?;
         next = rest.split_first();
     }
     Ok(found)
@@ -110,17 +111,20 @@ fn items<'a>(alloc: Global, lines: &[Line<'a>]) -> Result<Vec<Item<'a>>, ParseFa
 /// another or none; [`MISSING_BODY`](crate::MISSING_BODY) at a head that has no body; [`NESTING`](crate::NESTING) at a
 /// line that is more than [`MAX_LEVEL`](crate::MAX_LEVEL) levels deep, or that has an expression with more than
 /// [`MAX_NESTING`](crate::MAX_NESTING) brackets, subscripts and conversions one in another; and
-/// [`MIXTURE`](crate::MIXTURE) where operators stand side by side without brackets. Want of memory is
-/// [`MEMORY`](crate::MEMORY) at line 0.
+/// [`MIXTURE`](crate::MIXTURE) where operators stand side by side without brackets. Where memory runs out,
+/// it is [`MEMORY`](crate::MEMORY) at line 0.
 pub fn parse<'a>(alloc: Global, lines: &[Line<'a>]) -> Result<Program<'a>, ParseFault>
     // What is answered is the program that the lines are.
     ensures found { IfOk result (λ p. IsProgram (rows_of lines.now) (items_of p)) }
     // Lines that are a program are read, unless memory runs out.
     ensures only { (items : List ProgramItem) → IsProgram (rows_of lines.now) items → Answers items_of result items }
+    // A refusal is a lack of memory, or one of the faults at one of the lines.
+    ensures refused { IfErr result (λ fault. IsRefusal (rows_of lines.now) fault) }
     // No lines are two programs.
     ensures unique { (rows : List Row) (items others : List ProgramItem) → IsProgram rows items → IsProgram rows others → items ≡ others }
 {
-    Ok(Program {
-        items: items(alloc, lines)?,
-    })
+    match items(alloc, lines) {
+        Ok(items) => Ok(Program { items }),
+        Err(refusal) => Err(refusal.told(lines)),
+    }
 }

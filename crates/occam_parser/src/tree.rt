@@ -112,27 +112,30 @@ pub struct Names<'a> {
     pub names: Vec<&'a [u8]>,
 }
 
-/// What a process does. Under a replicator stands exactly one component.
+/// What a process does.
 #[cycle(process)]
 #[derive(Drop)]
 pub enum Construct<'a> {
     Action(Action<'a>),
-    Seq {
-        replicator: Option<Replicator<'a>>,
-        components: Vec<Process<'a>>,
+    Seq(Vec<Process<'a>>),
+    Par(Vec<Process<'a>>),
+    If(Vec<Choice<'a>>),
+    Alt(Vec<Branch<'a>>),
+    /// `SEQ i = base FOR count` and its kin.
+    Replicated {
+        replicator: Replicator<'a>,
+        body: Body<'a>,
     },
-    Par {
-        replicator: Option<Replicator<'a>>,
-        components: Vec<Process<'a>>,
-    },
-    If {
-        replicator: Option<Replicator<'a>>,
-        choices: Vec<Choice<'a>>,
-    },
-    Alt {
-        replicator: Option<Replicator<'a>>,
-        branches: Vec<Branch<'a>>,
-    },
+}
+
+/// The one component under a replicator, by the kind of the block.
+#[cycle(process)]
+#[derive(Drop)]
+pub enum Body<'a> {
+    Seq(Process<'a>),
+    Par(Process<'a>),
+    If(Choice<'a>),
+    Alt(Branch<'a>),
 }
 
 /// What stands on one line and has no body.

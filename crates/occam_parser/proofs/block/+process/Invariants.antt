@@ -1,28 +1,66 @@
-use Rattle.std.proofs.Common.{◌≡◌, ◌+◌, ◌-◌, ◌*◌, ◌≤◌, length, Some}
+use Rattle.std.proofs.Common.{◌≡◌, ◌+◌, ◌-◌, ◌*◌, ◌≤◌, length}
 use Rattle.occam_parser.specs.Blocks.{rows_of}
-use Rattle.occam_parser.specs.BlockReading.{wants, count_of, component_at}
-use Rattle.occam_parser.specs.BlockViews.{kind_of, components_in}
-use Rattle.occam_parser.proofs.Turns.{ContinuesBlock}
+use Rattle.occam_parser.specs.BlockReading.{begins_at}
+use Rattle.occam_parser.specs.BlockViews.{all_processes, all_choices, all_branches}
+use Rattle.occam_parser.proofs.Taken.{Continues}
 use Rattle.occam_parser.proofs.block.+process.Given as goal
 
 abbrev pub decreases-process : goal.decreases-process
-decreases-process l = 3 * (66 - l.level)
+decreases-process l = 5 * (66 - l.level)
 
-abbrev pub decreases-components : goal.decreases-components
-decreases-components l = 3 * (66 - l.level) + 2
+abbrev pub decreases-block : goal.decreases-block
+decreases-block l = 5 * (66 - l.level) + 3
 
-abbrev pub decreases-component : goal.decreases-component
-decreases-component l = 3 * (66 - l.level) + 1
+abbrev pub decreases-replicated : goal.decreases-replicated
+decreases-replicated l = 5 * (66 - l.level) + 3
 
-abbrev pub invariant-components-loop-goes_on : goal.invariant-components-loop-goes_on
-invariant-components-loop-goes_on l =
-    let item = component_at (65 - l.level) l.level (kind_of l.fn.found) in
+abbrev pub decreases-body : goal.decreases-body
+decreases-body l = 5 * (66 - l.level) + 2
+
+abbrev pub decreases-processes : goal.decreases-processes
+decreases-processes l = 5 * (66 - l.level) + 2
+
+abbrev pub decreases-choices : goal.decreases-choices
+decreases-choices l = 5 * (66 - l.level) + 2
+
+abbrev pub decreases-choice : goal.decreases-choice
+decreases-choice l = 5 * (66 - l.level) + 1
+
+abbrev pub decreases-branches : goal.decreases-branches
+decreases-branches l = 5 * (66 - l.level) + 2
+
+abbrev pub decreases-branch : goal.decreases-branch
+decreases-branch l = 5 * (66 - l.level) + 1
+
+abbrev pub invariant-processes-loop-goes_on : goal.invariant-processes-loop-goes_on
+invariant-processes-loop-goes_on l =
     record {
       within : length l.rest ≤ length l.lines;
-      kind : kind_of l.found ≡ kind_of l.fn.found;
-      wanted : wants l.level l.single (count_of (components_in l.found)) (rows_of l.rest) ≡ Some l.goes_on;
-      reads : ContinuesBlock item l.level l.single (rows_of l.lines) (components_in l.found) (rows_of l.rest);
+      begins : l.goes_on ≡ begins_at l.level (rows_of l.rest);
+      reads : Continues l.level (rows_of l.lines) (all_processes l.found.items) l.rest;
     }
 
-abbrev pub decreases-components-loop-goes_on : goal.decreases-components-loop-goes_on
-decreases-components-loop-goes_on l = length l.rest
+abbrev pub decreases-processes-loop-goes_on : goal.decreases-processes-loop-goes_on
+decreases-processes-loop-goes_on l = length l.rest
+
+abbrev pub invariant-choices-loop-goes_on : goal.invariant-choices-loop-goes_on
+invariant-choices-loop-goes_on l =
+    record {
+      within : length l.rest ≤ length l.lines;
+      begins : l.goes_on ≡ begins_at l.level (rows_of l.rest);
+      reads : Continues l.level (rows_of l.lines) (all_choices l.found.items) l.rest;
+    }
+
+abbrev pub decreases-choices-loop-goes_on : goal.decreases-choices-loop-goes_on
+decreases-choices-loop-goes_on l = length l.rest
+
+abbrev pub invariant-branches-loop-goes_on : goal.invariant-branches-loop-goes_on
+invariant-branches-loop-goes_on l =
+    record {
+      within : length l.rest ≤ length l.lines;
+      begins : l.goes_on ≡ begins_at l.level (rows_of l.rest);
+      reads : Continues l.level (rows_of l.lines) (all_branches l.found.items) l.rest;
+    }
+
+abbrev pub decreases-branches-loop-goes_on : goal.decreases-branches-loop-goes_on
+decreases-branches-loop-goes_on l = length l.rest

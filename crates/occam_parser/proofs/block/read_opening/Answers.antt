@@ -18,7 +18,7 @@ returns-in_err-line-clause-found c =
 pub returns-in-Start-clause-found : goal.returns-in-Start-clause-found
 returns-in-Start-clause-found c =
     let l = c.loop-declarations in
-    let head = rw c.in-Start.is at (told_found head_of c.head_of.result c.in_ok-head.head
+    let head = rw c.in-Start.is at (told_found head_of c.head_of.result _ c.in_ok-head.head
     (head_at l.line.now.number (terminals_of l.line.now.tokens.items)) c.in_ok-head.ensures c.head_of.ensures) in
     l.invariant.reads ∙ opening_starts c.args.level (map declaration_of l.declarations.items) (row_of l.line.now)
     (rows_of l.rest.now) c.in-Start.start l.invariant.at head
@@ -28,7 +28,7 @@ returns-in_err-head-clause-found c =
     let l = c.loop-declarations in
     let p = err_from_is_err_and c.from_residual-in_err-head.result c.from_residual-in_err-head.ensures.1 in
     rw (p.1, p.2)
-    (told_lost head_of c.head_of.result _ (head_at l.line.now.number (terminals_of l.line.now.tokens.items)) _
+    (told_lost head_of c.head_of.result _ _ (head_at l.line.now.number (terminals_of l.line.now.tokens.items)) _
     c.in_err-head.ensures c.head_of.ensures
     (λ none. l.invariant.reads ∙ opening_fails c.args.level (map declaration_of l.declarations.items)
     (row_of l.line.now) (rows_of l.rest.now) l.invariant.at none))
@@ -37,7 +37,7 @@ pub returns-in_err-line-2-clause-found : goal.returns-in_err-line-2-clause-found
 returns-in_err-line-2-clause-found c =
     let l = c.loop-declarations in
     let d = declaration_of c.in-Declaration.declaration in
-    let head = rw c.in-Declaration.is at (told_found head_of c.head_of.result c.in_ok-head.head
+    let head = rw c.in-Declaration.is at (told_found head_of c.head_of.result _ c.in_ok-head.head
     (head_at l.line.now.number (terminals_of l.line.now.tokens.items)) c.in_ok-head.ensures c.head_of.ensures) in
     let p = err_from_is_err_and c.from_residual-in_err-line-2.result c.from_residual-in_err-line-2.ensures.1 in
     let before = l.invariant.reads ∙ opening_declares c.args.level (map declaration_of l.declarations.items)
@@ -49,7 +49,7 @@ pub loop-declarations-preserved : goal.loop-declarations-preserved
 loop-declarations-preserved c =
     let l = c.loop-declarations in
     let d = declaration_of c.in-Declaration.declaration in
-    let head = rw c.in-Declaration.is at (told_found head_of c.head_of.result c.in_ok-head.head
+    let head = rw c.in-Declaration.is at (told_found head_of c.head_of.result _ c.in_ok-head.head
     (head_at l.line.now.number (terminals_of l.line.now.tokens.items)) c.in_ok-head.ensures c.head_of.ensures) in
     let before = l.invariant.reads ∙ opening_declares c.args.level (map declaration_of l.declarations.items)
     (row_of l.line.now) (rows_of l.rest.now) d l.invariant.at head in

@@ -1,25 +1,29 @@
 use Rattle.std.proofs.Common.{◌∙◌, sym}
-use Rattle.std.proofs.lemmas.Result.{err_from_is_err_and}
 use Rattle.occam_parser.specs.Blocks.{rows_of}
-use Rattle.occam_parser.proofs.Programs.{program_sound, program_again, one_program}
-use Rattle.occam_parser.proofs.Answering.{told_of_program}
+use Rattle.occam_parser.proofs.Programs.{program_sound, program_again, one_program, no_rows}
+use Rattle.occam_parser.proofs.Answering.{told_of_program, refused_so}
 use Rattle.occam_parser.proofs.program.parse.Goals as goal
 
-pub returns-clause-found : goal.returns-clause-found
-returns-clause-found c = program_sound (rows_of c.args.lines.now) _ c.in_ok-items.ensures
+pub returns-in-Ok-clause-found : goal.returns-in-Ok-clause-found
+returns-in-Ok-clause-found c = program_sound (rows_of c.args.lines.now) _ c.in-Ok.ensures
 
-pub returns-clause-only : goal.returns-clause-only
-returns-clause-only c items is =
-    let same = sym c.in_ok-items.ensures ∙ program_again (rows_of c.args.lines.now) items is in
+pub returns-in-Ok-clause-only : goal.returns-in-Ok-clause-only
+returns-in-Ok-clause-only c items is =
+    let same = sym c.in-Ok.ensures ∙ program_again (rows_of c.args.lines.now) items is in
     cc
 
-pub returns-clause-unique : goal.returns-clause-unique
-returns-clause-unique c = one_program
+pub returns-in-Ok-clause-unique : goal.returns-in-Ok-clause-unique
+returns-in-Ok-clause-unique c = one_program
 
-pub returns-in_err-items-clause-only : goal.returns-in_err-items-clause-only
-returns-in_err-items-clause-only c items is =
-    let p = err_from_is_err_and c.from_residual.result c.from_residual.ensures.1 in
-    rw (p.1, p.2) (told_of_program _ _ items (program_again (rows_of c.args.lines.now) items is) c.in_err-items.ensures)
+pub returns-in-Err-clause-only : goal.returns-in-Err-clause-only
+returns-in-Err-clause-only c items is =
+    told_of_program (rows_of c.args.lines.now) c.in-Err.refusal c.told.result _ items
+    (program_again (rows_of c.args.lines.now) items is) c.in-Err.ensures c.told.ensures
 
-pub returns-in_err-items-clause-unique : goal.returns-in_err-items-clause-unique
-returns-in_err-items-clause-unique c = one_program
+pub returns-in-Err-clause-refused : goal.returns-in-Err-clause-refused
+returns-in-Err-clause-refused c =
+    refused_so (rows_of c.args.lines.now) c.in-Err.refusal c.told.result _ (no_rows (rows_of c.args.lines.now))
+    c.in-Err.ensures c.told.ensures
+
+pub returns-in-Err-clause-unique : goal.returns-in-Err-clause-unique
+returns-in-Err-clause-unique c = one_program
