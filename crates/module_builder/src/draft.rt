@@ -4,9 +4,8 @@ ghost use Rattle.std.specs.Prelude.{◌≡◌, ◌≤◌, ◌++◌, ◌∷◌, [
 ghost use Rattle.std.specs.Prelude.{slice_index_or};
 ghost use Rattle.module_builder.specs.Drafts.{target, IsMade, IsPlaced, OfItem, IsComplete};
 
-use crate::fault::GenFault;
 use crate::item::{Item, Label, Operand};
-use std::alloc::Global;
+use std::alloc::{AllocError, Global};
 use std::marker::Model;
 
 /// Instructions over labels.
@@ -40,7 +39,7 @@ impl Draft {
     }
 
     /// Makes a label, which is not placed.
-    pub fn label(&mut self) -> Result<Label, GenFault>
+    pub fn label(&mut self) -> Result<Label, AllocError>
         ensures made { IfOk result (λ label. (label.index ≡ length self.old.labels) × (self.new ≡ record self.old { labels = self.old.labels ++ None ∷ [] })) }
         ensures err { OnErr result (self.new ≡ self.old) }
     {
@@ -66,7 +65,7 @@ impl Draft {
     }
 
     /// Adds an item.
-    pub fn push(&mut self, item: Item) -> Result<(), GenFault>
+    pub fn push(&mut self, item: Item) -> Result<(), AllocError>
         requires { OfItem (IsMade self.old) item }
         ensures ok { IfOk result (λ _. self.new ≡ record self.old { items = self.old.items ++ item ∷ [] }) }
         ensures err { OnErr result (self.new ≡ self.old) }
