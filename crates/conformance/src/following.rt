@@ -173,6 +173,12 @@ fn put_successors(successors: &Successors, out: &mut Answer) {
             out.put("leads ");
             out.number(i64::from(*to));
         }
+        Successors::FallsOrLeads(state, to) => {
+            out.put("falls");
+            put_state(state, out);
+            out.put(" or leads ");
+            out.number(i64::from(*to));
+        }
         Successors::Ends => out.put("ends"),
     }
 }

@@ -17,7 +17,6 @@ use Rattle.module_format.specs.declared.rows.Entry.{Entry}
 use Rattle.module_format.specs.Order.{least_word}
 use Rattle.module_format.specs.Facts.{end_of}
 use Rattle.module_format.specs.Contents.{Contents, Label, label_at}
-use Rattle.certificate.specs.Rights.{may_write_word, may_read_word}
 use Rattle.machine_state.specs.declared.process.Mode as machine
 use Rattle.machine_state.specs.Holding.{Holding}
 use Rattle.machine_state.specs.Site.{Local}
@@ -36,7 +35,7 @@ use Rattle.states.specs.Below.{entries_hold, are_alike, is_whole, is_plain, view
 use Rattle.states.specs.Rows.{IsRowOf, LoopFits, rise_from}
 use Rattle.facts.specs.Meaning.{Layout, Activation, with_turns, Means, says_nothing, is_number, is_pointer}
 use Rattle.facts.specs.Meaning.{is_code_address, word_of, region_start, code_address, IsOffset, MeansWord, is_fact}
-use Rattle.facts.specs.Meaning.{is_index, is_count, frame_word, Words, words_of, HasFrame, from_nowhere, MeansKnown}
+use Rattle.facts.specs.Meaning.{is_index, is_count, frame_word, Words, words_in, words_of, HasFrame, from_nowhere, MeansKnown}
 use Rattle.facts.specs.Meaning.{SameMode, both_plain, turns_from, label_turns, at_label, IsSpan, ArePairs, IsWellFormed}
 use Rattle.states.proofs.RowFacts.{and-parts, le-from, lt-from, rise-parts, about-within, about-behind}
 use Rattle.facts.specs.Regions.{scope_of, HoldsNamed}
@@ -413,10 +412,7 @@ label_after m h mode act s t l wf at e g a = record {
 }
   where
     same_words : words_of m s ≡ words_of m (label_state t)
-    same_words = ap (λ (n : ℕ). in_context n) g.context
-      where
-        in_context : ℕ → Words
-        in_context n = record { writes = may_write_word m n; reads = may_read_word m n }
+    same_words = ap (λ (n : ℕ). words_in m n) g.context
 
     register : (f : Known) (wanted : Fact) (v : Option ℤ) → implies f.fact wanted ≡ true
         → MeansKnown m (words_of m s).reads act.layout l.memory f v

@@ -5,4 +5,6 @@ pub mod Regions
 pub mod Results
 pub mod Entering
 pub mod Dues
+pub mod Combining
+pub mod WordsFit
 pub mod Local

@@ -1,535 +1,82 @@
 -- The rule of an instruction and its step fit each other: where the rule is not broken, the step is no fault, and what
 -- the rule says of the state behind holds.
-use Rattle.std.proofs.Common.{lit<, ◌≡◌, ℕ, ◌+◌, ◌-◌, ◌≤◌, ◌<◌, ℤ, pos, negsuc, ◌+ℤ◌, FitsSigned, Bool, true, false}
-use Rattle.std.proofs.Common.{cond, if◌then◌else◌, ◌&&◌, ◌||◌, suc, inl, inr, length, Option, Some, None, Result, Ok}
-use Rattle.std.proofs.Common.{Err, refl, sym, ap, ◌∙◌, subst, arith, ltb}
-use Rattle.std.proofs.lemmas.Bool.Decides.{leb_tells}
-use Rattle.std.proofs.lemmas.Int.{ints}
+use Rattle.std.proofs.Common.{◌≡◌, ◌+◌, ◌≤◌, ◌-◌, ℤ, pos, negsuc, FitsSigned, Option, Some, None, arith}
 use Rattle.std.specs.Int.{w32}
-use Rattle.std.specs.List.{list_any}
 use Rattle.prefix_decoder.specs.declared.function.Fun.{Fun}
-use Rattle.word_arithmetic.specs.declared.binary.Binary.{Binary as BinaryOperation}
-use Rattle.word_arithmetic.specs.Word.{least_word}
-use Rattle.module_format.specs.declared.fact.Fact.{Fact}
-use Rattle.module_format.specs.declared.fact.Fact.TheVariants.{Unknown, Number, Pointer, CodeAddress, Loop}
-use Rattle.module_format.specs.declared.fact.Fact.TheVariants.{ReturnAddress}
-use Rattle.module_format.specs.declared.stack.Stack.{Stack}
-use Rattle.module_format.specs.Stack.{AreRelated}
-use Rattle.module_format.specs.Contents.{Contents, Label, label_at}
-use Rattle.module_format.specs.Contents.{Par, Branch}
-use Rattle.certificate.specs.Branches.{numbered_branch}
-use Rattle.certificate.specs.Rights as rights
-use Rattle.machine_state.specs.declared.process.Mode as machine
-use Rattle.machine_state.specs.declared.process.Mode.TheVariants as machine_modes
 use Rattle.machine_state.specs.declared.op.Op.{Op}
 use Rattle.machine_state.specs.declared.op.Op.TheVariants as operations
 use Rattle.machine_state.specs.declared.instruction.Instruction.{Instruction}
 use Rattle.machine_state.specs.declared.instruction.Instruction.TheVariants as instructions
 use Rattle.machine_state.specs.Instructions.{instruction_of}
-use Rattle.machine_state.specs.declared.fault.FaultKind.TheVariants.{OutsideCode}
-use Rattle.machine_state.specs.Memory.{Memory, place_of, local_address, word_at, with_word}
-use Rattle.machine_state.specs.Holding.{Holding, covers, may_write, may_read, may_write_word, may_read_word}
 use Rattle.machine_state.specs.LocalStep as step
-use Rattle.machine_state.specs.Site.{Outcome, jumps, fails, Local}
 use Rattle.machine_state.specs.LocalStep.{target}
-use Rattle.machine_state.proofs.Reading.{length-with_word}
-use Rattle.machine_state.proofs.Frame.{write_is_own, changes_more}
-use Rattle.states.specs.declared.known.Mode as states
-use Rattle.states.specs.declared.known.Mode.TheVariants as states_modes
-use Rattle.states.specs.declared.known.Known.{Known}
-use Rattle.states.specs.declared.rule.Rule.{Rule}
-use Rattle.states.specs.declared.rule.Rule.TheVariants as rules
-use Rattle.states.specs.declared.known.WordFact.{WordFact}
-use Rattle.states.specs.State.{State, unknown, plain, one_word, written, known}
-use Rattle.states.specs.Below.{below}
-use Rattle.states.proofs.RowFacts.{and-parts}
-use Rattle.facts.specs.Regions.{scope_of}
-use Rattle.facts.proofs.Regions.{keeps_more, write_keeps}
-use Rattle.facts.specs.Rules as rule
-use Rattle.facts.specs.Rules.{Ruling, falls, leads, ends, breaks}
-use Rattle.facts.specs.Meaning.{Layout, Activation, Means, says_nothing, is_number, frame_word, IsOwnWord, Words}
-use Rattle.facts.specs.Meaning.{words_of, HasFrame, ComesFrom, from_nowhere, from_word, MeansWord, MeansKnown}
-use Rattle.facts.specs.Meaning.{IsWellFormed, SameMode, both_plain, dues, owed, label_turns}
-use Rattle.facts.specs.Fitting.{Changes, After, Here, rule_site, step_site, Fits, it_falls, it_leads, it_ends}
-use Rattle.facts.specs.Fitting.{it_breaks}
-use Rattle.facts.specs.Fitting.{HasNext, RulesFitSteps}
-use Rattle.facts.proofs.Words.{local_place, frame_word_is, stored_means, plain_means, knows_changed, write_follows}
-use Rattle.facts.proofs.Results.{ResultMeans, result_means, unary_result_means}
-use Rattle.facts.proofs.Entering.{below_tells, label_after}
-use Rattle.facts.proofs.Dues.{changed_dues, written_owed, label_owed}
+use Rattle.machine_state.specs.Site.{Local}
+use Rattle.states.specs.State.{State}
+use Rattle.facts.specs.Rulings as rule
+use Rattle.facts.specs.Rules as table
+use Rattle.facts.specs.Meaning.{owed, IsWellFormed}
+use Rattle.facts.specs.Fitting.{Changes, After, Here, rule_site, step_site, it_ends, it_breaks, RulesFitSteps}
+use Rattle.facts.proofs.Combining.{FitsIf, unknown_means, schedules_fits, leads_fits, in_plain_rule, beside_plain_rule}
+use Rattle.facts.proofs.Combining.{in_plain_step, after_stack, pays_fits}
+use Rattle.facts.proofs.WordsFit.{ldc_fits, ldl_fits, stl_fits, constant_fits, reverse_fits, mint_fits, binary_fits}
+use Rattle.facts.proofs.WordsFit.{unary_fits}
 
-abbrev pub FitsIf : Here → Ruling → Outcome → Type 0
-FitsIf x r o = HasNext x r → Fits x r o
+module _ (x : Here) (wf : IsWellFormed x.m) (s : State) (l : Local) (a : After x.m x.h x.mode x.act s l)
+    (same : s.context ≡ x.context) (changes : Changes x l.memory) (n : owed s x.act ≤ x.owed) where
+  j_fits : (e : ℤ) → FitsSigned w32 e
+      → FitsIf x (table.instruction_rule (rule_site x) instructions.Jump e s)
+      (step.instruction_step (step_site x) instructions.Jump e l)
+  unfolding table.instruction_rule step.instruction_step rule.forward
+  j_fits (negsuc k) fits = in_plain_rule x s a.same_mode _ _ (λ next. it_breaks)
+  j_fits (pos k) fits =
+      in_plain_step x s a.same_mode _ _ (in_plain_rule x s a.same_mode _ _ (beside_plain_rule x s a.same_mode _ _
+      (schedules_fits x s l _ _ a same changes (λ s' memory b same' c e.
+      pays_fits x s' _ _ (omega (arith, e, n)) (λ left.
+      leads_fits x wf (target (x.at + x.len) (pos k))
+      (rule.without_registers (record s' { number = s'.number - x.len }))
+      (step.without_registers (record l { memory = memory }))
+      (after_stack x b (record { a = unknown_means; b = unknown_means; c = unknown_means })) same' c left)))))
 
-or_true : (a b : Bool) → a ≡ true → (a || b) ≡ true
-or_true true b h = refl
-or_true false b h = absurd (cc)
+  stop_fits : FitsIf x (table.operation_rule (rule_site x) operations.StopProcess s)
+      (step.operation_step (step_site x) operations.StopProcess l)
+  unfolding table.operation_rule step.operation_step
+  stop_fits =
+      in_plain_step x s a.same_mode _ _ (in_plain_rule x s a.same_mode _ _ (beside_plain_rule x s a.same_mode _ _
+      (schedules_fits x s l _ _ a same changes
+      (λ s' memory b same' c e. pays_fits x s' _ _ (omega (arith, e, n)) (λ left next. it_ends c (omega arith))))))
 
-and_both : (a b : Bool) → a ≡ true → b ≡ true → (a && b) ≡ true
-and_both true true h g = refl
-and_both true false h g = absurd (cc)
-and_both false b h g = absurd (cc)
+  operation_fits : (op : Op) → FitsIf x (table.operation_rule (rule_site x) op s)
+      (step.operation_step (step_site x) op l)
+  unfolding table.operation_rule
+  operation_fits operations.Reverse = reverse_fits x s l a same changes n
+  operation_fits operations.MinimumInteger = mint_fits x s l a same changes n
+  operation_fits operations.StopProcess = stop_fits
+  operation_fits (operations.Binary op) = binary_fits x s l a same changes n op
+  operation_fits (operations.Unary op) = unary_fits x s l a same changes n op
+  operation_fits _ = λ next. it_breaks
 
-wider : (a b c d p q r t : Bool) → (a && b && c && d) ≡ true → ((a || p) && (b || q) && (c || r) && (d || t)) ≡ true
-wider true true true true p q r t h = refl
-wider true true true false p q r t h = absurd (cc)
-wider true true false d p q r t h = absurd (cc)
-wider true false c d p q r t h = absurd (cc)
-wider false b c d p q r t h = absurd (cc)
+  instruction_fits : (i : Instruction) (e : ℤ) → FitsSigned w32 e
+      → FitsIf x (table.instruction_rule (rule_site x) i e s)
+      (step.instruction_step (step_site x) i e l)
+  unfolding table.instruction_rule step.instruction_step
+  instruction_fits instructions.LoadConstant e fits = ldc_fits x s l a same changes n e fits
+  instruction_fits instructions.LoadLocal e fits = ldl_fits x s l a same changes n e fits
+  instruction_fits instructions.StoreLocal e fits = stl_fits x s l a same changes n e fits
+  instruction_fits (instructions.WithConstant op) e fits = constant_fits x s l a same changes n op e fits
+  instruction_fits instructions.Jump e fits = j_fits e fits
+  instruction_fits (instructions.Operate op) e fits = operation_fits op
+  instruction_fits _ e fits = λ next. it_breaks
 
-pub readable_byte : (h : Holding) (place : ℕ) → may_write h place ≡ true → may_read h place ≡ true
-readable_byte h place mine = or_true (may_write h place) (list_any (λ span. covers span place) h.reads) mine
+  option_fits : (i : Option Instruction) (e : ℤ) → FitsSigned w32 e
+      → FitsIf x (table.rule_of (rule_site x) i e s) (step.step_of (step_site x) i e l)
+  unfolding table.rule_of step.step_of
+  option_fits None e fits = λ next. it_breaks
+  option_fits (Some i) e fits = instruction_fits i e fits
 
-pub readable : (h : Holding) (place : ℕ) → may_write_word h place ≡ true → may_read_word h place ≡ true
-unfolding may_write_word may_read_word
-readable h place mine =
-    let reads : ℕ → Bool = λ place. list_any (λ span. covers span place) h.reads in
-    wider (may_write h place) (may_write h (place + 1)) (may_write h (place + 2)) (may_write h (place + 3))
-    (reads place) (reads (place + 1)) (reads (place + 2)) (reads (place + 3)) mine
-
--- a word of the frame that may be written may be read
-written_readable : (m : Contents) (n : ℕ) (k : ℤ) → rights.may_write_word m n k ≡ true
-    → rights.may_read_word m n k ≡ true
-written_readable m n k h =
-    let both = and-parts _ _ h in
-    and_both _ _ both.0 (of_branch (numbered_branch m n) both.1)
-  where
-    of_branch : (o : Option (Par × Branch))
-        → (elim o as (λ o. Bool) [ None ↦ true | Some found ↦ rights.is_among found.1.writes k ]) ≡ true
-        → (elim o as (λ o. Bool) [
-          | None ↦ true
-          | Some found ↦ rights.is_among found.1.writes k
-              || rights.is_among found.1.reads k
-        ]) ≡ true
-    of_branch None h = refl
-    of_branch (Some found) h = or_true (rights.is_among found.1.writes k) (rights.is_among found.1.reads k) h
-
-pub same_frame : {h : Holding} {old new : ℕ} {words : Words} {origin depth : ℤ} {workspace : ℕ} → old ≡ new
-    → HasFrame h old words origin depth workspace → HasFrame h new words origin depth workspace
-same_frame {h} {old} {new} {words} {origin} {depth} {workspace} e f =
-    subst (λ size. HasFrame h size words origin depth workspace) e f
-
-enough : (n k due total : ℕ) → ltb n k ≡ false → n + due ≤ total → n - k + due + k ≤ total
-enough n k due total t e = elim (leb_tells (suc n) k) [
-  | inl p ↦ let no' : true ≡ false = sym p.0 ∙ t in absurd
-      (cc)
-  | inr p ↦ let high : k ≤ n = omega (arith, p.1) in omega arith
-]
-
-below_not : (a b : ℕ) → a < b → ltb a b ≡ false → ⊥
-below_not a b low t = elim (leb_tells (suc a) b) [
-  | inl p ↦ let no' : true ≡ false = sym p.0 ∙ t in (cc)
-  | inr p ↦
-      let high : b < suc a = p.1 in omega arith
-]
-
--- ---- what holds behind an instruction, where it changes one thing
-
--- the number
-paid : {m : Contents} {h : Holding} {mode : machine.Mode} {act : Activation} {s : State} {l : Local} {n : ℕ}
-    → After m h mode act s l → After m h mode act (record s { number = n }) l
-paid a = record { frame = a.frame; knows = a.knows; named = a.named; same_mode = a.same_mode }
-
--- the place in the code
-pub elsewhere : {m : Contents} {h : Holding} {mode : machine.Mode} {act : Activation} {s : State} {l : Local}
-    (at began : ℕ) (operand : ℤ) → After m h mode act s l
-    → After m h mode act s (record l { registers = record l.registers { at = at; began = began; operand = operand } })
-elsewhere at began operand a =
-    record { frame = a.frame; knows = a.knows; named = a.named; same_mode = a.same_mode }
-
--- ---- registers
-
-unknown_means : {m : Contents} {counts : ℤ → Bool} {layout : Layout} {memory : Memory} {v : Option ℤ}
-    → MeansKnown m counts layout memory unknown v
-unknown_means = record { fact = says_nothing; source = from_nowhere }
-
--- what is loaded comes from its word, if it is a number
-loaded_source : {counts : ℤ → Bool} {memory : Memory} {origin : ℤ} {v : Option ℤ} (k : ℤ) (f : Fact) → counts k ≡ true
-    → v ≡ frame_word memory origin k → ComesFrom counts memory origin (rule.source_of k f) v
-loaded_source k (Number lo hi) inside is = from_word inside is
-loaded_source k Unknown inside is = from_nowhere
-loaded_source k (Pointer region lo hi step) inside is = from_nowhere
-loaded_source k (CodeAddress offset) inside is = from_nowhere
-loaded_source k (Loop base count weight) inside is = from_nowhere
-loaded_source k ReturnAddress inside is = from_nowhere
-
-loaded_means : (m : Contents) (counts : ℤ → Bool) (act : Activation) (k : ℤ) (f : WordFact) (memory : Memory)
-    (v : Option ℤ) → counts k ≡ true → MeansWord m act k f (frame_word memory act.layout.origin k)
-    → frame_word memory act.layout.origin k ≡ v → MeansKnown m counts act.layout memory (rule.loaded k f) v
-loaded_means m counts act k f memory v inside means is = record {
-  fact = subst (λ (x : Option ℤ). Means m act.layout (plain f) x) is (plain_means m act k f _ means);
-  source = loaded_source k (plain f) inside (sym is);
-}
-
--- ---- modes
-
-rule_plain : {p : states.Mode} {q : machine.Mode} → SameMode p q → p ≡ states_modes.Plain
-rule_plain both_plain = refl
-
-step_plain : {p : states.Mode} {q : machine.Mode} → SameMode p q → q ≡ machine_modes.Plain
-step_plain both_plain = refl
-
-module _ (x : Here) where
-  on_rule_test : (b : Bool) (one other : Ruling) (o : Outcome) → (b ≡ true → FitsIf x one o)
-      → (b ≡ false → FitsIf x other o) → FitsIf x (cond b one other) o
-  on_rule_test true one other o f g = f refl
-  on_rule_test false one other o f g = g refl
-
-  on_step_test : (b : Bool) (r : Ruling) (one other : Outcome) → (b ≡ true → FitsIf x r one)
-      → (b ≡ false → FitsIf x r other) → FitsIf x r (cond b one other)
-  on_step_test true r one other f g = f refl
-  on_step_test false r one other f g = g refl
-
-  -- ---- one lemma for each pair of combinators
-
-  uses_fact : (fact : Fact) (v : Option ℤ) (r : Ruling) (o : ℤ → Outcome) → Means x.m x.act.layout fact v
-      → ((a : ℤ) → Means x.m x.act.layout fact (Some a) → FitsIf x r (o a))
-      → FitsIf x (elim fact as (λ f. Ruling) [ Unknown ↦ breaks rules.UnknownRegister | _ ↦ r ]) (step.uses v o)
-  unfolding step.uses
-  uses_fact Unknown v r o means go = λ next. it_breaks
-  uses_fact (Number lo hi) None r o means go = elim means [ ]
-  uses_fact (Number lo hi) (Some a) r o means go = go a means
-  uses_fact (Pointer region lo hi step) None r o means go = elim means [ ]
-  uses_fact (Pointer region lo hi step) (Some a) r o means go = go a means
-  uses_fact (CodeAddress offset) None r o means go = elim means [ ]
-  uses_fact (CodeAddress offset) (Some a) r o means go = go a means
-  uses_fact (Loop base count weight) v r o means go = elim means [ ]
-  uses_fact ReturnAddress None r o means go = elim means [ ]
-  uses_fact ReturnAddress (Some a) r o means go = go a means
-
-  uses_fits : {counts : ℤ → Bool} {memory : Memory} (k : Known) (v : Option ℤ) (r : Fact → Ruling) (o : ℤ → Outcome)
-      → MeansKnown x.m counts x.act.layout memory k v
-      → ((a : ℤ) → Means x.m x.act.layout k.fact (Some a) → FitsIf x (r k.fact) (o a))
-      → FitsIf x (rule.uses k r) (step.uses v o)
-  unfolding rule.uses
-  uses_fits k v r o means go = uses_fact k.fact v (r k.fact) o means.fact go
-
-  -- the frame's word at depth + e, which is written
-  writes_word_fits : (s : State) (e : ℤ) (r : Ruling) (o : Outcome)
-      → (rights.may_write_word x.m s.context (s.depth +ℤ e) ≡ true → FitsIf x r o)
-      → FitsIf x (rule.writes_word (rule_site x) s (s.depth +ℤ e) r) o
-  unfolding rule.writes_word
-  writes_word_fits s e r o go =
-      on_rule_test (rights.may_write_word x.m s.context (s.depth +ℤ e)) _ _ _ go (λ t next. it_breaks)
-
-  -- which is read
-  reads_word_fits : (s : State) (e : ℤ) (r : Ruling) (o : Outcome)
-      → (rights.may_read_word x.m s.context (s.depth +ℤ e) ≡ true → FitsIf x r o)
-      → FitsIf x (rule.reads_word (rule_site x) s (s.depth +ℤ e) r) o
-  unfolding rule.reads_word
-  reads_word_fits s e r o go =
-      on_rule_test (rights.may_read_word x.m s.context (s.depth +ℤ e)) _ _ _ go (λ t next. it_breaks)
-
-  writes_fits : (l : Local) (address place : ℕ) (v : Option ℤ) (r : Ruling) (o : Local → Outcome)
-      → place_of address ≡ place → may_write_word x.h place ≡ true
-      → FitsIf x r (o (record l { memory = with_word l.memory place v }))
-      → FitsIf x r (step.writes (step_site x) address v l o)
-  unfolding step.writes
-  writes_fits l address place v r o is mine go =
-      on_step_test (may_write_word x.h (place_of address)) _ _ _
-      (λ t. subst (λ p. FitsIf x r (o (record l { memory = with_word l.memory p v }))) (sym is) go)
-      (λ t. let no : true ≡ false = sym mine ∙ ap (may_write_word x.h) (sym is) ∙ t in absurd (cc))
-
-  reads_fits : (l : Local) (address place : ℕ) (r : Ruling) (o : Option ℤ → Outcome) → place_of address ≡ place
-      → may_read_word x.h place ≡ true
-      → FitsIf x r (o (word_at l.memory place)) → FitsIf x r (step.reads (step_site x) address l o)
-  unfolding step.reads
-  reads_fits l address place r o is held go =
-      on_step_test (may_read_word x.h (place_of address)) _ _ _
-      (λ t. subst (λ p. FitsIf x r (o (word_at l.memory p))) (sym is) go)
-      (λ t. let no : true ≡ false = sym held ∙ ap (may_read_word x.h) (sym is) ∙ t in absurd (cc))
-
-  goes_on_fits : (s : State) (l : Local) → After x.m x.h x.mode x.act s l → s.context ≡ x.context → Changes x l.memory
-      → owed s x.act ≤ x.owed → FitsIf x (rule.goes_on (rule_site x) s) (step.goes_on (step_site x) l)
-  unfolding rule.goes_on rule.pays step.goes_on
-  goes_on_fits s l a same changes n =
-      on_rule_test (ltb s.number x.len) _ _ _
-      (λ t next. it_breaks)
-      (λ t next. let low = next _ refl in
-      on_step_test (ltb (x.at + x.len) (length x.m.code)) (falls (record s { number = s.number - x.len })) _ _
-      (λ u next. it_falls low (paid a) same changes
-      (enough s.number x.len (dues s.frame x.act.turns) x.owed t n))
-      (λ u. absurd (below_not _ _ low u)) next)
-
-  -- ---- a write to a word of the frame
-
-  after_write : (s : State) (l : Local) (e : ℤ) (f : Fact) (v : Option ℤ) → After x.m x.h x.mode x.act s l
-      → rights.may_write_word x.m s.context (s.depth +ℤ e) ≡ true
-      → (w : IsOwnWord x.h (length l.memory) x.act.layout.origin (s.depth +ℤ e))
-      → Means x.m x.act.layout f (word_at (with_word l.memory w.place v) w.place)
-      → After x.m x.h x.mode x.act (written (s.depth +ℤ e) f s) (record l { memory = with_word l.memory w.place v })
-  unfolding written
-  after_write s l e f v a t w means = record {
-    frame = same_frame (sym (length-with_word l.memory w.place v)) a.frame;
-    knows = knows_changed (one_word (s.depth +ℤ e) f)
-        (write_follows x.m x.h (words_of x.m s).reads x.act.layout (s.depth +ℤ e) l.memory f v w means) a.knows;
-    named = (write_keeps x.m x.h (scope_of x.m s.context x.act.layout) (s.depth +ℤ e) l.memory v t w).named a.named;
-    same_mode = a.same_mode;
-  }
-
-  write_step : (s : State) (l : Local) (e : ℤ) (f : Fact) (v : Option ℤ) (r : Ruling) (o : Local → Outcome)
-      → After x.m x.h x.mode x.act s l → s.context ≡ x.context → Changes x l.memory
-      → FitsSigned w32 e → rights.may_write_word x.m s.context (s.depth +ℤ e) ≡ true
-      → ((place : ℕ) → place + 4 ≤ length l.memory
-      → Means x.m x.act.layout f (word_at (with_word l.memory place v) place))
-      → ((memory : Memory) → After x.m x.h x.mode x.act (written (s.depth +ℤ e) f s) (record l { memory = memory })
-      → Changes x memory → FitsIf x r (o (record l { memory = memory })))
-      → FitsIf x r (step.writes (step_site x) (local_address l.registers.workspace e) v l o)
-  write_step s l e f v r o a same changes fits t means go =
-      let w = a.frame.own (s.depth +ℤ e) t in
-      writes_fits l (local_address l.registers.workspace e) w.place v r o
-      (local_place a.frame e fits w.place w.is w.inside) w.mine
-      (go (with_word l.memory w.place v) (after_write s l e f v a t w (means w.place w.inside)) (record {
-        own = changes_more x.h x.memory l.memory (with_word l.memory w.place v) changes.own
-            (write_is_own x.h l.memory w.place v w.mine);
-        keeps = keeps_more changes.keeps (write_keeps x.m x.h (scope_of x.m x.context x.act.layout) (s.depth +ℤ e)
-            l.memory v (ap (λ (n : ℕ). rights.may_write_word x.m n (s.depth +ℤ e)) (sym same) ∙ t) w);
-      }))
-
-  -- ---- scheduling, and what stands behind it
-
-  undefined_means : (memory : Memory) (place : ℕ) → place + 4 ≤ length memory
-      → Means x.m x.act.layout Unknown (word_at (with_word memory place None) place)
-  undefined_means memory place inside = says_nothing
-
-  schedules_fits : (s : State) (l : Local) (r : State → Ruling) (o : Local → Outcome) → After x.m x.h x.mode x.act s l
-      → s.context ≡ x.context → Changes x l.memory
-      → ((s' : State) (memory : Memory) → After x.m x.h x.mode x.act s' (record l { memory = memory })
-      → s'.context ≡ x.context → Changes x memory → owed s' x.act ≤ owed s x.act
-      → FitsIf x (r s') (o (record l { memory = memory })))
-      → FitsIf x (rule.schedules (rule_site x) s r) (step.schedules (step_site x) l o)
-  unfolding rule.schedules step.schedules written
-  schedules_fits s l r o a same changes go =
-      writes_word_fits s (negsuc 0) _ _
-      (λ t0. writes_word_fits s (negsuc 1) _ _ (λ t1. writes_word_fits s (negsuc 2) _ _ (λ t2.
-      write_step s l (negsuc 0) Unknown None _ _ a same changes (omega (arith, ints)) t0 (undefined_means l.memory)
-      (λ m1 a1 c1.
-      write_step (written (s.depth +ℤ negsuc 0) Unknown s) (record l { memory = m1 }) (negsuc 1) Unknown None _ _ a1
-      same c1
-      (omega (arith, ints)) t1 (undefined_means m1) (λ m2 a2 c2.
-      write_step (written (s.depth +ℤ negsuc 1) Unknown (written (s.depth +ℤ negsuc 0) Unknown s))
-      (record l { memory = m2 }) (negsuc 2) Unknown None _ _ a2 same c2 (omega (arith, ints)) t2 (undefined_means m2)
-      (λ m3 a3 c3.
-      let one = written_owed (s.depth +ℤ negsuc 0) Unknown s x.act in
-      let two = written_owed (s.depth +ℤ negsuc 1) Unknown (written (s.depth +ℤ negsuc 0) Unknown s) x.act in
-      let three = written_owed (s.depth +ℤ negsuc 2) Unknown
-      (written (s.depth +ℤ negsuc 1) Unknown (written (s.depth +ℤ negsuc 0) Unknown s)) x.act in
-      go (written (s.depth +ℤ negsuc 2) Unknown
-      (written (s.depth +ℤ negsuc 1) Unknown (written (s.depth +ℤ negsuc 0) Unknown s))) m3 a3 same c3
-      (omega (arith, one, two, three))))))))
-
-  -- ---- leading to a label
-
-  leads_fits : (wf : IsWellFormed x.m) (to : ℕ) (s : State) (l : Local) → After x.m x.h x.mode x.act s l
-      → s.context ≡ x.context → Changes x l.memory → owed s x.act + x.len ≤ x.owed
-      → FitsIf x (rule.leads_to (rule_site x) to s) (step.leads_to (step_site x) to l)
-  unfolding rule.leads_to step.leads_to
-  leads_fits wf to s l a same changes n =
-      on_label (label_at x.m to) refl
-    where
-      on_below : (t : Label) → label_at x.m to ≡ Some t → (b : Result ℕ Rule) → below s t ≡ b
-          → FitsIf x (elim b as (λ b. Ruling) [ Ok cost ↦ leads to | Err broken ↦ breaks broken ])
-          (if ltb to (length x.m.code) then jumps to l else fails OutsideCode)
-      on_below t e (Err broken) is = λ next. it_breaks
-      on_below t e (Ok cost) is =
-          let low = wf.labels to t e in
-          let g = below_tells s t cost is in
-          let less = label_owed s t cost x.act (wf.pairs to t e) is in
-          on_step_test (ltb to (length x.m.code)) (leads to) _ _
-          (λ u next. it_leads (label_turns s.frame t.entries x.act.turns) e low
-          (label_after x.m x.h x.mode x.act s t l wf to e g.1 a) (sym g.1.context ∙ same) changes
-          (omega (arith, n, less)))
-          (λ u. absurd (below_not to (length x.m.code) low u))
-
-      on_label : (o : Option Label) → label_at x.m to ≡ o
-          → FitsIf x (elim o as (λ o. Ruling) [
-            | None ↦ breaks rules.Label
-            | Some t ↦ elim (below s t) as (λ b. Ruling)
-                [ Ok cost ↦ leads to | Err broken ↦ breaks broken ]
-          ])
-          (if ltb to (length x.m.code) then jumps to l else fails OutsideCode)
-      on_label None e = λ next. it_breaks
-      on_label (Some t) e = on_below t e (below s t) refl
-
-  -- ---- modes
-
-  in_plain_rule : (s : State) → SameMode s.mode x.mode → (r : Ruling) (o : Outcome) → FitsIf x r o
-      → FitsIf x (rule.outside_alternation s.mode r) o
-  unfolding rule.outside_alternation
-  in_plain_rule s same r o go = subst (λ q. FitsIf x (rule.outside_alternation q r) o) (sym (rule_plain same)) go
-
-  beside_plain_rule : (s : State) → SameMode s.mode x.mode → (r : Ruling) (o : Outcome) → FitsIf x r o
-      → FitsIf x (rule.outside_starts s.mode r) o
-  unfolding rule.outside_starts
-  beside_plain_rule s same r o go = subst (λ q. FitsIf x (rule.outside_starts q r) o) (sym (rule_plain same)) go
-
-  in_plain_step : (s : State) → SameMode s.mode x.mode → (r : Ruling) (o : Outcome) → FitsIf x r o
-      → FitsIf x r (step.alone x.mode o)
-  unfolding step.outside_alternation step.outside_starts
-  in_plain_step s same r o go = subst (λ q. FitsIf x r (step.alone q o)) (sym (step_plain same)) go
-
-  beside_plain_step : (s : State) → SameMode s.mode x.mode → (r : Ruling) (o : Outcome) → FitsIf x r o
-      → FitsIf x r (step.outside_starts x.mode o)
-  unfolding step.outside_starts
-  beside_plain_step s same r o go = subst (λ q. FitsIf x r (step.outside_starts q o)) (sym (step_plain same)) go
-
-  -- ---- the instructions
-
-  -- the registers and the number change, and all else stays known
-  after_stack : {s : State} {l : Local} {said : Stack Known} {stack : Stack (Option ℤ)} {number : ℕ}
-      → After x.m x.h x.mode x.act s l
-      → AreRelated (MeansKnown x.m (words_of x.m s).reads x.act.layout l.memory) said stack
-      → After x.m x.h x.mode x.act (record s { stack = said; number = number })
-      (record l { registers = record l.registers { stack = stack } })
-  after_stack a related = record {
-    frame = a.frame;
-    knows = record { registers = related; words = a.knows.words };
-    named = a.named;
-    same_mode = a.same_mode;
-  }
-
-  module _ (wf : IsWellFormed x.m) (s : State) (l : Local) (a : After x.m x.h x.mode x.act s l)
-      (same : s.context ≡ x.context) (changes : Changes x l.memory) (n : owed s x.act ≤ x.owed) where
-    ldc_fits : (e : ℤ) → FitsSigned w32 e
-        → FitsIf x (rule.goes_on (rule_site x) (rule.push (rule.constant e) s))
-        (step.goes_on (step_site x) (step.push (Some e) l))
-    ldc_fits e fits = goes_on_fits (rule.push (rule.constant e) s) (step.push (Some e) l)
-        (after_stack a (record {
-          a = record { fact = is_number (omega (arith, ints)) (omega (arith, ints)) fits; source = from_nowhere };
-          b = a.knows.registers.a;
-          c = a.knows.registers.b;
-        })) same changes n
-
-    ldl_fits : (e : ℤ) → FitsSigned w32 e
-        → FitsIf x (rule.instruction_rule (rule_site x) instructions.LoadLocal e s)
-        (step.instruction_step (step_site x) instructions.LoadLocal e l)
-    unfolding rule.instruction_rule step.instruction_step
-    ldl_fits e fits =
-        beside_plain_rule s a.same_mode _ _ (beside_plain_step s a.same_mode _ _ (reads_word_fits s e _ _ (λ t.
-        let w = a.frame.readable (s.depth +ℤ e) t in
-        reads_fits l (local_address l.registers.workspace e) w.place _ _
-        (local_place a.frame e fits w.place w.is w.inside) w.readable
-        (goes_on_fits (rule.push (rule.loaded (s.depth +ℤ e) (s.frame (s.depth +ℤ e))) s)
-        (step.push (word_at l.memory w.place) l)
-        (after_stack a (record {
-          a = loaded_means x.m (words_of x.m s).reads x.act (s.depth +ℤ e) (s.frame (s.depth +ℤ e)) l.memory
-              (word_at l.memory w.place) t (a.knows.words (s.depth +ℤ e) t)
-              (frame_word_is l.memory x.act.layout.origin (s.depth +ℤ e) w.place w.is);
-          b = a.knows.registers.a;
-          c = a.knows.registers.b;
-        })) same changes n))))
-
-    stl_fits : (e : ℤ) → FitsSigned w32 e
-        → FitsIf x (rule.instruction_rule (rule_site x) instructions.StoreLocal e s)
-        (step.instruction_step (step_site x) instructions.StoreLocal e l)
-    unfolding rule.instruction_rule step.instruction_step written
-    stl_fits e fits =
-        in_plain_step s a.same_mode _ _ (uses_fits s.stack.a l.registers.stack.a _ _ a.knows.registers.a (λ v means.
-        in_plain_rule s a.same_mode _ _ (beside_plain_rule s a.same_mode _ _ (writes_word_fits s e _ _ (λ t.
-        write_step s l e s.stack.a.fact (Some v) _ _ a same changes fits t
-        (λ place inside. stored_means x.m x.act.layout s.stack.a.fact v l.memory place inside means) (λ memory b c.
-        goes_on_fits (rule.pop (written (s.depth +ℤ e) s.stack.a.fact s)) (step.pop (record l { memory = memory }))
-        (after_stack b (record { a = b.knows.registers.b; b = b.knows.registers.c; c = unknown_means })) same c
-        (omega (arith, n, changed_dues (one_word (s.depth +ℤ e) s.stack.a.fact) s.frame x.act.turns))))))))
-
-    -- what A becomes
-    becomes_fits : (s' : State) (l' : Local) (fact : Option Fact) (result : Option ℤ) → After x.m x.h x.mode x.act s' l'
-        → s'.context ≡ x.context → Changes x l'.memory → owed s' x.act ≤ x.owed
-        → ResultMeans x.m x.act.layout fact result
-        → FitsIf x (rule.becomes (rule_site x) fact s')
-        (step.computes result (λ v. step.goes_on (step_site x) (step.with_a v l')))
-    unfolding rule.becomes step.computes
-    becomes_fits s' l' None result b same' c e means = λ next. it_breaks
-    becomes_fits s' l' (Some f) None b same' c e means = absurd means
-    becomes_fits s' l' (Some f) (Some v) b same' c e means =
-        in_plain_rule s' b.same_mode _ _ (beside_plain_rule s' b.same_mode _ _
-        (goes_on_fits (rule.with_a (known f) s') (step.with_a v l')
-        (after_stack b (record {
-          a = record { fact = means; source = from_nowhere };
-          b = b.knows.registers.b;
-          c = b.knows.registers.c;
-        })) same' c e))
-
-    constant_fits : (op : BinaryOperation) (e : ℤ) → FitsSigned w32 e
-        → FitsIf x (rule.instruction_rule (rule_site x) (instructions.WithConstant op) e s)
-        (step.instruction_step (step_site x) (instructions.WithConstant op) e l)
-    unfolding rule.instruction_rule step.instruction_step
-    constant_fits op e fits =
-        in_plain_step s a.same_mode _ _ (uses_fits s.stack.a l.registers.stack.a _ _ a.knows.registers.a (λ v means.
-        becomes_fits s l _ _ a same changes n
-        (result_means x.m x.act.layout op s.stack.a.fact (Number e e) v e means
-        (is_number (omega (arith, ints)) (omega (arith, ints)) fits))))
-
-    pays_fits : (s' : State) (r : State → Ruling) (o : Outcome) → owed s' x.act ≤ owed s x.act
-        → (s'.number - x.len + dues s'.frame x.act.turns + x.len ≤ x.owed
-        → FitsIf x (r (record s' { number = s'.number - x.len })) o)
-        → FitsIf x (rule.pays (rule_site x) s' r) o
-    unfolding rule.pays
-    pays_fits s' r o e go = on_rule_test (ltb s'.number x.len) _ _ _ (λ t next. it_breaks)
-        (λ t. go (enough s'.number x.len (dues s'.frame x.act.turns) x.owed t (omega (arith, e, n))))
-
-    j_fits : (e : ℤ) → FitsSigned w32 e
-        → FitsIf x (rule.instruction_rule (rule_site x) instructions.Jump e s)
-        (step.instruction_step (step_site x) instructions.Jump e l)
-    unfolding rule.instruction_rule step.instruction_step rule.forward
-    j_fits (negsuc k) fits = in_plain_rule s a.same_mode _ _ (λ next. it_breaks)
-    j_fits (pos k) fits =
-        in_plain_step s a.same_mode _ _ (in_plain_rule s a.same_mode _ _ (beside_plain_rule s a.same_mode _ _
-        (schedules_fits s l _ _ a same changes (λ s' memory b same' c e.
-        pays_fits s' _ _ e (λ left.
-        leads_fits wf (target (x.at + x.len) (pos k))
-        (rule.without_registers (record s' { number = s'.number - x.len }))
-        (step.without_registers (record l { memory = memory }))
-        (after_stack b (record { a = unknown_means; b = unknown_means; c = unknown_means })) same' c left)))))
-
-    operation_fits : (op : Op) → FitsIf x (rule.operation_rule (rule_site x) op s)
-        (step.operation_step (step_site x) op l)
-    unfolding rule.operation_rule step.operation_step
-    operation_fits operations.Reverse =
-        in_plain_step s a.same_mode _ _ (in_plain_rule s a.same_mode _ _ (beside_plain_rule s a.same_mode _ _
-        (goes_on_fits (rule.reverse s) (step.reverse l)
-        (after_stack a (record { a = a.knows.registers.b; b = a.knows.registers.a; c = a.knows.registers.c }))
-        same changes n)))
-    operation_fits operations.MinimumInteger =
-        beside_plain_rule s a.same_mode _ _
-        (beside_plain_step s a.same_mode _ _ (ldc_fits least_word (record { sfits = lit< tt })))
-    operation_fits operations.StopProcess =
-        in_plain_step s a.same_mode _ _ (in_plain_rule s a.same_mode _ _ (beside_plain_rule s a.same_mode _ _
-        (schedules_fits s l _ _ a same changes
-        (λ s' memory b same' c e. pays_fits s' _ _ e (λ left next. it_ends c (omega arith))))))
-    operation_fits (operations.Binary op) =
-        in_plain_step s a.same_mode _ _ (uses_fits s.stack.a l.registers.stack.a _ _ a.knows.registers.a (λ v means.
-        uses_fits s.stack.b l.registers.stack.b _ _ a.knows.registers.b (λ u other.
-        becomes_fits (rule.pop s) (step.pop l) _ _
-        (after_stack a (record { a = a.knows.registers.b; b = a.knows.registers.c; c = unknown_means }))
-        same changes n (result_means x.m x.act.layout op s.stack.b.fact s.stack.a.fact u v other means))))
-    operation_fits (operations.Unary op) =
-        in_plain_step s a.same_mode _ _ (uses_fits s.stack.a l.registers.stack.a _ _ a.knows.registers.a (λ v means.
-        becomes_fits s l _ _ a same changes n (unary_result_means x.m x.act.layout op s.stack.a.fact v means)))
-    operation_fits _ = λ next. it_breaks
-
-    instruction_fits : (i : Instruction) (e : ℤ) → FitsSigned w32 e
-        → FitsIf x (rule.instruction_rule (rule_site x) i e s)
-        (step.instruction_step (step_site x) i e l)
-    unfolding rule.instruction_rule step.instruction_step
-    instruction_fits instructions.LoadConstant e fits = ldc_fits e fits
-    instruction_fits instructions.LoadLocal e fits = ldl_fits e fits
-    instruction_fits instructions.StoreLocal e fits = stl_fits e fits
-    instruction_fits (instructions.WithConstant op) e fits = constant_fits op e fits
-    instruction_fits instructions.Jump e fits = j_fits e fits
-    instruction_fits (instructions.Operate op) e fits = operation_fits op
-    instruction_fits _ e fits = λ next. it_breaks
-
-    option_fits : (i : Option Instruction) (e : ℤ) → FitsSigned w32 e
-        → FitsIf x (rule.rule_of (rule_site x) i e s) (step.step_of (step_site x) i e l)
-    unfolding rule.rule_of step.step_of
-    option_fits None e fits = λ next. it_breaks
-    option_fits (Some i) e fits = instruction_fits i e fits
-
-    pub function_fits : (f : Fun) (e : ℤ) → FitsSigned w32 e
-        → FitsIf x (rule.rule (rule_site x) f e s) (step.local_step (step_site x) f e l)
-    unfolding rule.rule step.local_step
-    function_fits f e fits = option_fits (instruction_of f e) e fits
+  pub function_fits : (f : Fun) (e : ℤ) → FitsSigned w32 e
+      → FitsIf x (table.rule (rule_site x) f e s) (step.local_step (step_site x) f e l)
+  unfolding table.rule step.local_step
+  function_fits f e fits = option_fits (instruction_of f e) e fits
 
 pub rules_fit_steps : RulesFitSteps
 rules_fit_steps x s l f e wf a same changes n fits next = function_fits x wf s l a same changes n f e fits next

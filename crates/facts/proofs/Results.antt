@@ -14,7 +14,7 @@ use Rattle.module_format.specs.declared.fact.Fact.TheVariants.{Unknown, Number, 
 use Rattle.module_format.specs.declared.fact.Fact.TheVariants.{ReturnAddress}
 use Rattle.module_format.specs.Contents.{Contents}
 use Rattle.facts.specs.Meaning.{Layout, Means, is_number}
-use Rattle.facts.specs.Rules.{range_of, number_in, result_fact, unary_result_fact}
+use Rattle.facts.specs.WordRules.{range_of, number_in, result_fact, unary_result_fact}
 
 module _ (m : Contents) (layout : Layout) where
   -- the range of a number, in which its value lies

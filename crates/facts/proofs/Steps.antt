@@ -23,15 +23,16 @@ use Rattle.module_format.specs.Contents.{Contents, Label, label_at}
 use Rattle.certificate.specs.Rights.{may_write_word, may_read_word}
 use Rattle.states.specs.State.{State, known, written}
 use Rattle.states.specs.Below.{below}
-use Rattle.machine_state.specs.declared.cpu.Flow.{Flow}
-use Rattle.facts.specs.Rules.{Ruling, Site, leads, breaks, outside_alternation, outside_starts, alone, uses, forward}
-use Rattle.facts.specs.Rules.{writes_word, reads_word, leads_to, goes_on, goes_to, push, pop}
-use Rattle.facts.specs.Rules.{loaded, instruction_rule, rule_of, rule, rule_at, has_rule, operation_rule, op_has_rule}
+use Rattle.facts.specs.declared.continuation.Continuation.{Continuation}
+use Rattle.facts.specs.Rulings.{Ruling, Site, leads, breaks, outside_alternation, outside_starts, alone, uses, forward}
+use Rattle.facts.specs.Rulings.{writes_word, reads_word, leads_to, goes_on, goes_to, push, pop}
+use Rattle.facts.specs.WordRules.{loaded}
+use Rattle.facts.specs.Rules.{instruction_rule, rule_of, rule, rule_at, has_rule, operation_rule, op_has_rule}
 use Rattle.facts.specs.Rules.{instruction_has_rule}
 use Rattle.facts.specs.Telling.{Admits, Advances}
 
 -- the same ruling, told otherwise
-pub advances-by : (r : Result Flow Rule) (after : State) (p q : Ruling) → p ≡ q → Advances r after q
+pub advances-by : (r : Result Continuation Rule) (after : State) (p q : Ruling) → p ≡ q → Advances r after q
     → Advances r after p
 advances-by r after p q e h = subst (λ x. Advances r after x) (sym e) h
 

@@ -12,12 +12,13 @@ use Rattle.machine_state.specs.Frame.{ChangesOwn}
 use Rattle.machine_state.specs.LocalStep as step
 use Rattle.machine_state.specs.Memory.{data_start}
 use Rattle.machine_state.specs.Site as steps
-use Rattle.machine_state.specs.Site.{Outcome, goes, jumps, stops, Local}
+use Rattle.machine_state.specs.Site.{Outcome, goes, jumps, lands, stops, Local}
 use Rattle.states.specs.declared.rule.Rule.{Rule}
 use Rattle.states.specs.State.{State, label_state}
 use Rattle.facts.specs.Regions.{scope_of, HoldsNamed, Keeps}
-use Rattle.facts.specs.Rules as rule
-use Rattle.facts.specs.Rules.{Ruling, falls, leads, ends, breaks}
+use Rattle.facts.specs.Rulings as rule
+use Rattle.facts.specs.Rules as table
+use Rattle.facts.specs.Rulings.{Ruling, ends, breaks, falling, leading}
 use Rattle.facts.specs.Meaning.{Activation, with_turns, words_of, HasFrame, Knows, owed, SameMode, IsWellFormed}
 
 -- what holds behind an instruction: the frame is still there, and the state is known
@@ -59,25 +60,33 @@ step_site x = record {
   has_long_operations = x.m.has_long_operations;
 }
 
+-- the process goes on at this code offset
+pub data GoesTo (x : Here) : Outcome → ℕ → Local → Type 0 where
+  goes_behind : {l : Local} → GoesTo x (goes l) (x.at + x.len) l
+  is_jump : {to : ℕ} {l : Local} → GoesTo x (jumps to l) to l
+  is_landing : {to : ℕ} {l : Local} → GoesTo x (lands to l) to l
+
 -- A ruling and an outcome fit each other. Behind the instruction the activation is the same; at a label its loops may
 -- have other turns left. Of what was owed each byte of the instruction is paid.
 pub data Fits (x : Here) : Ruling → Outcome → Type 0 where
-  it_falls : {s : State} {l : Local} → x.at + x.len < length x.m.code → After x.m x.h x.mode x.act s l
-      → s.context ≡ x.context → Changes x l.memory → owed s x.act + x.len ≤ x.owed → Fits x (falls s) (goes l)
-  it_leads : {to : ℕ} {l : Local} {t : Label} (turns : ℤ → ℕ) → label_at x.m to ≡ Some t → to < length x.m.code
+  it_falls : {r : Ruling} {o : Outcome} {s : State} {l : Local} → falling r ≡ Some s → GoesTo x o (x.at + x.len) l
+      → x.at + x.len < length x.m.code → After x.m x.h x.mode x.act s l → s.context ≡ x.context → Changes x l.memory
+      → owed s x.act + x.len ≤ x.owed → Fits x r o
+  it_leads : {r : Ruling} {o : Outcome} {to : ℕ} {l : Local} {t : Label} (turns : ℤ → ℕ) → leading r ≡ Some to
+      → GoesTo x o to l → label_at x.m to ≡ Some t → to < length x.m.code
       → After x.m x.h x.mode (with_turns turns x.act) (label_state t) l → t.context ≡ x.context → Changes x l.memory
-      → owed (label_state t) (with_turns turns x.act) + x.len ≤ x.owed → Fits x (leads to) (jumps to l)
+      → owed (label_state t) (with_turns turns x.act) + x.len ≤ x.owed → Fits x r o
   it_ends : {l : Local} → Changes x l.memory → x.len ≤ x.owed → Fits x ends (stops l)
   it_breaks : {broken : Rule} {o : Outcome} → Fits x (breaks broken) o
 
 -- what falls through has code behind it
 abbrev pub HasNext : Here → Ruling → Type 0
-HasNext x r = (s : State) → r ≡ falls s → x.at + x.len < length x.m.code
+HasNext x r = (s : State) → falling r ≡ Some s → x.at + x.len < length x.m.code
 
 -- In a state that holds of a process, each instruction's rule and step fit.
 abbrev pub RulesFitSteps : Type 0
 RulesFitSteps =
     (x : Here) (s : State) (l : Local) (f : Fun) (e : ℤ) → IsWellFormed x.m → After x.m x.h x.mode x.act s l
     → s.context ≡ x.context → Changes x l.memory → owed s x.act ≤ x.owed
-    → FitsSigned w32 e → HasNext x (rule.rule (rule_site x) f e s)
-    → Fits x (rule.rule (rule_site x) f e s) (step.local_step (step_site x) f e l)
+    → FitsSigned w32 e → HasNext x (table.rule (rule_site x) f e s)
+    → Fits x (table.rule (rule_site x) f e s) (step.local_step (step_site x) f e l)

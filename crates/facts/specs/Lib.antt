@@ -1,3 +1,5 @@
+pub mod Rulings
+pub mod WordRules
 pub mod Rules
 pub mod Telling
 pub mod Places

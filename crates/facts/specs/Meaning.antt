@@ -12,6 +12,7 @@ use Rattle.module_format.specs.declared.fact.Step.TheVariants.{Byte, Word}
 use Rattle.module_format.specs.declared.rows.Entry.{Entry}
 use Rattle.module_format.specs.Order.{is_stepped}
 use Rattle.module_format.specs.Contents.{Contents, Label, label_at}
+use Rattle.module_format.specs.Contexts.{context_at}
 use Rattle.module_format.specs.Stack.{AreRelated}
 use Rattle.certificate.specs.Rights as rights
 use Rattle.word_arithmetic.specs.Word.{truth}
@@ -123,23 +124,40 @@ pub record IsOwnWord (h : Holding) (size : ℕ) (origin k : ℤ) : Type 0 where
   pub inside : place + 4 ≤ size
   pub mine : may_write_word h place ≡ true
 
--- the words of a frame that count for a process: those that it may write, and those that it may read
+-- the words of a frame that count for a process: those that it may write, and those that it may read; and the first
+-- word of the frame, with the first behind it
 pub record Words : Type 0 where
   pub writes : ℤ → Bool
   pub reads : ℤ → Bool
+  pub lo : ℤ
+  pub hi : ℤ
+
+-- the bounds of a context's frame
+abbrev pub frame_lo : Contents → ℕ → ℤ
+frame_lo m n = elim (context_at m n) [ None ↦ pos 0 | Some context ↦ context.lo ]
+
+abbrev pub frame_hi : Contents → ℕ → ℤ
+frame_hi m n = elim (context_at m n) [ None ↦ pos 0 | Some context ↦ context.hi ]
 
 -- the words that a context may use
 abbrev pub words_in : Contents → ℕ → Words
-words_in m context = record { writes = rights.may_write_word m context; reads = rights.may_read_word m context }
+words_in m context = record {
+  writes = rights.may_write_word m context;
+  reads = rights.may_read_word m context;
+  lo = frame_lo m context;
+  hi = frame_hi m context;
+}
 
 -- the words that count in a state: those that its context may use
 abbrev pub words_of : Contents → State → Words
 words_of m s = words_in m s.context
 
--- Where the frame lies: the words that count as written are the process's own, it may read those that count as read,
--- and the workspace is `depth` words from frame word 0.
+-- Where the frame lies: it lies in memory, the words that count as written are the process's own, it may read those
+-- that count as read, and the workspace is `depth` words from frame word 0.
 pub record HasFrame (h : Holding) (size : ℕ) (words : Words) (origin depth : ℤ) (workspace : ℕ) : Type 0 where
   pub small : size ≤ 1048576
+  pub from_start : pos 0 ≤ℤ place_in origin words.lo
+  pub to_end : place_in origin words.hi ≤ℤ pos size
   pub own : (k : ℤ) → words.writes k ≡ true → IsOwnWord h size origin k
   pub readable : (k : ℤ) → words.reads k ≡ true → IsReadableWord h size origin k
   pub start : pos workspace ≡ pos data_start +ℤ place_in origin depth

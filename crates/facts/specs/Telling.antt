@@ -2,9 +2,9 @@
 use Rattle.std.specs.Prelude.{◌≡◌, Result, Ok, Err}
 use Rattle.states.specs.declared.rule.Rule.{Rule}
 use Rattle.states.specs.State.{State}
-use Rattle.machine_state.specs.declared.cpu.Flow.{Flow}
-use Rattle.machine_state.specs.declared.cpu.Flow.TheVariants.{Next, Jump, Land, Stop, Ask}
-use Rattle.facts.specs.Rules.{Ruling, falls, leads, ends, breaks}
+use Rattle.facts.specs.declared.continuation.Continuation.{Continuation}
+use Rattle.facts.specs.declared.continuation.Continuation.TheVariants.{Falls, Leads, FallsOrLeads, Ends}
+use Rattle.facts.specs.Rulings.{Ruling, falls, leads, falls_or_leads, ends, breaks}
 
 -- a test passes, or it alone decides the ruling
 abbrev pub Admits : {A : Type 0} → Result A Rule → (Ruling → Ruling) → Type 0
@@ -22,10 +22,9 @@ Leaves (Ok x) after test = (k : State → Ruling) → test k ≡ k after
 Leaves (Err broken) after test = (k : State → Ruling) → test k ≡ breaks broken
 
 -- a state was taken on as the ruling says
-abbrev pub Advances : Result Flow Rule → State → Ruling → Type 0
-Advances (Ok Next) after ruling = ruling ≡ falls after
-Advances (Ok (Jump to)) after ruling = ruling ≡ leads to
-Advances (Ok (Land to)) after ruling = ruling ≡ leads to
-Advances (Ok Stop) after ruling = ruling ≡ ends
-Advances (Ok (Ask request)) after ruling = ⊥
+abbrev pub Advances : Result Continuation Rule → State → Ruling → Type 0
+Advances (Ok Falls) after ruling = ruling ≡ falls after
+Advances (Ok (Leads to)) after ruling = ruling ≡ leads to
+Advances (Ok (FallsOrLeads to)) after ruling = ruling ≡ falls_or_leads after to
+Advances (Ok Ends) after ruling = ruling ≡ ends
 Advances (Err broken) after ruling = ruling ≡ breaks broken

@@ -5,9 +5,10 @@ ghost use Rattle.states.specs.Views.{state_of, BelongsTo};
 ghost use Rattle.facts.specs.Rules.{op_has_rule, instruction_has_rule, has_rule, rule_at};
 ghost use Rattle.facts.specs.Telling.{Advances};
 
+use crate::continuation::Continuation;
 use crate::place::Place;
 use certificate::Module;
-use machine_state::{Flow, Instruction, Op};
+use machine_state::{Instruction, Op};
 use prefix_decoder::Instr;
 use states::{Rule, State};
 
@@ -49,7 +50,12 @@ pub fn has_rule(instr: Instr) -> bool
 /// process goes on there: a jump leads to the label at its code offset. Where the rule is broken, the state is
 /// left part of the way.
 #[tactic(auto, unfolding(crate::specs::Rules::rule, crate::specs::Rules::rule_of, crate::specs::Rules::instruction_rule))]
-pub fn advance(state: &mut State, module: &Module, at: usize, instr: Instr) -> Result<Flow, Rule>
+pub fn advance(
+    state: &mut State,
+    module: &Module,
+    at: usize,
+    instr: Instr,
+) -> Result<Continuation, Rule>
     requires { BelongsTo «module».now state.old }
     ensures ruling { Advances result (state_of state.new) (rule_at «module».now at instr (state_of state.old)) }
     ensures belongs { BelongsTo «module».now state.new }

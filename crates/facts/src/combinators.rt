@@ -4,8 +4,9 @@ ghost use Rattle.std.specs.Prelude.{◌≡◌};
 ghost use Rattle.std.specs.Option.{option_map};
 ghost use Rattle.word_arithmetic.specs.Range.{ends_of};
 ghost use Rattle.states.specs.Rows.{LoopFits};
-ghost use Rattle.facts.specs.Rules.{outside_alternation, outside_starts, alone, uses, forward, source_of, loaded};
-ghost use Rattle.facts.specs.Rules.{range_of, number_in, result_fact, unary_result_fact};
+ghost use Rattle.facts.specs.Rulings.{outside_alternation, outside_starts, alone, uses, forward};
+ghost use Rattle.facts.specs.WordRules.{source_of, loaded};
+ghost use Rattle.facts.specs.WordRules.{range_of, number_in, result_fact, unary_result_fact};
 ghost use Rattle.facts.specs.Telling.{Admits, Gives};
 
 use certificate::Fact;
@@ -13,7 +14,7 @@ use states::{Known, Mode, Rule, Source, WordFact};
 use word_arithmetic::{Binary, Range, Unary};
 
 /// An instruction that may not stand in an alternation.
-#[tactic(auto, unfolding(crate::specs::Rules::outside_alternation))]
+#[tactic(auto, unfolding(crate::specs::Rulings::outside_alternation))]
 pub(crate) fn outside_alternation(mode: Mode) -> Result<(), Rule>
     ensures { Admits result (outside_alternation mode) }
 {
@@ -24,7 +25,7 @@ pub(crate) fn outside_alternation(mode: Mode) -> Result<(), Rule>
 }
 
 /// An instruction that may not stand among the starts of a PAR.
-#[tactic(auto, unfolding(crate::specs::Rules::outside_starts))]
+#[tactic(auto, unfolding(crate::specs::Rulings::outside_starts))]
 pub(crate) fn outside_starts(mode: Mode) -> Result<(), Rule>
     ensures { Admits result (outside_starts mode) }
 {
@@ -43,7 +44,7 @@ pub(crate) fn alone(mode: Mode) -> Result<(), Rule>
 }
 
 /// A register that is used is known.
-#[tactic(auto, unfolding(crate::specs::Rules::uses))]
+#[tactic(auto, unfolding(crate::specs::Rulings::uses))]
 pub(crate) fn uses(known: Known) -> Result<Fact, Rule>
     ensures { Gives (λ fact. fact) result (uses known) }
 {
@@ -54,7 +55,7 @@ pub(crate) fn uses(known: Known) -> Result<Fact, Rule>
 }
 
 /// A jump by so many bytes from the next instruction leads forward.
-#[tactic(auto, unfolding(crate::specs::Rules::forward))]
+#[tactic(auto, unfolding(crate::specs::Rulings::forward))]
 pub(crate) fn forward(distance: i32) -> Result<(), Rule>
     ensures { Admits result (forward distance) }
 {
@@ -107,7 +108,7 @@ fn number_in(range: Range) -> Fact
 
 /// What is known of the results of an operation of two numbers; `None` where it may fail, or they are no
 /// numbers.
-#[tactic(auto, unfolding(crate::specs::Rules::result_fact))]
+#[tactic(auto, unfolding(crate::specs::WordRules::result_fact))]
 pub(crate) fn result_fact(op: Binary, left: Fact, right: Fact) -> Option<Fact>
     ensures { result ≡ result_fact op left right }
 {
@@ -116,7 +117,7 @@ pub(crate) fn result_fact(op: Binary, left: Fact, right: Fact) -> Option<Fact>
 }
 
 /// The same of one number.
-#[tactic(auto, unfolding(crate::specs::Rules::unary_result_fact))]
+#[tactic(auto, unfolding(crate::specs::WordRules::unary_result_fact))]
 pub(crate) fn unary_result_fact(op: Unary, operand: Fact) -> Option<Fact>
     ensures { result ≡ unary_result_fact op operand }
 {

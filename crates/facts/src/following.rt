@@ -6,8 +6,8 @@ ghost use Rattle.facts.specs.Rules.{rule_at};
 ghost use Rattle.facts.specs.Successions.{Succeeds, Follow};
 
 use crate::advancing::advance;
+use crate::continuation::Continuation;
 use certificate::Module;
-use machine_state::Flow;
 use prefix_decoder::Instr;
 use states::{RuleFault, State};
 use std::alloc::Global;
@@ -19,6 +19,8 @@ pub enum Successors<'a> {
     Falls(State<'a>),
     /// The state of the label at this code offset.
     Leads(u32),
+    /// Behind the instruction, and the state of the label at this code offset.
+    FallsOrLeads(State<'a>, u32),
     /// None: the process stops.
     Ends,
 }
@@ -40,11 +42,9 @@ pub fn transfer<'a>(
 {
     let mut next = state.copy(alloc)?;
     match advance(&mut next, module, at, instr)? {
-        Flow::Next => Ok(Successors::Falls(next)),
-        Flow::Jump { to } => Ok(Successors::Leads(to)),
-        Flow::Land { to } => Ok(Successors::Leads(to)),
-        Flow::Stop => Ok(Successors::Ends),
-        // No instruction that has a rule asks anything of others.
-        Flow::Ask(_) => unreachable!(),
+        Continuation::Falls => Ok(Successors::Falls(next)),
+        Continuation::Leads { to } => Ok(Successors::Leads(to)),
+        Continuation::FallsOrLeads { to } => Ok(Successors::FallsOrLeads(next, to)),
+        Continuation::Ends => Ok(Successors::Ends),
     }
 }

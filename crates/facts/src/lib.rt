@@ -3,10 +3,12 @@
 
 mod advancing;
 mod combinators;
+mod continuation;
 mod following;
 mod laws;
 mod place;
 
 pub use advancing::{advance, has_rule};
+pub use continuation::Continuation;
 pub use following::{Successors, transfer};
 pub use laws::rules_fit_steps;

@@ -4,8 +4,9 @@ use crate::combinators::{
     alone, forward, loaded, outside_alternation, outside_starts, result_fact, unary_result_fact,
     uses,
 };
+use crate::continuation::Continuation;
 use certificate::{Fact, Module, Stack};
-use machine_state::{Flow, Op};
+use machine_state::Op;
 use states::{Known, Rule, State, cost_below};
 use word_arithmetic::{Binary as BinaryOperation, Unary as UnaryOperation};
 
@@ -29,14 +30,14 @@ impl Place<'_, '_> {
     ghost use Rattle.machine_state.specs.declared.instruction.Instruction.TheVariants.{StoreLocal, WithConstant};
     ghost use Rattle.machine_state.specs.declared.instruction.Instruction.TheVariants.{Operate};
     ghost use Rattle.states.specs.Views.{state_of, CanWrite, BelongsTo};
-    ghost use Rattle.facts.specs.Rules.{writes_word, reads_word, schedules, pays, goes_on, leads_to, goes_to};
-    ghost use Rattle.facts.specs.Rules.{becomes};
+    ghost use Rattle.facts.specs.Rulings.{writes_word, reads_word, schedules, pays, goes_on, leads_to, goes_to};
+    ghost use Rattle.facts.specs.WordRules.{becomes};
     ghost use Rattle.facts.specs.Rules.{operation_rule, instruction_rule};
     ghost use Rattle.facts.specs.Telling.{Admits, Leaves, Advances};
     ghost use Rattle.facts.specs.Places.{site_of};
 
     /// The state's context may write the word so far from the workspace.
-    #[tactic(auto, unfolding(crate::specs::Rules::writes_word))]
+    #[tactic(auto, unfolding(crate::specs::Rulings::writes_word))]
     fn writes_word(&self, state: &State, distance: i32) -> Result<i32, Rule>
         requires { BelongsTo self.now.module.now state.now }
         ensures test { let word = state.now.depth +ℤ distance in
@@ -49,7 +50,7 @@ impl Place<'_, '_> {
     }
 
     /// The state's context may read the word so far from the workspace.
-    #[tactic(auto, unfolding(crate::specs::Rules::reads_word))]
+    #[tactic(auto, unfolding(crate::specs::Rulings::reads_word))]
     fn reads_word(&self, state: &State, distance: i32) -> Result<i32, Rule>
         requires { BelongsTo self.now.module.now state.now }
         ensures test { let word = state.now.depth +ℤ distance in
@@ -61,7 +62,7 @@ impl Place<'_, '_> {
     }
 
     /// The context may write the three words below the workspace, and they are unknown from now on.
-    #[tactic(auto, unfolding(crate::specs::Rules::schedules))]
+    #[tactic(auto, unfolding(crate::specs::Rulings::schedules))]
     fn schedules(&self, state: &mut State) -> Result<(), Rule>
         requires { BelongsTo self.now.module.now state.old }
         ensures test { Leaves result (state_of state.new) (schedules (site_of self.now) (state_of state.old)) }
@@ -77,7 +78,7 @@ impl Place<'_, '_> {
     }
 
     /// Each byte of the instruction is paid.
-    #[tactic(auto, unfolding(crate::specs::Rules::pays))]
+    #[tactic(auto, unfolding(crate::specs::Rulings::pays))]
     fn pays(&self, state: &mut State) -> Result<(), Rule>
         ensures test { Leaves result (state_of state.new) (pays (site_of self.now) (state_of state.old)) }
         ensures belongs { (m : Contents) → BelongsTo m state.old → BelongsTo m state.new }
@@ -91,13 +92,13 @@ impl Place<'_, '_> {
     }
 
     /// Each byte is paid, and the process goes on after the instruction.
-    #[tactic(auto, unfolding(crate::specs::Rules::goes_on))]
-    fn goes_on(&self, state: &mut State) -> Result<Flow, Rule>
+    #[tactic(auto, unfolding(crate::specs::Rulings::goes_on))]
+    fn goes_on(&self, state: &mut State) -> Result<Continuation, Rule>
         ensures ruling { Advances result (state_of state.new) (goes_on (site_of self.now) (state_of state.old)) }
         ensures belongs { (m : Contents) → BelongsTo m state.old → BelongsTo m state.new }
     {
         self.pays(state)?;
-        Ok(Flow::Next)
+        Ok(Continuation::Falls)
     }
 
     /// The code offset that is so many bytes from the next instruction.
@@ -110,22 +111,22 @@ impl Place<'_, '_> {
     }
 
     /// There is a label at the offset, and the state may go on as it.
-    #[tactic(auto, unfolding(crate::specs::Rules::leads_to))]
-    fn leads_to(&self, state: &State, to: u32) -> Result<Flow, Rule>
+    #[tactic(auto, unfolding(crate::specs::Rulings::leads_to))]
+    fn leads_to(&self, state: &State, to: u32) -> Result<Continuation, Rule>
         requires { Keeps self.now.module.now }
         ensures { Advances result (state_of state.now) (leads_to (site_of self.now) to (state_of state.now)) }
     {
         match self.module.label_at(to) {
             Some(row) => {
                 cost_below(state, row)?;
-                Ok(Flow::Jump { to })
+                Ok(Continuation::Leads { to })
             }
             None => Err(Rule::Label),
         }
     }
 
     /// The process goes on at the label of the offset, where another process may run first.
-    fn goes_to(&self, state: &mut State, to: u32) -> Result<Flow, Rule>
+    fn goes_to(&self, state: &mut State, to: u32) -> Result<Continuation, Rule>
         requires { BelongsTo self.now.module.now state.old }
         ensures ruling { Advances result (state_of state.new) (goes_to (site_of self.now) to (state_of state.old)) }
         ensures belongs { BelongsTo self.now.module.now state.new }
@@ -138,7 +139,7 @@ impl Place<'_, '_> {
     }
 
     #[tactic(auto, unfolding(crate::specs::Rules::instruction_rule))]
-    pub(crate) fn load_constant(&self, state: &mut State, value: i32) -> Result<Flow, Rule>
+    pub(crate) fn load_constant(&self, state: &mut State, value: i32) -> Result<Continuation, Rule>
         ensures ruling { let ruling = instruction_rule (site_of self.now) LoadConstant value (state_of state.old) in
             Advances result (state_of state.new) ruling }
         ensures belongs { (m : Contents) → BelongsTo m state.old → BelongsTo m state.new }
@@ -151,7 +152,7 @@ impl Place<'_, '_> {
     }
 
     #[tactic(auto, unfolding(crate::specs::Rules::instruction_rule))]
-    pub(crate) fn load_local(&self, state: &mut State, distance: i32) -> Result<Flow, Rule>
+    pub(crate) fn load_local(&self, state: &mut State, distance: i32) -> Result<Continuation, Rule>
         requires { BelongsTo self.now.module.now state.old }
         ensures ruling { let ruling = instruction_rule (site_of self.now) LoadLocal distance (state_of state.old) in
             Advances result (state_of state.new) ruling }
@@ -165,7 +166,7 @@ impl Place<'_, '_> {
     }
 
     #[tactic(auto, unfolding(crate::specs::Rules::instruction_rule))]
-    pub(crate) fn store_local(&self, state: &mut State, distance: i32) -> Result<Flow, Rule>
+    pub(crate) fn store_local(&self, state: &mut State, distance: i32) -> Result<Continuation, Rule>
         requires { BelongsTo self.now.module.now state.old }
         ensures ruling { let ruling = instruction_rule (site_of self.now) StoreLocal distance (state_of state.old) in
             Advances result (state_of state.new) ruling }
@@ -180,8 +181,8 @@ impl Place<'_, '_> {
     }
 
     /// A becomes the result, of which this is known.
-    #[tactic(auto, unfolding(crate::specs::Rules::becomes))]
-    fn becomes(&self, state: &mut State, known: Option<Fact>) -> Result<Flow, Rule>
+    #[tactic(auto, unfolding(crate::specs::WordRules::becomes))]
+    fn becomes(&self, state: &mut State, known: Option<Fact>) -> Result<Continuation, Rule>
         ensures ruling { Advances result (state_of state.new) (becomes (site_of self.now) known (state_of state.old)) }
         ensures belongs { (m : Contents) → BelongsTo m state.old → BelongsTo m state.new }
     {
@@ -197,7 +198,7 @@ impl Place<'_, '_> {
         state: &mut State,
         op: BinaryOperation,
         value: i32,
-    ) -> Result<Flow, Rule>
+    ) -> Result<Continuation, Rule>
         ensures ruling { let ruling = instruction_rule (site_of self.now) (WithConstant op) value (state_of state.old) in
             Advances result (state_of state.new) ruling }
         ensures belongs { (m : Contents) → BelongsTo m state.old → BelongsTo m state.new }
@@ -211,7 +212,7 @@ impl Place<'_, '_> {
     }
 
     #[tactic(auto, unfolding(crate::specs::Rules::instruction_rule))]
-    pub(crate) fn jump(&self, state: &mut State, distance: i32) -> Result<Flow, Rule>
+    pub(crate) fn jump(&self, state: &mut State, distance: i32) -> Result<Continuation, Rule>
         requires { BelongsTo self.now.module.now state.old }
         ensures ruling { let ruling = instruction_rule (site_of self.now) Jump distance (state_of state.old) in
             Advances result (state_of state.new) ruling }
@@ -223,7 +224,7 @@ impl Place<'_, '_> {
     }
 
     #[tactic(auto, unfolding(crate::specs::Rules::operation_rule))]
-    fn reverse(&self, state: &mut State) -> Result<Flow, Rule>
+    fn reverse(&self, state: &mut State) -> Result<Continuation, Rule>
         ensures ruling { let ruling = operation_rule (site_of self.now) Reverse (state_of state.old) in
             Advances result (state_of state.new) ruling }
         ensures belongs { (m : Contents) → BelongsTo m state.old → BelongsTo m state.new }
@@ -234,7 +235,7 @@ impl Place<'_, '_> {
     }
 
     #[tactic(auto, unfolding(crate::specs::Rules::operation_rule))]
-    fn minimum_integer(&self, state: &mut State) -> Result<Flow, Rule>
+    fn minimum_integer(&self, state: &mut State) -> Result<Continuation, Rule>
         ensures ruling { let ruling = operation_rule (site_of self.now) MinimumInteger (state_of state.old) in
             Advances result (state_of state.new) ruling }
         ensures belongs { (m : Contents) → BelongsTo m state.old → BelongsTo m state.new }
@@ -248,7 +249,7 @@ impl Place<'_, '_> {
     }
 
     #[tactic(auto, unfolding(crate::specs::Rules::operation_rule))]
-    fn stop_process(&self, state: &mut State) -> Result<Flow, Rule>
+    fn stop_process(&self, state: &mut State) -> Result<Continuation, Rule>
         requires { BelongsTo self.now.module.now state.old }
         ensures ruling { let ruling = operation_rule (site_of self.now) StopProcess (state_of state.old) in
             Advances result (state_of state.new) ruling }
@@ -257,11 +258,11 @@ impl Place<'_, '_> {
         alone(state.mode)?;
         self.schedules(state)?;
         self.pays(state)?;
-        Ok(Flow::Stop)
+        Ok(Continuation::Ends)
     }
 
     #[tactic(auto, unfolding(crate::specs::Rules::operation_rule))]
-    fn binary(&self, state: &mut State, op: BinaryOperation) -> Result<Flow, Rule>
+    fn binary(&self, state: &mut State, op: BinaryOperation) -> Result<Continuation, Rule>
         ensures ruling { let ruling = operation_rule (site_of self.now) (Binary op) (state_of state.old) in
             Advances result (state_of state.new) ruling }
         ensures belongs { (m : Contents) → BelongsTo m state.old → BelongsTo m state.new }
@@ -273,7 +274,7 @@ impl Place<'_, '_> {
     }
 
     #[tactic(auto, unfolding(crate::specs::Rules::operation_rule))]
-    fn unary(&self, state: &mut State, op: UnaryOperation) -> Result<Flow, Rule>
+    fn unary(&self, state: &mut State, op: UnaryOperation) -> Result<Continuation, Rule>
         ensures ruling { let ruling = operation_rule (site_of self.now) (Unary op) (state_of state.old) in
             Advances result (state_of state.new) ruling }
         ensures belongs { (m : Contents) → BelongsTo m state.old → BelongsTo m state.new }
@@ -283,7 +284,7 @@ impl Place<'_, '_> {
     }
 
     #[tactic(auto, unfolding(crate::specs::Rules::operation_rule))]
-    pub(crate) fn operate(&self, state: &mut State, op: Op) -> Result<Flow, Rule>
+    pub(crate) fn operate(&self, state: &mut State, op: Op) -> Result<Continuation, Rule>
         requires { BelongsTo self.now.module.now state.old }
         ensures ruling { let ruling = operation_rule (site_of self.now) op (state_of state.old) in
             Advances result (state_of state.new) ruling }

@@ -12,8 +12,10 @@ use Rattle.machine_state.specs.SmallModules as small
 use Rattle.states.specs.declared.rule.Rule.TheVariants as rules
 use Rattle.states.specs.State.{written}
 use Rattle.states.specs.Below.{below}
-use Rattle.facts.specs.Rules.{outside_alternation, outside_starts, uses, becomes, result_fact, forward, writes_word}
-use Rattle.facts.specs.Rules.{reads_word, schedules, pays, leads_to, goes_on, operation_rule, instruction_rule, rule_of}
+use Rattle.facts.specs.Rulings.{outside_alternation, outside_starts, uses, forward, writes_word}
+use Rattle.facts.specs.WordRules.{becomes, result_fact}
+use Rattle.facts.specs.Rulings.{reads_word, schedules, pays, leads_to, goes_on}
+use Rattle.facts.specs.Rules.{operation_rule, instruction_rule, rule_of}
 use Rattle.facts.specs.Rules.{rule, has_rule}
 use Rattle.verifier.specs.Judge.{judged_at, judge, verdict, refused}
 

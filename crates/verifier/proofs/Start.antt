@@ -1,11 +1,12 @@
 -- The loaded world, and the headline.
 use Rattle.std.proofs.Common.{◌≡◌, ℕ, zero, suc, ◌+◌, ◌*◌, ◌≤◌, ◌<◌, ◌≤ℤ◌, ◌<ℤ◌, ◌+ℤ◌, ◌-ℤ◌, neg_ℤ, Bool, true, false}
 use Rattle.std.proofs.Common.{if◌then◌else◌, ltb, ◌&&◌, ◌||◌, ℤ, pos, negsuc, List, [], ◌∷◌, length, replicate, Some}
-use Rattle.std.proofs.Common.{None, refl, sym, ap, ◌∙◌, subst, arith}
+use Rattle.std.proofs.Common.{Option, None, refl, sym, ap, ◌∙◌, subst, arith}
 use Rattle.std.proofs.lemmas.List.{length-append, length-map, length-replicate}
 use Rattle.std.proofs.lemmas.Bool.{le-leb}
 use Rattle.std.proofs.lemmas.Int.{ints}
 use Rattle.std.specs.Prelude.{slice_get, int_le, int_lt}
+use Rattle.module_format.specs.declared.contexts.Context.{Context}
 use Rattle.module_format.specs.Contents.{Contents, Par}
 use Rattle.certificate.specs.Rights.{has_word}
 use Rattle.module_format.specs.Contexts.{root_context, own_context, branch_count, owner, context_at, own_parameters}
@@ -20,7 +21,8 @@ use Rattle.machine_state.specs.World.{World, loaded}
 use Rattle.machine_state.specs.Site.{Local}
 use Rattle.states.specs.State.{unknown, root_state}
 use Rattle.verifier.specs.Certified.{begins, IsCertified}
-use Rattle.facts.specs.Meaning.{owed, Activation, means_unknown, nothing_known, IsOwnWord, words_of, HasFrame}
+use Rattle.facts.specs.Meaning.{owed, Activation, means_unknown, nothing_known, place_in, IsOwnWord, words_of, HasFrame}
+use Rattle.facts.specs.Meaning.{frame_lo, frame_hi}
 use Rattle.facts.specs.Meaning.{from_nowhere}
 use Rattle.facts.specs.Meaning.{MeansKnown, both_plain, IsWellFormed}
 use Rattle.verifier.specs.Point.{Behind, nobody_waits, owed_behind, Decodes}
@@ -35,7 +37,7 @@ use Rattle.verifier.specs.Headline.{IsEvent, RunsWell}
 use Rattle.verifier.proofs.Kept.{decodes, well_formed}
 use Rattle.facts.specs.Fitting.{After}
 use Rattle.facts.proofs.Dues.{nothing_due}
-use Rattle.facts.proofs.Local.{readable}
+use Rattle.facts.proofs.Combining.{readable}
 use Rattle.states.proofs.RowFacts.{and-parts, le-from, lt-from}
 use Rattle.verifier.proofs.Steps.{enter, lives_at}
 use Rattle.verifier.proofs.Worlds.{happens_holds, run_holds}
@@ -114,11 +116,20 @@ root_word m k h =
       mine = root_writes_word m (4 * n.0) fits;
     }
 
+root_lo : (m : Contents) → frame_lo m 0 ≡ neg_ℤ (pos m.base)
+root_lo m = ap (λ (c : Option Context). elim c as (λ c. ℤ) [ None ↦ pos 0 | Some context ↦ context.lo ]) (root_is m)
+
+root_hi : (m : Contents) → frame_hi m 0 ≡ pos m.data_words -ℤ pos m.base
+root_hi m = ap (λ (c : Option Context). elim c as (λ c. ℤ) [ None ↦ pos 0 | Some context ↦ context.hi ]) (root_is m)
+
 root_frame : (m : Contents) → IsWellFormed m
     → HasFrame (root_holding m) (length (loaded_memory m)) (words_of m (root_state m)) (pos (4 * m.base)) (pos 0)
     (data_start + 4 * m.base)
 root_frame m wf = record {
   small = rw (memory_length m) (omega (arith, wf.few_words, wf.short_code, wf.few_constants));
+  from_start = subst (λ (k : ℤ). pos 0 ≤ℤ place_in (pos (4 * m.base)) k) (sym (root_lo m)) (omega (arith, ints));
+  to_end = subst (λ (k : ℤ). place_in (pos (4 * m.base)) k ≤ℤ pos (length (loaded_memory m))) (sym (root_hi m))
+      (omega (arith, ints, data_inside m));
   own = λ k h. root_word m k (and-parts _ _ h).0;
   readable = λ k h.
       let w = root_word m k (and-parts _ _ h).0 in

@@ -21,7 +21,7 @@ use Rattle.machine_state.specs.declared.process.Mode as machine
 use Rattle.machine_state.specs.Memory.{Memory, byte_at, word_at}
 use Rattle.machine_state.specs.Holding.{Holding, may_read, may_read_word}
 use Rattle.machine_state.specs.Memory.{data_start}
-use Rattle.machine_state.specs.Site.{Site, Local, Outcome, goes, jumps, stops}
+use Rattle.machine_state.specs.Site.{Site, Local, Outcome, goes, jumps, lands, stops}
 use Rattle.machine_state.specs.LocalStep.{local_step}
 use Rattle.machine_state.specs.Happens.{between}
 use Rattle.states.specs.declared.rule.Rule.{Rule}
@@ -31,8 +31,9 @@ use Rattle.states.specs.declared.known.Source.{Source}
 use Rattle.states.specs.declared.known.Source.TheVariants.{Nowhere, From, Test}
 use Rattle.states.specs.State.{State, Facts, label_state}
 use Rattle.states.specs.Below.{below}
-use Rattle.facts.specs.Rules.{Ruling, falls, breaks, rule_at}
-use Rattle.verifier.specs.Certified.{falling, state_at, Reaches, follows, IsCertified}
+use Rattle.facts.specs.Rulings.{Ruling, breaks, falling}
+use Rattle.facts.specs.Rules.{rule_at}
+use Rattle.verifier.specs.Certified.{state_at, Reaches, follows, IsCertified}
 use Rattle.facts.specs.Meaning.{owed, Layout, Means, Activation, with_turns, at_label, word_at_place, frame_word}
 use Rattle.facts.specs.Meaning.{words_of}
 use Rattle.facts.specs.Meaning.{ComesFrom, from_nowhere, from_word, from_test, MeansKnown, Knows, IsWellFormed}
@@ -41,8 +42,10 @@ use Rattle.verifier.specs.Point.{IsReading, Caller, Behind, nobody_waits, it_ret
 use Rattle.verifier.specs.Invariant.{Lives}
 use Rattle.facts.proofs.Words.{means_same, frame_word_is}
 use Rattle.states.proofs.RowFacts.{and-parts}
-use Rattle.facts.specs.Fitting.{After, Here, step_site, Fits, it_falls, it_leads, it_ends, it_breaks}
-use Rattle.facts.proofs.Local.{readable_byte, same_frame, elsewhere, function_fits}
+use Rattle.facts.specs.Fitting.{After, Here, step_site, GoesTo, goes_behind, is_jump, is_landing, Fits, it_falls}
+use Rattle.facts.specs.Fitting.{it_leads, it_ends, it_breaks}
+use Rattle.facts.proofs.Combining.{readable_byte, same_frame, elsewhere}
+use Rattle.facts.proofs.Local.{function_fits}
 use Rattle.facts.proofs.Entering.{below_tells, label_after}
 use Rattle.facts.proofs.Dues.{label_owed}
 use Rattle.facts.proofs.Regions.{keeps_all, keeps_more}
@@ -246,8 +249,8 @@ after_some (Some f) g e n rest i some h =
     (sym fg ∙ ap (λ (j : Instr). j.fun) is, ap (λ (j : Instr). j.operand) is, ap (λ (j : Instr). j.len) is)
 
 fits_pays : (x : Here) {r : Ruling} {o : Outcome} → Fits x r o → ((v : Rule) → r ≡ breaks v → ⊥) → x.len ≤ x.owed
-fits_pays x (it_falls low after same changes pay) whole = omega arith
-fits_pays x (it_leads turns label low after same changes pay) whole = omega arith
+fits_pays x (it_falls fallen gone low after same changes pay) whole = omega arith
+fits_pays x (it_leads turns led gone label low after same changes pay) whole = omega arith
 fits_pays x (it_ends changes pay) whole = pay
 fits_pays x (it_breaks {broken = v}) whole = absurd (whole v refl)
 
@@ -258,14 +261,14 @@ module _ (m : Contents) (d : Decodes m) (wf : IsWellFormed m) (c : IsCertified m
   -- what falls through has code behind it
   has_next : (at : ℕ) (before : Option State) (s : State) (i : Instr) → Reaches m at before
       → state_at m at before ≡ Some s → fetched m.code at ≡ Ok i
-      → (s' : State) → rule_at m at i s ≡ falls s' → at + i.len < length m.code
+      → (s' : State) → falling (rule_at m at i s) ≡ Some s' → at + i.len < length m.code
   has_next at before s i r st sp s' e =
       let inside = d.inside at i sp in
       elim (cases_lt (at + i.len) (length m.code)) [
         | inl low ↦ low
         | inr high ↦
             let end : at + i.len ≡ length m.code = omega arith in
-            let next : Reaches m (at + i.len) (Some s') = follows r st sp refl (sym (ap falling e)) in
+            let next : Reaches m (at + i.len) (Some s') = follows r st sp refl (sym e) in
             let none : Some s' ≡ None = c.ends (Some s') (subst (λ n. Reaches m n (Some s')) end next) in
             absurd (cc)
       ]
@@ -469,43 +472,57 @@ module _ (m : Contents) (d : Decodes m) (wf : IsWellFormed m) (c : IsCertified m
           condition =
               Ready;
         }) later → later + 1 ≤ due → Comes h memory t due (goes l)
-    -- or at a label
+    -- or at another offset, where it may be sent to the back of the ready list
     comes_to : {to : ℕ} {l : Local} (later : ℕ) → ChangesOwn h memory l.memory
         → Lives m h l.memory (record { registers = between to l.registers; mode = t.mode; condition = Ready }) later
         → later + 1 ≤ due → Comes h memory t due (jumps to l)
+    -- or at one with no such break
+    comes_straight : {to : ℕ} {l : Local} (later : ℕ) → ChangesOwn h memory l.memory
+        → Lives m h l.memory (record { registers = between to l.registers; mode = t.mode; condition = Ready }) later
+        → later + 1 ≤ due → Comes h memory t due (lands to l)
     -- or it stops
     comes_down : {l : Local} → ChangesOwn h memory l.memory → 1 ≤ due → Comes h memory t due (stops l)
+
+  -- it goes on at an offset, by whatever outcome
+  comes_by : (h : Holding) (memory : Memory) (t : Task) (due : ℕ) (x : Here) {o : Outcome} {to : ℕ} {l : Local}
+      (later : ℕ) → GoesTo x o to l → x.at + x.len ≡ t.registers.at + 1 → ChangesOwn h memory l.memory
+      → Lives m h l.memory (record { registers = between to l.registers; mode = t.mode; condition = Ready }) later
+      → later + 1 ≤ due → Comes h memory t due o
+  comes_by h memory t due x later (goes_behind {l = l}) at own lives less =
+      comes_on later own (subst (λ n. Lives m h l.memory (record {
+        registers = between n l.registers;
+        mode = t.mode;
+        condition = Ready;
+      }) later) at lives) less
+  comes_by h memory t due x later is_jump at own lives less = comes_to later own lives less
+  comes_by h memory t due x later is_landing at own lives less = comes_straight later own lives less
 
   comes : (h : Holding) (memory : Memory) (t : Task) (due : ℕ) (p : Stands m h memory t due) (r : Ruling) (o : Outcome)
       → r ≡ rule_at m t.registers.began p.instr p.state → p.taken + 1 ≡ p.instr.len
       → Fits (here_of h p.act memory t p.state p.instr) r o → Comes h memory t due o
-  comes h memory t due p r o e last (it_falls {s = s'} {l = l} low after same changes pay) =
+  comes h memory t due p r o e last (it_falls {s = s'} {l = l} is gone low after same changes pay) =
       let next : Reaches m (t.registers.began + p.instr.len) (Some s') =
-      follows p.reached p.stands p.reading.spelled refl (ap falling e) in
-      let at : t.registers.began + p.instr.len ≡ t.registers.at + 1 = omega (arith, p.reading.at_is) in
+      follows p.reached p.stands p.reading.spelled refl (sym is ∙ ap falling e) in
       let behind : Behind m h s'.context p.act.layout l.memory p.callers =
       subst (λ (n : ℕ). Behind m h n p.act.layout l.memory p.callers) (sym same)
       (behind_keeps changes.keeps p.behind) in
       let en = enter h t.mode p.act (t.registers.began + p.instr.len) s' l p.callers next low after behind in
-      let lives =
-      lives_at h t.mode en.act (t.registers.began + p.instr.len) (Some s') en.state l p.callers next low en.stands
-      en.after en.behind in
-      comes_on (owed en.state en.act + owed_behind p.callers) changes.own
-      (subst (λ n. Lives m h l.memory (record {
-        registers = between n l.registers;
-        mode = t.mode;
-        condition =
-            Ready;
-      }) (owed en.state en.act + owed_behind p.callers)) at lives)
+      comes_by h memory t due (here_of h p.act memory t p.state p.instr) (owed en.state en.act + owed_behind p.callers)
+      gone (omega (arith, p.reading.at_is)) changes.own
+      (lives_at h t.mode en.act (t.registers.began + p.instr.len) (Some s') en.state l p.callers next low en.stands
+      en.after en.behind)
       (omega (arith, p.paid, en.paid, pay))
-  comes h memory t due p r o e last (it_leads {to = to} {l = l} {t = label} turns is low after same changes pay) =
+  comes h memory t due p r o e last (it_leads {to = to} {l = l} {t = label} turns led gone is low after same changes
+      pay) =
       let r = c.holds.starts to low (label_is_start m to label is) in
       let st : state_at m to r.0 ≡ Some (label_state label) =
       is_given m to r.0 (label_state label) (given_label m to label is) in
       let behind : Behind m h label.context p.act.layout l.memory p.callers =
       subst (λ (n : ℕ). Behind m h n p.act.layout l.memory p.callers) (sym same)
       (behind_keeps changes.keeps p.behind) in
-      comes_to (owed (label_state label) (with_turns turns p.act) + owed_behind p.callers) changes.own
+      comes_by h memory t due (here_of h p.act memory t p.state p.instr)
+      (owed (label_state label) (with_turns turns p.act) + owed_behind p.callers) gone
+      (omega (arith, p.reading.at_is)) changes.own
       (lives_at h t.mode (with_turns turns p.act) to r.0 (label_state label) l p.callers r.1 low st after behind)
       (omega (arith, p.paid, pay))
   comes h memory t due p r o e last (it_ends changes pay) = comes_down changes.own (omega (arith, p.paid, pay))

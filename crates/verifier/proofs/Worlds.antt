@@ -41,7 +41,7 @@ use Rattle.states.specs.declared.known.Mode as states
 use Rattle.verifier.specs.Point.{Stands, Decodes}
 use Rattle.std.proofs.lemmas.List.{length-set}
 use Rattle.machine_state.proofs.Reading.{length-with_byte, byte_at-with_byte, byte_at-with_byte_other}
-use Rattle.facts.proofs.Local.{readable_byte}
+use Rattle.facts.proofs.Combining.{readable_byte}
 use Rattle.verifier.specs.Invariant.{awaits, is_filled, message_place, IsByte, Lives, Meets, it_lives, it_stopped}
 use Rattle.verifier.specs.Invariant.{it_ended, Process, Table, total, Holds}
 use Rattle.machine_state.specs.Waiting.{IsReadyAt, AllReady, IsAbsent, line_of, line, Line, WaitsOn, Waiters}
@@ -50,8 +50,8 @@ use Rattle.facts.proofs.Words.{bool_cases}
 use Rattle.machine_state.proofs.Lines.{got_set, got_other, all_ready_same, all_ready_without, absent_by_condition}
 use Rattle.machine_state.proofs.Lines.{leave_line, push_line, pick_line}
 use Rattle.verifier.proofs.Given.{or_left, or_right}
-use Rattle.verifier.proofs.Steps.{site_in, byte_here, owes, prefixed_stands, Comes, comes_on, comes_to, comes_down}
-use Rattle.verifier.proofs.Steps.{comes_last}
+use Rattle.verifier.proofs.Steps.{site_in, byte_here, owes, prefixed_stands, Comes, comes_on, comes_to}
+use Rattle.verifier.proofs.Steps.{comes_straight, comes_down, comes_last}
 
 -- an instruction of a process
 abbrev at_here : Contents → ℕ → Task → ℕ → Here
@@ -290,6 +290,13 @@ module _ (m : Contents) (w : World) (h : Holds m w) (p : ℕ) (r : Runs m w h.du
         condition = c;
       }) later) (sym r.ready) lives) less
   settled_holds d wf c false pick o running (comes_to {to = to} {l = l} later changes lives less) =
+      went_on (record r.task { registers = between to l.registers }) l.memory later r.ready changes
+      (subst (λ c. Lives m (held r.row.role) l.memory (record {
+        registers = between to l.registers;
+        mode = r.task.mode;
+        condition = c;
+      }) later) (sym r.ready) lives) less
+  settled_holds d wf c slice pick o running (comes_straight {to = to} {l = l} later changes lives less) =
       went_on (record r.task { registers = between to l.registers }) l.memory later r.ready changes
       (subst (λ c. Lives m (held r.row.role) l.memory (record {
         registers = between to l.registers;

@@ -12,15 +12,9 @@ use Rattle.states.specs.declared.rule.TheConstants.{MEMORY}
 use Rattle.states.specs.Numbers.{number_of}
 use Rattle.states.specs.State.{State, root_state, label_state, procedure_state}
 use Rattle.states.specs.Below.{below}
-use Rattle.facts.specs.Rules.{Ruling, falls, leads, ends, breaks, rule_at, has_rule}
+use Rattle.facts.specs.Rulings.{breaks, falling}
+use Rattle.facts.specs.Rules.{rule_at, has_rule}
 use Rattle.verifier.specs.declared.Refusal.{Refusal}
-
--- the state that a ruling lets fall into the next offset
-abbrev pub falling : Ruling → Option State
-falling (falls s) = Some s
-falling (leads to) = None
-falling ends = None
-falling (breaks broken) = None
 
 -- the state in which the procedure begins that was found
 abbrev pub first_state : Option Entered → Option State

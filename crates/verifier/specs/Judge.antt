@@ -10,9 +10,10 @@ use Rattle.states.specs.declared.rule.Rule.{Rule}
 use Rattle.states.specs.declared.rule.Rule.TheVariants as rules
 use Rattle.states.specs.Numbers.{number_of}
 use Rattle.states.specs.State.{State, root_state}
-use Rattle.facts.specs.Rules.{Ruling, breaks, rule_at, has_rule}
+use Rattle.facts.specs.Rulings.{Ruling, breaks, falling}
+use Rattle.facts.specs.Rules.{rule_at, has_rule}
 use Rattle.verifier.specs.declared.stop.Breach.{Breach}
-use Rattle.verifier.specs.Certified.{falling, state_at, entering}
+use Rattle.verifier.specs.Certified.{state_at, entering}
 
 -- of two rules the one with the lower number
 abbrev pub lower : Rule → Rule → Rule

@@ -5,7 +5,8 @@ ghost use Rattle.states.specs.declared.rule.Rule.TheVariants as rules;
 ghost use Rattle.module_format.specs.Contents.{Contents};
 ghost use Rattle.states.specs.State.{State as Known};
 ghost use Rattle.states.specs.Views.{state_of, BelongsTo};
-ghost use Rattle.facts.specs.Rules.{Ruling, has_rule};
+ghost use Rattle.facts.specs.Rulings.{Ruling};
+ghost use Rattle.facts.specs.Rules.{has_rule};
 ghost use Rattle.facts.specs.Telling.{Advances};
 ghost use Rattle.verifier.specs.Certified.{entering};
 ghost use Rattle.verifier.specs.Judge.{lower, both, judged_at};
@@ -13,8 +14,7 @@ ghost use Rattle.verifier.specs.Judging.{falling_state, Judges, IsComparable, Is
 
 use crate::rows::Given;
 use certificate::Module;
-use facts::{advance, has_rule};
-use machine_state::Flow;
+use facts::{Continuation, advance, has_rule};
 use prefix_decoder::Instr;
 use states::{Rule, State, cost_below};
 
@@ -42,12 +42,13 @@ fn lower(first: Rule, second: Rule) -> Rule
 }
 
 /// Whether a state falls into the next offset, or the lower of two rules that are broken.
-fn both(entered: Result<u64, Rule>, flow: Result<Flow, Rule>) -> Result<bool, Rule>
+fn both(entered: Result<u64, Rule>, flow: Result<Continuation, Rule>) -> Result<bool, Rule>
     ensures { (ruling : Ruling) (after : Known) → Advances flow after ruling
         → Judges result after (both entered ruling) }
 {
     match (entered, flow) {
-        (Ok(_), Ok(flow)) => Ok(flow == Flow::Next),
+        (Ok(_), Ok(Continuation::Falls | Continuation::FallsOrLeads { .. })) => Ok(true),
+        (Ok(_), Ok(_)) => Ok(false),
         (Ok(_), Err(rule)) => Err(rule),
         (Err(rule), Ok(_)) => Err(rule),
         (Err(first), Err(second)) => Err(lower(first, second)),

@@ -1,7 +1,8 @@
 use Rattle.std.proofs.Common.{◌∙◌, sym, ap, ℕ}
 use Rattle.std.proofs.lemmas.Result.{err_from_is_err_and}
 use Rattle.states.specs.Views.{state_of}
-use Rattle.facts.specs.Rules.{instruction_rule, goes_to}
+use Rattle.facts.specs.Rulings.{goes_to}
+use Rattle.facts.specs.Rules.{instruction_rule}
 use Rattle.facts.specs.Places.{site_of}
 use Rattle.facts.proofs.Steps.{advances-by, jump-forward}
 use Rattle.facts.proofs.place.Place.jump.Goals as goal

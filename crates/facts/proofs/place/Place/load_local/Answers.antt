@@ -3,7 +3,7 @@ use Rattle.std.proofs.lemmas.Int.{to_z-of_z}
 use Rattle.std.proofs.lemmas.Result.{err_from_is_err_and}
 use Rattle.std.specs.Int.{w32}
 use Rattle.states.specs.Views.{state_of}
-use Rattle.facts.specs.Rules.{goes_on}
+use Rattle.facts.specs.Rulings.{goes_on}
 use Rattle.facts.specs.Places.{site_of}
 use Rattle.facts.proofs.Steps.{advances-by, load_local-own, load_local-after}
 use Rattle.facts.proofs.place.Place.load_local.Goals as goal

@@ -3,7 +3,7 @@ use Rattle.std.proofs.lemmas.Int.{to_z-of_z}
 use Rattle.std.proofs.lemmas.Result.{err_from_is_err_and}
 use Rattle.std.specs.Int.{w32}
 use Rattle.states.specs.Views.{state_of, CanWrite}
-use Rattle.facts.specs.Rules.{schedules}
+use Rattle.facts.specs.Rulings.{schedules}
 use Rattle.facts.proofs.Steps.{scheduled}
 use Rattle.facts.proofs.place.Place.schedules.Goals as goal
 

@@ -2,7 +2,7 @@ use Rattle.std.proofs.Common.{rules, ◌∙◌, ap}
 use Rattle.std.proofs.lemmas.Int.{to_z-of_z}
 use Rattle.std.specs.Int.{w32}
 use Rattle.states.specs.Views.{state_of}
-use Rattle.facts.specs.Rules.{goes_on}
+use Rattle.facts.specs.Rulings.{goes_on}
 use Rattle.facts.specs.Places.{site_of}
 use Rattle.facts.proofs.Steps.{advances-by, store_local-own, store_local-after}
 use Rattle.facts.proofs.place.Place.store_local.Goals as goal
