@@ -207,7 +207,7 @@ fn put_following(
 )
     requires { BelongsTo «module».now state.now }
 {
-    if !has_rule(instr) {
+    if !has_rule(module, instr) {
         out.put("no rule ");
     }
     match transfer(alloc, module, state, at, instr) {

@@ -48,7 +48,7 @@ fn validity(alloc: Global, module: &Module, file: &[u8]) -> &'static str {
 /// Whether an instruction at a code offset has no rule.
 pub(crate) fn is_unruled(module: &Module, offset: u32) -> bool {
     match fetch(module.tables().code, offset as usize) {
-        Ok(instr) => !has_rule(instr),
+        Ok(instr) => !has_rule(module, instr),
         Err(_) => false,
     }
 }

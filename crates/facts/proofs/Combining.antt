@@ -25,6 +25,7 @@ use Rattle.machine_state.specs.declared.op.Op.TheVariants as operations
 use Rattle.machine_state.specs.declared.instruction.Instruction.{Instruction}
 use Rattle.machine_state.specs.declared.instruction.Instruction.TheVariants as instructions
 use Rattle.machine_state.specs.Instructions.{instruction_of}
+use Rattle.machine_state.specs.declared.fault.FaultKind.{FaultKind}
 use Rattle.machine_state.specs.declared.fault.FaultKind.TheVariants.{OutsideCode}
 use Rattle.machine_state.specs.Memory.{Memory, place_of, local_address, word_at, with_word}
 use Rattle.machine_state.specs.Holding.{Holding, covers, may_write, may_read, may_write_word, may_read_word}
@@ -45,6 +46,7 @@ use Rattle.states.proofs.RowFacts.{and-parts}
 use Rattle.facts.specs.Regions.{scope_of}
 use Rattle.facts.proofs.Regions.{keeps_more, write_keeps}
 use Rattle.facts.specs.Rulings as rule
+use Rattle.facts.specs.WordRules as word
 use Rattle.facts.specs.Rulings.{Ruling, falls, leads, breaks, leading}
 use Rattle.facts.specs.Meaning.{Layout, Activation, Means, says_nothing, is_number, frame_word, IsOwnWord, Words}
 use Rattle.facts.specs.Meaning.{words_of, HasFrame, ComesFrom, from_nowhere, from_word, MeansWord, MeansKnown}
@@ -177,13 +179,31 @@ module _ (x : Here) where
   uses_fact ReturnAddress None r o means go = elim means [ ]
   uses_fact ReturnAddress (Some a) r o means go = go a refl
 
-  pub uses_fits : {counts : ℤ → Bool} {memory : Memory} (k : Known) (v : Option ℤ) (r : Fact → Ruling) (o : ℤ → Outcome)
-      → MeansKnown x.m counts x.act.layout memory k v
-      → ((a : ℤ) → MeansKnown x.m counts x.act.layout memory k (Some a) → FitsIf x (r k.fact) (o a))
+  -- the value of the register is this one, and what is known of it holds
+  pub uses_value : {counts : ℤ → Bool} {memory : Memory} (k : Known) (v : Option ℤ) (r : Fact → Ruling)
+      (o : ℤ → Outcome) → MeansKnown x.m counts x.act.layout memory k v
+      → ((a : ℤ) → v ≡ Some a → MeansKnown x.m counts x.act.layout memory k (Some a) → FitsIf x (r k.fact) (o a))
       → FitsIf x (rule.uses k r) (step.uses v o)
   unfolding rule.uses
-  uses_fits {counts} {memory} k v r o means go = uses_fact k.fact v (r k.fact) o means.fact
-      (λ a is. go a (subst (λ (u : Option ℤ). MeansKnown x.m counts x.act.layout memory k u) is means))
+  uses_value {counts} {memory} k v r o means go = uses_fact k.fact v (r k.fact) o means.fact
+      (λ a is. go a is (subst (λ (u : Option ℤ). MeansKnown x.m counts x.act.layout memory k u) is means))
+
+  pub uses_fits : {counts : ℤ → Bool} {memory : Memory} (k : Known) (v : Option ℤ) (r : Fact → Ruling)
+      (o : ℤ → Outcome) → MeansKnown x.m counts x.act.layout memory k v
+      → ((a : ℤ) → MeansKnown x.m counts x.act.layout memory k (Some a) → FitsIf x (r k.fact) (o a))
+      → FitsIf x (rule.uses k r) (step.uses v o)
+  uses_fits k v r o means go = uses_value k v r o means (λ a is. go a)
+
+  -- what is wanted of numbers
+  pub in_bounds_fits : (b : Bool) (r : Ruling) (o : Outcome) → (b ≡ true → FitsIf x r o) → FitsIf x (word.in_bounds b r) o
+  unfolding word.in_bounds
+  in_bounds_fits b r o go = on_rule_test b _ _ _ go (λ t next. it_breaks)
+
+  -- a test that holds
+  pub holds_fits : (b : Bool) (kind : FaultKind) (r : Ruling) (o : Outcome) → b ≡ true → FitsIf x r o
+      → FitsIf x r (step.holds b kind o)
+  unfolding step.holds
+  holds_fits b kind r o e go = subst (λ (c : Bool). FitsIf x r (step.holds c kind o)) (sym e) go
 
   -- the frame's word at depth + e, which is written
   pub writes_word_fits : (s : State) (e : ℤ) (r : Ruling) (o : Outcome)

@@ -5,6 +5,9 @@ pub mod Regions
 pub mod Results
 pub mod Entering
 pub mod Dues
+pub mod Sources
+pub mod NarrowedWords
+pub mod Narrowed
 pub mod Combining
 pub mod WordsFit
 pub mod Local

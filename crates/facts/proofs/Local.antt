@@ -19,7 +19,8 @@ use Rattle.facts.specs.Fitting.{Changes, After, Here, rule_site, step_site, it_e
 use Rattle.facts.proofs.Combining.{FitsIf, unknown_means, schedules_fits, leads_fits, in_plain_rule, beside_plain_rule}
 use Rattle.facts.proofs.Combining.{in_plain_step, after_stack, pays_fits}
 use Rattle.facts.proofs.WordsFit.{ldc_fits, ldl_fits, stl_fits, constant_fits, reverse_fits, mint_fits, binary_fits}
-use Rattle.facts.proofs.WordsFit.{unary_fits}
+use Rattle.facts.proofs.WordsFit.{unary_fits, shift_fits, long_fits, subscript_fits, count_fits, pointer_fits}
+use Rattle.facts.proofs.WordsFit.{adjust_fits, cj_fits}
 
 module _ (x : Here) (wf : IsWellFormed x.m) (s : State) (l : Local) (a : After x.m x.h x.mode x.act s l)
     (same : s.context ≡ x.context) (changes : Changes x l.memory) (n : owed s x.act ≤ x.owed) where
@@ -53,6 +54,10 @@ module _ (x : Here) (wf : IsWellFormed x.m) (s : State) (l : Local) (a : After x
   operation_fits operations.StopProcess = stop_fits
   operation_fits (operations.Binary op) = binary_fits x s l a same changes n op
   operation_fits (operations.Unary op) = unary_fits x s l a same changes n op
+  operation_fits (operations.Shift op) = shift_fits x s l a same changes n op
+  operation_fits (operations.Long op) = long_fits x s l a same changes n op
+  operation_fits operations.CheckSubscript = subscript_fits x s l a same changes n
+  operation_fits operations.CheckCount = count_fits x s l a same changes n
   operation_fits _ = λ next. it_breaks
 
   instruction_fits : (i : Instruction) (e : ℤ) → FitsSigned w32 e
@@ -63,7 +68,10 @@ module _ (x : Here) (wf : IsWellFormed x.m) (s : State) (l : Local) (a : After x
   instruction_fits instructions.LoadLocal e fits = ldl_fits x s l a same changes n e fits
   instruction_fits instructions.StoreLocal e fits = stl_fits x s l a same changes n e fits
   instruction_fits (instructions.WithConstant op) e fits = constant_fits x s l a same changes n op e fits
+  instruction_fits instructions.LoadLocalPointer e fits = pointer_fits x s l a same changes n e fits
+  instruction_fits instructions.AdjustWorkspace e fits = adjust_fits x s l a same changes n e fits
   instruction_fits instructions.Jump e fits = j_fits e fits
+  instruction_fits instructions.ConditionalJump e fits = cj_fits x s l a same changes n wf e fits
   instruction_fits (instructions.Operate op) e fits = operation_fits op
   instruction_fits _ e fits = λ next. it_breaks
 

@@ -1,15 +1,17 @@
 -- The rules, one test behind another.
-use Rattle.std.proofs.Common.{◌≡◌, ℕ, ℤ, negsuc, ◌+ℤ◌, ◌+◌, Result, Ok, Err, Option, Some, None, sym, ap, ◌∙◌, subst}
-use Rattle.std.proofs.Common.{refl, Bool, false, cond, is_some, to_z, of_z}
+use Rattle.std.proofs.Common.{◌≡◌, ℕ, ℤ, pos, negsuc, ◌*ℤ◌, ◌+ℤ◌, ◌+◌, Result, Ok, Err, Option, Some, None, sym, ap, ◌∙◌, subst}
+use Rattle.std.proofs.Common.{refl, Bool, false, cond, ◌&&◌, is_some, to_z, of_z}
 use Rattle.std.proofs.lemmas.Int.{to_z-of_z}
 use Rattle.std.specs.Prelude.{FitsSigned, ok_or, IfSome, IfOk}
 use Rattle.std.specs.Int.{w32}
 use Rattle.prefix_decoder.specs.declared.decoding.Instr.{Instr}
 use Rattle.module_format.specs.declared.fact.Fact.{Fact}
-use Rattle.module_format.specs.declared.fact.Fact.TheVariants.{Unknown, Number}
+use Rattle.module_format.specs.declared.fact.Fact.TheVariants.{Unknown, Number, Pointer}
+use Rattle.module_format.specs.declared.fact.Step.TheVariants.{Word}
 use Rattle.machine_state.specs.declared.instruction.Instruction.{Instruction}
 use Rattle.machine_state.specs.declared.instruction.Instruction.TheVariants.{Jump, LoadConstant, LoadLocal, StoreLocal}
-use Rattle.machine_state.specs.declared.instruction.Instruction.TheVariants.{WithConstant}
+use Rattle.machine_state.specs.declared.instruction.Instruction.TheVariants.{WithConstant, LoadLocalPointer}
+use Rattle.machine_state.specs.declared.instruction.Instruction.TheVariants.{AdjustWorkspace, ConditionalJump}
 use Rattle.machine_state.specs.declared.instruction.Instruction.TheVariants.{Operate}
 use Rattle.machine_state.specs.declared.op.Op.{Op}
 use Rattle.machine_state.specs.declared.op.Op.TheVariants as ops
@@ -24,9 +26,10 @@ use Rattle.certificate.specs.Rights.{may_write_word, may_read_word}
 use Rattle.states.specs.State.{State, known, written}
 use Rattle.states.specs.Below.{below}
 use Rattle.facts.specs.declared.continuation.Continuation.{Continuation}
+use Rattle.facts.specs.Rulings.{forks_to, falls_or_leads}
 use Rattle.facts.specs.Rulings.{Ruling, Site, leads, breaks, outside_alternation, outside_starts, alone, uses, forward}
 use Rattle.facts.specs.Rulings.{writes_word, reads_word, leads_to, goes_on, goes_to, push, pop}
-use Rattle.facts.specs.WordRules.{loaded}
+use Rattle.facts.specs.WordRules.{loaded, near, has_range, in_bounds, has_long_operations, long_results}
 use Rattle.facts.specs.Rules.{instruction_rule, rule_of, rule, rule_at, has_rule, operation_rule, op_has_rule}
 use Rattle.facts.specs.Rules.{instruction_has_rule}
 use Rattle.facts.specs.Telling.{Admits, Advances}
@@ -45,6 +48,19 @@ load_constant-done site s t e d v v_is d_is t_is =
     ap (goes_on site) (sym (t_is ∙ ap (λ x. push x s) (v_is ∙ ap (λ (z : ℤ). known (Number z z)) d_is)))
 
 -- ---- ldl
+
+-- ---- ldlp
+
+pub local_pointer-is : (site : Site) (s : State) (e z : ℤ) → z ≡ pos 4 *ℤ (s.depth +ℤ e)
+    → instruction_rule site LoadLocalPointer e s ≡ near z (goes_on site (push (known (Pointer 0 z z Word)) s))
+unfolding instruction_rule
+local_pointer-is site s e z is =
+    sym (ap (λ (z : ℤ). near z (goes_on site (push (known (Pointer 0 z z Word)) s))) is)
+
+pub local_pointer-done : (site : Site) (s t : State) (z o : ℤ) (v : Known) → o ≡ z → v ≡ known (Pointer 0 o o Word)
+    → t ≡ push v s → goes_on site (push (known (Pointer 0 z z Word)) s) ≡ goes_on site t
+local_pointer-done site s t z o v o_is v_is t_is =
+    ap (goes_on site) (sym (t_is ∙ ap (λ x. push x s) (v_is ∙ ap (λ (o : ℤ). known (Pointer 0 o o Word)) o_is)))
 
 -- what ldl leaves
 abbrev pub after_load : ℤ → State → State
@@ -117,6 +133,30 @@ leads-nowhere site to s found =
           (λ r. Ruling) [ Ok cost ↦ leads to | Err broken ↦ breaks broken ]
     ]) found
 
+pub forks-on : (site : Site) (to : ℕ) (s here : State) (t : Label) (r : Result ℕ Rule)
+    → label_at site.contents to ≡ Some t → r ≡ below s t
+    → forks_to site to s here
+    ≡ elim r as (λ r. Ruling) [ Ok cost ↦ falls_or_leads here to | Err broken ↦ breaks broken ]
+unfolding forks_to
+forks-on site to s here t r found is =
+    ap (λ (o : Option Label). elim o as (λ o. Ruling) [
+      | None ↦ breaks rules.Label
+      | Some t ↦ elim (below s t) as
+          (λ r. Ruling) [ Ok cost ↦ falls_or_leads here to | Err broken ↦ breaks broken ]
+    ]) found
+    ∙ ap (λ (r : Result ℕ Rule). elim r as
+    (λ r. Ruling) [ Ok cost ↦ falls_or_leads here to | Err broken ↦ breaks broken ]) (sym is)
+
+pub forks-nowhere : (site : Site) (to : ℕ) (s here : State) → label_at site.contents to ≡ None
+    → forks_to site to s here ≡ breaks rules.Label
+unfolding forks_to
+forks-nowhere site to s here found =
+    ap (λ (o : Option Label). elim o as (λ o. Ruling) [
+      | None ↦ breaks rules.Label
+      | Some t ↦ elim (below s t) as
+          (λ r. Ruling) [ Ok cost ↦ falls_or_leads here to | Err broken ↦ breaks broken ]
+    ]) found
+
 -- ---- the words below the workspace
 
 pub scheduled : (s t u v : State) (j k l : ℤ) → t ≡ written j Unknown s → u ≡ written k Unknown t
@@ -132,35 +172,45 @@ scheduled s t u v j k l t_is u_is v_is j_is k_is l_is =
 
 -- ---- an instruction that has no rule
 
-operation-without : (site : Site) (op : Op) (s : State) → op_has_rule op ≡ false
+operation-without : (site : Site) (op : Op) (s : State) → op_has_rule site.contents op ≡ false
     → operation_rule site op s ≡ breaks rules.Spelling
-unfolding operation_rule
+unfolding operation_rule has_long_operations
 operation-without site ops.Reverse s h = absurd (cc)
 operation-without site ops.MinimumInteger s h = absurd (cc)
 operation-without site ops.StopProcess s h = absurd (cc)
 operation-without site (ops.Binary op) s h = absurd (cc)
 operation-without site (ops.Unary op) s h = absurd (cc)
+operation-without site (ops.Shift op) s h = absurd (cc)
+operation-without site (ops.Long op) s h =
+    ap (λ (b : Bool). cond b (uses s.stack.a (λ a. uses s.stack.b (λ b. uses s.stack.c (λ c.
+    in_bounds (has_range a && has_range b && has_range c)
+    (alone s.mode (goes_on site (record s { stack = long_results op }))))))) (breaks rules.Spelling)) h
+operation-without site ops.CheckSubscript s h = absurd (cc)
+operation-without site ops.CheckCount s h = absurd (cc)
 operation-without site _ s h = refl
 
-instruction-without : (site : Site) (i : Instruction) (e : ℤ) (s : State) → instruction_has_rule i ≡ false
-    → instruction_rule site i e s ≡ breaks rules.Spelling
+instruction-without : (site : Site) (i : Instruction) (e : ℤ) (s : State)
+    → instruction_has_rule site.contents i ≡ false → instruction_rule site i e s ≡ breaks rules.Spelling
 unfolding instruction_rule
 instruction-without site LoadConstant e s h = absurd (cc)
 instruction-without site LoadLocal e s h = absurd (cc)
 instruction-without site StoreLocal e s h = absurd (cc)
 instruction-without site (WithConstant op) e s h = absurd (cc)
+instruction-without site LoadLocalPointer e s h = absurd (cc)
+instruction-without site AdjustWorkspace e s h = absurd (cc)
 instruction-without site Jump e s h = absurd (cc)
+instruction-without site ConditionalJump e s h = absurd (cc)
 instruction-without site (Operate op) e s h = operation-without site op s h
 instruction-without site _ e s h = refl
 
 without-rule : (site : Site) (o : Option Instruction) (e : ℤ) (s : State)
-    → (elim o as (λ o. Bool) [ None ↦ false | Some i ↦ instruction_has_rule i ]) ≡ false
+    → (elim o as (λ o. Bool) [ None ↦ false | Some i ↦ instruction_has_rule site.contents i ]) ≡ false
     → rule_of site o e s ≡ breaks rules.Spelling
 unfolding rule_of
 without-rule site None e s h = refl
 without-rule site (Some i) e s h = instruction-without site i e s h
 
-pub unruled : (m : Contents) (at : ℕ) (i : Instr) (s : State) → has_rule i ≡ false
+pub unruled : (m : Contents) (at : ℕ) (i : Instr) (s : State) → has_rule m i ≡ false
     → rule_at m at i s ≡ breaks rules.Spelling
 unfolding rule has_rule
 unruled m at i s h = without-rule _ (instruction_of i.fun i.operand) i.operand s h

@@ -1,10 +1,10 @@
 -- Words of the frame: where they lie, and what a write to one leaves.
-use Rattle.std.proofs.Common.{◌≡◌, ℕ, ◌+◌, ◌≤◌, ◌<◌, ◌<ℤ◌, ℤ, pos, negsuc, ◌+ℤ◌, ◌*ℤ◌, ◌≤ℤ◌, FitsSigned, Bool, true}
+use Rattle.std.proofs.Common.{◌≡◌, ℕ, ◌+◌, ◌*◌, ◌%◌, ◌^◌, ◌≤◌, ◌<◌, ◌<ℤ◌, ℤ, pos, negsuc, ◌+ℤ◌, ◌*ℤ◌, ◌≤ℤ◌, FitsSigned, Bool, true}
 use Rattle.std.proofs.Common.{false, cond, ◌&&◌, ◌⊎◌, inl, inr, length, Option, Some, None, refl, sym, ap, ◌∙◌, subst}
-use Rattle.std.proofs.Common.{arith}
-use Rattle.std.specs.Prelude.{int_le}
-use Rattle.std.proofs.lemmas.Int.{ints, SFits-int_wrap}
-use Rattle.std.specs.Int.{w32}
+use Rattle.std.proofs.Common.{lit<, arith}
+use Rattle.std.specs.Prelude.{int_le, unsigned_abs}
+use Rattle.std.proofs.lemmas.Int.{ints, SFits-int_wrap, int_rem_euclid_is}
+use Rattle.std.specs.Int.{w32, cast_signed, cast_unsigned, int_wrap}
 use Rattle.module_format.specs.declared.fact.Fact.{Fact}
 use Rattle.module_format.specs.declared.fact.Fact.TheVariants.{Unknown, Number, Pointer, CodeAddress, Loop}
 use Rattle.module_format.specs.declared.fact.Fact.TheVariants.{ReturnAddress}
@@ -55,6 +55,30 @@ word_test j k = elim (int_le_tells j k) [
     )
   ]
 ]
+
+-- a sum of addresses as a word, where a multiple of 2^32 may have been added
+pub wrapped : (z : ℤ) (k n : ℕ) → z +ℤ pos (k * 2 ^ 32) ≡ pos n → cast_signed w32 (n % 2 ^ 32) ≡ int_wrap w32 z
+unfolding int_wrap
+wrapped z k n h =
+    sym (ap (λ r. cast_signed w32 (unsigned_abs r))
+    (int_rem_euclid_is z (pos (2 ^ 32)) (2 ^ 32) k n (lit< tt) refl h))
+
+-- the address of word e from a workspace, as a word
+pub local_word : (workspace : ℕ) (e z : ℤ) → FitsSigned w32 e → z ≡ pos workspace +ℤ (pos 4 *ℤ e)
+    → cast_signed w32 (local_address workspace e) ≡ int_wrap w32 z
+unfolding local_address
+local_word workspace e z fits is = elim (int_le_tells (pos 0) e) [
+  | inl p ↦ wrapped z 0 (workspace + 4 * cast_unsigned w32 e) (omega (arith, ints, fits, is, p.1))
+  | inr p ↦ wrapped z 4 (workspace + 4 * cast_unsigned w32 e) (omega (arith, ints, fits, is, p.1))
+]
+
+-- the workspace moved by e words within the frame
+pub moved_workspace : (workspace : ℕ) (origin depth e : ℤ) → FitsSigned w32 e
+    → pos workspace ≡ pos data_start +ℤ place_in origin depth → pos 0 ≤ℤ place_in origin (depth +ℤ e)
+    → place_in origin (depth +ℤ e) ≤ℤ pos 1048576
+    → pos (local_address workspace e) ≡ pos data_start +ℤ place_in origin (depth +ℤ e)
+unfolding local_address
+moved_workspace workspace origin depth e fits is low high = omega (arith, ints, fits, is, low, high)
 
 pub bool_cases : (b : Bool) → (b ≡ true) ⊎ (b ≡ false)
 bool_cases true = inl refl

@@ -3,6 +3,7 @@ pub mod WordRules
 pub mod Rules
 pub mod Telling
 pub mod Places
+pub mod Narrowings
 pub mod Successions
 pub mod Meaning
 pub mod Regions

@@ -1,23 +1,32 @@
 -- The rule of each instruction: what it wants of the state before it, and what it leaves. The rules mirror the steps
 -- of the machine, and their tests are in rising order of the numbers of rules.
-use Rattle.std.specs.Prelude.{ℕ, ◌+◌, Bool, true, false, ℤ, ◌+ℤ◌, Option, Some, None}
+use Rattle.std.specs.Prelude.{ℕ, ◌+◌, Bool, true, false, ◌&&◌, ℤ, pos, ◌+ℤ◌, ◌*ℤ◌, Option, Some, None}
 use Rattle.prefix_decoder.specs.declared.function.Fun.{Fun}
 use Rattle.prefix_decoder.specs.declared.decoding.Instr.{Instr}
 use Rattle.word_arithmetic.specs.Word.{least_word}
-use Rattle.module_format.specs.declared.fact.Fact.TheVariants.{Number}
+use Rattle.module_format.specs.declared.fact.Fact.TheVariants.{Number, Pointer}
+use Rattle.module_format.specs.declared.fact.Step.TheVariants.{Word}
 use Rattle.module_format.specs.Contents.{Contents}
 use Rattle.machine_state.specs.declared.op.Op.{Op}
 use Rattle.machine_state.specs.declared.op.Op.TheVariants.{Reverse, StopProcess, MinimumInteger, Binary, Unary}
+use Rattle.machine_state.specs.declared.op.Op.TheVariants.{Shift, Long, CheckSubscript, CheckCount}
 use Rattle.machine_state.specs.declared.instruction.Instruction.{Instruction}
 use Rattle.machine_state.specs.declared.instruction.Instruction.TheVariants.{Jump, LoadConstant, LoadLocal, StoreLocal}
 use Rattle.machine_state.specs.declared.instruction.Instruction.TheVariants.{WithConstant, Operate}
+use Rattle.machine_state.specs.declared.instruction.Instruction.TheVariants.{LoadLocalPointer, AdjustWorkspace}
+use Rattle.machine_state.specs.declared.instruction.Instruction.TheVariants.{ConditionalJump}
 use Rattle.machine_state.specs.Instructions.{instruction_of}
 use Rattle.machine_state.specs.LocalStep.{target}
 use Rattle.states.specs.declared.rule.Rule.TheVariants as rules
-use Rattle.states.specs.State.{State, written}
+use Rattle.states.specs.declared.known.Source.TheVariants.{Nowhere}
+use Rattle.states.specs.State.{State, known, written}
 use Rattle.facts.specs.Rulings.{Ruling, ends, breaks, Site, outside_alternation, outside_starts, alone, uses, forward}
-use Rattle.facts.specs.Rulings.{writes_word, reads_word, schedules, pays, goes_on, goes_to, push, pop, reverse}
-use Rattle.facts.specs.WordRules.{constant, loaded, result_fact, unary_result_fact, becomes}
+use Rattle.facts.specs.Rulings.{writes_word, reads_word, schedules, pays, forks_to, goes_on, goes_to, push, pop}
+use Rattle.facts.specs.Rulings.{reverse}
+use Rattle.facts.specs.WordRules.{constant, loaded, in_bounds, has_range, numbers_have, has_long_operations}
+use Rattle.facts.specs.WordRules.{fact_of_two, result_fact, unary_result_fact, shift_range, is_subscript, is_count}
+use Rattle.facts.specs.WordRules.{long_results, result_source, constant_source, becomes, where_false, where_true}
+use Rattle.facts.specs.WordRules.{in_frame, near}
 
 -- ---- the instructions
 
@@ -26,8 +35,21 @@ operation_rule site Reverse s = alone s.mode (goes_on site (reverse s))
 operation_rule site MinimumInteger s = outside_starts s.mode (goes_on site (push (constant least_word) s))
 operation_rule site StopProcess s = alone s.mode (schedules site s (λ s. pays site s (λ s. ends)))
 operation_rule site (Binary op) s =
-    uses s.stack.a (λ a. uses s.stack.b (λ b. becomes site (result_fact op b a) (pop s)))
-operation_rule site (Unary op) s = uses s.stack.a (λ a. becomes site (unary_result_fact op a) s)
+    uses s.stack.a (λ a. uses s.stack.b (λ b.
+    becomes site (result_fact op b a) (result_source op s.stack.b s.stack.a) (pop s)))
+operation_rule site (Unary op) s = uses s.stack.a (λ a. becomes site (unary_result_fact op a) Nowhere s)
+operation_rule site (Shift op) s =
+    uses s.stack.a (λ a. uses s.stack.b (λ b. becomes site (fact_of_two (shift_range op) b a) Nowhere (pop s)))
+operation_rule site (Long op) s =
+    has_long_operations site (uses s.stack.a (λ a. uses s.stack.b (λ b. uses s.stack.c (λ c.
+    in_bounds (has_range a && has_range b && has_range c)
+    (alone s.mode (goes_on site (record s { stack = long_results op })))))))
+operation_rule site CheckSubscript s =
+    uses s.stack.a (λ a. uses s.stack.b (λ b.
+    in_bounds (numbers_have is_subscript b a) (alone s.mode (goes_on site (pop s)))))
+operation_rule site CheckCount s =
+    uses s.stack.a (λ a. uses s.stack.b (λ b.
+    in_bounds (numbers_have is_count b a) (alone s.mode (goes_on site (pop s)))))
 operation_rule site _ s = breaks rules.Spelling
 
 unfoldable pub instruction_rule : Site → Instruction → ℤ → State → Ruling
@@ -38,7 +60,17 @@ instruction_rule site LoadLocal e s =
 instruction_rule site StoreLocal e s =
     let k = s.depth +ℤ e in
     uses s.stack.a (λ a. alone s.mode (writes_word site s k (goes_on site (pop (written k a s)))))
-instruction_rule site (WithConstant op) e s = uses s.stack.a (λ a. becomes site (result_fact op a (Number e e)) s)
+instruction_rule site (WithConstant op) e s =
+    uses s.stack.a (λ a. becomes site (result_fact op a (Number e e)) (constant_source op s.stack.a e) s)
+instruction_rule site LoadLocalPointer e s =
+    let offset = pos 4 *ℤ (s.depth +ℤ e) in
+    near offset (goes_on site (push (known (Pointer 0 offset offset Word)) s))
+instruction_rule site AdjustWorkspace e s =
+    let depth = s.depth +ℤ e in
+    alone s.mode (in_frame site s depth (goes_on site (record s { depth = depth })))
+instruction_rule site ConditionalJump e s =
+    uses s.stack.a (λ a. in_bounds (has_range a) (outside_alternation s.mode (forward e (outside_starts s.mode
+    (pays site s (λ s. forks_to site (target (site.at + site.length) e) (where_false s) (where_true s)))))))
 instruction_rule site Jump e s =
     outside_alternation s.mode (forward e (goes_to site (target (site.at + site.length) e) s))
 instruction_rule site (Operate op) e s = operation_rule site op s
@@ -56,24 +88,31 @@ rule site f e s = rule_of site (instruction_of f e) e s
 abbrev pub rule_at : Contents → ℕ → Instr → State → Ruling
 rule_at m at i s = rule (record { contents = m; at = at; length = i.len }) i.fun i.operand s
 
--- Whether an instruction has a rule. One that has none breaks `Spelling` in every state.
-abbrev pub op_has_rule : Op → Bool
-op_has_rule Reverse = true
-op_has_rule MinimumInteger = true
-op_has_rule StopProcess = true
-op_has_rule (Binary op) = true
-op_has_rule (Unary op) = true
-op_has_rule _ = false
+-- Whether an instruction has a rule in a module. One that has none breaks `Spelling` in every state.
+abbrev pub op_has_rule : Contents → Op → Bool
+op_has_rule m Reverse = true
+op_has_rule m MinimumInteger = true
+op_has_rule m StopProcess = true
+op_has_rule m (Binary op) = true
+op_has_rule m (Unary op) = true
+op_has_rule m (Shift op) = true
+op_has_rule m (Long op) = m.has_long_operations
+op_has_rule m CheckSubscript = true
+op_has_rule m CheckCount = true
+op_has_rule m _ = false
 
-abbrev pub instruction_has_rule : Instruction → Bool
-instruction_has_rule LoadConstant = true
-instruction_has_rule LoadLocal = true
-instruction_has_rule StoreLocal = true
-instruction_has_rule (WithConstant op) = true
-instruction_has_rule Jump = true
-instruction_has_rule (Operate op) = op_has_rule op
-instruction_has_rule _ = false
+abbrev pub instruction_has_rule : Contents → Instruction → Bool
+instruction_has_rule m LoadConstant = true
+instruction_has_rule m LoadLocal = true
+instruction_has_rule m StoreLocal = true
+instruction_has_rule m (WithConstant op) = true
+instruction_has_rule m LoadLocalPointer = true
+instruction_has_rule m AdjustWorkspace = true
+instruction_has_rule m Jump = true
+instruction_has_rule m ConditionalJump = true
+instruction_has_rule m (Operate op) = op_has_rule m op
+instruction_has_rule m _ = false
 
-unfoldable pub has_rule : Instr → Bool
-has_rule i =
-    elim (instruction_of i.fun i.operand) [ None ↦ false | Some instruction ↦ instruction_has_rule instruction ]
+unfoldable pub has_rule : Contents → Instr → Bool
+has_rule m i =
+    elim (instruction_of i.fun i.operand) [ None ↦ false | Some instruction ↦ instruction_has_rule m instruction ]

@@ -107,6 +107,14 @@ leads_to site to s = elim (label_at site.contents to) [
   | Some t ↦ elim (below s t) [ Ok cost ↦ leads to | Err broken ↦ breaks broken ]
 ]
 
+-- there is a label at the offset, and the first state is below it: the process goes on there, or after the instruction
+-- in the second state
+unfoldable pub forks_to : Site → ℕ → State → State → Ruling
+forks_to site to there here = elim (label_at site.contents to) [
+  | None ↦ breaks rules.Label
+  | Some t ↦ elim (below there t) [ Ok cost ↦ falls_or_leads here to | Err broken ↦ breaks broken ]
+]
+
 unfoldable pub goes_on : Site → State → Ruling
 goes_on site s = pays site s falls
 

@@ -1,5 +1,5 @@
 -- What the functions of the code tell, in terms of the rules.
-use Rattle.std.specs.Prelude.{◌≡◌, Result, Ok, Err}
+use Rattle.std.specs.Prelude.{◌≡◌, ℕ, Result, Ok, Err}
 use Rattle.states.specs.declared.rule.Rule.{Rule}
 use Rattle.states.specs.State.{State}
 use Rattle.facts.specs.declared.continuation.Continuation.{Continuation}
@@ -28,3 +28,8 @@ Advances (Ok (Leads to)) after ruling = ruling ≡ leads to
 Advances (Ok (FallsOrLeads to)) after ruling = ruling ≡ falls_or_leads after to
 Advances (Ok Ends) after ruling = ruling ≡ ends
 Advances (Err broken) after ruling = ruling ≡ breaks broken
+
+-- a state may go on at a label, or after the instruction in another state; or a rule is broken, whatever that is
+abbrev pub Forks : {A : Type 0} → Result A Rule → ℕ → (State → Ruling) → Type 0
+Forks (Ok x) to forks = (here : State) → forks here ≡ falls_or_leads here to
+Forks (Err broken) to forks = (here : State) → forks here ≡ breaks broken

@@ -12,36 +12,47 @@ use machine_state::{Instruction, Op};
 use prefix_decoder::Instr;
 use states::{Rule, State};
 
-fn op_has_rule(op: Op) -> bool
-    ensures { result ≡ op_has_rule op }
+fn op_has_rule(module: &Module, op: Op) -> bool
+    ensures { result ≡ op_has_rule «module».now op }
 {
-    matches!(
-        op,
-        Op::Reverse | Op::MinimumInteger | Op::StopProcess | Op::Binary(_) | Op::Unary(_)
-    )
+    match op {
+        Op::Reverse
+        | Op::MinimumInteger
+        | Op::StopProcess
+        | Op::Binary(_)
+        | Op::Unary(_)
+        | Op::Shift(_)
+        | Op::CheckSubscript
+        | Op::CheckCount => true,
+        Op::Long(_) => module.tables().has_long_operations,
+        _ => false,
+    }
 }
 
-fn instruction_has_rule(instruction: Instruction) -> bool
-    ensures { result ≡ instruction_has_rule instruction }
+fn instruction_has_rule(module: &Module, instruction: Instruction) -> bool
+    ensures { result ≡ instruction_has_rule «module».now instruction }
 {
     match instruction {
         Instruction::LoadConstant
         | Instruction::LoadLocal
         | Instruction::StoreLocal
         | Instruction::WithConstant(_)
-        | Instruction::Jump => true,
-        Instruction::Operate(op) => op_has_rule(op),
+        | Instruction::LoadLocalPointer
+        | Instruction::AdjustWorkspace
+        | Instruction::Jump
+        | Instruction::ConditionalJump => true,
+        Instruction::Operate(op) => op_has_rule(module, op),
         _ => false,
     }
 }
 
-/// Whether an instruction has a rule. One that has none breaks `Rule::Spelling` wherever it stands.
+/// Whether an instruction has a rule in a module. One that has none breaks `Rule::Spelling` wherever it stands.
 #[tactic(auto, unfolding(crate::specs::Rules::has_rule))]
-pub fn has_rule(instr: Instr) -> bool
-    ensures { result ≡ has_rule instr }
+pub fn has_rule(module: &Module, instr: Instr) -> bool
+    ensures { result ≡ has_rule «module».now instr }
 {
     match Instruction::of(instr.fun, instr.operand) {
-        Some(instruction) => instruction_has_rule(instruction),
+        Some(instruction) => instruction_has_rule(module, instruction),
         None => false,
     }
 }
@@ -71,7 +82,10 @@ pub fn advance(
         Instruction::LoadLocal => place.load_local(state, instr.operand),
         Instruction::StoreLocal => place.store_local(state, instr.operand),
         Instruction::WithConstant(op) => place.with_constant(state, op, instr.operand),
+        Instruction::LoadLocalPointer => place.load_local_pointer(state, instr.operand),
+        Instruction::AdjustWorkspace => place.adjust_workspace(state, instr.operand),
         Instruction::Jump => place.jump(state, instr.operand),
+        Instruction::ConditionalJump => place.conditional_jump(state, instr.operand),
         Instruction::Operate(op) => place.operate(state, op),
         _ => Err(Rule::Spelling),
     }

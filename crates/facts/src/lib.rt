@@ -6,7 +6,9 @@ mod combinators;
 mod continuation;
 mod following;
 mod laws;
+mod narrowing;
 mod place;
+mod word_rules;
 
 pub use advancing::{advance, has_rule};
 pub use continuation::Continuation;

@@ -1,14 +1,10 @@
 //! The place of an instruction, and the rules there.
 
-use crate::combinators::{
-    alone, forward, loaded, outside_alternation, outside_starts, result_fact, unary_result_fact,
-    uses,
-};
+use crate::combinators::{alone, forward, outside_alternation, outside_starts};
 use crate::continuation::Continuation;
 use certificate::{Fact, Module, Stack};
 use machine_state::Op;
 use states::{Known, Rule, State, cost_below};
-use word_arithmetic::{Binary as BinaryOperation, Unary as UnaryOperation};
 
 /// The place of an instruction: its module, its offset and its bytes. The functions of a place are the rules
 /// there. Where a rule is broken, the state is left part of the way.
@@ -30,15 +26,16 @@ impl Place<'_, '_> {
     ghost use Rattle.machine_state.specs.declared.instruction.Instruction.TheVariants.{StoreLocal, WithConstant};
     ghost use Rattle.machine_state.specs.declared.instruction.Instruction.TheVariants.{Operate};
     ghost use Rattle.states.specs.Views.{state_of, CanWrite, BelongsTo};
-    ghost use Rattle.facts.specs.Rulings.{writes_word, reads_word, schedules, pays, goes_on, leads_to, goes_to};
+    ghost use Rattle.facts.specs.Rulings.{writes_word, reads_word, schedules, pays, goes_on, leads_to, forks_to};
+    ghost use Rattle.facts.specs.Rulings.{goes_to};
     ghost use Rattle.facts.specs.WordRules.{becomes};
     ghost use Rattle.facts.specs.Rules.{operation_rule, instruction_rule};
-    ghost use Rattle.facts.specs.Telling.{Admits, Leaves, Advances};
+    ghost use Rattle.facts.specs.Telling.{Admits, Leaves, Advances, Forks};
     ghost use Rattle.facts.specs.Places.{site_of};
 
     /// The state's context may write the word so far from the workspace.
     #[tactic(auto, unfolding(crate::specs::Rulings::writes_word))]
-    fn writes_word(&self, state: &State, distance: i32) -> Result<i32, Rule>
+    pub(crate) fn writes_word(&self, state: &State, distance: i32) -> Result<i32, Rule>
         requires { BelongsTo self.now.module.now state.now }
         ensures test { let word = state.now.depth +ℤ distance in
             Admits result (writes_word (site_of self.now) (state_of state.now) word) }
@@ -51,7 +48,7 @@ impl Place<'_, '_> {
 
     /// The state's context may read the word so far from the workspace.
     #[tactic(auto, unfolding(crate::specs::Rulings::reads_word))]
-    fn reads_word(&self, state: &State, distance: i32) -> Result<i32, Rule>
+    pub(crate) fn reads_word(&self, state: &State, distance: i32) -> Result<i32, Rule>
         requires { BelongsTo self.now.module.now state.now }
         ensures test { let word = state.now.depth +ℤ distance in
             Admits result (reads_word (site_of self.now) (state_of state.now) word) }
@@ -63,7 +60,7 @@ impl Place<'_, '_> {
 
     /// The context may write the three words below the workspace, and they are unknown from now on.
     #[tactic(auto, unfolding(crate::specs::Rulings::schedules))]
-    fn schedules(&self, state: &mut State) -> Result<(), Rule>
+    pub(crate) fn schedules(&self, state: &mut State) -> Result<(), Rule>
         requires { BelongsTo self.now.module.now state.old }
         ensures test { Leaves result (state_of state.new) (schedules (site_of self.now) (state_of state.old)) }
         ensures belongs { BelongsTo self.now.module.now state.new }
@@ -79,7 +76,7 @@ impl Place<'_, '_> {
 
     /// Each byte of the instruction is paid.
     #[tactic(auto, unfolding(crate::specs::Rulings::pays))]
-    fn pays(&self, state: &mut State) -> Result<(), Rule>
+    pub(crate) fn pays(&self, state: &mut State) -> Result<(), Rule>
         ensures test { Leaves result (state_of state.new) (pays (site_of self.now) (state_of state.old)) }
         ensures belongs { (m : Contents) → BelongsTo m state.old → BelongsTo m state.new }
     {
@@ -93,7 +90,7 @@ impl Place<'_, '_> {
 
     /// Each byte is paid, and the process goes on after the instruction.
     #[tactic(auto, unfolding(crate::specs::Rulings::goes_on))]
-    fn goes_on(&self, state: &mut State) -> Result<Continuation, Rule>
+    pub(crate) fn goes_on(&self, state: &mut State) -> Result<Continuation, Rule>
         ensures ruling { Advances result (state_of state.new) (goes_on (site_of self.now) (state_of state.old)) }
         ensures belongs { (m : Contents) → BelongsTo m state.old → BelongsTo m state.new }
     {
@@ -102,7 +99,7 @@ impl Place<'_, '_> {
     }
 
     /// The code offset that is so many bytes from the next instruction.
-    fn target(&self, distance: i32) -> u32
+    pub(crate) fn target(&self, distance: i32) -> u32
         ensures { result ≡ target (self.now.at + self.now.len) distance }
     {
         let next = self.at as u128 + self.len as u128;
@@ -112,7 +109,7 @@ impl Place<'_, '_> {
 
     /// There is a label at the offset, and the state may go on as it.
     #[tactic(auto, unfolding(crate::specs::Rulings::leads_to))]
-    fn leads_to(&self, state: &State, to: u32) -> Result<Continuation, Rule>
+    pub(crate) fn leads_to(&self, state: &State, to: u32) -> Result<Continuation, Rule>
         requires { Keeps self.now.module.now }
         ensures { Advances result (state_of state.now) (leads_to (site_of self.now) to (state_of state.now)) }
     {
@@ -120,6 +117,22 @@ impl Place<'_, '_> {
             Some(row) => {
                 cost_below(state, row)?;
                 Ok(Continuation::Leads { to })
+            }
+            None => Err(Rule::Label),
+        }
+    }
+
+    /// There is a label at the offset, and the state may go on as it, or after the instruction as another one.
+    #[tactic(auto, unfolding(crate::specs::Rulings::forks_to))]
+    pub(crate) fn forks_to(&self, state: &State, to: u32) -> Result<(), Rule>
+        requires { Keeps self.now.module.now }
+        ensures { Forks result to (forks_to (site_of self.now) to (state_of state.now)) }
+    {
+        let found = self.module.label_at(to);
+        match found {
+            Some(label) => {
+                cost_below(state, label)?;
+                Ok(())
             }
             None => Err(Rule::Label),
         }
@@ -139,79 +152,6 @@ impl Place<'_, '_> {
     }
 
     #[tactic(auto, unfolding(crate::specs::Rules::instruction_rule))]
-    pub(crate) fn load_constant(&self, state: &mut State, value: i32) -> Result<Continuation, Rule>
-        ensures ruling { let ruling = instruction_rule (site_of self.now) LoadConstant value (state_of state.old) in
-            Advances result (state_of state.new) ruling }
-        ensures belongs { (m : Contents) → BelongsTo m state.old → BelongsTo m state.new }
-    {
-        state.push(Known::of(Fact::Number {
-            lo: value,
-            hi: value,
-        }));
-        self.goes_on(state)
-    }
-
-    #[tactic(auto, unfolding(crate::specs::Rules::instruction_rule))]
-    pub(crate) fn load_local(&self, state: &mut State, distance: i32) -> Result<Continuation, Rule>
-        requires { BelongsTo self.now.module.now state.old }
-        ensures ruling { let ruling = instruction_rule (site_of self.now) LoadLocal distance (state_of state.old) in
-            Advances result (state_of state.new) ruling }
-        ensures belongs { BelongsTo self.now.module.now state.new }
-    {
-        outside_starts(state.mode)?;
-        let word = self.reads_word(state, distance)?;
-        let fact = state.fact_at(word);
-        state.push(loaded(word, fact));
-        self.goes_on(state)
-    }
-
-    #[tactic(auto, unfolding(crate::specs::Rules::instruction_rule))]
-    pub(crate) fn store_local(&self, state: &mut State, distance: i32) -> Result<Continuation, Rule>
-        requires { BelongsTo self.now.module.now state.old }
-        ensures ruling { let ruling = instruction_rule (site_of self.now) StoreLocal distance (state_of state.old) in
-            Advances result (state_of state.new) ruling }
-        ensures belongs { BelongsTo self.now.module.now state.new }
-    {
-        let fact = uses(state.stack.a)?;
-        alone(state.mode)?;
-        let word = self.writes_word(state, distance)?;
-        state.write(word, fact);
-        state.pop();
-        self.goes_on(state)
-    }
-
-    /// A becomes the result, of which this is known.
-    #[tactic(auto, unfolding(crate::specs::WordRules::becomes))]
-    fn becomes(&self, state: &mut State, known: Option<Fact>) -> Result<Continuation, Rule>
-        ensures ruling { Advances result (state_of state.new) (becomes (site_of self.now) known (state_of state.old)) }
-        ensures belongs { (m : Contents) → BelongsTo m state.old → BelongsTo m state.new }
-    {
-        let fact = known.ok_or(Rule::Number)?;
-        alone(state.mode)?;
-        state.stack.a = Known::of(fact);
-        self.goes_on(state)
-    }
-
-    #[tactic(auto, unfolding(crate::specs::Rules::instruction_rule))]
-    pub(crate) fn with_constant(
-        &self,
-        state: &mut State,
-        op: BinaryOperation,
-        value: i32,
-    ) -> Result<Continuation, Rule>
-        ensures ruling { let ruling = instruction_rule (site_of self.now) (WithConstant op) value (state_of state.old) in
-            Advances result (state_of state.new) ruling }
-        ensures belongs { (m : Contents) → BelongsTo m state.old → BelongsTo m state.new }
-    {
-        let left = uses(state.stack.a)?;
-        let right = Fact::Number {
-            lo: value,
-            hi: value,
-        };
-        self.becomes(state, result_fact(op, left, right))
-    }
-
-    #[tactic(auto, unfolding(crate::specs::Rules::instruction_rule))]
     pub(crate) fn jump(&self, state: &mut State, distance: i32) -> Result<Continuation, Rule>
         requires { BelongsTo self.now.module.now state.old }
         ensures ruling { let ruling = instruction_rule (site_of self.now) Jump distance (state_of state.old) in
@@ -221,31 +161,6 @@ impl Place<'_, '_> {
         outside_alternation(state.mode)?;
         forward(distance)?;
         self.goes_to(state, self.target(distance))
-    }
-
-    #[tactic(auto, unfolding(crate::specs::Rules::operation_rule))]
-    fn reverse(&self, state: &mut State) -> Result<Continuation, Rule>
-        ensures ruling { let ruling = operation_rule (site_of self.now) Reverse (state_of state.old) in
-            Advances result (state_of state.new) ruling }
-        ensures belongs { (m : Contents) → BelongsTo m state.old → BelongsTo m state.new }
-    {
-        alone(state.mode)?;
-        state.reverse();
-        self.goes_on(state)
-    }
-
-    #[tactic(auto, unfolding(crate::specs::Rules::operation_rule))]
-    fn minimum_integer(&self, state: &mut State) -> Result<Continuation, Rule>
-        ensures ruling { let ruling = operation_rule (site_of self.now) MinimumInteger (state_of state.old) in
-            Advances result (state_of state.new) ruling }
-        ensures belongs { (m : Contents) → BelongsTo m state.old → BelongsTo m state.new }
-    {
-        outside_starts(state.mode)?;
-        state.push(Known::of(Fact::Number {
-            lo: i32::MIN,
-            hi: i32::MIN,
-        }));
-        self.goes_on(state)
     }
 
     #[tactic(auto, unfolding(crate::specs::Rules::operation_rule))]
@@ -262,28 +177,6 @@ impl Place<'_, '_> {
     }
 
     #[tactic(auto, unfolding(crate::specs::Rules::operation_rule))]
-    fn binary(&self, state: &mut State, op: BinaryOperation) -> Result<Continuation, Rule>
-        ensures ruling { let ruling = operation_rule (site_of self.now) (Binary op) (state_of state.old) in
-            Advances result (state_of state.new) ruling }
-        ensures belongs { (m : Contents) → BelongsTo m state.old → BelongsTo m state.new }
-    {
-        let right = uses(state.stack.a)?;
-        let left = uses(state.stack.b)?;
-        state.pop();
-        self.becomes(state, result_fact(op, left, right))
-    }
-
-    #[tactic(auto, unfolding(crate::specs::Rules::operation_rule))]
-    fn unary(&self, state: &mut State, op: UnaryOperation) -> Result<Continuation, Rule>
-        ensures ruling { let ruling = operation_rule (site_of self.now) (Unary op) (state_of state.old) in
-            Advances result (state_of state.new) ruling }
-        ensures belongs { (m : Contents) → BelongsTo m state.old → BelongsTo m state.new }
-    {
-        let operand = uses(state.stack.a)?;
-        self.becomes(state, unary_result_fact(op, operand))
-    }
-
-    #[tactic(auto, unfolding(crate::specs::Rules::operation_rule))]
     pub(crate) fn operate(&self, state: &mut State, op: Op) -> Result<Continuation, Rule>
         requires { BelongsTo self.now.module.now state.old }
         ensures ruling { let ruling = operation_rule (site_of self.now) op (state_of state.old) in
@@ -296,6 +189,10 @@ impl Place<'_, '_> {
             Op::StopProcess => self.stop_process(state),
             Op::Binary(op) => self.binary(state, op),
             Op::Unary(op) => self.unary(state, op),
+            Op::Shift(op) => self.shift(state, op),
+            Op::Long(op) => self.long(state, op),
+            Op::CheckSubscript => self.check_subscript(state),
+            Op::CheckCount => self.check_count(state),
             _ => Err(Rule::Spelling),
         }
     }

@@ -8,3 +8,4 @@ pub mod FrameFacts
 pub mod Comparisons
 pub mod States
 pub mod OwnWords
+pub mod FrameBounds

@@ -1,6 +1,9 @@
 -- What is known of the words of loops.
-use Rattle.std.proofs.Common.{◌≡◌, ℤ, true, false, Option, Some, None, refl, sym, ap, ◌∙◌}
-use Rattle.std.specs.Prelude.{option_map, unwrap_or}
+use Rattle.std.proofs.Common.{◌≡◌, ℕ, suc, ◌<◌, ℤ, pos, negsuc, ◌-ℤ◌, Bool, true, false, if◌then◌else◌, List, [], ◌∷◌}
+use Rattle.std.proofs.Common.{length, inl, inr, Option, Some, None, refl, sym, ap, ◌∙◌, subst, arith}
+use Rattle.std.specs.Prelude.{option_map, unwrap_or, slice_index, vec_len}
+use Rattle.std.proofs.lemmas.Bool.Decides.{eqb_tells}
+use Rattle.std.proofs.lemmas.Int.{ints}
 use Rattle.std.proofs.Math.Logic.{∥∥₁_elim}
 use Rattle.module_format.specs.declared.fact.Fact.{Fact}
 use Rattle.std.specs.Coded.{Unit-prop}
@@ -9,10 +12,12 @@ use Rattle.states.specs.declared.known.LoopWord.{LoopWord}
 use Rattle.states.specs.declared.known.LoopWord.TheVariants as words
 use Rattle.states.specs.declared.known.WordFact.{WordFact}
 use Rattle.states.specs.declared.known.WordFact.TheVariants.{Alone, Index, Count}
-use Rattle.states.specs.State.{Facts, is_alone}
+use Rattle.states.specs.State.{Facts, is_alone, is_silent, entry_fact}
+use Rattle.states.specs.Lookup.{lookup, indices, ArePlaced}
+use Rattle.states.specs.declared.overlay.Written.{Written}
 use Rattle.states.specs.Rows.{LoopFits}
 use Rattle.states.specs.declared.frame.Frame.{Frame}
-use Rattle.states.specs.Frames.{frame_facts, is_loop_word, HasRoom}
+use Rattle.states.specs.Frames.{fact_of_index, frame_facts, is_loop_word, HasRoom}
 
 pub loop_fits_prop : (fact : WordFact) → IsProp (LoopFits fact)
 loop_fits_prop (Alone fact) = Unit-prop
@@ -23,18 +28,59 @@ loop_fits_prop (Count loop) = hlevel props
 pub loop-at : (facts : Facts) (k : ℤ) → ∥ ((k : ℤ) → LoopFits (facts k)) ∥₁ → LoopFits (facts k)
 loop-at facts k h = ∥∥₁_elim h (loop_fits_prop (facts k)) (λ each. each k)
 
--- what was written is alone
-pub loop-below : (o : Option Fact) (said : WordFact) → is_alone (unwrap_or (option_map Alone o) said) ≡ false
-    → is_alone said ≡ false
-loop-below None said h = h
-loop-below (Some fact) said h = absurd (cc)
+-- of a word of a loop something is known
+loop-known : (fact : WordFact) → is_alone fact ≡ false → is_silent fact ≡ false
+loop-known (Alone fact) h = absurd (cc)
+loop-known (Index loop) h = refl
+loop-known (Count loop) h = refl
+
+-- an index that was written stands in the list
+written-at : (ws : List Written) (index : ℕ) (fact : Fact) → lookup ws index ≡ Some fact
+    → (i : ℕ) × (i < length ws) × (slice_index (indices ws) i ≡ index)
+written-at [] index fact h = absurd (cc)
+written-at (w ∷ ws) index fact h = elim (eqb_tells w.index index) [
+  | inl p ↦ (0, omega arith, p.1)
+  | inr p ↦
+      let rest = written-at ws index fact
+      (sym (ap (λ (b : Bool). if b then Some w.fact else lookup ws index) p.0) ∙ h) in
+      (suc rest.0, omega (arith, rest.1), rest.2)
+]
+
+-- what was written has room
+index-below : (places : List ℕ) (ws : List Written) (index : ℕ) (fact : Fact) → ArePlaced places ws
+    → lookup ws index ≡ Some fact → index < length places
+index-below places ws index fact placed h =
+    let at = written-at ws index fact h in
+    subst (λ (n : ℕ). n < length places) at.2 (placed at.0 at.1).0
+
+-- Something is known of words alone that can be written.
+pub room-known : (frame : Frame) (k : ℤ) (fact : WordFact) → fact ≡ frame_facts frame k → is_silent fact ≡ false
+    → HasRoom frame k
+room-known frame k fact is known = on_word (k -ℤ frame.lo) refl
+    (ap is_silent (sym is) ∙ known)
+  where
+    of_row : is_silent (entry_fact frame.row.now k) ≡ false → HasRoom frame k
+    of_row h = let inside = frame.inside k h in record { low = inside.0; high = inside.1 }
+
+    on_index : (index : ℕ) → k -ℤ frame.lo ≡ pos index → (o : Option Fact)
+        → lookup frame.overlay.written.items index ≡ o
+        → is_silent (unwrap_or (option_map Alone o) (entry_fact frame.row.now k)) ≡ false → HasRoom frame k
+    on_index index at None e h = of_row h
+    on_index index at (Some f) e h =
+        let below : index < length frame.overlay.places.items =
+        index-below frame.overlay.places.items frame.overlay.written.items index f frame.overlay.placed e in
+        record { low = omega (arith, ints, at); high = omega (arith, ints, at, below) }
+
+    on_word : (z : ℤ) → k -ℤ frame.lo ≡ z
+        → is_silent (unwrap_or (option_map Alone (fact_of_index frame.overlay.written.items z)) (entry_fact frame.row.now k))
+        ≡ false → HasRoom frame k
+    on_word (pos index) at h = on_index index at (lookup frame.overlay.written.items index) refl h
+    on_word (negsuc n) at h = of_row h
 
 -- the words of a loop can be written
 pub room-of : (frame : Frame) (k : ℤ) (fact : WordFact) → fact ≡ frame_facts frame k → is_alone fact ≡ false
     → HasRoom frame k
-room-of frame k fact is loop =
-    let inside = frame.inside k (loop-below _ _ (ap is_alone (sym is) ∙ loop)) in
-    record { low = inside.0; high = inside.1 }
+room-of frame k fact is loop = room-known frame k fact is (loop-known fact loop)
 
 -- a word of a loop is not alone
 pub loop_word-apart : (which : LoopWord) (fact : WordFact) → is_loop_word which fact ≡ true → is_alone fact ≡ false

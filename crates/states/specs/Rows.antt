@@ -10,7 +10,7 @@ use Rattle.certificate.specs.Rights.{has_word}
 use Rattle.module_format.specs.Facts.{end_of, IsLoop}
 use Rattle.states.specs.declared.known.WordFact.{WordFact}
 use Rattle.states.specs.declared.known.WordFact.TheVariants.{Alone, Index, Count}
-use Rattle.states.specs.State.{is_alone, entry_fact}
+use Rattle.states.specs.State.{is_silent, entry_fact}
 
 -- the entries begin at this word or later, each behind the one before it
 abbrev pub rise_from : ℤ → List Entry → Bool
@@ -26,11 +26,11 @@ LoopFits (Alone fact) = ⊤
 LoopFits (Index loop) = IsLoop loop.base loop.count loop.weight
 LoopFits (Count loop) = IsLoop loop.base loop.count loop.weight
 
--- the entries of a frame that has so many words from lo on: each word of a loop is one of them
+-- the entries of a frame that has so many words from lo on: each word of which something is known is one of them
 pub record IsRow (lo : ℤ) (room : ℕ) (entries : List Entry) : Type 0 where
   pub apart : AreApart entries
   pub loops : (k : ℤ) → LoopFits (entry_fact entries k)
-  pub inside : (k : ℤ) → is_alone (entry_fact entries k) ≡ false → (lo ≤ℤ k) × (k <ℤ (lo +ℤ pos room))
+  pub inside : (k : ℤ) → is_silent (entry_fact entries k) ≡ false → (lo ≤ℤ k) × (k <ℤ (lo +ℤ pos room))
 
 -- the entries of a module's label: they say nothing of words that its context does not have
 pub record IsRowOf (m : Contents) (t : Label) : Type 0 where

@@ -65,6 +65,13 @@ is_alone (Alone fact) = true
 is_alone (Index loop) = false
 is_alone (Count loop) = false
 
+-- nothing is known of the word
+abbrev pub is_silent : WordFact → Bool
+is_silent (Alone Unknown) = true
+is_silent (Alone fact) = false
+is_silent (Index loop) = false
+is_silent (Count loop) = false
+
 abbrev pub no_facts : Facts
 no_facts = λ _. Alone Unknown
 

@@ -6,7 +6,7 @@ ghost use Rattle.std.specs.List.{list_all};
 ghost use Rattle.module_format.specs.Contents.{procedure_of};
 ghost use Rattle.module_format.specs.Order.{least_word};
 ghost use Rattle.states.specs.Rows.{AreApart, LoopFits, IsRow};
-ghost use Rattle.states.specs.State.{is_alone, entry_fact, parameter_fact};
+ghost use Rattle.states.specs.State.{is_silent, entry_fact, parameter_fact};
 
 use crate::implication::{holds_constant, says};
 use crate::known::{LoopWord, WordFact};
@@ -24,7 +24,7 @@ pub(crate) struct Frame<'a> {
     pub(crate) overlay: Overlay,
     ghost apart: { AreApart row.now },
     ghost loops: { ∥ ((k : ℤ) → LoopFits (entry_fact row.now k)) ∥₁ },
-    ghost inside: { (k : ℤ) → is_alone (entry_fact row.now k) ≡ false → (lo ≤ℤ k) × (k <ℤ (lo +ℤ pos (vec_len overlay.places))) },
+    ghost inside: { (k : ℤ) → is_silent (entry_fact row.now k) ≡ false → (lo ≤ℤ k) × (k <ℤ (lo +ℤ pos (vec_len overlay.places))) },
     ghost low: { least_word ≤ℤ lo },
     ghost high: { (lo +ℤ pos (vec_len overlay.places)) ≤ℤ pos (2 ^ 31) },
 }
@@ -71,7 +71,8 @@ impl<'a> Frame<'a> {
         self.overlay.get(word.abs_diff(lo) as usize)
     }
 
-    pub(crate) fn fact_at(&self, word: i64) -> WordFact
+    /// What is known of a word.
+    fn said(&self, word: i64) -> WordFact
         ensures value { result ≡ frame_facts self.now word }
         ensures fits { LoopFits result }
     {
@@ -81,8 +82,17 @@ impl<'a> Frame<'a> {
         }
     }
 
+    /// What is known of a word. Something is known only of words that can be written.
+    pub(crate) fn fact_at(&self, word: i64) -> WordFact
+        ensures value { result ≡ frame_facts self.now word }
+        ensures fits { LoopFits result }
+        ensures room { is_silent result ≡ false → HasRoom self.now word }
+    {
+        self.said(word)
+    }
+
     /// The word has this fact from now on, and the others what they had.
-    fn place(&mut self, word: i64, fact: Fact)
+    pub(crate) fn place(&mut self, word: i64, fact: Fact)
         requires { HasRoom self.old word }
         ensures facts { frame_facts self.new ≡ with_alone word fact (frame_facts self.old) }
         ensures room { SameRoom self.old self.new }

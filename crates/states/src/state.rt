@@ -1,13 +1,14 @@
 //! What is known of a process at a place of its code.
 
-ghost use Rattle.std.specs.Prelude.{◌≡◌, ◌≤◌, ◌-◌, ◌≤ℤ◌, ℤ, IfOk, Some, SomeIff, IsTrue, FitsSigned, slice_get};
+ghost use Rattle.std.specs.Prelude.{◌≡◌, ◌≤◌, ◌-◌, ◌≤ℤ◌, ℤ, false, IfOk, Some, SomeIff, IsTrue, FitsSigned, slice_get};
 ghost use Rattle.std.specs.Int.{w32};
 ghost use Rattle.module_format.specs.Contents.{Contents, contents_of, procedure_of, label_of};
 ghost use Rattle.certificate.specs.Rights.{may_write_word, may_read_word};
 ghost use Rattle.module_format.specs.Keeping.{Keeps};
 ghost use Rattle.module_format.specs.Stack.{pushed, popped, reversed};
 ghost use Rattle.states.specs.State.{unknown, known, is_at, without_source, forgets, written, begun, root_state};
-ghost use Rattle.states.specs.State.{procedure_state, label_state};
+ghost use Rattle.states.specs.State.{is_silent, procedure_state, label_state};
+ghost use Rattle.states.specs.Frames.{with_alone};
 ghost use Rattle.states.specs.Rows.{LoopFits, IsRowOf};
 ghost use Rattle.states.specs.Views.{state_of, CanWrite, BelongsTo, IsUsable};
 ghost use Rattle.states.specs.Room.{Covers};
@@ -142,6 +143,7 @@ impl<'a> State<'a> {
     pub fn fact_at(&self, word: i32) -> WordFact
         ensures value { result ≡ (state_of self.now).frame word }
         ensures fits { LoopFits result }
+        ensures room { is_silent result ≡ false → CanWrite self.now word }
     {
         self.frame.fact_at(i64::from(word))
     }
@@ -159,6 +161,17 @@ impl<'a> State<'a> {
         self.stack.a = forgets(word, self.stack.a);
         self.stack.b = forgets(word, self.stack.b);
         self.stack.c = forgets(word, self.stack.c);
+    }
+
+    /// More is known of a word of the frame, which still has its value: this fact, by itself.
+    pub fn narrow(&mut self, word: i32, fact: Fact)
+        requires { CanWrite self.old word }
+        ensures state { state_of self.new
+            ≡ record (state_of self.old) { frame = with_alone word fact (state_of self.old).frame } }
+        ensures belongs { (m : Contents) → BelongsTo m self.old → BelongsTo m self.new }
+        ensures room { (k : ℤ) → CanWrite self.old k → CanWrite self.new k }
+    {
+        self.frame.place(i64::from(word), fact);
     }
 
     /// A value comes on top of the registers.
@@ -183,6 +196,14 @@ impl<'a> State<'a> {
         ensures belongs { (m : Contents) → BelongsTo m self.old → BelongsTo m self.new }
     {
         self.stack.reverse();
+    }
+
+    /// The workspace is at this depth from now on.
+    pub fn move_to(&mut self, depth: i32)
+        ensures state { state_of self.new ≡ record (state_of self.old) { depth = depth } }
+        ensures belongs { (m : Contents) → BelongsTo m self.old → BelongsTo m self.new }
+    {
+        self.depth = depth;
     }
 
     /// The state goes on in a context of the module, at a depth and with a number. What is known of the

@@ -51,7 +51,7 @@ excluded m v at c (misspelled _ r low e) = let h =
 excluded m v at c (unruled _ r low sp lacking) =
     let h = c.holds.each _ _ low r in
     let i_is = same_ok (fetched m.code at) h.instr _ h.spelled sp in
-    h.unbroken rules.Spelling (breaks_one m at h.instr h.state (ap has_rule i_is ∙ lacking))
+    h.unbroken rules.Spelling (breaks_one m at h.instr h.state (ap (has_rule m) i_is ∙ lacking))
 excluded m v at c (hidden _ low start none) = let r = c.holds.starts _ low start in none r.0 r.1
 excluded m v at c (unreached _ r low sp ruled g) =
     let h = c.holds.each _ _ low r in
@@ -134,7 +134,7 @@ told_is v w h = cc
 broken_in : (m : Contents) (at : ℕ) (before : Option State) (i : Instr) (v : Rule) (o : Option State)
     → state_at m at before ≡ o → Reaches m at before → at < length m.code → fetched m.code at ≡ Ok i
     → judged_in m at before i o ≡ Err v → IsBroken m v at
-broken_in m at before i v None e r low sp h = elim (cases_Bool (has_rule i)) [
+broken_in m at before i v None e r low sp h = elim (cases_Bool (has_rule m i)) [
   | inr lacking ↦ unruled (told_is _ _ (sym h ∙ ap (λ (b : Bool). Err
       (if b then rules.Flow else rules.Spelling)) lacking)) r low sp lacking
   | inl ruled ↦ elim (option_cases (given m at)) [

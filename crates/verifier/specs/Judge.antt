@@ -28,7 +28,7 @@ both (Err first) _ = Err first
 
 -- one instruction, in the state at its offset, or where there is none
 abbrev pub judged_in : Contents → ℕ → Option State → Instr → Option State → Result (Option State) Rule
-judged_in m at before i None = Err (if has_rule i then rules.Flow else rules.Spelling)
+judged_in m at before i None = Err (if has_rule m i then rules.Flow else rules.Spelling)
 judged_in m at before i (Some s) = both (entering m at before) (rule_at m at i s)
 
 -- one instruction, where `before` falls into its offset

@@ -57,10 +57,10 @@ fn both(entered: Result<u64, Rule>, flow: Result<Continuation, Rule>) -> Result<
 
 /// The rule that an instruction breaks to which nothing leads: `Rule::Spelling` where it has none, else
 /// `Rule::Flow`.
-fn unreached(instr: Instr) -> Rule
-    ensures { result ≡ (if has_rule instr then rules.Flow else rules.Spelling) }
+fn unreached(module: &Module, instr: Instr) -> Rule
+    ensures { result ≡ (if has_rule «module».now instr then rules.Flow else rules.Spelling) }
 {
-    if has_rule(instr) {
+    if has_rule(module, instr) {
         return Rule::Flow;
     }
     Rule::Spelling
@@ -88,7 +88,7 @@ pub(crate) fn judge<'a>(
         Given::Label(row) => state.become_label(module, row),
         Given::Procedure { context, row } => state.become_procedure(module, row, context),
         Given::Nothing if falls => {}
-        Given::Nothing => return Err(unreached(instr)),
+        Given::Nothing => return Err(unreached(module, instr)),
     }
     both(entered, advance(state, module, at, instr))
 }

@@ -1,9 +1,9 @@
-use Rattle.std.proofs.Common.{sym, subst}
-use Rattle.states.specs.State.{entry_fact}
-use Rattle.states.specs.Rows.{LoopFits}
-use Rattle.states.proofs.Loops.{loop-at}
+use Rattle.std.proofs.lemmas.Int.{to_z-of_z}
+use Rattle.std.specs.Int.{w64}
+use Rattle.states.proofs.Loops.{room-known}
 use Rattle.states.proofs.frame.Frame.fact_at.Goals as goal
 
-pub returns-in-None-clause-fits : goal.returns-in-None-clause-fits
-returns-in-None-clause-fits c =
-    subst LoopFits (sym c.row_fact.ensures) (loop-at (entry_fact c.args.self.now.row.now) _ c.args.self.now.loops)
+pub returns-clause-room : goal.returns-clause-room
+returns-clause-room c = λ known.
+    let same = to_z-of_z w64 c.args.word c.ranges.word in
+    room-known c.args.self.now c.args.word c.said.result (rw same at c.said.ensures.value) known
