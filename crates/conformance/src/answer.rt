@@ -1,6 +1,6 @@
 //! An answer as text.
 
-use occam_layout::TokenKind;
+use occam_layout::Mark;
 use std::alloc::Global;
 use std::fmt::Write;
 
@@ -80,9 +80,9 @@ impl Answer {
         }
     }
 
-    /// A kind of token, by the name of its variant.
-    pub(crate) fn debug(&mut self, kind: TokenKind) {
-        if write!(self.text, "{kind:?}").is_err() {
+    /// A keyword or a sign, by the name of its variant.
+    pub(crate) fn mark(&mut self, mark: Mark) {
+        if write!(self.text, "{mark:?}").is_err() {
             self.is_out_of_memory = true;
         }
     }

@@ -6,7 +6,7 @@ use crate::statements::{Statement, has_lines};
 use crate::tokens::write_lines;
 use crate::trees::write_items;
 use occam_layout::{Line, lines};
-use occam_parser::{Item, Program, parse};
+use occam_parser::{Item, parse};
 use std::alloc::Global;
 
 /// What comes of the lines of a source: how many there are, or the tokens of each.
@@ -22,12 +22,7 @@ fn judge_lines(found: &[Line], statement: Statement, out: &mut Answer) -> Outcom
 
 /// What comes of the items of a program: `ok`, or `same` where they are printed back as their source, or their lines as
 /// they are printed back.
-fn judge_items<'p>(
-    items: &'p [Item<'p>],
-    source: &[u8],
-    statement: Statement,
-    out: &mut Answer,
-) -> Outcome {
+fn judge_items(items: &[Item], source: &[u8], statement: Statement, out: &mut Answer) -> Outcome {
     write_items(out, items);
     match statement.rest {
         "ok" => Outcome::Held,
@@ -36,8 +31,7 @@ fn judge_items<'p>(
     }
 }
 
-/// The program of the lines of a source, or the fault. Its items are never freed, so that they can be lent for as long
-/// as the names in them.
+/// The program of the lines of a source, or the fault.
 fn judge_program(
     alloc: Global,
     rows: &[Line],
@@ -46,7 +40,7 @@ fn judge_program(
     out: &mut Answer,
 ) -> Outcome {
     match parse(alloc, rows) {
-        Ok(Program { items }) => judge_items(items.leak(), source, statement, out),
+        Ok(program) => judge_items(program.items(), source, statement, out),
         Err(fault) => {
             out.fault("O", fault.number, u64::from(fault.line));
             judged(out, statement.rest)

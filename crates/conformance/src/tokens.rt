@@ -20,13 +20,8 @@ pub(crate) fn write_character(out: &mut Answer, byte: u8) {
 
 /// The bytes of a string.
 pub(crate) fn write_text(out: &mut Answer, text: Text) {
-    let mut rest = text;
-    for _ in 0..u32::MAX {
-        let Some((byte, others)) = rest.split_first() else {
-            break;
-        };
+    for byte in text.bytes() {
         write_character(out, byte);
-        rest = others;
     }
 }
 
@@ -48,7 +43,17 @@ fn write_kind(out: &mut Answer, kind: TokenKind) {
             write_text(out, text);
             out.put(")");
         }
-        other => out.debug(other),
+        TokenKind::Integer(value) => {
+            out.put("Integer(");
+            out.number(i64::from(value));
+            out.put(")");
+        }
+        TokenKind::Character(byte) => {
+            out.put("Character(");
+            out.number(i64::from(byte));
+            out.put(")");
+        }
+        TokenKind::Mark(mark) => out.mark(mark),
     }
 }
 

@@ -3,13 +3,14 @@
 use crate::answer::Answer;
 use crate::tokens::{write_character, write_name, write_text};
 use occam_parser::{
-    Action, Body, Branch, ChainOperator, Choice, Constant, ConstantValue, Construct, Declaration,
-    Expr, Formal, FormalKind, Guard, Item, Names, Operand, Operation, PairOperator, Place,
-    PrefixOperator, Proc, Process, Replicator, ValueType,
+    Action, ArithmeticChain, ArithmeticPair, Body, Branch, ChainOperator, Choice, Comparison,
+    Constant, ConstantValue, Construct, Declaration, Expr, Formal, FormalKind, Guard, Item, Logic,
+    Names, Operand, Operation, PairOperator, Place, PrefixOperator, Proc, Process, Replicator,
+    ValueType,
 };
 
 /// The items of a program as a source.
-pub(crate) fn write_items<'p>(out: &mut Answer, items: &'p [Item<'p>]) {
+pub(crate) fn write_items(out: &mut Answer, items: &[Item]) {
     for item in items {
         match item {
             Item::Constant(constant) => write_constant(out, constant),
@@ -18,7 +19,7 @@ pub(crate) fn write_items<'p>(out: &mut Answer, items: &'p [Item<'p>]) {
     }
 }
 
-fn write_proc<'p>(out: &mut Answer, proc: &'p Proc<'p>) {
+fn write_proc(out: &mut Answer, proc: &Proc) {
     out.put("PROC ");
     write_name(out, proc.name);
     out.put("(");
@@ -70,7 +71,11 @@ fn write_constant(out: &mut Answer, constant: &Constant) {
         ConstantValue::Scalar(value) => write_expr(out, value),
         ConstantValue::Table { items, .. } => {
             out.put("[");
-            write_exprs(out, items);
+            write_expr(out, &items.first);
+            for item in &items.others {
+                out.put(", ");
+                write_expr(out, item);
+            }
             out.put("]");
         }
         ConstantValue::Text { text, .. } => {
@@ -106,8 +111,9 @@ fn write_names(out: &mut Answer, words: &str, names: &Names) {
     out.put(words);
     write_type(out, names.value_type);
     out.put(" ");
-    for (i, name) in names.names.iter().enumerate() {
-        write_comma(out, i);
+    write_name(out, names.names.first);
+    for name in &names.names.others {
+        out.put(", ");
         write_name(out, name);
     }
     out.put(":\n");
@@ -122,7 +128,7 @@ fn write_declaration(out: &mut Answer, declaration: &Declaration) {
 }
 
 #[cycle(write_process)]
-fn write_process<'p>(out: &mut Answer, level: u32, process: &'p Process<'p>) {
+fn write_process(out: &mut Answer, level: u32, process: &Process) {
     for declaration in &process.declarations {
         write_indent(out, level);
         write_declaration(out, declaration);
@@ -133,7 +139,7 @@ fn write_process<'p>(out: &mut Answer, level: u32, process: &'p Process<'p>) {
 
 /// A construct whose components are at a level.
 #[cycle(write_process)]
-fn write_construct<'p>(out: &mut Answer, level: u32, construct: &'p Construct<'p>) {
+fn write_construct(out: &mut Answer, level: u32, construct: &Construct) {
     match construct {
         Construct::Action(action) => write_action(out, action),
         Construct::Seq(components) => {
@@ -159,7 +165,7 @@ fn write_construct<'p>(out: &mut Answer, level: u32, construct: &'p Construct<'p
 }
 
 #[cycle(write_process)]
-fn write_replicated<'p>(out: &mut Answer, level: u32, replicator: &Replicator, body: &'p Body<'p>) {
+fn write_replicated(out: &mut Answer, level: u32, replicator: &Replicator, body: &Body) {
     match body {
         Body::Seq(process) => {
             write_head(out, "SEQ ", replicator);
@@ -181,21 +187,21 @@ fn write_replicated<'p>(out: &mut Answer, level: u32, replicator: &Replicator, b
 }
 
 #[cycle(write_process)]
-fn write_processes<'p>(out: &mut Answer, level: u32, processes: &'p Vec<Process<'p>>) {
+fn write_processes(out: &mut Answer, level: u32, processes: &[Process]) {
     for process in processes {
         write_process(out, level, process);
     }
 }
 
 #[cycle(write_process)]
-fn write_choices<'p>(out: &mut Answer, level: u32, choices: &'p Vec<Choice<'p>>) {
+fn write_choices(out: &mut Answer, level: u32, choices: &[Choice]) {
     for choice in choices {
         write_choice(out, level, choice);
     }
 }
 
 #[cycle(write_process)]
-fn write_choice<'p>(out: &mut Answer, level: u32, choice: &'p Choice<'p>) {
+fn write_choice(out: &mut Answer, level: u32, choice: &Choice) {
     write_indent(out, level);
     write_expr(out, &choice.condition);
     out.put("\n");
@@ -203,14 +209,14 @@ fn write_choice<'p>(out: &mut Answer, level: u32, choice: &'p Choice<'p>) {
 }
 
 #[cycle(write_process)]
-fn write_branches<'p>(out: &mut Answer, level: u32, branches: &'p Vec<Branch<'p>>) {
+fn write_branches(out: &mut Answer, level: u32, branches: &[Branch]) {
     for branch in branches {
         write_branch(out, level, branch);
     }
 }
 
 #[cycle(write_process)]
-fn write_branch<'p>(out: &mut Answer, level: u32, branch: &'p Branch<'p>) {
+fn write_branch(out: &mut Answer, level: u32, branch: &Branch) {
     write_indent(out, level);
     write_guard(out, &branch.guard);
     write_process(out, level.saturating_add(1), &branch.process);
@@ -315,9 +321,12 @@ fn write_expr(out: &mut Answer, expr: &Expr) {
         Operation::Chain {
             operator,
             first,
+            second,
             others,
         } => {
             write_operand(out, first);
+            out.put(chain_sign(*operator));
+            write_operand(out, second);
             for other in others {
                 out.put(chain_sign(*operator));
                 write_operand(out, other);
@@ -328,32 +337,32 @@ fn write_expr(out: &mut Answer, expr: &Expr) {
 
 fn pair_sign(operator: PairOperator) -> &'static str {
     match operator {
-        PairOperator::Subtract => " - ",
-        PairOperator::Divide => " / ",
-        PairOperator::Remainder => " \\ ",
-        PairOperator::Minus => " MINUS ",
-        PairOperator::ShiftLeft => " << ",
-        PairOperator::ShiftRight => " >> ",
-        PairOperator::Equal => " = ",
-        PairOperator::NotEqual => " <> ",
-        PairOperator::Less => " < ",
-        PairOperator::Greater => " > ",
-        PairOperator::LessOrEqual => " <= ",
-        PairOperator::GreaterOrEqual => " >= ",
+        PairOperator::Arithmetic(ArithmeticPair::Subtract) => " - ",
+        PairOperator::Arithmetic(ArithmeticPair::Divide) => " / ",
+        PairOperator::Arithmetic(ArithmeticPair::Remainder) => " \\ ",
+        PairOperator::Arithmetic(ArithmeticPair::Minus) => " MINUS ",
+        PairOperator::Arithmetic(ArithmeticPair::ShiftLeft) => " << ",
+        PairOperator::Arithmetic(ArithmeticPair::ShiftRight) => " >> ",
+        PairOperator::Comparison(Comparison::Equal) => " = ",
+        PairOperator::Comparison(Comparison::NotEqual) => " <> ",
+        PairOperator::Comparison(Comparison::Less) => " < ",
+        PairOperator::Comparison(Comparison::Greater) => " > ",
+        PairOperator::Comparison(Comparison::LessOrEqual) => " <= ",
+        PairOperator::Comparison(Comparison::GreaterOrEqual) => " >= ",
     }
 }
 
 fn chain_sign(operator: ChainOperator) -> &'static str {
     match operator {
-        ChainOperator::Add => " + ",
-        ChainOperator::Multiply => " * ",
-        ChainOperator::Plus => " PLUS ",
-        ChainOperator::Times => " TIMES ",
-        ChainOperator::And => " AND ",
-        ChainOperator::Or => " OR ",
-        ChainOperator::BitAnd => " /\\ ",
-        ChainOperator::BitOr => " \\/ ",
-        ChainOperator::BitXor => " >< ",
+        ChainOperator::Arithmetic(ArithmeticChain::Add) => " + ",
+        ChainOperator::Arithmetic(ArithmeticChain::Multiply) => " * ",
+        ChainOperator::Arithmetic(ArithmeticChain::Plus) => " PLUS ",
+        ChainOperator::Arithmetic(ArithmeticChain::Times) => " TIMES ",
+        ChainOperator::Arithmetic(ArithmeticChain::BitAnd) => " /\\ ",
+        ChainOperator::Arithmetic(ArithmeticChain::BitOr) => " \\/ ",
+        ChainOperator::Arithmetic(ArithmeticChain::BitXor) => " >< ",
+        ChainOperator::Logic(Logic::And) => " AND ",
+        ChainOperator::Logic(Logic::Or) => " OR ",
     }
 }
 

@@ -13,7 +13,7 @@ use Rattle.std.proofs.lemmas.List.Folds.{length-prefix_len}
 use Rattle.occam_layout.specs.declared.fault.Fault.{Fault}
 use Rattle.occam_layout.specs.declared.fault.Fault.TheVariants as faults
 use Rattle.occam_layout.specs.Characters.{decoded, body_len}
-use Rattle.occam_layout.specs.Kind.{Kind, Sign, Name, Integer, Character, Text, keywords, keyword_among, is_sign, signs}
+use Rattle.occam_layout.specs.Kind.{Kind, Mark, Name, Integer, Character, Text, keywords, keyword_among, is_sign, signs}
 use Rattle.occam_layout.specs.Reading.{◌>>=◌, is_name_byte, value, word_at, decimal_at, hexadecimal_at, quoted_at}
 use Rattle.occam_layout.specs.Reading.{one_byte, character_at, string_at, single_at, pair_or, sign_at, token_at}
 use Rattle.occam_layout.specs.Tokens.{is_last, is_lexeme, IsLongest, in_int, bits_of, character_of, body_of, meaning}
@@ -480,7 +480,7 @@ lexeme-other c rest h = cond-false (is_ascii_alphabetic c) _ _ h.no_number.no_le
     h.no_number.no_digit ∙ cond-false (eqb c 35) _ _ h.no_number.no_hash ∙ cond-false (eqb c 39) _ _ h.no_single ∙ cond-false (eqb c 34)
     _ _ h.no_double
 
-meaning-other : (c : ℕ) (rest : List ℕ) → IsOther c → meaning (c ∷ rest) ≡ Some (Sign (c ∷ rest))
+meaning-other : (c : ℕ) (rest : List ℕ) → IsOther c → meaning (c ∷ rest) ≡ Some (Mark (c ∷ rest))
 unfolding meaning
 meaning-other c rest h = cond-false (is_ascii_alphabetic c) _ _ h.no_number.no_letter ∙ cond-false (is_ascii_digit c) _ _
     h.no_number.no_digit ∙ cond-false (eqb c 35) _ _ h.no_number.no_hash ∙ cond-false (eqb c 39) _ _ h.no_single ∙ cond-false (eqb c 34)
@@ -528,7 +528,7 @@ no_sign c rest h is_not alone (d ∷ text) others e lexeme =
 -- a single sign, where it is no part of a pair
 single_with : (b : Bool) (c : ℕ) (rest : List ℕ) → IsOther c → is_sign (c ∷ []) ≡ b
     → ((d : ℕ) (others : List ℕ) → rest ≡ d ∷ others → is_sign (c ∷ d ∷ []) ≡ false)
-    → Agrees (c ∷ rest) (ok_or (cond b (Some (Sign (c ∷ []))) None) faults.Character >>= λ kind. Ok (kind, 1))
+    → Agrees (c ∷ rest) (ok_or (cond b (Some (Mark (c ∷ []))) None) faults.Character >>= λ kind. Ok (kind, 1))
 single_with true c rest h is alone = record {
   within = omega arith;
   longest = record { lexeme = lexeme-other c [] h ∙ is; longest = alone_longest c rest h alone };
@@ -554,7 +554,7 @@ first_of_two c d rest no_pair f others e =
     ap (λ (k : ℕ). is_sign (c ∷ k ∷ [])) (sym heads) ∙ no_pair
 
 pair_with : (b : Bool) (c d : ℕ) (rest : List ℕ) → IsOther c → is_sign (c ∷ d ∷ []) ≡ b
-    → Agrees (c ∷ d ∷ rest) (pair_or (cond b (Some (Sign (c ∷ d ∷ []))) None) (single_at c))
+    → Agrees (c ∷ d ∷ rest) (pair_or (cond b (Some (Mark (c ∷ d ∷ []))) None) (single_at c))
 pair_with true c d rest h is = record {
   within = omega arith;
   longest = record { lexeme = lexeme-other c (d ∷ []) h ∙ is; longest = pair_longest c d rest h };

@@ -158,3 +158,22 @@ pub nothing_shown : (bytes : List ℕ) → length bytes ≡ 0 → shown (decoded
 unfolding decoded
 nothing_shown [] empty = refl
 nothing_shown (c ∷ rest) empty = absurd (omega (arith, empty))
+
+-- a string has no more bytes than its spelling
+one_more : (byte : ℕ) (o : Option (List ℕ)) (n : ℕ) → length (unwrap_or o []) ≤ n
+    → length (unwrap_or (option_map (λ bytes. byte ∷ bytes) o) []) ≤ suc n
+one_more byte None n h = omega arith
+one_more byte (Some bytes) n h = omega arith
+
+after_one : (rest : List ℕ) (o : Option (ℕ × ℕ))
+    → ((passed : ℕ) → length (unwrap_or (decoded passed rest) []) ≤ length rest)
+    → length (unwrap_or (option_and_then (λ x. option_map (λ bytes. x.0 ∷ bytes) (decoded x.1 rest)) o) [])
+    ≤ suc (length rest)
+after_one rest None h = omega arith
+after_one rest (Some x) h = one_more x.0 (decoded x.1 rest) (length rest) (h x.1)
+
+pub no_longer : (bytes : List ℕ) (passed : ℕ) → length (unwrap_or (decoded passed bytes) []) ≤ length bytes
+unfolding decoded
+no_longer [] passed = omega arith
+no_longer (c ∷ rest) (suc passed) = let below = no_longer rest passed in omega arith
+no_longer (c ∷ rest) zero = after_one rest (character_at (c ∷ rest)) (no_longer rest)

@@ -1,37 +1,92 @@
 -- What a token is, apart from where it stands in memory.
-use Rattle.std.specs.Prelude.{ℕ, ℤ, Bool, List, [], ◌∷◌, length, filter, ◌==◌, codes, bytes_eq, unwrap_or, Option, Some}
+use Rattle.std.specs.Prelude.{ℕ, ℤ, Bool, List, [], ◌∷◌, length, map, filter, ◌==◌, codes, bytes_eq, unwrap_or, Option, Some}
 use Rattle.std.specs.Prelude.{None, if◌then◌else◌}
 use Rattle.std.specs.List.{list_any}
 use Rattle.occam_layout.specs.Characters.{decoded}
+use Rattle.occam_layout.specs.declared.mark.Mark as mark_type
+use Rattle.occam_layout.specs.declared.mark.Mark.TheVariants as mark
 use Rattle.occam_layout.specs.declared.text.Text as text
 use Rattle.occam_layout.specs.declared.token.TokenKind.{TokenKind}
 use Rattle.occam_layout.specs.declared.token.TokenKind.TheVariants as token
 
--- keywords and signs by their spelling, literals by what they stand for
+-- a name or a literal by what it stands for, a keyword or a sign by its spelling
 pub data Kind : Type 0 where
-  Keyword : (spelling : List ℕ) → Kind
-  Sign : (spelling : List ℕ) → Kind
+  Mark : (spelling : List ℕ) → Kind
   Name : (spelling : List ℕ) → Kind
   Integer : (value : ℤ) → Kind
   Character : (byte : ℕ) → Kind
   Text : (bytes : List ℕ) → Kind
 
+abbrev pub spelling : mark_type.Mark → List ℕ
+spelling mark.Val = codes "VAL"
+spelling mark.Is = codes "IS"
+spelling mark.Int = codes "INT"
+spelling mark.Byte = codes "BYTE"
+spelling mark.Proc = codes "PROC"
+spelling mark.Chan = codes "CHAN"
+spelling mark.Of = codes "OF"
+spelling mark.Skip = codes "SKIP"
+spelling mark.Stop = codes "STOP"
+spelling mark.Seq = codes "SEQ"
+spelling mark.Par = codes "PAR"
+spelling mark.If = codes "IF"
+spelling mark.Alt = codes "ALT"
+spelling mark.For = codes "FOR"
+spelling mark.MostPos = codes "MOSTPOS"
+spelling mark.MostNeg = codes "MOSTNEG"
+spelling mark.Plus = codes "PLUS"
+spelling mark.Minus = codes "MINUS"
+spelling mark.Times = codes "TIMES"
+spelling mark.And = codes "AND"
+spelling mark.Or = codes "OR"
+spelling mark.Not = codes "NOT"
+spelling mark.True = codes "TRUE"
+spelling mark.False = codes "FALSE"
+spelling mark.Assign = codes ":="
+spelling mark.BitAnd = codes "/\\"
+spelling mark.BitOr = codes "\\/"
+spelling mark.BitXor = codes "><"
+spelling mark.ShiftLeft = codes "<<"
+spelling mark.ShiftRight = codes ">>"
+spelling mark.NotEqual = codes "<>"
+spelling mark.LessOrEqual = codes "<="
+spelling mark.GreaterOrEqual = codes ">="
+spelling mark.Colon = codes ":"
+spelling mark.Comma = codes ","
+spelling mark.OpenParenthesis = codes "("
+spelling mark.CloseParenthesis = codes ")"
+spelling mark.OpenBracket = codes "["
+spelling mark.CloseBracket = codes "]"
+spelling mark.Input = codes "?"
+spelling mark.Output = codes "!"
+spelling mark.Guard = codes "&"
+spelling mark.Add = codes "+"
+spelling mark.Subtract = codes "-"
+spelling mark.Multiply = codes "*"
+spelling mark.Divide = codes "/"
+spelling mark.Remainder = codes "\\"
+spelling mark.BitNot = codes "~"
+spelling mark.Equal = codes "="
+spelling mark.Less = codes "<"
+spelling mark.Greater = codes ">"
+
 -- the words that are no names: those of the occam 2 reference manual that this profile has, our own choice
 abbrev pub keywords : List (List ℕ)
-keywords =
-    codes "VAL" ∷ codes "IS" ∷ codes "INT" ∷ codes "BYTE" ∷ codes "PROC" ∷ codes "CHAN" ∷ codes "OF" ∷ codes "SKIP" ∷
-    codes "STOP" ∷ codes "SEQ" ∷ codes "PAR" ∷ codes "IF" ∷ codes "ALT" ∷ codes "FOR" ∷ codes "MOSTPOS" ∷ codes
-    "MOSTNEG" ∷
-    codes "PLUS" ∷ codes "MINUS" ∷ codes "TIMES" ∷ codes "AND" ∷ codes "OR" ∷ codes "NOT" ∷ codes "TRUE" ∷ codes
-    "FALSE" ∷ []
+keywords = map spelling (
+    mark.Val ∷ mark.Is ∷ mark.Int ∷ mark.Byte ∷ mark.Proc ∷ mark.Chan ∷ mark.Of ∷ mark.Skip ∷ mark.Stop ∷ mark.Seq ∷
+    mark.Par ∷ mark.If ∷ mark.Alt ∷ mark.For ∷ mark.MostPos ∷ mark.MostNeg ∷ mark.Plus ∷ mark.Minus ∷ mark.Times ∷
+    mark.And ∷ mark.Or ∷ mark.Not ∷ mark.True ∷ mark.False ∷ []
+    )
 
 -- the operators and the other signs, from the same manual
 abbrev pub signs : List (List ℕ)
-signs =
-    codes ":=" ∷ codes "/\\" ∷ codes "\\/" ∷ codes "><" ∷ codes "<<" ∷ codes ">>" ∷ codes "<>" ∷ codes "<=" ∷ codes
-    ">=" ∷
-    codes ":" ∷ codes "," ∷ codes "(" ∷ codes ")" ∷ codes "[" ∷ codes "]" ∷ codes "?" ∷ codes "!" ∷ codes "&" ∷
-    codes "+" ∷ codes "-" ∷ codes "*" ∷ codes "/" ∷ codes "\\" ∷ codes "~" ∷ codes "=" ∷ codes "<" ∷ codes ">" ∷ []
+signs = map spelling (
+    mark.Assign ∷ mark.BitAnd ∷ mark.BitOr ∷ mark.BitXor ∷ mark.ShiftLeft ∷ mark.ShiftRight ∷ mark.NotEqual ∷
+    mark.LessOrEqual ∷ mark.GreaterOrEqual ∷ mark.Colon ∷ mark.Comma ∷ mark.OpenParenthesis ∷
+    mark.CloseParenthesis ∷ mark.OpenBracket ∷ mark.CloseBracket ∷ mark.Input ∷ mark.Output ∷ mark.Guard ∷
+    mark.Add ∷ mark.Subtract ∷ mark.Multiply ∷ mark.Divide ∷ mark.Remainder ∷ mark.BitNot ∷ mark.Equal ∷ mark.Less ∷
+    mark.Greater ∷ []
+    )
 
 abbrev pub is_sign : List ℕ → Bool
 is_sign text = list_any (bytes_eq text) signs
@@ -40,71 +95,24 @@ is_sign text = list_any (bytes_eq text) signs
 abbrev pub bytes_of : text.Text → List ℕ
 bytes_of t = unwrap_or (decoded 0 t.spelling.now) []
 
+abbrev pub marked : mark_type.Mark → Kind
+marked m = Mark (spelling m)
+
 -- what a token of the program is
 abbrev pub kind_of : TokenKind → Kind
 kind_of (token.Name text) = Name text.now
 kind_of (token.Integer value) = Integer value
 kind_of (token.Character byte) = Character byte
 kind_of (token.Text text) = Text (bytes_of text)
-kind_of token.Val = Keyword (codes "VAL")
-kind_of token.Is = Keyword (codes "IS")
-kind_of token.Int = Keyword (codes "INT")
-kind_of token.Byte = Keyword (codes "BYTE")
-kind_of token.Proc = Keyword (codes "PROC")
-kind_of token.Chan = Keyword (codes "CHAN")
-kind_of token.Of = Keyword (codes "OF")
-kind_of token.Skip = Keyword (codes "SKIP")
-kind_of token.Stop = Keyword (codes "STOP")
-kind_of token.Seq = Keyword (codes "SEQ")
-kind_of token.Par = Keyword (codes "PAR")
-kind_of token.If = Keyword (codes "IF")
-kind_of token.Alt = Keyword (codes "ALT")
-kind_of token.For = Keyword (codes "FOR")
-kind_of token.MostPos = Keyword (codes "MOSTPOS")
-kind_of token.MostNeg = Keyword (codes "MOSTNEG")
-kind_of token.Plus = Keyword (codes "PLUS")
-kind_of token.Minus = Keyword (codes "MINUS")
-kind_of token.Times = Keyword (codes "TIMES")
-kind_of token.And = Keyword (codes "AND")
-kind_of token.Or = Keyword (codes "OR")
-kind_of token.Not = Keyword (codes "NOT")
-kind_of token.True = Keyword (codes "TRUE")
-kind_of token.False = Keyword (codes "FALSE")
-kind_of token.Assign = Sign (codes ":=")
-kind_of token.BitAnd = Sign (codes "/\\")
-kind_of token.BitOr = Sign (codes "\\/")
-kind_of token.BitXor = Sign (codes "><")
-kind_of token.ShiftLeft = Sign (codes "<<")
-kind_of token.ShiftRight = Sign (codes ">>")
-kind_of token.NotEqual = Sign (codes "<>")
-kind_of token.LessOrEqual = Sign (codes "<=")
-kind_of token.GreaterOrEqual = Sign (codes ">=")
-kind_of token.Colon = Sign (codes ":")
-kind_of token.Comma = Sign (codes ",")
-kind_of token.OpenParenthesis = Sign (codes "(")
-kind_of token.CloseParenthesis = Sign (codes ")")
-kind_of token.OpenBracket = Sign (codes "[")
-kind_of token.CloseBracket = Sign (codes "]")
-kind_of token.Input = Sign (codes "?")
-kind_of token.Output = Sign (codes "!")
-kind_of token.Guard = Sign (codes "&")
-kind_of token.Add = Sign (codes "+")
-kind_of token.Subtract = Sign (codes "-")
-kind_of token.Multiply = Sign (codes "*")
-kind_of token.Divide = Sign (codes "/")
-kind_of token.Remainder = Sign (codes "\\")
-kind_of token.BitNot = Sign (codes "~")
-kind_of token.Equal = Sign (codes "=")
-kind_of token.Less = Sign (codes "<")
-kind_of token.Greater = Sign (codes ">")
+kind_of (token.Mark m) = marked m
 
 -- the keyword that is spelled so, if it is among these
 abbrev pub keyword_among : List (List ℕ) → List ℕ → Option Kind
-keyword_among words text = if list_any (bytes_eq text) words then Some (Keyword text) else None
+keyword_among words text = if list_any (bytes_eq text) words then Some (Mark text) else None
 
 abbrev pub keywords_of_len : ℕ → List (List ℕ)
 keywords_of_len n = filter (λ word. length word == n) keywords
 
 -- the sign that is spelled so, if one is
 abbrev pub sign_of : List ℕ → Option Kind
-sign_of text = if is_sign text then Some (Sign text) else None
+sign_of text = if is_sign text then Some (Mark text) else None

@@ -8,7 +8,7 @@ use Rattle.std.specs.Char.{is_ascii_alphabetic, is_ascii_digit, is_ascii_hexdigi
 use Rattle.std.specs.Int.{w32, cast_signed}
 use Rattle.occam_layout.specs.declared.layout.TheConstants.{MAX_BYTES, MAX_LINES}
 use Rattle.occam_layout.specs.Characters.{decoded, body_len}
-use Rattle.occam_layout.specs.Kind.{Kind, Sign, Name, Integer, Character, Text, keywords, keyword_among, is_sign}
+use Rattle.occam_layout.specs.Kind.{Kind, Mark, Name, Integer, Character, Text, keywords, keyword_among, is_sign}
 use Rattle.occam_layout.specs.Reading.{is_name_byte, value, is_character, is_space, is_blank, is_in_line}
 use Rattle.occam_layout.specs.Reading.{begins_comment, lines_of, Lexeme, Row}
 
@@ -61,7 +61,7 @@ meaning (c ∷ rest) =
     else (if c == 35 then bits_of rest
     else (if c == 39 then option_and_then character_of (decoded 0 (body_of rest))
     else (if c == 34 then option_map Text (decoded 0 (body_of rest))
-    else Some (Sign (c ∷ rest))))))
+    else Some (Mark (c ∷ rest))))))
 
 -- ---- the tokens of a line
 

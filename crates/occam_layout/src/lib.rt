@@ -4,6 +4,7 @@
 mod fault;
 mod laws;
 mod layout;
+mod mark;
 mod scan;
 mod text;
 mod token;
@@ -12,5 +13,6 @@ mod words;
 pub use fault::{CHARACTER, LITERAL, LayoutFault, MEMORY, ODD_INDENTATION, TOO_DEEP, TOO_LARGE};
 pub use laws::nothing_is_dropped;
 pub use layout::{MAX_BYTES, MAX_LINES, lines};
-pub use text::Text;
+pub use mark::Mark;
+pub use text::{Text, TextBytes};
 pub use token::{Line, Token, TokenKind};

@@ -51,7 +51,7 @@ fn word_at(bytes: &[u8]) -> (TokenKind<'_>, usize)
     let len = name_len(bytes);
     let (text, _) = bytes.split_at(len);
     match keyword(text) {
-        Some(kind) => (kind, len),
+        Some(mark) => (TokenKind::Mark(mark), len),
         None => (TokenKind::Name(text), len),
     }
 }
@@ -143,12 +143,12 @@ fn sign_at(bytes: &[u8]) -> Found<'static>
         [first, second, ..] => pair_sign(&[*first, *second]),
         _ => None,
     };
-    if let Some(kind) = pair {
-        return Ok((kind, 2));
+    if let Some(mark) = pair {
+        return Ok((TokenKind::Mark(mark), 2));
     }
     let first = bytes.first().ok_or(Fault::Character)?;
-    let kind = single_sign(*first).ok_or(Fault::Character)?;
-    Ok((kind, 1))
+    let mark = single_sign(*first).ok_or(Fault::Character)?;
+    Ok((TokenKind::Mark(mark), 1))
 }
 
 /// The token that begins here.

@@ -105,6 +105,20 @@ impl<'a> Text<'a> {
         self.spelling.is_empty()
     }
 
+    /// The number of bytes.
+    pub fn len(self) -> usize
+        ensures { result ≡ length (bytes_of self.entry) }
+    {
+        self.bytes().count()
+    }
+
+    /// The bytes from left to right.
+    pub fn bytes(self) -> TextBytes<'a>
+        ensures { bytes_of result.rest ≡ bytes_of self.entry }
+    {
+        TextBytes { rest: self }
+    }
+
     /// The first byte and the others, unless there is none.
     pub fn split_first(self) -> Option<(u8, Text<'a>)>
         ensures { MatchOption result (bytes_of self.entry ≡ []) (λ x. bytes_of self.entry ≡ x.0 ∷ bytes_of x.1) }
@@ -112,5 +126,28 @@ impl<'a> Text<'a> {
         let (byte, len) = character_at(self.spelling)?;
         let (_, spelling) = self.spelling.split_at(len);
         Some((byte, Text { spelling }))
+    }
+}
+
+/// The bytes of a string, from left to right.
+#[derive(Drop)]
+pub struct TextBytes<'a> {
+    rest: Text<'a>,
+}
+
+impl<'a> Iterator for TextBytes<'a> {
+    ghost use Rattle.std.specs.Iterator.{YieldsFirst, item_count};
+    ghost use Rattle.occam_layout.specs.Kind.{bytes_of};
+
+    type Item = u8;
+
+    ghost next_gives = { YieldsFirst (λ s. bytes_of s.rest) };
+
+    ghost remaining = { item_count (λ s. bytes_of s.rest) };
+
+    fn next(&mut self) -> Option<u8> {
+        let (byte, rest) = self.rest.split_first()?;
+        self.rest = rest;
+        Some(byte)
     }
 }

@@ -1,5 +1,6 @@
 //! Lines and their tokens.
 
+use crate::mark::Mark;
 use crate::text::Text;
 
 /// A line of a source that has tokens.
@@ -23,7 +24,7 @@ pub struct Token<'a> {
     pub end: u32,
 }
 
-/// What a token is: a name or a literal, a keyword, or a sign.
+/// What a token is: a name, a literal, or a mark.
 #[derive(Clone, Copy, Debug)]
 pub enum TokenKind<'a> {
     /// A letter, then letters, digits and dots, and no keyword: the bytes of the source.
@@ -34,107 +35,6 @@ pub enum TokenKind<'a> {
     Character(u8),
     /// A string: its bytes.
     Text(Text<'a>),
-
-    /// `VAL`
-    Val,
-    /// `IS`
-    Is,
-    /// `INT`
-    Int,
-    /// `BYTE`
-    Byte,
-    /// `PROC`
-    Proc,
-    /// `CHAN`
-    Chan,
-    /// `OF`
-    Of,
-    /// `SKIP`
-    Skip,
-    /// `STOP`
-    Stop,
-    /// `SEQ`
-    Seq,
-    /// `PAR`
-    Par,
-    /// `IF`
-    If,
-    /// `ALT`
-    Alt,
-    /// `FOR`
-    For,
-    /// `MOSTPOS`
-    MostPos,
-    /// `MOSTNEG`
-    MostNeg,
-    /// `PLUS`
-    Plus,
-    /// `MINUS`
-    Minus,
-    /// `TIMES`
-    Times,
-    /// `AND`
-    And,
-    /// `OR`
-    Or,
-    /// `NOT`
-    Not,
-    /// `TRUE`
-    True,
-    /// `FALSE`
-    False,
-    /// `:=`
-    Assign,
-    /// `/\`
-    BitAnd,
-    /// `\/`
-    BitOr,
-    /// `><`
-    BitXor,
-    /// `<<`
-    ShiftLeft,
-    /// `>>`
-    ShiftRight,
-    /// `<>`
-    NotEqual,
-    /// `<=`
-    LessOrEqual,
-    /// `>=`
-    GreaterOrEqual,
-    /// `:`
-    Colon,
-    /// `,`
-    Comma,
-    /// `(`
-    OpenParenthesis,
-    /// `)`
-    CloseParenthesis,
-    /// `[`
-    OpenBracket,
-    /// `]`
-    CloseBracket,
-    /// `?`
-    Input,
-    /// `!`
-    Output,
-    /// `&`
-    Guard,
-    /// `+`
-    Add,
-    /// `-`
-    Subtract,
-    /// `*`
-    Multiply,
-    /// `/`
-    Divide,
-    /// `\`
-    Remainder,
-    /// `~`
-    BitNot,
-    /// `=`
-    Equal,
-    /// `<`
-    Less,
-    /// `>`
-    Greater,
+    /// A keyword or a sign.
+    Mark(Mark),
 }

@@ -1,13 +1,13 @@
 //! Keywords and signs, by their spelling.
 
 ghost use Rattle.std.specs.Prelude.{◌≡◌, [], ◌∷◌, length, option_map};
-ghost use Rattle.occam_layout.specs.Kind.{kind_of, keywords, keyword_among, keywords_of_len, sign_of};
+ghost use Rattle.occam_layout.specs.Kind.{marked, keywords, keyword_among, keywords_of_len, sign_of};
 
-use crate::token::TokenKind;
+use crate::mark::Mark;
 
 /// The keyword that is spelled so, if one is.
-pub(crate) fn keyword(text: &[u8]) -> Option<TokenKind<'static>>
-    ensures { option_map kind_of result ≡ keyword_among keywords text.now }
+pub(crate) fn keyword(text: &[u8]) -> Option<Mark>
+    ensures { option_map marked result ≡ keyword_among keywords text.now }
 {
     match text.len() {
         2 => keyword_of_two(text),
@@ -19,119 +19,119 @@ pub(crate) fn keyword(text: &[u8]) -> Option<TokenKind<'static>>
     }
 }
 
-fn keyword_of_two(text: &[u8]) -> Option<TokenKind<'static>>
+fn keyword_of_two(text: &[u8]) -> Option<Mark>
     requires { length text.now ≡ 2 }
-    ensures { option_map kind_of result ≡ keyword_among (keywords_of_len 2) text.now }
+    ensures { option_map marked result ≡ keyword_among (keywords_of_len 2) text.now }
 {
     match text {
-        b"IS" => Some(TokenKind::Is),
-        b"OF" => Some(TokenKind::Of),
-        b"IF" => Some(TokenKind::If),
-        b"OR" => Some(TokenKind::Or),
+        b"IS" => Some(Mark::Is),
+        b"OF" => Some(Mark::Of),
+        b"IF" => Some(Mark::If),
+        b"OR" => Some(Mark::Or),
         _ => None,
     }
 }
 
-fn keyword_of_three(text: &[u8]) -> Option<TokenKind<'static>>
+fn keyword_of_three(text: &[u8]) -> Option<Mark>
     requires { length text.now ≡ 3 }
-    ensures { option_map kind_of result ≡ keyword_among (keywords_of_len 3) text.now }
+    ensures { option_map marked result ≡ keyword_among (keywords_of_len 3) text.now }
 {
     match text {
-        b"VAL" => Some(TokenKind::Val),
-        b"INT" => Some(TokenKind::Int),
-        b"SEQ" => Some(TokenKind::Seq),
-        b"PAR" => Some(TokenKind::Par),
-        b"ALT" => Some(TokenKind::Alt),
-        b"FOR" => Some(TokenKind::For),
-        b"AND" => Some(TokenKind::And),
-        b"NOT" => Some(TokenKind::Not),
+        b"VAL" => Some(Mark::Val),
+        b"INT" => Some(Mark::Int),
+        b"SEQ" => Some(Mark::Seq),
+        b"PAR" => Some(Mark::Par),
+        b"ALT" => Some(Mark::Alt),
+        b"FOR" => Some(Mark::For),
+        b"AND" => Some(Mark::And),
+        b"NOT" => Some(Mark::Not),
         _ => None,
     }
 }
 
-fn keyword_of_four(text: &[u8]) -> Option<TokenKind<'static>>
+fn keyword_of_four(text: &[u8]) -> Option<Mark>
     requires { length text.now ≡ 4 }
-    ensures { option_map kind_of result ≡ keyword_among (keywords_of_len 4) text.now }
+    ensures { option_map marked result ≡ keyword_among (keywords_of_len 4) text.now }
 {
     match text {
-        b"BYTE" => Some(TokenKind::Byte),
-        b"PROC" => Some(TokenKind::Proc),
-        b"CHAN" => Some(TokenKind::Chan),
-        b"SKIP" => Some(TokenKind::Skip),
-        b"STOP" => Some(TokenKind::Stop),
-        b"PLUS" => Some(TokenKind::Plus),
-        b"TRUE" => Some(TokenKind::True),
+        b"BYTE" => Some(Mark::Byte),
+        b"PROC" => Some(Mark::Proc),
+        b"CHAN" => Some(Mark::Chan),
+        b"SKIP" => Some(Mark::Skip),
+        b"STOP" => Some(Mark::Stop),
+        b"PLUS" => Some(Mark::Plus),
+        b"TRUE" => Some(Mark::True),
         _ => None,
     }
 }
 
-fn keyword_of_five(text: &[u8]) -> Option<TokenKind<'static>>
+fn keyword_of_five(text: &[u8]) -> Option<Mark>
     requires { length text.now ≡ 5 }
-    ensures { option_map kind_of result ≡ keyword_among (keywords_of_len 5) text.now }
+    ensures { option_map marked result ≡ keyword_among (keywords_of_len 5) text.now }
 {
     match text {
-        b"MINUS" => Some(TokenKind::Minus),
-        b"TIMES" => Some(TokenKind::Times),
-        b"FALSE" => Some(TokenKind::False),
+        b"MINUS" => Some(Mark::Minus),
+        b"TIMES" => Some(Mark::Times),
+        b"FALSE" => Some(Mark::False),
         _ => None,
     }
 }
 
-fn keyword_of_seven(text: &[u8]) -> Option<TokenKind<'static>>
+fn keyword_of_seven(text: &[u8]) -> Option<Mark>
     requires { length text.now ≡ 7 }
-    ensures { option_map kind_of result ≡ keyword_among (keywords_of_len 7) text.now }
+    ensures { option_map marked result ≡ keyword_among (keywords_of_len 7) text.now }
 {
     if text == b"MOSTPOS".as_slice() {
-        return Some(TokenKind::MostPos);
+        return Some(Mark::MostPos);
     }
     if text == b"MOSTNEG".as_slice() {
-        return Some(TokenKind::MostNeg);
+        return Some(Mark::MostNeg);
     }
     None
 }
 
 /// The sign of two bytes that is spelled so, if one is.
-pub(crate) fn pair_sign(text: &[u8]) -> Option<TokenKind<'static>>
+pub(crate) fn pair_sign(text: &[u8]) -> Option<Mark>
     requires { length text.now ≡ 2 }
-    ensures { option_map kind_of result ≡ sign_of text.now }
+    ensures { option_map marked result ≡ sign_of text.now }
 {
     match text {
-        b":=" => Some(TokenKind::Assign),
-        b"/\\" => Some(TokenKind::BitAnd),
-        b"\\/" => Some(TokenKind::BitOr),
-        b"><" => Some(TokenKind::BitXor),
-        b"<<" => Some(TokenKind::ShiftLeft),
-        b">>" => Some(TokenKind::ShiftRight),
-        b"<>" => Some(TokenKind::NotEqual),
-        b"<=" => Some(TokenKind::LessOrEqual),
-        b">=" => Some(TokenKind::GreaterOrEqual),
+        b":=" => Some(Mark::Assign),
+        b"/\\" => Some(Mark::BitAnd),
+        b"\\/" => Some(Mark::BitOr),
+        b"><" => Some(Mark::BitXor),
+        b"<<" => Some(Mark::ShiftLeft),
+        b">>" => Some(Mark::ShiftRight),
+        b"<>" => Some(Mark::NotEqual),
+        b"<=" => Some(Mark::LessOrEqual),
+        b">=" => Some(Mark::GreaterOrEqual),
         _ => None,
     }
 }
 
 /// The sign of one byte that is spelled so, if one is.
-pub(crate) fn single_sign(byte: u8) -> Option<TokenKind<'static>>
-    ensures { option_map kind_of result ≡ sign_of (byte ∷ []) }
+pub(crate) fn single_sign(byte: u8) -> Option<Mark>
+    ensures { option_map marked result ≡ sign_of (byte ∷ []) }
 {
     match byte {
-        b':' => Some(TokenKind::Colon),
-        b',' => Some(TokenKind::Comma),
-        b'(' => Some(TokenKind::OpenParenthesis),
-        b')' => Some(TokenKind::CloseParenthesis),
-        b'[' => Some(TokenKind::OpenBracket),
-        b']' => Some(TokenKind::CloseBracket),
-        b'?' => Some(TokenKind::Input),
-        b'!' => Some(TokenKind::Output),
-        b'&' => Some(TokenKind::Guard),
-        b'+' => Some(TokenKind::Add),
-        b'-' => Some(TokenKind::Subtract),
-        b'*' => Some(TokenKind::Multiply),
-        b'/' => Some(TokenKind::Divide),
-        b'\\' => Some(TokenKind::Remainder),
-        b'~' => Some(TokenKind::BitNot),
-        b'=' => Some(TokenKind::Equal),
-        b'<' => Some(TokenKind::Less),
-        b'>' => Some(TokenKind::Greater),
+        b':' => Some(Mark::Colon),
+        b',' => Some(Mark::Comma),
+        b'(' => Some(Mark::OpenParenthesis),
+        b')' => Some(Mark::CloseParenthesis),
+        b'[' => Some(Mark::OpenBracket),
+        b']' => Some(Mark::CloseBracket),
+        b'?' => Some(Mark::Input),
+        b'!' => Some(Mark::Output),
+        b'&' => Some(Mark::Guard),
+        b'+' => Some(Mark::Add),
+        b'-' => Some(Mark::Subtract),
+        b'*' => Some(Mark::Multiply),
+        b'/' => Some(Mark::Divide),
+        b'\\' => Some(Mark::Remainder),
+        b'~' => Some(Mark::BitNot),
+        b'=' => Some(Mark::Equal),
+        b'<' => Some(Mark::Less),
+        b'>' => Some(Mark::Greater),
         _ => None,
     }
 }

@@ -1,25 +1,28 @@
 -- What is written is read again.
 use Rattle.std.proofs.Common.{◌≡◌, ℕ, pred, ◌≤◌, Bool, true, false, cond, List, [], ◌∷◌, ◌++◌, length}
+use Rattle.std.specs.Prelude.{is_some}
 use Rattle.std.proofs.Common.{Option, Some, None, refl, sym, ap, subst, arith, append_assoc, length-append, ◌∙◌}
-use Rattle.occam_parser.specs.declared.symbol.Mark as mark_type
-use Rattle.occam_parser.specs.declared.symbol.Mark.TheVariants as mark
+use Rattle.occam_layout.specs.declared.mark.Mark as mark_type
+use Rattle.occam_layout.specs.declared.mark.Mark.TheVariants as mark
 use Rattle.occam_parser.specs.declared.tree.ValueType.{ValueType}
 use Rattle.occam_parser.specs.declared.tree.ValueType.TheVariants as value_type
 use Rattle.occam_parser.specs.declared.tree.PrefixOperator.{PrefixOperator}
 use Rattle.occam_parser.specs.declared.tree.PrefixOperator.TheVariants as prefix
 use Rattle.occam_parser.specs.declared.tree.PairOperator.{PairOperator}
 use Rattle.occam_parser.specs.declared.tree.ChainOperator.{ChainOperator}
-use Rattle.occam_parser.specs.Terminals.{Terminal, Name, Integer, Character, Pair, Chain, Mark}
-use Rattle.occam_parser.specs.Expressions.{Expression, Alone, Prefixed, Paired, Chained, Terms, First, Then, Term}
+use Rattle.occam_parser.specs.declared.front.Operator.{Operator}
+use Rattle.occam_parser.specs.declared.front.Operator.TheVariants as operator
+use Rattle.occam_parser.specs.Terminals.{Terminal, Name, Integer, Character, Mark}
+use Rattle.occam_parser.specs.Expressions.{Expression, Alone, Prefixed, Paired, Chained, Terms, Two, Then, Term}
 use Rattle.occam_parser.specs.Expressions.{Number, Byte, Truth, MostPos, MostNeg, Named, Element, Bracketed, Converted}
 use Rattle.occam_parser.specs.Expressions.{prefix_sign, type_word, truth_word, written, written_terms, written_term}
-use Rattle.occam_parser.specs.Expressions.{IsChain, Fits, FitTerms, FitsTerm}
-use Rattle.occam_parser.specs.Reading.{Reads, ◌>>=◌, behind, behind_operator, prefix_at, begins_with_operator, up_to}
+use Rattle.occam_parser.specs.Expressions.{pair_mark, chain_mark, operator_mark, Fits, FitTerms, FitsTerm}
+use Rattle.occam_parser.specs.Reading.{Reads, ◌>>=◌, behind, prefix_at, operator_at, up_to}
 use Rattle.occam_parser.specs.Reading.{named_behind, named, converted, marked, term_with, chain_from, chain}
-use Rattle.occam_parser.specs.Reading.{after_first, one_behind, one_operator, alone, expression_with, term_at}
+use Rattle.occam_parser.specs.Reading.{with_operator, first_behind, after_first, one_behind, one_operator, alone, expression_with, term_at}
 use Rattle.occam_parser.specs.Reading.{inner_at, operand_within, expression_at}
 use Rattle.occam_parser.specs.Laws.{Ends}
-use Rattle.occam_parser.proofs.Marks.{behind_again, behind_operator_again}
+use Rattle.occam_parser.proofs.Marks.{behind_again, operator_again, operator_no_subscript, no_operator_mark}
 use Rattle.occam_parser.proofs.Levels.{inner_is, operand_is}
 use Rattle.occam_parser.proofs.Lists.{chain_turn, chain_no_turn}
 
@@ -96,20 +99,12 @@ unfolding converted
 converted_again operand to ts rest t h = ap (λ o. o >>= λ x. Some (Converted to x.0, x.1)) h
 
 ends_bracket : (rest : List Terminal) → Ends (Mark mark.CloseBracket ∷ rest)
-unfolding behind begins_with_operator
+unfolding behind operator_at
 ends_bracket rest = record { no_subscript = refl; no_operator = refl }
 
 ends_parenthesis : (rest : List Terminal) → Ends (Mark mark.CloseParenthesis ∷ rest)
-unfolding behind begins_with_operator
+unfolding behind operator_at
 ends_parenthesis rest = record { no_subscript = refl; no_operator = refl }
-
-no_subscript_pair : (op : PairOperator) (rest : List Terminal) → behind mark.OpenBracket (Pair op ∷ rest) ≡ None
-unfolding behind
-no_subscript_pair op rest = refl
-
-no_subscript_chain : (op : ChainOperator) (rest : List Terminal) → behind mark.OpenBracket (Chain op ∷ rest) ≡ None
-unfolding behind
-no_subscript_chain op rest = refl
 
 -- ---- one operator
 
@@ -138,40 +133,43 @@ begins_no_other (Converted value_type.Byte t) rest = (refl, refl)
 no_prefix : (t : Term) (rest : List Terminal) → prefix_at (written_term t ++ rest) ≡ None
 no_prefix t rest = (begins_no_other t rest).0
 
-after_alone : (p : Reads Term) (first : Term) (rest : List Terminal) → begins_with_operator rest ≡ false
+after_alone : (p : Reads Term) (first : Term) (rest : List Terminal) → operator_at rest ≡ None
     → after_first p first rest ≡ Some (Alone first, rest)
-unfolding after_first begins_with_operator
-after_alone p first [] e = refl
-after_alone p first (Pair op ∷ ts) e = absurd (cc)
-after_alone p first (Chain op ∷ ts) e = absurd (cc)
-after_alone p first (t ∷ ts) e = refl
+unfolding after_first
+after_alone p first rest e = ap (first_behind p first rest) e
 
 ends_well : (o : Option (Expression × List Terminal)) (e : Expression) (rest : List Terminal) → o ≡ Some (e, rest)
-    → begins_with_operator rest ≡ false → alone o ≡ Some (e, rest)
-ends_well o e rest h b = ap alone h ∙ ap (λ t. cond t None (Some (e, rest))) b
+    → operator_at rest ≡ None → alone o ≡ Some (e, rest)
+ends_well o e rest h b = ap alone h ∙ ap (λ (t : Option ((Operator × mark_type.Mark) × List Terminal)). cond
+    (is_some t) None (Some (e, rest))) b
 
 alone_again : (p : Reads Term) (ts rest : List Terminal) (t : Term) → prefix_at ts ≡ None → p ts ≡ Some (t, rest)
-    → begins_with_operator rest ≡ false → expression_with p ts ≡ Some (Alone t, rest)
+    → operator_at rest ≡ None → expression_with p ts ≡ Some (Alone t, rest)
 unfolding expression_with one_operator
 alone_again p ts rest t n h b =
     ends_well (one_operator p ts) (Alone t) rest
     (ap (one_behind p ts) n ∙ ap (λ o. o >>= λ x. after_first p x.0 x.1) h ∙ after_alone p t rest b) b
 
 prefixed_again : (p : Reads Term) (op : PrefixOperator) (ts rest : List Terminal) (t : Term) → p ts ≡ Some (t, rest)
-    → begins_with_operator rest ≡ false → expression_with p (prefix_sign op ∷ ts) ≡ Some (Prefixed op t, rest)
+    → operator_at rest ≡ None → expression_with p (prefix_sign op ∷ ts) ≡ Some (Prefixed op t, rest)
 unfolding expression_with one_operator
 prefixed_again p op ts rest t h b =
     ends_well (one_operator p (prefix_sign op ∷ ts)) (Prefixed op t) rest
     (ap (one_behind p (prefix_sign op ∷ ts)) (prefix_again op ts) ∙ ap
     (λ o. o >>= λ x. Some (Prefixed op x.0, x.1)) h) b
 
-after_pair : (p : Reads Term) (op : PairOperator) (a b : Term) (ts rest : List Terminal) → p ts ≡ Some (b, rest)
-    → after_first p a (Pair op ∷ ts) ≡ Some (Paired op a b, rest)
+after_operator : (p : Reads Term) (first : Term) (op : Operator) (ts : List Terminal)
+    → after_first p first (Mark (operator_mark op) ∷ ts) ≡ with_operator p first op (operator_mark op) ts
 unfolding after_first
-after_pair p op a b ts rest h = ap (λ o. o >>= λ x. Some (Paired op a x.0, x.1)) h
+after_operator p first op ts = ap (first_behind p first (Mark (operator_mark op) ∷ ts)) (operator_again op ts)
+
+after_pair : (p : Reads Term) (op : PairOperator) (a b : Term) (ts rest : List Terminal) → p ts ≡ Some (b, rest)
+    → after_first p a (Mark (pair_mark op) ∷ ts) ≡ Some (Paired op a b, rest)
+after_pair p op a b ts rest h = after_operator p a (operator.Pair op) ts ∙ ap
+    (λ o. o >>= λ x. Some (Paired op a x.0, x.1)) h
 
 paired_again : (p : Reads Term) (op : PairOperator) (ts us rest : List Terminal) (a b : Term) → prefix_at ts ≡ None
-    → p ts ≡ Some (a, Pair op ∷ us) → p us ≡ Some (b, rest) → begins_with_operator rest ≡ false
+    → p ts ≡ Some (a, Mark (pair_mark op) ∷ us) → p us ≡ Some (b, rest) → operator_at rest ≡ None
     → expression_with p ts ≡ Some (Paired op a b, rest)
 unfolding expression_with one_operator
 paired_again p op ts us rest a b n h k e =
@@ -187,42 +185,35 @@ pub record ReadSo (p : Reads Term) (op : ChainOperator) (ts : List Terminal) (te
   pub behind_second : List Terminal
   pub turns : ℕ
   pub plain : prefix_at ts ≡ None
-  pub reads_first : p ts ≡ Some (first, Chain op ∷ more)
+  pub reads_first : p ts ≡ Some (first, Mark (chain_mark op) ∷ more)
   pub reads_second : p more ≡ Some (second, behind_second)
-  pub goes_on : chain_from p op (length more) (Then (First first) second) behind_second ≡ chain_from p op turns terms
+  pub goes_on : chain_from p (chain_mark op) (length more) (Two first second) behind_second
+      ≡ chain_from p (chain_mark op)
+      turns terms
       rest
   pub enough : length rest ≤ turns
 
 after_chain : (p : Reads Term) (op : ChainOperator) (a : Term) (ts : List Terminal)
-    → after_first p a (Chain op ∷ ts) ≡ chain p op a ts
-unfolding after_first
-after_chain p op a ts = refl
-
-no_operator_none : (op : ChainOperator) (rest : List Terminal) → begins_with_operator rest ≡ false
-    → behind_operator op rest ≡ None
-unfolding begins_with_operator behind_operator
-no_operator_none op [] e = refl
-no_operator_none op (Pair o ∷ ts) e = absurd (cc)
-no_operator_none op (Chain o ∷ ts) e = absurd (cc)
-no_operator_none op (t ∷ ts) e = refl
+    → after_first p a (Mark (chain_mark op) ∷ ts) ≡ chain p op (chain_mark op) a ts
+after_chain p op a ts = after_operator p a (operator.Chain op) ts
 
 chain_again : (p : Reads Term) (op : ChainOperator) (ts : List Terminal) (terms : Terms) (rest : List Terminal)
-    → ReadSo p op ts terms rest → begins_with_operator rest ≡ false
+    → ReadSo p op ts terms rest → operator_at rest ≡ None
     → expression_with p ts ≡ Some (Chained op terms, rest)
 unfolding expression_with one_operator chain
 chain_again p op ts terms rest r b =
-    let found = ap (λ (o : Option (Term × List Terminal)). o >>= λ x. chain_from p op (length r.more)
-    (Then (First r.first) x.0) x.1 >>= λ y. Some (Chained op y.0, y.1)) r.reads_second in
+    let found = ap (λ (o : Option (Term × List Terminal)). o >>= λ x. chain_from p (chain_mark op) (length r.more)
+    (Two r.first x.0) x.1 >>= λ y. Some (Chained op y.0, y.1)) r.reads_second in
     let done = ap (λ (o : Option (Terms × List Terminal)). o >>= λ y. Some (Chained op y.0, y.1))
-    (r.goes_on ∙ chain_no_turn p op r.turns terms rest (no_operator_none op rest b)) in
+    (r.goes_on ∙ chain_no_turn p (chain_mark op) r.turns terms rest (no_operator_mark (operator.Chain op) rest b)) in
     ends_well (one_operator p ts) (Chained op terms) rest
     (ap (one_behind p ts) r.plain ∙ ap (λ (o : Option (Term × List Terminal)). o >>= λ x. after_first p x.0 x.1)
     r.reads_first ∙ after_chain p op r.first r.more ∙ found ∙ done)
     b
 
 chain_first : (p : Reads Term) (op : ChainOperator) (ts us rest : List Terminal) (a b : Term) → prefix_at ts ≡ None
-    → p ts ≡ Some (a, Chain op ∷ us) → p us ≡ Some (b, rest) → length rest ≤ length us
-    → ReadSo p op ts (Then (First a) b) rest
+    → p ts ≡ Some (a, Mark (chain_mark op) ∷ us) → p us ≡ Some (b, rest) → length rest ≤ length us
+    → ReadSo p op ts (Two a b) rest
 chain_first p op ts us rest a b n h k l =
     record {
       first = a;
@@ -239,10 +230,11 @@ chain_first p op ts us rest a b n h k l =
     }
 
 chain_more : (p : Reads Term) (op : ChainOperator) (ts us rest : List Terminal) (terms : Terms) (b : Term)
-    → ReadSo p op ts terms (Chain op ∷ us) → p us ≡ Some (b, rest) → length rest ≤ length us
+    → ReadSo p op ts terms (Mark (chain_mark op) ∷ us) → p us ≡ Some (b, rest) → length rest ≤ length us
     → ReadSo p op ts (Then terms b) rest
 chain_more p op ts us rest terms b r h l =
-    let t = chain_turn p op r.turns terms (Chain op ∷ us) us (behind_operator_again op us) r.enough in
+    let t = chain_turn p (chain_mark op) r.turns terms (Mark (chain_mark op) ∷ us) us (behind_again (chain_mark op) us)
+    r.enough in
     record {
       first = r.first;
       more = r.more;
@@ -252,7 +244,8 @@ chain_more p op ts us rest terms b r h l =
       plain = r.plain;
       reads_first = r.reads_first;
       reads_second = r.reads_second;
-      goes_on = r.goes_on ∙ t.2 ∙ ap (λ (o : Option (Term × List Terminal)). o >>= λ x. chain_from p op t.0
+      goes_on = r.goes_on ∙ t.2 ∙ ap (λ (o : Option (Term × List Terminal)). o >>= λ x.
+          chain_from p (chain_mark op) t.0
           (Then terms x.0) x.1) h;
       enough = omega (arith, t.1);
     }
@@ -274,33 +267,35 @@ mutual
       prefixed_again (term_at n) op (written_term t ++ rest) rest t (term_again t n rest fits ends.no_subscript)
       ends.no_operator
   expression_again (Paired op a b) n rest fits ends =
-      ap (expression_with (term_at n)) (append_assoc (written_term a) (Pair op ∷ written_term b) rest)
-      ∙ paired_again (term_at n) op (written_term a ++ Pair op ∷ (written_term b ++ rest)) (written_term b ++ rest)
-      rest a b (no_prefix a (Pair op ∷ (written_term b ++ rest)))
-      (term_again a n (Pair op ∷ (written_term b ++ rest)) fits.0 (no_subscript_pair op (written_term b ++ rest)))
+      ap (expression_with (term_at n)) (append_assoc (written_term a) (Mark (pair_mark op) ∷ written_term b) rest)
+      ∙ paired_again (term_at n) op (written_term a ++ Mark (pair_mark op) ∷ (written_term b ++ rest))
+      (written_term b ++ rest)
+      rest a b (no_prefix a (Mark (pair_mark op) ∷ (written_term b ++ rest)))
+      (term_again a n (Mark (pair_mark op) ∷ (written_term b ++ rest)) fits.0
+      (operator_no_subscript (operator.Pair op) (written_term b ++ rest)))
       (term_again b n rest fits.1 ends.no_subscript)
       ends.no_operator
   expression_again (Chained op terms) n rest fits ends =
       chain_again (term_at n) op (written_terms op terms ++ rest) terms rest
-      (terms_again terms op n rest fits.0 fits.1 ends.no_subscript) ends.no_operator
+      (terms_again terms op n rest fits ends.no_subscript) ends.no_operator
 
-  terms_again : (terms : Terms) (op : ChainOperator) (n : ℕ) (rest : List Terminal) → IsChain terms
-      → FitTerms terms n → behind mark.OpenBracket rest ≡ None
+  terms_again : (terms : Terms) (op : ChainOperator) (n : ℕ) (rest : List Terminal) → FitTerms terms n
+      → behind mark.OpenBracket rest ≡ None
       → ReadSo (term_at n) op (written_terms op terms ++ rest) terms rest
-  terms_again (First a) op n rest is fits e = absurd is
-  terms_again (Then (First a) b) op n rest is fits e =
+  terms_again (Two a b) op n rest fits e =
       let us = written_term b ++ rest in
-      subst (λ ts. ReadSo (term_at n) op ts (Then (First a) b) rest)
-      (sym (append_assoc (written_term a) (Chain op ∷ written_term b) rest))
-      (chain_first (term_at n) op (written_term a ++ Chain op ∷ us) us rest a b (no_prefix a (Chain op ∷ us))
-      (term_again a n (Chain op ∷ us) fits.0 (no_subscript_chain op us)) (term_again b n rest fits.1 e)
-      (tail_le (written_term b) rest))
-  terms_again (Then (Then ts c) b) op n rest is fits e =
+      subst (λ ts. ReadSo (term_at n) op ts (Two a b) rest)
+      (sym (append_assoc (written_term a) (Mark (chain_mark op) ∷ written_term b) rest))
+      (chain_first (term_at n) op (written_term a ++ Mark (chain_mark op) ∷ us) us rest a b
+      (no_prefix a (Mark (chain_mark op) ∷ us))
+      (term_again a n (Mark (chain_mark op) ∷ us) fits.0 (operator_no_subscript (operator.Chain op) us))
+      (term_again b n rest fits.1 e) (tail_le (written_term b) rest))
+  terms_again (Then ts b) op n rest fits e =
       let us = written_term b ++ rest in
-      subst (λ vs. ReadSo (term_at n) op vs (Then (Then ts c) b) rest)
-      (sym (append_assoc (written_terms op (Then ts c)) (Chain op ∷ written_term b) rest))
-      (chain_more (term_at n) op (written_terms op (Then ts c) ++ Chain op ∷ us) us rest (Then ts c) b
-      (terms_again (Then ts c) op n (Chain op ∷ us) tt fits.0 (no_subscript_chain op us))
+      subst (λ vs. ReadSo (term_at n) op vs (Then ts b) rest)
+      (sym (append_assoc (written_terms op ts) (Mark (chain_mark op) ∷ written_term b) rest))
+      (chain_more (term_at n) op (written_terms op ts ++ Mark (chain_mark op) ∷ us) us rest ts b
+      (terms_again ts op n (Mark (chain_mark op) ∷ us) fits.0 (operator_no_subscript (operator.Chain op) us))
       (term_again b n rest fits.1 e) (tail_le (written_term b) rest))
 
   term_again : (t : Term) (n : ℕ) (rest : List Terminal) → FitsTerm t n → behind mark.OpenBracket rest ≡ None

@@ -60,8 +60,8 @@ with_fits (d ∷ ds) p level low all fits = (low, all.0, with_fits ds p level lo
 declared_at : (line : ℕ) (d : Declaration) → FitsDeclaration line d
     → (line ≡ declaration_line d) × FitsDeclaration (declaration_line d) d
 declared_at line (Constants c) h = (sym h.0, (refl, h.1))
-declared_at line (Variables n) h = (sym h.0, (refl, h.1, h.2))
-declared_at line (Channels n) h = (sym h.0, (refl, h.1, h.2))
+declared_at line (Variables n) h = (sym h.0, (refl, h.1))
+declared_at line (Channels n) h = (sym h.0, (refl, h.1))
 
 -- what a beginning was read from
 pub record Begins (level : ℕ) (found : List Declaration) (rows : List Row) (x : Beginning × List Row) : Type 0 where

@@ -3,7 +3,7 @@ use Rattle.std.proofs.Common.{◌≡◌, List, Option, Some, Result, Ok, Err, sy
 use Rattle.std.specs.Borrow.{Bor}
 use Rattle.occam_layout.specs.declared.token.Token.{Token}
 use Rattle.occam_parser.specs.declared.fault.LineError.{LineError}
-use Rattle.occam_parser.specs.declared.symbol.Mark.{Mark}
+use Rattle.occam_layout.specs.declared.mark.Mark.{Mark}
 use Rattle.occam_parser.specs.declared.tree.Expr.{Expr}
 use Rattle.occam_parser.specs.declared.tree.Operation.{Operation}
 use Rattle.occam_parser.specs.Terminals.{Terminal, terminals_of}

@@ -2,7 +2,7 @@
 use Rattle.std.proofs.Common.{◌≡◌, ℕ, zero, suc, pred, ◌-◌, ◌<◌, List, Option, Some, None, refl, ap, arith, ◌∙◌}
 use Rattle.occam_parser.specs.declared.fault.LineError.{LineError}
 use Rattle.occam_parser.specs.declared.fault.LineError.TheVariants as errors
-use Rattle.occam_parser.specs.declared.symbol.Mark as mark_type
+use Rattle.occam_layout.specs.declared.mark.Mark as mark_type
 use Rattle.occam_parser.specs.declared.tree.ValueType.{ValueType}
 use Rattle.occam_parser.specs.Terminals.{Terminal}
 use Rattle.occam_parser.specs.Expressions.{Term, Converted}

@@ -2,6 +2,7 @@ pub mod Options
 pub mod Marks
 pub mod Lists
 pub mod Levels
+pub mod LevelLaws
 pub mod Carried
 pub mod Seen
 pub mod Sound

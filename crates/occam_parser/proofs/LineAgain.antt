@@ -2,22 +2,24 @@
 use Rattle.std.proofs.Common.{◌≡◌, ℕ, Bool, true, false, cond, List, [], ◌∷◌, ◌++◌, Option, Some, None, refl, sym, ap}
 use Rattle.std.proofs.Common.{append_assoc, append-nil, ◌∙◌}
 use Rattle.std.specs.List.{AllByRecursion}
-use Rattle.occam_parser.specs.declared.symbol.Mark as mark_type
-use Rattle.occam_parser.specs.declared.symbol.Mark.TheVariants as mark
+use Rattle.occam_layout.specs.declared.mark.Mark as mark_type
+use Rattle.occam_layout.specs.declared.mark.Mark.TheVariants as mark
 use Rattle.occam_parser.specs.declared.head.BlockKind.{BlockKind}
 use Rattle.occam_parser.specs.declared.head.BlockKind.TheVariants as block
 use Rattle.occam_parser.specs.declared.tree.FormalKind.{FormalKind}
 use Rattle.occam_parser.specs.declared.tree.FormalKind.TheVariants as formal_kind
-use Rattle.occam_parser.specs.declared.tree.PairOperator.TheVariants as pair
 use Rattle.occam_parser.specs.declared.tree.ChainOperator.{ChainOperator}
+use Rattle.occam_parser.specs.declared.front.Operator.{Operator}
+use Rattle.occam_parser.specs.declared.front.Operator.TheVariants as operator
 use Rattle.occam_parser.specs.declared.tree.ValueType.{ValueType}
 use Rattle.occam_parser.specs.declared.tree.ValueType.TheVariants as value_type
-use Rattle.occam_parser.specs.Terminals.{Terminal, Name, Pair, Chain, Mark}
-use Rattle.occam_parser.specs.Expressions.{Expression, Alone, Prefixed, Paired, Chained, Terms, First, Then, Term}
+use Rattle.occam_parser.specs.Terminals.{Terminal, Name, Mark}
+use Rattle.occam_parser.specs.OneOrMore.{OneOrMore, as_list}
+use Rattle.occam_parser.specs.Expressions.{Expression, Alone, Prefixed, Paired, Chained, Terms, Two, Then, Term}
 use Rattle.occam_parser.specs.Expressions.{Number, Byte, Truth, MostPos, MostNeg, Named, Element, Bracketed, Converted}
-use Rattle.occam_parser.specs.Expressions.{prefix_sign, type_word, written, written_terms, written_term}
+use Rattle.occam_parser.specs.Expressions.{pair_mark, chain_mark, operator_mark, prefix_sign, type_word, written, written_terms, written_term}
 use Rattle.occam_parser.specs.declared.tree.PrefixOperator.TheVariants as prefix
-use Rattle.occam_parser.specs.Reading.{Reads, up_to, ◌>>=◌, behind, is_mark, begins_with_operator, expression_at}
+use Rattle.occam_parser.specs.Reading.{Reads, up_to, ◌>>=◌, behind, is_mark, operator_of, marked_by, operator_at, expression_at}
 use Rattle.occam_parser.specs.Reading.{list_of}
 use Rattle.occam_parser.specs.Laws.{Ends}
 use Rattle.occam_parser.specs.Lines.{Place, Replicator, Value, Scalar, Table, Bytes, Constant, Names, Declaration}
@@ -27,43 +29,46 @@ use Rattle.occam_parser.specs.Lines.{in_brackets, written_place, separated, afte
 use Rattle.occam_parser.specs.Lines.{written_value, written_constant, channel_words, written_names}
 use Rattle.occam_parser.specs.Lines.{written_replicator, block_word, written_head, written_guard}
 use Rattle.occam_parser.specs.Lines.{written_formal, written_proc_head, IsWhole, AreWhole}
-use Rattle.occam_parser.specs.Lines.{IsWholeIfAny, HasItem, FitsPlace, FitsValue, FitsConstant, FitsNames}
+use Rattle.occam_parser.specs.Lines.{IsWholeIfAny, FitsPlace, FitsValue, FitsConstant, FitsNames}
 use Rattle.occam_parser.specs.Lines.{FitsReplicator, FitsHead, FitsGuard, FitsFormal}
 use Rattle.occam_parser.specs.Lines.{FitsProcHead}
-use Rattle.occam_parser.specs.LineReading.{only, name_at, equals_at, bracketed_behind, bracketed_at}
+use Rattle.occam_parser.specs.LineReading.{only, name_at, bracketed_behind, bracketed_at}
 use Rattle.occam_parser.specs.LineReading.{type_at, typed_name_at, shape_behind, shape_at, place_at, whole_at}
 use Rattle.occam_parser.specs.LineReading.{whole_place, table_at}
 use Rattle.occam_parser.specs.LineReading.{value_at, constant_at, declared_as, names_at, formal_named, formal_kind_of}
 use Rattle.occam_parser.specs.LineReading.{formal_behind, formal_at, items_behind, in_parentheses, proc_head_at}
 use Rattle.occam_parser.specs.LineReading.{placed_action, instance_or_other, action_at, counted_at}
 use Rattle.occam_parser.specs.LineReading.{replicator_at, block_at, declaration_at, marked_head, head_at}
-use Rattle.occam_parser.specs.LineReading.{has_condition, input_at, skips_or_receives, conditioned_at, guard_at}
-use Rattle.occam_parser.proofs.Marks.{behind_again, behind_other}
+use Rattle.occam_parser.specs.LineReading.{is_guard_sign, has_condition, input_at, skips_or_receives, conditioned_at, guard_at}
+use Rattle.occam_parser.proofs.Marks.{behind_again, behind_other, operator_of_mark}
 use Rattle.occam_parser.proofs.Again.{up_to_again, begins_no_other, expression_again}
 use Rattle.occam_parser.proofs.ListLaws.{Again, list_again}
 use Rattle.occam_parser.proofs.LineSound.{formal_words_join}
 
 -- ---- small parts
 
--- a mark that begins no subscript ends an expression
-abbrev pub EndsBy : mark_type.Mark → Type 0
-EndsBy m = is_mark m mark.OpenBracket ≡ false
+-- a mark that begins no subscript and is no operator ends an expression
+pub record EndsBy (m : mark_type.Mark) : Type 0 where
+  pub subscript : is_mark m mark.OpenBracket ≡ false
+  pub operator : operator_of m ≡ None
+
+abbrev pub ends_so : {m : mark_type.Mark} → is_mark m mark.OpenBracket ≡ false → operator_of m ≡ None → EndsBy m
+ends_so s o = record { subscript = s; operator = o }
 
 ends_by : (m : mark_type.Mark) → EndsBy m → (rest : List Terminal) → Ends (Mark m ∷ rest)
-unfolding begins_with_operator
-ends_by m h rest = record { no_subscript = behind_other m mark.OpenBracket h rest; no_operator = refl }
+unfolding operator_at
+ends_by m h rest = record {
+  no_subscript = behind_other m mark.OpenBracket h.subscript rest;
+  no_operator = ap (marked_by m rest) h.operator;
+}
 
 ends_nothing : Ends []
-unfolding behind begins_with_operator
+unfolding behind operator_at
 ends_nothing = record { no_subscript = refl; no_operator = refl }
 
 name_again : (name : List ℕ) (rest : List Terminal) → name_at (Name name ∷ rest) ≡ Some (name, rest)
 unfolding name_at
 name_again name rest = refl
-
-equals_again : (rest : List Terminal) → equals_at (Pair pair.Equal ∷ rest) ≡ Some rest
-unfolding equals_at
-equals_again rest = refl
 
 expression_before : (e : Expression) (m : mark_type.Mark) (rest : List Terminal) → EndsBy m → IsWhole e
     → expression_at 64 (written e ++ Mark m ∷ rest) ≡ Some (e, Mark m ∷ rest)
@@ -80,7 +85,7 @@ bracketed_again None rest fits e = ap (bracketed_behind rest) e
 bracketed_again (Some x) rest fits e =
     let ts = (written x ++ Mark mark.CloseBracket ∷ []) ++ rest in
     let read = ap (expression_at 64) (append_assoc (written x) (Mark mark.CloseBracket ∷ []) rest)
-    ∙ expression_before x mark.CloseBracket rest refl fits in
+    ∙ expression_before x mark.CloseBracket rest (ends_so refl refl) fits in
     ap (bracketed_behind (Mark mark.OpenBracket ∷ ts)) (behind_again mark.OpenBracket ts)
     ∙ ap (λ (o : Option (Expression × List Terminal)). o >>= λ y. Some (Some y.0, y.1))
     (up_to_again mark.CloseBracket (expression_at 64 ts) x rest read)
@@ -142,12 +147,13 @@ whole_place_again p fits =
     ∙ ap (λ (o : Option (Place × List Terminal)). o >>= λ x. only x.0 x.1)
     (ap (place_at p.name) (sym (append-nil (in_brackets p.subscript))) ∙ place_again p [] fits no_bracket_nothing)
 
-expressions_again : (xs : List Expression) (m : mark_type.Mark) (rest : List Terminal) → HasItem xs → AreWhole xs
+expressions_again : (xs : OneOrMore Expression) (m : mark_type.Mark) (rest : List Terminal) → AreWhole (as_list xs)
     → is_mark m mark.Comma ≡ false → EndsBy m
-    → list_of (expression_at 64) (separated written xs ++ Mark m ∷ rest) ≡ Some (xs, Mark m ∷ rest)
-expressions_again xs m rest has all other h =
+    → list_of (expression_at 64) (separated written (as_list xs) ++ Mark m ∷ rest) ≡ Some (xs, Mark m ∷ rest)
+expressions_again xs m rest all other h =
     list_again written IsWhole Ends (expression_at 64) (λ x us fits ends. expression_again x 64 us fits ends)
-    (ends_by mark.Comma refl) xs (Mark m ∷ rest) has all (behind_other m mark.Comma other rest) (ends_by m h rest)
+    (ends_by mark.Comma (ends_so refl refl)) xs (Mark m ∷ rest) all (behind_other m mark.Comma other rest)
+    (ends_by m h rest)
 
 -- items up to the parenthesis that ends the line, where none begins with it
 parentheses_again : {A : Type 0} (write : A → List Terminal) (fits : A → Type 0) (ends : List Terminal → Type 0)
@@ -163,11 +169,11 @@ parentheses_again {A} write fits ends item again comma close no_close (x ∷ xs)
     let last = Mark mark.CloseParenthesis ∷ [] in
     let none = ap (behind mark.CloseParenthesis) (append_assoc (write x) (after_commas write xs) last)
     ∙ no_close x (after_commas write xs ++ last) in
-    let read = list_again write fits ends item again comma (x ∷ xs) last tt all
+    let read = list_again write fits ends item again comma (record { first = x; others = xs }) last all
     (behind_other mark.CloseParenthesis mark.Comma refl []) close in
     ap (items_behind item (separated write (x ∷ xs) ++ last)) none
-    ∙ ap (λ (o : Option (List A × List Terminal)). o >>= λ y. behind mark.CloseParenthesis y.1 >>= λ rest. only y.0
-    rest) read
+    ∙ ap (λ (o : Option (OneOrMore A × List Terminal)). o >>= λ y. behind mark.CloseParenthesis y.1 >>= λ rest. only
+    (as_list y.0) rest) read
     ∙ ap (λ (o : Option (List Terminal)). o >>= λ rest. only (x ∷ xs) rest) (behind_again mark.CloseParenthesis [])
 
 -- ---- constants and declarations
@@ -176,14 +182,14 @@ value_again : (v : Value) (rest : List Terminal) → FitsValue v
     → value_at (size_of v) (written_value v ++ Mark mark.Colon ∷ rest) ≡ Some (v, Mark mark.Colon ∷ rest)
 unfolding value_at table_at
 value_again (Scalar e) rest fits = ap (λ (o : Option (Expression × List Terminal)). o >>= λ x. Some
-    (Scalar x.0, x.1)) (expression_before e mark.Colon rest refl fits)
+    (Scalar x.0, x.1)) (expression_before e mark.Colon rest (ends_so refl refl) fits)
 value_again (Table size items) rest fits =
     let more = Mark mark.Colon ∷ rest in
-    let ts = (separated written items ++ Mark mark.CloseBracket ∷ []) ++ more in
+    let ts = (separated written (as_list items) ++ Mark mark.CloseBracket ∷ []) ++ more in
     let read = ap (list_of (expression_at 64))
-    (append_assoc (separated written items) (Mark mark.CloseBracket ∷ []) more) ∙ expressions_again items
-    mark.CloseBracket more fits.1 fits.2 refl refl in
-    ap (λ (o : Option (List Expression × List Terminal)). o >>= λ x. Some (Table size x.0, x.1))
+    (append_assoc (separated written (as_list items)) (Mark mark.CloseBracket ∷ []) more) ∙ expressions_again items
+    mark.CloseBracket more fits.1 refl (ends_so refl refl) in
+    ap (λ (o : Option (OneOrMore Expression × List Terminal)). o >>= λ x. Some (Table size x.0, x.1))
     (up_to_again mark.CloseBracket (list_of (expression_at 64) ts) items more read)
 value_again (Bytes size bytes) rest fits = refl
 
@@ -224,23 +230,25 @@ all_names : (names : List (List ℕ)) → AllByRecursion (λ (name : List ℕ). 
 all_names [] = tt
 all_names (n ∷ names) = (tt, all_names names)
 
-list_of_names_again : (names : List (List ℕ)) (rest : List Terminal) → HasItem names
-    → list_of name_at (separated written_name names ++ Mark mark.Colon ∷ rest) ≡ Some (names, Mark mark.Colon ∷ rest)
-list_of_names_again names rest has =
+list_of_names_again : (names : OneOrMore (List ℕ)) (rest : List Terminal)
+    → list_of name_at (separated written_name (as_list names) ++ Mark mark.Colon ∷ rest)
+    ≡ Some (names, Mark mark.Colon ∷ rest)
+list_of_names_again names rest =
     list_again written_name (λ (name : List ℕ). Unit {0}) (λ (us : List Terminal). Unit {0}) name_at
-    (λ name us fits ends. name_again name us) (λ us. tt) names (Mark mark.Colon ∷ rest) has (all_names names)
+    (λ name us fits ends. name_again name us) (λ us. tt) names (Mark mark.Colon ∷ rest) (all_names (as_list names))
     (behind_other mark.Colon mark.Comma refl rest) tt
 
 pub names_again : (line : ℕ) (channel : Bool) (n : Names) → FitsNames line n
     → names_at line (written_names channel n) ≡ Some (declared_as channel n)
 unfolding names_at
 names_again line channel n fits =
-    let t2 = separated written_name n.names ++ Mark mark.Colon ∷ [] in
+    let t2 = separated written_name (as_list n.names) ++ Mark mark.Colon ∷ [] in
     let t1 = channel_words channel ++ type_word n.value_type ∷ t2 in
-    let made = λ (size : Option Expression) (shape : Bool × ValueType) (names : List (List ℕ)) (us : List Terminal).
+    let made = λ (size : Option Expression) (shape : Bool × ValueType) (names : OneOrMore (List ℕ))
+    (us : List Terminal).
     behind mark.Colon us >>= λ rest. only
     (declared_as shape.0 (record { line = line; size = size; value_type = shape.1; names = names })) rest in
-    let f2 = λ (o : Option (List (List ℕ) × List Terminal)). o >>= λ names. made n.size (channel, n.value_type)
+    let f2 = λ (o : Option (OneOrMore (List ℕ) × List Terminal)). o >>= λ names. made n.size (channel, n.value_type)
     names.0 names.1 in
     let f1 = λ (o : Option ((Bool × ValueType) × List Terminal)). o >>= λ shape. list_of name_at shape.1 >>= λ names.
     made n.size shape.0 names.0 names.1 in
@@ -248,7 +256,7 @@ names_again line channel n fits =
     name_at shape.1 >>= λ names. made size.0 shape.0 names.0 names.1 in
     ap f0 (bracketed_again n.size t1 fits.1 (no_bracket_shape channel n.value_type t2))
     ∙ ap f1 (shape_again channel n.value_type t2)
-    ∙ ap f2 (list_of_names_again n.names [] fits.2)
+    ∙ ap f2 (list_of_names_again n.names [])
     ∙ ap (λ (o : Option (List Terminal)). o >>= λ rest. only
     (declared_as channel (record { line = line; size = n.size; value_type = n.value_type; names = n.names }))
     rest) (behind_again mark.Colon [])
@@ -356,10 +364,12 @@ no_close_term t rest = (begins_no_other t rest).1
 
 no_close_terms : (terms : Terms) (op : ChainOperator) (rest : List Terminal)
     → behind mark.CloseParenthesis (written_terms op terms ++ rest) ≡ None
-no_close_terms (First t) op rest = no_close_term t rest
+no_close_terms (Two a b) op rest = ap (behind mark.CloseParenthesis)
+    (append_assoc (written_term a) (Mark (chain_mark op) ∷ written_term b) rest) ∙ no_close_term a
+    (Mark (chain_mark op) ∷ (written_term b ++ rest))
 no_close_terms (Then ts t) op rest = ap (behind mark.CloseParenthesis)
-    (append_assoc (written_terms op ts) (Chain op ∷ written_term t) rest) ∙ no_close_terms ts op
-    (Chain op ∷ (written_term t ++ rest))
+    (append_assoc (written_terms op ts) (Mark (chain_mark op) ∷ written_term t) rest) ∙ no_close_terms ts op
+    (Mark (chain_mark op) ∷ (written_term t ++ rest))
 
 no_close_prefix : (op : _) (rest : List Terminal) → behind mark.CloseParenthesis (prefix_sign op ∷ rest) ≡ None
 unfolding behind
@@ -371,15 +381,15 @@ no_close : (e : Expression) (rest : List Terminal) → behind mark.CloseParenthe
 no_close (Alone t) rest = no_close_term t rest
 no_close (Prefixed op t) rest = no_close_prefix op (written_term t ++ rest)
 no_close (Paired op a b) rest = ap (behind mark.CloseParenthesis)
-    (append_assoc (written_term a) (Pair op ∷ written_term b) rest) ∙ no_close_term a
-    (Pair op ∷ (written_term b ++ rest))
+    (append_assoc (written_term a) (Mark (pair_mark op) ∷ written_term b) rest) ∙ no_close_term a
+    (Mark (pair_mark op) ∷ (written_term b ++ rest))
 no_close (Chained op terms) rest = no_close_terms terms op rest
 
 actuals_again : (xs : List Expression) → AreWhole xs
     → in_parentheses (expression_at 64) (separated written xs ++ Mark mark.CloseParenthesis ∷ []) ≡ Some xs
 actuals_again xs all =
     parentheses_again written IsWhole Ends (expression_at 64) (λ x us fits ends. expression_again x 64 us fits ends)
-    (ends_by mark.Comma refl) (ends_by mark.CloseParenthesis refl []) no_close xs all
+    (ends_by mark.Comma (ends_so refl refl)) (ends_by mark.CloseParenthesis (ends_so refl refl) []) no_close xs all
 
 no_open : (o : Option Expression) (m : mark_type.Mark) (rest : List Terminal)
     → behind mark.OpenParenthesis (Mark m ∷ rest) ≡ None
@@ -397,24 +407,24 @@ placed_again p m rest fits h other =
     let ts = in_brackets p.subscript ++ Mark m ∷ rest in
     ap (instance_or_other p.name ts) (no_open p.subscript m rest (behind_other m mark.OpenParenthesis other rest))
     ∙ ap (λ (o : Option (Place × List Terminal)). o >>= λ place. placed_action place.0 place.1)
-    (place_again p (Mark m ∷ rest) fits (behind_other m mark.OpenBracket h rest))
+    (place_again p (Mark m ∷ rest) fits (behind_other m mark.OpenBracket h.subscript rest))
 
 assign_again : (p : Place) (e : Expression) → FitsPlace p → IsWhole e
     → action_at p.name (in_brackets p.subscript ++ Mark mark.Assign ∷ written e) ≡ Some (Assign p e)
 assign_again p e f w =
-    placed_again p mark.Assign (written e) f refl refl
+    placed_again p mark.Assign (written e) f (ends_so refl refl) refl
     ∙ ap (λ (o : Option Expression). o >>= λ value. Some (Assign p value)) (whole_again e w)
 
 output_again : (p : Place) (e : Expression) → FitsPlace p → IsWhole e
     → action_at p.name (in_brackets p.subscript ++ Mark mark.Output ∷ written e) ≡ Some (Output p e)
 output_again p e f w =
-    placed_again p mark.Output (written e) f refl refl
+    placed_again p mark.Output (written e) f (ends_so refl refl) refl
     ∙ ap (λ (o : Option Expression). o >>= λ value. Some (Output p value)) (whole_again e w)
 
 received_again : (p q : Place) → FitsPlace p → FitsPlace q
     → action_at p.name (in_brackets p.subscript ++ Mark mark.Input ∷ written_place q) ≡ Some (Input p q)
 received_again p q f w =
-    placed_again p mark.Input (written_place q) f refl refl
+    placed_again p mark.Input (written_place q) f (ends_so refl refl) refl
     ∙ ap (λ (o : Option Place). o >>= λ target. Some (Input p target)) (whole_place_again q w)
 
 instance_again : (name : List ℕ) (xs : List Expression) → AreWhole xs
@@ -439,7 +449,7 @@ counted_again r fits =
     let f0 : Option (Expression × List Terminal) → Option Replicator =
     λ o. o >>= λ base. behind mark.For base.1 >>= λ rest. made base.0 (whole_at rest)
     in
-    ap f0 (expression_before r.base mark.For (written r.count) refl fits.0)
+    ap f0 (expression_before r.base mark.For (written r.count) (ends_so refl refl) fits.0)
     ∙ ap f1 (behind_again mark.For (written r.count))
     ∙ ap (made r.base) (whole_again r.count fits.1)
 
@@ -451,9 +461,9 @@ replicator_again (Some r) fits =
     let last : Option Replicator → Option (Option Replicator) = λ o. o >>= λ q. Some (Some q) in
     let f1 : List ℕ → Option (List Terminal) → Option (Option Replicator) =
     λ name o. o >>= λ equal. last (counted_at name equal) in
-    ap (λ (o : Option (List ℕ × List Terminal)). o >>= λ name. f1 name.0 (equals_at name.1))
-    (name_again r.name (Pair pair.Equal ∷ t1))
-    ∙ ap (f1 r.name) (equals_again t1)
+    ap (λ (o : Option (List ℕ × List Terminal)). o >>= λ name. f1 name.0 (behind mark.Equal name.1))
+    (name_again r.name (Mark mark.Equal ∷ t1))
+    ∙ ap (f1 r.name) (behind_again mark.Equal t1)
     ∙ ap last (counted_again r fits)
 
 block_again : (line : ℕ) (kind : BlockKind) (ts : List Terminal)
@@ -483,7 +493,8 @@ names_head_again : (line : ℕ) (channel : Bool) (n : Names) → FitsNames line 
     → head_at line (written_names channel n) ≡ Some (Declares (declared_as channel n))
 unfolding declaration_at
 names_head_again line channel n fits =
-    declares_names line n.size channel n.value_type (separated written_name n.names ++ Mark mark.Colon ∷ []) ∙ ap
+    declares_names line n.size channel n.value_type (separated written_name (as_list n.names) ++ Mark mark.Colon ∷ [])
+    ∙ ap
     (λ (o : Option Declaration). o >>= λ names. Some (Declares names)) (names_again line channel n fits)
 
 constant_head_again : (line : ℕ) (c : Constant) → FitsConstant line c
@@ -527,6 +538,20 @@ whole_line_again e fits = whole_again e fits
 
 -- ---- guards
 
+guard_is_mark : (m : mark_type.Mark) → is_guard_sign (Mark m) ≡ true → m ≡ mark.Guard
+guard_is_mark mark.Guard e = refl
+guard_is_mark m e = absurd (cc)
+
+no_guard_mark : (op : Operator) (b : Bool) → is_guard_sign (Mark (operator_mark op)) ≡ b → b ≡ false
+no_guard_mark op false e = refl
+no_guard_mark op true e =
+    absurd (cc (ap operator_of (guard_is_mark (operator_mark op) e), operator_of_mark op))
+
+no_guard_operator : (op : Operator) (rest : List Terminal)
+    → has_condition (Mark (operator_mark op) ∷ rest) ≡ has_condition rest
+no_guard_operator op rest = ap (λ b. cond b true (has_condition rest))
+    (no_guard_mark op (is_guard_sign (Mark (operator_mark op))) refl)
+
 -- an expression holds no guard's sign
 mutual
   no_guard : (e : Expression) (rest : List Terminal) → has_condition (written e ++ rest) ≡ has_condition rest
@@ -535,16 +560,22 @@ mutual
   no_guard (Prefixed prefix.BitNot t) rest = no_guard_term t rest
   no_guard (Prefixed prefix.Not t) rest = no_guard_term t rest
   no_guard (Paired op a b) rest =
-      ap has_condition (append_assoc (written_term a) (Pair op ∷ written_term b) rest) ∙ no_guard_term a
-      (Pair op ∷ (written_term b ++ rest)) ∙ no_guard_term b rest
+      ap has_condition (append_assoc (written_term a) (Mark (pair_mark op) ∷ written_term b) rest) ∙ no_guard_term a
+      (Mark (pair_mark op) ∷ (written_term b ++ rest)) ∙ no_guard_operator (operator.Pair op) (written_term b ++ rest)
+      ∙ no_guard_term b rest
   no_guard (Chained op ts) rest = no_guard_terms ts op rest
 
   no_guard_terms : (ts : Terms) (op : ChainOperator) (rest : List Terminal)
       → has_condition (written_terms op ts ++ rest) ≡ has_condition rest
-  no_guard_terms (First t) op rest = no_guard_term t rest
+  no_guard_terms (Two a b) op rest =
+      ap has_condition (append_assoc (written_term a) (Mark (chain_mark op) ∷ written_term b) rest) ∙ no_guard_term a
+      (Mark (chain_mark op) ∷ (written_term b ++ rest)) ∙ no_guard_operator (operator.Chain op)
+      (written_term b ++ rest) ∙ no_guard_term b rest
   no_guard_terms (Then ts t) op rest =
-      ap has_condition (append_assoc (written_terms op ts) (Chain op ∷ written_term t) rest) ∙ no_guard_terms ts op
-      (Chain op ∷ (written_term t ++ rest)) ∙ no_guard_term t rest
+      ap has_condition (append_assoc (written_terms op ts) (Mark (chain_mark op) ∷ written_term t) rest)
+      ∙ no_guard_terms ts op
+      (Mark (chain_mark op) ∷ (written_term t ++ rest)) ∙ no_guard_operator (operator.Chain op)
+      (written_term t ++ rest) ∙ no_guard_term t rest
 
   no_guard_term : (t : Term) (rest : List Terminal) → has_condition (written_term t ++ rest) ≡ has_condition rest
   no_guard_term (Number value) rest = refl
@@ -603,7 +634,8 @@ unfolding conditioned_at
 conditioned_again e ts g fits h =
     guard_is (written e ++ Mark mark.Guard ∷ ts) true (no_guard e (Mark mark.Guard ∷ ts))
     ∙ ap (λ (o : Option (Expression × List Terminal)). o >>= λ condition. behind mark.Guard condition.1 >>= λ rest.
-    skips_or_receives condition.0 rest (behind mark.Skip rest)) (expression_before e mark.Guard ts refl fits)
+    skips_or_receives condition.0 rest (behind mark.Skip rest)) (expression_before e mark.Guard ts (ends_so refl refl)
+    fits)
     ∙ ap (λ (o : Option (List Terminal)). o >>= λ rest. skips_or_receives e rest (behind mark.Skip rest))
     (behind_again mark.Guard ts)
     ∙ h

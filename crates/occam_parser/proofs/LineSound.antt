@@ -2,15 +2,15 @@
 use Rattle.std.proofs.Common.{◌≡◌, ℕ, Bool, true, false, cond, List, [], ◌∷◌, ◌++◌, Option, Some, None, refl, sym, ap}
 use Rattle.std.proofs.Common.{subst, append_assoc, append-nil, ◌∙◌}
 use Rattle.std.specs.List.{AllByRecursion}
-use Rattle.occam_parser.specs.declared.symbol.Mark as mark_type
-use Rattle.occam_parser.specs.declared.symbol.Mark.TheVariants as mark
+use Rattle.occam_layout.specs.declared.mark.Mark as mark_type
+use Rattle.occam_layout.specs.declared.mark.Mark.TheVariants as mark
 use Rattle.occam_parser.specs.declared.head.BlockKind.{BlockKind}
 use Rattle.occam_parser.specs.declared.head.BlockKind.TheVariants as block
 use Rattle.occam_parser.specs.declared.tree.FormalKind.TheVariants as formal_kind
-use Rattle.occam_parser.specs.declared.tree.PairOperator.TheVariants as pair
 use Rattle.occam_parser.specs.declared.tree.ValueType.{ValueType}
 use Rattle.occam_parser.specs.declared.tree.ValueType.TheVariants as value_type
-use Rattle.occam_parser.specs.Terminals.{Terminal, Name, Integer, Character, Text, Pair, Chain, Mark}
+use Rattle.occam_parser.specs.Terminals.{Terminal, Name, Integer, Character, Text, Mark}
+use Rattle.occam_parser.specs.OneOrMore.{OneOrMore, as_list}
 use Rattle.occam_parser.specs.Expressions.{Expression, written, type_word}
 use Rattle.occam_parser.specs.Reading.{Reads, ◌>>=◌, behind, up_to, expression_at, list_of}
 use Rattle.occam_parser.specs.Laws.{Sound}
@@ -20,10 +20,10 @@ use Rattle.occam_parser.specs.Lines.{Instance, Guard, Receives, Skips, Formal, P
 use Rattle.occam_parser.specs.Lines.{in_brackets, written_place, separated, written_name, size_of, written_value}
 use Rattle.occam_parser.specs.Lines.{written_constant, channel_words, written_names, written_declaration}
 use Rattle.occam_parser.specs.Lines.{written_action, written_replicator, block_word, written_head, written_guard}
-use Rattle.occam_parser.specs.Lines.{written_formal, written_proc_head, IsWhole, AreWhole, IsWholeIfAny, HasItem}
+use Rattle.occam_parser.specs.Lines.{written_formal, written_proc_head, IsWhole, AreWhole, IsWholeIfAny}
 use Rattle.occam_parser.specs.Lines.{FitsPlace, FitsValue, FitsConstant, FitsNames, FitsDeclaration, FitsAction}
 use Rattle.occam_parser.specs.Lines.{FitsReplicator, FitsHead, FitsGuard, FitsFormal, FitsProcHead}
-use Rattle.occam_parser.specs.LineReading.{only, name_at, equals_at, bracketed_behind, bracketed_at, type_behind}
+use Rattle.occam_parser.specs.LineReading.{only, name_at, bracketed_behind, bracketed_at, type_behind}
 use Rattle.occam_parser.specs.LineReading.{type_at, typed_name_at, shape_behind, shape_at, place_at, whole_at}
 use Rattle.occam_parser.specs.LineReading.{whole_place, table_at}
 use Rattle.occam_parser.specs.LineReading.{value_at, constant_at, declared_as, names_at, formal_named, formal_kind_of}
@@ -51,18 +51,10 @@ name_is (Name text ∷ ts) name rest e = at_some (λ (x : List ℕ × List Termi
 name_is (Integer value ∷ ts) name rest e = absurd (cc)
 name_is (Character byte ∷ ts) name rest e = absurd (cc)
 name_is (Text bytes ∷ ts) name rest e = absurd (cc)
-name_is (Pair operator ∷ ts) name rest e = absurd (cc)
-name_is (Chain operator ∷ ts) name rest e = absurd (cc)
 name_is (Mark m ∷ ts) name rest e = absurd (cc)
 
 name_sound : Sound written_name (λ name. Unit {0}) name_at
 name_sound ts name rest e = (name_is ts name rest e, tt)
-
-equals_is : (ts rest : List Terminal) → equals_at ts ≡ Some rest → ts ≡ Pair pair.Equal ∷ rest
-unfolding equals_at
-equals_is [] rest e = absurd (cc)
-equals_is (Pair pair.Equal ∷ ts) rest e = at_some (λ us. Pair pair.Equal ∷ ts ≡ Pair pair.Equal ∷ us) ts rest e refl
-equals_is (t ∷ ts) rest e = absurd (cc)
 
 whole_list : (ts rest : List Terminal) (w : List Terminal) → ts ≡ w ++ rest → rest ≡ [] → ts ≡ w
 whole_list ts rest w e n = e ∙ ap (λ us. w ++ us) n ∙ append-nil w
@@ -146,9 +138,9 @@ whole_place_sound ts p e =
     subst (λ q. (ts ≡ written_place q) × FitsPlace q) o.1
     (whole_list ts x.0.1 (written_place x.0.0) (name_is ts n.0.0 n.0.1 n.1 ∙ s.0) o.0, s.1)
 
-expressions_sound : (ts : List Terminal) (xs : List Expression) (rest : List Terminal)
+expressions_sound : (ts : List Terminal) (xs : OneOrMore Expression) (rest : List Terminal)
     → list_of (expression_at 64) ts ≡ Some (xs, rest)
-    → (ts ≡ separated written xs ++ rest) × (HasItem xs × AreWhole xs)
+    → (ts ≡ separated written (as_list xs) ++ rest) × AreWhole (as_list xs)
 expressions_sound ts xs rest e = list_sound written IsWhole (expression_at 64) (expression_sound 64) ts (xs, rest) e
 
 -- items up to the parenthesis that ends the line
@@ -166,9 +158,9 @@ items_found write fits item s ts None xs b e =
     let x = bind_some (list_of item ts) _ xs e in
     let rest = bind_some (behind mark.CloseParenthesis x.0.1) _ xs x.2 in
     let h = list_sound write fits item s ts x.0 x.1 in
-    let o = only_is x.0.0 rest.0 xs rest.2 in
+    let o = only_is (as_list x.0.0) rest.0 xs rest.2 in
     let close = behind_is mark.CloseParenthesis x.0.1 rest.0 rest.1 ∙ ap (λ us. Mark mark.CloseParenthesis ∷ us) o.0 in
-    subst (AreIn write fits ts) o.1 (h.0 ∙ ap (λ us. separated write x.0.0 ++ us) close, h.1.1)
+    subst (AreIn write fits ts) o.1 (h.0 ∙ ap (λ us. separated write (as_list x.0.0) ++ us) close, h.1)
 
 parentheses_sound : {A : Type 0} (write : A → List Terminal) (fits : A → Type 0) (item : Reads A)
     → Sound write fits item → (ts : List Terminal) (xs : List A) → in_parentheses item ts ≡ Some xs
@@ -192,9 +184,9 @@ table_sound size (Mark mark.OpenBracket ∷ ts) x e =
     let y = bind_some (up_to mark.CloseBracket (list_of (expression_at 64) ts)) _ x e in
     let h = expressions_sound ts y.0.0 (Mark mark.CloseBracket ∷ y.0.1)
     (up_to_is mark.CloseBracket (list_of (expression_at 64) ts) y.0.0 y.0.1 y.1) in
-    let inside = h.0 ∙ sym (append_assoc (separated written y.0.0) (Mark mark.CloseBracket ∷ []) y.0.1) in
+    let inside = h.0 ∙ sym (append_assoc (separated written (as_list y.0.0)) (Mark mark.CloseBracket ∷ []) y.0.1) in
     at_some (IsValue (Some size) (Mark mark.OpenBracket ∷ ts)) (Table size y.0.0, y.0.1) x y.2
-    (ap (λ us. Mark mark.OpenBracket ∷ us) inside, (λ w. (w, h.1.0, h.1.1)), refl)
+    (ap (λ us. Mark mark.OpenBracket ∷ us) inside, (λ w. (w, h.1)), refl)
 table_sound size (t ∷ ts) x e = absurd (cc)
 
 value_sound : (size : Option Expression) (ts : List Terminal) (x : Value × List Terminal) → value_at size ts ≡ Some x
@@ -259,12 +251,12 @@ names_sound line ts d e =
     let found : Names = record { line = line; size = size.0.0; value_type = shape.0.0.1; names = names.0.0 } in
     let o = only_is (declared_as shape.0.0.0 found) rest.0 d rest.2 in
     let colon = behind_is mark.Colon names.0.1 rest.0 rest.1 ∙ ap (λ us. Mark mark.Colon ∷ us) o.0 in
-    let tail = n.0 ∙ ap (λ us. separated written_name names.0.0 ++ us) colon in
+    let tail = n.0 ∙ ap (λ us. separated written_name (as_list names.0.0) ++ us) colon in
     let whole = s.0 ∙ ap (λ us. in_brackets size.0.0 ++ us)
     (shape_is size.0.1 shape.0.0 shape.0.1 shape.1 ∙ ap
     (λ us. channel_words shape.0.0.0 ++ type_word shape.0.0.1 ∷ us) tail) in
     subst (λ x. (ts ≡ written_declaration x) × FitsDeclaration line x) o.1
-    (declared_sound line ts shape.0.0.0 found whole (refl, s.1, n.1.0))
+    (declared_sound line ts shape.0.0.0 found whole (refl, s.1))
 
 -- ---- procedures
 
@@ -423,13 +415,14 @@ unfolding replicator_at
 replicator_sound [] r e = at_some (IsReplicator []) None r e (refl, tt)
 replicator_sound (t ∷ ts) r e =
     let name = bind_some (name_at (t ∷ ts)) _ r e in
-    let equal = bind_some (equals_at name.0.1) _ r name.2 in
+    let equal = bind_some (behind mark.Equal name.0.1) _ r name.2 in
     let q = bind_some (counted_at name.0.0 equal.0) _ r equal.2 in
     let c = counted_sound name.0.0 equal.0 q.0 q.1 in
     let begins =
     name_is (t ∷ ts) name.0.0 name.0.1 name.1
-    ∙ ap (λ us. Name name.0.0 ∷ us) (equals_is name.0.1 equal.0 equal.1 ∙ ap (λ us. Pair pair.Equal ∷ us) c.1.0)
-    ∙ ap (λ n. Name n ∷ Pair pair.Equal ∷ (written q.0.base ++ Mark mark.For ∷ written q.0.count)) (sym c.0)
+    ∙ ap (λ us. Name name.0.0 ∷ us) (behind_is mark.Equal name.0.1 equal.0 equal.1
+    ∙ ap (λ us. Mark mark.Equal ∷ us) c.1.0)
+    ∙ ap (λ n. Name n ∷ Mark mark.Equal ∷ (written q.0.base ++ Mark mark.For ∷ written q.0.count)) (sym c.0)
     in
     at_some (IsReplicator (t ∷ ts)) (Some q.0) r q.2 (begins, c.1.1)
 
@@ -485,8 +478,6 @@ head_sound line (Mark m ∷ ts) h e = marked_sound line m ts h e
 head_sound line (Integer value ∷ ts) h e = absurd (cc)
 head_sound line (Character byte ∷ ts) h e = absurd (cc)
 head_sound line (Text bytes ∷ ts) h e = absurd (cc)
-head_sound line (Pair operator ∷ ts) h e = absurd (cc)
-head_sound line (Chain operator ∷ ts) h e = absurd (cc)
 
 -- ---- guards
 

@@ -2,14 +2,15 @@
 use Rattle.std.proofs.Common.{◌≡◌, ℕ, zero, suc, ◌≤◌, List, [], ◌∷◌, ◌++◌, length, Option, Some, None, refl, sym, ap}
 use Rattle.std.proofs.Common.{subst, arith, append_assoc, append-nil, length-append, ◌∙◌}
 use Rattle.std.specs.List.{AllByRecursion}
-use Rattle.occam_parser.specs.declared.symbol.Mark.TheVariants as mark
+use Rattle.occam_layout.specs.declared.mark.Mark.TheVariants as mark
 use Rattle.occam_parser.specs.Terminals.{Terminal, Mark}
+use Rattle.occam_parser.specs.OneOrMore.{OneOrMore, as_list}
 use Rattle.occam_parser.specs.Reading.{Reads, ◌>>=◌, behind, list_step, list_from, list_of}
-use Rattle.occam_parser.specs.Lines.{after_commas, separated, HasItem}
+use Rattle.occam_parser.specs.Lines.{after_commas, separated}
 use Rattle.occam_parser.specs.Laws.{Sound}
 use Rattle.occam_parser.proofs.Options.{bind_some, at_some}
 use Rattle.occam_parser.proofs.Marks.{behind_is, behind_again}
-use Rattle.occam_parser.proofs.Lists.{turn, no_turn}
+use Rattle.occam_parser.proofs.Lists.{behind_item, from_item, turn, no_turn}
 
 -- items behind those that were found
 abbrev pub IsMore : {A : Type 0} → (A → List Terminal) → (A → Type 0) → List A → List Terminal
@@ -45,26 +46,24 @@ from_sound write fits item s (suc n) found ts x e =
     step_sound write fits item s (list_from item n) (from_sound write fits item s n) found ts (behind mark.Comma ts)
     x refl e
 
-abbrev pub IsList : {A : Type 0} → (A → List Terminal) → (A → Type 0) → List Terminal → List A × List Terminal → Type 0
-IsList write fits ts y = (ts ≡ separated write y.0 ++ y.1) × (HasItem y.0 × AllByRecursion fits y.0)
-
-at_list : {A : Type 0} (write : A → List Terminal) (fits : A → Type 0) (ts : List Terminal) (xs ys : List A)
-    (rest : List Terminal) → xs ≡ ys → IsList write fits ts (xs, rest) → IsList write fits ts (ys, rest)
-at_list write fits ts xs ys rest e h = subst (λ zs. IsList write fits ts (zs, rest)) e h
+abbrev pub IsList : {A : Type 0} → (A → List Terminal) → (A → Type 0) → List Terminal
+    → OneOrMore A × List Terminal → Type 0
+IsList write fits ts y = (ts ≡ separated write (as_list y.0) ++ y.1) × AllByRecursion fits (as_list y.0)
 
 pub list_sound : {A : Type 0} (write : A → List Terminal) (fits : A → Type 0) (item : Reads A)
-    → Sound write fits item → (ts : List Terminal) (x : List A × List Terminal) → list_of item ts ≡ Some x
+    → Sound write fits item → (ts : List Terminal) (x : OneOrMore A × List Terminal) → list_of item ts ≡ Some x
     → IsList write fits ts x
 unfolding list_of
 list_sound {A} write fits item s ts x e =
     let y = bind_some (item ts) _ x e in
+    let z = bind_some (list_from item (length ts) [] y.0.1) _ x y.2 in
     let h = s ts y.0.0 y.0.1 y.1 in
-    let more = from_sound write fits item s (length ts) (y.0.0 ∷ []) y.0.1 x y.2 in
-    let whole = h.0 ∙ ap (λ us. write y.0.0 ++ us) more.2 ∙ sym
-    (append_assoc (write y.0.0) (after_commas write more.0) x.1) in
-    let found : IsList write fits ts (y.0.0 ∷ more.0, x.1) = (whole, (tt, (h.1, more.3))) in
-    let same : x.0 ≡ y.0.0 ∷ more.0 = more.1 in
-    at_list write fits ts (y.0.0 ∷ more.0) x.0 x.1 (sym same) found
+    let more = from_sound write fits item s (length ts) [] y.0.1 z.0 z.1 in
+    let others = ap (λ us. write y.0.0 ++ us)
+    (more.2 ∙ ap (λ us. after_commas write us ++ z.0.1) (sym more.1)) in
+    let whole = h.0 ∙ others ∙ sym (append_assoc (write y.0.0) (after_commas write z.0.0) z.0.1) in
+    at_some (IsList write fits ts) (record { first = y.0.0; others = z.0.0 }, z.0.1) x z.2
+    (whole, (h.1, subst (AllByRecursion fits) (sym more.1) more.3))
 
 -- an item that is written is read again, where what follows lets it end
 abbrev pub Again : {A : Type 0} → (A → List Terminal) → (A → Type 0) → (List Terminal → Type 0) → Reads A → Type 0
@@ -97,16 +96,15 @@ from_again write fits ends item again comma (x ∷ xs) found n rest all none e e
 
 pub list_again : {A : Type 0} (write : A → List Terminal) (fits : A → Type 0) (ends : List Terminal → Type 0)
     (item : Reads A) → Again write fits ends item → ((us : List Terminal) → ends (Mark mark.Comma ∷ us))
-    → (xs : List A) (rest : List Terminal) → HasItem xs → AllByRecursion fits xs → behind mark.Comma rest ≡ None
+    → (xs : OneOrMore A) (rest : List Terminal) → AllByRecursion fits (as_list xs) → behind mark.Comma rest ≡ None
     → ends rest
-    → list_of item (separated write xs ++ rest) ≡ Some (xs, rest)
+    → list_of item (separated write (as_list xs) ++ rest) ≡ Some (xs, rest)
 unfolding list_of
-list_again write fits ends item again comma [] rest has all none e = absurd has
-list_again write fits ends item again comma (x ∷ xs) rest has all none e =
-    let tail = after_commas write xs ++ rest in
-    let whole = (write x ++ after_commas write xs) ++ rest in
-    let same = append_assoc (write x) (after_commas write xs) rest in
-    let read = ap item same ∙ again x tail all.0 (ends_here write ends comma xs rest e) in
-    let less : length tail ≤ length whole = omega (arith, ap length same, length-append (write x) tail) in
-    ap (λ o. o >>= λ y. list_from item (length whole) (y.0 ∷ []) y.1) read ∙ from_again write fits ends item again
-    comma xs (x ∷ []) (length whole) rest all.1 none e less
+list_again write fits ends item again comma xs rest all none e =
+    let tail = after_commas write xs.others ++ rest in
+    let whole = (write xs.first ++ after_commas write xs.others) ++ rest in
+    let same = append_assoc (write xs.first) (after_commas write xs.others) rest in
+    let read = ap item same ∙ again xs.first tail all.0 (ends_here write ends comma xs.others rest e) in
+    let less : length tail ≤ length whole = omega (arith, ap length same, length-append (write xs.first) tail) in
+    ap (from_item item (length whole)) read ∙ ap (behind_item xs.first) (from_again write fits ends item again
+    comma xs.others [] (length whole) rest all.1 none e less)

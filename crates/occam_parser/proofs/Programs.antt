@@ -3,7 +3,7 @@ use Rattle.std.proofs.Common.{◌≡◌, ℕ, zero, suc, ◌≤◌, Bool, true, 
 use Rattle.std.proofs.Common.{length, nat_lt, ◌==◌, Option, Some, None, refl, sym, ap, subst, arith, append_assoc}
 use Rattle.std.proofs.Common.{append-nil, length-append, ◌∙◌}
 use Rattle.std.proofs.lemmas.Bool.{eqb-true, ltb-false}
-use Rattle.occam_parser.specs.declared.symbol.Mark.TheVariants as mark
+use Rattle.occam_layout.specs.declared.mark.Mark.TheVariants as mark
 use Rattle.occam_parser.specs.Terminals.{Terminal, Mark}
 use Rattle.occam_parser.specs.Reading.{◌>>=◌, behind}
 use Rattle.occam_parser.specs.Lines.{Constant, ProcHead, written_constant, written_proc_head, FitsConstant}

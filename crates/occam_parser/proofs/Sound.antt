@@ -1,24 +1,29 @@
 -- What is read is written so.
 use Rattle.std.proofs.Common.{◌≡◌, ℕ, zero, suc, pred, ◌<◌, true, false, List, [], ◌∷◌, ◌++◌, length}
-use Rattle.std.proofs.Common.{Option, Some, None, refl, sym, ap, arith, append_assoc, ◌∙◌}
-use Rattle.occam_parser.specs.declared.symbol.Mark as mark_type
-use Rattle.occam_parser.specs.declared.symbol.Mark.TheVariants as mark
+use Rattle.std.proofs.Common.{Option, Some, None, refl, sym, ap, subst, arith, append_assoc, ◌∙◌}
+use Rattle.std.specs.Prelude.{is_some}
+use Rattle.occam_layout.specs.declared.mark.Mark as mark_type
+use Rattle.occam_layout.specs.declared.mark.Mark.TheVariants as mark
 use Rattle.occam_parser.specs.declared.tree.ValueType.{ValueType}
 use Rattle.occam_parser.specs.declared.tree.ValueType.TheVariants as value_type
 use Rattle.occam_parser.specs.declared.tree.PrefixOperator.{PrefixOperator}
 use Rattle.occam_parser.specs.declared.tree.ChainOperator.{ChainOperator}
-use Rattle.occam_parser.specs.Terminals.{Terminal, Name, Integer, Character, Text, Pair, Chain, Mark}
-use Rattle.occam_parser.specs.Expressions.{Expression, Alone, Prefixed, Paired, Chained, Terms, First, Then, Term}
+use Rattle.occam_parser.specs.declared.front.Operator.{Operator}
+use Rattle.occam_parser.specs.declared.front.Operator.TheVariants as operator
+use Rattle.occam_parser.specs.Terminals.{Terminal, Name, Integer, Character, Text, Mark}
+use Rattle.occam_parser.specs.Expressions.{Expression, Alone, Prefixed, Paired, Chained, Terms, Two, Then, Term}
 use Rattle.occam_parser.specs.Expressions.{Number, Byte, Truth, MostPos, MostNeg, Named, Element, Bracketed, Converted}
-use Rattle.occam_parser.specs.Expressions.{prefix_sign, type_word, written, written_terms, written_term, IsChain, Fits}
+use Rattle.occam_parser.specs.Expressions.{prefix_sign, type_word, pair_mark, chain_mark, operator_mark, written, written_terms}
+use Rattle.occam_parser.specs.Expressions.{written_term, Fits}
 use Rattle.occam_parser.specs.Expressions.{FitTerms, FitsTerm}
-use Rattle.occam_parser.specs.Reading.{Reads, ◌>>=◌, behind, behind_operator, prefix_at, begins_with_operator, up_to}
+use Rattle.occam_parser.specs.Reading.{Reads, ◌>>=◌, behind, prefix_at, operator_at, up_to}
 use Rattle.occam_parser.specs.Reading.{named_behind, named, converted, marked, term_with, chain_step, chain_from, chain}
+use Rattle.occam_parser.specs.Reading.{with_operator, first_behind}
 use Rattle.occam_parser.specs.Reading.{after_first, one_behind, one_operator, alone, expression_with, nothing, term_at}
 use Rattle.occam_parser.specs.Reading.{inner_at, operand_within, expression_at}
 use Rattle.occam_parser.specs.Laws.{Sound}
 use Rattle.occam_parser.proofs.Options.{bind_some, at_some, not_chosen}
-use Rattle.occam_parser.proofs.Marks.{behind_is, behind_operator_is, prefix_is}
+use Rattle.occam_parser.proofs.Marks.{behind_is, operator_is, prefix_is}
 
 pub up_to_is : {A : Type 0} (close : mark_type.Mark) (read : Option (A × List Terminal)) (x : A)
     (rest : List Terminal) → up_to close read ≡ Some (x, rest) → read ≡ Some (x, Mark close ∷ rest)
@@ -116,70 +121,84 @@ term_with_sound inner operand n i o (Character byte ∷ ts) x rest e =
 term_with_sound inner operand n i o (Name name ∷ ts) x rest e = named_sound inner n i name ts (x, rest) e
 term_with_sound inner operand n i o (Mark m ∷ ts) x rest e = marked_sound inner operand n i o m ts (x, rest) e
 term_with_sound inner operand n i o (Text bytes ∷ ts) x rest e = absurd (cc)
-term_with_sound inner operand n i o (Pair operator ∷ ts) x rest e = absurd (cc)
-term_with_sound inner operand n i o (Chain operator ∷ ts) x rest e = absurd (cc)
 
 -- ---- expressions
 
 abbrev pub IsTerms : ChainOperator → ℕ → List Terminal → Terms × List Terminal → Type 0
-IsTerms op n whole x = (whole ≡ written_terms op x.0 ++ x.1) × FitTerms x.0 n × IsChain x.0
+IsTerms op n whole x = (whole ≡ written_terms op x.0 ++ x.1) × FitTerms x.0 n
 
 abbrev pub IsExpression : ℕ → List Terminal → Expression × List Terminal → Type 0
 IsExpression n ts x = (ts ≡ written x.0 ++ x.1) × Fits x.0 n
 
 chain_found : (p : Reads Term) (n : ℕ) → Sound written_term (λ t. FitsTerm t n) p
     → (op : ChainOperator) (more : Terms → Reads Terms)
-    → ((us : Terms) (vs : List Terminal) (y : Terms × List Terminal) → FitTerms us n → IsChain us
+    → ((us : Terms) (vs : List Terminal) (y : Terms × List Terminal) → FitTerms us n
     → more us vs ≡ Some y → IsTerms op n (written_terms op us ++ vs) y)
     → (terms : Terms) (ts : List Terminal) (o : Option (List Terminal)) (x : Terms × List Terminal)
-    → FitTerms terms n → IsChain terms → behind_operator op ts ≡ o → chain_step p more terms ts o ≡ Some x
+    → FitTerms terms n → behind (chain_mark op) ts ≡ o → chain_step p more terms ts o ≡ Some x
     → IsTerms op n (written_terms op terms ++ ts) x
-chain_found p n s op more m terms ts None x fits is b e =
-    at_some (IsTerms op n (written_terms op terms ++ ts)) (terms, ts) x e (refl, fits, is)
-chain_found p n s op more m terms ts (Some after) x fits is b e =
+chain_found p n s op more m terms ts None x fits b e =
+    at_some (IsTerms op n (written_terms op terms ++ ts)) (terms, ts) x e (refl, fits)
+chain_found p n s op more m terms ts (Some after) x fits b e =
     let y = bind_some (p after) _ x e in
     let h = s after y.0.0 y.0.1 y.1 in
-    let sign = behind_operator_is op ts after b in
-    let rest = m (Then terms y.0.0) y.0.1 x (fits, h.1) tt y.2 in
-    let whole = ap (λ us. written_terms op terms ++ us) (sign ∙ ap (λ us. Chain op ∷ us) h.0) ∙ sym
-    (append_assoc (written_terms op terms) (Chain op ∷ written_term y.0.0) y.0.1) in
-    (whole ∙ rest.0, rest.1, rest.2)
+    let sign = behind_is (chain_mark op) ts after b in
+    let rest = m (Then terms y.0.0) y.0.1 x (fits, h.1) y.2 in
+    let whole = ap (λ us. written_terms op terms ++ us) (sign ∙ ap (λ us. Mark (chain_mark op) ∷ us) h.0) ∙ sym
+    (append_assoc (written_terms op terms) (Mark (chain_mark op) ∷ written_term y.0.0) y.0.1) in
+    (whole ∙ rest.0, rest.1)
 
 chain_sound : (p : Reads Term) (n : ℕ) → Sound written_term (λ t. FitsTerm t n) p
     → (op : ChainOperator) (k : ℕ) (terms : Terms) (ts : List Terminal) (x : Terms × List Terminal)
-    → FitTerms terms n → IsChain terms → chain_from p op k terms ts ≡ Some x
+    → FitTerms terms n → chain_from p (chain_mark op) k terms ts ≡ Some x
     → IsTerms op n (written_terms op terms ++ ts) x
 unfolding chain_from
-chain_sound p n s op zero terms ts x fits is e =
-    at_some (IsTerms op n (written_terms op terms ++ ts)) (terms, ts) x e (refl, fits, is)
-chain_sound p n s op (suc k) terms ts x fits is e =
-    chain_found p n s op (chain_from p op k) (chain_sound p n s op k) terms ts (behind_operator op ts) x fits is refl
-    e
+chain_sound p n s op zero terms ts x fits e =
+    at_some (IsTerms op n (written_terms op terms ++ ts)) (terms, ts) x e (refl, fits)
+chain_sound p n s op (suc k) terms ts x fits e =
+    chain_found p n s op (chain_from p (chain_mark op) k) (chain_sound p n s op k) terms ts (behind (chain_mark op) ts)
+    x fits refl e
+
+-- an operator, which has this mark, and what follows it
+operator_sound : (p : Reads Term) (n : ℕ) → Sound written_term (λ t. FitsTerm t n) p
+    → (first : Term) (op : Operator) (ts : List Terminal) (x : Expression × List Terminal) → FitsTerm first n
+    → with_operator p first op (operator_mark op) ts ≡ Some x
+    → IsExpression n (written_term first ++ Mark (operator_mark op) ∷ ts) x
+unfolding chain
+operator_sound p n s first (operator.Pair op) ts x fits e =
+    let y = bind_some (p ts) _ x e in
+    let h = s ts y.0.0 y.0.1 y.1 in
+    let whole = ap (λ us. written_term first ++ Mark (pair_mark op) ∷ us) h.0 ∙ sym
+    (append_assoc (written_term first) (Mark (pair_mark op) ∷ written_term y.0.0) y.0.1) in
+    at_some (IsExpression n (written_term first ++ Mark (pair_mark op) ∷ ts)) (Paired op first y.0.0, y.0.1) x y.2
+    (whole, (fits, h.1))
+operator_sound p n s first (operator.Chain op) ts x fits e =
+    let y = bind_some (p ts) _ x e in
+    let h = s ts y.0.0 y.0.1 y.1 in
+    let z = bind_some (chain_from p (chain_mark op) (length ts) (Two first y.0.0) y.0.1) _ x y.2 in
+    let rest = chain_sound p n s op (length ts) (Two first y.0.0) y.0.1 z.0 (fits, h.1) z.1 in
+    let whole = ap (λ us. written_term first ++ Mark (chain_mark op) ∷ us) h.0 ∙ sym
+    (append_assoc (written_term first) (Mark (chain_mark op) ∷ written_term y.0.0) y.0.1) in
+    at_some (IsExpression n (written_term first ++ Mark (chain_mark op) ∷ ts)) (Chained op z.0.0, z.0.1) x z.2
+    (whole ∙ rest.0, rest.1)
+
+first_sound : (p : Reads Term) (n : ℕ) → Sound written_term (λ t. FitsTerm t n) p
+    → (first : Term) (ts : List Terminal) (o : Option ((Operator × mark_type.Mark) × List Terminal))
+    (x : Expression × List Terminal) → FitsTerm first n → operator_at ts ≡ o → first_behind p first ts o ≡ Some x
+    → IsExpression n (written_term first ++ ts) x
+first_sound p n s first ts None x fits b e = at_some (IsExpression n (written_term first ++ ts)) (Alone first, ts) x e
+    (refl, fits)
+first_sound p n s first ts (Some y) x fits b e =
+    let is = operator_is ts y b in
+    let e = subst (λ m. with_operator p first y.0.0 m y.1 ≡ Some x) is.1 e in
+    let h = operator_sound p n s first y.0.0 y.1 x fits e in
+    (ap (λ us. written_term first ++ us) (is.0 ∙ ap (λ m. Mark m ∷ y.1) is.1) ∙ h.0, h.1)
 
 after_sound : (p : Reads Term) (n : ℕ) → Sound written_term (λ t. FitsTerm t n) p
     → (first : Term) (ts : List Terminal) (x : Expression × List Terminal) → FitsTerm first n
     → after_first p first ts ≡ Some x → IsExpression n (written_term first ++ ts) x
-unfolding after_first chain
-after_sound p n s first [] x fits e = at_some (IsExpression n (written_term first ++ [])) (Alone first, []) x e
-    (refl, fits)
-after_sound p n s first (Pair op ∷ ts) x fits e =
-    let y = bind_some (p ts) _ x e in
-    let h = s ts y.0.0 y.0.1 y.1 in
-    let whole = ap (λ us. written_term first ++ Pair op ∷ us) h.0 ∙ sym
-    (append_assoc (written_term first) (Pair op ∷ written_term y.0.0) y.0.1) in
-    at_some (IsExpression n (written_term first ++ Pair op ∷ ts)) (Paired op first y.0.0, y.0.1) x y.2
-    (whole, (fits, h.1))
-after_sound p n s first (Chain op ∷ ts) x fits e =
-    let y = bind_some (p ts) _ x e in
-    let h = s ts y.0.0 y.0.1 y.1 in
-    let z = bind_some (chain_from p op (length ts) (Then (First first) y.0.0) y.0.1) _ x y.2 in
-    let rest = chain_sound p n s op (length ts) (Then (First first) y.0.0) y.0.1 z.0 (fits, h.1) tt z.1 in
-    let whole = ap (λ us. written_term first ++ Chain op ∷ us) h.0 ∙ sym
-    (append_assoc (written_term first) (Chain op ∷ written_term y.0.0) y.0.1) in
-    at_some (IsExpression n (written_term first ++ Chain op ∷ ts)) (Chained op z.0.0, z.0.1) x z.2
-    (whole ∙ rest.0, (rest.2, rest.1))
-after_sound p n s first (t ∷ ts) x fits e = at_some (IsExpression n (written_term first ++ t ∷ ts))
-    (Alone first, t ∷ ts) x e (refl, fits)
+unfolding after_first
+after_sound p n s first ts x fits e = first_sound p n s first ts (operator_at ts) x fits refl e
 
 one_found : (p : Reads Term) (n : ℕ) → Sound written_term (λ t. FitsTerm t n) p
     → (ts : List Terminal) (o : Option (PrefixOperator × List Terminal)) (x : Expression × List Terminal)
@@ -197,7 +216,7 @@ one_found p n s ts (Some q) x b e =
 
 alone_is : (o : Option (Expression × List Terminal)) (x : Expression × List Terminal) → alone o ≡ Some x → o ≡ Some x
 alone_is None x e = absurd (cc)
-alone_is (Some y) x e = ap Some (not_chosen (begins_with_operator y.1) y x e).1
+alone_is (Some y) x e = ap Some (not_chosen (is_some (operator_at y.1)) y x e).1
 
 expression_with_sound : (p : Reads Term) (n : ℕ) → Sound written_term (λ t. FitsTerm t n) p
     → Sound written (λ e. Fits e n) (expression_with p)

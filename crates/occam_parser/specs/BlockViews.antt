@@ -16,7 +16,6 @@ use Rattle.occam_parser.specs.declared.tree.Body.TheFolds.{fold-Process, fold-Co
 use Rattle.occam_parser.specs.declared.tree.Body.TheFolds.{fold-Branch}
 use Rattle.occam_parser.specs.declared.block.Opening as opening_type
 use Rattle.occam_parser.specs.declared.tree.Proc as proc_type
-use Rattle.occam_parser.specs.declared.tree.Program as program_type
 use Rattle.occam_parser.specs.declared.tree.Item as item_type
 use Rattle.occam_parser.specs.declared.tree.Item.TheVariants as item
 use Rattle.occam_parser.specs.Views.{expression_of}
@@ -115,6 +114,3 @@ beginning_of o = record {
   start =
       start_of o.start;
 }
-
-abbrev pub items_of : program_type.Program → List ProgramItem
-items_of p = map item_of p.items.items

@@ -2,7 +2,7 @@
 -- a body stands one level deeper than its head.
 use Rattle.std.specs.Prelude.{◌≡◌, ℕ, ◌+◌, ◌≤◌, List, [], ◌∷◌, ◌++◌, map, Option, Some, None}
 use Rattle.occam_layout.specs.declared.token.Line as line_type
-use Rattle.occam_parser.specs.declared.symbol.Mark.TheVariants as mark
+use Rattle.occam_layout.specs.declared.mark.Mark.TheVariants as mark
 use Rattle.occam_parser.specs.declared.head.BlockKind.{BlockKind}
 use Rattle.occam_parser.specs.declared.head.BlockKind.TheVariants as block
 use Rattle.occam_parser.specs.Terminals.{Terminal, Mark, terminals_of}
@@ -72,6 +72,10 @@ pub record Procedure : Type 0 where
 pub data ProgramItem : Type 0 where
   GlobalConstant : (constant : Constant) → ProgramItem
   GlobalProcedure : (procedure : Procedure) → ProgramItem
+
+abbrev pub item_line : ProgramItem → ℕ
+item_line (GlobalConstant c) = c.line
+item_line (GlobalProcedure p) = p.line
 
 -- ---- how they are written
 

@@ -1,15 +1,27 @@
 -- The tree of an expression, and how it is written. The operators and operands are those of the occam 2 reference
 -- manual that this profile has; that a chain of one associative operator needs no brackets is our own choice.
 use Rattle.std.specs.Prelude.{ℕ, ℤ, Bool, true, false, pred, ◌<◌, List, [], ◌∷◌, ◌++◌}
-use Rattle.occam_parser.specs.declared.symbol.Mark.TheVariants as mark
+use Rattle.occam_layout.specs.declared.mark.Mark as mark_type
+use Rattle.occam_layout.specs.declared.mark.Mark.TheVariants as mark
 use Rattle.occam_parser.specs.declared.tree.ValueType.{ValueType}
 use Rattle.occam_parser.specs.declared.tree.ValueType.TheVariants as value_type
 use Rattle.occam_parser.specs.declared.tree.PrefixOperator.{PrefixOperator}
 use Rattle.occam_parser.specs.declared.tree.PrefixOperator.TheVariants as prefix
 use Rattle.occam_parser.specs.declared.tree.PairOperator.{PairOperator}
 use Rattle.occam_parser.specs.declared.tree.PairOperator.TheVariants as pair
+use Rattle.occam_parser.specs.declared.tree.ArithmeticPair.{ArithmeticPair}
+use Rattle.occam_parser.specs.declared.tree.ArithmeticPair.TheVariants as arithmetic_pair
+use Rattle.word_arithmetic.specs.declared.compare.Comparison.{Comparison}
+use Rattle.word_arithmetic.specs.declared.compare.Comparison.TheVariants as comparison
 use Rattle.occam_parser.specs.declared.tree.ChainOperator.{ChainOperator}
-use Rattle.occam_parser.specs.Terminals.{Terminal, Name, Integer, Character, Pair, Chain, Mark}
+use Rattle.occam_parser.specs.declared.tree.ChainOperator.TheVariants as chain
+use Rattle.occam_parser.specs.declared.tree.ArithmeticChain.{ArithmeticChain}
+use Rattle.occam_parser.specs.declared.tree.ArithmeticChain.TheVariants as arithmetic_chain
+use Rattle.occam_parser.specs.declared.tree.Logic.{Logic}
+use Rattle.occam_parser.specs.declared.tree.Logic.TheVariants as logic
+use Rattle.occam_parser.specs.declared.front.Operator as operator_type
+use Rattle.occam_parser.specs.declared.front.Operator.TheVariants as operator
+use Rattle.occam_parser.specs.Terminals.{Terminal, Name, Integer, Character, Mark}
 
 mutual
   pub data Expression : Type 0 where
@@ -18,9 +30,9 @@ mutual
     Paired : (operator : PairOperator) → (left right : Term) → Expression
     Chained : (operator : ChainOperator) → (terms : Terms) → Expression
 
-  -- the operands of a chain, from the left: those before the last one belong together
+  -- the operands of a chain, two at least, from the left: those before the last one belong together
   pub data Terms : Type 0 where
-    First : (term : Term) → Terms
+    Two : (first second : Term) → Terms
     Then : (terms : Terms) → (last : Term) → Terms
 
   pub data Term : Type 0 where
@@ -35,7 +47,7 @@ mutual
     Converted : (to : ValueType) → (term : Term) → Term
 
 abbrev pub prefix_sign : PrefixOperator → Terminal
-prefix_sign prefix.Negate = Pair pair.Subtract
+prefix_sign prefix.Negate = Mark mark.Subtract
 prefix_sign prefix.BitNot = Mark mark.BitNot
 prefix_sign prefix.Not = Mark mark.Not
 
@@ -47,17 +59,61 @@ abbrev pub truth_word : Bool → Terminal
 truth_word true = Mark mark.True
 truth_word false = Mark mark.False
 
--- how a tree is written
+-- ---- the marks of operators
+
+abbrev pub arithmetic_pair_mark : ArithmeticPair → mark_type.Mark
+arithmetic_pair_mark arithmetic_pair.Subtract = mark.Subtract
+arithmetic_pair_mark arithmetic_pair.Divide = mark.Divide
+arithmetic_pair_mark arithmetic_pair.Remainder = mark.Remainder
+arithmetic_pair_mark arithmetic_pair.Minus = mark.Minus
+arithmetic_pair_mark arithmetic_pair.ShiftLeft = mark.ShiftLeft
+arithmetic_pair_mark arithmetic_pair.ShiftRight = mark.ShiftRight
+
+abbrev pub comparison_mark : Comparison → mark_type.Mark
+comparison_mark comparison.Equal = mark.Equal
+comparison_mark comparison.NotEqual = mark.NotEqual
+comparison_mark comparison.Less = mark.Less
+comparison_mark comparison.Greater = mark.Greater
+comparison_mark comparison.LessOrEqual = mark.LessOrEqual
+comparison_mark comparison.GreaterOrEqual = mark.GreaterOrEqual
+
+abbrev pub arithmetic_chain_mark : ArithmeticChain → mark_type.Mark
+arithmetic_chain_mark arithmetic_chain.Add = mark.Add
+arithmetic_chain_mark arithmetic_chain.Multiply = mark.Multiply
+arithmetic_chain_mark arithmetic_chain.Plus = mark.Plus
+arithmetic_chain_mark arithmetic_chain.Times = mark.Times
+arithmetic_chain_mark arithmetic_chain.BitAnd = mark.BitAnd
+arithmetic_chain_mark arithmetic_chain.BitOr = mark.BitOr
+arithmetic_chain_mark arithmetic_chain.BitXor = mark.BitXor
+
+abbrev pub logic_mark : Logic → mark_type.Mark
+logic_mark logic.And = mark.And
+logic_mark logic.Or = mark.Or
+
+abbrev pub pair_mark : PairOperator → mark_type.Mark
+pair_mark (pair.Arithmetic op) = arithmetic_pair_mark op
+pair_mark (pair.Comparison op) = comparison_mark op
+
+abbrev pub chain_mark : ChainOperator → mark_type.Mark
+chain_mark (chain.Arithmetic op) = arithmetic_chain_mark op
+chain_mark (chain.Logic op) = logic_mark op
+
+abbrev pub operator_mark : operator_type.Operator → mark_type.Mark
+operator_mark (operator.Pair op) = pair_mark op
+operator_mark (operator.Chain op) = chain_mark op
+
+-- ---- how a tree is written
+
 abbrev mutual
   pub written : Expression → List Terminal
   written (Alone t) = written_term t
   written (Prefixed op t) = prefix_sign op ∷ written_term t
-  written (Paired op a b) = written_term a ++ Pair op ∷ written_term b
+  written (Paired op a b) = written_term a ++ Mark (pair_mark op) ∷ written_term b
   written (Chained op ts) = written_terms op ts
 
   pub written_terms : ChainOperator → Terms → List Terminal
-  written_terms op (First t) = written_term t
-  written_terms op (Then ts t) = written_terms op ts ++ Chain op ∷ written_term t
+  written_terms op (Two a b) = written_term a ++ Mark (chain_mark op) ∷ written_term b
+  written_terms op (Then ts t) = written_terms op ts ++ Mark (chain_mark op) ∷ written_term t
 
   pub written_term : Term → List Terminal
   written_term (Number value) = Integer value ∷ []
@@ -70,21 +126,16 @@ abbrev mutual
   written_term (Bracketed e) = Mark mark.OpenParenthesis ∷ written e ++ Mark mark.CloseParenthesis ∷ []
   written_term (Converted to t) = type_word to ∷ written_term t
 
--- a chain has two operands at least
-abbrev pub IsChain : Terms → Type 0
-IsChain (First t) = ⊥
-IsChain (Then ts t) = Unit {0}
-
--- No more than so many brackets, subscripts and conversions stand one in another, and each chain is one.
+-- no more than so many brackets, subscripts and conversions stand one in another
 abbrev mutual
   pub Fits : Expression → ℕ → Type 0
   Fits (Alone t) n = FitsTerm t n
   Fits (Prefixed op t) n = FitsTerm t n
   Fits (Paired op a b) n = FitsTerm a n × FitsTerm b n
-  Fits (Chained op ts) n = IsChain ts × FitTerms ts n
+  Fits (Chained op ts) n = FitTerms ts n
 
   pub FitTerms : Terms → ℕ → Type 0
-  FitTerms (First t) n = FitsTerm t n
+  FitTerms (Two a b) n = FitsTerm a n × FitsTerm b n
   FitTerms (Then ts t) n = FitTerms ts n × FitsTerm t n
 
   pub FitsTerm : Term → ℕ → Type 0

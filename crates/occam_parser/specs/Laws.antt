@@ -1,8 +1,8 @@
 -- When a reader on lists is right.
-use Rattle.std.specs.Prelude.{◌≡◌, false, List, ◌++◌, Some, None}
-use Rattle.occam_parser.specs.declared.symbol.Mark.TheVariants as mark
+use Rattle.std.specs.Prelude.{◌≡◌, List, ◌++◌, Some, None}
+use Rattle.occam_layout.specs.declared.mark.Mark.TheVariants as mark
 use Rattle.occam_parser.specs.Terminals.{Terminal}
-use Rattle.occam_parser.specs.Reading.{Reads, behind, begins_with_operator}
+use Rattle.occam_parser.specs.Reading.{Reads, behind, operator_at}
 
 -- what is read is written so, and fits
 abbrev pub Sound : {A : Type 0} → (A → List Terminal) → (A → Type 0) → Reads A → Type 0
@@ -12,4 +12,4 @@ Sound {A} write fits p = (ts : List Terminal) (x : A) (rest : List Terminal) →
 -- nothing that would belong to an expression follows
 pub record Ends (rest : List Terminal) : Type 0 where
   pub no_subscript : behind mark.OpenBracket rest ≡ None
-  pub no_operator : begins_with_operator rest ≡ false
+  pub no_operator : operator_at rest ≡ None

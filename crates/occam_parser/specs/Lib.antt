@@ -1,4 +1,5 @@
 pub mod Terminals
+pub mod OneOrMore
 pub mod Expressions
 pub mod Reading
 pub mod Views
@@ -9,4 +10,6 @@ pub mod LineViews
 pub mod Blocks
 pub mod BlockReading
 pub mod BlockViews
+pub mod Levels
+pub mod Programs
 pub mod Told

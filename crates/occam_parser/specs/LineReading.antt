@@ -1,15 +1,15 @@
 -- Reading what one line says from left to right, on lists.
 use Rattle.std.specs.Prelude.{ℕ, Bool, true, false, List, [], ◌∷◌, if◌then◌else◌, Option, Some, None}
-use Rattle.occam_parser.specs.declared.symbol.Mark as mark_type
-use Rattle.occam_parser.specs.declared.symbol.Mark.TheVariants as mark
+use Rattle.occam_layout.specs.declared.mark.Mark as mark_type
+use Rattle.occam_layout.specs.declared.mark.Mark.TheVariants as mark
 use Rattle.occam_parser.specs.declared.head.BlockKind.{BlockKind}
 use Rattle.occam_parser.specs.declared.head.BlockKind.TheVariants as block
 use Rattle.occam_parser.specs.declared.tree.FormalKind.{FormalKind}
 use Rattle.occam_parser.specs.declared.tree.FormalKind.TheVariants as formal_kind
-use Rattle.occam_parser.specs.declared.tree.PairOperator.TheVariants as pair
 use Rattle.occam_parser.specs.declared.tree.ValueType.{ValueType}
 use Rattle.occam_parser.specs.declared.tree.ValueType.TheVariants as value_type
-use Rattle.occam_parser.specs.Terminals.{Terminal, Name, Text, Pair, Mark}
+use Rattle.occam_parser.specs.Terminals.{Terminal, Name, Text, Mark}
+use Rattle.occam_parser.specs.OneOrMore.{as_list}
 use Rattle.occam_parser.specs.Expressions.{Expression}
 use Rattle.occam_parser.specs.Reading.{Reads, ◌>>=◌, behind, up_to, expression_at, list_of}
 use Rattle.occam_parser.specs.Lines.{Place, Replicator, Value, Scalar, Table, Bytes, Constant, Names, Declaration}
@@ -30,11 +30,6 @@ unfoldable pub name_at : Reads (List ℕ)
 name_at [] = None
 name_at (Name name ∷ ts) = Some (name, ts)
 name_at (t ∷ ts) = None
-
-unfoldable pub equals_at : List Terminal → Option (List Terminal)
-equals_at [] = None
-equals_at (Pair pair.Equal ∷ ts) = Some ts
-equals_at (t ∷ ts) = None
 
 abbrev pub bracketed_behind : List Terminal → Option (List Terminal) → Option (Option Expression × List Terminal)
 bracketed_behind ts None = Some (None, ts)
@@ -91,7 +86,7 @@ items_behind item ts (Some rest) = only [] rest
 items_behind item ts None = do
   x ← list_of item ts
   rest ← behind mark.CloseParenthesis x.1
-  only x.0 rest
+  only (as_list x.0) rest
 
 -- items with commas between them, if any, behind the parenthesis that opens
 unfoldable pub in_parentheses : {A : Type 0} → Reads A → List Terminal → Option (List A)
@@ -218,7 +213,7 @@ unfoldable pub replicator_at : List Terminal → Option (Option Replicator)
 replicator_at [] = Some None
 replicator_at (t ∷ ts) = do
   name ← name_at (t ∷ ts)
-  equal ← equals_at name.1
+  equal ← behind mark.Equal name.1
   replicator ← counted_at name.0 equal
   Some (Some replicator)
 

@@ -22,6 +22,7 @@ use Rattle.occam_parser.specs.declared.head.Head.TheVariants as head
 use Rattle.occam_parser.specs.declared.head.Start as start_type
 use Rattle.occam_parser.specs.declared.head.Start.TheVariants as start
 use Rattle.occam_parser.specs.Expressions.{Expression}
+use Rattle.occam_parser.specs.OneOrMore.{one_or_more_of}
 use Rattle.occam_parser.specs.Views.{expression_of}
 use Rattle.occam_parser.specs.Lines.{Place, Replicator, Value, Scalar, Table, Bytes, Constant, Names, Declaration}
 use Rattle.occam_parser.specs.Lines.{Constants, Variables, Channels, Action, Skip, Stop, Assign, Input, Output}
@@ -41,7 +42,7 @@ replicator_of r = record { name = r.name.now; base = expression_of r.base; count
 
 abbrev pub value_of : value_type.ConstantValue → Value
 value_of (value.Scalar e) = Scalar (expression_of e)
-value_of (value.Table size items) = Table (expression_of size) (map expression_of items.items)
+value_of (value.Table size items) = Table (expression_of size) (one_or_more_of expression_of items)
 value_of (value.Text size text) = Bytes (expression_of size) (bytes_of text)
 
 abbrev pub constant_of : constant_type.Constant → Constant
@@ -53,7 +54,7 @@ names_of n = record {
   size = any_of n.size;
   value_type = n.value_type;
   names =
-      map spelling_of n.names.items;
+      one_or_more_of spelling_of n.names;
 }
 
 abbrev pub declaration_of : declaration_type.Declaration → Declaration

@@ -1,14 +1,14 @@
 -- What one line says, and how it is written. The forms are those of the occam 2 reference manual that this profile has.
 use Rattle.std.specs.Prelude.{◌≡◌, ℕ, Bool, true, false, List, [], ◌∷◌, ◌++◌, Option, Some, None}
 use Rattle.std.specs.List.{AllByRecursion}
-use Rattle.occam_parser.specs.declared.symbol.Mark.TheVariants as mark
+use Rattle.occam_layout.specs.declared.mark.Mark.TheVariants as mark
 use Rattle.occam_parser.specs.declared.head.BlockKind.{BlockKind}
 use Rattle.occam_parser.specs.declared.head.BlockKind.TheVariants as block
 use Rattle.occam_parser.specs.declared.tree.FormalKind.{FormalKind}
 use Rattle.occam_parser.specs.declared.tree.FormalKind.TheVariants as formal_kind
-use Rattle.occam_parser.specs.declared.tree.PairOperator.TheVariants as pair
 use Rattle.occam_parser.specs.declared.tree.ValueType.{ValueType}
-use Rattle.occam_parser.specs.Terminals.{Terminal, Name, Text, Pair, Mark}
+use Rattle.occam_parser.specs.Terminals.{Terminal, Name, Text, Mark}
+use Rattle.occam_parser.specs.OneOrMore.{OneOrMore, as_list}
 use Rattle.occam_parser.specs.Expressions.{Expression, written, type_word, Fits}
 
 -- ---- trees
@@ -24,7 +24,7 @@ pub record Replicator : Type 0 where
 
 pub data Value : Type 0 where
   Scalar : (value : Expression) → Value
-  Table : (size : Expression) → (items : List Expression) → Value
+  Table : (size : Expression) → (items : OneOrMore Expression) → Value
   Bytes : (size : Expression) → (bytes : List ℕ) → Value
 
 pub record Constant : Type 0 where
@@ -37,7 +37,7 @@ pub record Names : Type 0 where
   pub line : ℕ
   pub size : Option Expression
   pub value_type : ValueType
-  pub names : List (List ℕ)
+  pub names : OneOrMore (List ℕ)
 
 pub data Declaration : Type 0 where
   Constants : (constant : Constant) → Declaration
@@ -100,7 +100,8 @@ size_of (Bytes size bytes) = Some size
 
 abbrev pub written_value : Value → List Terminal
 written_value (Scalar value) = written value
-written_value (Table size items) = Mark mark.OpenBracket ∷ separated written items ++ Mark mark.CloseBracket ∷ []
+written_value (Table size items) =
+    Mark mark.OpenBracket ∷ separated written (as_list items) ++ Mark mark.CloseBracket ∷ []
 written_value (Bytes size bytes) = Text bytes ∷ []
 
 -- behind the word VAL
@@ -117,7 +118,7 @@ channel_words true = Mark mark.Chan ∷ Mark mark.Of ∷ []
 abbrev pub written_names : Bool → Names → List Terminal
 written_names is_channel n =
     in_brackets n.size ++ (channel_words is_channel
-    ++ (type_word n.value_type ∷ (separated written_name n.names ++ Mark mark.Colon ∷ [])))
+    ++ (type_word n.value_type ∷ (separated written_name (as_list n.names) ++ Mark mark.Colon ∷ [])))
 
 abbrev pub written_declaration : Declaration → List Terminal
 written_declaration (Constants c) = Mark mark.Val ∷ written_constant c
@@ -135,7 +136,7 @@ written_action (Instance name actuals) = Name name ∷ Mark mark.OpenParenthesis
 
 abbrev pub written_replicator : Option Replicator → List Terminal
 written_replicator None = []
-written_replicator (Some r) = Name r.name ∷ Pair pair.Equal ∷ written r.base ++ Mark mark.For ∷ written r.count
+written_replicator (Some r) = Name r.name ∷ Mark mark.Equal ∷ written r.base ++ Mark mark.For ∷ written r.count
 
 abbrev pub block_word : BlockKind → Terminal
 block_word block.Seq = Mark mark.Seq
@@ -177,7 +178,7 @@ abbrev pub written_proc_head : ProcHead → List Terminal
 written_proc_head h = Name h.name ∷ Mark mark.OpenParenthesis ∷ separated written_formal h.formals ++ Mark
     mark.CloseParenthesis ∷ []
 
--- ---- when they fit: each expression has 64 levels at most, and a list that has to have an item has one
+-- ---- when they fit: each expression has 64 levels at most
 
 abbrev pub IsWhole : Expression → Type 0
 IsWhole e = Fits e 64
@@ -189,23 +190,19 @@ abbrev pub IsWholeIfAny : Option Expression → Type 0
 IsWholeIfAny None = Unit {0}
 IsWholeIfAny (Some e) = IsWhole e
 
-abbrev pub HasItem : {A : Type 0} → List A → Type 0
-HasItem [] = ⊥
-HasItem (x ∷ xs) = Unit {0}
-
 abbrev pub FitsPlace : Place → Type 0
 FitsPlace p = IsWholeIfAny p.subscript
 
 abbrev pub FitsValue : Value → Type 0
 FitsValue (Scalar value) = IsWhole value
-FitsValue (Table size items) = IsWhole size × HasItem items × AreWhole items
+FitsValue (Table size items) = IsWhole size × AreWhole (as_list items)
 FitsValue (Bytes size bytes) = IsWhole size
 
 abbrev pub FitsConstant : ℕ → Constant → Type 0
 FitsConstant line c = (c.line ≡ line) × FitsValue c.value
 
 abbrev pub FitsNames : ℕ → Names → Type 0
-FitsNames line n = (n.line ≡ line) × IsWholeIfAny n.size × HasItem n.names
+FitsNames line n = (n.line ≡ line) × IsWholeIfAny n.size
 
 abbrev pub FitsDeclaration : ℕ → Declaration → Type 0
 FitsDeclaration line (Constants c) = FitsConstant line c

@@ -1,22 +1,29 @@
 -- Reading an expression from left to right, on lists.
 use Rattle.std.specs.Prelude.{◌≡◌, ℕ, zero, suc, Bool, true, false, List, [], ◌∷◌, ◌++◌, length}
-use Rattle.std.specs.Prelude.{if◌then◌else◌, Option, Some, None, Result, Ok, Err}
+use Rattle.std.specs.Prelude.{if◌then◌else◌, Option, Some, None, is_some, Result, Ok, Err}
 use denote.Enum.Bare.{sameb}
 use Rattle.occam_parser.specs.declared.fault.LineError.{LineError}
 use Rattle.occam_parser.specs.declared.fault.LineError.TheVariants as errors
-use Rattle.occam_parser.specs.declared.symbol.Mark as mark_type
-use Rattle.occam_parser.specs.declared.symbol.Mark.TheVariants as mark
-use Rattle.occam_parser.specs.contracts.symbol.Mark as mark_contract
+use Rattle.occam_layout.specs.declared.mark.Mark as mark_type
+use Rattle.occam_layout.specs.declared.mark.Mark.TheVariants as mark
+use Rattle.occam_layout.specs.contracts.mark.Mark as mark_contract
 use Rattle.occam_parser.specs.declared.tree.ValueType.{ValueType}
 use Rattle.occam_parser.specs.declared.tree.ValueType.TheVariants as value_type
 use Rattle.occam_parser.specs.declared.tree.PrefixOperator.{PrefixOperator}
 use Rattle.occam_parser.specs.declared.tree.PrefixOperator.TheVariants as prefix
 use Rattle.occam_parser.specs.declared.tree.PairOperator.{PairOperator}
-use Rattle.occam_parser.specs.declared.tree.PairOperator.TheVariants as pair_operator
+use Rattle.occam_parser.specs.declared.tree.PairOperator.TheVariants as pair
+use Rattle.occam_parser.specs.declared.tree.ArithmeticPair.TheVariants as arithmetic_pair
+use Rattle.word_arithmetic.specs.declared.compare.Comparison.TheVariants as comparison
 use Rattle.occam_parser.specs.declared.tree.ChainOperator.{ChainOperator}
-use Rattle.occam_parser.specs.contracts.tree.ChainOperator as chain_contract
-use Rattle.occam_parser.specs.Terminals.{Terminal, Name, Integer, Character, Text, Pair, Chain, Mark}
-use Rattle.occam_parser.specs.Expressions.{Expression, Alone, Prefixed, Paired, Chained, Terms, First, Then, Term}
+use Rattle.occam_parser.specs.declared.tree.ChainOperator.TheVariants as chain_operator
+use Rattle.occam_parser.specs.declared.tree.ArithmeticChain.TheVariants as arithmetic_chain
+use Rattle.occam_parser.specs.declared.tree.Logic.TheVariants as logic
+use Rattle.occam_parser.specs.declared.front.Operator.{Operator}
+use Rattle.occam_parser.specs.declared.front.Operator.TheVariants as operator
+use Rattle.occam_parser.specs.Terminals.{Terminal, Name, Integer, Character, Text, Mark}
+use Rattle.occam_parser.specs.OneOrMore.{OneOrMore}
+use Rattle.occam_parser.specs.Expressions.{Expression, Alone, Prefixed, Paired, Chained, Terms, Two, Then, Term}
 use Rattle.occam_parser.specs.Expressions.{Number, Byte, Truth, MostPos, MostNeg, Named, Element, Bracketed, Converted}
 
 -- what is read from the front, and what is left, if it is there
@@ -54,28 +61,49 @@ behind wanted [] = None
 behind wanted (Mark found ∷ ts) = if is_mark found wanted then Some ts else None
 behind wanted (t ∷ ts) = None
 
-abbrev pub is_chain : ChainOperator → ChainOperator → Bool
-is_chain found wanted = sameb chain_contract.the_type found wanted
-
-unfoldable pub behind_operator : ChainOperator → List Terminal → Option (List Terminal)
-behind_operator wanted [] = None
-behind_operator wanted (Chain found ∷ ts) = if is_chain found wanted then Some ts else None
-behind_operator wanted (t ∷ ts) = None
-
 -- an operator that may stand before an operand
 unfoldable pub prefix_at : Reads PrefixOperator
 prefix_at [] = None
 prefix_at (Mark mark.BitNot ∷ ts) = Some (prefix.BitNot, ts)
 prefix_at (Mark mark.Not ∷ ts) = Some (prefix.Not, ts)
-prefix_at (Pair pair_operator.Subtract ∷ ts) = Some (prefix.Negate, ts)
+prefix_at (Mark mark.Subtract ∷ ts) = Some (prefix.Negate, ts)
 prefix_at (t ∷ ts) = None
 
--- whether an operator between operands comes first
-unfoldable pub begins_with_operator : List Terminal → Bool
-begins_with_operator [] = false
-begins_with_operator (Pair operator ∷ ts) = true
-begins_with_operator (Chain operator ∷ ts) = true
-begins_with_operator (t ∷ ts) = false
+-- the operator that a mark is between operands
+abbrev pub operator_of : mark_type.Mark → Option Operator
+operator_of mark.Subtract = Some (operator.Pair (pair.Arithmetic arithmetic_pair.Subtract))
+operator_of mark.Divide = Some (operator.Pair (pair.Arithmetic arithmetic_pair.Divide))
+operator_of mark.Remainder = Some (operator.Pair (pair.Arithmetic arithmetic_pair.Remainder))
+operator_of mark.Minus = Some (operator.Pair (pair.Arithmetic arithmetic_pair.Minus))
+operator_of mark.ShiftLeft = Some (operator.Pair (pair.Arithmetic arithmetic_pair.ShiftLeft))
+operator_of mark.ShiftRight = Some (operator.Pair (pair.Arithmetic arithmetic_pair.ShiftRight))
+operator_of mark.Equal = Some (operator.Pair (pair.Comparison comparison.Equal))
+operator_of mark.NotEqual = Some (operator.Pair (pair.Comparison comparison.NotEqual))
+operator_of mark.Less = Some (operator.Pair (pair.Comparison comparison.Less))
+operator_of mark.Greater = Some (operator.Pair (pair.Comparison comparison.Greater))
+operator_of mark.LessOrEqual = Some (operator.Pair (pair.Comparison comparison.LessOrEqual))
+operator_of mark.GreaterOrEqual = Some (operator.Pair (pair.Comparison comparison.GreaterOrEqual))
+operator_of mark.Add = Some (operator.Chain (chain_operator.Arithmetic arithmetic_chain.Add))
+operator_of mark.Multiply = Some (operator.Chain (chain_operator.Arithmetic arithmetic_chain.Multiply))
+operator_of mark.Plus = Some (operator.Chain (chain_operator.Arithmetic arithmetic_chain.Plus))
+operator_of mark.Times = Some (operator.Chain (chain_operator.Arithmetic arithmetic_chain.Times))
+operator_of mark.BitAnd = Some (operator.Chain (chain_operator.Arithmetic arithmetic_chain.BitAnd))
+operator_of mark.BitOr = Some (operator.Chain (chain_operator.Arithmetic arithmetic_chain.BitOr))
+operator_of mark.BitXor = Some (operator.Chain (chain_operator.Arithmetic arithmetic_chain.BitXor))
+operator_of mark.And = Some (operator.Chain (chain_operator.Logic logic.And))
+operator_of mark.Or = Some (operator.Chain (chain_operator.Logic logic.Or))
+operator_of m = None
+
+abbrev pub marked_by : mark_type.Mark → List Terminal → Option Operator
+    → Option ((Operator × mark_type.Mark) × List Terminal)
+marked_by m ts None = None
+marked_by m ts (Some operator) = Some ((operator, m), ts)
+
+-- the operator between operands that comes first, and its mark
+unfoldable pub operator_at : Reads (Operator × mark_type.Mark)
+operator_at [] = None
+operator_at (Mark m ∷ ts) = marked_by m ts (operator_of m)
+operator_at (t ∷ ts) = None
 
 -- ---- operands and expressions
 
@@ -125,8 +153,6 @@ term_with inner operand (Character byte ∷ ts) = Some (Byte byte, ts)
 term_with inner operand (Name name ∷ ts) = named inner name ts
 term_with inner operand (Mark m ∷ ts) = marked inner operand m ts
 term_with inner operand (Text bytes ∷ ts) = None
-term_with inner operand (Pair operator ∷ ts) = None
-term_with inner operand (Chain operator ∷ ts) = None
 
 -- one more operand where the operator comes next
 abbrev pub chain_step : Reads Term → (Terms → Reads Terms) → Terms → List Terminal → Option (List Terminal)
@@ -136,31 +162,37 @@ chain_step operand more terms ts (Some after) = do
   x ← operand after
   more (Then terms x.0) x.1
 
--- Further operands, each behind the operator. The number bounds the turns: the count of the terminals is enough.
-unfoldable pub chain_from : Reads Term → ChainOperator → ℕ → Terms → Reads Terms
-chain_from operand operator zero terms ts = Some (terms, ts)
-chain_from operand operator (suc n) terms ts =
-    chain_step operand (chain_from operand operator n) terms ts (behind_operator operator ts)
+-- Further operands, each behind the mark of the operator. The number bounds the turns: the count of the terminals is
+-- enough.
+unfoldable pub chain_from : Reads Term → mark_type.Mark → ℕ → Terms → Reads Terms
+chain_from operand m zero terms ts = Some (terms, ts)
+chain_from operand m (suc n) terms ts = chain_step operand (chain_from operand m n) terms ts (behind m ts)
 
--- a chain behind its first operand and the operator
-unfoldable pub chain : Reads Term → ChainOperator → Term → Reads Expression
-chain operand operator first ts = do
+-- a chain behind its first operand and the operator, which has this mark
+unfoldable pub chain : Reads Term → ChainOperator → mark_type.Mark → Term → Reads Expression
+chain operand operator m first ts = do
   x ← operand ts
-  y ← chain_from operand operator (length ts) (Then (First first) x.0) x.1
+  y ← chain_from operand m (length ts) (Two first x.0) x.1
   Some (Chained operator y.0, y.1)
 
 -- a pair behind its first operand and the operator
-abbrev pub pair : Reads Term → PairOperator → Term → Reads Expression
-pair operand operator first ts = do
+abbrev pub paired : Reads Term → PairOperator → Term → Reads Expression
+paired operand operator first ts = do
   x ← operand ts
   Some (Paired operator first x.0, x.1)
 
+abbrev pub with_operator : Reads Term → Term → Operator → mark_type.Mark → Reads Expression
+with_operator operand first (operator.Pair op) m ts = paired operand op first ts
+with_operator operand first (operator.Chain op) m ts = chain operand op m first ts
+
+abbrev pub first_behind : Reads Term → Term → List Terminal → Option ((Operator × mark_type.Mark) × List Terminal)
+    → Option (Expression × List Terminal)
+first_behind operand first ts None = Some (Alone first, ts)
+first_behind operand first ts (Some x) = with_operator operand first x.0.0 x.0.1 x.1
+
 -- what follows a first operand
 unfoldable pub after_first : Reads Term → Term → Reads Expression
-after_first operand first [] = Some (Alone first, [])
-after_first operand first (Pair operator ∷ ts) = pair operand operator first ts
-after_first operand first (Chain operator ∷ ts) = chain operand operator first ts
-after_first operand first (t ∷ ts) = Some (Alone first, t ∷ ts)
+after_first operand first ts = first_behind operand first ts (operator_at ts)
 
 abbrev pub one_behind : Reads Term → List Terminal → Option (PrefixOperator × List Terminal)
     → Option (Expression × List Terminal)
@@ -178,7 +210,7 @@ one_operator operand ts = one_behind operand ts (prefix_at ts)
 -- what was read, unless another operator follows
 abbrev pub alone : Option (Expression × List Terminal) → Option (Expression × List Terminal)
 alone None = None
-alone (Some x) = if begins_with_operator x.1 then None else Some x
+alone (Some x) = if is_some (operator_at x.1) then None else Some x
 
 unfoldable pub expression_with : Reads Term → Reads Expression
 expression_with operand ts = alone (one_operator operand ts)
@@ -218,8 +250,9 @@ unfoldable pub list_from : {A : Type 0} → Reads A → ℕ → List A → Reads
 list_from item zero found ts = Some (found, ts)
 list_from item (suc n) found ts = list_step item (list_from item n) found ts (behind mark.Comma ts)
 
--- items with commas between them, one at least
-unfoldable pub list_of : {A : Type 0} → Reads A → Reads (List A)
+-- items with commas between them
+unfoldable pub list_of : {A : Type 0} → Reads A → Reads (OneOrMore A)
 list_of item ts = do
   x ← item ts
-  list_from item (length ts) (x.0 ∷ []) x.1
+  y ← list_from item (length ts) [] x.1
+  Some (record { first = x.0; others = y.0 }, y.1)

@@ -10,12 +10,13 @@ use Rattle.occam_parser.specs.declared.fault.ParseFault.{ParseFault}
 use Rattle.occam_parser.specs.declared.fault.TheConstants.{UNEXPECTED_TOKEN, MIXTURE, MEMORY}
 use Rattle.occam_parser.specs.declared.fault.Refusal.{Refusal}
 use Rattle.occam_parser.specs.declared.fault.Refusal.TheVariants as refusals
-use Rattle.occam_parser.specs.declared.symbol.Mark.{Mark}
-use Rattle.occam_parser.specs.declared.symbol.Mark.TheVariants as mark
+use Rattle.occam_layout.specs.declared.mark.Mark.{Mark}
+use Rattle.occam_layout.specs.declared.mark.Mark.TheVariants as mark
 use Rattle.occam_parser.specs.declared.tree.ValueType.{ValueType}
 use Rattle.occam_parser.specs.declared.tree.Expr.{Expr}
 use Rattle.occam_parser.specs.declared.tree.Operation.{Operation}
 use Rattle.occam_parser.specs.Terminals.{Terminal, terminals_of}
+use Rattle.occam_parser.specs.OneOrMore.{OneOrMore}
 use Rattle.occam_parser.specs.Views.{expression_of, operation_of}
 use Rattle.occam_parser.specs.Reading.{Reads, ◌>>=◌, Fails, Gives, behind, list_of}
 use Rattle.occam_parser.specs.LineReading.{shape_at, name_at, only}
@@ -75,7 +76,7 @@ shaped_name_at ts = do
   Some ((shape.0, name.0), name.1)
 
 -- a type, or CHAN OF a type, and names behind it up to the end of the line
-unfoldable pub shaped_names_at : List Terminal → Option ((Bool × ValueType) × List (List ℕ))
+unfoldable pub shaped_names_at : List Terminal → Option ((Bool × ValueType) × OneOrMore (List ℕ))
 shaped_names_at ts = do
   shape ← shape_at ts
   names ← list_of name_at shape.1

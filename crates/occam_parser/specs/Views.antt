@@ -5,7 +5,7 @@ use Rattle.occam_parser.specs.declared.tree.Operation.{Operation}
 use Rattle.occam_parser.specs.declared.tree.Operand.{Operand}
 use Rattle.occam_parser.specs.declared.tree.Operand.TheOpen.{Expr-F, Operation-F, Operand-F}
 use Rattle.occam_parser.specs.declared.tree.Operand.TheFolds.{fold-Expr, fold-Operation, fold-Operand}
-use Rattle.occam_parser.specs.Expressions.{Expression, Alone, Prefixed, Paired, Chained, Terms, First, Then, Term}
+use Rattle.occam_parser.specs.Expressions.{Expression, Alone, Prefixed, Paired, Chained, Terms, Two, Then, Term}
 use Rattle.occam_parser.specs.Expressions.{Number, Byte, Truth, MostPos, MostNeg, Named, Element, Bracketed, Converted}
 
 -- further operands, behind those that were read
@@ -28,7 +28,8 @@ abbrev pub operation_step : Operation-F Term Expression Expression → Expressio
 operation_step (Operation-F.Operand term) = Alone term
 operation_step (Operation-F.Prefix operator term) = Prefixed operator term
 operation_step (Operation-F.Pair operator left right) = Paired operator left right
-operation_step (Operation-F.Chain operator first others) = Chained operator (with_others (First first) others.items)
+operation_step (Operation-F.Chain operator first second others) =
+    Chained operator (with_others (Two first second) others.items)
 
 abbrev pub expression_step : Expr-F Term Expression Expression → Expression
 expression_step e = e.operation.value

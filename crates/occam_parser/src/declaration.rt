@@ -2,6 +2,7 @@
 
 ghost use Rattle.std.specs.Prelude.{◌≤◌, ◌<◌, ℕ, List, length, map, option_map, IfOk};
 ghost use Rattle.occam_parser.specs.Terminals.{terminals_of};
+ghost use Rattle.occam_parser.specs.OneOrMore.{one_or_more_of};
 ghost use Rattle.occam_parser.specs.Views.{expression_of};
 ghost use Rattle.occam_parser.specs.LineViews.{spelling_of, value_of, constant_of, declaration_of, formal_of};
 ghost use Rattle.occam_parser.specs.LineViews.{proc_head_of};
@@ -13,13 +14,13 @@ ghost use Rattle.occam_parser.specs.Told.{shaped_name_at, shaped_names_at};
 
 use crate::expression::{expect, in_brackets, up_to};
 use crate::fault::{Fault, LineError};
+use crate::front::{Read, behind, first};
 use crate::head::{at_end, beside, name};
 use crate::list::{FromTokens, in_parentheses, list};
-use crate::symbol::{Mark, Read, Symbol, behind, first};
 use crate::tree::{
-    Constant, ConstantValue, Declaration, Expr, Formal, FormalKind, Names, ValueType,
+    Constant, ConstantValue, Declaration, Expr, Formal, FormalKind, Names, OneOrMore, ValueType,
 };
-use occam_layout::{Line, Token};
+use occam_layout::{Line, Mark, Token, TokenKind};
 use std::alloc::Global;
 
 /// The head of a procedure.
@@ -112,8 +113,8 @@ fn constant_value<'t, 'a>(
         return Ok((ConstantValue::Scalar(value), rest));
     };
     match first(tokens) {
-        Some((Symbol::Text(text), rest)) => Ok((ConstantValue::Text { size, text }, rest)),
-        Some((Symbol::Mark(Mark::OpenBracket), rest)) => {
+        Some((TokenKind::Text(text), rest)) => Ok((ConstantValue::Text { size, text }, rest)),
+        Some((TokenKind::Mark(Mark::OpenBracket), rest)) => {
             let items = up_to(Mark::CloseBracket, list(alloc, rest));
             let (size, (items, rest)) = beside(size, items)?;
             Ok((ConstantValue::Table { size, items }, rest))
@@ -147,8 +148,8 @@ pub(crate) fn typed_names<'a>(alloc: Global, line: &Line<'a>) -> Result<Declarat
 fn shaped_names<'a>(
     alloc: Global,
     tokens: &[Token<'a>],
-) -> Result<((bool, ValueType), Vec<&'a [u8]>), LineError>
-    ensures { Gives (λ x. (x.0, map spelling_of x.1.items)) result (shaped_names_at (terminals_of tokens.now)) }
+) -> Result<((bool, ValueType), OneOrMore<&'a [u8]>), LineError>
+    ensures { Gives (λ x. (x.0, one_or_more_of spelling_of x.1)) result (shaped_names_at (terminals_of tokens.now)) }
 {
     let (shape, rest) = shape(tokens)?;
     let names = at_end(up_to(Mark::Colon, list(alloc, rest)))?;

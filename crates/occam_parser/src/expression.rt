@@ -4,20 +4,18 @@ ghost use Rattle.std.specs.Prelude.{◌≡◌, ◌≤◌, ◌<◌, length, optio
 ghost use Rattle.occam_parser.specs.Terminals.{terminals_of};
 ghost use Rattle.occam_parser.specs.Expressions.{Expression};
 ghost use Rattle.occam_parser.specs.Views.{expression_of, term_of};
-ghost use Rattle.occam_parser.specs.Reading.{Gives, Finds, behind, behind_operator, prefix_at, begins_with_operator};
+ghost use Rattle.occam_parser.specs.Reading.{Gives, Finds, behind, prefix_at, operator_at};
 ghost use Rattle.occam_parser.specs.Reading.{expression_at, one_operator, chain, term_at, marked, named, converted};
 ghost use Rattle.occam_parser.specs.Reading.{up_to, inner_at, operand_within};
 ghost use Rattle.occam_parser.specs.LineReading.{bracketed_at};
 ghost use Rattle.occam_parser.specs.Told.{GoesUpTo, IsMadeOf};
 
 use crate::fault::{Fault, LineError};
+use crate::front::{Operator, Read, behind, first, operator_of};
 use crate::head::beside;
 use crate::list::FromTokens;
-use crate::symbol::{Mark, Read, Symbol, behind, first};
-use crate::tree::{
-    ChainOperator, Expr, Operand, Operation, PairOperator, PrefixOperator, ValueType,
-};
-use occam_layout::Token;
+use crate::tree::{ChainOperator, Expr, Operand, Operation, PrefixOperator, ValueType};
+use occam_layout::{Mark, Token, TokenKind};
 use std::alloc::Global;
 
 /// How many brackets, subscripts and conversions may stand one in another within an expression.
@@ -47,34 +45,23 @@ fn prefix<'t, 'a>(tokens: &'t [Token<'a>]) -> Option<(PrefixOperator, &'t [Token
     ensures within { IfSome result (λ x. length x.1.now < length tokens.now) }
 {
     match first(tokens)? {
-        (Symbol::Mark(Mark::BitNot), rest) => Some((PrefixOperator::BitNot, rest)),
-        (Symbol::Mark(Mark::Not), rest) => Some((PrefixOperator::Not, rest)),
-        (Symbol::Pair(PairOperator::Subtract), rest) => Some((PrefixOperator::Negate, rest)),
+        (TokenKind::Mark(Mark::BitNot), rest) => Some((PrefixOperator::BitNot, rest)),
+        (TokenKind::Mark(Mark::Not), rest) => Some((PrefixOperator::Not, rest)),
+        (TokenKind::Mark(Mark::Subtract), rest) => Some((PrefixOperator::Negate, rest)),
         _ => None,
     }
 }
 
-/// The tokens behind this operator, where they begin with it.
-#[tactic(auto, unfolding(crate::specs::Reading::behind_operator))]
-fn behind_operator<'t, 'a>(
-    operator: ChainOperator,
-    tokens: &'t [Token<'a>],
-) -> Option<&'t [Token<'a>]>
-    ensures found { option_map (λ rest. terminals_of rest.now) result ≡ behind_operator operator (terminals_of tokens.now) }
-    ensures within { IfSome result (λ rest. length rest.now < length tokens.now) }
+/// The operator between operands that comes first, its mark, and the tokens behind it.
+#[tactic(auto, unfolding(crate::specs::Reading::operator_at))]
+fn operator_at<'t, 'a>(tokens: &'t [Token<'a>]) -> Option<((Operator, Mark), &'t [Token<'a>])>
+    ensures found { option_map (λ x. (x.0, terminals_of x.1.now)) result ≡ operator_at (terminals_of tokens.now) }
+    ensures within { IfSome result (λ x. length x.1.now < length tokens.now) }
 {
     match first(tokens)? {
-        (Symbol::Chain(found), rest) if found == operator => Some(rest),
+        (TokenKind::Mark(mark), rest) => Some(((operator_of(mark)?, mark), rest)),
         _ => None,
     }
-}
-
-/// Whether an operator that stands between operands comes first.
-#[tactic(auto, unfolding(crate::specs::Reading::begins_with_operator))]
-fn begins_with_operator(tokens: &[Token<'_>]) -> bool
-    ensures { result ≡ begins_with_operator (terminals_of tokens.now) }
-{
-    matches!(first(tokens), Some((Symbol::Pair(_) | Symbol::Chain(_), _)))
 }
 
 /// An expression, and the tokens behind it.
@@ -98,7 +85,7 @@ fn nested<'t, 'a>(alloc: Global, levels: u32, tokens: &'t [Token<'a>]) -> Read<'
     ensures within { IfOk result (λ x. length x.1.now ≤ length tokens.now) }
 {
     let (found, rest) = one_operator(alloc, levels, tokens)?;
-    if begins_with_operator(rest) {
+    if operator_at(rest).is_some() {
         return Err(LineError::Fault(Fault::Mixture));
     }
     Ok((found, rest))
@@ -132,8 +119,8 @@ fn one_operator<'t, 'a>(
         return made_of(alloc, Operation::Prefix { operator, operand }, rest);
     }
     let (left, rest) = operand(alloc, levels, tokens)?;
-    match first(rest) {
-        Some((Symbol::Pair(operator), after)) => {
+    match operator_at(rest) {
+        Some(((Operator::Pair(operator), _), after)) => {
             let (left, (right, rest)) = beside(left, operand(alloc, levels, after))?;
             made_of(
                 alloc,
@@ -145,28 +132,30 @@ fn one_operator<'t, 'a>(
                 rest,
             )
         }
-        Some((Symbol::Chain(operator), after)) => chain(alloc, levels, operator, left, after),
-        _ => made_of(alloc, Operation::Operand(left), rest),
+        Some(((Operator::Chain(operator), mark), after)) => {
+            chain(alloc, levels, operator, mark, left, after)
+        }
+        None => made_of(alloc, Operation::Operand(left), rest),
     }
 }
 
-/// A chain, of which the first operand and the operator behind it were read.
+/// A chain, of which the first operand and the operator behind it were read, whose mark this is.
 #[cycle(expression)]
 #[tactic(auto, unfolding(crate::specs::Reading::chain))]
 fn chain<'t, 'a>(
     alloc: Global,
     levels: u32,
     operator: ChainOperator,
+    mark: Mark,
     first: Operand<'a>,
     tokens: &'t [Token<'a>],
 ) -> Read<'t, 'a, Expr<'a>>
-    ensures found { Gives (λ x. (expression_of x.0, terminals_of x.1.now)) result (chain (term_at levels) operator (term_of first.entry) (terminals_of tokens.now)) }
+    ensures found { Gives (λ x. (expression_of x.0, terminals_of x.1.now)) result (chain (term_at levels) operator mark (term_of first.entry) (terminals_of tokens.now)) }
     ensures within { IfOk result (λ x. length x.1.now ≤ length tokens.now) }
 {
     let (second, mut rest) = operand(alloc, levels, tokens)?;
     let mut others = Vec::new(alloc);
-    others.push(second)?;
-    while let Some(after) = behind_operator(operator, rest) {
+    while let Some(after) = behind(mark, rest) {
         let (other, behind) = operand(alloc, levels, after)?;
         others.push(other)?;
         rest = behind;
@@ -174,6 +163,7 @@ fn chain<'t, 'a>(
     let operation = Operation::Chain {
         operator,
         first,
+        second,
         others,
     };
     made_of(alloc, operation, rest)
@@ -187,11 +177,10 @@ fn operand<'t, 'a>(alloc: Global, levels: u32, tokens: &'t [Token<'a>]) -> Read<
     ensures within { IfOk result (λ x. length x.1.now ≤ length tokens.now) }
 {
     match first(tokens) {
-        Some((Symbol::Integer(value), rest)) => Ok((Operand::Integer(value), rest)),
-        Some((Symbol::Character(byte), rest)) => Ok((Operand::Character(byte), rest)),
-        Some((Symbol::Name(name), rest)) => named(alloc, levels, name, rest),
-        Some((Symbol::Mark(mark), rest)) => marked(alloc, levels, mark, rest),
-        Some((Symbol::Pair(PairOperator::Subtract), _)) => Err(LineError::Fault(Fault::Mixture)),
+        Some((TokenKind::Integer(value), rest)) => Ok((Operand::Integer(value), rest)),
+        Some((TokenKind::Character(byte), rest)) => Ok((Operand::Character(byte), rest)),
+        Some((TokenKind::Name(name), rest)) => named(alloc, levels, name, rest),
+        Some((TokenKind::Mark(mark), rest)) => marked(alloc, levels, mark, rest),
         _ => Err(LineError::Fault(Fault::UnexpectedToken)),
     }
 }
@@ -219,7 +208,7 @@ fn marked<'t, 'a>(
             let (inner, rest) = deeper(alloc, levels, Mark::CloseParenthesis, tokens)?;
             Ok((Operand::Bracketed(inner), rest))
         }
-        Mark::BitNot | Mark::Not => Err(LineError::Fault(Fault::Mixture)),
+        Mark::Subtract | Mark::BitNot | Mark::Not => Err(LineError::Fault(Fault::Mixture)),
         _ => Err(LineError::Fault(Fault::UnexpectedToken)),
     }
 }

@@ -14,12 +14,12 @@ ghost use Rattle.occam_parser.specs.LineReading.{whole_at, whole_place, has_cond
 ghost use Rattle.occam_parser.specs.LineReading.{guard_at, conditioned_at, received_if, input_at};
 
 use crate::declaration::{constant, typed_names};
-use crate::expression::{in_brackets, up_to};
+use crate::expression::{expect, in_brackets, up_to};
 use crate::fault::{Fault, LineError};
+use crate::front::{Read, behind, first};
 use crate::list::{FromTokens, in_parentheses};
-use crate::symbol::{Mark, Read, Symbol, behind, first};
-use crate::tree::{Action, Declaration, Expr, Guard, PairOperator, Place, Replicator};
-use occam_layout::{Line, Token};
+use crate::tree::{Action, Declaration, Expr, Guard, Place, Replicator};
+use occam_layout::{Line, Mark, Token, TokenKind};
 use std::alloc::Global;
 
 /// What a line of a process is.
@@ -95,7 +95,7 @@ pub(crate) fn name<'t, 'a>(tokens: &'t [Token<'a>]) -> Result<(&'a [u8], &'t [To
     ensures within { IfOk result (λ x. length x.1.now < length tokens.now) }
 {
     match first(tokens) {
-        Some((Symbol::Name(name), rest)) => Ok((name, rest)),
+        Some((TokenKind::Name(name), rest)) => Ok((name, rest)),
         _ => Err(Fault::UnexpectedToken),
     }
 }
@@ -106,10 +106,10 @@ pub(crate) fn head_of<'a>(alloc: Global, line: &Line<'a>) -> Result<Head<'a>, Li
     ensures { Gives head_of result (head_at line.now.number (terminals_of line.now.tokens.items)) }
 {
     match first(&line.tokens) {
-        Some((Symbol::Name(name), rest)) => {
+        Some((TokenKind::Name(name), rest)) => {
             Ok(Head::Start(Start::Action(named_action(alloc, name, rest)?)))
         }
-        Some((Symbol::Mark(mark), rest)) => marked_head(alloc, line, mark, rest),
+        Some((TokenKind::Mark(mark), rest)) => marked_head(alloc, line, mark, rest),
         _ => Err(LineError::Fault(Fault::UnexpectedToken)),
     }
 }
@@ -158,7 +158,7 @@ fn block<'a>(alloc: Global, kind: BlockKind, tokens: &[Token<'a>]) -> Result<Hea
 }
 
 /// The replicator up to the end of the line, if anything stands there.
-#[tactic(auto, unfolding(crate::specs::LineReading::replicator_at, crate::specs::LineReading::equals_at))]
+#[tactic(auto, unfolding(crate::specs::LineReading::replicator_at))]
 fn replicator<'a>(alloc: Global, tokens: &[Token<'a>]) -> Result<Option<Replicator<'a>>, LineError>
     ensures { Gives (option_map replicator_of) result (replicator_at (terminals_of tokens.now)) }
 {
@@ -166,9 +166,7 @@ fn replicator<'a>(alloc: Global, tokens: &[Token<'a>]) -> Result<Option<Replicat
         return Ok(None);
     }
     let (name, rest) = name(tokens)?;
-    let Some((Symbol::Pair(PairOperator::Equal), rest)) = first(rest) else {
-        return Err(LineError::Fault(Fault::UnexpectedToken));
-    };
+    let rest = expect(Mark::Equal, rest)?;
     Ok(Some(counted(alloc, name, rest)?))
 }
 
@@ -225,15 +223,15 @@ fn placed_action<'a>(
     ensures { Gives action_of result (placed_action (place_of place.entry) (terminals_of tokens.now)) }
 {
     match first(tokens) {
-        Some((Symbol::Mark(Mark::Assign), rest)) => {
+        Some((TokenKind::Mark(Mark::Assign), rest)) => {
             let (target, value) = beside(place, Expr::from_line(alloc, rest))?;
             Ok(Action::Assign { target, value })
         }
-        Some((Symbol::Mark(Mark::Input), rest)) => {
+        Some((TokenKind::Mark(Mark::Input), rest)) => {
             let (channel, target) = beside(place, Place::from_line(alloc, rest))?;
             Ok(Action::Input { channel, target })
         }
-        Some((Symbol::Mark(Mark::Output), rest)) => {
+        Some((TokenKind::Mark(Mark::Output), rest)) => {
             let (channel, value) = beside(place, Expr::from_line(alloc, rest))?;
             Ok(Action::Output { channel, value })
         }
@@ -276,8 +274,8 @@ fn has_condition(tokens: &[Token<'_>]) -> bool
     ensures { result ≡ has_condition (terminals_of tokens.now) }
 {
     let mut next = first(tokens);
-    while let Some((symbol, rest)) = next {
-        if matches!(symbol, Symbol::Mark(Mark::Guard)) {
+    while let Some((token, rest)) = next {
+        if matches!(token, TokenKind::Mark(Mark::Guard)) {
             return true;
         }
         next = first(rest);

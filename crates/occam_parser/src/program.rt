@@ -5,14 +5,16 @@ ghost use Rattle.occam_parser.specs.Told.{Tells, Answers, IsRefusal, as_item};
 ghost use Rattle.occam_parser.specs.Terminals.{terminals_of};
 ghost use Rattle.occam_parser.specs.Blocks.{Row, ProgramItem, row_of, rows_of, IsProgram};
 ghost use Rattle.occam_parser.specs.BlockReading.{behind_colon, procedure_at, item_at, program_at};
-ghost use Rattle.occam_parser.specs.BlockViews.{item_of, items_of};
+ghost use Rattle.occam_parser.specs.BlockViews.{item_of};
+ghost use Rattle.occam_parser.specs.Programs.{items_of};
 
 use crate::block::{MAX_LEVEL, process, push};
 use crate::declaration::{constant, proc_head};
 use crate::fault::{Fault, ParseFault, Refusal, at_line};
-use crate::symbol::{Mark, Symbol, behind, first};
-use crate::tree::{Item, Proc, Program};
-use occam_layout::{Line, Token};
+use crate::front::{behind, first};
+use crate::parsed::Program;
+use crate::tree::{Item, Proc};
+use occam_layout::{Line, Mark, Token, TokenKind};
 use std::alloc::Global;
 
 /// The lines behind the colon that ends a procedure.
@@ -81,11 +83,11 @@ fn item<'l, 'a>(
         return Err(Fault::UnexpectedToken.at(left));
     }
     match first(&line.tokens) {
-        Some((Symbol::Mark(Mark::Val), rest)) => {
+        Some((TokenKind::Mark(Mark::Val), rest)) => {
             let constant = at_line(constant(alloc, line.number, rest), left)?;
             Ok((Item::Constant(constant), lines))
         }
-        Some((Symbol::Mark(Mark::Proc), rest)) => proc(alloc, line.number, rest, lines),
+        Some((TokenKind::Mark(Mark::Proc), rest)) => proc(alloc, line.number, rest, lines),
         _ => Err(Fault::UnexpectedToken.at(left)),
     }
 }
@@ -124,7 +126,7 @@ pub fn parse<'a>(alloc: Global, lines: &[Line<'a>]) -> Result<Program<'a>, Parse
     ensures unique { (rows : List Row) (items others : List ProgramItem) → IsProgram rows items → IsProgram rows others → items ≡ others }
 {
     match items(alloc, lines) {
-        Ok(items) => Ok(Program { items }),
+        Ok(items) => Ok(Program::new(items)),
         Err(refusal) => Err(refusal.told(lines)),
     }
 }

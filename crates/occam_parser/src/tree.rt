@@ -1,18 +1,36 @@
 //! The tree of a program.
 
 use occam_layout::Text;
-
-/// A program: constants and procedures in their order.
-#[derive(Drop)]
-pub struct Program<'a> {
-    pub items: Vec<Item<'a>>,
-}
+use word_arithmetic::Comparison;
 
 /// What stands at the outermost level of a program.
 #[derive(Drop)]
 pub enum Item<'a> {
     Constant(Constant<'a>),
     Proc(Proc<'a>),
+}
+
+impl Item<'_> {
+    ghost use Rattle.std.specs.Prelude.{◌≡◌};
+    ghost use Rattle.occam_parser.specs.Blocks.{item_line};
+    ghost use Rattle.occam_parser.specs.BlockViews.{item_of};
+
+    /// The number of the line that the item begins with.
+    pub fn line(&self) -> u32
+        ensures { result ≡ item_line (item_of self.now) }
+    {
+        match self {
+            Item::Constant(constant) => constant.line,
+            Item::Proc(proc) => proc.line,
+        }
+    }
+}
+
+/// What has one item at least.
+#[derive(Drop)]
+pub struct OneOrMore<T> {
+    pub first: T,
+    pub others: Vec<T>,
 }
 
 /// The type of a value.
@@ -39,10 +57,10 @@ pub struct Constant<'a> {
 #[derive(Drop)]
 pub enum ConstantValue<'a> {
     Scalar(Expr<'a>),
-    /// `VAL [size]INT name IS [item, item]:`, with one item at least.
+    /// `VAL [size]INT name IS [item, item]:`
     Table {
         size: Expr<'a>,
-        items: Vec<Expr<'a>>,
+        items: OneOrMore<Expr<'a>>,
     },
     /// `VAL [size]BYTE name IS "text":`
     Text {
@@ -101,7 +119,7 @@ pub enum Declaration<'a> {
     Channels(Names<'a>),
 }
 
-/// Names that one line declares, one at least.
+/// Names that one line declares.
 #[derive(Drop)]
 pub struct Names<'a> {
     /// The number of the line.
@@ -109,7 +127,7 @@ pub struct Names<'a> {
     /// How many elements each array has; none for single ones.
     pub size: Option<Expr<'a>>,
     pub value_type: ValueType,
-    pub names: Vec<&'a [u8]>,
+    pub names: OneOrMore<&'a [u8]>,
 }
 
 /// What a process does.
@@ -236,10 +254,11 @@ pub enum Operation<'a> {
         left: Operand<'a>,
         right: Operand<'a>,
     },
-    /// Operands with the same operator between them, read from the left: `first`, and one other at least.
+    /// Operands with the same operator between them, read from the left.
     Chain {
         operator: ChainOperator,
         first: Operand<'a>,
+        second: Operand<'a>,
         others: Vec<Operand<'a>>,
     },
 }
@@ -285,6 +304,14 @@ pub enum PrefixOperator {
 /// An operator between exactly two operands.
 #[derive(Clone, Copy)]
 pub enum PairOperator {
+    Arithmetic(ArithmeticPair),
+    /// `=`, `<>`, `<`, `>`, `<=` or `>=`
+    Comparison(Comparison),
+}
+
+/// An operator between two numbers that gives a number.
+#[derive(Clone, Copy)]
+pub enum ArithmeticPair {
     /// `-`
     Subtract,
     /// `/`
@@ -297,23 +324,18 @@ pub enum PairOperator {
     ShiftLeft,
     /// `>>`
     ShiftRight,
-    /// `=`
-    Equal,
-    /// `<>`
-    NotEqual,
-    /// `<`
-    Less,
-    /// `>`
-    Greater,
-    /// `<=`
-    LessOrEqual,
-    /// `>=`
-    GreaterOrEqual,
 }
 
 /// An associative operator, which may stand between more than two operands.
-#[derive(Clone, Copy, PartialEq, Eq)]
+#[derive(Clone, Copy)]
 pub enum ChainOperator {
+    Arithmetic(ArithmeticChain),
+    Logic(Logic),
+}
+
+/// An associative operator between numbers.
+#[derive(Clone, Copy)]
+pub enum ArithmeticChain {
     /// `+`
     Add,
     /// `*`
@@ -322,14 +344,19 @@ pub enum ChainOperator {
     Plus,
     /// `TIMES`
     Times,
-    /// `AND`
-    And,
-    /// `OR`
-    Or,
     /// `/\`
     BitAnd,
     /// `\/`
     BitOr,
     /// `><`
     BitXor,
+}
+
+/// An operator between conditions.
+#[derive(Clone, Copy)]
+pub enum Logic {
+    /// `AND`
+    And,
+    /// `OR`
+    Or,
 }

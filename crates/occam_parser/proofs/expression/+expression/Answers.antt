@@ -1,15 +1,15 @@
-use Rattle.std.proofs.Common.{◌≡◌, ◌++◌, ◌-◌, ◌∷◌, [], map, sym, refl, ap, subst}
+use Rattle.std.proofs.Common.{◌≡◌, ◌-◌, map, sym, refl, ap, subst}
 use Rattle.std.proofs.Common.{arith, ◌∙◌}
 use Rattle.std.proofs.lemmas.Result.{err_from_is_err_and}
 use Rattle.occam_parser.specs.Terminals.{terminals_of}
-use Rattle.occam_parser.specs.Expressions.{First}
+use Rattle.occam_parser.specs.Expressions.{Two}
 use Rattle.occam_parser.specs.Views.{expression_of, term_of, with_others}
 use Rattle.occam_parser.specs.Reading.{up_to, term_at, operand_within, expression_at}
 use Rattle.occam_parser.proofs.Levels.{inner_below, inner_none, operand_below, fails_on, up_to_none, converted_fails}
 use Rattle.occam_parser.proofs.Levels.{converted_found}
 use Rattle.occam_parser.proofs.Carried.{seen_up_to, made_gives}
 use Rattle.occam_parser.proofs.Lists.{Chains, chain_begins, chain_goes_on, chain_fails, chain_ends}
-use Rattle.occam_parser.proofs.Seen.{no_more, operands_push, view-Chain, view-Converted}
+use Rattle.occam_parser.proofs.Seen.{no_more, chain_pushed, view-Chain, view-Converted}
 use Rattle.occam_parser.proofs.expression.+expression.Goals as goal
 
 pub chain-loop-after-init : goal.chain-loop-after-init
@@ -17,16 +17,10 @@ chain-loop-after-init t c = record {
   within = c.in_ok-second.ensures.within;
   same = refl;
   reads =
-      let p = term_at c.args.levels in
-      let first = term_of c.args.first in
-      let begun = chain_begins p c.args.operator first (terminals_of c.args.tokens.now)
-      (terminals_of c.in_ok-second.rest.now) (term_of c.in_ok-second.second) c.in_ok-second.ensures.found
-      (no_more c.in_ok-second.rest.now c.args.tokens.now c.in_ok-second.ensures.within) in
-      let pushed : c.push.new.self.items ≡ [] ++ c.in_ok-second.second ∷ [] =
-      rw (c.in_ok-push.ensures.items, c.new-others.ensures.items) in
-      subst (λ terms. Chains p c.args.operator first (terminals_of c.args.tokens.now) terms
-      (terminals_of c.in_ok-second.rest.now))
-      (sym (operands_push (First first) [] c.push.new.self.items c.in_ok-second.second pushed)) begun;
+      let begun = chain_begins (term_at c.args.levels) c.args.operator c.args.mark (term_of c.args.first)
+      (terminals_of c.args.tokens.now) (terminals_of c.in_ok-second.rest.now) (term_of c.in_ok-second.second)
+      c.in_ok-second.ensures.found (no_more c.in_ok-second.rest.now c.args.tokens.now c.in_ok-second.ensures.within) in
+      rw c.new-others.ensures.items begun;
 }
 
 pub chain-returns-in_err-other-clause-found : goal.chain-returns-in_err-other-clause-found
@@ -34,41 +28,31 @@ chain-returns-in_err-other-clause-found t c =
     let p = err_from_is_err_and c.from_residual-in_err-other.result c.from_residual-in_err-other.ensures.1 in
     rw (p.1, p.2)
     (fails_on _ _ _
-    (λ none. chain_fails (term_at c.args.levels) c.args.operator (term_of c.args.first)
+    (λ none. chain_fails (term_at c.args.levels) c.args.operator c.args.mark (term_of c.args.first)
     (terminals_of c.args.tokens.now) (terminals_of c.loop-after.rest.now) (terminals_of c.in-Some.after.now) _
-    (sym c.in-Some.ensures.found) none c.loop-after.invariant.reads)
+    (sym c.in-Some.ensures.behind) none c.loop-after.invariant.reads)
     c.in_err-other.ensures.found)
 
 pub chain-loop-after-preserved : goal.chain-loop-after-preserved
 chain-loop-after-preserved t c = record {
-  within = omega (arith, c.in_ok-other.ensures.within, c.in-Some.ensures.within);
+  within = omega (arith, c.in_ok-other.ensures.within, c.in-Some.ensures.shorter);
   same = c.loop-after.invariant.same;
   reads =
-      let p = term_at c.args.levels in
-      let first = term_of c.args.first in
-      let going =
-      chain_goes_on p c.args.operator first (terminals_of c.args.tokens.now) (terminals_of c.loop-after.rest.now)
-      (terminals_of c.in-Some.after.now) (terminals_of c.in_ok-other.behind.now)
-      (with_others (First first) (map term_of c.loop-after.others.items)) (term_of c.in_ok-other.other)
-      (sym c.in-Some.ensures.found)
-      c.in_ok-other.ensures.found
+      chain_pushed (term_at c.args.levels) c.args.operator c.args.mark (term_of c.args.first)
+      (terminals_of c.args.tokens.now) (terminals_of c.loop-after.rest.now) (terminals_of c.in-Some.after.now)
+      (terminals_of c.in_ok-other.behind.now) _ c.loop-after.others.items c.push.new.self.items c.in_ok-other.other
+      c.in_ok-push.ensures.items (sym c.in-Some.ensures.behind) c.in_ok-other.ensures.found
       (no_more c.in_ok-other.behind.now c.in-Some.after.now c.in_ok-other.ensures.within)
-      c.loop-after.invariant.reads
-      in
-      subst (λ terms. Chains p c.args.operator first (terminals_of c.args.tokens.now) terms
-      (terminals_of c.in_ok-other.behind.now))
-      (sym (operands_push (First first) c.loop-after.others.items c.push-in-Some.new.self.items
-      c.in_ok-other.other c.in_ok-push-2.ensures.items)) going;
+      c.loop-after.invariant.reads;
 }
 
 pub chain-returns-clause-found : goal.chain-returns-clause-found
 chain-returns-clause-found t c =
-    let first = term_of c.args.first in
-    let done = chain_ends (term_at c.args.levels) c.args.operator first (terminals_of c.args.tokens.now)
-    (terminals_of c.loop-after.rest.now) (with_others (First first) (map term_of c.loop-after.others.items))
-    (sym c.in_default.ensures.found) c.loop-after.invariant.reads in
+    let done = chain_ends (term_at c.args.levels) c.args.operator c.args.mark (term_of c.args.first)
+    (terminals_of c.args.tokens.now) (terminals_of c.loop-after.rest.now) _
+    (sym c.in_default.ensures.behind) c.loop-after.invariant.reads in
     made_gives _ _ c.loop-after.rest c.made_of.result _
-    (view-Chain _ _ _) c.made_of.ensures
+    (view-Chain _ _ _ _) c.made_of.ensures
     (rw c.loop-after.invariant.same done)
 
 pub deeper-returns-clause-found : goal.deeper-returns-clause-found

@@ -1,6 +1,6 @@
 use Rattle.std.proofs.Common.{◌≡◌, ◌+◌, ◌*◌, ◌≤◌, length, map}
 use Rattle.occam_parser.specs.Terminals.{terminals_of}
-use Rattle.occam_parser.specs.Expressions.{First}
+use Rattle.occam_parser.specs.Expressions.{Two}
 use Rattle.occam_parser.specs.Views.{term_of, with_others}
 use Rattle.occam_parser.specs.Reading.{term_at}
 use Rattle.occam_parser.proofs.Lists.{Chains}
@@ -34,8 +34,8 @@ abbrev pub invariant-chain-loop-after : goal.invariant-chain-loop-after
 invariant-chain-loop-after l = record {
   within : length l.rest ≤ length l.tokens;
   same : l.first ≡ l.fn.first;
-  reads : Chains (term_at l.levels) l.operator (term_of l.fn.first) (terminals_of l.tokens)
-      (with_others (First (term_of l.fn.first)) (map term_of l.others.items)) (terminals_of l.rest);
+  reads : Chains (term_at l.levels) l.operator l.mark (term_of l.fn.first) (terminals_of l.tokens)
+      (with_others (Two (term_of l.fn.first) (term_of l.second)) (map term_of l.others.items)) (terminals_of l.rest);
 }
 
 abbrev pub decreases-chain-loop-after : goal.decreases-chain-loop-after

@@ -20,7 +20,7 @@ loop-after-init g c = record {
       let begun = list_begins g.T.FromTokens.reads (terminals_of c.args.tokens.now)
       (terminals_of c.in_ok-first.rest.now) (g.T.FromTokens.tree c.in_ok-first.first) c.in_ok-first.ensures.found
       (no_more c.in_ok-first.rest.now c.args.tokens.now c.in_ok-first.ensures.within) in
-      rw (c.in_ok-push.ensures.items, c.new-found.ensures.items) begun;
+      rw c.new-others.ensures.items begun;
 }
 
 pub returns-in_err-next-clause-found : goal.returns-in_err-next-clause-found
@@ -29,7 +29,7 @@ returns-in_err-next-clause-found g c =
     rw (p.1, p.2)
     (fails_on _ _ _
     (λ none. list_fails g.T.FromTokens.reads (terminals_of c.args.tokens.now) (terminals_of c.loop-after.rest.now)
-    (terminals_of c.in-Some.after.now) _ (sym c.in-Some.ensures.behind) none c.loop-after.invariant.reads)
+    (terminals_of c.in-Some.after.now) _ _ (sym c.in-Some.ensures.behind) none c.loop-after.invariant.reads)
     c.in_err-next.ensures.found)
 
 pub loop-after-preserved : goal.loop-after-preserved
@@ -39,16 +39,17 @@ loop-after-preserved g c = record {
       let going =
       list_goes_on g.T.FromTokens.reads (terminals_of c.args.tokens.now) (terminals_of c.loop-after.rest.now)
       (terminals_of c.in-Some.after.now) (terminals_of c.in_ok-next.behind.now)
-      (map g.T.FromTokens.tree c.loop-after.found.items) (g.T.FromTokens.tree c.in_ok-next.next)
+      (g.T.FromTokens.tree c.in_ok-first.first)
+      (map g.T.FromTokens.tree c.loop-after.others.items) (g.T.FromTokens.tree c.in_ok-next.next)
       (sym c.in-Some.ensures.behind)
       c.in_ok-next.ensures.found
       (no_more c.in_ok-next.behind.now c.in-Some.after.now c.in_ok-next.ensures.within)
       c.loop-after.invariant.reads
       in
-      rw (c.in_ok-push-2.ensures.items, map_push g.T.FromTokens.tree c.loop-after.found.items c.in_ok-next.next) going;
+      rw (c.in_ok-push.ensures.items, map_push g.T.FromTokens.tree c.loop-after.others.items c.in_ok-next.next) going;
 }
 
 pub returns-clause-found : goal.returns-clause-found
 returns-clause-found g c =
-    list_ends g.T.FromTokens.reads (terminals_of c.args.tokens.now) (terminals_of c.loop-after.rest.now) _
+    list_ends g.T.FromTokens.reads (terminals_of c.args.tokens.now) (terminals_of c.loop-after.rest.now) _ _
     (sym c.in_default.ensures.behind) c.loop-after.invariant.reads

@@ -6,7 +6,8 @@ use Rattle.occam_parser.proofs.list.list.Given as goal
 abbrev pub invariant-loop-after : goal.invariant-loop-after
 invariant-loop-after g l = record {
   within : length l.rest ≤ length l.tokens;
-  reads : Continues g.T.FromTokens.reads (terminals_of l.tokens) (map g.T.FromTokens.tree l.found.items)
+  reads : Continues g.T.FromTokens.reads (terminals_of l.tokens) (g.T.FromTokens.tree l.first)
+      (map g.T.FromTokens.tree l.others.items)
       (terminals_of l.rest);
 }
 

@@ -1,16 +1,21 @@
 use Rattle.std.proofs.Common.{◌∙◌, sym}
 use Rattle.occam_parser.specs.Blocks.{rows_of}
 use Rattle.occam_parser.proofs.Programs.{program_sound, program_again, one_program, no_rows}
+use Rattle.occam_parser.proofs.LevelLaws.{program_levels}
 use Rattle.occam_parser.proofs.Answering.{told_of_program, refused_so}
 use Rattle.occam_parser.proofs.program.parse.Goals as goal
 
+pub new-requires : goal.new-requires
+new-requires c = program_levels (rows_of c.args.lines.now) _
+    (program_sound (rows_of c.args.lines.now) _ c.in-Ok.ensures)
+
 pub returns-in-Ok-clause-found : goal.returns-in-Ok-clause-found
-returns-in-Ok-clause-found c = program_sound (rows_of c.args.lines.now) _ c.in-Ok.ensures
+returns-in-Ok-clause-found c = rw c.new.ensures (program_sound (rows_of c.args.lines.now) _ c.in-Ok.ensures)
 
 pub returns-in-Ok-clause-only : goal.returns-in-Ok-clause-only
 returns-in-Ok-clause-only c items is =
     let same = sym c.in-Ok.ensures ∙ program_again (rows_of c.args.lines.now) items is in
-    cc
+    rw c.new.ensures (cc)
 
 pub returns-in-Ok-clause-unique : goal.returns-in-Ok-clause-unique
 returns-in-Ok-clause-unique c = one_program
