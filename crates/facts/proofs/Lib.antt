@@ -1,10 +1,14 @@
 pub mod LabelRows
 pub mod Steps
+pub mod Told
 pub mod Words
+pub mod Addresses
+pub mod Reaching
 pub mod Regions
 pub mod Results
 pub mod Entering
 pub mod Dues
 pub mod Combining
 pub mod WordsFit
+pub mod MemoryFits
 pub mod Local

@@ -17,7 +17,14 @@ fn op_has_rule(op: Op) -> bool
 {
     matches!(
         op,
-        Op::Reverse | Op::MinimumInteger | Op::StopProcess | Op::Binary(_) | Op::Unary(_)
+        Op::Reverse
+            | Op::MinimumInteger
+            | Op::StopProcess
+            | Op::Binary(_)
+            | Op::Unary(_)
+            | Op::ByteSubscript
+            | Op::WordSubscript
+            | Op::LoadPointerToInstruction
     )
 }
 
@@ -29,7 +36,8 @@ fn instruction_has_rule(instruction: Instruction) -> bool
         | Instruction::LoadLocal
         | Instruction::StoreLocal
         | Instruction::WithConstant(_)
-        | Instruction::Jump => true,
+        | Instruction::Jump
+        | Instruction::LoadNonLocalPointer => true,
         Instruction::Operate(op) => op_has_rule(op),
         _ => false,
     }
@@ -72,6 +80,7 @@ pub fn advance(
         Instruction::StoreLocal => place.store_local(state, instr.operand),
         Instruction::WithConstant(op) => place.with_constant(state, op, instr.operand),
         Instruction::Jump => place.jump(state, instr.operand),
+        Instruction::LoadNonLocalPointer => place.load_non_local_pointer(state, instr.operand),
         Instruction::Operate(op) => place.operate(state, op),
         _ => Err(Rule::Spelling),
     }

@@ -6,7 +6,9 @@ mod combinators;
 mod continuation;
 mod following;
 mod laws;
+mod memory;
 mod place;
+mod pointers;
 
 pub use advancing::{advance, has_rule};
 pub use continuation::Continuation;

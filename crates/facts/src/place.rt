@@ -5,7 +5,7 @@ use crate::combinators::{
     uses,
 };
 use crate::continuation::Continuation;
-use certificate::{Fact, Module, Stack};
+use certificate::{Fact, Module, Stack, Step};
 use machine_state::Op;
 use states::{Known, Rule, State, cost_below};
 use word_arithmetic::{Binary as BinaryOperation, Unary as UnaryOperation};
@@ -93,7 +93,7 @@ impl Place<'_, '_> {
 
     /// Each byte is paid, and the process goes on after the instruction.
     #[tactic(auto, unfolding(crate::specs::Rulings::goes_on))]
-    fn goes_on(&self, state: &mut State) -> Result<Continuation, Rule>
+    pub(crate) fn goes_on(&self, state: &mut State) -> Result<Continuation, Rule>
         ensures ruling { Advances result (state_of state.new) (goes_on (site_of self.now) (state_of state.old)) }
         ensures belongs { (m : Contents) → BelongsTo m state.old → BelongsTo m state.new }
     {
@@ -296,6 +296,9 @@ impl Place<'_, '_> {
             Op::StopProcess => self.stop_process(state),
             Op::Binary(op) => self.binary(state, op),
             Op::Unary(op) => self.unary(state, op),
+            Op::ByteSubscript => self.subscript(state, Step::Byte),
+            Op::WordSubscript => self.subscript(state, Step::Word),
+            Op::LoadPointerToInstruction => self.load_pointer_to_instruction(state),
             _ => Err(Rule::Spelling),
         }
     }
