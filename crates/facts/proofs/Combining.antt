@@ -264,7 +264,8 @@ module _ (x : Here) where
     frame = same_frame (sym (length-with_word l.memory w.place v)) a.frame;
     knows = knows_changed (one_word (s.depth +ℤ e) f)
         (write_follows x.m x.h (words_of x.m s).reads x.act.layout (s.depth +ℤ e) l.memory f v w means) a.knows;
-    named = (write_keeps x.m x.h (scope_of x.m s.context x.act.layout) (s.depth +ℤ e) l.memory v t w).named a.named;
+    named = (write_keeps x.m x.h (scope_of x.m s.context x.act.layout) (s.depth +ℤ e) l.memory v t
+        (written_readable x.m s.context (s.depth +ℤ e) t) w).named a.named;
     same_mode = a.same_mode;
   }
 
@@ -284,7 +285,9 @@ module _ (x : Here) where
         own = changes_more x.h x.memory l.memory (with_word l.memory w.place v) changes.own
             (write_is_own x.h l.memory w.place v w.mine);
         keeps = keeps_more changes.keeps (write_keeps x.m x.h (scope_of x.m x.context x.act.layout) (s.depth +ℤ e)
-            l.memory v (ap (λ (n : ℕ). rights.may_write_word x.m n (s.depth +ℤ e)) (sym same) ∙ t) w);
+            l.memory v (ap (λ (n : ℕ). rights.may_write_word x.m n (s.depth +ℤ e)) (sym same) ∙ t)
+            (written_readable x.m x.context (s.depth +ℤ e)
+            (ap (λ (n : ℕ). rights.may_write_word x.m n (s.depth +ℤ e)) (sym same) ∙ t)) w);
       }))
 
   -- ---- scheduling, and what stands behind it

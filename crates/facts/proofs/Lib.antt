@@ -1,6 +1,9 @@
 pub mod LabelRows
 pub mod Steps
+pub mod Told
 pub mod Words
+pub mod Addresses
+pub mod Reaching
 pub mod Regions
 pub mod Results
 pub mod Entering
@@ -10,4 +13,5 @@ pub mod NarrowedWords
 pub mod Narrowed
 pub mod Combining
 pub mod WordsFit
+pub mod MemoryFits
 pub mod Local

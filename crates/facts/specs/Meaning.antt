@@ -10,7 +10,8 @@ use Rattle.module_format.specs.declared.fact.Fact.TheVariants.{ReturnAddress}
 use Rattle.module_format.specs.declared.fact.Step.{Step}
 use Rattle.module_format.specs.declared.fact.Step.TheVariants.{Byte, Word}
 use Rattle.module_format.specs.declared.rows.Entry.{Entry}
-use Rattle.module_format.specs.Order.{is_stepped}
+use Rattle.module_format.specs.Order.{IsBytes, InOrder, is_stepped}
+use Rattle.module_format.specs.Procedures.{TableKeeps, behind_table}
 use Rattle.module_format.specs.Contents.{Contents, Label, label_at}
 use Rattle.module_format.specs.Contexts.{context_at}
 use Rattle.module_format.specs.Stack.{AreRelated}
@@ -258,3 +259,5 @@ pub record IsWellFormed (m : Contents) : Type 0 where
   pub labels : (at : ℕ) (t : Label) → label_at m at ≡ Some t → at < length m.code
   pub rows : (at : ℕ) (t : Label) → label_at m at ≡ Some t → IsRowOf m t
   pub pairs : (at : ℕ) (t : Label) → label_at m at ≡ Some t → ArePairs t.entries
+  pub constant_bytes : IsBytes m.constants
+  pub tables : InOrder (TableKeeps m.constants) behind_table 0 m.table_rows

@@ -1,15 +1,17 @@
 -- What the parameters of an activation name, and what an activation may change.
-use Rattle.std.specs.Prelude.{◌≡◌, ◌⊎◌, ⊤, ℕ, ◌+◌, ◌*◌, ◌≤◌, ◌<◌, ℤ, pos, ◌+ℤ◌, ◌≤ℤ◌, ◌<ℤ◌, Bool, true, List, length}
-use Rattle.std.specs.Prelude.{slice_get, Some}
+use Rattle.std.specs.Prelude.{◌≡◌, ◌⊎◌, ⊤, ℕ, ◌+◌, ◌*◌, ◌≤◌, ◌<◌, ℤ, pos, ◌+ℤ◌, ◌≤ℤ◌, ◌<ℤ◌, Bool, true, IsTrue}
+use Rattle.std.specs.Prelude.{List, length, get_or, slice_get, Some}
 use Rattle.module_format.specs.declared.fact.Fact.TheVariants.{Number}
 use Rattle.module_format.specs.declared.rows.Parameter.{Parameter}
 use Rattle.module_format.specs.declared.rows.ParameterKind.{ParameterKind}
 use Rattle.module_format.specs.declared.rows.ParameterKind.TheVariants.{Value, ReadRegion, WrittenRegion, Channels}
 use Rattle.module_format.specs.declared.rows.Direction.{Direction}
+use Rattle.module_format.specs.Order.{is_multiple_of_four, is_stepped}
 use Rattle.module_format.specs.Contents.{Contents}
 use Rattle.module_format.specs.Contexts.{parameters_at}
 use Rattle.certificate.specs.Rights.{gives_element}
 use Rattle.machine_state.specs.Memory.{Memory, byte_at, word_at, place_of}
+use Rattle.machine_state.specs.World.{constants_start}
 use Rattle.machine_state.specs.Holding.{Holding, may_write, may_read, has_end}
 use Rattle.facts.specs.Meaning.{Layout, Words, words_in, Means, place_in}
 
@@ -31,12 +33,14 @@ scope_of m context layout =
 
 -- ---- what parameters name
 
--- So many bytes from a place on, each of which may be used so. No word of the frame that counts as written has one of
--- them, and each word is a number from lo to hi.
+-- So many bytes from a place on, both multiples of 4, each of which may be used so. No word of the frame that counts as
+-- read has one of them, and each word is a number from lo to hi.
 pub record IsRegion (m : Contents) (may_use : ℕ → Bool) (scope : Scope) (memory : Memory) (place size : ℕ)
     (lo hi : ℤ) : Type 0 where
+  pub aligned : IsTrue (is_multiple_of_four place)
+  pub whole : IsTrue (is_multiple_of_four size)
   pub held : (i : ℕ) → i < size → may_use (place + i) ≡ true
-  pub beside : (k : ℤ) (i : ℕ) → scope.words.writes k ≡ true → i < size
+  pub beside : (k : ℤ) (i : ℕ) → scope.words.reads k ≡ true → i < size
       → IsByteOf scope.layout.origin k (place + i) → ⊥
   pub numbers : (i : ℕ) → 4 * i + 4 ≤ size → Means m scope.layout (Number lo hi) (word_at memory (place + 4 * i))
 
@@ -54,11 +58,6 @@ IsNamed m h scope memory (WrittenRegion size lo hi) start =
     IsRegion m (may_write h) scope memory (place_of start) size lo hi
 IsNamed m h scope memory (Channels count len ends) start = HasEnds h (Channels count len ends) start
 
--- the process holds what each parameter of the scope names
-pub record HoldsNamed (m : Contents) (h : Holding) (scope : Scope) (memory : Memory) : Type 0 where
-  pub each : (j : ℕ) (p : Parameter) → slice_get scope.parameters j ≡ Some p
-      → IsNamed m h scope memory p.kind (scope.layout.starts j)
-
 -- ---- what an activation changes
 
 -- the byte at a place is one of a region that is written, which begins at this address
@@ -67,6 +66,37 @@ IsWrittenAt (Value lo hi) start place = ⊥
 IsWrittenAt (ReadRegion size lo hi) start place = ⊥
 IsWrittenAt (WrittenRegion size lo hi) start place = (place_of start ≤ place) × (place < place_of start + size)
 IsWrittenAt (Channels count len ends) start place = ⊥
+
+-- the byte at a place is one of a region, which begins at this address
+abbrev pub IsNamedAt : ParameterKind → ℕ → ℕ → Type 0
+IsNamedAt (Value lo hi) start place = ⊥
+IsNamedAt (ReadRegion size lo hi) start place = (place_of start ≤ place) × (place < place_of start + size)
+IsNamedAt (WrittenRegion size lo hi) start place = (place_of start ≤ place) × (place < place_of start + size)
+IsNamedAt (Channels count len ends) start place = ⊥
+
+-- ---- what an activation holds
+
+-- The process has the constants of the module: they may be read, and lie behind all that it may write.
+pub record HasConstants (m : Contents) (h : Holding) (memory : Memory) : Type 0 where
+  pub readable : (i : ℕ) → i < length m.constants → may_read h (constants_start m + i) ≡ true
+  pub bytes : (i : ℕ) → i < length m.constants → byte_at memory (constants_start m + i) ≡ Some (get_or m.constants i 0)
+  pub behind : (place : ℕ) → may_write h place ≡ true → place < 4 * m.data_words
+
+-- what may be read are bytes, where it is defined
+pub record HasBytes (h : Holding) (memory : Memory) : Type 0 where
+  pub each : (place b : ℕ) → may_read h place ≡ true → byte_at memory place ≡ Some b → b < 256
+
+-- The process holds what each parameter of the scope names, and the constants. No byte of a region that is written is one
+-- of another parameter's region, and the frame lies at a multiple of 4.
+pub record HoldsNamed (m : Contents) (h : Holding) (scope : Scope) (memory : Memory) : Type 0 where
+  pub each : (j : ℕ) (p : Parameter) → slice_get scope.parameters j ≡ Some p
+      → IsNamed m h scope memory p.kind (scope.layout.starts j)
+  pub apart : (j k : ℕ) (p q : Parameter) → slice_get scope.parameters j ≡ Some p
+      → slice_get scope.parameters k ≡ Some q → (j ≡ k → ⊥) → (place : ℕ)
+      → IsWrittenAt p.kind (scope.layout.starts j) place → IsNamedAt q.kind (scope.layout.starts k) place → ⊥
+  pub constants : HasConstants m h memory
+  pub bytes : HasBytes h memory
+  pub even : IsTrue (is_stepped scope.layout.origin)
 
 -- The activation may change the byte at a place.
 pub data MayChange (scope : Scope) (place : ℕ) : Type 0 where

@@ -5,7 +5,7 @@ use Rattle.prefix_decoder.specs.declared.function.Fun.{Fun}
 use Rattle.prefix_decoder.specs.declared.decoding.Instr.{Instr}
 use Rattle.word_arithmetic.specs.Word.{least_word}
 use Rattle.module_format.specs.declared.fact.Fact.TheVariants.{Number, Pointer}
-use Rattle.module_format.specs.declared.fact.Step.TheVariants.{Word}
+use Rattle.module_format.specs.declared.fact.Step.TheVariants.{Byte, Word}
 use Rattle.module_format.specs.Contents.{Contents}
 use Rattle.machine_state.specs.declared.op.Op.{Op}
 use Rattle.machine_state.specs.declared.op.Op.TheVariants.{Reverse, StopProcess, MinimumInteger, Binary, Unary}
@@ -15,6 +15,8 @@ use Rattle.machine_state.specs.declared.instruction.Instruction.TheVariants.{Jum
 use Rattle.machine_state.specs.declared.instruction.Instruction.TheVariants.{WithConstant, Operate}
 use Rattle.machine_state.specs.declared.instruction.Instruction.TheVariants.{LoadLocalPointer, AdjustWorkspace}
 use Rattle.machine_state.specs.declared.instruction.Instruction.TheVariants.{ConditionalJump}
+use Rattle.machine_state.specs.declared.op.Op.TheVariants.{ByteSubscript, WordSubscript, LoadPointerToInstruction}
+use Rattle.machine_state.specs.declared.instruction.Instruction.TheVariants.{LoadNonLocalPointer}
 use Rattle.machine_state.specs.Instructions.{instruction_of}
 use Rattle.machine_state.specs.LocalStep.{target}
 use Rattle.states.specs.declared.rule.Rule.TheVariants as rules
@@ -27,6 +29,7 @@ use Rattle.facts.specs.WordRules.{constant, loaded, in_bounds, has_range, number
 use Rattle.facts.specs.WordRules.{fact_of_two, result_fact, unary_result_fact, shift_range, is_subscript, is_count}
 use Rattle.facts.specs.WordRules.{long_results, result_source, constant_source, becomes, where_false, where_true}
 use Rattle.facts.specs.WordRules.{in_frame, near}
+use Rattle.facts.specs.MemoryRules.{shifts_pointer, subscripts, loads_place}
 
 -- ---- the instructions
 
@@ -50,6 +53,9 @@ operation_rule site CheckSubscript s =
 operation_rule site CheckCount s =
     uses s.stack.a (λ a. uses s.stack.b (λ b.
     in_bounds (numbers_have is_count b a) (alone s.mode (goes_on site (pop s)))))
+operation_rule site ByteSubscript s = subscripts Byte site s
+operation_rule site WordSubscript s = subscripts Word site s
+operation_rule site LoadPointerToInstruction s = loads_place site s
 operation_rule site _ s = breaks rules.Spelling
 
 unfoldable pub instruction_rule : Site → Instruction → ℤ → State → Ruling
@@ -73,6 +79,7 @@ instruction_rule site ConditionalJump e s =
     (pays site s (λ s. forks_to site (target (site.at + site.length) e) (where_false s) (where_true s)))))))
 instruction_rule site Jump e s =
     outside_alternation s.mode (forward e (goes_to site (target (site.at + site.length) e) s))
+instruction_rule site LoadNonLocalPointer e s = shifts_pointer site e s
 instruction_rule site (Operate op) e s = operation_rule site op s
 instruction_rule site _ e s = breaks rules.Spelling
 
@@ -99,6 +106,9 @@ op_has_rule m (Shift op) = true
 op_has_rule m (Long op) = m.has_long_operations
 op_has_rule m CheckSubscript = true
 op_has_rule m CheckCount = true
+op_has_rule m ByteSubscript = true
+op_has_rule m WordSubscript = true
+op_has_rule m LoadPointerToInstruction = true
 op_has_rule m _ = false
 
 abbrev pub instruction_has_rule : Contents → Instruction → Bool
@@ -110,6 +120,7 @@ instruction_has_rule m LoadLocalPointer = true
 instruction_has_rule m AdjustWorkspace = true
 instruction_has_rule m Jump = true
 instruction_has_rule m ConditionalJump = true
+instruction_has_rule m LoadNonLocalPointer = true
 instruction_has_rule m (Operate op) = op_has_rule m op
 instruction_has_rule m _ = false
 

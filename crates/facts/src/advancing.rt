@@ -23,7 +23,10 @@ fn op_has_rule(module: &Module, op: Op) -> bool
         | Op::Unary(_)
         | Op::Shift(_)
         | Op::CheckSubscript
-        | Op::CheckCount => true,
+        | Op::CheckCount
+        | Op::ByteSubscript
+        | Op::WordSubscript
+        | Op::LoadPointerToInstruction => true,
         Op::Long(_) => module.tables().has_long_operations,
         _ => false,
     }
@@ -40,7 +43,8 @@ fn instruction_has_rule(module: &Module, instruction: Instruction) -> bool
         | Instruction::LoadLocalPointer
         | Instruction::AdjustWorkspace
         | Instruction::Jump
-        | Instruction::ConditionalJump => true,
+        | Instruction::ConditionalJump
+        | Instruction::LoadNonLocalPointer => true,
         Instruction::Operate(op) => op_has_rule(module, op),
         _ => false,
     }
@@ -86,6 +90,7 @@ pub fn advance(
         Instruction::AdjustWorkspace => place.adjust_workspace(state, instr.operand),
         Instruction::Jump => place.jump(state, instr.operand),
         Instruction::ConditionalJump => place.conditional_jump(state, instr.operand),
+        Instruction::LoadNonLocalPointer => place.load_non_local_pointer(state, instr.operand),
         Instruction::Operate(op) => place.operate(state, op),
         _ => Err(Rule::Spelling),
     }

@@ -6,8 +6,10 @@ mod combinators;
 mod continuation;
 mod following;
 mod laws;
+mod memory;
 mod narrowing;
 mod place;
+mod pointers;
 mod word_rules;
 
 pub use advancing::{advance, has_rule};

@@ -2,7 +2,7 @@
 
 use crate::combinators::{alone, forward, outside_alternation, outside_starts};
 use crate::continuation::Continuation;
-use certificate::{Fact, Module, Stack};
+use certificate::{Fact, Module, Stack, Step};
 use machine_state::Op;
 use states::{Known, Rule, State, cost_below};
 
@@ -193,6 +193,9 @@ impl Place<'_, '_> {
             Op::Long(op) => self.long(state, op),
             Op::CheckSubscript => self.check_subscript(state),
             Op::CheckCount => self.check_count(state),
+            Op::ByteSubscript => self.subscript(state, Step::Byte),
+            Op::WordSubscript => self.subscript(state, Step::Word),
+            Op::LoadPointerToInstruction => self.load_pointer_to_instruction(state),
             _ => Err(Rule::Spelling),
         }
     }

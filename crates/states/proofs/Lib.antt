@@ -5,6 +5,7 @@ pub mod Prices
 pub mod Procedures
 pub mod RowFacts
 pub mod FrameFacts
+pub mod SpanFacts
 pub mod Comparisons
 pub mod States
 pub mod OwnWords

@@ -9,9 +9,11 @@ use Rattle.module_format.specs.Contents.{Contents}
 use Rattle.module_format.specs.Contexts.{context_at}
 use Rattle.certificate.specs.Rights.{has_word, may_write_word, may_read_word}
 use Rattle.states.specs.declared.state.State.{State as InMemory}
-use Rattle.states.specs.Views.{BelongsTo, CanWrite, IsUsable}
+use Rattle.states.specs.Spans.{all_words}
+use Rattle.states.specs.Views.{BelongsTo, CanWrite, IsUsable, AreUsable}
 use Rattle.states.proofs.RowFacts.{and-parts}
 use Rattle.states.proofs.States.{room-fits}
+use Rattle.states.proofs.SpanFacts.{all-there}
 
 pub written-own : (m : Contents) (n : ℕ) (k : ℤ) → may_write_word m n k ≡ true → has_word (context_at m n) k ≡ true
 written-own m n k h = (and-parts _ _ h).0
@@ -52,3 +54,20 @@ module _ {may_use : Contents → ℕ → ℤ → Bool}
   usable fits may o asked h =
       let same = to_z-of_z w64 word fits in
       handed-out may o (rw same at asked) (rw same at h)
+
+module _ {may_use : Contents → ℕ → ℤ → Bool}
+    (own : (m : Contents) (n : ℕ) (k : ℤ) → may_use m n k ≡ true → has_word (context_at m n) k ≡ true)
+    (s : InMemory) (first : ℤ) (count : ℕ) where
+  -- a span is one that the state's context may use exactly where the module lets it use each word
+  pub all-usable : (w : ℤ) (usable : Bool) → w ≡ first
+      → usable ≡ all_words (may_use s.module.now s.context) w count → AreUsable may_use s first count usable
+  all-usable w usable w_is asked = record {
+    allowed = λ m b. asked ∙ (ap (λ (z : ℤ). all_words (may_use s.module.now s.context) z count) w_is
+        ∙ ap (λ (m : Contents). all_words (may_use m s.context) first count) b.is);
+    room = λ m b yes. record {
+      each = λ k low high. b.room s.context k (own m s.context k (all-there (may_use m s.context) first count k
+          (ap (λ (m : Contents). all_words (may_use m s.context) first count) (sym b.is)
+          ∙ (ap (λ (z : ℤ). all_words (may_use s.module.now s.context) z count) (sym w_is) ∙ (sym asked ∙ yes)))
+          low high));
+    };
+  }

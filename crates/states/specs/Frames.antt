@@ -12,6 +12,8 @@ use Rattle.states.specs.declared.known.WordFact.{WordFact}
 use Rattle.states.specs.declared.known.WordFact.TheVariants.{Alone, Index, Count}
 use Rattle.states.specs.Lookup.{lookup}
 use Rattle.states.specs.State.{Facts, is_word, by_itself, entry_fact}
+use Rattle.states.specs.declared.span.Leaving.{Leaving}
+use Rattle.states.specs.Spans.{is_in_span, left_of}
 
 -- the fact of an index, which none below 0 has
 abbrev pub fact_of_index : List Written → ℤ → Option Fact
@@ -40,6 +42,11 @@ abbrev pub parted : LoopWord → ℤ → Facts → Facts
 parted which k facts =
     λ j. if is_loop_word which (facts j) && is_word j k then Alone (by_itself (facts j)) else facts j
 
+-- each word of a span is left so, and the others what they are
+abbrev pub with_span : ℤ → ℕ → Leaving → Facts → Facts
+with_span first count leaving facts =
+    λ k. if is_in_span first count k then Alone (left_of leaving (by_itself (facts k))) else facts k
+
 -- word k can be written
 pub record HasRoom (frame : Frame) (k : ℤ) : Type 0 where
   pub low : frame.lo ≤ℤ k
@@ -53,3 +60,7 @@ pub record SameRoom (old new : Frame) : Type 0 where
 -- the words of parameters can be written
 pub record HasRoomForAll (frame : Frame) (parameters : List Parameter) : Type 0 where
   pub each : (i : ℕ) → i < length parameters → (d : Parameter) → HasRoom frame (pos (get_or parameters i d).word)
+
+-- so can the words of a span
+pub record HasRoomForSpan (frame : Frame) (first : ℤ) (count : ℕ) : Type 0 where
+  pub each : (k : ℤ) → first ≤ℤ k → k <ℤ (first +ℤ pos count) → HasRoom frame k

@@ -1,5 +1,6 @@
 pub mod Numbers
 pub mod State
+pub mod Spans
 pub mod Below
 pub mod Lookup
 pub mod Rows

@@ -1,5 +1,5 @@
 -- A state in memory, as the state that it is, and the module that it is one of.
-use Rattle.std.specs.Prelude.{◌≡◌, ℕ, ℤ, Bool, true, Option, IfSome, is_some}
+use Rattle.std.specs.Prelude.{◌≡◌, ℕ, ℤ, pos, ◌+ℤ◌, ◌≤ℤ◌, ◌<ℤ◌, Bool, true, Option, IfSome, is_some}
 use Rattle.module_format.specs.Contents.{Contents}
 use Rattle.module_format.specs.Contexts.{context_at}
 use Rattle.module_format.specs.Keeping.{Keeps}
@@ -7,6 +7,7 @@ use Rattle.certificate.specs.Rights.{has_word}
 use Rattle.states.specs.declared.state.State.{State as InMemory}
 use Rattle.states.specs.State.{State}
 use Rattle.states.specs.Frames.{frame_facts, HasRoom}
+use Rattle.states.specs.Spans.{all_words}
 
 abbrev pub state_of : InMemory → State
 state_of s = record {
@@ -36,3 +37,13 @@ pub record IsUsable (may_use : Contents → ℕ → ℤ → Bool) (s : InMemory)
   pub some : IfSome usable (λ k. k ≡ word)
   pub allowed : (m : Contents) → BelongsTo m s → is_some usable ≡ may_use m s.context word
   pub room : (m : Contents) → BelongsTo m s → IfSome usable (CanWrite s)
+
+-- there is room for the words of a span
+pub record CanWriteSpan (s : InMemory) (first : ℤ) (count : ℕ) : Type 0 where
+  pub each : (k : ℤ) → first ≤ℤ k → k <ℤ (first +ℤ pos count) → CanWrite s k
+
+-- The state's context may use each word of a span so, where there is room for each.
+pub record AreUsable (may_use : Contents → ℕ → ℤ → Bool) (s : InMemory) (first : ℤ) (count : ℕ)
+    (usable : Bool) : Type 0 where
+  pub allowed : (m : Contents) → BelongsTo m s → usable ≡ all_words (may_use m s.context) first count
+  pub room : (m : Contents) → BelongsTo m s → usable ≡ true → CanWriteSpan s first count

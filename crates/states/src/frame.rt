@@ -12,6 +12,7 @@ use crate::implication::{holds_constant, says};
 use crate::known::{LoopWord, WordFact};
 use crate::overlay::Overlay;
 use crate::row::{row_fact, segment_from};
+use crate::span::{Leaving, Together};
 use certificate::{Entry, Fact, ParameterKind, ProcedureRow, Step};
 use std::alloc::{AllocError, Global};
 
@@ -34,6 +35,9 @@ impl<'a> Frame<'a> {
     ghost use Rattle.states.specs.Below.{says, entries_hold, is_whole, price};
     ghost use Rattle.states.specs.Frames.{fact_of_index, frame_facts, with_alone, parted, HasRoom};
     ghost use Rattle.states.specs.Frames.{HasRoomForAll, SameRoom};
+    ghost use Rattle.states.specs.Frames.{with_span, HasRoomForSpan};
+    ghost use Rattle.states.specs.State.{changed};
+    ghost use Rattle.states.specs.Spans.{together, on_span};
     ghost use Rattle.states.specs.Comparing.{SaysLess, OneSaysAll, WrittenSaysAll};
 
     /// The frame of so many words from `lo` on, of which nothing is known.
@@ -122,6 +126,44 @@ impl<'a> Frame<'a> {
         self.part(word - 1, LoopWord::Index);
         self.part(word + 1, LoopWord::Count);
         self.place(word, fact);
+    }
+
+    /// What is known of so many words from `first` on together.
+    pub(crate) fn together(&self, first: i32, count: u32) -> Together
+        ensures { result ≡ together (frame_facts self.now) first count }
+    {
+        let mut all = Together::of_none();
+        for i in 0..count {
+            all = all.with(self.fact_at(i64::from(first) + i64::from(i)));
+        }
+        all
+    }
+
+    /// Each of so many words from `first` on is left so, and the others what they are.
+    fn leave(&mut self, first: i32, count: u32, leaving: Leaving)
+        requires { HasRoomForSpan self.old first count }
+        ensures facts { frame_facts self.new ≡ with_span first count leaving (frame_facts self.old) }
+        ensures room { SameRoom self.old self.new }
+    {
+        for i in 0..count {
+            let word = i64::from(first) + i64::from(i);
+            let said = self.fact_at(word).by_itself();
+            self.place(word, leaving.left_of(said));
+        }
+    }
+
+    /// Each of so many words from `first` on, at least one, is left so from now on. A loop that loses one of
+    /// its words leaves what the other says by itself.
+    pub(crate) fn change_span(&mut self, first: i32, count: u32, leaving: Leaving)
+        requires room { HasRoomForSpan self.old first count }
+        requires some { 0 < count }
+        ensures facts { frame_facts self.new ≡ changed (on_span first count leaving) (frame_facts self.old) }
+        ensures room { SameRoom self.old self.new }
+    {
+        let start = i64::from(first);
+        self.part(start - 1, LoopWord::Index);
+        self.part(start + i64::from(count), LoopWord::Count);
+        self.leave(first, count, leaving);
     }
 
     /// What a label's row says is known from now on, and nothing else.

@@ -8,6 +8,7 @@ mod known;
 mod overlay;
 mod row;
 mod rule;
+mod span;
 mod state;
 
 pub use comparison::{below, compare, cost_below};
@@ -18,4 +19,5 @@ pub use rule::{
     MESSAGE_LENGTH, NUMBER, OWN_WORD, PAR, POINTER, REGIONS_MEET, Rule, RuleFault, SPELLING,
     UNKNOWN_REGISTER,
 };
+pub use span::{Leaving, Together};
 pub use state::State;

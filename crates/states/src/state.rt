@@ -1,6 +1,7 @@
 //! What is known of a process at a place of its code.
 
-ghost use Rattle.std.specs.Prelude.{◌≡◌, ◌≤◌, ◌-◌, ◌≤ℤ◌, ℤ, false, IfOk, Some, SomeIff, IsTrue, FitsSigned, slice_get};
+ghost use Rattle.std.specs.Prelude.{◌≡◌, ◌≤◌, ◌<◌, ◌-◌, ◌≤ℤ◌, ℤ, false, IfOk, Some, SomeIff, IsTrue, FitsSigned};
+ghost use Rattle.std.specs.Prelude.{slice_get};
 ghost use Rattle.std.specs.Int.{w32};
 ghost use Rattle.module_format.specs.Contents.{Contents, contents_of, procedure_of, label_of};
 ghost use Rattle.certificate.specs.Rights.{may_write_word, may_read_word};
@@ -10,11 +11,13 @@ ghost use Rattle.states.specs.State.{unknown, known, is_at, without_source, forg
 ghost use Rattle.states.specs.State.{is_silent, procedure_state, label_state};
 ghost use Rattle.states.specs.Frames.{with_alone};
 ghost use Rattle.states.specs.Rows.{LoopFits, IsRowOf};
-ghost use Rattle.states.specs.Views.{state_of, CanWrite, BelongsTo, IsUsable};
+ghost use Rattle.states.specs.Views.{state_of, CanWrite, CanWriteSpan, BelongsTo, IsUsable, AreUsable};
 ghost use Rattle.states.specs.Room.{Covers};
+ghost use Rattle.states.specs.Spans.{is_in_span, all_words, together, on_span, after_change};
 
 use crate::frame::Frame;
 use crate::known::{Guard, Known, Mode, Source, WordFact};
+use crate::span::{Leaving, Together};
 use certificate::{Fact, LabelRow, Module, ProcedureRow, Stack, Tables};
 use std::alloc::{AllocError, Global};
 
@@ -55,6 +58,34 @@ fn forgets(word: i32, known: Known) -> Known
     Known {
         fact: known.fact,
         source: without_source(word, known.source),
+    }
+}
+
+/// Whether a word is one of so many from `first` on.
+fn is_in_span(first: i32, count: u32, word: i32) -> bool
+    ensures { result ≡ is_in_span first count word }
+{
+    first <= word && i64::from(word) < i64::from(first) + i64::from(count)
+}
+
+/// The source, once a span is touched.
+fn without_sources(first: i32, count: u32, source: Source) -> Source
+    ensures { result ≡ without_source (is_in_span first count) source }
+{
+    match source {
+        Source::From { word } if is_in_span(first, count, word) => Source::Nowhere,
+        Source::Test { word, .. } if is_in_span(first, count, word) => Source::Nowhere,
+        _ => source,
+    }
+}
+
+/// What is known of a register, once a span is touched.
+fn forgets_span(first: i32, count: u32, known: Known) -> Known
+    ensures { result ≡ forgets (is_in_span first count) known }
+{
+    Known {
+        fact: known.fact,
+        source: without_sources(first, count, known.source),
     }
 }
 
@@ -172,6 +203,59 @@ impl<'a> State<'a> {
         ensures room { (k : ℤ) → CanWrite self.old k → CanWrite self.new k }
     {
         self.frame.place(i64::from(word), fact);
+    }
+
+    /// Whether the state's context may write each of so many words from `first` on.
+    pub fn writes_words(&self, first: i32, count: u32) -> bool
+        ensures { AreUsable may_write_word self.now first count result }
+    {
+        for i in 0..count {
+            if !self
+                .module
+                .may_write_word(self.context, i64::from(first) + i64::from(i))
+            {
+                return false;
+            }
+        }
+        true
+    }
+
+    /// Whether the state's context may read each of so many words from `first` on.
+    pub fn reads_words(&self, first: i32, count: u32) -> bool
+        ensures { AreUsable may_read_word self.now first count result }
+    {
+        for i in 0..count {
+            if !self
+                .module
+                .may_read_word(self.context, i64::from(first) + i64::from(i))
+            {
+                return false;
+            }
+        }
+        true
+    }
+
+    /// What is known of so many words of the frame from `first` on together. The time goes with their number.
+    pub fn together(&self, first: i32, count: u32) -> Together
+        ensures { result ≡ together (state_of self.now).frame first count }
+    {
+        self.frame.together(first, count)
+    }
+
+    /// So many words of the frame from `first` on, at least one, are left so from now on, and no register
+    /// speaks of what they were. A loop that loses one of its words leaves what the other says by itself.
+    /// The time goes with their number.
+    pub fn change_span(&mut self, first: i32, count: u32, leaving: Leaving)
+        requires room { CanWriteSpan self.old first count }
+        requires some { 0 < count }
+        ensures state { state_of self.new ≡ after_change (on_span first count leaving) (state_of self.old) }
+        ensures belongs { (m : Contents) → BelongsTo m self.old → BelongsTo m self.new }
+        ensures room { (k : ℤ) → CanWrite self.old k → CanWrite self.new k }
+    {
+        self.frame.change_span(first, count, leaving);
+        self.stack.a = forgets_span(first, count, self.stack.a);
+        self.stack.b = forgets_span(first, count, self.stack.b);
+        self.stack.c = forgets_span(first, count, self.stack.c);
     }
 
     /// A value comes on top of the registers.

@@ -83,4 +83,6 @@ well_formed m k = record {
       found_keeps (length m.code) m.procedures 0 at m.labels t k.rows.labels h in omega (arith, f.0, f.1);
   rows = λ at t h. label_row_at m at t k h;
   pairs = λ at t h. label_pairs m at t k h;
+  constant_bytes = k.constant_bytes;
+  tables = k.rows.table_rows;
 }

@@ -5,6 +5,7 @@ pub mod RowsLeft
 pub mod Passing
 pub mod Steps
 pub mod Worlds
+pub mod RootHolds
 pub mod Start
 pub mod Kept
 pub mod Examples

@@ -34,8 +34,10 @@ use Rattle.machine_state.specs.declared.event.Event.{Event}
 use Rattle.machine_state.specs.Happens.{happens}
 use Rattle.module_format.specs.Keeping.{Keeps}
 use Rattle.verifier.specs.Headline.{IsEvent, RunsWell}
+use Rattle.verifier.proofs.RootHolds.{root_constants, root_bytes}
 use Rattle.verifier.proofs.Kept.{decodes, well_formed}
 use Rattle.facts.specs.Fitting.{After}
+use Rattle.facts.proofs.Addresses.{stepped}
 use Rattle.facts.proofs.Dues.{nothing_due}
 use Rattle.facts.proofs.Combining.{readable}
 use Rattle.states.proofs.RowFacts.{and-parts, le-from, lt-from}
@@ -203,6 +205,11 @@ module _ (m : Contents) (d : Decodes m) (wf : IsWellFormed m) (c : IsCertified m
     named = record {
       each = λ j p found. absurd (nothing_at j p (subst (λ (ps : List Parameter). slice_get ps j ≡ Some p)
           (root_has_none m) found));
+      apart = λ j k p q found other differ. absurd (nothing_at j p (subst (λ (ps : List Parameter).
+          slice_get ps j ≡ Some p) (root_has_none m) found));
+      constants = root_constants m;
+      bytes = root_bytes m wf.constant_bytes;
+      even = stepped (pos (4 * m.base)) (pos m.base) (omega (arith, ints));
     };
     same_mode = both_plain;
   }

@@ -48,7 +48,7 @@ use Rattle.facts.proofs.Combining.{readable_byte, same_frame, elsewhere}
 use Rattle.facts.proofs.Local.{function_fits}
 use Rattle.facts.proofs.Entering.{below_tells, label_after}
 use Rattle.facts.proofs.Dues.{label_owed}
-use Rattle.facts.proofs.Regions.{keeps_all, keeps_more}
+use Rattle.facts.proofs.Regions.{keeps_all, keeps_more, named_left}
 use Rattle.facts.specs.Regions.{Scope, scope_of, IsRegion, IsNamed, Keeps}
 use Rattle.module_format.specs.declared.fact.Fact.TheVariants.{Number}
 use Rattle.module_format.specs.declared.rows.ParameterKind.{ParameterKind}
@@ -108,39 +108,15 @@ knows_agree {m} {counts} {act} {said} {facts} {stack} {memory} {later} same know
 
 module _ (h : Holding) (memory later : Memory) (size : length later ≡ length memory)
     (agree : (place : ℕ) → may_read h place ≡ true → byte_at later place ≡ byte_at memory place) where
-  region_agrees : {m : Contents} {may_use : ℕ → Bool} {scope : Scope} {place bytes : ℕ} {lo hi : ℤ}
-      → ((q : ℕ) → may_use q ≡ true → may_read h q ≡ true) → IsRegion m may_use scope memory place bytes lo hi
-      → IsRegion m may_use scope later place bytes lo hi
-  region_agrees {m} {may_use} {scope} {place} {bytes} {lo} {hi} reads region = record {
-    held = region.held;
-    beside = region.beside;
-    numbers = λ i fits. subst (λ (v : Option ℤ). Means m scope.layout (Number lo hi) v)
-        (word_same memory later (place + 4 * i)
-        (same i (place + 4 * i) 0 (omega arith) (omega arith))
-        (same i (place + 4 * i + 1) 1 (omega arith) (omega arith))
-        (same i (place + 4 * i + 2) 2 (omega arith) (omega arith))
-        (same i (place + 4 * i + 3) 3 (omega arith) (omega arith)))
-        (region.numbers i fits);
-  }
-    where
-      same : (i q n : ℕ) → q ≡ place + (4 * i + n) → 4 * i + n < bytes → byte_at memory q ≡ byte_at later q
-      same i q n is within = sym (agree q (ap (may_read h) is
-          ∙ reads (place + (4 * i + n)) (region.held (4 * i + n) within)))
-
-  named_agrees : (m : Contents) (scope : Scope) (kind : ParameterKind) (start : ℕ) → IsNamed m h scope memory kind start
-      → IsNamed m h scope later kind start
-  named_agrees m scope (Value lo hi) start named = tt
-  named_agrees m scope (ReadRegion bytes lo hi) start named = region_agrees (λ q e. e) named
-  named_agrees m scope (WrittenRegion bytes lo hi) start named = region_agrees (readable_byte h) named
-  named_agrees m scope (Channels count len ends) start named = named
-
   agree_keeps : (m : Contents) (scope : Scope) → Keeps m h scope memory later
   agree_keeps m scope = record {
     size = size;
     bytes = λ place e. inl (agree place e);
-    named = λ has. record {
-      each = λ j p found. named_agrees m scope p.kind (scope.layout.starts j) (has.each j p found);
-    };
+    named = named_left m h scope memory later (λ place. ⊥) (record {
+      bytes = λ place e. inl (agree place e);
+      own = λ place no'. absurd no';
+      small = λ place b e found. inr (sym (agree place e) ∙ found);
+    }) (λ j p found. inl (λ place at no'. no'));
   }
 
 behind_keeps : {m : Contents} {h : Holding} {context : ℕ} {layout : Layout} {old new : Memory} {callers : List Caller}

@@ -1,0 +1,357 @@
+-- The instructions that make pointers, and those that read and write memory through them: what their rules say fits
+-- their steps.
+use Rattle.std.proofs.Common.{◌≡◌, ℕ, ◌+◌, ◌-◌, ◌*◌, ◌%◌, ◌^◌, ◌≤◌, ◌<◌, ℤ, pos, negsuc, ◌+ℤ◌, ◌*ℤ◌, ◌≤ℤ◌, FitsSigned, Bool}
+use Rattle.std.proofs.Common.{true, false, cond, ◌&&◌, length, Option, Some, None, Result, Ok, Err, refl, sym, ap, ◌∙◌}
+use Rattle.std.proofs.Common.{subst, arith, rules as common_rules, inl, inr, ◌⊎◌}
+use Rattle.std.proofs.lemmas.Bool.Decides.{nat_tests}
+use Rattle.std.proofs.lemmas.Int.{ints, int_wrap_fits, int_wrap-add_left, SFits-int_wrap}
+use Rattle.std.specs.Prelude.{IsTrue, nat_lt, nat_le, int_le}
+use Rattle.std.specs.Int.{w32, int_wrap, cast_signed}
+use Rattle.module_format.specs.Order.{least_word, greatest_word}
+use Rattle.word_arithmetic.proofs.WordLaws.{words_fit, words_lie_between}
+use Rattle.module_format.specs.declared.fact.Fact.{Fact}
+use Rattle.module_format.specs.declared.fact.Fact.TheVariants.{Unknown, Number, Pointer, CodeAddress, Loop}
+use Rattle.module_format.specs.declared.fact.Fact.TheVariants.{ReturnAddress}
+use Rattle.module_format.specs.declared.fact.Step.{Step}
+use Rattle.module_format.specs.declared.fact.Step.TheVariants.{Byte, Word}
+use Rattle.module_format.specs.Order.{is_stepped}
+use Rattle.module_format.specs.Contents.{Contents}
+use Rattle.machine_state.specs.declared.op.Op.TheVariants as operations
+use Rattle.machine_state.specs.declared.instruction.Instruction.TheVariants as instructions
+use Rattle.machine_state.specs.Memory.{data_start, local_address}
+use Rattle.machine_state.specs.World.{padding}
+use Rattle.machine_state.specs.LocalStep as step
+use Rattle.machine_state.specs.Site.{Outcome, Local}
+use Rattle.states.specs.declared.rule.Rule.{Rule}
+use Rattle.states.specs.declared.rule.Rule.TheVariants as rules
+use Rattle.states.specs.State.{State, known, is_word as is_same}
+use Rattle.states.proofs.RowFacts.{and-parts, le-from}
+use Rattle.facts.specs.declared.pointers.Pointed.{Pointed}
+use Rattle.facts.specs.declared.pointers.Bounds.{Bounds}
+use Rattle.facts.specs.Rulings as rule
+use Rattle.facts.specs.Rulings.{Ruling}
+use Rattle.facts.specs.MemoryRules as memory
+use Rattle.facts.specs.MemoryRules.{is_near, are_near, near_fact, pointer_of, number_of, constant_of, word_fact, shifted}
+use Rattle.facts.specs.MemoryRules.{is_of_a_word}
+use Rattle.facts.specs.MemoryRules.{element_of, place_fact}
+use Rattle.facts.specs.Rules as table
+use Rattle.facts.specs.Meaning.{Layout, Means, IsOffset, is_number, is_pointer, is_code_address, from_nowhere}
+use Rattle.facts.specs.Meaning.{words_of, owed, code_address}
+use Rattle.facts.specs.Fitting.{Changes, After, Here, rule_site, step_site, it_breaks}
+use Rattle.facts.proofs.Words.{bool_cases, word_test}
+use Rattle.facts.proofs.Addresses.{address_added, words_added, local_word, stepped, stepped_words, pointer_added}
+use Rattle.facts.proofs.Addresses.{keeps_step, any_step}
+use Rattle.facts.proofs.Combining.{FitsIf, unknown_means, uses_fits, goes_on_fits, in_plain_rule, beside_plain_rule}
+use Rattle.facts.proofs.Combining.{in_plain_step, beside_plain_step, after_stack}
+
+-- ---- what answers tell
+
+-- what passes a test that breaks a rule where it fails
+pub ok_if : {A : Type 0} (b : Bool) (x z : A) (broken : Rule) → cond b (Ok x) (Err broken) ≡ Ok z → (b ≡ true) × (x ≡ z)
+ok_if true x z broken h = (refl, cc)
+ok_if false x z broken h = absurd (cc)
+
+-- what is known of a number
+pub record Lies (r : Bounds) (v : ℤ) : Type 0 where
+  pub low : r.lo ≤ℤ v
+  pub high : v ≤ℤ r.hi
+  pub fits : FitsSigned w32 v
+
+-- the fact of a pointer
+pub is_fact_of : Pointed → Fact
+is_fact_of p = Pointer p.region p.lo p.hi p.step
+
+module _ (m : Contents) (layout : Layout) where
+  pub number_lies : (fact : Fact) (r : Bounds) (v : ℤ) → number_of fact ≡ Ok r → Means m layout fact (Some v) → Lies r v
+  unfolding number_of
+  number_lies (Number lo hi) r v e (is_number low high fits) =
+      let is : record { lo = lo; hi = hi } ≡ r = cc in
+      subst (λ (b : Bounds). Lies b v) is (record { low = low; high = high; fits = fits })
+  number_lies Unknown r v e means = absurd (cc)
+  number_lies (Pointer region lo hi steps) r v e means = absurd (cc)
+  number_lies (CodeAddress offset) r v e means = absurd (cc)
+  number_lies (Loop base count weight) r v e means = absurd (cc)
+  number_lies ReturnAddress r v e means = absurd (cc)
+
+  pub constant_is : (fact : Fact) (c v : ℤ) → constant_of fact ≡ Ok c → Means m layout fact (Some v)
+      → (v ≡ c) × FitsSigned w32 v
+  unfolding constant_of
+  constant_is (Number lo hi) c v e (is_number low high fits) =
+      let p = ok_if (is_same lo hi) lo c _ e in
+      let same = same_ends lo hi p.0 in
+      (omega (arith, ints, p.1), fits)
+    where
+      same_ends : (lo hi : ℤ) → is_same lo hi ≡ true → lo ≡ hi
+      same_ends lo hi t = elim (word_test lo hi) [
+        | inl p ↦ p.1
+        | inr p ↦ let no : true ≡ false = sym t ∙ p.0 in absurd (cc)
+      ]
+  constant_is Unknown c v e means = absurd (cc)
+  constant_is (Pointer region lo hi steps) c v e means = absurd (cc)
+  constant_is (CodeAddress offset) c v e means = absurd (cc)
+  constant_is (Loop base count weight) c v e means = absurd (cc)
+  constant_is ReturnAddress c v e means = absurd (cc)
+
+  -- a fact that is a pointer, whose offsets are near
+  pub pointer_is : (fact : Fact) (p : Pointed) → pointer_of fact ≡ Ok p
+      → (fact ≡ Pointer p.region p.lo p.hi p.step) × (are_near p.lo p.hi ≡ true)
+  unfolding pointer_of
+  pointer_is (Pointer region lo hi steps) p e =
+      let q = ok_if (are_near lo hi) (record { region = region; lo = lo; hi = hi; step = steps }) p _ e in
+      subst (λ (r : Pointed). (Pointer region lo hi steps ≡ Pointer r.region r.lo r.hi r.step)
+      × (are_near r.lo r.hi ≡ true)) q.1 (refl, q.0)
+  pointer_is Unknown p e = absurd (cc)
+  pointer_is (Number lo hi) p e = absurd (cc)
+  pointer_is (CodeAddress offset) p e = absurd (cc)
+  pointer_is (Loop base count weight) p e = absurd (cc)
+  pointer_is ReturnAddress p e = absurd (cc)
+
+  -- ---- pointers that are made
+
+  -- a number further by a distance that keeps it a word
+  number_added : (lo hi by v : ℤ) (fact : Fact) → word_fact (lo +ℤ by) (hi +ℤ by) ≡ Ok fact
+      → Means m layout (Number lo hi) (Some v) → Means m layout fact (Some (int_wrap w32 (v +ℤ by)))
+  unfolding word_fact
+  number_added lo hi by v fact e (is_number low high fits) =
+      let p = ok_if (is_of_a_word (lo +ℤ by) && is_of_a_word (hi +ℤ by)) (Number (lo +ℤ by) (hi +ℤ by)) fact _ e in
+      let both = and-parts (is_of_a_word (lo +ℤ by)) (is_of_a_word (hi +ℤ by)) p.0 in
+      let least = le-from least_word (lo +ℤ by) (and-parts (int_le least_word (lo +ℤ by)) _ both.0).0 in
+      let most = le-from (hi +ℤ by) greatest_word (and-parts (int_le least_word (hi +ℤ by)) _ both.1).1 in
+      let there : FitsSigned w32 (v +ℤ by) = between (v +ℤ by) (omega (arith, ints)) (omega (arith, ints)) in
+      subst (λ (f : Fact). Means m layout f (Some (int_wrap w32 (v +ℤ by)))) p.1
+      (subst (λ (z : ℤ). Means m layout (Number (lo +ℤ by) (hi +ℤ by)) (Some z)) (sym (int_wrap_fits w32 (v +ℤ by) there))
+      (is_number (omega (arith, ints)) (omega (arith, ints)) there))
+    where
+      between : (z : ℤ) → least_word ≤ℤ z → z ≤ℤ greatest_word → FitsSigned w32 z
+      between z low high = (words_fit z).0 ((words_lie_between z).1 (low, high))
+
+  -- a pointer further by a number between two others
+  near_added : (region : ℕ) (lo hi low high v d : ℤ) (steps further : Step) (fact : Fact)
+      → near_fact region (lo +ℤ low) (hi +ℤ high) further ≡ Ok fact → Means m layout (Pointer region lo hi steps) (Some v)
+      → low ≤ℤ d → d ≤ℤ high → ((offset : ℤ) → IsOffset steps offset → IsOffset further (offset +ℤ d))
+      → Means m layout fact (Some (int_wrap w32 (v +ℤ d)))
+  unfolding near_fact
+  near_added region lo hi low high v d steps further fact e means from to keep =
+      let p = ok_if (are_near (lo +ℤ low) (hi +ℤ high)) (Pointer region (lo +ℤ low) (hi +ℤ high) further) fact _ e in
+      subst (λ (f : Fact). Means m layout f (Some (int_wrap w32 (v +ℤ d)))) p.1
+      (pointer_added m layout region lo hi low high v d steps further means from to keep)
+
+  pub shifted_means : (e v : ℤ) (said fact : Fact) → shifted (pos 4 *ℤ e) said ≡ Ok fact → FitsSigned w32 e
+      → Means m layout said (Some v)
+      → Means m layout fact (Some (step.word_of (local_address (step.address v) e)))
+  unfolding shifted
+  shifted_means e v (Number lo hi) fact is fits means =
+      subst (λ (z : ℤ). Means m layout fact (Some z)) (sym (local_word v e (word_fits means) fits))
+      (number_added lo hi (pos 4 *ℤ e) v fact is means)
+    where
+      word_fits : Means m layout (Number lo hi) (Some v) → FitsSigned w32 v
+      word_fits (is_number low high there) = there
+  shifted_means e v (Pointer region lo hi steps) fact is fits means =
+      let p = on_near (are_near lo hi) is in
+      subst (λ (z : ℤ). Means m layout fact (Some z)) (sym (local_word v e (pointer_fits means) fits))
+      (near_added region lo hi (pos 4 *ℤ e) (pos 4 *ℤ e) v (pos 4 *ℤ e) steps steps fact p means
+      (omega (arith, ints)) (omega (arith, ints)) (keeps_step steps (pos 4 *ℤ e) (stepped_words e)))
+    where
+      pointer_fits : Means m layout (Pointer region lo hi steps) (Some v) → FitsSigned w32 v
+      pointer_fits (is_pointer offset low high stepped is) =
+          subst (λ (z : ℤ). FitsSigned w32 z) (sym is) (SFits-int_wrap w32 _)
+
+      on_near : (b : Bool) → cond b (near_fact region (lo +ℤ (pos 4 *ℤ e)) (hi +ℤ (pos 4 *ℤ e)) steps) (Err rules.Pointer)
+          ≡ Ok fact → near_fact region (lo +ℤ (pos 4 *ℤ e)) (hi +ℤ (pos 4 *ℤ e)) steps ≡ Ok fact
+      on_near true h = h
+      on_near false h = absurd (cc)
+  shifted_means e v Unknown fact is fits means = absurd (cc)
+  shifted_means e v (CodeAddress offset) fact is fits means = absurd (cc)
+  shifted_means e v (Loop base count weight) fact is fits means = absurd (cc)
+  shifted_means e v ReturnAddress fact is fits means = absurd (cc)
+
+  pointer_word : (region : ℕ) (lo hi v : ℤ) (steps : Step) → Means m layout (Pointer region lo hi steps) (Some v)
+      → FitsSigned w32 v
+  pointer_word region lo hi v steps (is_pointer offset low high stepped is) =
+      subst (λ (z : ℤ). FitsSigned w32 z) (sym is) (SFits-int_wrap w32 _)
+
+  pub byte_means : (p : Pointed) (r : Bounds) (v u : ℤ) (fact : Fact) → element_of Byte p r ≡ Ok fact
+      → Means m layout (Pointer p.region p.lo p.hi p.step) (Some v) → Lies r u
+      → Means m layout fact (Some (step.word_of ((step.address v + step.address u) % 2 ^ 32)))
+  unfolding element_of
+  byte_means p r v u fact is means lies =
+      subst (λ (z : ℤ). Means m layout fact (Some z))
+      (sym (words_added v u (pointer_word p.region p.lo p.hi v p.step means) lies.fits))
+      (near_added p.region p.lo p.hi r.lo r.hi v u p.step
+      (cond (is_same r.lo r.hi && is_stepped r.lo) p.step Byte) fact is means lies.low lies.high
+      (on_step (is_same r.lo r.hi && is_stepped r.lo) refl))
+    where
+      stays : is_same r.lo r.hi && is_stepped r.lo ≡ true → IsTrue (is_stepped u)
+      stays t =
+          let both = and-parts (is_same r.lo r.hi) (is_stepped r.lo) t in
+          let low = lies.low in
+          let high = lies.high in
+          elim (word_test r.lo r.hi) [
+            | inl q ↦
+                let same : r.lo ≡ r.hi = q.1 in
+                ap is_stepped (let e : u ≡ r.lo = omega (arith, ints) in e) ∙ both.1
+            | inr q ↦ let no : true ≡ false = sym both.0 ∙ q.0 in absurd (cc)
+          ]
+
+      on_step : (b : Bool) → is_same r.lo r.hi && is_stepped r.lo ≡ b → (offset : ℤ) → IsOffset p.step offset
+          → IsOffset (cond b p.step Byte) (offset +ℤ u)
+      on_step true t offset at = keeps_step p.step u (stays t) offset at
+      on_step false t offset at = tt
+
+  pub word_means : (p : Pointed) (r : Bounds) (v u : ℤ) (fact : Fact) → element_of Word p r ≡ Ok fact
+      → Means m layout (Pointer p.region p.lo p.hi p.step) (Some v) → Lies r u
+      → Means m layout fact (Some (step.word_of (local_address (step.address v) u)))
+  unfolding element_of
+  word_means p r v u fact is means lies =
+      subst (λ (z : ℤ). Means m layout fact (Some z))
+      (sym (local_word v u (pointer_word p.region p.lo p.hi v p.step means) lies.fits))
+      (near_added p.region p.lo p.hi (pos 4 *ℤ r.lo) (pos 4 *ℤ r.hi) v (pos 4 *ℤ u) p.step p.step fact is means
+      (let low = lies.low in omega (arith, ints)) (let high = lies.high in omega (arith, ints))
+      (keeps_step p.step (pos 4 *ℤ u) (stepped_words u)))
+
+  -- the address of a place behind the first byte of the code
+  place_means : (n : ℕ) (fact : Fact) (v : ℤ) → place_fact m (pos n) ≡ Ok fact → v ≡ int_wrap w32 (pos (code_address m n))
+      → Means m layout fact (Some v)
+  unfolding place_fact
+  place_means n fact v is at = on_code (nat_lt n (length m.code)) refl is
+    where
+      behind : ℕ
+      behind = length m.code + padding (length m.code)
+
+      constant : Fact
+      constant = Pointer 1 (pos (n - behind)) (pos (n - behind)) (cond (is_stepped (pos (n - behind))) Word Byte)
+
+      on_step : (b : Bool) → is_stepped (pos (n - behind)) ≡ b → IsOffset (cond b Word Byte) (pos (n - behind))
+      on_step true t = t
+      on_step false t = tt
+
+      on_constant : (b : Bool) → (nat_le behind n && nat_lt n (behind + length m.constants)) ≡ b
+          → cond b (Ok constant) (Err rules.Pointer) ≡ Ok fact → Means m layout fact (Some v)
+      on_constant false t h = absurd (cc)
+      on_constant true t h =
+          let same : constant ≡ fact = cc in
+          let low : behind ≤ n = reach (and-parts (nat_le behind n) (nat_lt n (behind + length m.constants)) t).0 in
+          subst (λ (f : Fact). Means m layout f (Some v)) same
+          (is_pointer (pos (n - behind)) (omega (arith, ints)) (omega (arith, ints))
+          (on_step (is_stepped (pos (n - behind))) refl)
+          (at ∙ ap (int_wrap w32) (omega (arith, ints))))
+        where
+          reach : nat_le behind n ≡ true → behind ≤ n
+          reach t = grind (arith, nat_tests)
+
+      on_code : (b : Bool) → nat_lt n (length m.code) ≡ b
+          → cond b (Ok (CodeAddress n)) (cond (nat_le behind n && nat_lt n (behind + length m.constants)) (Ok constant)
+          (Err rules.Pointer)) ≡ Ok fact → Means m layout fact (Some v)
+      on_code true t h =
+          let same : CodeAddress n ≡ fact = cc in
+          subst (λ (f : Fact). Means m layout f (Some v)) same (is_code_address at)
+      on_code false t h = on_constant (nat_le behind n && nat_lt n (behind + length m.constants)) refl h
+
+  -- an address that a distance is added to
+  wrapped : (n : ℕ) (v : ℤ) → int_wrap w32 (cast_signed w32 (n % 2 ^ 32) +ℤ v) ≡ int_wrap w32 (int_wrap w32 (pos n) +ℤ v)
+  unfolding int_wrap
+  wrapped n v = refl
+
+  wrapped_sum : (n : ℕ) (v : ℤ) → FitsSigned w32 v
+      → step.word_of ((n % 2 ^ 32 + step.address v) % 2 ^ 32) ≡ int_wrap w32 (pos n +ℤ v)
+  wrapped_sum n v fits =
+      address_added (n % 2 ^ 32) v (omega arith) fits ∙ (wrapped n v ∙ int_wrap-add_left w32 (pos n) v)
+
+  pub loaded_place : (next : ℕ) (c v : ℤ) (fact : Fact) → place_fact m (pos next +ℤ c) ≡ Ok fact → v ≡ c
+      → FitsSigned w32 v
+      → Means m layout fact
+      (Some (step.word_of (((data_start + 4 * m.data_words + next) % 2 ^ 32 + step.address v) % 2 ^ 32)))
+  unfolding place_fact
+  loaded_place next c v fact is same fits = at_place (pos next +ℤ c) refl is
+    where
+      at_place : (z : ℤ) → z ≡ pos next +ℤ c → place_fact m z ≡ Ok fact
+          → Means m layout fact
+          (Some (step.word_of (((data_start + 4 * m.data_words + next) % 2 ^ 32 + step.address v) % 2 ^ 32)))
+      at_place (negsuc n) e h = absurd (cc)
+      at_place (pos n) e h = place_means n fact _ h (wrapped_sum (data_start + 4 * m.data_words + next) v fits
+          ∙ ap (int_wrap w32) (omega (arith, ints)))
+
+-- ---- the instructions
+
+module _ (x : Here) where
+  pub settles_fits : {A : Type 0} (r : Result A Rule) (k : A → Ruling) (o : Outcome) → ((v : A) → r ≡ Ok v → FitsIf x (k v) o)
+      → FitsIf x (memory.settles r k) o
+  unfolding memory.settles
+  settles_fits (Ok v) k o go = go v refl
+  settles_fits (Err broken) k o go = λ next. it_breaks
+
+  -- what A becomes, outside alternations and starts
+  pub with_fact_fits : (s : State) (l : Local) (fact : Fact) (v : ℤ) → After x.m x.h x.mode x.act s l
+      → s.context ≡ x.context → Changes x l.memory → owed s x.act ≤ x.owed → Means x.m x.act.layout fact (Some v)
+      → FitsIf x (memory.with_fact_a (rule_site x) fact s) (step.goes_on (step_site x) (step.with_a v l))
+  with_fact_fits s l fact v a same changes n means =
+      in_plain_rule x s a.same_mode _ _ (beside_plain_rule x s a.same_mode _ _
+      (goes_on_fits x (rule.with_a (known fact) s) (step.with_a v l)
+      (after_stack x a (record {
+        a = record { fact = means; source = from_nowhere };
+        b = a.knows.registers.b;
+        c = a.knows.registers.c;
+      })) same changes n))
+
+  module _ (s : State) (l : Local) (a : After x.m x.h x.mode x.act s l) (same : s.context ≡ x.context)
+      (changes : Changes x l.memory) (n : owed s x.act ≤ x.owed) where
+    pub ldnlp_fits : (e : ℤ) → FitsSigned w32 e
+        → FitsIf x (table.instruction_rule (rule_site x) instructions.LoadNonLocalPointer e s)
+        (step.instruction_step (step_site x) instructions.LoadNonLocalPointer e l)
+    unfolding table.instruction_rule step.instruction_step
+    ldnlp_fits e fits =
+        beside_plain_step x s a.same_mode _ _ (uses_fits x s.stack.a l.registers.stack.a _ _ a.knows.registers.a (λ v means.
+        settles_fits (shifted (pos 4 *ℤ e) s.stack.a.fact) _ _ (λ fact is.
+        beside_plain_rule x s a.same_mode _ _
+        (goes_on_fits x (rule.with_a (known fact) s) (step.with_a (step.word_of (local_address (step.address v) e)) l)
+        (after_stack x a (record {
+          a = record {
+            fact = shifted_means x.m x.act.layout e v s.stack.a.fact fact is fits means.fact;
+            source = from_nowhere;
+          };
+          b = a.knows.registers.b;
+          c = a.knows.registers.c;
+        })) same changes n))))
+
+    -- the registers without the first
+    popped : After x.m x.h x.mode x.act (rule.pop s) (step.pop l)
+    popped = after_stack x a (record { a = a.knows.registers.b; b = a.knows.registers.c; c = unknown_means })
+
+    pub bsub_fits : FitsIf x (table.operation_rule (rule_site x) operations.ByteSubscript s)
+        (step.operation_step (step_site x) operations.ByteSubscript l)
+    unfolding table.operation_rule step.operation_step
+    bsub_fits =
+        in_plain_step x s a.same_mode _ _ (uses_fits x s.stack.a l.registers.stack.a _ _ a.knows.registers.a (λ v means.
+        uses_fits x s.stack.b l.registers.stack.b _ _ a.knows.registers.b (λ u other.
+        settles_fits (number_of s.stack.b.fact) _ _ (λ r number. settles_fits (pointer_of s.stack.a.fact) _ _ (λ p pointer.
+        settles_fits (element_of Byte p r) _ _ (λ fact is.
+        with_fact_fits (rule.pop s) (step.pop l) fact _ popped same changes n
+        (byte_means x.m x.act.layout p r v u fact is
+        (subst (λ (f : Fact). Means x.m x.act.layout f (Some v)) (pointer_is x.m x.act.layout s.stack.a.fact p pointer).0
+        means.fact)
+        (number_lies x.m x.act.layout s.stack.b.fact r u number other.fact))))))))
+
+    pub wsub_fits : FitsIf x (table.operation_rule (rule_site x) operations.WordSubscript s)
+        (step.operation_step (step_site x) operations.WordSubscript l)
+    unfolding table.operation_rule step.operation_step
+    wsub_fits =
+        in_plain_step x s a.same_mode _ _ (uses_fits x s.stack.a l.registers.stack.a _ _ a.knows.registers.a (λ v means.
+        uses_fits x s.stack.b l.registers.stack.b _ _ a.knows.registers.b (λ u other.
+        settles_fits (number_of s.stack.b.fact) _ _ (λ r number. settles_fits (pointer_of s.stack.a.fact) _ _ (λ p pointer.
+        settles_fits (element_of Word p r) _ _ (λ fact is.
+        with_fact_fits (rule.pop s) (step.pop l) fact _ popped same changes n
+        (word_means x.m x.act.layout p r v u fact is
+        (subst (λ (f : Fact). Means x.m x.act.layout f (Some v)) (pointer_is x.m x.act.layout s.stack.a.fact p pointer).0
+        means.fact)
+        (number_lies x.m x.act.layout s.stack.b.fact r u number other.fact))))))))
+
+    pub ldpi_fits : FitsIf x (table.operation_rule (rule_site x) operations.LoadPointerToInstruction s)
+        (step.operation_step (step_site x) operations.LoadPointerToInstruction l)
+    unfolding table.operation_rule step.operation_step
+    ldpi_fits =
+        in_plain_step x s a.same_mode _ _ (uses_fits x s.stack.a l.registers.stack.a _ _ a.knows.registers.a (λ v means.
+        settles_fits (constant_of s.stack.a.fact) _ _ (λ c constant.
+        settles_fits (place_fact x.m (pos (x.at + x.len) +ℤ c)) _ _ (λ fact is.
+        let p = constant_is x.m x.act.layout s.stack.a.fact c v constant means.fact in
+        with_fact_fits s l fact _ a same changes n
+        (loaded_place x.m x.act.layout (x.at + x.len) c v fact is p.0 p.1)))))

@@ -1,0 +1,113 @@
+-- The rules of instructions that make pointers, and of those that read and write memory through them.
+use Rattle.std.specs.Prelude.{ℕ, ◌+◌, ◌-◌, ◌&&◌, nat_lt, nat_le, ℤ, pos, negsuc, ◌+ℤ◌, ◌*ℤ◌, int_le, Bool}
+use Rattle.std.specs.Prelude.{if◌then◌else◌, length, Result, Ok, Err}
+use Rattle.module_format.specs.declared.fact.Fact.{Fact}
+use Rattle.module_format.specs.declared.fact.Fact.TheVariants.{Number, Pointer, CodeAddress}
+use Rattle.module_format.specs.declared.fact.Step.{Step}
+use Rattle.module_format.specs.declared.fact.Step.TheVariants.{Byte, Word}
+use Rattle.module_format.specs.Order.{is_stepped, least_word, greatest_word}
+use Rattle.module_format.specs.Contents.{Contents}
+use Rattle.machine_state.specs.World.{padding}
+use Rattle.states.specs.declared.rule.Rule.{Rule}
+use Rattle.states.specs.declared.rule.Rule.TheVariants as rules
+use Rattle.states.specs.State.{State, known, is_word as is_same}
+use Rattle.facts.specs.declared.pointers.Pointed.{Pointed}
+use Rattle.facts.specs.declared.pointers.Bounds.{Bounds}
+use Rattle.facts.specs.Rulings.{Ruling, breaks, Site, alone, outside_starts, uses, goes_on, pop, with_a}
+
+-- ---- pointers
+
+-- an offset that is not far from its region's start
+abbrev pub is_near : ℤ → Bool
+is_near offset = int_le (negsuc 16777215) offset && int_le offset (pos 16777216)
+
+abbrev pub are_near : ℤ → ℤ → Bool
+are_near lo hi = is_near lo && is_near hi
+
+-- the fact of a pointer, where its offsets are near
+unfoldable pub near_fact : ℕ → ℤ → ℤ → Step → Result Fact Rule
+near_fact region lo hi step = if are_near lo hi then Ok (Pointer region lo hi step) else Err rules.Pointer
+
+-- a pointer that may be used or shifted: its offsets are near
+unfoldable pub pointer_of : Fact → Result Pointed Rule
+pointer_of (Pointer region lo hi step) =
+    if are_near lo hi then Ok (record { region = region; lo = lo; hi = hi; step = step }) else Err rules.Pointer
+pointer_of _ = Err rules.Pointer
+
+-- the bounds of a number
+unfoldable pub number_of : Fact → Result Bounds Rule
+number_of (Number lo hi) = Ok (record { lo = lo; hi = hi })
+number_of _ = Err rules.Number
+
+-- the number that a fact says it is
+unfoldable pub constant_of : Fact → Result ℤ Rule
+constant_of (Number lo hi) = if is_same lo hi then Ok lo else Err rules.Number
+constant_of _ = Err rules.Number
+
+-- what an answer leads to, unless it is that a rule is broken
+unfoldable pub settles : {A : Type 0} → Result A Rule → (A → Ruling) → Ruling
+settles (Ok x) k = k x
+settles (Err broken) k = breaks broken
+
+-- A becomes this, outside alternations and starts
+abbrev pub with_fact_a : Site → Fact → State → Ruling
+with_fact_a site fact s = alone s.mode (goes_on site (with_a (known fact) s))
+
+-- ---- pointers that are made
+
+-- a number of 32 bits
+abbrev pub is_of_a_word : ℤ → Bool
+is_of_a_word z = int_le least_word z && int_le z greatest_word
+
+-- a number whose bounds are words
+unfoldable pub word_fact : ℤ → ℤ → Result Fact Rule
+word_fact lo hi = if is_of_a_word lo && is_of_a_word hi then Ok (Number lo hi) else Err rules.Number
+
+-- so many bytes further: a number, or a pointer
+unfoldable pub shifted : ℤ → Fact → Result Fact Rule
+shifted by (Number lo hi) = word_fact (lo +ℤ by) (hi +ℤ by)
+shifted by (Pointer region lo hi step) =
+    if are_near lo hi then near_fact region (lo +ℤ by) (hi +ℤ by) step else Err rules.Pointer
+shifted by _ = Err rules.Number
+
+-- ldnlp: A is e words further
+abbrev pub shifts_pointer : Site → ℤ → State → Ruling
+shifts_pointer site e s =
+    uses s.stack.a (λ a. settles (shifted (pos 4 *ℤ e) a) (λ fact.
+    outside_starts s.mode (goes_on site (with_a (known fact) s))))
+
+-- a pointer that is further by a number between two others
+abbrev pub further : Pointed → ℤ → ℤ → Step → Result Fact Rule
+further p low high step = near_fact p.region (p.lo +ℤ low) (p.hi +ℤ high) step
+
+-- the step of a pointer that is so many bytes further
+abbrev pub step_after : Step → Bounds → Step
+step_after step r = if is_same r.lo r.hi && is_stepped r.lo then step else Byte
+
+-- what a pointer is so many bytes, or words, further
+unfoldable pub element_of : Step → Pointed → Bounds → Result Fact Rule
+element_of Byte p r = further p r.lo r.hi (step_after p.step r)
+element_of Word p r = further p (pos 4 *ℤ r.lo) (pos 4 *ℤ r.hi) p.step
+
+-- bsub, wsub: the byte, or the word, of number B behind A
+abbrev pub subscripts : Step → Site → State → Ruling
+subscripts element site s =
+    uses s.stack.a (λ a. uses s.stack.b (λ b. settles (number_of b) (λ r. settles (pointer_of a) (λ p.
+    settles (element_of element p r) (λ fact. with_fact_a site fact (pop s))))))
+
+-- the address of a place so far behind the first byte of the code: it is one of the code, or of the constants, which
+-- begin at a word
+unfoldable pub place_fact : Contents → ℤ → Result Fact Rule
+place_fact m (negsuc n) = Err rules.Pointer
+place_fact m (pos n) =
+    let behind = length m.code + padding (length m.code) in
+    if nat_lt n (length m.code) then Ok (CodeAddress n)
+    else if nat_le behind n && nat_lt n (behind + length m.constants)
+    then Ok (Pointer 1 (pos (n - behind)) (pos (n - behind)) (if is_stepped (pos (n - behind)) then Word else Byte))
+    else Err rules.Pointer
+
+-- ldpi: the address so far behind the instruction
+abbrev pub loads_place : Site → State → Ruling
+loads_place site s =
+    uses s.stack.a (λ a. settles (constant_of a) (λ v.
+    settles (place_fact site.contents (pos (site.at + site.length) +ℤ v)) (λ fact. with_fact_a site fact s)))

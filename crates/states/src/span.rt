@@ -1,0 +1,98 @@
+//! Spans of words: what is known of them together, and what is left of what was known.
+
+ghost use Rattle.std.specs.Prelude.{◌≡◌};
+ghost use Rattle.states.specs.Rows.{LoopFits};
+ghost use Rattle.states.specs.Spans.{of_none, with_plain, with_one, widened, left_of};
+
+use crate::known::WordFact;
+use certificate::Fact;
+
+/// What is known of some words together.
+#[derive(Clone, Copy, Debug, PartialEq, Eq)]
+pub struct Together {
+    /// The least number that a word may be whose plain fact is a number: the greatest word, if there is none.
+    pub lo: i32,
+    /// The greatest one: the least word, if there is none.
+    pub hi: i32,
+    /// Whether the plain fact of each word is a number.
+    pub are_numbers: bool,
+    /// Whether no word is one of a loop.
+    pub are_alone: bool,
+}
+
+impl Together {
+    /// Of no words.
+    pub(crate) fn of_none() -> Self
+        ensures { result ≡ of_none }
+    {
+        Together {
+            lo: i32::MAX,
+            hi: i32::MIN,
+            are_numbers: true,
+            are_alone: true,
+        }
+    }
+
+    /// The same of one more, whose plain fact this is.
+    fn with_plain(self, fact: Fact) -> Self
+        ensures { result ≡ with_plain fact self }
+    {
+        match fact {
+            Fact::Number { lo, hi } => Together {
+                lo: self.lo.min(lo),
+                hi: self.hi.max(hi),
+                ..self
+            },
+            _ => Together {
+                are_numbers: false,
+                ..self
+            },
+        }
+    }
+
+    /// The same of one more.
+    pub(crate) fn with(self, fact: WordFact) -> Self
+        requires { LoopFits fact }
+        ensures { result ≡ with_one fact self }
+    {
+        let all = Together {
+            are_alone: self.are_alone && fact.is_alone(),
+            ..self
+        };
+        all.with_plain(fact.plain())
+    }
+}
+
+/// What is left of what was known of a word.
+#[derive(Clone, Copy, Debug)]
+pub enum Leaving {
+    /// This is known instead.
+    Become(Fact),
+    /// A number may have been replaced by one from `lo` to `hi`; of anything else nothing is left.
+    Widen { lo: i32, hi: i32 },
+}
+
+/// What is left of a number that may have been replaced by one from `lo` to `hi`.
+fn widened(lo: i32, hi: i32, said: Fact) -> Fact
+    ensures { result ≡ widened lo hi said }
+{
+    match said {
+        Fact::Number { lo: low, hi: high } => Fact::Number {
+            lo: low.min(lo),
+            hi: high.max(hi),
+        },
+        _ => Fact::Unknown,
+    }
+}
+
+impl Leaving {
+    /// What is left of a fact.
+    pub(crate) fn left_of(self, said: Fact) -> Fact
+        ensures { result ≡ left_of self said }
+    {
+        match self {
+            Leaving::Become(fact) => fact,
+            Leaving::Widen { lo, hi } => widened(lo, hi, said),
+        }
+    }
+}
