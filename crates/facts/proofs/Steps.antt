@@ -9,7 +9,7 @@ use Rattle.module_format.specs.declared.fact.Fact.{Fact}
 use Rattle.module_format.specs.declared.fact.Fact.TheVariants.{Unknown, Number}
 use Rattle.machine_state.specs.declared.instruction.Instruction.{Instruction}
 use Rattle.machine_state.specs.declared.instruction.Instruction.TheVariants.{Jump, LoadConstant, LoadLocal, StoreLocal}
-use Rattle.machine_state.specs.declared.instruction.Instruction.TheVariants.{WithConstant, LoadNonLocalPointer}
+use Rattle.machine_state.specs.declared.instruction.Instruction.TheVariants.{WithConstant, LoadNonLocalPointer, LoadNonLocal}
 use Rattle.machine_state.specs.declared.instruction.Instruction.TheVariants.{Operate}
 use Rattle.machine_state.specs.declared.op.Op.{Op}
 use Rattle.machine_state.specs.declared.op.Op.TheVariants as ops
@@ -143,6 +143,7 @@ operation-without site (ops.Unary op) s h = absurd (cc)
 operation-without site ops.ByteSubscript s h = absurd (cc)
 operation-without site ops.WordSubscript s h = absurd (cc)
 operation-without site ops.LoadPointerToInstruction s h = absurd (cc)
+operation-without site ops.LoadByte s h = absurd (cc)
 operation-without site _ s h = refl
 
 instruction-without : (site : Site) (i : Instruction) (e : ℤ) (s : State) → instruction_has_rule i ≡ false
@@ -154,6 +155,7 @@ instruction-without site StoreLocal e s h = absurd (cc)
 instruction-without site (WithConstant op) e s h = absurd (cc)
 instruction-without site Jump e s h = absurd (cc)
 instruction-without site LoadNonLocalPointer e s h = absurd (cc)
+instruction-without site LoadNonLocal e s h = absurd (cc)
 instruction-without site (Operate op) e s h = operation-without site op s h
 instruction-without site _ e s h = refl
 

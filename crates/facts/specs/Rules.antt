@@ -9,11 +9,11 @@ use Rattle.module_format.specs.declared.fact.Step.TheVariants.{Byte, Word}
 use Rattle.module_format.specs.Contents.{Contents}
 use Rattle.machine_state.specs.declared.op.Op.{Op}
 use Rattle.machine_state.specs.declared.op.Op.TheVariants.{Reverse, StopProcess, MinimumInteger, Binary, Unary}
-use Rattle.machine_state.specs.declared.op.Op.TheVariants.{ByteSubscript, WordSubscript, LoadPointerToInstruction}
+use Rattle.machine_state.specs.declared.op.Op.TheVariants.{ByteSubscript, WordSubscript, LoadPointerToInstruction, LoadByte}
 use Rattle.machine_state.specs.declared.instruction.Instruction.{Instruction}
 use Rattle.machine_state.specs.declared.instruction.Instruction.TheVariants.{Jump, LoadConstant, LoadLocal, StoreLocal}
 use Rattle.machine_state.specs.declared.instruction.Instruction.TheVariants.{WithConstant, Operate}
-use Rattle.machine_state.specs.declared.instruction.Instruction.TheVariants.{LoadNonLocalPointer}
+use Rattle.machine_state.specs.declared.instruction.Instruction.TheVariants.{LoadNonLocalPointer, LoadNonLocal}
 use Rattle.machine_state.specs.Instructions.{instruction_of}
 use Rattle.machine_state.specs.LocalStep.{target}
 use Rattle.states.specs.declared.rule.Rule.TheVariants as rules
@@ -21,7 +21,7 @@ use Rattle.states.specs.State.{State, written}
 use Rattle.facts.specs.Rulings.{Ruling, ends, breaks, Site, outside_alternation, outside_starts, alone, uses, forward}
 use Rattle.facts.specs.Rulings.{writes_word, reads_word, schedules, pays, goes_on, goes_to, push, pop, reverse}
 use Rattle.facts.specs.WordRules.{constant, loaded, result_fact, unary_result_fact, becomes}
-use Rattle.facts.specs.MemoryRules.{shifts_pointer, subscripts, loads_place}
+use Rattle.facts.specs.MemoryRules.{shifts_pointer, subscripts, loads_place, loads_word, loads_byte}
 
 -- ---- the instructions
 
@@ -35,6 +35,7 @@ operation_rule site (Unary op) s = uses s.stack.a (λ a. becomes site (unary_res
 operation_rule site ByteSubscript s = subscripts Byte site s
 operation_rule site WordSubscript s = subscripts Word site s
 operation_rule site LoadPointerToInstruction s = loads_place site s
+operation_rule site LoadByte s = loads_byte site s
 operation_rule site _ s = breaks rules.Spelling
 
 unfoldable pub instruction_rule : Site → Instruction → ℤ → State → Ruling
@@ -49,6 +50,7 @@ instruction_rule site (WithConstant op) e s = uses s.stack.a (λ a. becomes site
 instruction_rule site Jump e s =
     outside_alternation s.mode (forward e (goes_to site (target (site.at + site.length) e) s))
 instruction_rule site LoadNonLocalPointer e s = shifts_pointer site e s
+instruction_rule site LoadNonLocal e s = loads_word site e s
 instruction_rule site (Operate op) e s = operation_rule site op s
 instruction_rule site _ e s = breaks rules.Spelling
 
@@ -74,6 +76,7 @@ op_has_rule (Unary op) = true
 op_has_rule ByteSubscript = true
 op_has_rule WordSubscript = true
 op_has_rule LoadPointerToInstruction = true
+op_has_rule LoadByte = true
 op_has_rule _ = false
 
 abbrev pub instruction_has_rule : Instruction → Bool
@@ -83,6 +86,7 @@ instruction_has_rule StoreLocal = true
 instruction_has_rule (WithConstant op) = true
 instruction_has_rule Jump = true
 instruction_has_rule LoadNonLocalPointer = true
+instruction_has_rule LoadNonLocal = true
 instruction_has_rule (Operate op) = op_has_rule op
 instruction_has_rule _ = false
 

@@ -25,6 +25,7 @@ fn op_has_rule(op: Op) -> bool
             | Op::ByteSubscript
             | Op::WordSubscript
             | Op::LoadPointerToInstruction
+            | Op::LoadByte
     )
 }
 
@@ -37,7 +38,8 @@ fn instruction_has_rule(instruction: Instruction) -> bool
         | Instruction::StoreLocal
         | Instruction::WithConstant(_)
         | Instruction::Jump
-        | Instruction::LoadNonLocalPointer => true,
+        | Instruction::LoadNonLocalPointer
+        | Instruction::LoadNonLocal => true,
         Instruction::Operate(op) => op_has_rule(op),
         _ => false,
     }
@@ -81,6 +83,7 @@ pub fn advance(
         Instruction::WithConstant(op) => place.with_constant(state, op, instr.operand),
         Instruction::Jump => place.jump(state, instr.operand),
         Instruction::LoadNonLocalPointer => place.load_non_local_pointer(state, instr.operand),
+        Instruction::LoadNonLocal => place.load_non_local(state, instr.operand),
         Instruction::Operate(op) => place.operate(state, op),
         _ => Err(Rule::Spelling),
     }

@@ -9,6 +9,7 @@ mod laws;
 mod memory;
 mod place;
 mod pointers;
+mod reach;
 
 pub use advancing::{advance, has_rule};
 pub use continuation::Continuation;
