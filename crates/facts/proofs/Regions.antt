@@ -48,7 +48,7 @@ or_true true b h = refl
 or_true false b h = absurd (cc)
 
 -- what may be written may be read
-may_too : (h : Holding) (place : ℕ) → may_write h place ≡ true → may_read h place ≡ true
+pub may_too : (h : Holding) (place : ℕ) → may_write h place ≡ true → may_read h place ≡ true
 may_too h place mine = or_true (may_write h place) (list_any (λ span. covers span place) h.reads) mine
 
 -- each byte of a word

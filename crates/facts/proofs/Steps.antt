@@ -12,7 +12,7 @@ use Rattle.machine_state.specs.declared.instruction.Instruction.{Instruction}
 use Rattle.machine_state.specs.declared.instruction.Instruction.TheVariants.{Jump, LoadConstant, LoadLocal, StoreLocal}
 use Rattle.machine_state.specs.declared.instruction.Instruction.TheVariants.{WithConstant, LoadLocalPointer}
 use Rattle.machine_state.specs.declared.instruction.Instruction.TheVariants.{AdjustWorkspace, ConditionalJump}
-use Rattle.machine_state.specs.declared.instruction.Instruction.TheVariants.{LoadNonLocalPointer}
+use Rattle.machine_state.specs.declared.instruction.Instruction.TheVariants.{LoadNonLocalPointer, LoadNonLocal}
 use Rattle.machine_state.specs.declared.instruction.Instruction.TheVariants.{Operate}
 use Rattle.machine_state.specs.declared.op.Op.{Op}
 use Rattle.machine_state.specs.declared.op.Op.TheVariants as ops
@@ -191,6 +191,7 @@ operation-without site ops.CheckCount s h = absurd (cc)
 operation-without site ops.ByteSubscript s h = absurd (cc)
 operation-without site ops.WordSubscript s h = absurd (cc)
 operation-without site ops.LoadPointerToInstruction s h = absurd (cc)
+operation-without site ops.LoadByte s h = absurd (cc)
 operation-without site _ s h = refl
 
 instruction-without : (site : Site) (i : Instruction) (e : ℤ) (s : State)
@@ -205,6 +206,7 @@ instruction-without site AdjustWorkspace e s h = absurd (cc)
 instruction-without site Jump e s h = absurd (cc)
 instruction-without site ConditionalJump e s h = absurd (cc)
 instruction-without site LoadNonLocalPointer e s h = absurd (cc)
+instruction-without site LoadNonLocal e s h = absurd (cc)
 instruction-without site (Operate op) e s h = operation-without site op s h
 instruction-without site _ e s h = refl
 
