@@ -65,7 +65,7 @@ or_true : (a b : Bool) → a ≡ true → (a || b) ≡ true
 or_true true b h = refl
 or_true false b h = absurd (cc)
 
-and_both : (a b : Bool) → a ≡ true → b ≡ true → (a && b) ≡ true
+pub and_both : (a b : Bool) → a ≡ true → b ≡ true → (a && b) ≡ true
 and_both true true h g = refl
 and_both true false h g = absurd (cc)
 and_both false b h g = absurd (cc)
@@ -88,7 +88,7 @@ readable h place mine =
     (reads place) (reads (place + 1)) (reads (place + 2)) (reads (place + 3)) mine
 
 -- a word of the frame that may be written may be read
-written_readable : (m : Contents) (n : ℕ) (k : ℤ) → rights.may_write_word m n k ≡ true
+pub written_readable : (m : Contents) (n : ℕ) (k : ℤ) → rights.may_write_word m n k ≡ true
     → rights.may_read_word m n k ≡ true
 written_readable m n k h =
     let both = and-parts _ _ h in

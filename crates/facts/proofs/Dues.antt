@@ -1,10 +1,11 @@
 -- What loops have still to pay: a change of what is known adds nothing, and to enter a loop costs what it adds.
-use Rattle.std.proofs.Common.{◌≡◌, ℕ, zero, suc, ◌+◌, ◌-◌, ◌*◌, ◌≤◌, ℤ, pos, ◌+ℤ◌, ◌<ℤ◌, neg_ℤ, Bool, true, false, cond}
+use Rattle.std.proofs.Common.{◌≡◌, ℕ, zero, suc, ◌+◌, ◌-◌, ◌*◌, ◌≤◌, ℤ, pos, ◌+ℤ◌, ◌≤ℤ◌, ◌<ℤ◌, neg_ℤ, Bool, true, false, cond}
 use Rattle.std.proofs.Common.{◌⊎◌, inl, inr, List, [], ◌∷◌, Ok, refl, sym, ap, ◌∙◌, subst, arith}
 use Rattle.std.specs.Prelude.{sum_by}
 use Rattle.std.specs.List.{list_all}
 use Rattle.std.proofs.lemmas.Int.{ints}
 use Rattle.std.proofs.lemmas.List.Sums.{sum_by-cons}
+use Rattle.std.proofs.Math.Nat.{mul-suc}
 use Rattle.module_format.specs.declared.fact.Fact.{Fact}
 use Rattle.module_format.specs.declared.fact.Fact.TheVariants.{Loop}
 use Rattle.module_format.specs.declared.rows.Entry.{Entry}
@@ -21,7 +22,7 @@ use Rattle.states.proofs.Prices.{price-due}
 use Rattle.facts.specs.Meaning.{Activation, ArePairs, IsSpan, loop_due, dues_from, farthest_word, dues, owed}
 use Rattle.facts.specs.Meaning.{turns_from}
 use Rattle.facts.specs.Meaning.{label_turns, at_label}
-use Rattle.facts.proofs.Words.{bool_cases, word_test}
+use Rattle.facts.proofs.Words.{bool_cases, word_test, int_le_tells}
 use Rattle.facts.proofs.Entering.{same_loop, entries_said, entry_here, entry_later, below_tells}
 
 -- ---- a change adds nothing
@@ -292,3 +293,84 @@ label_owed s t paid act pairs is =
     let b = below_tells s t paid is in
     let due = label_dues s.frame t.entries act.turns pairs b.1.entries b.1.whole in
     omega (arith, b.0, due)
+
+-- ---- a turn that begins
+
+-- the turns left, where the loop whose index is in word k has one less
+abbrev pub one_turn_less : (ℤ → ℕ) → ℤ → ℤ → ℕ
+one_turn_less turns k = λ j. cond (is_word k j) (turns j - 1) (turns j)
+
+-- what is paid once in a stretch of words is paid in full where the word lies in the stretch
+once_there : (first : ℤ) (paid : ℕ) (word : ℤ) (more : ℕ) → word ≤ℤ first → first <ℤ (word +ℤ pos more)
+    → once_from first paid word more ≡ paid
+once_there first paid word zero low high = absurd (omega (arith, ints))
+once_there first paid word (suc more) low high = elim (word_test first word) [
+  | inl p ↦
+      let same : first ≡ word = p.1 in
+      let here : once first paid word ≡ paid = ap (λ (b : Bool). cond b paid 0) p.0 in
+      let rest = never_from first paid (word +ℤ pos 1) more (omega (arith, ints)) in
+      omega (arith, here, rest)
+  | inr p ↦
+      let none : once first paid word ≡ 0 = ap (λ (b : Bool). cond b paid 0) p.0 in
+      let differ : word ≡ first → ⊥ = λ e. p.1 (sym e) in
+      let rest = once_there first paid (word +ℤ pos 1) more (above word first low differ) (omega (arith, ints)) in
+      omega (arith, none, rest)
+]
+  where
+    above : (word first : ℤ) → word ≤ℤ first → (word ≡ first → ⊥) → (word +ℤ pos 1) ≤ℤ first
+    above word first low differ = elim (int_le_tells first word) [
+      | inl p ↦ let high : first ≤ℤ word = p.1 in absurd (differ (omega (arith, ints)))
+      | inr p ↦ let more : word <ℤ first = p.1 in omega (arith, ints)
+    ]
+
+-- one turn more costs the weight
+one_weight : (weight turns : ℕ) → 2 ≤ turns → weight * (turns - 1 - 1) + weight ≡ weight * (turns - 1)
+one_weight weight zero some = absurd (omega arith)
+one_weight weight (suc zero) some = absurd (omega arith)
+one_weight weight (suc (suc turns)) some =
+    let less : suc (suc turns) - 1 - 1 ≡ turns = omega arith in
+    let one : suc turns ≡ suc (suc turns) - 1 = omega arith in
+    ap (λ (n : ℕ). weight * n + weight) less ∙ (sym (mul-suc weight turns) ∙ ap (λ (n : ℕ). weight * n) one)
+
+turned_from : (facts : Facts) (turns : ℤ → ℕ) (k : ℤ) (loop : CountedLoop) → facts k ≡ Index loop → 2 ≤ turns k
+    → (word : ℤ) (more : ℕ)
+    → dues_from facts (one_turn_less turns k) word more + once_from k loop.weight word more
+    ≡ dues_from facts turns word more
+turned_from facts turns k loop is some word zero = refl
+turned_from facts turns k loop is some word (suc more) =
+    let rest = turned_from facts turns k loop is some (word +ℤ pos 1) more in
+    elim (word_test k word) [
+      | inl p ↦
+          let paid : once k loop.weight word ≡ loop.weight = ap (λ (b : Bool). cond b loop.weight 0) p.0 in
+          let fact : facts word ≡ Index loop = ap facts (sym p.1) ∙ is in
+          let less : one_turn_less turns k word ≡ turns word - 1 =
+          ap (λ (b : Bool). cond b (turns word - 1) (turns word)) p.0 in
+          let enough : 2 ≤ turns word = subst (λ (j : ℤ). 2 ≤ turns j) p.1 some in
+          let after : loop_due (facts word) (one_turn_less turns k word) ≡ loop.weight * (turns word - 1 - 1) =
+          ap (λ (f : WordFact). loop_due f (one_turn_less turns k word)) fact
+          ∙ ap (λ (n : ℕ). loop.weight * (n - 1)) less in
+          let before : loop_due (facts word) (turns word) ≡ loop.weight * (turns word - 1) =
+          ap (λ (f : WordFact). loop_due f (turns word)) fact in
+          let weight = one_weight loop.weight (turns word) enough in
+          omega (arith, rest, paid, after, before, weight)
+      | inr p ↦
+          let none : once k loop.weight word ≡ 0 = ap (λ (b : Bool). cond b loop.weight 0) p.0 in
+          let same : loop_due (facts word) (one_turn_less turns k word) ≡ loop_due (facts word) (turns word) =
+          ap (λ (b : Bool). loop_due (facts word) (cond b (turns word - 1) (turns word))) p.0 in
+          omega (arith, rest, none, same)
+    ]
+
+stretch : (k : ℤ) → k <ℤ pos farthest_word → k <ℤ (neg_ℤ (pos farthest_word) +ℤ pos (2 * farthest_word))
+unfolding farthest_word
+stretch k high = omega (arith, ints)
+
+-- Where a loop turns, less is due by its weight.
+pub turned_dues : (facts : Facts) (turns : ℤ → ℕ) (k : ℤ) (loop : CountedLoop) → facts k ≡ Index loop → 2 ≤ turns k
+    → neg_ℤ (pos farthest_word) ≤ℤ k → k <ℤ pos farthest_word
+    → dues facts (one_turn_less turns k) + loop.weight ≡ dues facts turns
+unfolding dues
+turned_dues facts turns k loop is some low high =
+    let first = neg_ℤ (pos farthest_word) in
+    let paid = once_there k loop.weight first (2 * farthest_word) low (stretch k high) in
+    ap (λ (n : ℕ). dues_from facts (one_turn_less turns k) first (2 * farthest_word) + n) (sym paid)
+    ∙ turned_from facts turns k loop is some first (2 * farthest_word)

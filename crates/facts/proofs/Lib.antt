@@ -17,4 +17,7 @@ pub mod Narrowed
 pub mod Combining
 pub mod WordsFit
 pub mod MemoryFits
+pub mod Turning
+pub mod Blocks
+pub mod LoopsFit
 pub mod Local

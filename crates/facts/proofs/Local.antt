@@ -22,6 +22,8 @@ use Rattle.facts.proofs.WordsFit.{ldc_fits, ldl_fits, stl_fits, constant_fits, r
 use Rattle.facts.proofs.WordsFit.{unary_fits, shift_fits, long_fits, subscript_fits, count_fits, pointer_fits}
 use Rattle.facts.proofs.WordsFit.{adjust_fits, cj_fits}
 use Rattle.facts.proofs.MemoryFits.{ldnlp_fits, bsub_fits, wsub_fits, ldpi_fits, ldnl_fits, lb_fits}
+use Rattle.facts.proofs.LoopsFit.{lend_fits}
+use Rattle.states.proofs.RowFacts.{and-parts}
 
 module _ (x : Here) (wf : IsWellFormed x.m) (s : State) (l : Local) (a : After x.m x.h x.mode x.act s l)
     (same : s.context ≡ x.context) (changes : Changes x l.memory) (n : owed s x.act ≤ x.owed) where
@@ -63,6 +65,8 @@ module _ (x : Here) (wf : IsWellFormed x.m) (s : State) (l : Local) (a : After x
   operation_fits operations.WordSubscript = wsub_fits x s l a same changes n
   operation_fits operations.LoadPointerToInstruction = ldpi_fits x s l a same changes n
   operation_fits operations.LoadByte = lb_fits x s l a same changes n wf
+  operation_fits operations.LoopEnd =
+      lend_fits x wf s l a a.named.even (λ k t. wf.frames s.context k (and-parts _ _ t).0) same changes n
   operation_fits _ = λ next. it_breaks
 
   instruction_fits : (i : Instruction) (e : ℤ) → FitsSigned w32 e

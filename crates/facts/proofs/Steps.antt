@@ -192,6 +192,7 @@ operation-without site ops.ByteSubscript s h = absurd (cc)
 operation-without site ops.WordSubscript s h = absurd (cc)
 operation-without site ops.LoadPointerToInstruction s h = absurd (cc)
 operation-without site ops.LoadByte s h = absurd (cc)
+operation-without site ops.LoopEnd s h = absurd (cc)
 operation-without site _ s h = refl
 
 instruction-without : (site : Site) (i : Instruction) (e : ℤ) (s : State)

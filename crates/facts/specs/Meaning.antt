@@ -1,7 +1,7 @@
 -- What the facts of a state mean of a process.
 use Rattle.std.specs.Prelude.{◌≡◌, ⊤, ℕ, ◌+◌, ◌*◌, ◌-◌, ◌≤◌, ◌<◌, ◌==◌, ℤ, pos, negsuc, ◌+ℤ◌, ◌-ℤ◌, ◌*ℤ◌, ◌≤ℤ◌}
 use Rattle.std.specs.Prelude.{FitsSigned, Bool, true, not, ◌&&◌, int_le, IsTrue, if◌then◌else◌, List, length, Option}
-use Rattle.std.specs.Prelude.{zero, suc, neg_ℤ, Some, None}
+use Rattle.std.specs.Prelude.{◌<ℤ◌, zero, suc, neg_ℤ, Some, None}
 use Rattle.std.specs.Int.{w32, int_wrap}
 use Rattle.std.specs.List.{AllByRecursion}
 use Rattle.module_format.specs.declared.fact.Fact.{Fact}
@@ -259,5 +259,7 @@ pub record IsWellFormed (m : Contents) : Type 0 where
   pub labels : (at : ℕ) (t : Label) → label_at m at ≡ Some t → at < length m.code
   pub rows : (at : ℕ) (t : Label) → label_at m at ≡ Some t → IsRowOf m t
   pub pairs : (at : ℕ) (t : Label) → label_at m at ≡ Some t → ArePairs t.entries
+  pub frames : (n : ℕ) (k : ℤ) → rights.has_word (context_at m n) k ≡ true
+      → (neg_ℤ (pos farthest_word) ≤ℤ k) × (k <ℤ pos farthest_word)
   pub constant_bytes : IsBytes m.constants
   pub tables : InOrder (TableKeeps m.constants) behind_table 0 m.table_rows

@@ -12,6 +12,7 @@ use Rattle.machine_state.specs.declared.op.Op.TheVariants.{Reverse, StopProcess,
 use Rattle.machine_state.specs.declared.op.Op.TheVariants.{Shift, Long, CheckSubscript, CheckCount}
 use Rattle.machine_state.specs.declared.op.Op.TheVariants.{ByteSubscript, WordSubscript, LoadPointerToInstruction}
 use Rattle.machine_state.specs.declared.op.Op.TheVariants.{LoadByte}
+use Rattle.machine_state.specs.declared.op.Op.TheVariants.{LoopEnd}
 use Rattle.machine_state.specs.declared.instruction.Instruction.{Instruction}
 use Rattle.machine_state.specs.declared.instruction.Instruction.TheVariants.{Jump, LoadConstant, LoadLocal, StoreLocal}
 use Rattle.machine_state.specs.declared.instruction.Instruction.TheVariants.{WithConstant, Operate}
@@ -31,6 +32,7 @@ use Rattle.facts.specs.WordRules.{fact_of_two, result_fact, unary_result_fact, s
 use Rattle.facts.specs.WordRules.{long_results, result_source, constant_source, becomes, where_false, where_true}
 use Rattle.facts.specs.WordRules.{in_frame, near}
 use Rattle.facts.specs.MemoryRules.{shifts_pointer, subscripts, loads_place, loads_word, loads_byte}
+use Rattle.facts.specs.LoopRules.{ends_turn}
 
 -- ---- the instructions
 
@@ -58,6 +60,7 @@ operation_rule site ByteSubscript s = subscripts Byte site s
 operation_rule site WordSubscript s = subscripts Word site s
 operation_rule site LoadPointerToInstruction s = loads_place site s
 operation_rule site LoadByte s = loads_byte site s
+operation_rule site LoopEnd s = ends_turn site s
 operation_rule site _ s = breaks rules.Spelling
 
 unfoldable pub instruction_rule : Site → Instruction → ℤ → State → Ruling
@@ -113,6 +116,7 @@ op_has_rule m ByteSubscript = true
 op_has_rule m WordSubscript = true
 op_has_rule m LoadPointerToInstruction = true
 op_has_rule m LoadByte = true
+op_has_rule m LoopEnd = true
 op_has_rule m _ = false
 
 abbrev pub instruction_has_rule : Contents → Instruction → Bool

@@ -27,7 +27,8 @@ fn op_has_rule(module: &Module, op: Op) -> bool
         | Op::ByteSubscript
         | Op::WordSubscript
         | Op::LoadPointerToInstruction
-        | Op::LoadByte => true,
+        | Op::LoadByte
+        | Op::LoopEnd => true,
         Op::Long(_) => module.tables().has_long_operations,
         _ => false,
     }

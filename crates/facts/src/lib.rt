@@ -6,6 +6,7 @@ mod combinators;
 mod continuation;
 mod following;
 mod laws;
+mod loops;
 mod memory;
 mod narrowing;
 mod place;

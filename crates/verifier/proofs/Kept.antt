@@ -17,7 +17,15 @@ use Rattle.module_format.specs.declared.tables.Version.{Version}
 use Rattle.module_format.specs.declared.tables.Version.TheVariants as versions
 use Rattle.module_format.specs.Keeping.{max_code, Keeps}
 use Rattle.states.proofs.LabelRows.{label_row_at}
-use Rattle.facts.specs.Meaning.{IsWellFormed}
+use Rattle.facts.specs.Meaning.{IsWellFormed, farthest_word}
+use Rattle.states.proofs.FrameBounds.{frame-is-small}
+use Rattle.states.proofs.RowFacts.{and-parts, le-from, lt-from}
+use Rattle.certificate.specs.Rights.{has_word}
+use Rattle.module_format.specs.declared.contexts.Context.{Context}
+use Rattle.module_format.specs.Contexts.{context_at}
+use Rattle.std.specs.Prelude.{int_le, int_lt, neg_ℤ, ◌<ℤ◌}
+use Rattle.std.proofs.lemmas.Int.{ints}
+use Rattle.std.proofs.Common.{ℤ, ◌≤ℤ◌, Option, None, refl}
 use Rattle.facts.proofs.LabelRows.{label_pairs}
 use Rattle.verifier.specs.Point.{Decodes}
 use Rattle.verifier.proofs.Judging.{Spans}
@@ -72,6 +80,22 @@ code_is_short : (v : Version) → max_code v ≤ 262143
 code_is_short versions.One = omega arith
 code_is_short versions.Two = omega arith
 
+-- no word of a frame is farther from its word 0 than any is
+frame_words : (m : Contents) → Keeps m → (n : ℕ) (k : ℤ) → has_word (context_at m n) k ≡ true
+    → (neg_ℤ (pos farthest_word) ≤ℤ k) × (k <ℤ pos farthest_word)
+unfolding farthest_word
+frame_words m keeps n k h = on_context (context_at m n) refl h
+  where
+    on_context : (o : Option Context) → context_at m n ≡ o → has_word o k ≡ true
+        → (neg_ℤ (pos farthest_word) ≤ℤ k) × (k <ℤ pos farthest_word)
+    on_context None e h = absurd (cc)
+    on_context (Some context) e h =
+        let small = frame-is-small m keeps n context e in
+        let inside = and-parts (int_le context.lo k) (int_lt k context.hi) h in
+        let low = le-from context.lo k inside.0 in
+        let high = lt-from k context.hi inside.1 in
+        (omega (arith, ints, small.low, low), omega (arith, ints, small.high, high))
+
 pub well_formed : (m : Contents) → Keeps m → IsWellFormed m
 well_formed m k = record {
   some_code = k.sizes.has_code;
@@ -83,6 +107,7 @@ well_formed m k = record {
       found_keeps (length m.code) m.procedures 0 at m.labels t k.rows.labels h in omega (arith, f.0, f.1);
   rows = λ at t h. label_row_at m at t k h;
   pairs = λ at t h. label_pairs m at t k h;
+  frames = frame_words m k;
   constant_bytes = k.constant_bytes;
   tables = k.rows.table_rows;
 }
