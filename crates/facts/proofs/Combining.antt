@@ -88,7 +88,7 @@ readable h place mine =
     (reads place) (reads (place + 1)) (reads (place + 2)) (reads (place + 3)) mine
 
 -- a word of the frame that may be written may be read
-written_readable : (m : Contents) (n : ℕ) (k : ℤ) → rights.may_write_word m n k ≡ true
+pub written_readable : (m : Contents) (n : ℕ) (k : ℤ) → rights.may_write_word m n k ≡ true
     → rights.may_read_word m n k ≡ true
 written_readable m n k h =
     let both = and-parts _ _ h in

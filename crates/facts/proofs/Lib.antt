@@ -14,4 +14,12 @@ pub mod Narrowed
 pub mod Combining
 pub mod WordsFit
 pub mod MemoryFits
+pub mod Constants
+pub mod Offsets
+pub mod Lending
+pub mod Ends
+pub mod CallTests
+pub mod Passing
+pub mod Resuming
+pub mod CallsFit
 pub mod Local

@@ -191,6 +191,7 @@ operation-without site ops.CheckCount s h = absurd (cc)
 operation-without site ops.ByteSubscript s h = absurd (cc)
 operation-without site ops.WordSubscript s h = absurd (cc)
 operation-without site ops.LoadPointerToInstruction s h = absurd (cc)
+operation-without site ops.Return s h = absurd (cc)
 operation-without site _ s h = refl
 
 instruction-without : (site : Site) (i : Instruction) (e : ℤ) (s : State)

@@ -9,7 +9,7 @@ use Rattle.module_format.specs.declared.fact.Step.TheVariants.{Byte, Word}
 use Rattle.module_format.specs.Contents.{Contents}
 use Rattle.machine_state.specs.declared.op.Op.{Op}
 use Rattle.machine_state.specs.declared.op.Op.TheVariants.{Reverse, StopProcess, MinimumInteger, Binary, Unary}
-use Rattle.machine_state.specs.declared.op.Op.TheVariants.{Shift, Long, CheckSubscript, CheckCount}
+use Rattle.machine_state.specs.declared.op.Op.TheVariants.{Shift, Long, CheckSubscript, CheckCount, Return}
 use Rattle.machine_state.specs.declared.instruction.Instruction.{Instruction}
 use Rattle.machine_state.specs.declared.instruction.Instruction.TheVariants.{Jump, LoadConstant, LoadLocal, StoreLocal}
 use Rattle.machine_state.specs.declared.instruction.Instruction.TheVariants.{WithConstant, Operate}
@@ -25,6 +25,7 @@ use Rattle.states.specs.State.{State, known, written}
 use Rattle.facts.specs.Rulings.{Ruling, ends, breaks, Site, outside_alternation, outside_starts, alone, uses, forward}
 use Rattle.facts.specs.Rulings.{writes_word, reads_word, schedules, pays, forks_to, goes_on, goes_to, push, pop}
 use Rattle.facts.specs.Rulings.{reverse}
+use Rattle.facts.specs.CallRules.{return_rule}
 use Rattle.facts.specs.WordRules.{constant, loaded, in_bounds, has_range, numbers_have, has_long_operations}
 use Rattle.facts.specs.WordRules.{fact_of_two, result_fact, unary_result_fact, shift_range, is_subscript, is_count}
 use Rattle.facts.specs.WordRules.{long_results, result_source, constant_source, becomes, where_false, where_true}
@@ -56,6 +57,7 @@ operation_rule site CheckCount s =
 operation_rule site ByteSubscript s = subscripts Byte site s
 operation_rule site WordSubscript s = subscripts Word site s
 operation_rule site LoadPointerToInstruction s = loads_place site s
+operation_rule site Return s = return_rule site s
 operation_rule site _ s = breaks rules.Spelling
 
 unfoldable pub instruction_rule : Site → Instruction → ℤ → State → Ruling
@@ -109,6 +111,7 @@ op_has_rule m CheckCount = true
 op_has_rule m ByteSubscript = true
 op_has_rule m WordSubscript = true
 op_has_rule m LoadPointerToInstruction = true
+op_has_rule m Return = true
 op_has_rule m _ = false
 
 abbrev pub instruction_has_rule : Contents → Instruction → Bool

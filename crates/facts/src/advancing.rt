@@ -26,7 +26,8 @@ fn op_has_rule(module: &Module, op: Op) -> bool
         | Op::CheckCount
         | Op::ByteSubscript
         | Op::WordSubscript
-        | Op::LoadPointerToInstruction => true,
+        | Op::LoadPointerToInstruction
+        | Op::Return => true,
         Op::Long(_) => module.tables().has_long_operations,
         _ => false,
     }
