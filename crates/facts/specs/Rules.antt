@@ -29,8 +29,8 @@ use Rattle.facts.specs.Rulings.{reverse}
 use Rattle.facts.specs.WordRules.{constant, loaded, in_bounds, has_range, numbers_have, has_long_operations}
 use Rattle.facts.specs.WordRules.{fact_of_two, result_fact, unary_result_fact, shift_range, is_subscript, is_count}
 use Rattle.facts.specs.WordRules.{long_results, result_source, constant_source, becomes, where_false, where_true}
-use Rattle.facts.specs.WordRules.{in_frame, near}
-use Rattle.facts.specs.MemoryRules.{shifts_pointer, subscripts, loads_place, loads_word, loads_byte}
+use Rattle.facts.specs.WordRules.{in_frame}
+use Rattle.facts.specs.MemoryRules.{near, shifts_pointer, subscripts, loads_place, loads_word, loads_byte}
 
 -- ---- the instructions
 
