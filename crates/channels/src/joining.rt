@@ -2,7 +2,7 @@
 
 ghost use Rattle.std.specs.Prelude.{◌≡◌, ◌<◌, ◌∷◌, ◌++◌, [], Some, length, slice_set, vec_len, vec_capacity, MatchResult};
 ghost use Rattle.machine_state.specs.declared.process.Task.{Task as Process};
-ghost use Rattle.machine_state.specs.Joins.{on_role, without_channels};
+ghost use Rattle.machine_state.specs.Joins.{on_role, with_channels, without_channels};
 ghost use Rattle.machine_state.specs.Memory.{place_of, with_word};
 ghost use Rattle.machine_state.specs.Moves.{on_task, put};
 ghost use Rattle.machine_state.specs.Roles.{without_member, without_join, without_own};
@@ -14,9 +14,10 @@ ghost use Rattle.channels.specs.Starting.{with_process};
 
 use crate::removing::remove_all;
 use crate::traffic::Traffic;
-use machine_state::{Holding, Join, Progress, Store, TaggedStore, Task};
+use certificate::ChannelRow;
+use machine_state::{Channel, Holding, Join, Progress, Store, TaggedStore, Task, local_address};
 use process_queue::ListQueue;
-use std::alloc::{AllocError, Global};
+use std::alloc::AllocError;
 
 /// The process of this number, if there is one, is this task, and there is one more process.
 fn put_both(tasks: &mut Vec<Task>, process: u64, task: Task, more: Task)
@@ -30,11 +31,6 @@ fn put_both(tasks: &mut Vec<Task>, process: u64, task: Task, more: Task)
 }
 
 impl<S: Store> Traffic<S, ListQueue> {
-    /// Where its processes lie, and what a start of another needs comes from.
-    pub fn allocator(&self) -> Global {
-        *self.tasks.allocator()
-    }
-
     /// How many processes there are, those that have ended among them.
     pub fn count(&self) -> u64
         ensures { result ≡ length self.now.world.tasks }
@@ -59,6 +55,25 @@ impl<S: Store> Traffic<S, ListQueue> {
             self.new ≡ record self.old { world = record w { queue = queue } } }
     {
         self.running = Some(process);
+    }
+
+    /// The channels of these rows are there, of this opener, in words of a frame whose word 0 lies at the address.
+    fn open_channels(&mut self, opener: u64, base: u32, channels: &[ChannelRow])
+        ensures { let w = self.old.world in
+            let cells = with_channels opener base channels.now w.channels in
+            self.new ≡ record self.old { world = record w { channels = cells } } }
+    {
+        for row in channels {
+            self.set_channel(
+                local_address(base, row.word),
+                Channel {
+                    opener,
+                    length: row.length,
+                    waiting: None,
+                    enabled: None,
+                },
+            );
+        }
     }
 
     /// The channels of this opener are no more, and nobody has them enabled.
@@ -89,7 +104,7 @@ impl Traffic<TaggedStore, ListQueue> {
 
     /// The process goes on as this task with this join open, whose first branch is a new process. If memory runs out,
     /// nothing changes.
-    pub fn open_join(
+    fn enter_first(
         &mut self,
         process: u64,
         task: Task,
@@ -107,6 +122,60 @@ impl Traffic<TaggedStore, ListQueue> {
     {
         self.tasks.reserve(1)?;
         self.cpu.store.open_join(process, join, own)?;
+        put_both(&mut self.tasks, process, task, branch);
+        Ok(())
+    }
+
+    /// The process goes on as this task with this join open. The channels of the rows are there, in words of the join's
+    /// frame, and the first branch is a new process. If memory runs out, nothing changes.
+    pub fn open_join(
+        &mut self,
+        process: u64,
+        task: Task,
+        join: Join,
+        channels: &[ChannelRow],
+        branch: Task,
+        own: Holding,
+    ) -> Result<(), AllocError>
+        requires task { IsSteady task }
+        requires branch { IsSteady branch }
+        ensures world { let w = self.old.world in
+            let opened = record w { channels = with_channels process join.base channels.now w.channels } in
+            let there = on_role process (with_join (join_view join)) (put process task w.memory opened) in
+            let role = branch_role process (holding_view own) in
+            MatchResult result (λ _. self.new.world ≡ with_process branch role there) (λ _. self.new.world ≡ w) }
+        ensures room { self.new.room ≡ self.old.room }
+    {
+        self.count_next()?;
+        self.reserve_cells(process, channels.len())?;
+        let base = join.base;
+        self.enter_first(process, task, join, branch, own)?;
+        self.open_channels(process, base, channels);
+        Ok(())
+    }
+
+    /// The process goes on as this task. One more branch of the join that it has open is started, a new process. If
+    /// memory runs out, nothing changes.
+    fn enter_next(
+        &mut self,
+        process: u64,
+        task: Task,
+        to: Progress,
+        branch: Task,
+        own: Holding,
+    ) -> Result<(), AllocError>
+        requires task { IsSteady task }
+        requires branch { IsSteady branch }
+        ensures world { let w = self.old.world in
+            let next = with_branch (progress_view to) (length w.tasks) in
+            let there = on_role process next (put process task w.memory w) in
+            let role = branch_role process (holding_view own) in
+            MatchResult result (λ _. self.new.world ≡ with_process branch role there) (λ _. self.new.world ≡ w) }
+        ensures room { self.new.room ≡ self.old.room }
+    {
+        self.tasks.reserve(1)?;
+        let member = self.tasks.len() as u64;
+        self.cpu.store.advance_join(process, to, member, own)?;
         put_both(&mut self.tasks, process, task, branch);
         Ok(())
     }
@@ -130,11 +199,8 @@ impl Traffic<TaggedStore, ListQueue> {
             MatchResult result (λ _. self.new.world ≡ with_process branch role there) (λ _. self.new.world ≡ w) }
         ensures room { self.new.room ≡ self.old.room }
     {
-        self.tasks.reserve(1)?;
-        let member = self.tasks.len() as u64;
-        self.cpu.store.advance_join(process, to, member, own)?;
-        put_both(&mut self.tasks, process, task, branch);
-        Ok(())
+        self.count_next()?;
+        self.enter_next(process, task, to, branch, own)
     }
 
     /// The word at an address is undefined from now on, whoever holds it.

@@ -218,7 +218,7 @@ impl<S: Store> Traffic<S, ListQueue> {
     /// The channel at the address is this. Where there can be none, nothing changes.
     ///
     /// Where no channel of this opener was there, it is listed for its opener. If memory runs out there, only
-    /// `remove_channels` takes more time from then on: `reserve_cells` and `count_next` make sure that it does not.
+    /// `remove_channels` takes more time from then on: `open_join` makes sure that it does not.
     #[tactic(auto, using(crate::proofs::Counting::has_room))]
     pub fn set_channel(&mut self, address: u32, channel: Channel)
         ensures { self.new ≡ record self.old { world = with_channel address channel self.old.world } }
@@ -241,9 +241,9 @@ impl<S: Store> Traffic<S, ListQueue> {
     /// One more process is counted, the next by number: so it takes constant time to tell whether it has something
     /// enabled, and its channels are listed. If memory runs out, both are searched for.
     ///
-    /// It is called once for each process, right before or after it is there.
+    /// It is called once for each process, right before it is there.
     #[tactic(auto, using(crate::proofs::Uncounted::one_more_counted, crate::proofs::Uncounted::all_after_one_more))]
-    pub fn count_next(&mut self) -> Result<(), AllocError>
+    pub(crate) fn count_next(&mut self) -> Result<(), AllocError>
         ensures { self.new ≡ self.old }
     {
         let count = self.tasks.len();
@@ -258,7 +258,7 @@ impl<S: Store> Traffic<S, ListQueue> {
 
     /// Makes room for this many more channels of a process, which `set_channel` can then list without memory. A process
     /// that is not counted has no list, and nothing happens. If memory runs out, nothing changes.
-    pub fn reserve_cells(&mut self, opener: u64, count: usize) -> Result<(), AllocError>
+    pub(crate) fn reserve_cells(&mut self, opener: u64, count: usize) -> Result<(), AllocError>
         ensures { self.new ≡ self.old }
     {
         self.opened.reserve(opener, count)

@@ -51,7 +51,7 @@ local_word a e fits other =
 
 -- ---- multiples of four
 
-stepped_quotient : (z : ℤ) → IsTrue (is_stepped z) → (q : ℤ) × (z ≡ pos 4 *ℤ q)
+pub stepped_quotient : (z : ℤ) → IsTrue (is_stepped z) → (q : ℤ) × (z ≡ pos 4 *ℤ q)
 stepped_quotient (pos n) h =
     let e : n % 4 ≡ 0 = eqb-true (n % 4) 0 h in (pos (n / 4), omega (arith, ints))
 stepped_quotient (negsuc n) h =

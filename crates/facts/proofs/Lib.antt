@@ -4,6 +4,9 @@ pub mod Told
 pub mod Words
 pub mod Addresses
 pub mod Reaching
+pub mod Constants
+pub mod ReadThrough
+pub mod Through
 pub mod Regions
 pub mod Results
 pub mod Entering

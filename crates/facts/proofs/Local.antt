@@ -22,7 +22,7 @@ use Rattle.facts.proofs.CallsFit.{return_fits}
 use Rattle.facts.proofs.WordsFit.{ldc_fits, ldl_fits, stl_fits, constant_fits, reverse_fits, mint_fits, binary_fits}
 use Rattle.facts.proofs.WordsFit.{unary_fits, shift_fits, long_fits, subscript_fits, count_fits, pointer_fits}
 use Rattle.facts.proofs.WordsFit.{adjust_fits, cj_fits}
-use Rattle.facts.proofs.MemoryFits.{ldnlp_fits, bsub_fits, wsub_fits, ldpi_fits}
+use Rattle.facts.proofs.MemoryFits.{ldnlp_fits, bsub_fits, wsub_fits, ldpi_fits, ldnl_fits, lb_fits}
 
 module _ (x : Here) (wf : IsWellFormed x.m) (s : State) (l : Local) (a : After x.m x.h x.mode x.act s l)
     (same : s.context ≡ x.context) (changes : Changes x l.memory) (n : owed s x.act ≤ x.owed) where
@@ -63,6 +63,7 @@ module _ (x : Here) (wf : IsWellFormed x.m) (s : State) (l : Local) (a : After x
   operation_fits operations.ByteSubscript = bsub_fits x s l a same changes n
   operation_fits operations.WordSubscript = wsub_fits x s l a same changes n
   operation_fits operations.LoadPointerToInstruction = ldpi_fits x s l a same changes n
+  operation_fits operations.LoadByte = lb_fits x s l a same changes n wf
   operation_fits operations.Return = return_fits x wf s l a same changes n
   operation_fits _ = λ next. it_breaks
 
@@ -79,6 +80,7 @@ module _ (x : Here) (wf : IsWellFormed x.m) (s : State) (l : Local) (a : After x
   instruction_fits instructions.Jump e fits = j_fits e fits
   instruction_fits instructions.ConditionalJump e fits = cj_fits x s l a same changes n wf e fits
   instruction_fits instructions.LoadNonLocalPointer e fits = ldnlp_fits x s l a same changes n e fits
+  instruction_fits instructions.LoadNonLocal e fits = ldnl_fits x s l a same changes n wf e fits
   instruction_fits (instructions.Operate op) e fits = operation_fits op
   instruction_fits _ e fits = λ next. it_breaks
 

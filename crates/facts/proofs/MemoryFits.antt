@@ -1,7 +1,7 @@
 -- The instructions that make pointers, and those that read and write memory through them: what their rules say fits
 -- their steps.
-use Rattle.std.proofs.Common.{◌≡◌, ℕ, ◌+◌, ◌-◌, ◌*◌, ◌%◌, ◌^◌, ◌≤◌, ◌<◌, ℤ, pos, negsuc, ◌+ℤ◌, ◌*ℤ◌, ◌≤ℤ◌, FitsSigned, Bool}
-use Rattle.std.proofs.Common.{true, false, cond, ◌&&◌, length, Option, Some, None, Result, Ok, Err, refl, sym, ap, ◌∙◌}
+use Rattle.std.proofs.Common.{◌≡◌, ℕ, ◌+◌, ◌-◌, ◌*◌, ◌%◌, ◌^◌, ◌≤◌, ◌<◌, ℤ, pos, negsuc, ◌+ℤ◌, ◌*ℤ◌, ◌≤ℤ◌, ◌==◌, FitsSigned, Bool}
+use Rattle.std.proofs.Common.{if◌then◌else◌, true, false, cond, ◌&&◌, length, Option, Some, None, Result, Ok, Err, refl, sym, ap, ◌∙◌}
 use Rattle.std.proofs.Common.{subst, arith, rules as common_rules, inl, inr, ◌⊎◌}
 use Rattle.std.proofs.lemmas.Bool.Decides.{nat_tests}
 use Rattle.std.proofs.lemmas.Int.{ints, int_wrap_fits, int_wrap-add_left, SFits-int_wrap}
@@ -18,10 +18,14 @@ use Rattle.module_format.specs.Order.{is_stepped}
 use Rattle.module_format.specs.Contents.{Contents}
 use Rattle.machine_state.specs.declared.op.Op.TheVariants as operations
 use Rattle.machine_state.specs.declared.instruction.Instruction.TheVariants as instructions
-use Rattle.machine_state.specs.Memory.{data_start, local_address}
+use Rattle.module_format.specs.Stack.{with_top}
+use Rattle.machine_state.specs.Memory.{data_start, local_address, place_of, byte_at, word_at}
+use Rattle.machine_state.specs.Holding.{may_read}
+use Rattle.machine_state.specs.declared.fault.FaultKind.TheVariants.{NotOwn}
+use Rattle.std.specs.Option.{option_map}
 use Rattle.machine_state.specs.World.{padding}
 use Rattle.machine_state.specs.LocalStep as step
-use Rattle.machine_state.specs.Site.{Outcome, Local}
+use Rattle.machine_state.specs.Site.{Outcome, fails, Local}
 use Rattle.states.specs.declared.rule.Rule.{Rule}
 use Rattle.states.specs.declared.rule.Rule.TheVariants as rules
 use Rattle.states.specs.State.{State, known, is_word as is_same}
@@ -33,16 +37,19 @@ use Rattle.facts.specs.Rulings.{Ruling}
 use Rattle.facts.specs.MemoryRules as memory
 use Rattle.facts.specs.MemoryRules.{is_near, are_near, near_fact, pointer_of, number_of, constant_of, word_fact, shifted}
 use Rattle.facts.specs.MemoryRules.{is_of_a_word}
-use Rattle.facts.specs.MemoryRules.{element_of, place_fact}
+use Rattle.facts.specs.MemoryRules.{element_of, place_fact, words_behind, words_at, word_read, byte_read}
+use Rattle.facts.specs.Reach.{may_read_bytes}
 use Rattle.facts.specs.Rules as table
 use Rattle.facts.specs.Meaning.{Layout, Means, IsOffset, is_number, is_pointer, is_code_address, from_nowhere}
-use Rattle.facts.specs.Meaning.{words_of, owed, code_address}
+use Rattle.facts.specs.Meaning.{words_of, owed, code_address, region_start, IsWellFormed}
 use Rattle.facts.specs.Fitting.{Changes, After, Here, rule_site, step_site, it_breaks}
 use Rattle.facts.proofs.Words.{bool_cases, word_test}
-use Rattle.facts.proofs.Addresses.{address_added, words_added, local_word, stepped, stepped_words, pointer_added}
+use Rattle.facts.proofs.Addresses.{address_added, words_added, local_word, stepped, stepped_words, stepped_sum, pointer_added}
 use Rattle.facts.proofs.Addresses.{keeps_step, any_step}
+use Rattle.facts.proofs.Through.{word_through, byte_through}
 use Rattle.facts.proofs.Combining.{FitsIf, unknown_means, uses_fits, goes_on_fits, in_plain_rule, beside_plain_rule}
-use Rattle.facts.proofs.Combining.{in_plain_step, beside_plain_step, after_stack}
+use Rattle.facts.proofs.Combining.{in_plain_step, beside_plain_step, after_stack, on_rule_test, on_step_test, reads_fits}
+use Rattle.facts.proofs.Reaching.{place_at, region_at, word_place, even_word}
 
 -- ---- what answers tell
 
@@ -355,3 +362,118 @@ module _ (x : Here) where
         let p = constant_is x.m x.act.layout s.stack.a.fact c v constant means.fact in
         with_fact_fits s l fact _ a same changes n
         (loaded_place x.m x.act.layout (x.at + x.len) c v fact is p.0 p.1)))))
+
+    -- the bytes of a region may be read
+    reads_bytes_fits : (region : ℕ) (first end : ℤ) (r : Ruling) (o : Outcome)
+        → (may_read_bytes x.m s.context region first end ≡ true → FitsIf x r o)
+        → FitsIf x (memory.reads_bytes (rule_site x) s region first end r) o
+    unfolding memory.reads_bytes
+    reads_bytes_fits region first end r o go =
+        on_rule_test x (may_read_bytes x.m s.context region first end) _ _ _ go (λ t next. it_breaks)
+
+    aligned_fits : (v : ℤ) (r : Ruling) (o : ℕ → Outcome) → (step.address v % 4 == 0) ≡ true
+        → FitsIf x r (o (step.address v)) → FitsIf x r (step.aligned v o)
+    unfolding step.aligned
+    aligned_fits v r o even go =
+        on_step_test x (step.address v % 4 == 0) _ _ _ (λ t. go)
+        (λ t. let no : true ≡ false = sym even ∙ t in absurd (cc))
+
+    -- A becomes what may be undefined
+    becomes_fits : (fact : Fact) (v : Option ℤ) → Means x.m x.act.layout fact v
+        → FitsIf x (memory.with_fact_a (rule_site x) fact s)
+        (step.goes_on (step_site x) (step.on_stack (with_top v) l))
+    becomes_fits fact v means =
+        in_plain_rule x s a.same_mode _ _ (beside_plain_rule x s a.same_mode _ _
+        (goes_on_fits x (rule.with_a (known fact) s) (step.on_stack (with_top v) l)
+        (after_stack x a (record {
+          a = record { fact = means; source = from_nowhere };
+          b = a.knows.registers.b;
+          c = a.knows.registers.c;
+        })) same changes n))
+
+    module _ (wf : IsWellFormed x.m) where
+      -- a pointer to words, and the word that it leads to
+      ldnl_word : (e v : ℤ) (q p : Pointed) → words_behind (pos 4 *ℤ e) q ≡ Ok p → FitsSigned w32 e
+          → Means x.m x.act.layout (Pointer q.region q.lo q.hi q.step) (Some v)
+          → may_read_bytes x.m s.context p.region p.lo (p.hi +ℤ pos 4) ≡ true
+          → FitsIf x (memory.with_fact_a (rule_site x) (word_read x.m s p.region p.lo p.hi) s)
+          (step.aligned v (λ at. step.reads (step_site x) (local_address at e) l (λ u.
+          step.goes_on (step_site x) (step.on_stack (with_top u) l))))
+      unfolding words_behind words_at
+      ldnl_word e v q p is fits means may = on_words q.step is means
+        where
+          on_words : (steps : Step)
+              → (elim steps as (λ t. Result Pointed Rule) [
+                | Byte ↦ Err rules.Pointer
+                | Word ↦ words_at q.region (q.lo +ℤ (pos 4 *ℤ e)) (q.hi +ℤ (pos 4 *ℤ e))
+              ]) ≡ Ok p
+              → Means x.m x.act.layout (Pointer q.region q.lo q.hi steps) (Some v)
+              → FitsIf x (memory.with_fact_a (rule_site x) (word_read x.m s p.region p.lo p.hi) s)
+              (step.aligned v (λ at. step.reads (step_site x) (local_address at e) l (λ u.
+              step.goes_on (step_site x) (step.on_stack (with_top u) l))))
+          on_words Byte h pointer = absurd (cc)
+          on_words Word h (is_pointer offset low high stepped at) =
+              let t = ok_if (are_near (q.lo +ℤ (pos 4 *ℤ e)) (q.hi +ℤ (pos 4 *ℤ e)))
+              (record { region = q.region; lo = q.lo +ℤ (pos 4 *ℤ e); hi = q.hi +ℤ (pos 4 *ℤ e); step = Word }) p _ h in
+              let region_is : q.region ≡ p.region = ap (λ (r : Pointed). r.region) t.1 in
+              let lo_is : q.lo +ℤ (pos 4 *ℤ e) ≡ p.lo = ap (λ (r : Pointed). r.lo) t.1 in
+              let hi_is : q.hi +ℤ (pos 4 *ℤ e) ≡ p.hi = ap (λ (r : Pointed). r.hi) t.1 in
+              let w = word_through wf a p.lo p.hi (offset +ℤ (pos 4 *ℤ e)) (omega (arith, ints)) (omega (arith, ints))
+              (stepped_sum offset (pos 4 *ℤ e) stepped (stepped_words e)) p.region may in
+              let there = ap (λ (n : ℕ). region_start x.m x.act.layout n) region_is in
+              let is_at : v ≡ int_wrap w32 (region_start x.m x.act.layout p.region +ℤ offset) =
+              at ∙ ap (λ (z : ℤ). int_wrap w32 (z +ℤ offset)) there in
+              aligned_fits v _ _ (even_word v (region_start x.m x.act.layout p.region) offset e w.place is_at
+              (region_at x.m x.act.layout p.region (offset +ℤ (pos 4 *ℤ e)) w.place w.is) w.even)
+              (reads_fits x l (local_address (step.address v) e) w.place _ _
+              (word_place v (region_start x.m x.act.layout p.region) offset e w.place is_at fits
+              (region_at x.m x.act.layout p.region (offset +ℤ (pos 4 *ℤ e)) w.place w.is) w.small) w.held
+              (becomes_fits (word_read x.m s p.region p.lo p.hi) (word_at l.memory w.place) w.means))
+
+      pub ldnl_fits : (e : ℤ) → FitsSigned w32 e
+          → FitsIf x (table.instruction_rule (rule_site x) instructions.LoadNonLocal e s)
+          (step.instruction_step (step_site x) instructions.LoadNonLocal e l)
+      unfolding table.instruction_rule step.instruction_step
+      ldnl_fits e fits =
+          in_plain_step x s a.same_mode _ _ (uses_fits x s.stack.a l.registers.stack.a _ _ a.knows.registers.a (λ v means.
+          settles_fits (pointer_of s.stack.a.fact) _ _ (λ q pointer.
+          settles_fits (words_behind (pos 4 *ℤ e) q) _ _ (λ p is.
+          reads_bytes_fits p.region p.lo (p.hi +ℤ pos 4) _ _ (λ may. ldnl_word e v q p is fits
+          (subst (λ (f : Fact). Means x.m x.act.layout f (Some v)) (pointer_is x.m x.act.layout s.stack.a.fact q pointer).0
+          means.fact) may)))))
+
+      pub lb_fits : FitsIf x (table.operation_rule (rule_site x) operations.LoadByte s)
+          (step.operation_step (step_site x) operations.LoadByte l)
+      unfolding table.operation_rule step.operation_step step.reads_byte
+      lb_fits =
+          in_plain_step x s a.same_mode _ _ (uses_fits x s.stack.a l.registers.stack.a _ _ a.knows.registers.a (λ v means.
+          settles_fits (pointer_of s.stack.a.fact) _ _ (λ p is.
+          reads_bytes_fits p.region p.lo (p.hi +ℤ pos 1) _ _ (λ may.
+          lb_byte v p (subst (λ (f : Fact). Means x.m x.act.layout f (Some v))
+          (pointer_is x.m x.act.layout s.stack.a.fact p is).0 means.fact) may))))
+        where
+          byte_fits : (p : Pointed) (address place : ℕ) → place_of address ≡ place → may_read x.h place ≡ true
+              → Means x.m x.act.layout (byte_read s p.region p.lo p.hi) (option_map pos (byte_at l.memory place))
+              → FitsIf x (memory.with_fact_a (rule_site x) (byte_read s p.region p.lo p.hi) s)
+              (if may_read x.h (place_of address)
+              then step.goes_on (step_site x) (step.on_stack (with_top (option_map pos (byte_at l.memory (place_of address)))) l)
+              else fails NotOwn)
+          byte_fits p address place is held means =
+              on_step_test x (may_read x.h (place_of address)) _ _ _
+              (λ t. subst (λ (q : ℕ). FitsIf x (memory.with_fact_a (rule_site x) (byte_read s p.region p.lo p.hi) s)
+              (step.goes_on (step_site x) (step.on_stack (with_top (option_map pos (byte_at l.memory q))) l))) (sym is)
+              (becomes_fits (byte_read s p.region p.lo p.hi) (option_map pos (byte_at l.memory place)) means))
+              (λ t. let no : true ≡ false = sym held ∙ (ap (may_read x.h) (sym is) ∙ t) in absurd (cc))
+
+          lb_byte : (v : ℤ) (p : Pointed) → Means x.m x.act.layout (Pointer p.region p.lo p.hi p.step) (Some v)
+              → may_read_bytes x.m s.context p.region p.lo (p.hi +ℤ pos 1) ≡ true
+              → FitsIf x (memory.with_fact_a (rule_site x) (byte_read s p.region p.lo p.hi) s)
+              (if may_read x.h (place_of (step.address v))
+              then step.goes_on (step_site x) (step.on_stack (with_top (option_map pos (byte_at l.memory (place_of (step.address v))))) l)
+              else fails NotOwn)
+          lb_byte v p (is_pointer offset low high stepped at) may =
+              let w = byte_through wf a p.lo p.hi offset low high p.region may in
+              byte_fits p (step.address v) w.place
+              (ap (λ (z : ℤ). place_of (step.address z)) at
+              ∙ place_at (region_start x.m x.act.layout p.region +ℤ offset) w.place
+              (region_at x.m x.act.layout p.region offset w.place w.is) w.small) w.held w.means

@@ -5,7 +5,7 @@ use Rattle.std.proofs.Common.{if◌then◌else◌, Some, None, refl, sym, ap, �
 use Rattle.std.proofs.lemmas.Bool.{eqb-true, eq-eqb}
 use Rattle.std.proofs.lemmas.List.{get_or_past}
 use Rattle.std.proofs.lemmas.Bool.{cases_lt}
-use Rattle.std.proofs.lemmas.Int.{ints, of_z-to_z, int_wrap-add_left}
+use Rattle.std.proofs.lemmas.Int.{ints, of_z-to_z, int_wrap-add_left, SFits-int_wrap}
 use Rattle.std.specs.Prelude.{unsigned_abs, IsTrue, slice_get, int_le}
 use Rattle.std.specs.Int.{w32, int_wrap, int_rem_euclid, cast_unsigned, cast_signed}
 use Rattle.module_format.specs.declared.fact.Fact.TheVariants.{Number}
@@ -93,6 +93,15 @@ word_high : (z k : ℤ) → (pos 4 *ℤ k) ≤ℤ z → k ≤ℤ word_of_byte z
 word_high (pos n) k h = omega (arith, ints)
 word_high (negsuc n) k h = omega (arith, ints)
 
+-- a byte lies in its word
+pub word_of_byte_low : (z : ℤ) → (pos 4 *ℤ word_of_byte z) ≤ℤ z
+word_of_byte_low (pos n) = omega (arith, ints)
+word_of_byte_low (negsuc n) = omega (arith, ints)
+
+pub word_of_byte_high : (z : ℤ) → z <ℤ (pos 4 *ℤ word_of_byte z +ℤ pos 4)
+word_of_byte_high (pos n) = omega (arith, ints)
+word_of_byte_high (negsuc n) = omega (arith, ints)
+
 size_of : (z : ℤ) → pos 0 ≤ℤ z → pos (nat_abs z) ≡ z
 size_of (pos n) h = refl
 size_of (negsuc n) h = absurd (omega (arith, ints))
@@ -127,3 +136,49 @@ inside_memory memory place b found = elim (cases_lt place (length memory)) [
   | inl low ↦ low
   | inr past ↦ let none : None ≡ Some b = sym (get_or_past memory place None past) ∙ found in absurd (cc)
 ]
+
+-- the word of a byte, by how far it lies behind word 0, or before it
+pub word_behind : (z : ℤ) (n : ℕ) (r : ℤ) → z ≡ negsuc n → r ≡ negsuc (n / 4) → r ≡ word_of_byte z
+word_behind z n r z_is r_is = r_is ∙ sym (ap word_of_byte z_is)
+
+pub word_ahead : (z : ℤ) (n : ℕ) (r : ℤ) → z ≡ pos n → r ≡ pos (n / 4) → r ≡ word_of_byte z
+word_ahead z n r z_is r_is = r_is ∙ sym (ap word_of_byte z_is)
+
+-- ---- words behind an address
+
+local_below : (a : ℕ) (e : ℤ) → local_address a e < 4294967296
+unfolding local_address
+local_below a e = omega arith
+
+-- the place of word e from the address of a byte
+pub word_place : (v start offset e : ℤ) (place : ℕ) → v ≡ int_wrap w32 (start +ℤ offset) → FitsSigned w32 e
+    → IsAt (start +ℤ (offset +ℤ (pos 4 *ℤ e))) place → place < 4294967296
+    → place_of (local_address (step.address v) e) ≡ place
+word_place v start offset e place v_is fits at low =
+    let there : FitsSigned w32 v = subst (λ (z : ℤ). FitsSigned w32 z) (sym v_is) (SFits-int_wrap w32 (start +ℤ offset)) in
+    let word : step.word_of (local_address (step.address v) e) ≡ int_wrap w32 (start +ℤ (offset +ℤ (pos 4 *ℤ e))) =
+    local_word v e there fits
+    ∙ (ap (λ (z : ℤ). int_wrap w32 (z +ℤ (pos 4 *ℤ e))) v_is
+    ∙ (int_wrap-add_left w32 (start +ℤ offset) (pos 4 *ℤ e)
+    ∙ ap (int_wrap w32) (assoc start offset (pos 4 *ℤ e)))) in
+    ap place_of (sym (of_z-to_z w32 (local_address (step.address v) e) (local_below (step.address v) e))
+    ∙ ap step.address word)
+    ∙ place_at (start +ℤ (offset +ℤ (pos 4 *ℤ e))) place at low
+  where
+    assoc : (x y z : ℤ) → x +ℤ y +ℤ z ≡ x +ℤ (y +ℤ z)
+    assoc x y z = omega (arith, ints)
+
+-- the address is a multiple of 4 where that of a word behind it is
+pub even_word : (v start offset e : ℤ) (place : ℕ) → v ≡ int_wrap w32 (start +ℤ offset)
+    → IsAt (start +ℤ (offset +ℤ (pos 4 *ℤ e))) place → place % 4 ≡ 0 → (step.address v % 4 == 0) ≡ true
+even_word v start offset e place v_is at even =
+    eq-eqb (step.address v % 4) 0
+    (ap (λ (z : ℤ). step.address z % 4) v_is
+    ∙ (ap (λ (n : ℕ). n % 4) (address_of (start +ℤ offset)) ∙ rest (start +ℤ offset) (omega_is start offset)))
+  where
+    omega_is : (start offset : ℤ) → start +ℤ offset ≡ start +ℤ offset
+    omega_is start offset = refl
+
+    rest : (z : ℤ) → z ≡ start +ℤ offset → unsigned_abs (int_rem_euclid z (pos 4294967296)) % 4 ≡ 0
+    rest (pos a) z_is = let is = at.is in omega (arith, ints)
+    rest (negsuc a) z_is = let is = at.is in omega (arith, ints)

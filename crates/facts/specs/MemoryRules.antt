@@ -1,8 +1,8 @@
 -- The rules of instructions that make pointers, and of those that read and write memory through them.
-use Rattle.std.specs.Prelude.{ℕ, ◌+◌, ◌-◌, ◌&&◌, nat_lt, nat_le, ℤ, pos, negsuc, ◌+ℤ◌, ◌*ℤ◌, int_le, Bool}
+use Rattle.std.specs.Prelude.{ℕ, ◌+◌, ◌-◌, ◌==◌, ◌&&◌, not, nat_lt, nat_le, ℤ, pos, negsuc, ◌+ℤ◌, ◌*ℤ◌, int_le, Bool}
 use Rattle.std.specs.Prelude.{if◌then◌else◌, length, Result, Ok, Err}
 use Rattle.module_format.specs.declared.fact.Fact.{Fact}
-use Rattle.module_format.specs.declared.fact.Fact.TheVariants.{Number, Pointer, CodeAddress}
+use Rattle.module_format.specs.declared.fact.Fact.TheVariants.{Unknown, Number, Pointer, CodeAddress}
 use Rattle.module_format.specs.declared.fact.Step.{Step}
 use Rattle.module_format.specs.declared.fact.Step.TheVariants.{Byte, Word}
 use Rattle.module_format.specs.Order.{is_stepped, least_word, greatest_word}
@@ -10,16 +10,23 @@ use Rattle.module_format.specs.Contents.{Contents}
 use Rattle.machine_state.specs.World.{padding}
 use Rattle.states.specs.declared.rule.Rule.{Rule}
 use Rattle.states.specs.declared.rule.Rule.TheVariants as rules
-use Rattle.states.specs.State.{State, known, is_word as is_same}
+use Rattle.word_arithmetic.specs.Range.{Ends}
+use Rattle.states.specs.declared.span.Together.{Together}
+use Rattle.states.specs.State.{State, Facts, known, plain, is_word as is_same}
+use Rattle.states.specs.Spans.{together}
+use Rattle.facts.specs.Reach.{word_of_byte, words_touched, may_read_bytes, region_range}
 use Rattle.facts.specs.declared.pointers.Pointed.{Pointed}
 use Rattle.facts.specs.declared.pointers.Bounds.{Bounds}
 use Rattle.facts.specs.Rulings.{Ruling, breaks, Site, alone, outside_starts, uses, goes_on, pop, with_a}
 
 -- ---- pointers
 
--- an offset that is not far from its region's start
+-- an offset of a pointer: at most 2^24 bytes from its region's start
 abbrev pub is_near : ℤ → Bool
 is_near offset = int_le (negsuc 16777215) offset && int_le offset (pos 16777216)
+
+unfoldable pub near : ℤ → Ruling → Ruling
+near offset k = if is_near offset then k else breaks rules.Pointer
 
 abbrev pub are_near : ℤ → ℤ → Bool
 are_near lo hi = is_near lo && is_near hi
@@ -111,3 +118,60 @@ abbrev pub loads_place : Site → State → Ruling
 loads_place site s =
     uses s.stack.a (λ a. settles (constant_of a) (λ v.
     settles (place_fact site.contents (pos (site.at + site.length) +ℤ v)) (λ fact. with_fact_a site fact s)))
+
+-- ---- words and bytes that are read
+
+-- the context may read the bytes of a region from the first up to `end`
+unfoldable pub reads_bytes : Site → State → ℕ → ℤ → ℤ → Ruling → Ruling
+reads_bytes site s region first end next =
+    if may_read_bytes site.contents s.context region first end then next else breaks rules.Pointer
+
+-- a pointer to words, where its offsets are near
+unfoldable pub words_at : ℕ → ℤ → ℤ → Result Pointed Rule
+words_at region lo hi =
+    if are_near lo hi then Ok (record { region = region; lo = lo; hi = hi; step = Word }) else Err rules.Pointer
+
+-- what a pointer to words is so many bytes further
+unfoldable pub words_behind : ℤ → Pointed → Result Pointed Rule
+words_behind by p = elim p.step [ Byte ↦ Err rules.Pointer | Word ↦ words_at p.region (p.lo +ℤ by) (p.hi +ℤ by) ]
+
+-- bounds, as the ends of a range
+abbrev pub ends_in : Bounds → Ends
+ends_in b = record { lo = b.lo; hi = b.hi }
+
+-- a number in a range
+abbrev pub number_within : Ends → Fact
+number_within r = Number r.lo r.hi
+
+-- what is known of any of some words that are known together
+abbrev pub any_of : Together → Fact
+any_of t = if t.are_numbers then Number t.lo t.hi else Unknown
+
+-- the words of the frame that have a byte whose offset lies from lo to hi: of one word its plain fact is read
+abbrev pub frame_read : Facts → ℤ → ℕ → Fact
+frame_read facts first count = if count == 1 then plain (facts first) else any_of (together facts first count)
+
+-- what is read of a word of a region whose offset lies from lo to hi
+unfoldable pub word_read : Contents → State → ℕ → ℤ → ℤ → Fact
+word_read m s region lo hi =
+    if region == 0 then frame_read s.frame (word_of_byte lo) (words_touched lo (hi +ℤ pos 1))
+    else number_within (region_range m s.context region lo (hi +ℤ pos 4))
+
+-- what is read of a byte of a region whose offset lies from lo to hi
+unfoldable pub byte_read : State → ℕ → ℤ → ℤ → Fact
+byte_read s region lo hi =
+    if (region == 0) && not (together s.frame (word_of_byte lo) (words_touched lo (hi +ℤ pos 1))).are_numbers
+    then Unknown else Number (pos 0) (pos 255)
+
+-- ldnl: the word e words behind A
+abbrev pub loads_word : Site → ℤ → State → Ruling
+loads_word site e s =
+    uses s.stack.a (λ a. settles (pointer_of a) (λ p. settles (words_behind (pos 4 *ℤ e) p) (λ p.
+    reads_bytes site s p.region p.lo (p.hi +ℤ pos 4)
+    (with_fact_a site (word_read site.contents s p.region p.lo p.hi) s))))
+
+-- lb: the byte at A
+abbrev pub loads_byte : Site → State → Ruling
+loads_byte site s =
+    uses s.stack.a (λ a. settles (pointer_of a) (λ p.
+    reads_bytes site s p.region p.lo (p.hi +ℤ pos 1) (with_fact_a site (byte_read s p.region p.lo p.hi) s)))

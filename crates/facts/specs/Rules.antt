@@ -9,14 +9,15 @@ use Rattle.module_format.specs.declared.fact.Step.TheVariants.{Byte, Word}
 use Rattle.module_format.specs.Contents.{Contents}
 use Rattle.machine_state.specs.declared.op.Op.{Op}
 use Rattle.machine_state.specs.declared.op.Op.TheVariants.{Reverse, StopProcess, MinimumInteger, Binary, Unary}
-use Rattle.machine_state.specs.declared.op.Op.TheVariants.{Shift, Long, CheckSubscript, CheckCount, Return}
+use Rattle.machine_state.specs.declared.op.Op.TheVariants.{Shift, Long, CheckSubscript, CheckCount}
+use Rattle.machine_state.specs.declared.op.Op.TheVariants.{ByteSubscript, WordSubscript, LoadPointerToInstruction}
+use Rattle.machine_state.specs.declared.op.Op.TheVariants.{LoadByte, Return}
 use Rattle.machine_state.specs.declared.instruction.Instruction.{Instruction}
 use Rattle.machine_state.specs.declared.instruction.Instruction.TheVariants.{Jump, LoadConstant, LoadLocal, StoreLocal}
 use Rattle.machine_state.specs.declared.instruction.Instruction.TheVariants.{WithConstant, Operate}
 use Rattle.machine_state.specs.declared.instruction.Instruction.TheVariants.{LoadLocalPointer, AdjustWorkspace}
 use Rattle.machine_state.specs.declared.instruction.Instruction.TheVariants.{ConditionalJump}
-use Rattle.machine_state.specs.declared.op.Op.TheVariants.{ByteSubscript, WordSubscript, LoadPointerToInstruction}
-use Rattle.machine_state.specs.declared.instruction.Instruction.TheVariants.{LoadNonLocalPointer}
+use Rattle.machine_state.specs.declared.instruction.Instruction.TheVariants.{LoadNonLocalPointer, LoadNonLocal}
 use Rattle.machine_state.specs.Instructions.{instruction_of}
 use Rattle.machine_state.specs.LocalStep.{target}
 use Rattle.states.specs.declared.rule.Rule.TheVariants as rules
@@ -29,8 +30,8 @@ use Rattle.facts.specs.CallRules.{return_rule}
 use Rattle.facts.specs.WordRules.{constant, loaded, in_bounds, has_range, numbers_have, has_long_operations}
 use Rattle.facts.specs.WordRules.{fact_of_two, result_fact, unary_result_fact, shift_range, is_subscript, is_count}
 use Rattle.facts.specs.WordRules.{long_results, result_source, constant_source, becomes, where_false, where_true}
-use Rattle.facts.specs.WordRules.{in_frame, near}
-use Rattle.facts.specs.MemoryRules.{shifts_pointer, subscripts, loads_place}
+use Rattle.facts.specs.WordRules.{in_frame}
+use Rattle.facts.specs.MemoryRules.{near, shifts_pointer, subscripts, loads_place, loads_word, loads_byte}
 
 -- ---- the instructions
 
@@ -57,6 +58,7 @@ operation_rule site CheckCount s =
 operation_rule site ByteSubscript s = subscripts Byte site s
 operation_rule site WordSubscript s = subscripts Word site s
 operation_rule site LoadPointerToInstruction s = loads_place site s
+operation_rule site LoadByte s = loads_byte site s
 operation_rule site Return s = return_rule site s
 operation_rule site _ s = breaks rules.Spelling
 
@@ -82,6 +84,7 @@ instruction_rule site ConditionalJump e s =
 instruction_rule site Jump e s =
     outside_alternation s.mode (forward e (goes_to site (target (site.at + site.length) e) s))
 instruction_rule site LoadNonLocalPointer e s = shifts_pointer site e s
+instruction_rule site LoadNonLocal e s = loads_word site e s
 instruction_rule site (Operate op) e s = operation_rule site op s
 instruction_rule site _ e s = breaks rules.Spelling
 
@@ -111,6 +114,7 @@ op_has_rule m CheckCount = true
 op_has_rule m ByteSubscript = true
 op_has_rule m WordSubscript = true
 op_has_rule m LoadPointerToInstruction = true
+op_has_rule m LoadByte = true
 op_has_rule m Return = true
 op_has_rule m _ = false
 
@@ -124,6 +128,7 @@ instruction_has_rule m AdjustWorkspace = true
 instruction_has_rule m Jump = true
 instruction_has_rule m ConditionalJump = true
 instruction_has_rule m LoadNonLocalPointer = true
+instruction_has_rule m LoadNonLocal = true
 instruction_has_rule m (Operate op) = op_has_rule m op
 instruction_has_rule m _ = false
 

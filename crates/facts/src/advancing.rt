@@ -27,6 +27,7 @@ fn op_has_rule(module: &Module, op: Op) -> bool
         | Op::ByteSubscript
         | Op::WordSubscript
         | Op::LoadPointerToInstruction
+        | Op::LoadByte
         | Op::Return => true,
         Op::Long(_) => module.tables().has_long_operations,
         _ => false,
@@ -45,7 +46,8 @@ fn instruction_has_rule(module: &Module, instruction: Instruction) -> bool
         | Instruction::AdjustWorkspace
         | Instruction::Jump
         | Instruction::ConditionalJump
-        | Instruction::LoadNonLocalPointer => true,
+        | Instruction::LoadNonLocalPointer
+        | Instruction::LoadNonLocal => true,
         Instruction::Operate(op) => op_has_rule(module, op),
         _ => false,
     }
@@ -92,6 +94,7 @@ pub fn advance(
         Instruction::Jump => place.jump(state, instr.operand),
         Instruction::ConditionalJump => place.conditional_jump(state, instr.operand),
         Instruction::LoadNonLocalPointer => place.load_non_local_pointer(state, instr.operand),
+        Instruction::LoadNonLocal => place.load_non_local(state, instr.operand),
         Instruction::Operate(op) => place.operate(state, op),
         _ => Err(Rule::Spelling),
     }

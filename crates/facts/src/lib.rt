@@ -11,6 +11,7 @@ mod memory;
 mod narrowing;
 mod place;
 mod pointers;
+mod reach;
 mod word_rules;
 
 pub use advancing::{advance, has_rule};

@@ -196,6 +196,7 @@ impl Place<'_, '_> {
             Op::ByteSubscript => self.subscript(state, Step::Byte),
             Op::WordSubscript => self.subscript(state, Step::Word),
             Op::LoadPointerToInstruction => self.load_pointer_to_instruction(state),
+            Op::LoadByte => self.load_byte(state),
             Op::Return => self.return_to_caller(state),
             _ => Err(Rule::Spelling),
         }

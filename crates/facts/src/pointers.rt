@@ -1,10 +1,10 @@
 //! What facts say of pointers and numbers, each answer with the rule that it keeps.
 
-ghost use Rattle.std.specs.Prelude.{◌≡◌, ◌≤ℤ◌, ◌*ℤ◌, pos, negsuc};
+ghost use Rattle.std.specs.Prelude.{IfOk, true, ◌≡◌, ◌≤ℤ◌, ◌*ℤ◌, pos, negsuc};
 ghost use Rattle.module_format.specs.Order.{is_stepped};
-ghost use Rattle.facts.specs.MemoryRules.{is_near, are_near, near_fact, pointer_of, number_of, constant_of, settles, shifted};
-ghost use Rattle.facts.specs.MemoryRules.{element_of, word_fact, is_of_a_word, further, step_after};
-ghost use Rattle.facts.specs.Telling.{Gives};
+ghost use Rattle.facts.specs.MemoryRules.{is_near, near, are_near, near_fact, pointer_of, number_of, constant_of, settles, shifted};
+ghost use Rattle.facts.specs.MemoryRules.{element_of, word_fact, is_of_a_word, further, step_after, words_behind, words_at};
+ghost use Rattle.facts.specs.Telling.{Admits, Gives};
 
 use certificate::{Fact, Step};
 use states::Rule;
@@ -33,6 +33,18 @@ fn is_near(offset: i64) -> bool
     ensures { result ≡ is_near offset }
 {
     -FARTHEST <= offset && offset <= FARTHEST
+}
+
+/// An offset that a pointer may have.
+#[tactic(auto, unfolding(crate::specs::MemoryRules::near))]
+pub(crate) fn near(offset: i64) -> Result<i32, Rule>
+    ensures test { Admits result (near offset) }
+    ensures offset { IfOk result (λ o. o ≡ offset) }
+{
+    if !is_near(offset) {
+        return Err(Rule::Pointer);
+    }
+    Ok(offset as i32)
 }
 
 fn are_near(lo: i64, hi: i64) -> bool
@@ -67,7 +79,8 @@ fn near_fact(region: u16, lo: i64, hi: i64, step: Step) -> Result<Fact, Rule>
 /// A pointer that may be used or shifted: its offsets are near.
 #[tactic(auto, unfolding(crate::specs::MemoryRules::settles, crate::specs::MemoryRules::pointer_of))]
 pub(crate) fn pointer_of(fact: Fact) -> Result<Pointed, Rule>
-    ensures { Gives (λ pointer. pointer) result (settles (pointer_of fact)) }
+    ensures answer { Gives (λ pointer. pointer) result (settles (pointer_of fact)) }
+    ensures near { IfOk result (λ pointer. are_near pointer.lo pointer.hi ≡ true) }
 {
     match fact {
         Fact::Pointer {
@@ -82,6 +95,40 @@ pub(crate) fn pointer_of(fact: Fact) -> Result<Pointed, Rule>
             step,
         }),
         _ => Err(Rule::Pointer),
+    }
+}
+
+/// A pointer to words, where its offsets are near.
+#[tactic(auto, unfolding(crate::specs::MemoryRules::settles, crate::specs::MemoryRules::words_at))]
+fn words_at(region: u16, lo: i64, hi: i64) -> Result<Pointed, Rule>
+    ensures answer { Gives (λ pointer. pointer) result (settles (words_at region lo hi)) }
+    ensures near { IfOk result (λ pointer. are_near pointer.lo pointer.hi ≡ true) }
+{
+    if !are_near(lo, hi) {
+        return Err(Rule::Pointer);
+    }
+    Ok(Pointed {
+        region,
+        lo: lo as i32,
+        hi: hi as i32,
+        step: Step::Word,
+    })
+}
+
+/// What a pointer to words is so many words further.
+#[tactic(auto, unfolding(crate::specs::MemoryRules::settles, crate::specs::MemoryRules::words_behind))]
+pub(crate) fn words_behind(words: i32, pointer: Pointed) -> Result<Pointed, Rule>
+    ensures answer { Gives (λ pointer. pointer) result (settles (words_behind (pos 4 *ℤ words) pointer)) }
+    ensures near { IfOk result (λ pointer. are_near pointer.lo pointer.hi ≡ true) }
+{
+    let by = 4 * i64::from(words);
+    match pointer.step {
+        Step::Byte => Err(Rule::Pointer),
+        Step::Word => words_at(
+            pointer.region,
+            i64::from(pointer.lo) + by,
+            i64::from(pointer.hi) + by,
+        ),
     }
 }
 

@@ -8,7 +8,7 @@ ghost use Rattle.machine_state.specs.declared.process.Mode.TheVariants.{Starting
 ghost use Rattle.machine_state.specs.Turn.{between};
 ghost use Rattle.machine_state.specs.Moves.{enqueue};
 ghost use Rattle.machine_state.specs.Joins.{Plan, frame_address, new_task, opened_by, later_plan, started, opened};
-ghost use Rattle.machine_state.specs.Joins.{without_words, scheduling_addresses, with_channels};
+ghost use Rattle.machine_state.specs.Joins.{without_words, scheduling_addresses};
 ghost use Rattle.machine_state.specs.Joins.{block_addresses, channel_addresses};
 ghost use Rattle.channels.specs.Moment.{IsSteady};
 ghost use Rattle.channels.specs.Settling.{here_in};
@@ -20,7 +20,7 @@ use crate::found::Found;
 use certificate::{BranchRow, ChannelRow, ParRow, Stack};
 use channels::{Here, Traffic};
 use machine_state::{
-    Channel, Condition, Holding, Join, Mode, Progress, Registers, TaggedStore, Task, local_address,
+    Condition, Holding, Join, Mode, Progress, Registers, TaggedStore, Task, local_address,
 };
 use process_queue::ListQueue;
 use std::alloc::AllocError;
@@ -91,7 +91,6 @@ pub(crate) fn advance(
         (λ _. traffic.new.world ≡ w) }
 {
     traffic.reserve()?;
-    traffic.count_next()?;
     let process = traffic.count();
     let task = starter(here, registers);
     let branch = new_task(found.branch, workspace);
@@ -100,45 +99,32 @@ pub(crate) fn advance(
     Ok(())
 }
 
-/// The channels of a PAR are there, and nothing is in their words.
-fn create_channels(
+/// Nothing is in the words of the channels of a PAR any more.
+fn clear_channel_words(
     traffic: &mut Traffic<TaggedStore, ListQueue>,
-    opener: u64,
     base: u32,
     channels: &[ChannelRow],
 )
     ensures { let w = traffic.old.world in
         let memory = without_words (map (λ (c : Row). frame_address base c.word) channels.now) w.memory in
-        let cells = with_channels opener base channels.now w.channels in
-        traffic.new ≡ record traffic.old { world = record w { memory = memory; channels = cells } } }
+        traffic.new ≡ record traffic.old { world = record w { memory = memory } } }
 {
     for row in channels {
-        let address = local_address(base, row.word);
-        traffic.clear_word(address);
-        traffic.set_channel(
-            address,
-            Channel {
-                opener,
-                length: row.length,
-                waiting: None,
-                enabled: None,
-            },
-        );
+        traffic.clear_word(local_address(base, row.word));
     }
 }
 
-/// The block of a PAR and the words of its channels are taken away, and the channels are there.
-fn take_block(traffic: &mut Traffic<TaggedStore, ListQueue>, opener: u64, base: u32, par: &ParRow)
+/// The block of a PAR and the words of its channels are taken away.
+fn take_block(traffic: &mut Traffic<TaggedStore, ListQueue>, base: u32, par: &ParRow)
     ensures { let w = traffic.old.world in
         let p = par_of par.now in
         let memory = without_words (block_addresses base p ++ channel_addresses base p) w.memory in
-        let cells = with_channels opener base p.channels w.channels in
-        traffic.new ≡ record traffic.old { world = record w { memory = memory; channels = cells } } }
+        traffic.new ≡ record traffic.old { world = record w { memory = memory } } }
 {
     let block = local_address(base, par.block);
     traffic.clear_word(block);
     traffic.clear_word(local_address(block, 1));
-    create_channels(traffic, opener, base, &par.channels);
+    clear_channel_words(traffic, base, &par.channels);
 }
 
 /// A PAR is open, and its first branch is started. If memory runs out, nothing changes.
@@ -162,14 +148,12 @@ pub(crate) fn open(
         (λ _. traffic.new.world ≡ w) }
 {
     traffic.reserve()?;
-    traffic.count_next()?;
-    traffic.reserve_cells(here.process, found.par.channels.len())?;
     let process = traffic.count();
     let base = join.base;
     let task = starter(here, registers);
     let branch = new_task(found.branch, workspace);
-    traffic.open_join(here.process, task, join, branch, own)?;
-    take_block(traffic, here.process, base, found.par);
+    traffic.open_join(here.process, task, join, &found.par.channels, branch, own)?;
+    take_block(traffic, base, found.par);
     enter(traffic, workspace, process);
     Ok(())
 }

@@ -76,6 +76,7 @@ fn next_gift(
 
 /// What changes at a start while a PAR is open: its join, and what the branch holds. The branch is one of its row.
 pub(crate) fn later_gift(
+    alloc: Global,
     traffic: &Traffic<TaggedStore, ListQueue>,
     module: &Module,
     here: &Here,
@@ -97,7 +98,7 @@ pub(crate) fn later_gift(
     }
     let parameters = module.parameters(u32::from(found.par.context));
     next_gift(
-        traffic.allocator(),
+        alloc,
         traffic.store().size(),
         module.tables(),
         parameters,
@@ -197,6 +198,7 @@ fn first_join(
 
 /// What the first start of a PAR opens: the join, and what the branch holds.
 pub(crate) fn first_gift(
+    alloc: Global,
     traffic: &Traffic<TaggedStore, ListQueue>,
     module: &Module,
     here: &Here,
@@ -215,7 +217,6 @@ pub(crate) fn first_gift(
         let plan = first_plan «module».now here.now.process here.now.task.registers.workspace holding w.memory f in
         IfOk result (λ x. IsFirstGift «module».now (length w.memory) plan f (length w.tasks) x.0 x.1) }
 {
-    let alloc = traffic.allocator();
     let store = traffic.store();
     let empty = Holding::nothing(alloc);
     let holding = held(store, here.process, &empty);

@@ -24,6 +24,7 @@ use certificate::{Module, Tables};
 use channels::{Here, Stop, Traffic};
 use machine_state::{Fault, FaultKind, Holding, Join, Progress, Registers, TaggedStore};
 use process_queue::ListQueue;
+use std::alloc::Global;
 
 /// The branch of a module that begins at a code offset, if there is one. Its numbers are small, as the format says.
 fn found_in<'m>(module: &'m Module, target: u32) -> Option<Found<'m>>
@@ -89,17 +90,23 @@ fn start_first(
 }
 
 /// The fault of a start at which no branch begins.
-fn no_branch_fault(traffic: &Traffic<TaggedStore, ListQueue>, here: &Here, workspace: u32) -> Fault
+fn no_branch_fault(
+    alloc: Global,
+    traffic: &Traffic<TaggedStore, ListQueue>,
+    here: &Here,
+    workspace: u32,
+) -> Fault
     ensures { let tests = no_row_faults (holding_at traffic.now.world.roles here.now.process) workspace in
         option_map (fault_in here.now.process here.now.task.registers.began) (first_fault tests) ≡ Some result }
 {
-    let empty = Holding::nothing(traffic.allocator());
+    let empty = Holding::nothing(alloc);
     let holding = held(traffic.store(), here.process, &empty);
     no_row_fault(here, holding, workspace)
 }
 
 /// A start by a branch of the module.
 fn start_found(
+    alloc: Global,
     traffic: &mut Traffic<TaggedStore, ListQueue>,
     module: &Module,
     here: &Here,
@@ -118,11 +125,11 @@ fn start_found(
     let tables = module.tables();
     match join_of(traffic, here.process) {
         Some(join) => {
-            let gift = later_gift(traffic, module, here, join, found, workspace)?;
+            let gift = later_gift(alloc, traffic, module, here, join, found, workspace)?;
             start_later(traffic, tables, here, found, workspace, registers, gift)
         }
         None => {
-            let gift = first_gift(traffic, module, here, found, workspace)?;
+            let gift = first_gift(alloc, traffic, module, here, found, workspace)?;
             start_first(traffic, tables, here, found, workspace, registers, gift)
         }
     }
@@ -138,6 +145,7 @@ fn start_found(
 /// if no code follows the instruction; the first of these in this order. Memory may run out before or after that: then
 /// nothing has changed.
 pub fn start(
+    alloc: Global,
     traffic: &mut Traffic<TaggedStore, ListQueue>,
     module: &Module,
     here: &Here,
@@ -152,8 +160,8 @@ pub fn start(
         SettlesIfRoom (λ done. ran) w traffic.new.world result turn }
 {
     let Some(found) = found_in(module, target) else {
-        let fault = no_branch_fault(traffic, here, workspace);
+        let fault = no_branch_fault(alloc, traffic, here, workspace);
         return Err(Stop::Fault(fault));
     };
-    start_found(traffic, module, here, found, workspace, registers)
+    start_found(alloc, traffic, module, here, found, workspace, registers)
 }

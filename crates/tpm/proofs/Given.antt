@@ -27,7 +27,7 @@ use Rattle.clap.specs.Faults.{fault_of, entered_fault, level_fault, check_fault,
 use Rattle.clap.specs.Faults.{word_fault, other_fault, flag_word_fault, positional_fault, use_fault, settle_fault}
 use Rattle.clap.specs.Faults.{react_fault, option_fault, long_fault, short_fault, bundle_step_fault, flags_fault}
 use Rattle.clap.specs.Faults.{bundle_fault, stray_fault, defaults_fault}
-use Rattle.tpm.specs.CommandLine.{Asked, verifies, runs, module_rule, subcommand_shape, tpm, named, entered_by}
+use Rattle.tpm.specs.CommandLine.{Asked, verifies, runs, lists, module_rule, subcommand_shape, tpm, named, entered_by}
 use Rattle.tpm.specs.CommandLine.{unless_faulty, line_of}
 
 -- ---- what both subcommands have
@@ -357,24 +357,29 @@ path_given name words fault =
 
 -- ---- the whole line
 
+-- the subcommand that has the name, by which one has
+abbrev among : Bool → Bool → Bool → Option Shape
+among b c d =
+    cond b (Some (leaf (codes "verify")))
+    (cond c (Some (leaf (codes "run"))) (cond d (Some (leaf (codes "list"))) None))
+
 entered_given : (stop : Option (Text × List Text)) → entered_fault (built tpm) stop ≡ []
     → is_some (entered (built tpm) stop) ≡ true
     → (asked : Asked) × (option_and_then entered_by (entered (built tpm) stop) ≡ Some asked)
 entered_given None fault is = absurd (cc)
-entered_given (Some p) fault is = go (answers_to p.0 (codes "verify", [])) (answers_to p.0 (codes "run", [])) fault is
+entered_given (Some p) fault is = go (answers_to p.0 (codes "verify", [])) (answers_to p.0 (codes "run", []))
+    (answers_to p.0 (codes "list", [])) fault is
   where
-    go : (b c : Bool)
-        → option_map_or (λ s. level_fault s [] nothing_held p.1 false [])
-        (cond b (Some (leaf (codes "verify"))) (cond c (Some (leaf (codes "run"))) None)) [] ≡ []
-        → is_some (option_map (λ s. rows_at s p.1) (cond b (Some (leaf (codes "verify")))
-        (cond c (Some (leaf (codes "run"))) None))) ≡ true
-        → (asked : Asked) × (option_and_then entered_by (option_map (λ s. rows_at s p.1)
-        (cond b (Some (leaf (codes "verify"))) (cond c (Some (leaf (codes "run"))) None))) ≡ Some asked)
-    go true c f e = let path =
+    go : (b c d : Bool) → option_map_or (λ s. level_fault s [] nothing_held p.1 false []) (among b c d) [] ≡ []
+        → is_some (option_map (λ s. rows_at s p.1) (among b c d)) ≡ true
+        → (asked : Asked) × (option_and_then entered_by (option_map (λ s. rows_at s p.1) (among b c d)) ≡ Some asked)
+    go true c d f e = let path =
         path_given (codes "verify") p.1 f in (verifies path.0, ap (option_and_then (named (codes "verify"))) path.1)
-    go false true f e = let path =
+    go false true d f e = let path =
         path_given (codes "run") p.1 f in (runs path.0, ap (option_and_then (named (codes "run"))) path.1)
-    go false false f e = absurd (cc)
+    go false false true f e = let path =
+        path_given (codes "list") p.1 f in (lists path.0, ap (option_and_then (named (codes "list"))) path.1)
+    go false false false f e = absurd (cc)
 
 -- a subcommand that is not missed is there
 is_entered : (rows : List Row) (b : Bool) → check_fault (built tpm).top rows b ≡ [] → b ≡ true

@@ -1,21 +1,29 @@
 -- What a command line asks for: our own choice, told as the command of the argument parser `clap`.
-use Rattle.std.specs.Prelude.{List, [], ◌∷◌, codes, true, false, Option, Some, None, if◌then◌else◌, option_and_then}
+use Rattle.std.specs.Prelude.{Bool, List, [], ◌∷◌, codes, true, false, Option, Some, None, if◌then◌else◌, option_and_then}
 use Rattle.std.specs.Str.{bytes_eq}
 use Rattle.clap.specs.Walk.{Text, Row, Rule, first_of}
 use Rattle.clap.specs.Simple.{App, Shape, new_shape, new_rule, subcommand_of}
 use Rattle.clap.specs.Kinds.{Kinds}
 use Rattle.clap.specs.Faults.{fault_of}
 use Rattle.tpm.specs.declared.line.Line.{Line}
-use Rattle.tpm.specs.declared.line.Line.TheVariants.{Verify, Run}
+use Rattle.tpm.specs.declared.line.Line.TheVariants.{Verify, Run, List as Listed}
 
--- what is asked for: the verdict on a module file, or its run
+-- what is asked for: the verdict on a module file, its run, or the listing of its code
 pub data Asked : Type 0 where
   verifies : Text → Asked
   runs : Text → Asked
+  lists : Text → Asked
 
 abbrev pub path_of : Asked → Text
 path_of (verifies path) = path
 path_of (runs path) = path
+path_of (lists path) = path
+
+-- all but a listing want the module's verdict first
+abbrev pub wants_verdict : Asked → Bool
+wants_verdict (verifies path) = true
+wants_verdict (runs path) = true
+wants_verdict (lists path) = false
 
 -- ---- the command
 
@@ -26,7 +34,7 @@ module_rule = record (new_rule (codes "MOD")) { required = true }
 abbrev pub subcommand_shape : Text → Shape
 subcommand_shape name = record (new_shape name) { rules = module_rule ∷ [] }
 
--- `tpm verify MOD` and `tpm run MOD`
+-- `tpm verify MOD`, `tpm run MOD` and `tpm list MOD`
 abbrev pub tpm : App
 tpm = record {
   top = record (new_shape (codes "tpm")) {
@@ -35,7 +43,8 @@ tpm = record {
     disable_help_subcommand =
         true;
   };
-  subs = subcommand_shape (codes "verify") ∷ subcommand_shape (codes "run") ∷ [];
+  subs =
+      subcommand_shape (codes "verify") ∷ subcommand_shape (codes "run") ∷ subcommand_shape (codes "list") ∷ [];
 }
 
 -- ---- the meaning of the words
@@ -43,7 +52,8 @@ tpm = record {
 abbrev pub named : Text → Text → Option Asked
 named name path =
     if bytes_eq name (codes "verify") then Some (verifies path) else
-    if bytes_eq name (codes "run") then Some (runs path) else None
+    if bytes_eq name (codes "run") then Some (runs path) else
+    if bytes_eq name (codes "list") then Some (lists path) else None
 
 -- a subcommand's name and what was found for its arguments
 abbrev pub entered_by : Text × List Row → Option Asked
@@ -62,3 +72,4 @@ line_of words = unless_faulty (fault_of tpm words) (option_and_then entered_by (
 abbrev pub asked_of : Line → Asked
 asked_of (Verify path) = verifies path.now
 asked_of (Run path) = runs path.now
+asked_of (Listed path) = lists path.now

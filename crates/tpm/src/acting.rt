@@ -1,57 +1,70 @@
 //! The whole program over files and streams that it is handed.
 
-ghost use Rattle.std.specs.Prelude.{◌≡◌, ◌+◌, MatchResult, OnOk, IfErr};
-ghost use Rattle.std.specs.Io.KnownBytes.{Appends};
+ghost use Rattle.std.specs.Prelude.{◌≡◌, MatchResult, string_bytes};
 ghost use Rattle.clap.specs.Walk.{texts};
+ghost use Rattle.module_format.specs.Keeping.{Keeps};
 ghost use Rattle.tpm.specs.CommandLine.{asked_of};
 ghost use Rattle.tpm.specs.LineFaults.{misuse_status};
-ghost use Rattle.tpm.specs.Texts.{report_line, status_of};
-ghost use Rattle.tpm.specs.Acting.{Acts, Answers, IsTold, IsHindered, Performs};
+ghost use Rattle.tpm.specs.Texts.{status_of};
+ghost use Rattle.tpm.specs.Acting.{Acts, Answers, HasRun, IsAccepted, IsTold, IsHindered, Performs, Withholds};
 
 use crate::command_line::line;
 use crate::files::{FileFault, Files};
 use crate::line::{Line, LineFault};
+use crate::listing::listing;
 use crate::report::{DONE, Failure, MISUSED, Report, STARVED};
 use crate::running::run_out;
+use crate::telling::tell;
 use certificate::Module;
 use std::alloc::Global;
 use std::io::Write;
 use verifier::verify;
 
-/// What is asked for of the module in these bytes.
-fn judge<'a>(alloc: Global, bytes: &[u8], line: Line<'a>) -> Result<Report, Failure<'a>>
-    ensures { MatchResult result (IsTold bytes.now (asked_of line.entry)) (IsHindered bytes.now) }
+/// What is told of the verdict on a module.
+fn verdict<'a>(alloc: Global, module: &Module<'_>) -> Result<String, Failure<'a>>
+    ensures { MatchResult result (λ text. IsAccepted «module».now (string_bytes text)) (Withholds «module».now) }
 {
-    let module = Module::read(alloc, bytes)?;
-    let verified = verify(alloc, &module)?;
-    Ok(match line {
-        Line::Verify { .. } => Report::Accepted {
-            budget: module.tables().budget,
-        },
-        Line::Run { .. } => run_out(alloc, verified.module())?,
-    })
+    verify(alloc, module)?;
+    let report = Report::Accepted {
+        budget: module.tables().budget,
+    };
+    Ok(format!(in alloc; "{report}\n")?)
 }
 
-/// What is asked for of the module in the file.
-fn answer<'a, F: Files>(alloc: Global, line: Line<'a>, files: &mut F) -> Result<Report, Failure<'a>>
-    ensures { Answers F.reads (asked_of line.entry) files.old files.new result }
+/// What is told of the run of a module.
+fn outcome<'a>(alloc: Global, module: &Module<'_>) -> Result<String, Failure<'a>>
+    requires { Keeps «module».now }
+    ensures { MatchResult result (λ text. HasRun «module».now (string_bytes text)) (Withholds «module».now) }
 {
-    let (Line::Verify { path } | Line::Run { path }) = line;
+    let verified = verify(alloc, module)?;
+    let report = run_out(alloc, verified.module())?;
+    Ok(format!(in alloc; "{report}\n")?)
+}
+
+/// What is told of the module in these bytes, as text.
+fn judge<'a>(alloc: Global, bytes: &[u8], line: Line<'a>) -> Result<String, Failure<'a>>
+    ensures { let asked = asked_of line.entry in
+        MatchResult result (λ text. IsTold bytes.now asked (string_bytes text)) (IsHindered bytes.now asked) }
+{
+    let module = Module::read(alloc, bytes)?;
+    match line {
+        Line::Verify { .. } => verdict(alloc, &module),
+        Line::Run { .. } => outcome(alloc, &module),
+        Line::List { .. } => Ok(listing(alloc, &module)?),
+    }
+}
+
+/// What is told of the module in the file.
+fn answer<'a, F: Files>(alloc: Global, line: Line<'a>, files: &mut F) -> Result<String, Failure<'a>>
+    ensures { let answers = Answers F.reads (asked_of line.entry) files.old files.new in
+        MatchResult result (λ text. answers (Ok (string_bytes text))) (λ failure. answers (Err failure)) }
+{
+    let (Line::Verify { path } | Line::Run { path } | Line::List { path }) = line;
     match files.read(path) {
         Ok(bytes) => judge(alloc, bytes.as_slice(), line),
         Err(FileFault::Failed) => Err(Failure::Unread(path)),
         Err(FileFault::Memory) => Err(Failure::Memory),
     }
-}
-
-/// Writes the report, on a line.
-fn tell<'a, O: Write>(report: Report, out: &mut O) -> Result<(), Failure<'a>>
-    ensures ok { OnOk result
-        (Appends (O.contents out.old) (O.contents out.new) (report_line report)) }
-    ensures err { IfErr result (λ failure. failure ≡ Failure.Unwritten) }
-{
-    writeln!(out, "{report}").map_err(|_| Failure::Unwritten)?;
-    out.flush().map_err(|_| Failure::Unwritten)
 }
 
 /// Does what is asked for, and tells it on `out`.
@@ -64,8 +77,8 @@ fn perform<'a, F: Files, O: Write>(
     ensures { Performs F.reads (asked_of line.entry) files.old files.new
         (O.contents out.old) (O.contents out.new) result }
 {
-    let report = answer(alloc, line, files)?;
-    tell(report, out)
+    let text = answer(alloc, line, files)?;
+    tell(text.as_bytes(), out)
 }
 
 /// Tells on `err` why nothing was done, and gives the exit status. What fails there is not told.

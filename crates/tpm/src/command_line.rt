@@ -1,7 +1,7 @@
 //! The reading of a command line. It stands apart from what acts, since its check takes long.
 
 ghost use Rattle.std.specs.Prelude.{◌≡◌, IfOk, IfErr, Some, false, option_map, option_and_then};
-ghost use Rattle.clap.specs.Simple.{app_of, shape_of, subcommand_rows_of};
+ghost use Rattle.clap.specs.Simple.{app_of, shape_of, subcommand_rows_of, with_subcommand};
 ghost use Rattle.clap.specs.declared.builder.command.Command.TheViews.{out-Command as fields_of};
 ghost use Rattle.clap.specs.Walk.{texts};
 ghost use Rattle.tpm.specs.CommandLine.{asked_of, entered_by, line_of, subcommand_shape, tpm};
@@ -22,18 +22,30 @@ fn subcommand<'a>(alloc: Global, name: &'a str, about: &'a str) -> Result<Comman
     Command::new(alloc, name).about(about).arg(module)
 }
 
+/// A command with one more such subcommand.
+fn with_subcommand<'a>(
+    alloc: Global,
+    command: Command<'a>,
+    name: &'a str,
+    about: &'a str,
+) -> Result<Command<'a>, AllocError>
+    ensures { IfOk result (λ c. app_of c ≡ with_subcommand (app_of command.entry) (subcommand_shape name.entry.now)) }
+{
+    let subcommand = subcommand(alloc, name, about)?;
+    command.subcommand(subcommand)
+}
+
 /// The program's command.
 fn command<'a>(alloc: Global) -> Result<Command<'a>, AllocError>
     ensures { IfOk result (λ c. app_of c ≡ tpm) }
 {
-    let verify = subcommand(alloc, "verify", "Tells whether a module is certified")?;
-    let run = subcommand(alloc, "run", "Runs a module that is certified")?;
-    Command::new(alloc, "tpm")
-        .about("Verifies and runs transputer modules")
+    let tpm = Command::new(alloc, "tpm")
+        .about("Verifies, runs and lists transputer modules")
         .subcommand_required(true)
-        .disable_help_subcommand(true)
-        .subcommand(verify)?
-        .subcommand(run)
+        .disable_help_subcommand(true);
+    let tpm = with_subcommand(alloc, tpm, "verify", "Tells whether a module is certified")?;
+    let tpm = with_subcommand(alloc, tpm, "run", "Runs a module that is certified")?;
+    with_subcommand(alloc, tpm, "list", "Lists the instructions of a module")
 }
 
 /// What the matches ask for.
@@ -46,12 +58,13 @@ fn asked<'a>(matches: &ArgMatches<'a>) -> Option<Line<'a>>
     match name {
         "verify" => Some(Line::Verify { path }),
         "run" => Some(Line::Run { path }),
+        "list" => Some(Line::List { path }),
         _ => None,
     }
 }
 
-/// What the words of a command line ask for, of which the first is the program's name: `verify MOD`
-/// or `run MOD`.
+/// What the words of a command line ask for, of which the first is the program's name: `verify MOD`,
+/// `run MOD` or `list MOD`.
 pub fn line<'a>(alloc: Global, words: &'a [&'a str]) -> Result<Line<'a>, LineFault>
     ensures asked { IfOk result (λ l. line_of (texts words.entry.now) ≡ Some (asked_of l)) }
     // A body that always reports that memory ran out meets this too, since no clause can say that memory

@@ -14,6 +14,8 @@ pub enum Line<'a> {
     Verify { path: &'a str },
     /// A run of the module in the file of this path.
     Run { path: &'a str },
+    /// The listing of the code of the module in the file of this path.
+    List { path: &'a str },
 }
 
 /// Why a command line asks for nothing.

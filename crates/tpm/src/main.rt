@@ -1,12 +1,15 @@
-//! `tpm`: verifies and runs transputer modules.
+//! `tpm`: verifies, runs and lists transputer modules.
 #![tactic(auto)]
 
 mod acting;
 mod command_line;
 mod files;
 mod line;
+mod listing;
+mod names;
 mod report;
 mod running;
+mod telling;
 
 use acting::act;
 use files::SystemFiles;

@@ -21,6 +21,7 @@ use certificate::{Module, Tables};
 use channels::{Delivery, Here, Message, Stop, messages_read_no_counters};
 use joins::{join, joins_read_no_counters, starts_read_no_counters};
 use machine_state::{Fault, Registers, Request};
+use std::alloc::Global;
 
 /// What an instruction did that was granted, or is at fault.
 fn ran(granted: Result<(), Fault>) -> Result<Act, Stop>
@@ -61,6 +62,7 @@ fn send(processes: &mut Processes, tables: &Tables, message: &Message) -> Result
 
 /// A branch is started.
 fn start(
+    alloc: Global,
     processes: &mut Processes,
     module: &Module<'_>,
     here: &Here,
@@ -73,7 +75,7 @@ fn start(
         let l = untouched registers processes.old.world.memory in
         Grants processes.old.world processes.new.world result (start_turn h to workspace l processes.old.world) }
 {
-    joins::start(processes, module, here, to, workspace, registers)?;
+    joins::start(alloc, processes, module, here, to, workspace, registers)?;
     Ok(Act::Ran)
 }
 
@@ -115,6 +117,7 @@ impl Machine {
         starts_read_no_counters();
         joins_read_no_counters();
         let tables = module.tables();
+        let alloc = self.alloc;
         let processes = &mut self.traffic;
         let granted = match request {
             Request::Receive(exchange) => {
@@ -159,7 +162,7 @@ impl Machine {
             }
             Request::End { to } => ran(end(processes, tables, here, to, registers)),
             Request::Start { to, workspace } => {
-                start(processes, module, here, to, workspace, registers)
+                start(alloc, processes, module, here, to, workspace, registers)
             }
             Request::Join { block } => ran(join(processes, tables, here, block, registers)),
         };

@@ -24,6 +24,8 @@ pub(crate) type Processes = Traffic<TaggedStore, ListQueue>;
 /// The whole machine at a moment, apart from its module.
 #[derive(Drop)]
 pub(crate) struct Machine {
+    /// What starts of processes take their memory from.
+    pub(crate) alloc: Global,
     pub(crate) traffic: Processes,
     executed: u64,
     is_finished: bool,
@@ -50,6 +52,7 @@ impl Machine {
         ensures { IfOk result (λ m. m.world ≡ loaded (contents_of tables.now)) }
     {
         Ok(Machine {
+            alloc,
             traffic: Traffic::load(alloc, tables)?,
             executed: 0,
             is_finished: false,

@@ -21,3 +21,9 @@ returns-in-run c =
     sym (ap (λ (n : Text). named n c.in_ok-path.path.now) c.in-run.is)
     ∙ asks_by c.args.matches.now c.in_ok-name.given.now c.in_ok-name.name.now (Some c.in_ok-path.path.now)
     c.in_ok-name.ensures.name c.in_ok-name.ensures.rows c.in_ok-path.ensures
+
+pub returns-in-list : goal.returns-in-list
+returns-in-list c =
+    sym (ap (λ (n : Text). named n c.in_ok-path.path.now) c.in-list.is)
+    ∙ asks_by c.args.matches.now c.in_ok-name.given.now c.in_ok-name.name.now (Some c.in_ok-path.path.now)
+    c.in_ok-name.ensures.name c.in_ok-name.ensures.rows c.in_ok-path.ensures

@@ -4,7 +4,7 @@ use Rattle.std.specs.List.{All}
 use Rattle.std.proofs.lemmas.List.Elements.{All-set, All-push}
 use Rattle.machine_state.specs.declared.process.Task.{Task}
 use Rattle.channels.specs.Moment.{IsSteady}
-use Rattle.channels.proofs.joining.Traffic+TaggedStore+ListQueue.advance_join.Goals as goal
+use Rattle.channels.proofs.joining.Traffic+TaggedStore+ListQueue.enter_next.Goals as goal
 
 pub invariant_of-self-2 : goal.invariant_of-self-2
 invariant_of-self-2 c =

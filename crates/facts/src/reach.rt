@@ -1,0 +1,89 @@
+//! Which bytes of its regions a context may use, and what their words may be.
+
+ghost use Rattle.std.specs.Prelude.{◌≡◌, ◌+◌, pos, negsuc, ◌+ℤ◌, ◌*ℤ◌, ◌≤ℤ◌, ◌<ℤ◌};
+ghost use Rattle.facts.specs.Reach.{word_of_byte, words_touched, lie_in, readable_size, is_listed, lie_in_row, full};
+ghost use Rattle.facts.specs.Reach.{kept_range};
+ghost use Rattle.facts.specs.MemoryRules.{ends_in};
+
+use crate::pointers::Bounds;
+use certificate::{ParameterKind, TableRow};
+
+/// The word in which a byte of the frame lies.
+pub(crate) fn word_of_byte(offset: i32) -> i32
+    ensures value { result ≡ word_of_byte offset }
+    ensures low { (pos 4 *ℤ result) ≤ℤ offset }
+    ensures high { offset <ℤ (pos 4 *ℤ result +ℤ pos 4) }
+{
+    if offset < 0 {
+        let back = (-1 - offset).unsigned_abs();
+        return -1 - (back / 4) as i32;
+    }
+    (offset.unsigned_abs() / 4) as i32
+}
+
+/// How many words have a byte from the first up to `end` (not included).
+pub(crate) fn words_touched(first: i32, end: i32) -> u32
+    requires { negsuc 2147483646 ≤ℤ end }
+    ensures { result ≡ words_touched first end }
+{
+    let last = word_of_byte(end - 1);
+    last.abs_diff(word_of_byte(first)) + 1
+}
+
+/// Whether bytes from the first up to `end` lie in so many.
+pub(crate) fn lie_in(size: Option<u32>, first: i32, end: i32) -> bool
+    ensures { result ≡ lie_in size first end }
+{
+    match size {
+        Some(size) => 0 <= first && i64::from(end) <= i64::from(size),
+        None => false,
+    }
+}
+
+/// How many bytes a parameter of this kind names that may be read.
+pub(crate) fn readable_size(kind: ParameterKind) -> Option<u32>
+    ensures { result ≡ readable_size kind }
+{
+    match kind {
+        ParameterKind::ReadRegion { size, .. } | ParameterKind::WrittenRegion { size, .. } => {
+            Some(size)
+        }
+        _ => None,
+    }
+}
+
+/// Whether a number is listed.
+pub(crate) fn is_listed(numbers: &[u16], number: u16) -> bool
+    ensures { result ≡ is_listed numbers.now number }
+{
+    numbers.iter().any(|k| *k == number)
+}
+
+/// Whether all bytes from the first up to `end` lie in the row of a table.
+pub(crate) fn lie_in_row(first: i32, end: i32, row: &TableRow) -> bool
+    ensures { result ≡ lie_in_row first end row.now }
+{
+    i64::from(row.start) <= i64::from(first) && i64::from(end) <= i64::from(row.end)
+}
+
+/// All numbers of a word.
+pub(crate) fn full() -> Bounds
+    ensures { ends_in result ≡ full }
+{
+    Bounds {
+        lo: i32::MIN,
+        hi: i32::MAX,
+    }
+}
+
+/// The range that a parameter of this kind keeps of what it names.
+pub(crate) fn kept_range(kind: ParameterKind) -> Bounds
+    ensures { ends_in result ≡ kept_range kind }
+{
+    match kind {
+        ParameterKind::ReadRegion { lo, hi, .. } | ParameterKind::WrittenRegion { lo, hi, .. } => {
+            Bounds { lo, hi }
+        }
+        _ => full(),
+    }
+}

@@ -1,0 +1,57 @@
+-- The lines of a listing, one after the other.
+use Rattle.std.proofs.Common.{◌≡◌, ℕ, zero, suc, ◌+◌, ◌-◌, ◌^◌, ◌<◌, ◌≤◌, nat_lt, true, false, List, [], ◌∷◌, ◌++◌, length}
+use Rattle.std.proofs.Common.{take, drop, replicate, cond, Option, refl, ap, sym, ◌∙◌, append_assoc, append-nil, arith, subst}
+use Rattle.std.proofs.lemmas.Bool.{lt-ltb, le-ltb}
+use Rattle.std.specs.Fmt.{decimal, padded_integral, format_spec, char_count}
+use native.Mathlib.Numerals.{unary_clauses}
+use Rattle.clap.specs.Walk.{Text}
+use Rattle.module_format.specs.Contents.{Contents}
+use Rattle.tpm.specs.Listing.{six_digits, listed_line, listed_size, lines_from, listing}
+
+-- What is written are the first lines, and those from an offset on are left.
+pub record Lists (m : Contents) (written : Text) (at : ℕ) : Type 0 where
+  pub more : ℕ
+  pub enough : length m.code ≤ at + more
+  pub all : listing m ≡ written ++ lines_from m more at
+
+pub nothing_listed : (m : Contents) → Lists m [] 0
+nothing_listed m = record { more = length m.code; enough = omega arith; all = refl }
+
+-- an offset of the code has a line
+line_first : (m : Contents) (more at : ℕ) → at < length m.code
+    → lines_from m (suc more) at ≡ listed_line m at ++ lines_from m more (at + listed_size m at)
+line_first m more at within =
+    ap (λ b. cond b (listed_line m at ++ lines_from m more (at + listed_size m at)) []) (lt-ltb at (length m.code) within)
+
+-- and one behind it has none
+line_last : (m : Contents) (more at : ℕ) → length m.code ≤ at → lines_from m more at ≡ []
+line_last m zero at end = refl
+line_last m (suc more) at end =
+    ap (λ b. cond b (listed_line m at ++ lines_from m more (at + listed_size m at)) []) (le-ltb at (length m.code) end)
+
+pub line_listed : (m : Contents) (before after : Text) (at size : ℕ) → at < length m.code → 1 ≤ size
+    → size ≡ listed_size m at → after ≡ before ++ listed_line m at → Lists m before at → Lists m after (at + size)
+line_listed m before after at size within some is line lists = go lists.more lists.enough lists.all
+  where
+    go : (more : ℕ) → length m.code ≤ at + more → listing m ≡ before ++ lines_from m more at → Lists m after (at + size)
+    go zero enough all = absurd (omega arith)
+    go (suc more) enough all = record {
+      more = more;
+      enough = omega arith;
+      all = all ∙ ap (λ (t : Text). before ++ t) (line_first m more at within)
+          ∙ sym (append_assoc before (listed_line m at) (lines_from m more (at + listed_size m at)))
+          ∙ ap (λ (t : Text). t ++ lines_from m more (at + listed_size m at)) (sym line)
+          ∙ ap (λ (n : ℕ). after ++ lines_from m more (at + n)) (sym is);
+    }
+
+-- behind the code all are written
+pub all_listed : (m : Contents) (written : Text) (at : ℕ) → length m.code ≤ at → Lists m written at → written ≡ listing m
+all_listed m written at end lists =
+    sym (lists.all ∙ ap (λ (t : Text). written ++ t) (line_last m lists.more at end) ∙ append-nil written)
+
+-- what `{n:06}` writes
+pub six_digits_written : (n : ℕ)
+    → padded_integral (format_spec 32 0 4 6 (2 ^ 64 - 1)) false [] (decimal n) ≡ six_digits n
+unfolding padded_integral char_count
+six_digits_written n =
+    simp unary_clauses (ap (λ (t : Text). replicate (6 - length (decimal n)) 48 ++ t) (append-nil (decimal n)))
