@@ -56,6 +56,7 @@ use Rattle.machine_state.specs.Memory.{joined}
 use Rattle.facts.proofs.Constants.{word_in, row_word}
 use Rattle.facts.specs.Reach.{constant_range, lie_in_row, full}
 use Rattle.facts.specs.Reach.{may_read_bytes, may_write_bytes, may_read_parameter, may_write_parameter}
+use Rattle.facts.specs.MemoryRules.{is_near}
 use Rattle.facts.specs.CallRules as rule
 use Rattle.facts.specs.CallRules.{Calling, Lent, callee_word, given, lent_from, lent, suits, parameter_suits, numbers_suit}
 use Rattle.facts.specs.CallRules.{numbers_fit, is_off_callee, may_use, words_fit, may_lend, pointers_fit, frame_size}
@@ -322,8 +323,8 @@ pub lend_parts : (c : Calling) (l : Lent) → may_lend c l ≡ true
     → (rule.may_use c l ≡ true) × ((if l.region == 0 then words_fit c l else true) ≡ true)
 unfolding may_lend
 lend_parts c l h =
-    let both = and-parts (rule.is_near l.first && rule.may_use c l) (if l.region == 0 then words_fit c l else true) h in
-    ((and-parts (rule.is_near l.first) (rule.may_use c l) both.0).1, both.1)
+    let both = and-parts (is_near l.first && rule.may_use c l) (if l.region == 0 then words_fit c l else true) h in
+    ((and-parts (is_near l.first) (rule.may_use c l) both.0).1, both.1)
 
 pub words_parts : (c : Calling) (l : Lent) → words_fit c l ≡ true
     → ((lent_words c l).are_numbers ≡ true) × (is_off_callee c (word_of_byte l.first) (l.size / 4) ≡ true)

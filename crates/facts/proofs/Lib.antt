@@ -17,7 +17,6 @@ pub mod Narrowed
 pub mod Combining
 pub mod WordsFit
 pub mod MemoryFits
-pub mod Constants
 pub mod Offsets
 pub mod Lending
 pub mod Ends

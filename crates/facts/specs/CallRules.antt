@@ -33,6 +33,7 @@ use Rattle.states.specs.declared.span.Leaving.TheVariants.{Become}
 use Rattle.states.specs.Spans.{all_words, together, on_span}
 use Rattle.facts.specs.Reach.{word_of_byte, may_read_bytes, may_write_bytes, constant_range}
 use Rattle.facts.specs.Rulings.{Ruling, Site, calls, returns, breaks, alone, pays}
+use Rattle.facts.specs.MemoryRules.{is_near, are_near}
 
 -- ---- what is passed
 
@@ -138,13 +139,9 @@ numbers_fit c p = elim p.kind [
 
 -- ---- pointers
 
--- an offset at which a pointer may be used
-abbrev pub is_near : ℤ → Bool
-is_near offset = int_le (negsuc 16777215) offset && int_le offset (pos 16777216)
-
 -- where a pointer is used, its offsets are near
 abbrev pub is_near_fact : WordFact → Bool
-is_near_fact (Alone (Pointer region lo hi step)) = is_near lo && is_near hi
+is_near_fact (Alone (Pointer region lo hi step)) = are_near lo hi
 is_near_fact _ = true
 
 -- so many words from this one on are none of the callee's frame
