@@ -179,6 +179,13 @@ fn put_successors(successors: &Successors, out: &mut Answer) {
             out.put(" or leads ");
             out.number(i64::from(*to));
         }
+        Successors::Calls(state, to) => {
+            out.put("calls ");
+            out.number(i64::from(*to));
+            out.put(" then falls");
+            put_state(state, out);
+        }
+        Successors::Returns => out.put("returns"),
         Successors::Ends => out.put("ends"),
     }
 }

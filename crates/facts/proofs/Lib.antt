@@ -17,6 +17,13 @@ pub mod Narrowed
 pub mod Combining
 pub mod WordsFit
 pub mod MemoryFits
+pub mod Offsets
+pub mod Lending
+pub mod Ends
+pub mod CallTests
+pub mod Passing
+pub mod Resuming
+pub mod CallsFit
 pub mod Turning
 pub mod Blocks
 pub mod LoopsFit

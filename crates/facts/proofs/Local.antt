@@ -18,6 +18,7 @@ use Rattle.facts.specs.Meaning.{owed, IsWellFormed}
 use Rattle.facts.specs.Fitting.{Changes, After, Here, rule_site, step_site, it_ends, it_breaks, RulesFitSteps}
 use Rattle.facts.proofs.Combining.{FitsIf, unknown_means, schedules_fits, leads_fits, in_plain_rule, beside_plain_rule}
 use Rattle.facts.proofs.Combining.{in_plain_step, after_stack, pays_fits}
+use Rattle.facts.proofs.CallsFit.{return_fits}
 use Rattle.facts.proofs.WordsFit.{ldc_fits, ldl_fits, stl_fits, constant_fits, reverse_fits, mint_fits, binary_fits}
 use Rattle.facts.proofs.WordsFit.{unary_fits, shift_fits, long_fits, subscript_fits, count_fits, pointer_fits}
 use Rattle.facts.proofs.WordsFit.{adjust_fits, cj_fits}
@@ -65,6 +66,7 @@ module _ (x : Here) (wf : IsWellFormed x.m) (s : State) (l : Local) (a : After x
   operation_fits operations.WordSubscript = wsub_fits x s l a same changes n
   operation_fits operations.LoadPointerToInstruction = ldpi_fits x s l a same changes n
   operation_fits operations.LoadByte = lb_fits x s l a same changes n wf
+  operation_fits operations.Return = return_fits x wf s l a same changes n
   operation_fits operations.LoopEnd =
       lend_fits x wf s l a a.named.even (λ k t. wf.frames s.context k (and-parts _ _ t).0) same changes n
   operation_fits _ = λ next. it_breaks

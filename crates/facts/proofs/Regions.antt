@@ -188,7 +188,7 @@ module _ (m : Contents) (h : Holding) (scope : Scope) (old new : Memory) (change
       region_left (λ q held. held) (λ q low high. beside q (low, high)) named
   kind_left (WrittenRegion size lo hi) start beside named =
       region_left (may_too h) (λ q low high. beside q (low, high)) named
-  kind_left (Channels count len ends) start beside named = named
+  kind_left (Channels count len ends) start beside named = tt
 
   -- Of each region either no byte has changed, or it is still what it was.
   pub named_left : ((j : ℕ) (p : Parameter) → slice_get scope.parameters j ≡ Some p
@@ -203,6 +203,8 @@ module _ (m : Contents) (h : Holding) (scope : Scope) (old new : Memory) (change
     constants = constants_left has.constants;
     bytes = bytes_left has.bytes;
     even = has.even;
+    ends = has.ends;
+    back = has.back;
   }
 
 -- ---- a write to a word of the frame

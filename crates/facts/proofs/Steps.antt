@@ -30,7 +30,8 @@ use Rattle.facts.specs.declared.continuation.Continuation.{Continuation}
 use Rattle.facts.specs.Rulings.{forks_to, falls_or_leads}
 use Rattle.facts.specs.Rulings.{Ruling, Site, leads, breaks, outside_alternation, outside_starts, alone, uses, forward}
 use Rattle.facts.specs.Rulings.{writes_word, reads_word, leads_to, goes_on, goes_to, push, pop}
-use Rattle.facts.specs.WordRules.{loaded, near, has_range, in_bounds, has_long_operations, long_results}
+use Rattle.facts.specs.MemoryRules.{near}
+use Rattle.facts.specs.WordRules.{loaded, has_range, in_bounds, has_long_operations, long_results}
 use Rattle.facts.specs.Rules.{instruction_rule, rule_of, rule, rule_at, has_rule, operation_rule, op_has_rule}
 use Rattle.facts.specs.Rules.{instruction_has_rule}
 use Rattle.facts.specs.Telling.{Admits, Advances}
@@ -192,6 +193,7 @@ operation-without site ops.ByteSubscript s h = absurd (cc)
 operation-without site ops.WordSubscript s h = absurd (cc)
 operation-without site ops.LoadPointerToInstruction s h = absurd (cc)
 operation-without site ops.LoadByte s h = absurd (cc)
+operation-without site ops.Return s h = absurd (cc)
 operation-without site ops.LoopEnd s h = absurd (cc)
 operation-without site _ s h = refl
 

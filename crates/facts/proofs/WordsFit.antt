@@ -38,6 +38,7 @@ use Rattle.states.proofs.RowFacts.{and-parts, le-from, lt-from}
 use Rattle.facts.specs.Rulings as rule
 use Rattle.facts.specs.Rulings.{Ruling, breaks}
 use Rattle.facts.specs.WordRules as word
+use Rattle.facts.specs.MemoryRules.{is_near, near}
 use Rattle.facts.specs.WordRules.{has_range}
 use Rattle.facts.specs.Rules as table
 use Rattle.facts.specs.Meaning.{Activation, IsOffset, Means, is_number, is_pointer, frame_word, words_of, ComesFrom, from_nowhere}
@@ -190,10 +191,10 @@ module _ (x : Here) (s : State) (l : Local) (a : After x.m x.h x.mode x.act s l)
   pub pointer_fits : (e : ℤ) → FitsSigned w32 e
       → FitsIf x (table.instruction_rule (rule_site x) instructions.LoadLocalPointer e s)
       (step.instruction_step (step_site x) instructions.LoadLocalPointer e l)
-  unfolding table.instruction_rule step.instruction_step word.near
+  unfolding table.instruction_rule step.instruction_step near
   pointer_fits e fits =
       let offset : ℤ = pos 4 *ℤ (s.depth +ℤ e) in
-      on_rule_test x (word.is_near offset) _ _ _ (λ t.
+      on_rule_test x (is_near offset) _ _ _ (λ t.
       goes_on_fits x (rule.push (known (Pointer 0 offset offset Word)) s)
       (step.push (Some (step.word_of (local_address l.registers.workspace e))) l)
       (after_stack x a (record {

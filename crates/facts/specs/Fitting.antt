@@ -1,11 +1,14 @@
 -- When the rule of an instruction and its step fit each other: where the rule is not broken, the step is no fault, it
 -- changes own bytes only, and what the rule
 -- says of the state behind it holds.
-use Rattle.std.specs.Prelude.{◌≡◌, ℕ, ◌+◌, ◌*◌, ◌≤◌, ◌<◌, ℤ, FitsSigned, length, Some}
+use Rattle.std.specs.Prelude.{◌≡◌, ℕ, ◌+◌, ◌*◌, ◌≤◌, ◌<◌, ℤ, pos, ◌+ℤ◌, true, FitsSigned, length, Some, None}
 use Rattle.std.specs.Int.{w32}
 use Rattle.prefix_decoder.specs.declared.function.Fun.{Fun}
 use Rattle.module_format.specs.Contents.{Contents, Label, label_at}
+use Rattle.module_format.specs.Stack.{of_empty}
+use Rattle.certificate.specs.Starts.{Entered, procedure_at}
 use Rattle.machine_state.specs.declared.process.Mode as machine
+use Rattle.machine_state.specs.declared.process.Mode.TheVariants as machine_modes
 use Rattle.machine_state.specs.Memory.{Memory}
 use Rattle.machine_state.specs.Holding.{Holding}
 use Rattle.machine_state.specs.Frame.{ChangesOwn}
@@ -14,12 +17,13 @@ use Rattle.machine_state.specs.Memory.{data_start}
 use Rattle.machine_state.specs.Site as steps
 use Rattle.machine_state.specs.Site.{Outcome, goes, jumps, lands, stops, Local}
 use Rattle.states.specs.declared.rule.Rule.{Rule}
-use Rattle.states.specs.State.{State, label_state}
+use Rattle.states.specs.declared.known.Mode.TheVariants.{Plain}
+use Rattle.states.specs.State.{State, unknown, label_state, procedure_state}
 use Rattle.facts.specs.Regions.{scope_of, HoldsNamed, Keeps}
 use Rattle.facts.specs.Rulings as rule
 use Rattle.facts.specs.Rules as table
-use Rattle.facts.specs.Rulings.{Ruling, ends, breaks, falling, leading}
-use Rattle.facts.specs.Meaning.{Activation, with_turns, words_of, HasFrame, Knows, owed, SameMode, IsWellFormed}
+use Rattle.facts.specs.Rulings.{Ruling, calls, returns, ends, breaks, falling, leading}
+use Rattle.facts.specs.Meaning.{Layout, Activation, MeansWord, frame_word, place_in, with_turns, words_of, HasFrame, Knows, owed, SameMode, IsWellFormed}
 
 -- what holds behind an instruction: the frame is still there, and the state is known
 pub record After (m : Contents) (h : Holding) (mode : machine.Mode) (act : Activation) (s : State)
@@ -60,6 +64,34 @@ step_site x = record {
   has_long_operations = x.m.has_long_operations;
 }
 
+-- ---- who waits for a return
+
+-- An activation that waits until the one that it called returns, and the state in which it goes on then.
+pub record Caller : Type 0 where
+  pub act : Activation
+  pub state : State
+  pub workspace : ℕ
+
+-- All that is known of the words of a caller holds, and it has what its parameters name.
+pub record Resumes (m : Contents) (h : Holding) (c : Caller) (memory : Memory) : Type 0 where
+  pub frame : HasFrame h (length memory) (words_of m c.state) c.act.layout.origin c.state.depth c.workspace
+  pub words : (k : ℤ) → (words_of m c.state).reads k ≡ true
+      → MeansWord m c.act k (c.state.frame k) (frame_word memory c.act.layout.origin k)
+  pub named : HoldsNamed m h (scope_of m c.state.context c.act.layout) memory
+
+-- The state in which a caller goes on, and the place of its workspace, when an activation with this layout returns.
+pub record GoesOn (layout : Layout) (c : Caller) : Type 0 where
+  pub plain : c.state.mode ≡ Plain
+  pub registers : c.state.stack ≡ of_empty unknown
+  pub workspace : pos c.workspace ≡ pos data_start +ℤ place_in layout.origin (pos 4)
+
+-- Whatever a procedure that was called still changes, its caller's scope keeps it, and the caller goes on.
+pub record Waits (m : Contents) (h : Holding) (context : ℕ) (layout : Layout) (c : Caller) (memory : Memory) : Type 0 where
+  pub goes_on : GoesOn layout c
+  pub lifts : (later : Memory) → Keeps m h (scope_of m context layout) memory later
+      → Keeps m h (scope_of m c.state.context c.act.layout) memory later
+  pub resumes : (later : Memory) → Keeps m h (scope_of m context layout) memory later → Resumes m h c later
+
 -- the process goes on at this code offset
 pub data GoesTo (x : Here) : Outcome → ℕ → Local → Type 0 where
   goes_behind : {l : Local} → GoesTo x (goes l) (x.at + x.len) l
@@ -76,6 +108,16 @@ pub data Fits (x : Here) : Ruling → Outcome → Type 0 where
       → GoesTo x o to l → label_at x.m to ≡ Some t → to < length x.m.code
       → After x.m x.h x.mode (with_turns turns x.act) (label_state t) l → t.context ≡ x.context → Changes x l.memory
       → owed (label_state t) (with_turns turns x.act) + x.len ≤ x.owed → Fits x r o
+  it_calls : {to : ℕ} {s : State} {l : Local} {e : Entered} (act : Activation) (workspace : ℕ)
+      → procedure_at x.m to ≡ Some e → to < length x.m.code
+      → After x.m x.h x.mode act (procedure_state e.context e.procedure) l → act.layout.back ≡ x.at + x.len
+      → Waits x.m x.h e.context act.layout (record { act = x.act; state = s; workspace = workspace }) l.memory
+      → s.context ≡ x.context → Changes x l.memory
+      → owed (procedure_state e.context e.procedure) act + owed s x.act + x.len ≤ x.owed → Fits x (calls to s) (lands to l)
+  it_returns : {l : Local} → 1 ≤ x.context → x.context ≤ length x.m.procedures → x.mode ≡ machine_modes.Plain
+      → Changes x l.memory → l.registers.stack ≡ of_empty None
+      → pos l.registers.workspace ≡ pos data_start +ℤ place_in x.act.layout.origin (pos 4)
+      → x.act.layout.back < length x.m.code → x.len ≤ x.owed → Fits x returns (lands x.act.layout.back l)
   it_ends : {l : Local} → Changes x l.memory → x.len ≤ x.owed → Fits x ends (stops l)
   it_breaks : {broken : Rule} {o : Outcome} → Fits x (breaks broken) o
 

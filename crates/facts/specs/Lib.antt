@@ -2,6 +2,7 @@ pub mod Rulings
 pub mod WordRules
 pub mod Reach
 pub mod MemoryRules
+pub mod CallRules
 pub mod LoopRules
 pub mod Rules
 pub mod Telling

@@ -1,7 +1,7 @@
 -- What the facts of a state mean of a process.
 use Rattle.std.specs.Prelude.{◌≡◌, ⊤, ℕ, ◌+◌, ◌*◌, ◌-◌, ◌≤◌, ◌<◌, ◌==◌, ℤ, pos, negsuc, ◌+ℤ◌, ◌-ℤ◌, ◌*ℤ◌, ◌≤ℤ◌}
 use Rattle.std.specs.Prelude.{FitsSigned, Bool, true, not, ◌&&◌, int_le, IsTrue, if◌then◌else◌, List, length, Option}
-use Rattle.std.specs.Prelude.{◌<ℤ◌, zero, suc, neg_ℤ, Some, None}
+use Rattle.std.specs.Prelude.{◌<ℤ◌, zero, suc, neg_ℤ, slice_get, Some, None}
 use Rattle.std.specs.Int.{w32, int_wrap}
 use Rattle.std.specs.List.{AllByRecursion}
 use Rattle.module_format.specs.declared.fact.Fact.{Fact}
@@ -11,11 +11,12 @@ use Rattle.module_format.specs.declared.fact.Step.{Step}
 use Rattle.module_format.specs.declared.fact.Step.TheVariants.{Byte, Word}
 use Rattle.module_format.specs.declared.rows.Entry.{Entry}
 use Rattle.module_format.specs.Order.{IsBytes, InOrder, is_stepped}
-use Rattle.module_format.specs.Procedures.{TableKeeps, behind_table}
-use Rattle.module_format.specs.Contents.{Contents, Label, label_at}
+use Rattle.module_format.specs.Contents.{Contents, Label, Procedure, label_at}
+use Rattle.module_format.specs.Procedures.{ProcedureKeeps, TableKeeps, behind_table}
 use Rattle.module_format.specs.Contexts.{context_at}
 use Rattle.module_format.specs.Stack.{AreRelated}
 use Rattle.certificate.specs.Rights as rights
+use Rattle.certificate.specs.Starts.{Entered, procedure_at}
 use Rattle.word_arithmetic.specs.Word.{truth}
 use Rattle.module_format.specs.declared.stack.Stack.{Stack}
 use Rattle.machine_state.specs.declared.process.Mode as machine
@@ -259,6 +260,10 @@ pub record IsWellFormed (m : Contents) : Type 0 where
   pub labels : (at : ℕ) (t : Label) → label_at m at ≡ Some t → at < length m.code
   pub rows : (at : ℕ) (t : Label) → label_at m at ≡ Some t → IsRowOf m t
   pub pairs : (at : ℕ) (t : Label) → label_at m at ≡ Some t → ArePairs t.entries
+  pub procedures : (n : ℕ) (p : Procedure) → slice_get m.procedures n ≡ Some p
+      → (low : ℕ) × ProcedureKeeps m.version (length m.code) low p
+  pub entries : (at : ℕ) (e : Entered) → procedure_at m at ≡ Some e → label_at m at ≡ None
+  pub eight : length m.lengths ≡ 8
   pub frames : (n : ℕ) (k : ℤ) → rights.has_word (context_at m n) k ≡ true
       → (neg_ℤ (pos farthest_word) ≤ℤ k) × (k <ℤ pos farthest_word)
   pub constant_bytes : IsBytes m.constants

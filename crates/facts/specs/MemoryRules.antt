@@ -21,9 +21,12 @@ use Rattle.facts.specs.Rulings.{Ruling, breaks, Site, alone, outside_starts, use
 
 -- ---- pointers
 
--- an offset that is not far from its region's start
+-- an offset of a pointer: at most 2^24 bytes from its region's start
 abbrev pub is_near : ℤ → Bool
 is_near offset = int_le (negsuc 16777215) offset && int_le offset (pos 16777216)
+
+unfoldable pub near : ℤ → Ruling → Ruling
+near offset k = if is_near offset then k else breaks rules.Pointer
 
 abbrev pub are_near : ℤ → ℤ → Bool
 are_near lo hi = is_near lo && is_near hi

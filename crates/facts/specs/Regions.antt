@@ -1,6 +1,7 @@
 -- What the parameters of an activation name, and what an activation may change.
-use Rattle.std.specs.Prelude.{◌≡◌, ◌⊎◌, ⊤, ℕ, ◌+◌, ◌*◌, ◌≤◌, ◌<◌, ℤ, pos, ◌+ℤ◌, ◌≤ℤ◌, ◌<ℤ◌, Bool, true, IsTrue}
-use Rattle.std.specs.Prelude.{List, length, get_or, slice_get, Some}
+use Rattle.std.specs.Prelude.{◌≡◌, ◌⊎◌, ⊤, ℕ, ◌+◌, ◌*◌, ◌%◌, ◌^◌, ◌≤◌, ◌<◌, ℤ, pos, negsuc, ◌+ℤ◌, ◌≤ℤ◌, ◌<ℤ◌, Bool}
+use Rattle.std.specs.Prelude.{true, IsTrue, List, length, get_or, slice_get, Some}
+use Rattle.std.specs.Int.{w32, cast_unsigned}
 use Rattle.module_format.specs.declared.fact.Fact.TheVariants.{Number}
 use Rattle.module_format.specs.declared.rows.Parameter.{Parameter}
 use Rattle.module_format.specs.declared.rows.ParameterKind.{ParameterKind}
@@ -9,11 +10,13 @@ use Rattle.module_format.specs.declared.rows.Direction.{Direction}
 use Rattle.module_format.specs.Order.{is_multiple_of_four, is_stepped}
 use Rattle.module_format.specs.Contents.{Contents}
 use Rattle.module_format.specs.Contexts.{parameters_at}
-use Rattle.certificate.specs.Rights.{gives_element}
-use Rattle.machine_state.specs.Memory.{Memory, byte_at, word_at, place_of}
-use Rattle.machine_state.specs.World.{constants_start}
+use Rattle.module_format.specs.declared.rows.EndKind.{EndKind}
+use Rattle.module_format.specs.declared.rows.EndKind.TheVariants as kinds
+use Rattle.certificate.specs.Rights as rights
+use Rattle.machine_state.specs.Memory.{Memory, byte_at, word_at, place_of, data_start}
+use Rattle.machine_state.specs.World.{constants_start, link_words}
 use Rattle.machine_state.specs.Holding.{Holding, may_write, may_read, has_end}
-use Rattle.facts.specs.Meaning.{Layout, Words, words_in, Means, place_in}
+use Rattle.facts.specs.Meaning.{Layout, Words, words_in, word_of, Means, place_in}
 
 -- the byte at a place is one of frame word k
 pub record IsByteOf (origin k : ℤ) (place : ℕ) : Type 0 where
@@ -25,11 +28,16 @@ pub record Scope : Type 0 where
   pub words : Words
   pub layout : Layout
   pub parameters : List Parameter
+  pub ends : EndKind → Direction → Bool
 
 -- the scope of an activation of a context
 abbrev pub scope_of : Contents → ℕ → Layout → Scope
-scope_of m context layout =
-    record { words = words_in m context; layout = layout; parameters = parameters_at m context }
+scope_of m context layout = record {
+  words = words_in m context;
+  layout = layout;
+  parameters = parameters_at m context;
+  ends = λ kind direction. rights.has_end m context (record { kind = kind; direction = direction });
+}
 
 -- ---- what parameters name
 
@@ -44,11 +52,6 @@ pub record IsRegion (m : Contents) (may_use : ℕ → Bool) (scope : Scope) (mem
       → IsByteOf scope.layout.origin k (place + i) → ⊥
   pub numbers : (i : ℕ) → 4 * i + 4 ≤ size → Means m scope.layout (Number lo hi) (word_at memory (place + 4 * i))
 
--- the ends of channels that lie from an address on: those that a parameter of this kind brings
-pub record HasEnds (h : Holding) (kind : ParameterKind) (start : ℕ) : Type 0 where
-  pub each : (element : ℕ) (direction : Direction) → gives_element kind element direction ≡ true
-      → has_end h (record { address = start + 4 * element; direction = direction }) ≡ true
-
 -- the process holds what a parameter of this kind names, which begins at this address
 abbrev pub IsNamed : Contents → Holding → Scope → Memory → ParameterKind → ℕ → Type 0
 IsNamed m h scope memory (Value lo hi) start = ⊤
@@ -56,7 +59,7 @@ IsNamed m h scope memory (ReadRegion size lo hi) start =
     IsRegion m (may_read h) scope memory (place_of start) size lo hi
 IsNamed m h scope memory (WrittenRegion size lo hi) start =
     IsRegion m (may_write h) scope memory (place_of start) size lo hi
-IsNamed m h scope memory (Channels count len ends) start = HasEnds h (Channels count len ends) start
+IsNamed m h scope memory (Channels count len ends) start = ⊤
 
 -- ---- what an activation changes
 
@@ -76,6 +79,14 @@ IsNamedAt (Channels count len ends) start place = ⊥
 
 -- ---- what an activation holds
 
+-- the address of a channel that an activation names
+abbrev pub channel_address : Layout → EndKind → ℕ
+channel_address layout (kinds.FrameWord word) =
+    cast_unsigned w32 (word_of (pos data_start +ℤ place_in layout.origin word))
+channel_address layout (kinds.Parameter (pos j) element) = (layout.starts j + 4 * element) % 2 ^ 32
+channel_address layout (kinds.Parameter (negsuc j) element) = 0
+channel_address layout (kinds.Link link) = (link_words + 4 * link) % 2 ^ 32
+
 -- The process has the constants of the module: they may be read, and lie behind all that it may write.
 pub record HasConstants (m : Contents) (h : Holding) (memory : Memory) : Type 0 where
   pub readable : (i : ℕ) → i < length m.constants → may_read h (constants_start m + i) ≡ true
@@ -86,8 +97,9 @@ pub record HasConstants (m : Contents) (h : Holding) (memory : Memory) : Type 0 
 pub record HasBytes (h : Holding) (memory : Memory) : Type 0 where
   pub each : (place b : ℕ) → may_read h place ≡ true → byte_at memory place ≡ Some b → b < 256
 
--- The process holds what each parameter of the scope names, and the constants. No byte of a region that is written is one
--- of another parameter's region, and the frame lies at a multiple of 4.
+-- The process holds what each parameter of the scope names, the constants, and the ends of the scope. No byte of a region
+-- that is written is one of another parameter's region. The frame lies at a multiple of 4, and the activation returns into
+-- the code.
 pub record HoldsNamed (m : Contents) (h : Holding) (scope : Scope) (memory : Memory) : Type 0 where
   pub each : (j : ℕ) (p : Parameter) → slice_get scope.parameters j ≡ Some p
       → IsNamed m h scope memory p.kind (scope.layout.starts j)
@@ -97,6 +109,9 @@ pub record HoldsNamed (m : Contents) (h : Holding) (scope : Scope) (memory : Mem
   pub constants : HasConstants m h memory
   pub bytes : HasBytes h memory
   pub even : IsTrue (is_stepped scope.layout.origin)
+  pub ends : (kind : EndKind) (direction : Direction) → scope.ends kind direction ≡ true
+      → has_end h (record { address = channel_address scope.layout kind; direction = direction }) ≡ true
+  pub back : scope.layout.back < length m.code
 
 -- The activation may change the byte at a place.
 pub data MayChange (scope : Scope) (place : ℕ) : Type 0 where

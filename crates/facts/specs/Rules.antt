@@ -11,8 +11,7 @@ use Rattle.machine_state.specs.declared.op.Op.{Op}
 use Rattle.machine_state.specs.declared.op.Op.TheVariants.{Reverse, StopProcess, MinimumInteger, Binary, Unary}
 use Rattle.machine_state.specs.declared.op.Op.TheVariants.{Shift, Long, CheckSubscript, CheckCount}
 use Rattle.machine_state.specs.declared.op.Op.TheVariants.{ByteSubscript, WordSubscript, LoadPointerToInstruction}
-use Rattle.machine_state.specs.declared.op.Op.TheVariants.{LoadByte}
-use Rattle.machine_state.specs.declared.op.Op.TheVariants.{LoopEnd}
+use Rattle.machine_state.specs.declared.op.Op.TheVariants.{LoadByte, LoopEnd, Return}
 use Rattle.machine_state.specs.declared.instruction.Instruction.{Instruction}
 use Rattle.machine_state.specs.declared.instruction.Instruction.TheVariants.{Jump, LoadConstant, LoadLocal, StoreLocal}
 use Rattle.machine_state.specs.declared.instruction.Instruction.TheVariants.{WithConstant, Operate}
@@ -27,11 +26,12 @@ use Rattle.states.specs.State.{State, known, written}
 use Rattle.facts.specs.Rulings.{Ruling, ends, breaks, Site, outside_alternation, outside_starts, alone, uses, forward}
 use Rattle.facts.specs.Rulings.{writes_word, reads_word, schedules, pays, forks_to, goes_on, goes_to, push, pop}
 use Rattle.facts.specs.Rulings.{reverse}
+use Rattle.facts.specs.CallRules.{return_rule}
 use Rattle.facts.specs.WordRules.{constant, loaded, in_bounds, has_range, numbers_have, has_long_operations}
 use Rattle.facts.specs.WordRules.{fact_of_two, result_fact, unary_result_fact, shift_range, is_subscript, is_count}
 use Rattle.facts.specs.WordRules.{long_results, result_source, constant_source, becomes, where_false, where_true}
-use Rattle.facts.specs.WordRules.{in_frame, near}
-use Rattle.facts.specs.MemoryRules.{shifts_pointer, subscripts, loads_place, loads_word, loads_byte}
+use Rattle.facts.specs.WordRules.{in_frame}
+use Rattle.facts.specs.MemoryRules.{near, shifts_pointer, subscripts, loads_place, loads_word, loads_byte}
 use Rattle.facts.specs.LoopRules.{ends_turn}
 
 -- ---- the instructions
@@ -60,6 +60,7 @@ operation_rule site ByteSubscript s = subscripts Byte site s
 operation_rule site WordSubscript s = subscripts Word site s
 operation_rule site LoadPointerToInstruction s = loads_place site s
 operation_rule site LoadByte s = loads_byte site s
+operation_rule site Return s = return_rule site s
 operation_rule site LoopEnd s = ends_turn site s
 operation_rule site _ s = breaks rules.Spelling
 
@@ -116,6 +117,7 @@ op_has_rule m ByteSubscript = true
 op_has_rule m WordSubscript = true
 op_has_rule m LoadPointerToInstruction = true
 op_has_rule m LoadByte = true
+op_has_rule m Return = true
 op_has_rule m LoopEnd = true
 op_has_rule m _ = false
 

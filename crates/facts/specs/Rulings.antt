@@ -24,6 +24,11 @@ pub data Ruling : Type 0 where
   leads : ℕ → Ruling
   -- it goes on after the instruction in this state, or at the label at this offset
   falls_or_leads : State → ℕ → Ruling
+  -- it calls the procedure that begins at this offset, and goes on after the instruction in this state, once that has
+  -- returned
+  calls : ℕ → State → Ruling
+  -- it returns to where it was called
+  returns : Ruling
   -- it stops
   ends : Ruling
   -- it breaks this rule
@@ -34,6 +39,8 @@ abbrev pub falling : Ruling → Option State
 falling (falls s) = Some s
 falling (leads to) = None
 falling (falls_or_leads s to) = Some s
+falling (calls to s) = Some s
+falling returns = None
 falling ends = None
 falling (breaks broken) = None
 
@@ -42,6 +49,8 @@ abbrev pub leading : Ruling → Option ℕ
 leading (falls s) = None
 leading (leads to) = Some to
 leading (falls_or_leads s to) = Some to
+leading (calls to s) = None
+leading returns = None
 leading ends = None
 leading (breaks broken) = None
 

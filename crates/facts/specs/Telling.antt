@@ -3,8 +3,8 @@ use Rattle.std.specs.Prelude.{◌≡◌, ℕ, Result, Ok, Err}
 use Rattle.states.specs.declared.rule.Rule.{Rule}
 use Rattle.states.specs.State.{State}
 use Rattle.facts.specs.declared.continuation.Continuation.{Continuation}
-use Rattle.facts.specs.declared.continuation.Continuation.TheVariants.{Falls, Leads, FallsOrLeads, Ends}
-use Rattle.facts.specs.Rulings.{Ruling, falls, leads, falls_or_leads, ends, breaks}
+use Rattle.facts.specs.declared.continuation.Continuation.TheVariants.{Falls, Leads, FallsOrLeads, Calls, Returns, Ends}
+use Rattle.facts.specs.Rulings.{Ruling, falls, leads, falls_or_leads, calls, returns, ends, breaks}
 
 -- a test passes, or it alone decides the ruling
 abbrev pub Admits : {A : Type 0} → Result A Rule → (Ruling → Ruling) → Type 0
@@ -26,6 +26,8 @@ abbrev pub Advances : Result Continuation Rule → State → Ruling → Type 0
 Advances (Ok Falls) after ruling = ruling ≡ falls after
 Advances (Ok (Leads to)) after ruling = ruling ≡ leads to
 Advances (Ok (FallsOrLeads to)) after ruling = ruling ≡ falls_or_leads after to
+Advances (Ok (Calls to)) after ruling = ruling ≡ calls to after
+Advances (Ok Returns) after ruling = ruling ≡ returns
 Advances (Ok Ends) after ruling = ruling ≡ ends
 Advances (Err broken) after ruling = ruling ≡ breaks broken
 

@@ -1,6 +1,6 @@
 -- What the rules say of words: what is loaded, the results of operations and where they come from, and what a condition
 -- tells of a word.
-use Rattle.std.specs.Prelude.{Bool, true, false, not, ◌&&◌, if◌then◌else◌, ℤ, pos, negsuc, ◌+ℤ◌, ◌-ℤ◌, int_le}
+use Rattle.std.specs.Prelude.{Bool, true, false, not, ◌&&◌, if◌then◌else◌, ℤ, pos, ◌+ℤ◌, ◌-ℤ◌, int_le}
 use Rattle.std.specs.Prelude.{int_lt, Option, Some, None, is_some}
 use Rattle.std.specs.Option.{option_map, option_and_then}
 use Rattle.word_arithmetic.specs.declared.binary.Binary.{Binary as BinaryOperation}
@@ -210,10 +210,3 @@ in_frame site s depth k = elim (context_at site.contents s.context) [
   | None ↦ breaks rules.OwnWord
   | Some context ↦ if int_le context.lo depth && int_le depth context.hi then k else breaks rules.OwnWord
 ]
-
--- an offset of a pointer is at most 2^24 bytes from its region's start
-abbrev pub is_near : ℤ → Bool
-is_near offset = int_le (negsuc 16777215) offset && int_le offset (pos 16777216)
-
-unfoldable pub near : ℤ → Ruling → Ruling
-near offset k = if is_near offset then k else breaks rules.Pointer

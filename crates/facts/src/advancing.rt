@@ -28,7 +28,8 @@ fn op_has_rule(module: &Module, op: Op) -> bool
         | Op::WordSubscript
         | Op::LoadPointerToInstruction
         | Op::LoadByte
-        | Op::LoopEnd => true,
+        | Op::LoopEnd
+        | Op::Return => true,
         Op::Long(_) => module.tables().has_long_operations,
         _ => false,
     }

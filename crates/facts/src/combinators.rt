@@ -9,11 +9,7 @@ ghost use Rattle.facts.specs.Rulings.{outside_alternation, outside_starts, alone
 ghost use Rattle.facts.specs.WordRules.{source_of, loaded, range_of, number_in, constant_in, has_range, in_bounds};
 ghost use Rattle.facts.specs.WordRules.{numbers_have, is_subscript, is_count, fact_of_two, result_fact};
 ghost use Rattle.facts.specs.WordRules.{unary_result_fact, shift_range, long_results, word_and_constant, test_of};
-ghost use Rattle.facts.specs.WordRules.{greater_source, equal_source, result_source, constant_source, near};
-ghost use Rattle.facts.specs.WordRules.{source_of, loaded, range_of, number_in, constant_in, has_range, in_bounds};
-ghost use Rattle.facts.specs.WordRules.{numbers_have, is_subscript, is_count, fact_of_two, result_fact};
-ghost use Rattle.facts.specs.WordRules.{unary_result_fact, shift_range, long_results, word_and_constant, test_of};
-ghost use Rattle.facts.specs.WordRules.{greater_source, equal_source, result_source, constant_source, near};
+ghost use Rattle.facts.specs.WordRules.{greater_source, equal_source, result_source, constant_source};
 ghost use Rattle.facts.specs.Telling.{Admits, Gives};
 
 use certificate::{Fact, Stack};
@@ -152,18 +148,6 @@ pub(crate) fn is_count(count: Fact, bound: Fact) -> bool
         (Some(range), Some(bounds)) => 1 <= range.lo && range.hi <= bounds.lo,
         _ => false,
     }
-}
-
-/// An offset of a pointer is at most 2^24 bytes from its region's start.
-#[tactic(auto, unfolding(crate::specs::WordRules::near))]
-pub(crate) fn near(offset: i64) -> Result<i32, Rule>
-    ensures test { Admits result (near offset) }
-    ensures offset { IfOk result (λ o. o ≡ offset) }
-{
-    if !(-16_777_216..=16_777_216).contains(&offset) {
-        return Err(Rule::Pointer);
-    }
-    Ok(offset as i32)
 }
 
 /// What is known of the results of an operation of two numbers; `None` where it may fail, or they are no

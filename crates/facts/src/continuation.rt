@@ -9,6 +9,11 @@ pub enum Continuation {
     Leads { to: u32 },
     /// After the instruction, in the state that it leaves, or at the label at this code offset.
     FallsOrLeads { to: u32 },
+    /// In the procedure that begins at this code offset, and after the instruction, in the state that it
+    /// leaves, once the procedure has returned.
+    Calls { to: u32 },
+    /// Where it was called.
+    Returns,
     /// Nowhere: it stops.
     Ends,
 }

@@ -21,6 +21,10 @@ pub enum Successors<'a> {
     Leads(u32),
     /// Behind the instruction, and the state of the label at this code offset.
     FallsOrLeads(State<'a>, u32),
+    /// Behind the instruction, once the procedure has returned that begins at this code offset.
+    Calls(State<'a>, u32),
+    /// That of who called the procedure.
+    Returns,
     /// None: the process stops.
     Ends,
 }
@@ -45,6 +49,8 @@ pub fn transfer<'a>(
         Continuation::Falls => Ok(Successors::Falls(next)),
         Continuation::Leads { to } => Ok(Successors::Leads(to)),
         Continuation::FallsOrLeads { to } => Ok(Successors::FallsOrLeads(next, to)),
+        Continuation::Calls { to } => Ok(Successors::Calls(next, to)),
+        Continuation::Returns => Ok(Successors::Returns),
         Continuation::Ends => Ok(Successors::Ends),
     }
 }

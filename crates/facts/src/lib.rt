@@ -2,6 +2,7 @@
 #![tactic(auto)]
 
 mod advancing;
+mod calls;
 mod combinators;
 mod continuation;
 mod following;

@@ -2,9 +2,9 @@
 
 ghost use Rattle.std.specs.Prelude.{IfOk, true, ◌≡◌, ◌≤ℤ◌, ◌*ℤ◌, pos, negsuc};
 ghost use Rattle.module_format.specs.Order.{is_stepped};
-ghost use Rattle.facts.specs.MemoryRules.{is_near, are_near, near_fact, pointer_of, number_of, constant_of, settles, shifted};
+ghost use Rattle.facts.specs.MemoryRules.{is_near, near, are_near, near_fact, pointer_of, number_of, constant_of, settles, shifted};
 ghost use Rattle.facts.specs.MemoryRules.{element_of, word_fact, is_of_a_word, further, step_after, words_behind, words_at};
-ghost use Rattle.facts.specs.Telling.{Gives};
+ghost use Rattle.facts.specs.Telling.{Admits, Gives};
 
 use certificate::{Fact, Step};
 use states::Rule;
@@ -33,6 +33,18 @@ fn is_near(offset: i64) -> bool
     ensures { result ≡ is_near offset }
 {
     -FARTHEST <= offset && offset <= FARTHEST
+}
+
+/// An offset that a pointer may have.
+#[tactic(auto, unfolding(crate::specs::MemoryRules::near))]
+pub(crate) fn near(offset: i64) -> Result<i32, Rule>
+    ensures test { Admits result (near offset) }
+    ensures offset { IfOk result (λ o. o ≡ offset) }
+{
+    if !is_near(offset) {
+        return Err(Rule::Pointer);
+    }
+    Ok(offset as i32)
 }
 
 fn are_near(lo: i64, hi: i64) -> bool

@@ -4,12 +4,13 @@ ghost use Rattle.std.specs.Prelude.{◌≡◌, ◌&&◌, int_le, if◌then◌els
 
 use crate::combinators::{
     alone, constant_source, fact_of_shift, forward, has_range, in_bounds, is_count, is_subscript,
-    loaded, long_results, near, outside_alternation, outside_starts, result_fact, result_source,
+    loaded, long_results, outside_alternation, outside_starts, result_fact, result_source,
     unary_result_fact, uses,
 };
 use crate::continuation::Continuation;
 use crate::narrowing::{narrow, told_by};
 use crate::place::Place;
+use crate::pointers::near;
 use certificate::{Fact, Step};
 use machine_state::{LongOp, Shift as ShiftOperation};
 use states::{Known, Rule, Source, State};

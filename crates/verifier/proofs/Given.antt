@@ -1,8 +1,8 @@
 -- The states that the tables give, and the starts that they tell.
 use Rattle.std.proofs.Common.{◌≡◌, ℕ, Bool, true, false, ◌||◌, is_some, Option, Some, None, refl, ap, ◌∙◌}
 use Rattle.module_format.specs.Contents.{Contents, Label, label_at}
-use Rattle.certificate.specs.Starts.{procedure_at, is_start}
-use Rattle.states.specs.State.{State, label_state}
+use Rattle.certificate.specs.Starts.{Entered, procedure_at, is_start}
+use Rattle.states.specs.State.{State, label_state, procedure_state}
 use Rattle.verifier.specs.Certified.{first_state, given, state_at}
 
 pub nothing_given : (m : Contents) (at : ℕ) (before : Option State) → given m at ≡ None → state_at m at before ≡ before
@@ -23,10 +23,20 @@ given_none m at l p = ap (λ (o : Option Label). elim o [
       (label_state t)
 ]) l ∙ ap first_state p
 
+pub given_procedure : (m : Contents) (at : ℕ) (e : Entered) → label_at m at ≡ None → procedure_at m at ≡ Some e
+    → given m at ≡ Some (procedure_state e.context e.procedure)
+given_procedure m at e l p =
+    ap (λ (o : Option Label). elim o [ None ↦ first_state (procedure_at m at) | Some t ↦ Some (label_state t) ]) l
+    ∙ ap first_state p
+
 -- ---- starts
 
 pub label_is_start : (m : Contents) (at : ℕ) (t : Label) → label_at m at ≡ Some t → is_start m at ≡ true
 label_is_start m at t l = rw l refl
+
+pub procedure_is_start : (m : Contents) (at : ℕ) (e : Entered) → label_at m at ≡ None → procedure_at m at ≡ Some e
+    → is_start m at ≡ true
+procedure_is_start m at e l p = rw (l, p) refl
 
 none_by : {A : Type 0} (o : Option A) → is_some o ≡ false → o ≡ None
 none_by None h = refl

@@ -16,7 +16,7 @@ use Rattle.states.specs.declared.rule.Rule.{Rule}
 use Rattle.states.specs.declared.rule.Rule.TheVariants as rules
 use Rattle.states.specs.Numbers.{number_of}
 use Rattle.states.specs.State.{State, root_state}
-use Rattle.facts.specs.Rulings.{Ruling, falls, leads, falls_or_leads, ends, breaks, falling}
+use Rattle.facts.specs.Rulings.{Ruling, falls, leads, falls_or_leads, calls, returns, ends, breaks, falling}
 use Rattle.facts.specs.Rules.{rule_at, has_rule}
 use Rattle.facts.proofs.Steps.{unruled as breaks_one}
 use Rattle.verifier.specs.declared.stop.Breach.{Breach}
@@ -86,11 +86,15 @@ both_ok : (e : Result ℕ Rule) (r : Ruling) (after : Option State) → both e r
 both_ok (Ok cost) (falls s) after h = (cost, refl, (λ v e. cc), cc)
 both_ok (Ok cost) (leads to) after h = (cost, refl, (λ v e. cc), cc)
 both_ok (Ok cost) (falls_or_leads s to) after h = (cost, refl, (λ v e. cc), cc)
+both_ok (Ok cost) (calls to s) after h = (cost, refl, (λ v e. cc), cc)
+both_ok (Ok cost) returns after h = (cost, refl, (λ v e. cc), cc)
 both_ok (Ok cost) ends after h = (cost, refl, (λ v e. cc), cc)
 both_ok (Ok cost) (breaks v) after h = absurd (cc)
 both_ok (Err u) (falls s) after h = absurd (cc)
 both_ok (Err u) (leads to) after h = absurd (cc)
 both_ok (Err u) (falls_or_leads s to) after h = absurd (cc)
+both_ok (Err u) (calls to s) after h = absurd (cc)
+both_ok (Err u) returns after h = absurd (cc)
 both_ok (Err u) ends after h = absurd (cc)
 both_ok (Err u) (breaks v) after h = absurd (cc)
 
@@ -102,11 +106,15 @@ both_err : (e : Result ℕ Rule) (r : Ruling) (v : Rule) → both e r ≡ Err v 
 both_err (Ok cost) (falls s) v h = absurd (cc)
 both_err (Ok cost) (leads to) v h = absurd (cc)
 both_err (Ok cost) (falls_or_leads s to) v h = absurd (cc)
+both_err (Ok cost) (calls to s) v h = absurd (cc)
+both_err (Ok cost) returns v h = absurd (cc)
 both_err (Ok cost) ends v h = absurd (cc)
 both_err (Ok cost) (breaks u) v h = inr (cc)
 both_err (Err u) (falls s) v h = inl (cc)
 both_err (Err u) (leads to) v h = inl (cc)
 both_err (Err u) (falls_or_leads s to) v h = inl (cc)
+both_err (Err u) (calls to s) v h = inl (cc)
+both_err (Err u) returns v h = inl (cc)
 both_err (Err u) ends v h = inl (cc)
 both_err (Err u) (breaks w) v h =
     let e : lower u w ≡ v = cc in

@@ -1,5 +1,5 @@
 -- What the format and the decoder say of a module's contents, as the theorems need it.
-use Rattle.std.proofs.Common.{◌≡◌, ℕ, ◌<◌, ◌≤◌, Bool, true, false, cond, if◌then◌else◌, inl, inr, pos, List, [], ◌∷◌}
+use Rattle.std.proofs.Common.{◌≡◌, ◌<◌, ◌≤◌, Bool, true, false, cond, if◌then◌else◌, inl, inr, pos, List, [], ◌∷◌}
 use Rattle.std.proofs.Common.{length, drop, take, Some, Result, Ok, Err, sym, ap, ◌∙◌, subst, arith}
 use Rattle.std.specs.Prelude.{find, ◌==◌}
 use Rattle.std.proofs.lemmas.Bool.Decides.{eqb_tells}
@@ -10,7 +10,12 @@ use Rattle.std.specs.Str.{bytes_eq}
 use Rattle.prefix_decoder.specs.Spelling.{spelling}
 use Rattle.prefix_decoder.specs.Fetching.{read, checked, fetched, StandsAt}
 use Rattle.prefix_decoder.proofs.Outcomes.{fetched-found, StandsAt-length}
-use Rattle.module_format.specs.Contents.{Contents, Procedure, Label}
+use Rattle.std.proofs.Common.{ℕ, zero, suc, ◌+◌, ◌≢◌, Option, None, refl}
+use Rattle.std.specs.Prelude.{slice_get}
+use Rattle.std.specs.List.{AllByRecursion}
+use Rattle.certificate.specs.Starts.{Entered, procedure_from, procedure_at}
+use Rattle.module_format.specs.Procedures.{ProcedureKeeps, behind_procedure}
+use Rattle.module_format.specs.Contents.{Contents, Procedure, Label, label_at}
 use Rattle.module_format.specs.Order.{InOrder}
 use Rattle.module_format.specs.Facts.{LabelKeeps, behind_label}
 use Rattle.module_format.specs.declared.tables.Version.{Version}
@@ -76,6 +81,44 @@ found_keeps code_len procedures low at (row ∷ rows) t all h = elim (eqb_tells 
       (sym (ap (λ (b : Bool). cond b (Some row) (find (λ row. row.offset == at) rows)) e.0) ∙ h)
 ]
 
+-- ---- the procedures
+
+row_keeps : (version : Version) (code_len low : ℕ) (ps : List Procedure) (n : ℕ) (p : Procedure)
+    → InOrder (ProcedureKeeps version code_len) behind_procedure low ps → slice_get ps n ≡ Some p
+    → (before : ℕ) × ProcedureKeeps version code_len before p
+row_keeps version code_len low [] n p all h = absurd (cc)
+row_keeps version code_len low (q ∷ ps) zero p all h =
+    let same : q ≡ p = cc in (low, subst (λ (r : Procedure). ProcedureKeeps version code_len low r) same all.0)
+row_keeps version code_len low (q ∷ ps) (suc n) p all h = row_keeps version code_len q.entry ps n p all.1 h
+
+-- no procedure begins where a label row stands
+no_entry : (ps : List Procedure) (n at : ℕ) (e : Entered) → AllByRecursion (λ p. p.entry ≢ at) ps
+    → procedure_from n ps at ≡ Some e → ⊥
+no_entry [] n at e all h = cc
+no_entry (p ∷ ps) n at e all h = elim (eqb_tells p.entry at) [
+  | inl t ↦ all.0 t.1
+  | inr t ↦ no_entry ps (n + 1) at e all.1
+      (sym (ap (λ (b : Bool). cond b (Some (record { context = n; procedure = p })) (procedure_from (n + 1) ps at)) t.0) ∙ h)
+]
+
+found_apart : (code_len : ℕ) (procedures : List Procedure) (low at : ℕ) (rows : List Label) (t : Label)
+    → InOrder (LabelKeeps code_len procedures) behind_label low rows → find (λ row. row.offset == at) rows ≡ Some t
+    → AllByRecursion (λ (p : Procedure). p.entry ≢ at) procedures
+found_apart code_len procedures low at [] t all h = absurd (cc)
+found_apart code_len procedures low at (row ∷ rows) t all h = elim (eqb_tells row.offset at) [
+  | inl e ↦ subst (λ (o : ℕ). AllByRecursion (λ (p : Procedure). p.entry ≢ o) procedures) e.1 all.0.offset.no_entry
+  | inr e ↦ found_apart code_len procedures row.offset at rows t all.1
+      (sym (ap (λ (b : Bool). cond b (Some row) (find (λ row. row.offset == at) rows)) e.0) ∙ h)
+]
+
+no_label : (m : Contents) → Keeps m → (at : ℕ) (e : Entered) → procedure_at m at ≡ Some e → label_at m at ≡ None
+no_label m k at e h = on_label (label_at m at) refl
+  where
+    on_label : (o : Option Label) → label_at m at ≡ o → o ≡ None
+    on_label None g = refl
+    on_label (Some t) g = absurd (no_entry m.procedures 1 at e
+        (found_apart (length m.code) m.procedures 0 at m.labels t k.rows.labels g) h)
+
 code_is_short : (v : Version) → max_code v ≤ 262143
 code_is_short versions.One = omega arith
 code_is_short versions.Two = omega arith
@@ -107,6 +150,9 @@ well_formed m k = record {
       found_keeps (length m.code) m.procedures 0 at m.labels t k.rows.labels h in omega (arith, f.0, f.1);
   rows = λ at t h. label_row_at m at t k h;
   pairs = λ at t h. label_pairs m at t k h;
+  procedures = λ n p h. row_keeps m.version (length m.code) 0 m.procedures n p k.rows.procedures h;
+  entries = λ at e h. no_label m k at e h;
+  eight = k.bounds.eight;
   frames = frame_words m k;
   constant_bytes = k.constant_bytes;
   tables = k.rows.table_rows;

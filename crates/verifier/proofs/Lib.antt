@@ -6,6 +6,7 @@ pub mod Passing
 pub mod Steps
 pub mod Worlds
 pub mod RootHolds
+pub mod RootEnds
 pub mod Start
 pub mod Kept
 pub mod Examples

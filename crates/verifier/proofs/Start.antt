@@ -35,6 +35,7 @@ use Rattle.machine_state.specs.Happens.{happens}
 use Rattle.module_format.specs.Keeping.{Keeps}
 use Rattle.verifier.specs.Headline.{IsEvent, RunsWell}
 use Rattle.verifier.proofs.RootHolds.{root_constants, root_bytes}
+use Rattle.verifier.proofs.RootEnds.{root_ends}
 use Rattle.verifier.proofs.Kept.{decodes, well_formed}
 use Rattle.facts.specs.Fitting.{After}
 use Rattle.facts.proofs.Addresses.{stepped}
@@ -210,6 +211,8 @@ module _ (m : Contents) (d : Decodes m) (wf : IsWellFormed m) (c : IsCertified m
       constants = root_constants m;
       bytes = root_bytes m wf.constant_bytes;
       even = stepped (pos (4 * m.base)) (pos m.base) (omega (arith, ints));
+      ends = λ kind direction given. root_ends m wf.eight root_activation.layout kind direction given;
+      back = wf.some_code;
     };
     same_mode = both_plain;
   }

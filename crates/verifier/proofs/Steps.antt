@@ -38,12 +38,12 @@ use Rattle.facts.specs.Meaning.{owed, Layout, Means, Activation, with_turns, at_
 use Rattle.facts.specs.Meaning.{words_of}
 use Rattle.facts.specs.Meaning.{ComesFrom, from_nowhere, from_word, from_test, MeansKnown, Knows, IsWellFormed}
 use Rattle.machine_state.specs.Frame.{ChangesOwn}
-use Rattle.verifier.specs.Point.{IsReading, Caller, Behind, nobody_waits, it_returns, owed_behind, Stands, Decodes}
+use Rattle.verifier.specs.Point.{IsReading, Behind, nobody_waits, one_waits, owed_behind, Stands, Decodes}
 use Rattle.verifier.specs.Invariant.{Lives}
 use Rattle.facts.proofs.Words.{means_same, frame_word_is}
 use Rattle.states.proofs.RowFacts.{and-parts}
 use Rattle.facts.specs.Fitting.{After, Here, step_site, GoesTo, goes_behind, is_jump, is_landing, Fits, it_falls}
-use Rattle.facts.specs.Fitting.{it_leads, it_ends, it_breaks}
+use Rattle.facts.specs.Fitting.{it_leads, it_calls, it_returns, it_ends, it_breaks}
 use Rattle.facts.proofs.Combining.{readable_byte, same_frame, elsewhere}
 use Rattle.facts.proofs.Local.{function_fits}
 use Rattle.facts.proofs.Entering.{below_tells, label_after}
@@ -53,7 +53,17 @@ use Rattle.facts.specs.Regions.{Scope, scope_of, IsRegion, IsNamed, Keeps}
 use Rattle.module_format.specs.declared.fact.Fact.TheVariants.{Number}
 use Rattle.module_format.specs.declared.rows.ParameterKind.{ParameterKind}
 use Rattle.module_format.specs.declared.rows.ParameterKind.TheVariants.{Value, ReadRegion, WrittenRegion, Channels}
-use Rattle.verifier.proofs.Given.{nothing_given, is_given, given_label, given_none, label_is_start}
+use Rattle.verifier.proofs.Given.{nothing_given, is_given, given_label, given_none, label_is_start, given_procedure, procedure_is_start}
+use Rattle.std.proofs.Common.{◌+ℤ◌}
+use Rattle.std.proofs.lemmas.Int.{ints}
+use Rattle.module_format.specs.Stack.{of_empty, AreRelated}
+use Rattle.machine_state.specs.declared.process.Mode.TheVariants as machine_modes
+use Rattle.states.specs.declared.known.Mode as states
+use Rattle.states.specs.declared.known.Mode.TheVariants as states_modes
+use Rattle.states.specs.State.{unknown, procedure_state}
+use Rattle.facts.specs.Meaning.{HasFrame, place_in, SameMode, both_plain}
+use Rattle.facts.specs.Fitting.{Caller, GoesOn}
+use Rattle.facts.proofs.Combining.{unknown_means}
 
 same_ok : {A E : Type 0} (r : Result A E) (x y : A) → r ≡ Ok x → r ≡ Ok y → x ≡ y
 same_ok {A} {E} r x y p q = let e : ◌≡◌ {A = Result A E} (Ok x) (Ok y) = sym p ∙ q in cc
@@ -123,8 +133,8 @@ behind_keeps : {m : Contents} {h : Holding} {context : ℕ} {layout : Layout} {o
     → Keeps m h (scope_of m context layout) old new → Behind m h context layout old callers
     → Behind m h context layout new callers
 behind_keeps keeps (nobody_waits procedure) = nobody_waits procedure
-behind_keeps keeps (it_returns reached resumes rest) =
-    it_returns reached (λ later more. resumes later (keeps_more keeps more))
+behind_keeps keeps (one_waits reached going resumes rest) =
+    one_waits reached going (λ later more. resumes later (keeps_more keeps more))
     (λ later more. rest later (keeps_more keeps more))
 
 -- all that holds behind an instruction holds whatever happens to bytes that the process may not read
@@ -227,6 +237,8 @@ after_some (Some f) g e n rest i some h =
 fits_pays : (x : Here) {r : Ruling} {o : Outcome} → Fits x r o → ((v : Rule) → r ≡ breaks v → ⊥) → x.len ≤ x.owed
 fits_pays x (it_falls fallen gone low after same changes pay) whole = omega arith
 fits_pays x (it_leads turns led gone label low after same changes pay) whole = omega arith
+fits_pays x (it_calls act workspace found low after back waits same changes pay) whole = omega arith
+fits_pays x (it_returns some few plain changes registers workspace back pay) whole = pay
 fits_pays x (it_ends changes pay) whole = pay
 fits_pays x (it_breaks {broken = v}) whole = absurd (whole v refl)
 
@@ -473,6 +485,40 @@ module _ (m : Contents) (d : Decodes m) (wf : IsWellFormed m) (c : IsCertified m
   comes_by h memory t due x later is_jump at own lives less = comes_to later own lives less
   comes_by h memory t due x later is_landing at own lives less = comes_straight later own lives less
 
+  -- the caller that has waited goes on
+  resumed : (h : Holding) (memory : Memory) (t : Task) (due : ℕ) (p : Stands m h memory t due) (l : Local)
+      (callers : List Caller) → Behind m h p.state.context p.act.layout l.memory callers → ChangesOwn h memory l.memory
+      → 1 ≤ p.state.context → p.state.context ≤ length m.procedures → t.mode ≡ machine_modes.Plain
+      → l.registers.stack ≡ of_empty None
+      → pos l.registers.workspace ≡ pos data_start +ℤ place_in p.act.layout.origin (pos 4)
+      → p.act.layout.back < length m.code → owed_behind callers + 1 ≤ due → p.callers ≡ callers
+      → Comes h memory t due (lands p.act.layout.back l)
+  resumed h memory t due p l [] (nobody_waits procedure) own some few plain registers workspace back pay e =
+      absurd (let high = procedure some in omega arith)
+  resumed h memory t due p l (caller ∷ callers) (one_waits reached going resumes rest) own some few plain registers
+      workspace back pay e =
+      let again = resumes l.memory keeps_all in
+      let here : After m h t.mode caller.act caller.state l = record {
+        frame = subst (λ (w : ℕ). HasFrame h (length l.memory) (words_of m caller.state) caller.act.layout.origin
+            caller.state.depth w) (let at = going.workspace in omega (arith, ints, at, workspace)) again.frame;
+        knows = record {
+          registers = subst (λ (said : Stack Known). AreRelated (MeansKnown m (words_of m caller.state).reads
+              caller.act.layout l.memory) said l.registers.stack) (sym going.registers)
+              (subst (λ (stack : Stack (Option ℤ)). AreRelated (MeansKnown m (words_of m caller.state).reads
+              caller.act.layout l.memory) (of_empty unknown) stack) (sym registers)
+              (record { a = unknown_means; b = unknown_means; c = unknown_means }));
+          words = again.words;
+        };
+        named = again.named;
+        same_mode = subst (λ (q : states.Mode). SameMode q t.mode) (sym going.plain)
+            (subst (λ (q : machine.Mode). SameMode states_modes.Plain q) (sym plain) both_plain);
+      } in
+      let en = enter h t.mode caller.act p.act.layout.back caller.state l callers reached back here
+      (rest l.memory keeps_all) in
+      comes_straight (owed en.state en.act + owed_behind callers) own
+      (lives_at h t.mode en.act p.act.layout.back (Some caller.state) en.state l callers reached back en.stands en.after
+      en.behind) (let less = en.paid in omega arith)
+
   comes : (h : Holding) (memory : Memory) (t : Task) (due : ℕ) (p : Stands m h memory t due) (r : Ruling) (o : Outcome)
       → r ≡ rule_at m t.registers.began p.instr p.state → p.taken + 1 ≡ p.instr.len
       → Fits (here_of h p.act memory t p.state p.instr) r o → Comes h memory t due o
@@ -501,6 +547,29 @@ module _ (m : Contents) (d : Decodes m) (wf : IsWellFormed m) (c : IsCertified m
       (omega (arith, p.reading.at_is)) changes.own
       (lives_at h t.mode (with_turns turns p.act) to r.0 (label_state label) l p.callers r.1 low st after behind)
       (omega (arith, p.paid, pay))
+  comes h memory t due p r o e last (it_calls {to = to} {s = s'} {l = l} {e = f} act workspace found low after back waits
+      same changes pay) =
+      let next : Reaches m (t.registers.began + p.instr.len) (Some s') =
+      follows p.reached p.stands p.reading.spelled refl (ap falling e) in
+      let unlabelled = wf.entries to f found in
+      let r = c.holds.starts to low (procedure_is_start m to f unlabelled found) in
+      let st : state_at m to r.0 ≡ Some (procedure_state f.context f.procedure) =
+      is_given m to r.0 (procedure_state f.context f.procedure) (given_procedure m to f unlabelled found) in
+      let waiting : Behind m h s'.context p.act.layout l.memory p.callers =
+      subst (λ (n : ℕ). Behind m h n p.act.layout l.memory p.callers) (sym same)
+      (behind_keeps changes.keeps p.behind) in
+      let behind : Behind m h f.context act.layout l.memory
+      (record { act = p.act; state = s'; workspace = workspace } ∷ p.callers) =
+      one_waits (subst (λ (n : ℕ). Reaches m n (Some s')) (sym back) next) waits.goes_on waits.resumes
+      (λ later keeps. behind_keeps (waits.lifts later keeps) waiting) in
+      comes_straight (owed (procedure_state f.context f.procedure) act
+      + owed_behind (record { act = p.act; state = s'; workspace = workspace } ∷ p.callers)) changes.own
+      (lives_at h t.mode act to r.0 (procedure_state f.context f.procedure) l
+      (record { act = p.act; state = s'; workspace = workspace } ∷ p.callers) r.1 low st after behind)
+      (omega (arith, p.paid, pay))
+  comes h memory t due p r o e last (it_returns {l = l} some few plain changes registers workspace back pay) =
+      resumed h memory t due p l p.callers (behind_keeps changes.keeps p.behind) changes.own some few plain registers
+      workspace back (let paid = p.paid in omega arith) refl
   comes h memory t due p r o e last (it_ends changes pay) = comes_down changes.own (omega (arith, p.paid, pay))
   comes h memory t due p r o e last (it_breaks {broken = v}) =
       absurd (unbroken h memory t due p (began_inside h memory t due p) v (sym e))

@@ -1,5 +1,5 @@
 -- A process at a point of the code.
-use Rattle.std.specs.Prelude.{◌≡◌, ℕ, ◌+◌, ◌≤◌, ◌<◌, ℤ, pos, true, FitsSigned, List, [], ◌∷◌, length, drop, Option}
+use Rattle.std.specs.Prelude.{◌≡◌, ℕ, ◌+◌, ◌≤◌, ◌<◌, pos, FitsSigned, List, [], ◌∷◌, length, drop, Option}
 use Rattle.std.specs.Prelude.{Some}
 use Rattle.std.specs.Prelude.{Ok}
 use Rattle.std.specs.Int.{w32}
@@ -11,9 +11,9 @@ use Rattle.machine_state.specs.declared.process.Task.{Task}
 use Rattle.machine_state.specs.Memory.{Memory}
 use Rattle.machine_state.specs.Holding.{Holding}
 use Rattle.states.specs.State.{State}
-use Rattle.facts.specs.Meaning.{Layout, Activation, words_of, HasFrame, MeansWord, frame_word, owed}
-use Rattle.facts.specs.Regions.{scope_of, HoldsNamed, Keeps}
-use Rattle.facts.specs.Fitting.{After}
+use Rattle.facts.specs.Meaning.{Layout, Activation, owed}
+use Rattle.facts.specs.Regions.{scope_of, Keeps}
+use Rattle.facts.specs.Fitting.{After, Caller, Resumes, GoesOn}
 use Rattle.verifier.specs.Certified.{Reaches, state_at}
 
 -- The bytes from here on, with the operand so far, are the rest of the instruction that began.
@@ -26,26 +26,13 @@ pub record IsReading (m : Contents) (r : Registers) (i : Instr) (taken : ℕ) : 
 
 -- ---- activations that wait for a return
 
--- An activation that waits until the one that it called returns, and the state in which it goes on then.
-pub record Caller : Type 0 where
-  pub act : Activation
-  pub state : State
-  pub workspace : ℕ
-
--- All that is known of the words of a caller holds, and it has what its parameters name.
-pub record Resumes (m : Contents) (h : Holding) (c : Caller) (memory : Memory) : Type 0 where
-  pub frame : HasFrame h (length memory) (words_of m c.state) c.act.layout.origin c.state.depth c.workspace
-  pub words : (k : ℤ) → (words_of m c.state).reads k ≡ true
-      → MeansWord m c.act k (c.state.frame k) (frame_word memory c.act.layout.origin k)
-  pub named : HoldsNamed m h (scope_of m c.state.context c.act.layout) memory
-
 -- Those that wait for an activation of a context to return, the one that called it first. Whatever it still changes,
 -- each goes on in its state, which falls into the offset of the return. An activation of a procedure has a caller.
 pub data Behind (m : Contents) (h : Holding) : ℕ → Layout → Memory → List Caller → Type 0 where
   nobody_waits : {context : ℕ} {layout : Layout} {memory : Memory} → (1 ≤ context → length m.procedures < context)
       → Behind m h context layout memory []
-  it_returns : {context : ℕ} {layout : Layout} {memory : Memory} {c : Caller} {cs : List Caller}
-      → Reaches m layout.back (Some c.state)
+  one_waits : {context : ℕ} {layout : Layout} {memory : Memory} {c : Caller} {cs : List Caller}
+      → Reaches m layout.back (Some c.state) → GoesOn layout c
       → ((later : Memory) → Keeps m h (scope_of m context layout) memory later → Resumes m h c later)
       → ((later : Memory) → Keeps m h (scope_of m context layout) memory later
       → Behind m h c.state.context c.act.layout later cs)

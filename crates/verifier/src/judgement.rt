@@ -47,7 +47,14 @@ fn both(entered: Result<u64, Rule>, flow: Result<Continuation, Rule>) -> Result<
         → Judges result after (both entered ruling) }
 {
     match (entered, flow) {
-        (Ok(_), Ok(Continuation::Falls | Continuation::FallsOrLeads { .. })) => Ok(true),
+        (
+            Ok(_),
+            Ok(
+                Continuation::Falls
+                | Continuation::FallsOrLeads { .. }
+                | Continuation::Calls { .. },
+            ),
+        ) => Ok(true),
         (Ok(_), Ok(_)) => Ok(false),
         (Ok(_), Err(rule)) => Err(rule),
         (Err(rule), Ok(_)) => Err(rule),
