@@ -1,0 +1,5 @@
+pub mod Parts
+pub mod Lookups
+pub mod Operators
+pub mod BoundLaws
+pub mod NarrowingLaws

@@ -1,0 +1,9 @@
+pub mod Entries
+pub mod Environments
+pub mod Steps
+pub mod Scopes
+pub mod Types
+pub mod Values
+pub mod Bounds
+pub mod Narrowing
+pub mod Laws

@@ -1,0 +1,93 @@
+-- What a condition tells of a scalar that it compares with a constant.
+use Rattle.std.specs.Prelude.{◌≡◌, ℤ, Bool, true, false, List, [], ◌∷◌, bytes_eq, if◌then◌else◌, Option, Some, None}
+use Rattle.std.specs.Prelude.{ℕ, option_map, unwrap_or}
+use Rattle.word_arithmetic.specs.declared.compare.Comparison.{Comparison}
+use Rattle.word_arithmetic.specs.declared.compare.Comparison.TheVariants as comparison
+use Rattle.word_arithmetic.specs.Range.{Ends, range_between, narrowed}
+use Rattle.occam_parser.specs.declared.tree.PairOperator.TheVariants as pair
+use Rattle.occam_parser.specs.Expressions.{Expression, Alone, Prefixed, Paired, Chained, Term, Named}
+use Rattle.scalar_ranges.specs.declared.scope.ScalarKind.{ScalarKind}
+use Rattle.scalar_ranges.specs.declared.scope.ScalarKind.TheVariants as kinds
+use Rattle.scalar_ranges.specs.Entries.{Meaning, Constant, Scalar, Array, Channel, Channels, Procedure, Entry, meaning_in}
+use Rattle.scalar_ranges.specs.Bounds.{exact_value, bound_of_term}
+
+-- scalars that a line declares, and VAL parameters
+abbrev pub can_narrow : ScalarKind → Bool
+can_narrow kinds.Variable = true
+can_narrow kinds.Value = true
+can_narrow kinds.Reference = false
+can_narrow kinds.Index = false
+
+abbrev pub is_narrowed : Option Meaning → Bool
+is_narrowed (Some (Scalar kind type range)) = can_narrow kind
+is_narrowed m = false
+
+-- the value of a constant operand
+abbrev pub constant_in : List Entry → Term → Option ℤ
+constant_in es t = exact_value (bound_of_term es t)
+
+-- what a condition says: the scalar of this name compares so with this constant
+pub record Tested : Type 0 where
+  pub name : List ℕ
+  pub comparison : Comparison
+  pub constant : ℤ
+
+abbrev pub tested : List Entry → Comparison → Term → Term → Option Tested
+tested es c (Named name) t =
+    if is_narrowed (meaning_in name es)
+    then option_map (λ v. record { name = name; comparison = c; constant = v }) (constant_in es t) else None
+tested es c other t = None
+
+-- the comparison that holds with the operands exchanged
+abbrev pub turned : Comparison → Comparison
+turned comparison.Equal = comparison.Equal
+turned comparison.NotEqual = comparison.NotEqual
+turned comparison.Less = comparison.Greater
+turned comparison.LessOrEqual = comparison.GreaterOrEqual
+turned comparison.Greater = comparison.Less
+turned comparison.GreaterOrEqual = comparison.LessOrEqual
+
+-- the comparison that holds where this one doesn't
+abbrev pub opposite : Comparison → Comparison
+opposite comparison.Equal = comparison.NotEqual
+opposite comparison.NotEqual = comparison.Equal
+opposite comparison.Less = comparison.GreaterOrEqual
+opposite comparison.LessOrEqual = comparison.Greater
+opposite comparison.Greater = comparison.LessOrEqual
+opposite comparison.GreaterOrEqual = comparison.Less
+
+abbrev pub first_of : {A : Type 0} → Option A → Option A → Option A
+first_of None second = second
+first_of (Some x) second = Some x
+
+-- A condition says so if it is exactly a scalar and a constant with a comparison between them, in either order.
+abbrev pub test_of : List Entry → Expression → Option Tested
+test_of es (Paired (pair.Comparison c) a b) = first_of (tested es c a b) (tested es (turned c) b a)
+test_of es e = None
+
+-- the range of a scalar by what is left of it, where its ends are words in order
+abbrev pub left_of : Comparison → ℤ → Ends → Ends
+left_of c value r = unwrap_or (option_map (narrowed c value) (range_between r.lo r.hi)) r
+
+abbrev pub with_range : (Ends → Ends) → Meaning → Meaning
+with_range f (Scalar kind type range) = Scalar kind type (f range)
+with_range f m = m
+
+-- the innermost entry of a name with its range changed
+abbrev pub changed : (Ends → Ends) → List ℕ → List Entry → List Entry
+changed f name [] = []
+changed f name (e ∷ es) =
+    if bytes_eq e.name name then record { name = e.name; meaning = with_range f e.meaning } ∷ es
+    else e ∷ changed f name es
+
+abbrev pub as_holds : Bool → Comparison → Comparison
+as_holds true c = c
+as_holds false c = opposite c
+
+abbrev pub by_test : List Entry → Bool → Option Tested → List Entry
+by_test es holds None = es
+by_test es holds (Some t) = changed (left_of (as_holds holds t.comparison) t.constant) t.name es
+
+-- a scope where a condition has this truth
+abbrev pub narrow : List Entry → Expression → Bool → List Entry
+narrow es e holds = by_test es holds (test_of es e)

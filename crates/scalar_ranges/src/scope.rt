@@ -1,0 +1,126 @@
+//! What is known of the names in a part of a program.
+
+ghost use Rattle.std.specs.Prelude.{◌≡◌, [], ◌∷◌, option_map, OnOk, OnErr};
+ghost use Rattle.scalar_ranges.specs.Entries.{meaning_in, number_in};
+ghost use Rattle.scalar_ranges.specs.Scopes.{meaning_of, entry_of, entries_of};
+
+use occam_parser::ValueType;
+use std::alloc::{AllocFailed, Global};
+use word_arithmetic::Range;
+
+/// What a scalar is.
+#[derive(Clone, Copy, PartialEq, Eq)]
+pub enum ScalarKind {
+    /// A line declares it.
+    Variable,
+    /// A `VAL` parameter.
+    Value,
+    /// A parameter that is a variable. Its range is always that of its type.
+    Reference,
+    /// The replicator of a `SEQ`.
+    Index,
+}
+
+/// What an array is.
+#[derive(Clone, Copy, PartialEq, Eq)]
+pub enum ArrayKind {
+    /// A constant.
+    Table,
+    /// A line declares it, or it is a parameter that is a variable.
+    Variable,
+    /// A `VAL` parameter.
+    Value,
+}
+
+/// What a name stands for. A constant has no value, and an array no size, if its declaration breaks a rule.
+#[derive(Clone, Copy)]
+pub enum Meaning {
+    /// A constant, or the replicator of a `PAR`, an `IF` or an `ALT`.
+    Constant {
+        value_type: ValueType,
+        value: Option<i32>,
+    },
+    Scalar {
+        kind: ScalarKind,
+        value_type: ValueType,
+        /// Where its value lies.
+        range: Range,
+    },
+    Array {
+        kind: ArrayKind,
+        value_type: ValueType,
+        size: Option<u32>,
+        /// Where each element lies: the hull of a table's items, else the range of the type.
+        range: Range,
+    },
+    Channel {
+        value_type: ValueType,
+    },
+    Channels {
+        value_type: ValueType,
+        size: Option<u32>,
+    },
+    /// A procedure, by its number among the procedures of the program.
+    Proc(u32),
+}
+
+/// A name, and what it stands for.
+#[derive(Clone, Copy)]
+pub struct Entry<'a> {
+    pub name: &'a [u8],
+    pub meaning: Meaning,
+}
+
+/// The names that are known at a place of a program: entries that are numbered from the outermost declaration on.
+#[derive(Drop)]
+pub struct Scope<'a> {
+    entries: Vec<Entry<'a>>,
+}
+
+impl<'a> Scope<'a> {
+    /// A scope without names.
+    pub fn new(alloc: Global) -> Scope<'a>
+        ensures { entries_of result ≡ [] }
+    {
+        Scope {
+            entries: Vec::new(alloc),
+        }
+    }
+
+    /// One entry more, the innermost one. If memory runs out, the scope is as it was.
+    pub fn declare(&mut self, entry: Entry<'a>) -> Result<(), AllocFailed<Entry<'a>>>
+        ensures ok { OnOk result (entries_of self.new ≡ entry_of entry.entry ∷ entries_of self.old) }
+        ensures err { OnErr result (entries_of self.new ≡ entries_of self.old) }
+    {
+        self.entries.push(entry)
+    }
+
+    /// The number of the innermost declaration of a name.
+    pub fn find(&self, name: &[u8]) -> Option<usize>
+        ensures number { result ≡ number_in name.now (entries_of self.now) }
+    {
+        Some(self.innermost(name)?.0)
+    }
+
+    /// What the innermost declaration of a name says of it.
+    pub fn meaning(&self, name: &[u8]) -> Option<Meaning>
+        ensures { option_map meaning_of result ≡ meaning_in name.now (entries_of self.now) }
+    {
+        Some(self.innermost(name)?.1)
+    }
+
+    fn innermost(&self, name: &[u8]) -> Option<(usize, Meaning)>
+        ensures number { option_map (λ x. x.0) result ≡ number_in name.now (entries_of self.now) }
+        ensures meaning { option_map (λ x. meaning_of x.1) result ≡ meaning_in name.now (entries_of self.now) }
+    {
+        let mut number = self.entries.len();
+        while number > 0 {
+            number -= 1;
+            let entry = self.entries[number];
+            if entry.name == name {
+                return Some((number, entry.meaning));
+            }
+        }
+        None
+    }
+}
