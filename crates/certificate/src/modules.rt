@@ -36,6 +36,7 @@ impl<'a> Module<'a> {
     ghost use Rattle.module_format.specs.Contents.{Contents, contents_of, label_of, procedure_of, label_at};
     ghost use Rattle.module_format.specs.Contents.{par_of, branch_of};
     ghost use Rattle.module_format.specs.Contexts.{context_at, parameters_at};
+    ghost use Rattle.module_format.specs.Places.{owner_at};
     ghost use Rattle.certificate.specs.Starts.{procedure_at, is_start};
     ghost use Rattle.certificate.specs.Branches.{numbered_branch, branch_at};
     ghost use Rattle.module_format.specs.Order.{InOrder, least_word};
@@ -114,6 +115,14 @@ impl<'a> Module<'a> {
         ensures { result ≡ context_at self.now number }
     {
         self.contexts().context(number)
+    }
+
+    /// The number of the root (0) or procedure that a context is or belongs to, found in constant time, where there
+    /// is that context.
+    pub fn owner(&self, number: u32) -> Option<u32>
+        ensures { result ≡ owner_at self.now number }
+    {
+        self.contexts().owner(number)
     }
 
     /// The parameters of the procedure that a context is or belongs to, found in constant time; none

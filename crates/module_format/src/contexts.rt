@@ -150,8 +150,8 @@ impl<'t, 'a> Contexts<'t, 'a> {
         }
     }
 
-    /// The root or procedure that a context is or belongs to, where there is that context.
-    fn owner(&self, number: u32) -> Option<u32>
+    /// The number of the root or procedure that a context is or belongs to, where there is that context.
+    pub fn owner(&self, number: u32) -> Option<u32>
         ensures { result ≡ owner_at self.now number }
     {
         if number as usize >= self.end() {
