@@ -1,14 +1,14 @@
 -- Where a well typed expression has a bound, it has a value as the bound says.
-use Rattle.std.proofs.Common.{◌≡◌, ℕ, ℤ, pos, ◌≤ℤ◌, Bool, true, false, not, List, Option, Some, None, Result, Ok, Err}
+use Rattle.std.proofs.Common.{◌≡◌, ℕ, ℤ, pos, Bool, true, not, List, Option, Some, None, Ok}
 use Rattle.std.proofs.Common.{IsSomeAnd, refl, subst, arith, int_le, int_lt, length}
-use Rattle.std.specs.Prelude.{option_map, option_and_then, IsSome, is_some}
+use Rattle.std.specs.Prelude.{option_map, option_and_then, IsSome}
 use Rattle.std.specs.List.{AllByRecursion}
 use Rattle.std.proofs.lemmas.Int.{ints}
 use Rattle.word_arithmetic.specs.Word.{word_not, least_word, greatest_word}
 use Rattle.word_arithmetic.specs.Comparison.{compares}
 use Rattle.word_arithmetic.specs.declared.compare.Comparison.{Comparison}
 use Rattle.word_arithmetic.specs.declared.binary.Binary.TheVariants as binary
-use Rattle.word_arithmetic.specs.Range.{Ends, InRange, in_range, is_within}
+use Rattle.word_arithmetic.specs.Range.{Ends, InRange, is_within}
 use Rattle.word_arithmetic.proofs.EndsLaws.{and_out, in_range_in}
 use Rattle.occam_parser.specs.declared.tree.ValueType.{ValueType}
 use Rattle.occam_parser.specs.declared.tree.ValueType.TheVariants as value_type
@@ -36,7 +36,7 @@ use Rattle.scalar_ranges.specs.Bounds.{Bound, Exactly, Within, ends, prefix_boun
 use Rattle.scalar_ranges.specs.Bounds.{is_subscript, element_bound, converted_bound, bound_of, bound_of_terms}
 use Rattle.scalar_ranges.specs.Bounds.{bound_of_term}
 use Rattle.scalar_ranges.specs.declared.bounds.TheConstants.{OUT_OF_RANGE, OUTSIDE}
-use Rattle.scalar_ranges.specs.Steps.{both_some, both, and_then}
+use Rattle.scalar_ranges.specs.Steps.{both_some}
 use Rattle.scalar_ranges.specs.Laws.{IsBound, HasValue, BoundsHold}
 use Rattle.scalar_ranges.proofs.Parts.{both_ok, then_ok, passed_ok, ok_same, then_holds, both_hold}
 use Rattle.scalar_ranges.proofs.Lookups.{found_held, item_holds}

@@ -1,12 +1,11 @@
 -- A name holds what its meaning says, where an environment meets the scope.
 use Rattle.std.proofs.Common.{◌≡◌, ℕ, zero, suc, ℤ, pos, negsuc, ◌<◌, Bool, true, false, cond, List, [], ◌∷◌, length}
-use Rattle.std.proofs.Common.{Option, Some, None, IsSomeAnd, refl, sym, subst, arith, ◌≤ℤ◌, ◌<ℤ◌}
+use Rattle.std.proofs.Common.{Some, IsSomeAnd, sym, subst, arith, ◌≤ℤ◌, ◌<ℤ◌}
 use Rattle.std.specs.Prelude.{bytes_eq}
 use Rattle.std.specs.List.{AllByRecursion}
 use Rattle.std.proofs.lemmas.Int.{ints}
-use Rattle.word_arithmetic.specs.Range.{Ends, InRange}
 use Rattle.scalar_ranges.specs.Entries.{Meaning, Entry, meaning_in}
-use Rattle.scalar_ranges.specs.Environments.{Held, Binding, Environment, held_in, item_at, item_of, IsHeld, Meets}
+use Rattle.scalar_ranges.specs.Environments.{Held, Environment, held_in, item_at, item_of, IsHeld, Meets}
 
 found_by : (name : List ℕ) (t : Bool) (m k : Meaning) (h : Held) (es : List Entry) (bs : Environment)
     → cond t (Some m) (meaning_in name es) ≡ Some k → IsHeld m h

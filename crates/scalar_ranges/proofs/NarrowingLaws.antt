@@ -1,6 +1,6 @@
 -- A scope that a condition narrowed is met where the condition has that truth.
-use Rattle.std.proofs.Common.{◌≡◌, ℕ, ℤ, ◌≤ℤ◌, Bool, true, false, cond, not, List, [], ◌∷◌, Option, Some, None, Result, Ok}
-use Rattle.std.proofs.Common.{Err, IsSomeAnd, refl, sym, subst, ap, arith, ◌∙◌, int_le, int_lt}
+use Rattle.std.proofs.Common.{◌≡◌, ℕ, ℤ, Bool, true, false, cond, not, List, [], ◌∷◌, Option, Some, None, Result, Ok}
+use Rattle.std.proofs.Common.{Err, refl, sym, subst, ap, arith, ◌∙◌, int_le, int_lt}
 use Rattle.std.specs.Prelude.{bytes_eq, option_map, unwrap_or, IsTrue}
 use Rattle.std.specs.Ordering.{int_eq}
 use Rattle.std.proofs.lemmas.Int.{ints}
@@ -12,8 +12,7 @@ use Rattle.word_arithmetic.specs.Range.{Ends, InRange, range_between, narrowed}
 use Rattle.word_arithmetic.proofs.EndsLaws.{words_in_order_are_ranges, members_lie_between}
 use Rattle.word_arithmetic.proofs.NarrowingLaws.{narrowed_by_rule}
 use Rattle.occam_parser.specs.declared.tree.PairOperator.TheVariants as pair
-use Rattle.occam_parser.specs.Expressions.{Expression, Alone, Prefixed, Paired, Chained, Term, Named, Number, Byte, Truth}
-use Rattle.occam_parser.specs.Expressions.{MostPos, MostNeg, Element, Bracketed, Converted}
+use Rattle.occam_parser.specs.Expressions.{Expression, Alone, Prefixed, Paired, Chained, Term, Named}
 use Rattle.scalar_ranges.specs.declared.types.ExprType.{ExprType}
 use Rattle.scalar_ranges.specs.declared.types.ExprType.TheVariants as types
 use Rattle.scalar_ranges.specs.Entries.{Meaning, Constant, Scalar, Array, Channel, Channels, Procedure, Entry, meaning_in}

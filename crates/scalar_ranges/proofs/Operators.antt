@@ -1,11 +1,10 @@
 -- What operators make of numbers in bounds is in their bound.
-use Rattle.std.proofs.Common.{◌≡◌, ℕ, ℤ, pos, ◌≤ℤ◌, Bool, true, false, Option, Some, None, Result, Ok, Err, IsSomeAnd}
-use Rattle.std.proofs.Common.{refl, sym, ap, subst, arith, int_le, unsigned_abs}
-use Rattle.std.specs.Prelude.{option_map}
+use Rattle.std.proofs.Common.{◌≡◌, ℕ, ℤ, pos, ◌≤ℤ◌, Bool, true, Option, Some, None, Ok, IsSomeAnd}
+use Rattle.std.proofs.Common.{sym, ap, subst, arith, int_le, unsigned_abs}
 use Rattle.std.proofs.lemmas.Int.{ints}
 use Rattle.word_arithmetic.specs.Word.{word_not, shifted_left, shifted_right}
-use Rattle.word_arithmetic.specs.Range.{Ends, InRange, IsRange, IsWordIn, in_range, is_within, not_range, zero_to}
-use Rattle.word_arithmetic.specs.Range.{shift_left_range, shift_right_range}
+use Rattle.word_arithmetic.specs.Range.{Ends, InRange, IsRange, IsWordIn, in_range, is_within, not_range}
+use Rattle.word_arithmetic.specs.Range.{shift_left_range}
 use Rattle.word_arithmetic.specs.Binary.{computed, result_range}
 use Rattle.word_arithmetic.specs.declared.binary.Binary.{Binary}
 use Rattle.word_arithmetic.specs.declared.binary.Binary.TheVariants as binary
@@ -15,10 +14,10 @@ use Rattle.word_arithmetic.proofs.BitLaws.{not_holds, shift_left_holds, shift_ri
 use Rattle.occam_parser.specs.declared.tree.ArithmeticPair.{ArithmeticPair}
 use Rattle.occam_parser.specs.declared.tree.ArithmeticPair.TheVariants as arithmetic
 use Rattle.scalar_ranges.specs.Values.{counts, shifted, pair_value}
-use Rattle.scalar_ranges.specs.Bounds.{Bound, Exactly, Within, ends, range_of_bound, ranges_give, gives, binary_bound}
+use Rattle.scalar_ranges.specs.Bounds.{Bound, Exactly, Within, ends, range_of_bound, ranges_give, gives}
 use Rattle.scalar_ranges.specs.Bounds.{by_counts, right_range, arithmetic_bound, not_bound}
-use Rattle.scalar_ranges.specs.declared.bounds.TheConstants.{OUT_OF_RANGE, OUTSIDE}
-use Rattle.scalar_ranges.specs.Steps.{both_some, ok_or}
+use Rattle.scalar_ranges.specs.declared.bounds.TheConstants.{OUT_OF_RANGE}
+use Rattle.scalar_ranges.specs.Steps.{both_some}
 use Rattle.scalar_ranges.specs.Laws.{IsBound}
 use Rattle.scalar_ranges.proofs.Parts.{or_ok, mapped, both_are, passed, ok_same, is_some_of}
 

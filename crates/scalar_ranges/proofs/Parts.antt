@@ -1,6 +1,5 @@
 -- What follows of the parts of a step that went well.
 use Rattle.std.proofs.Common.{◌≡◌, ℕ, ℤ, Bool, true, false, cond, Option, Some, None, Result, Ok, Err, IsSomeAnd, refl}
-use Rattle.std.proofs.Common.{subst}
 use Rattle.std.specs.Prelude.{option_map, option_and_then}
 use Rattle.scalar_ranges.specs.Steps.{and_then, both, both_some, ok_or}
 

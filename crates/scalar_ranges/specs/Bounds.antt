@@ -18,7 +18,7 @@ use Rattle.occam_parser.specs.declared.tree.ChainOperator.{ChainOperator}
 use Rattle.occam_parser.specs.declared.tree.ChainOperator.TheVariants as chain
 use Rattle.occam_parser.specs.Expressions.{Expression, Alone, Prefixed, Paired, Chained, Terms, Two, Then, Term}
 use Rattle.occam_parser.specs.Expressions.{Number, Byte, Truth, MostPos, MostNeg, Named, Element, Bracketed, Converted}
-use Rattle.scalar_ranges.specs.Entries.{Meaning, Constant, Scalar, Array, Channel, Channels, Procedure, Entry, meaning_in}
+use Rattle.scalar_ranges.specs.Entries.{Meaning, Constant, Scalar, Array, Entry, meaning_in}
 use Rattle.scalar_ranges.specs.Entries.{type_range}
 use Rattle.scalar_ranges.specs.Values.{operation_of, counts, shifted}
 use Rattle.scalar_ranges.specs.declared.bounds.TheConstants.{OUT_OF_RANGE, OUTSIDE}
@@ -55,7 +55,7 @@ by_counts range r s = if is_within s counts then Some (range r s) else None
 
 -- the count does not change the range of a shift to the right
 abbrev pub right_range : Ends → Ends → Ends
-right_range r counts = shift_right_range r
+right_range r s = shift_right_range r
 
 abbrev pub arithmetic_bound : ArithmeticPair → Bound → Bound → Result Bound ℕ
 arithmetic_bound arithmetic.Subtract = binary_bound binary.Subtract

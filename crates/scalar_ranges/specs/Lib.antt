@@ -5,5 +5,8 @@ pub mod Scopes
 pub mod Types
 pub mod Values
 pub mod Bounds
+pub mod BoundViews
 pub mod Narrowing
+pub mod Moves
 pub mod Laws
+pub mod MoveLaws

@@ -1,14 +1,14 @@
 -- What a condition tells of a scalar that it compares with a constant.
-use Rattle.std.specs.Prelude.{◌≡◌, ℤ, Bool, true, false, List, [], ◌∷◌, bytes_eq, if◌then◌else◌, Option, Some, None}
+use Rattle.std.specs.Prelude.{ℤ, Bool, true, false, List, [], ◌∷◌, bytes_eq, if◌then◌else◌, Option, Some, None}
 use Rattle.std.specs.Prelude.{ℕ, option_map, unwrap_or}
 use Rattle.word_arithmetic.specs.declared.compare.Comparison.{Comparison}
 use Rattle.word_arithmetic.specs.declared.compare.Comparison.TheVariants as comparison
 use Rattle.word_arithmetic.specs.Range.{Ends, range_between, narrowed}
 use Rattle.occam_parser.specs.declared.tree.PairOperator.TheVariants as pair
-use Rattle.occam_parser.specs.Expressions.{Expression, Alone, Prefixed, Paired, Chained, Term, Named}
+use Rattle.occam_parser.specs.Expressions.{Expression, Paired, Term, Named}
 use Rattle.scalar_ranges.specs.declared.scope.ScalarKind.{ScalarKind}
 use Rattle.scalar_ranges.specs.declared.scope.ScalarKind.TheVariants as kinds
-use Rattle.scalar_ranges.specs.Entries.{Meaning, Constant, Scalar, Array, Channel, Channels, Procedure, Entry, meaning_in}
+use Rattle.scalar_ranges.specs.Entries.{Meaning, Scalar, Entry, meaning_in}
 use Rattle.scalar_ranges.specs.Bounds.{exact_value, bound_of_term}
 
 -- scalars that a line declares, and VAL parameters

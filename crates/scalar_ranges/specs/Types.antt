@@ -10,7 +10,7 @@ use Rattle.occam_parser.specs.declared.tree.ChainOperator.{ChainOperator}
 use Rattle.occam_parser.specs.declared.tree.ChainOperator.TheVariants as chain
 use Rattle.occam_parser.specs.Expressions.{Expression, Alone, Prefixed, Paired, Chained, Terms, Two, Then, Term}
 use Rattle.occam_parser.specs.Expressions.{Number, Byte, Truth, MostPos, MostNeg, Named, Element, Bracketed, Converted}
-use Rattle.scalar_ranges.specs.Entries.{Meaning, Constant, Scalar, Array, Channel, Channels, Procedure, Entry, meaning_in}
+use Rattle.scalar_ranges.specs.Entries.{Meaning, Constant, Scalar, Array, Entry, meaning_in}
 use Rattle.scalar_ranges.specs.declared.types.ExprType.{ExprType}
 use Rattle.scalar_ranges.specs.declared.types.ExprType.TheVariants as types
 use Rattle.scalar_ranges.specs.declared.types.TheConstants.{UNKNOWN_NAME, WRONG_TYPE}

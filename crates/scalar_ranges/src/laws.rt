@@ -1,5 +1,7 @@
 //! The laws of bounds, each the contract of a function that does nothing.
 ghost use Rattle.scalar_ranges.specs.Laws.{BoundsHold, NarrowingHolds};
+ghost use Rattle.scalar_ranges.specs.MoveLaws.{DeclaringHolds, LeavingHolds, AssigningHolds, WideningHolds};
+ghost use Rattle.scalar_ranges.specs.MoveLaws.{BranchesHold, ComponentsHold, ShapesStay};
 
 /// Where a well typed expression has a bound, it has a value as the bound says in every environment that meets the
 /// scope.
@@ -12,4 +14,35 @@ pub fn bounds_hold()
 #[tactic(auto, using(crate::proofs::NarrowingLaws::narrowing_holds))]
 pub fn narrowing_holds()
     ensures { NarrowingHolds }
+{}
+
+/// An environment that meets a scope meets it with one declaration more, if what is declared holds what its meaning
+/// says, and with the outermost declarations alone.
+#[tactic(auto, using(crate::proofs::MoveLaws::declaring_holds, crate::proofs::MoveLaws::leaving_holds))]
+pub fn names_hold()
+    ensures declaring { DeclaringHolds }
+    ensures leaving { LeavingHolds }
+{}
+
+/// An environment that meets a scope, and then some variables change, meets the scope with the ranges of what was
+/// assigned, or of the types where no more is known.
+#[tactic(auto, using(crate::proofs::MoveLaws::assigning_holds, crate::proofs::MoveLaws::widening_holds))]
+pub fn changes_hold()
+    ensures assigning { AssigningHolds }
+    ensures widening { WideningHolds }
+{}
+
+/// An environment that meets the end of a branch meets what is known after the block; and what each component of a PAR
+/// changes is as its end says, the rest as before.
+#[tactic(auto, using(crate::proofs::MoveLaws::branches_hold, crate::proofs::MoveLaws::components_hold))]
+pub fn branches_hold()
+    ensures branches { BranchesHold }
+    ensures components { ComponentsHold }
+{}
+
+/// The ends of the branches of a block have the names of its beginning, with the same meanings but for the ranges of
+/// scalars.
+#[tactic(auto, using(crate::proofs::MoveLaws::shapes_stay))]
+pub fn shapes_stay()
+    ensures { ShapesStay }
 {}

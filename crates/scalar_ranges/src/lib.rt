@@ -3,10 +3,16 @@
 
 mod bounds;
 mod laws;
+mod ranges;
+mod results;
 mod scope;
+mod steps;
 mod types;
 
 pub use bounds::{OUT_OF_RANGE, OUTSIDE};
-pub use laws::{bounds_hold, narrowing_holds};
+pub use laws::{
+    bounds_hold, branches_hold, changes_hold, names_hold, narrowing_holds, shapes_stay,
+};
+pub use ranges::{range_of, value_of};
 pub use scope::{ArrayKind, Entry, Meaning, ScalarKind, Scope};
-pub use types::{ExprType, UNKNOWN_NAME, WRONG_TYPE};
+pub use types::{ExprType, UNKNOWN_NAME, WRONG_TYPE, type_of};

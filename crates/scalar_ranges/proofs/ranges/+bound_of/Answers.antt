@@ -1,0 +1,29 @@
+use Rattle.std.proofs.Common.{◌≡◌, ◌≤◌, length, arith, ap, sym, ◌∙◌, rules}
+use Rattle.occam_parser.specs.declared.tree.Operand.TheFolds.{the_lemmas}
+use Rattle.occam_parser.specs.declared.tree.Operation.{Chain}
+use Rattle.occam_parser.specs.Views.{expression_of, operation_of}
+use Rattle.scalar_ranges.specs.BoundViews.{all_known}
+use Rattle.scalar_ranges.specs.Scopes.{entries_of}
+use Rattle.scalar_ranges.specs.Bounds.{bound_of}
+use Rattle.scalar_ranges.proofs.Chains.{bounds_step, bounds_end}
+use Rattle.scalar_ranges.proofs.ranges.+bound_of.Goals as goal
+
+pub bound_of-loop-other-preserved : goal.bound_of-loop-other-preserved
+bound_of-loop-other-preserved t c =
+    bounds_step (entries_of c.args.scope.now) c.in-Chain.operator (all_known c.next_bound-found.result)
+    (all_known c.loop-other.found) (all_known c.next_bound-found-in-loop-other.result)
+    (all_known c.bound_of_operand-in-loop-other.result) c.deref-other-items.result.now c.loop-other.other-index
+    c.other-item.result (omega arith) c.other-item.is c.loop-other.invariant
+    c.bound_of_operand-in-loop-other.ensures c.next_bound-found-in-loop-other.ensures
+
+pub bound_of-returns-after-loop-other : goal.bound_of-returns-after-loop-other
+bound_of-returns-after-loop-other t c =
+    let done : length c.deref-other-items.result.now ≤ c.loop-other.other-index = omega arith in
+    let view : expression_of c.args.expr.now
+    ≡ operation_of (Chain c.in-Chain.operator c.in-Chain.first c.in-Chain.second c.in-Chain.others) =
+    search (rules, the_lemmas) in
+    bounds_end (entries_of c.args.scope.now) c.in-Chain.operator c.in-Chain.first c.in-Chain.second
+    c.in-Chain.others (all_known c.bound_of_operand-first.result) (all_known c.bound_of_operand-in-Chain.result)
+    (all_known c.next_bound-found.result) (all_known c.loop-other.found) c.deref-other-items.result.now c.loop-other.other-index done
+    c.deref-other-items.ensures.value c.bound_of_operand-first.ensures c.bound_of_operand-in-Chain.ensures c.next_bound-found.ensures
+    c.loop-other.invariant ∙ ap (bound_of (entries_of c.args.scope.now)) (sym view)

@@ -1,0 +1,143 @@
+-- What becomes known where a program goes on: each move from what was known before it.
+use Rattle.std.specs.Prelude.{ℕ, Bool, true, false, List, [], ◌∷◌, length, nat_eq, nat_lt, if◌then◌else◌, Option, Some}
+use Rattle.std.specs.Prelude.{None, unwrap_or}
+use Rattle.word_arithmetic.specs.Range.{Ends, hull}
+use Rattle.occam_parser.specs.Expressions.{Expression}
+use Rattle.scalar_ranges.specs.declared.scope.ScalarKind.TheVariants as kinds
+use Rattle.scalar_ranges.specs.Entries.{Meaning, Scalar, Entry, type_range}
+use Rattle.scalar_ranges.specs.Narrowing.{narrow}
+
+-- ---- names
+
+-- The outermost entries, as many as this: those that a block was entered with.
+abbrev pub outermost : {A : Type 0} → ℕ → List A → List A
+outermost count [] = []
+outermost count (x ∷ xs) = if nat_lt (length xs) count then x ∷ xs else outermost count xs
+
+-- ---- variables
+
+-- the entry with this number, counted from the outermost one, with its meaning changed
+abbrev pub at_number : (Meaning → Meaning) → ℕ → List Entry → List Entry
+at_number f n [] = []
+at_number f n (e ∷ es) =
+    if nat_eq (length es) n then record { name = e.name; meaning = f e.meaning } ∷ es else e ∷ at_number f n es
+
+-- A variable has the range of what is assigned to it. That of a parameter is always the range of its type.
+abbrev pub assigned : Ends → Meaning → Meaning
+assigned range (Scalar kinds.Variable type old) = Scalar kinds.Variable type range
+assigned range m = m
+
+abbrev pub assign : ℕ → Ends → List Entry → List Entry
+assign n range es = at_number (assigned range) n es
+
+-- a variable of which no more is known than its type
+abbrev pub widened : Meaning → Meaning
+widened (Scalar kinds.Variable type old) = Scalar kinds.Variable type (type_range type)
+widened m = m
+
+abbrev pub is_one_of : List ℕ → ℕ → Bool
+is_one_of [] n = false
+is_one_of (m ∷ ms) n = if nat_eq m n then true else is_one_of ms n
+
+abbrev pub widened_if : Bool → Entry → Entry
+widened_if false e = e
+widened_if true e = record { name = e.name; meaning = widened e.meaning }
+
+-- The variables with these numbers were changed: by an input, an instance, or the body of a loop.
+abbrev pub widen : List ℕ → List Entry → List Entry
+widen ns [] = []
+widen ns (e ∷ es) = widened_if (is_one_of ns (length es)) e ∷ widen ns es
+
+-- ---- branches
+
+-- the hull of both ranges of a scalar
+abbrev pub hull_meaning : Meaning → Meaning → Meaning
+hull_meaning (Scalar kind type r) (Scalar k t s) = Scalar kind type (hull r s)
+hull_meaning m n = m
+
+-- entry by entry the hulls of two ends
+abbrev pub hulls : List Entry → List Entry → List Entry
+hulls [] es = []
+hulls (d ∷ ds) [] = d ∷ ds
+hulls (d ∷ ds) (e ∷ es) = record { name = d.name; meaning = hull_meaning d.meaning e.meaning } ∷ hulls ds es
+
+-- of two things with a number the second, if the number is one of these
+abbrev pub of_both : {A : Type 0} → Bool → A → A → A
+of_both false x y = x
+of_both true x y = y
+
+-- The second list's items with these numbers, counted from the outermost one, among the others of the first.
+abbrev pub taken : {A : Type 0} → List ℕ → List A → List A → List A
+taken ns [] ys = []
+taken ns (x ∷ xs) [] = x ∷ xs
+taken ns (x ∷ xs) (y ∷ ys) = of_both (is_one_of ns (length xs)) x y ∷ taken ns xs ys
+
+-- A block of branches: what is known where its branches begin, and after those that have ended, if one has.
+pub record Block : Type 0 where
+  pub start : List Entry
+  pub ends : Option (List Entry)
+
+-- What is known at a place: the entries, and the blocks of branches around it, the innermost one first.
+pub record Known : Type 0 where
+  pub entries : List Entry
+  pub blocks : List Block
+
+-- after one branch more, whose end has these entries
+abbrev pub ends_with : Option (List Entry) → List Entry → List Entry
+ends_with None es = es
+ends_with (Some ds) es = hulls ds es
+
+-- what an end has of the entries that the block was begun with
+abbrev pub end_of : Block → List Entry → List Entry
+end_of b es = outermost (length b.start) es
+
+-- An IF or an ALT begins with its first branch.
+abbrev pub begin : Known → Known
+begin k = record { entries = k.entries; blocks = record { start = k.entries; ends = None } ∷ k.blocks }
+
+-- a branch that ended with these entries, and what is known where the next one begins
+abbrev pub next_from : (List Entry → List Entry) → List Entry → List Block → Known
+next_from narrows es [] = record { entries = es; blocks = [] }
+next_from narrows es (b ∷ bs) = record {
+  entries = narrows b.start;
+  blocks = record { start = narrows b.start; ends = Some (ends_with b.ends (end_of b es)) } ∷ bs;
+}
+
+-- A branch has ended here. The next one begins as the first one did.
+abbrev pub next : Known → Known
+next k = next_from (λ es. es) k.entries k.blocks
+
+-- A branch of an IF has ended here. Where the next one begins, the condition of this one did not hold.
+abbrev pub next_choice : Expression → Known → Known
+next_choice condition k = next_from (λ es. narrow es condition false) k.entries k.blocks
+
+-- what is known after a block whose last branch has ended: if it had none, it is as before
+abbrev pub after_block : List Entry → List Block → Known
+after_block es [] = record { entries = es; blocks = [] }
+after_block es (b ∷ bs) = record { entries = unwrap_or b.ends b.start; blocks = bs }
+
+abbrev pub end : Known → Known
+end k = after_block k.entries k.blocks
+
+-- A PAR begins with its first component. What no component changes is as before.
+abbrev pub begin_par : Known → Known
+begin_par k = record {
+  entries = k.entries;
+  blocks = record { start = k.entries; ends = Some k.entries } ∷ k.blocks;
+}
+
+abbrev pub component_from : List ℕ → List Entry → List Block → Known
+component_from ns es [] = record { entries = es; blocks = [] }
+component_from ns es (b ∷ bs) = record {
+  entries = b.start;
+  blocks = record { start = b.start; ends = Some (taken ns (unwrap_or b.ends b.start) (end_of b es)) } ∷ bs;
+}
+
+-- A component has ended here, which changed the variables with these numbers.
+abbrev pub next_component : List ℕ → Known → Known
+next_component ns k = component_from ns k.entries k.blocks
+
+-- The body of a loop begins, which changes the variables with these numbers. It ends as a block without branches: what
+-- is known after it is what was known where it began.
+abbrev pub begin_loop : List ℕ → Known → Known
+begin_loop ns k = begin (record { entries = widen ns k.entries; blocks = k.blocks })
