@@ -98,13 +98,17 @@ bytes_of t = unwrap_or (decoded 0 t.spelling.now) []
 abbrev pub marked : mark_type.Mark → Kind
 marked m = Mark (spelling m)
 
--- what a token of the program is
+-- what a token of the program is, where each case is told by what it stands for
+abbrev pub told_by : {A : Type 0} → (name : List ℕ → A) → (integer : ℤ → A) → (character : ℕ → A) → (text : List ℕ → A)
+    → (mark : mark_type.Mark → A) → TokenKind → A
+told_by name integer character text mark (token.Name spelling) = name spelling.now
+told_by name integer character text mark (token.Integer value) = integer value
+told_by name integer character text mark (token.Character byte) = character byte
+told_by name integer character text mark (token.Text string) = text (bytes_of string)
+told_by name integer character text mark (token.Mark m) = mark m
+
 abbrev pub kind_of : TokenKind → Kind
-kind_of (token.Name text) = Name text.now
-kind_of (token.Integer value) = Integer value
-kind_of (token.Character byte) = Character byte
-kind_of (token.Text text) = Text (bytes_of text)
-kind_of (token.Mark m) = marked m
+kind_of = told_by Name Integer Character Text marked
 
 -- the keyword that is spelled so, if it is among these
 abbrev pub keyword_among : List (List ℕ) → List ℕ → Option Kind

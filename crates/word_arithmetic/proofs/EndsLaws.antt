@@ -1,7 +1,7 @@
 -- Laws on ends and the tests on them.
 use Rattle.std.proofs.Common.{T, int_le, int_lt, ◌<ℤ◌, to_z, of_z, ◌≡◌, ◌⊎◌, inl, inr, Bool, true, false, ◌&&◌, cond}
 use Rattle.std.proofs.Common.{Option, Some, None, unwrap_or, refl, sym, ap, ◌∙◌, subst, arith, ℤ, ◌≤ℤ◌, FitsSigned}
-use Rattle.std.specs.Int.{Width, w32}
+use Rattle.std.specs.Int.{Width, w32, w64}
 use Rattle.std.specs.Option.{option_map}
 use Rattle.std.proofs.lemmas.Int.{ints, clamps, to_z-of_z}
 use Rattle.std.proofs.lemmas.Bool.{and_from}
@@ -9,7 +9,7 @@ use Rattle.word_arithmetic.specs.declared.ranges.Range.{Range}
 use Rattle.word_arithmetic.specs.Word.{is_word}
 use Rattle.word_arithmetic.proofs.WordLaws.{is_word_out, is_word_in, some_out, then_some}
 use Rattle.word_arithmetic.specs.Range.{Ends, ends_of, InRange, IsRange, IsWithin, Holds, WordsInOrderAreRanges}
-use Rattle.word_arithmetic.specs.Range.{MembersLieBetween, fitting, hull, in_range, range_between}
+use Rattle.word_arithmetic.specs.Range.{MembersLieBetween, Computes, fitting, hull, in_range, range_between}
 
 -- ---- what is said of a range that may not be there
 
@@ -121,6 +121,15 @@ read_back w f x y z p q e = sym (e ∙ (λ i. f (to_z-of_z w x p i) (to_z-of_z w
 pub passed_on : (w v : Width) (f : ℤ → ℤ → ℤ) (x y z : ℤ) → FitsSigned w x → FitsSigned w y → FitsSigned v z
     → z ≡ f (to_z w (of_z w x)) (to_z w (of_z w y)) → f x y ≡ to_z v (of_z v z)
 passed_on w v f x y z p q r e = read_back w f x y z p q e ∙ sym (to_z-of_z v z r)
+
+-- a function on words that computes f gives f of two words
+pub computed_at : {Gives : ℤ → ℤ → ℤ → Type 0} {f : ℤ → ℤ → ℤ} → Computes Gives f → (x y z : ℤ) → FitsSigned w32 x
+    → FitsSigned w32 y → FitsSigned w64 z → Gives (to_z w32 (of_z w32 x)) (to_z w32 (of_z w32 y)) z
+    → f x y ≡ to_z w64 (of_z w64 z)
+computed_at {Gives} {f} is x y z p q r e = passed_on w32 w64 f x y z p q r (is _ _ z (same x p) (same y q) r e)
+  where
+    same : (x : ℤ) → FitsSigned w32 x → FitsSigned w32 (to_z w32 (of_z w32 x))
+    same x p = subst (FitsSigned w32) (sym (to_z-of_z w32 x p)) p
 
 -- ---- a choice whose test is known
 

@@ -12,37 +12,37 @@ use Rattle.word_arithmetic.specs.Range.{word_difference_range, word_product_rang
 use Rattle.word_arithmetic.specs.declared.binary.Binary.{Binary}
 use Rattle.word_arithmetic.specs.declared.binary.Binary.TheVariants as binary
 
+-- what an operation gives of two words, and of two ranges
+pub record Operation : Type 0 where
+  pub result : ℤ → ℤ → Option ℤ
+  pub range : Ends → Ends → Option Ends
+
+-- an operation that never sets the error flag
+abbrev pub unfailing : (ℤ → ℤ → ℤ) → (Ends → Ends → Ends) → Operation
+unfailing f range = record { result = λ x y. Some (f x y); range = λ r s. Some (range r s) }
+
+abbrev pub operation : Binary → Operation
+operation binary.Add = record { result = checked_sum; range = sum_range }
+operation binary.Subtract = record { result = checked_difference; range = difference_range }
+operation binary.Multiply = record { result = checked_product; range = product_range }
+operation binary.Divide = record { result = checked_quotient; range = quotient_range }
+operation binary.Remainder = record { result = checked_remainder; range = remainder_range }
+operation binary.Sum = unfailing word_sum word_sum_range
+operation binary.Difference = unfailing word_difference word_difference_range
+operation binary.Product = unfailing word_product word_product_range
+operation binary.And = unfailing word_and and_range
+operation binary.Or = unfailing word_or or_range
+operation binary.ExclusiveOr = unfailing word_xor xor_range
+operation binary.Greater = unfailing (λ x y. truth (int_lt y x)) (λ r s. truths)
+operation binary.Equal = unfailing (λ x y. truth (int_eq x y)) (λ r s. truths)
+
 -- the result; None sets the error flag
 unfoldable pub computed : Binary → ℤ → ℤ → Option ℤ
-computed binary.Add x y = checked_sum x y
-computed binary.Subtract x y = checked_difference x y
-computed binary.Multiply x y = checked_product x y
-computed binary.Divide x y = checked_quotient x y
-computed binary.Remainder x y = checked_remainder x y
-computed binary.Sum x y = Some (word_sum x y)
-computed binary.Difference x y = Some (word_difference x y)
-computed binary.Product x y = Some (word_product x y)
-computed binary.And x y = Some (word_and x y)
-computed binary.Or x y = Some (word_or x y)
-computed binary.ExclusiveOr x y = Some (word_xor x y)
-computed binary.Greater x y = Some (truth (int_lt y x))
-computed binary.Equal x y = Some (truth (int_eq x y))
+computed op x y = (operation op).result x y
 
 -- the range of the results; None where some members set the error flag
 unfoldable pub result_range : Binary → Ends → Ends → Option Ends
-result_range binary.Add r s = sum_range r s
-result_range binary.Subtract r s = difference_range r s
-result_range binary.Multiply r s = product_range r s
-result_range binary.Divide r s = quotient_range r s
-result_range binary.Remainder r s = remainder_range r s
-result_range binary.Sum r s = Some (word_sum_range r s)
-result_range binary.Difference r s = Some (word_difference_range r s)
-result_range binary.Product r s = Some (word_product_range r s)
-result_range binary.And r s = Some (and_range r s)
-result_range binary.Or r s = Some (or_range r s)
-result_range binary.ExclusiveOr r s = Some (xor_range r s)
-result_range binary.Greater r s = Some truths
-result_range binary.Equal r s = Some truths
+result_range op r s = (operation op).range r s
 
 -- the result of two words is a word
 abbrev pub BinaryGivesWords : Type 0

@@ -3,7 +3,7 @@
 use Rattle.std.specs.Prelude.{◌≡◌, ℕ, ◌-◌, ◌^◌, max, ◌&&◌, ◌||◌, Bool, Option, Some, None, if◌then◌else◌, IfSome}
 use Rattle.std.specs.Prelude.{IfNone, IsSomeAnd, unwrap_or, ◌↔◌, ℤ, pos, negsuc, ◌+ℤ◌, ◌-ℤ◌, ◌*ℤ◌, ◌≤ℤ◌, int_le}
 use Rattle.std.specs.Prelude.{int_div, unsigned_abs, FitsSigned}
-use Rattle.std.specs.Int.{w32, cast_signed, cast_unsigned, int_min, int_max, leading_zeros}
+use Rattle.std.specs.Int.{w32, w64, cast_signed, cast_unsigned, int_min, int_max, leading_zeros}
 use Rattle.std.specs.Ordering.{int_eq}
 use Rattle.word_arithmetic.specs.Word.{is_word, least_word, greatest_word, word_and, word_or, word_xor, word_not}
 use Rattle.word_arithmetic.specs.declared.compare.Comparison.{Comparison}
@@ -90,6 +90,10 @@ pub record BoundsResults (f : ℤ → ℤ → Option ℤ) (r s : Ends) (range : 
 pub record BoundsExactly (f : ℤ → ℤ → Option ℤ) (r s : Ends) (range : Option Ends) : Type 0 where
   pub bounds : BoundsResults f r s range
   pub reached : IfSome range (ReachesEnds f r s)
+
+-- each result that a function on words may have is that of an operation on numbers
+abbrev pub Computes : (ℤ → ℤ → ℤ → Type 0) → (ℤ → ℤ → ℤ) → Type 0
+Computes Gives f = (x y z : ℤ) → FitsSigned w32 x → FitsSigned w32 y → FitsSigned w64 z → Gives x y z → z ≡ f x y
 
 -- ---- ranges made of ranges
 

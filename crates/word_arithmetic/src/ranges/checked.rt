@@ -9,7 +9,7 @@ ghost use Rattle.word_arithmetic.specs.Range.{greatest_size, lowest_remainder, h
 ghost use Rattle.word_arithmetic.specs.Range.{remainder_range};
 
 use crate::ranges::Range;
-use crate::ranges::wide::{corners, fitting};
+use crate::ranges::wide::fitting;
 
 impl Range {
     /// The range of the sums.
@@ -51,12 +51,7 @@ impl Range {
         ensures exact { BoundsExactly checked_product
             (ends_of self) (ends_of other) (option_map ends_of result) }
     {
-        corners(
-            product(self.lo, other.lo),
-            product(self.lo, other.hi),
-            product(self.hi, other.lo),
-            product(self.hi, other.hi),
-        )
+        self.corners(other, product)
     }
 
     /// The range of the quotients, rounded towards zero.
@@ -68,12 +63,7 @@ impl Range {
         if divisor.contains(0) {
             return None;
         }
-        corners(
-            quotient(self.lo, divisor.lo),
-            quotient(self.lo, divisor.hi),
-            quotient(self.hi, divisor.lo),
-            quotient(self.hi, divisor.hi),
-        )
+        self.corners(divisor, quotient)
     }
 
     /// The range of the remainders, which have the sign of the dividend.

@@ -2,7 +2,7 @@
 ghost use Rattle.std.specs.Prelude.{◌≡◌, ◌≤ℤ◌, ℤ, unwrap_or};
 ghost use Rattle.std.specs.Int.{int_min, int_max};
 ghost use Rattle.std.specs.Option.{option_map};
-ghost use Rattle.word_arithmetic.specs.Range.{Ends, ends_of, constant, fitting, full, hull};
+ghost use Rattle.word_arithmetic.specs.Range.{Ends, ends_of, InRange, Computes, corners, fitting, full};
 
 use crate::ranges::Range;
 
@@ -17,18 +17,6 @@ pub(super) fn fitting(lo: i64, hi: i64) -> Option<Range>
     }
 }
 
-/// The least range that has four results, where its ends are words.
-pub(super) fn corners(lo_lo: i64, lo_hi: i64, hi_lo: i64, hi_hi: i64) -> Option<Range>
-    ensures { (a b c d : ℤ) → a ≡ lo_lo → b ≡ lo_hi → c ≡ hi_lo → d ≡ hi_hi
-        → option_map ends_of result
-        ≡ fitting (hull (hull (constant a) (constant b)) (hull (constant c) (constant d))) }
-{
-    fitting(
-        least(lo_lo, lo_hi, hi_lo, hi_hi),
-        greatest(lo_lo, lo_hi, hi_lo, hi_hi),
-    )
-}
-
 /// The least of four results.
 fn least(lo_lo: i64, lo_hi: i64, hi_lo: i64, hi_hi: i64) -> i64
     ensures { result ≡ int_min (int_min lo_lo lo_hi) (int_min hi_lo hi_hi) }
@@ -41,6 +29,24 @@ fn greatest(lo_lo: i64, lo_hi: i64, hi_lo: i64, hi_hi: i64) -> i64
     ensures { result ≡ int_max (int_max lo_lo lo_hi) (int_max hi_lo hi_hi) }
 {
     lo_lo.max(lo_hi).max(hi_lo.max(hi_hi))
+}
+
+impl Range {
+    /// The least range that has the results of an operation on the ends of both, where its own ends are words.
+    pub(super) fn corners<F: Fn(i32, i32) -> i64>(self, other: Range, result_of: F) -> Option<Range>
+        requires { (x y : ℤ) → InRange (ends_of self) x → InRange (ends_of other) y → F.pre result_of x y }
+        ensures { (f : ℤ → ℤ → ℤ) → Computes (F.post result_of) f
+            → option_map ends_of result ≡ fitting (corners f (ends_of self) (ends_of other)) }
+    {
+        let lo_lo = result_of(self.lo, other.lo);
+        let lo_hi = result_of(self.lo, other.hi);
+        let hi_lo = result_of(self.hi, other.lo);
+        let hi_hi = result_of(self.hi, other.hi);
+        fitting(
+            least(lo_lo, lo_hi, hi_lo, hi_hi),
+            greatest(lo_lo, lo_hi, hi_lo, hi_hi),
+        )
+    }
 }
 
 /// The range, or all words where there is none.

@@ -1,4 +1,4 @@
-use Rattle.std.proofs.Common.{◌≡◌, Bool, true, false, cond, refl, rules, w32, sym, ◌∙◌, ap, ◌&&◌, ℤ}
+use Rattle.std.proofs.Common.{◌≡◌, Bool, cond, refl, rules, w32, sym, ◌∙◌, ap, ◌&&◌, ℤ}
 use Rattle.std.proofs.lemmas.Int.{to_z-of_z}
 use Rattle.word_arithmetic.specs.Range.{Ends, ends_of, constant, full, zero_to, bits_range, is_constant}
 use Rattle.word_arithmetic.specs.Range.{is_not_negative}
