@@ -78,7 +78,8 @@ use Rattle.machine_state.proofs.Holders.{kept_is_free, kept_once}
 use Rattle.machine_state.proofs.Roles.{own_in, opener_in, opened_in, HoldersIn, field_set, told_of, opened_is}
 use Rattle.machine_state.proofs.Roles.{gives_back}
 use Rattle.machine_state.proofs.StartedApart.{RowIsSmall, branch_starts, first_starts, found_row}
-use Rattle.machine_state.proofs.EndedApart.{on_role_roles, on_role_channels, on_role_tasks, carried, member_ends}
+use Rattle.machine_state.proofs.Moving.{on_role_is, roles_of_equal}
+use Rattle.machine_state.proofs.EndedApart.{on_role_channels, on_role_tasks, carried, member_ends}
 use Rattle.machine_state.proofs.ChannelWaiters.{channel_there, same_channel, channels_have_their_waiters}
 
 -- ---- what a module has
@@ -287,7 +288,7 @@ module _ (h : Here) (w : World) (there : slice_get w.tasks h.process ≡ Some h.
         opened = None;
       } in
       let at_v = ap (λ (rs : List Role). slice_get rs h.process) roles ∙ here in
-      let given_roles = on_role_roles h.process f put_there r at_v
+      let given_roles = roles_of_equal (on_role_is h.process f put_there r at_v)
       ∙ ap (λ (rs : List Role). slice_set rs h.process (f r)) roles in
       let given_tasks = on_role_tasks h.process f put_there
       ∙ ap (λ (ts : List Task). slice_set ts h.process u) tasks in
@@ -452,7 +453,7 @@ module _ (h : Here) (w : World) (there : slice_get w.tasks h.process ≡ Some h.
       let low = st.holders.rises h.process opener by in
       let differ : h.process ≢ opener = λ e. omega (arith, low, e) in
       let gone = record mine.0 { own = nothing } in
-      let roles = on_role_roles h.process f (ended h l w) mine.0 mine.1 in
+      let roles = roles_of_equal (on_role_is h.process f (ended h l w) mine.0 mine.1) in
       let channels = on_role_channels h.process f (ended h l w) in
       let tasks = on_role_tasks h.process f (ended h l w) in
       let back = gives_back h.contents w.roles w.channels st.holders h.process mine.0 mine.1

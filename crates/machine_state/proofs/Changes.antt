@@ -41,9 +41,10 @@ use Rattle.prefix_decoder.specs.Functions.{nibble}
 use Rattle.prefix_decoder.specs.Operand.{with_nibble}
 use Rattle.machine_state.proofs.SpanLaws.{or_true}
 use Rattle.machine_state.proofs.Lines.{got_set, got_other}
-use Rattle.machine_state.proofs.Moving.{OnlyRoles, wake_only, rouse_only, on_task_only, on_task_tasks, chooses}
+use Rattle.machine_state.proofs.Moving.{OnlyRoles, wake_only, rouse_only, on_task_only, on_task_is, chooses}
 use Rattle.machine_state.proofs.Moving.{on_role_only}
-use Rattle.machine_state.proofs.Moving.{on_role_roles, without, is_last, with_opened, member_gone, joined_either}
+use Rattle.machine_state.proofs.Moving.{on_role_is, tasks_of_equal, roles_of_equal, without, is_last, with_opened}
+use Rattle.machine_state.proofs.Moving.{member_gone, joined_either}
 use Rattle.machine_state.proofs.Among.{IsAmong, filter_keeps, none_among}
 use Rattle.machine_state.proofs.Claims.{only_one, not_some}
 use Rattle.machine_state.proofs.EveryInstruction.{Wants, OfAsked, wants_asked, each_step}
@@ -303,7 +304,7 @@ rouses (Some q) v = on (slice_get v.tasks q) refl
     changed : (f : Task → Task) (t : Task) → slice_get v.tasks q ≡ Some t
         → Roused v.tasks (Some q) (slice_set v.tasks q (f t)) → Roused v.tasks (Some q) (on_task q f v).tasks
     changed f t here x =
-        subst (λ (ts : List Task). Roused v.tasks (Some q) ts) (sym (on_task_tasks q f v t here)) x
+        subst (λ (ts : List Task). Roused v.tasks (Some q) ts) (sym (tasks_of_equal (on_task_is q f v t here))) x
 
     deaf : (t : Task) → slice_get v.tasks q ≡ Some t → (Enables t.mode → ⊥) → (t.condition ≡ Alternating → ⊥)
         → Roused v.tasks (Some q) v.tasks
@@ -390,8 +391,8 @@ module _ (h : Here) (w : World) (runs : w.queue.running ≡ Some h.process)
       let v = record w { memory = m; tasks = slice_set w.tasks h.process u; channels = cells } in
       let only = wake_only other v in
       parts (wake other v) _ _ _ _ (changed x)
-      (on_task_tasks other (λ task. record task { condition = Ready }) v x.task
-      (got_other w.tasks h.process other u x.differ ∙ x.here)) only.roles only.channels only.links
+      (tasks_of_equal (on_task_is other (λ task. record task { condition = Ready }) v x.task
+      (got_other w.tasks h.process other u x.differ ∙ x.here))) only.roles only.channels only.links
 
   -- a branch starts
   begins_branch : IsOutside h.from.mode → (plan : Plan) (found : Found) (workspace : ℕ) (l : Local)
@@ -410,7 +411,7 @@ module _ (h : Here) (w : World) (runs : w.queue.running ≡ Some h.process)
       (starts (between h.next l.registers) role.0 j own child cells outside role.1 refl refl opening)
       (ap (λ (ts : List Task). ts ++ child ∷ []) only.tasks)
       (ap (λ (rs : List Role). rs ++ record { own = own; opener = Some h.process; opened = None } ∷ [])
-      (on_role_roles h.process (with_opened (Some j)) before role.0 role.1)) only.channels only.links
+      (roles_of_equal (on_role_is h.process (with_opened (Some j)) before role.0 role.1))) only.channels only.links
 
   -- a member of a join ends
   ends : (r : Registers) (o : ℕ) (roles : List Role) (x : Leaves h w o roles) (par : Par) (v : World)
@@ -425,11 +426,11 @@ module _ (h : Here) (w : World) (runs : w.queue.running ≡ Some h.process)
       let only = on_task_only o (closed_task x.join par) gone in
       let shut = on_role_only o (with_opened None) (on_task o (closed_task x.join par) gone) in
       parts (join.closed o x.join par gone) _ _ _ _ (closes_join r o roles x none par it.task it.here it.over)
-      (shut.tasks ∙ (on_task_tasks o (closed_task x.join par) gone it.task
-      (ap (λ (ts : List Task). slice_get ts o) same_tasks ∙ it.here)
+      (shut.tasks ∙ (tasks_of_equal (on_task_is o (closed_task x.join par) gone it.task
+      (ap (λ (ts : List Task). slice_get ts o) same_tasks ∙ it.here))
       ∙ ap (λ (ts : List Task). slice_set ts o (closed_task x.join par it.task)) same_tasks))
-      (on_role_roles o (with_opened None) (on_task o (closed_task x.join par) gone) fewer
-      (ap (λ (rs : List Role). slice_get rs o) (only.roles ∙ same_roles) ∙ got_set roles o x.role fewer x.here)
+      (roles_of_equal (on_role_is o (with_opened None) (on_task o (closed_task x.join par) gone) fewer
+      (ap (λ (rs : List Role). slice_get rs o) (only.roles ∙ same_roles) ∙ got_set roles o x.role fewer x.here))
       ∙ (ap (λ (rs : List Role). slice_set rs o (with_opened None fewer)) (only.roles ∙ same_roles)
       ∙ set_twice roles o fewer (with_opened None fewer)))
       (ap (λ (cs : List (Option Channel)). without_channels o cs) (shut.channels ∙ (only.channels ∙ same.channels
@@ -451,8 +452,8 @@ module _ (h : Here) (w : World) (runs : w.queue.running ≡ Some h.process)
       same_tasks = same.tasks ∙ tasks
 
       same_roles : gone.roles ≡ slice_set roles o fewer
-      same_roles = on_role_roles o (with_opened (Some (without h.process x.join))) v x.role
-          (ap (λ (rs : List Role). slice_get rs o) as_roles ∙ x.here)
+      same_roles = roles_of_equal (on_role_is o (with_opened (Some (without h.process x.join))) v x.role
+          (ap (λ (rs : List Role). slice_get rs o) as_roles ∙ x.here))
           ∙ ap (λ (rs : List Role). slice_set rs o fewer) as_roles
 
   disables_nothing : Disables h.from.mode → (b : Bool) (distance : ℤ) (l : Local)
@@ -536,7 +537,7 @@ module _ (h : Here) (w : World) (runs : w.queue.running ≡ Some h.process)
         is_open = theirs.2;
       } in
       ends r opener roles x par (given_back h (ended h l w)) only.tasks
-      (on_role_roles h.process gives (ended h l w) mine.0 mine.1) only.channels only.links (λ empty.
+      (roles_of_equal (on_role_is h.process gives (ended h l w) mine.0 mine.1)) only.channels only.links (λ empty.
       let over = opener_is_over w keeps h.process opener theirs.0 j theirs.1 theirs.2 differ empty in
       record {
         task = over.task;
@@ -611,12 +612,12 @@ module _ (m : Contents) (w : World) (keeps : WaitsIn w) where
           let v = with_input k (record link { waiting = None }) (record w { memory = memory }) in
           let only = wake_only p v in
           these (wake p v) _ _ (fills_last p k link here waiting x)
-          (on_task_tasks p (λ task. record task { condition = Ready }) v x.task x.here) only.roles only.channels
+          (tasks_of_equal (on_task_is p (λ task. record task { condition = Ready }) v x.task x.here)) only.roles only.channels
           only.links
       on false =
           let v = record w { memory = memory } in
           let only = on_task_only p waits v in
-          these (on_task p waits v) _ _ (fills_more p k x) (on_task_tasks p waits v x.task x.here) only.roles
+          these (on_task p waits v) _ _ (fills_more p k x) (tasks_of_equal (on_task_is p waits v x.task x.here)) only.roles
           only.channels only.links
 
   ended_so : (p pick : ℕ) (task : Task) → w.queue.running ≡ Some p → slice_get w.tasks p ≡ Some task
@@ -662,7 +663,7 @@ module _ (m : Contents) (w : World) (keeps : WaitsIn w) where
       let v = with_output k (record { waiting = None }) w in
       let only = wake_only p v in
       these (wake p v) _ _ (acknowledges p k output here waiting x)
-      (on_task_tasks p (λ task. record task { condition = Ready }) v x.task x.here) only.roles only.channels only.links
+      (tasks_of_equal (on_task_is p (λ task. record task { condition = Ready }) v x.task x.here)) only.roles only.channels only.links
 
 -- what is so of the loaded parts and kept by each event is so of the parts of every world that events lead to
 pub of_every_world : (m : Contents) (P : List Task → List Role → List (Option Channel) → Links → Type 0)

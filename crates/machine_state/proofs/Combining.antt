@@ -11,8 +11,8 @@ use Rattle.machine_state.specs.declared.fault.FaultKind.TheVariants.{Unaligned, 
 use Rattle.machine_state.specs.declared.fault.FaultKind.TheVariants.{EndNotHeld}
 use Rattle.machine_state.specs.declared.process.Mode.{Mode}
 use Rattle.machine_state.specs.declared.process.Mode.TheVariants.{Plain, Enabling, Disabling, Starting}
-use Rattle.machine_state.specs.Memory.{place_of, word_at, with_word, byte_at, with_byte}
-use Rattle.machine_state.specs.Holding.{may_write, may_read, may_write_word, may_read_word, has_end}
+use Rattle.machine_state.specs.Memory.{Memory, place_of, word_at, with_word, byte_at, with_byte}
+use Rattle.machine_state.specs.Holding.{Holding, may_write, may_read, may_write_word, may_read_word, has_end}
 use Rattle.machine_state.specs.LocalStep as step
 use Rattle.machine_state.specs.Site.{Site, Local, Outcome, goes, jumps, lands, fails}
 
@@ -108,21 +108,25 @@ module _ (R : Outcome → Outcome → Type 0) (at_fault : (kind : FaultKind) →
     unfolding step.channel
     channel v direction k k' h = aligned v _ _ (λ a e. holds _ EndNotHeld _ _ (h a))
 
-    pub reads : (address : ℕ) (l l' : Local) (k k' : Option ℤ → Outcome)
-        → (may_read_word s.holding (place_of address) ≡ true
-        → word_at l.memory (place_of address) ≡ word_at l'.memory (place_of address))
-        → ((v : Option ℤ) → R (k v) (k' v)) → R (step.reads s address l k) (step.reads s address l' k')
-    unfolding step.reads
-    reads address l l' k k' same h = passes (may_read_word s.holding (place_of address)) NotOwn _ _
-        (λ e. subst (λ v. R (k (word_at l.memory (place_of address))) (k' v)) (same e) (h _))
+    -- a step that reads something, of what may be read of it and what it reads
+    abbrev ReadsAlike : {A : Type 0} → (Site → ℕ → Local → (A → Outcome) → Outcome) → (Holding → ℕ → Bool)
+        → (Memory → ℕ → A) → Type 0
+    ReadsAlike {A} reading may at = (address : ℕ) (l l' : Local) (k k' : A → Outcome)
+        → (may s.holding (place_of address) ≡ true
+        → at l.memory (place_of address) ≡ at l'.memory (place_of address))
+        → ((v : A) → R (k v) (k' v)) → R (reading s address l k) (reading s address l' k')
 
-    pub reads_byte : (address : ℕ) (l l' : Local) (k k' : Option ℕ → Outcome)
-        → (may_read s.holding (place_of address) ≡ true
-        → byte_at l.memory (place_of address) ≡ byte_at l'.memory (place_of address))
-        → ((v : Option ℕ) → R (k v) (k' v)) → R (step.reads_byte s address l k) (step.reads_byte s address l' k')
+    read_passes : {A : Type 0} (b : Bool) (x y : A) (k k' : A → Outcome) → (b ≡ true → x ≡ y)
+        → ((v : A) → R (k v) (k' v)) → R (cond b (k x) (fails NotOwn)) (cond b (k' y) (fails NotOwn))
+    read_passes b x y k k' same h = passes b NotOwn _ _ (λ e. subst (λ v. R (k x) (k' v)) (same e) (h x))
+
+    pub reads : ReadsAlike step.reads may_read_word word_at
+    unfolding step.reads
+    reads address l l' k k' same h = read_passes _ _ _ k k' same h
+
+    pub reads_byte : ReadsAlike step.reads_byte may_read byte_at
     unfolding step.reads_byte
-    reads_byte address l l' k k' same h = passes (may_read s.holding (place_of address)) NotOwn _ _
-        (λ e. subst (λ v. R (k (byte_at l.memory (place_of address))) (k' v)) (same e) (h _))
+    reads_byte address l l' k k' same h = read_passes _ _ _ k k' same h
 
     pub writes : (address : ℕ) (v : Option ℤ) (l l' : Local) (k k' : Local → Outcome)
         → (may_write_word s.holding (place_of address) ≡ true

@@ -11,7 +11,7 @@ use Rattle.machine_state.specs.Joins.{on_role, joined, closed_task, without_chan
 use Rattle.machine_state.proofs.Lines.{got_set}
 use Rattle.machine_state.proofs.Moving.{on_task_only, on_role_only, with_opened, without, is_last, member_gone}
 use Rattle.machine_state.proofs.Moving.{joined_either}
-pub use Rattle.machine_state.proofs.Moving.{on_role_roles}
+use Rattle.machine_state.proofs.Moving.{on_role_is, roles_of_equal}
 use Rattle.machine_state.proofs.Among.{filter_keeps, none_among}
 use Rattle.machine_state.proofs.Claims.{Claim, claims}
 use Rattle.machine_state.proofs.Owners.{taken_owner, left_owner}
@@ -63,7 +63,7 @@ module _ (h : Here) (m : Contents) (o : ℕ) (j : Join) (par : Par) (v : World) 
   there = member_gone h o j v
 
   there_roles : there.roles ≡ slice_set v.roles o smaller
-  there_roles = on_role_roles o (with_opened (Some (without h.process j))) v r here
+  there_roles = roles_of_equal (on_role_is o (with_opened (Some (without h.process j))) v r here)
 
   there_channels : there.channels ≡ v.channels
   there_channels = on_role_channels o (with_opened (Some (without h.process j))) v
@@ -99,7 +99,7 @@ module _ (h : Here) (m : Contents) (o : ℕ) (j : Join) (par : Par) (v : World) 
       }) in
       carried m (slice_set over.roles o (with_opened None smaller)) (on_role o (with_opened None) over).roles
       (without_channels o over.channels) (without_channels o (on_role o (with_opened None) over).channels)
-      (on_role_roles o (with_opened None) over smaller at_over)
+      (roles_of_equal (on_role_is o (with_opened None) over smaller at_over))
       (ap (without_channels o) (on_role_channels o (with_opened None) over)) closed
 
   pub member_ends : HoldersIn m (joined h o j par v).roles (joined h o j par v).channels

@@ -16,25 +16,19 @@ use Rattle.machine_state.specs.Happens.{turn}
 use Rattle.machine_state.specs.SmallModules.{FirstEnds, JumpEnds, SlicedJumpEnds, CallEnds, LoopEnds, PairEnds}
 use Rattle.machine_state.specs.SmallModules.{PairFaults, EchoWaits, ChannelEnds, ChoiceWaits}
 
-pub one_process : FirstEnds × JumpEnds × SlicedJumpEnds × CallEnds × LoopEnds
+-- each module ends or waits with no fault, or with the fault that is told
+pub small_modules_end : FirstEnds × JumpEnds × SlicedJumpEnds × CallEnds × LoopEnds × PairEnds × PairFaults
+    × EchoWaits × ChannelEnds × ChoiceWaits
 unfolding turn local_step step_of instruction_of op_of instruction_step operation_step computes computed
     outside_alternation outside_starts while_enabling while_disabling uses reads writes reads_byte writes_byte schedules
     goes_on leads_to lands_at followed_by_code holds aligned channel counts exchanges copied all_places runs less
     parameters_at context_at place_of local_address word_at with_word may_write_word may_read_word dispatch
-one_process = (
+small_modules_end = (
   record { no_fault = refl; count = refl; finished = refl; nobody_runs = refl },
   record { no_fault = refl; count = refl; finished = refl; nobody_runs = refl },
   record { no_fault = refl; count = refl; finished = refl; nobody_runs = refl },
   record { no_fault = refl; count = refl; finished = refl; nobody_runs = refl },
   record { no_fault = refl; count = refl; finished = refl; nobody_runs = refl },
-)
-
-pub several : PairEnds × PairFaults × EchoWaits × ChannelEnds × ChoiceWaits
-unfolding turn local_step step_of instruction_of op_of instruction_step operation_step computes computed
-    outside_alternation outside_starts while_enabling while_disabling uses reads writes reads_byte writes_byte schedules
-    goes_on leads_to lands_at followed_by_code holds aligned channel counts exchanges copied all_places runs less
-    parameters_at context_at place_of local_address word_at with_word may_write_word may_read_word dispatch
-several = (
   (
     record { no_fault = refl; count = refl; finished = refl; nobody_runs = refl },
     record
@@ -65,4 +59,4 @@ several = (
   ),
 )
 
-pub ruleset small_modules = (one_process, several)
+pub ruleset small_modules = (small_modules_end)

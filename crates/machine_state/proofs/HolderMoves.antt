@@ -5,7 +5,7 @@ use Rattle.std.proofs.lemmas.Bool.{cases_eq}
 use Rattle.module_format.specs.Contents.{Par}
 use Rattle.machine_state.specs.declared.holding.End.{End}
 use Rattle.machine_state.specs.Memory.{place_of}
-use Rattle.machine_state.specs.Holding.{Holding, nothing, may_write, may_read}
+use Rattle.machine_state.specs.Holding.{Holding, nothing, may_write, may_read, has_end}
 use Rattle.machine_state.specs.World.{Join}
 use Rattle.machine_state.specs.Moves.{cell_of}
 use Rattle.machine_state.specs.Joins.{frame_address}
@@ -92,6 +92,41 @@ module _ {size : ℕ} {pars : List Par} {own : ℕ → Holding} {opener : ℕ �
   end_still later q (to_read x) still end = end
   end_still later q (to_use e) still end = (still (cell_of e.address) end.0, end.1)
 
+  -- an end that one holds is outside or lent, also in another's hands, if those above it are above the other too
+  stays_lent : (by owns : ℕ → Option ℕ) (s other : ℕ) (e : End)
+      → ((q : ℕ) → Under opener q s → Under by q other)
+      → ((q : ℕ) → Under opener q s → owner (cell_of e.address) ≡ Some q → owns (cell_of e.address) ≡ Some q)
+      → has_end (own s) e ≡ true
+      → (size ≤ place_of e.address) ⊎ (Lent by owns other (cell_of e.address) × IsWord e.address)
+  stays_lent by owns s other e under still held = elim (t.ends s e held) [
+    | inl outside ↦ inl outside
+    | inr lent ↦ inr (
+      record {
+        process = lent.0.process;
+        owned = still lent.0.process lent.0.above lent.0.owned;
+        above = under lent.0.process lent.0.above;
+      },
+      lent.1,
+    )
+  ]
+
+  -- other hands keep what joins rest on, if those who have a join open lose nothing
+  abbrev KeepOpen : (ℕ → Holding) → Type 0
+  KeepOpen later =
+      (q : ℕ) (x : Join) (c : Claim) → opened q ≡ Some x → claims (own q) c ≡ true → claims (later q) c ≡ true
+
+  still_within : (later : ℕ → Holding) → KeepOpen later → (q : ℕ) (x : Join) (c : Claim) → opened q ≡ Some x
+      → claims x.rest c ≡ true → (claims (later q) c ≡ true) ⊎ OwnEnd owner q c
+  still_within later keeps q x c now rest = elim (t.within q x c now rest) [
+    | inl mine ↦ inl (keeps q x c now mine)
+    | inr end ↦ inr end
+  ]
+
+  still_kept : (later : ℕ → Holding) → KeepOpen later → (q x : ℕ) → KeepsPlace opened owner q x
+      → may_write (later q) x ≡ true
+  still_kept later keeps q x place =
+      let k = keeper t q x place in keeps q k.0 (to_write x) k.1 (t.kept q x place)
+
   -- ---- a process gives back what it had, and has no join open
 
   module _ (p : ℕ) (later : ℕ → Holding) (g : GivesBack own later opened p) where
@@ -108,18 +143,17 @@ module _ {size : ℕ} {pars : List Par} {own : ℕ → Holding} {opener : ℕ �
     now : (q : ℕ) (c : Claim) → p ≢ q → claims (own q) c ≡ true → claims (later q) c ≡ true
     now q c differ claimed = subst (λ (h : Holding). claims h c ≡ true) (sym (g.others q differ)) claimed
 
+    open_ones_keep : KeepOpen later
+    open_ones_keep q x c is mine = now q c (is_other q x is) mine
+
     pub given_back : Holders size pars later opener opened owner
     given_back = record {
       rises = t.rises;
       counted = λ s o c is claimed. t.counted s o c is (was s c claimed);
       inside = λ q x written. t.inside q x (was q (to_write x) written);
       ends = λ q e held. t.ends q e (was q (to_use e) held);
-      within = λ q j c is rest. elim (t.within q j c is rest) [
-        | inl mine ↦ inl (now q c (is_other q j is) mine)
-        | inr end ↦ inr end
-      ];
-      kept = λ q x keeps.
-          let k = keeper t q x keeps in now q (to_write x) (is_other q k.0 k.1) (t.kept q x keeps);
+      within = still_within later open_ones_keep;
+      kept = still_kept later open_ones_keep;
       hidden = t.hidden;
       both = t.both;
       opens = t.opens;
@@ -269,18 +303,9 @@ module _ {size : ℕ} {pars : List Par} {own : ℕ → Holding} {opener : ℕ �
       rises = t.rises;
       counted = counts_still;
       inside = t.inside;
-      ends = λ s e held. elim (t.ends s e held) [
-        | inl outside ↦ inl outside
-        | inr lent ↦ inr (
-          record {
-            process = lent.0.process;
-            owned = g.still (cell_of e.address) lent.0.process
-                (λ same. alone s (to_use e) (subst (λ n. Under opener n s) (sym same) lent.0.above) held) lent.0.owned;
-            above = lent.0.above;
-          },
-          lent.1,
-        )
-      ];
+      ends = λ s e held. stays_lent opener owns s s e (λ q above. above)
+          (λ q above. g.still (cell_of e.address) q
+          (λ same. alone s (to_use e) (subst (λ n. Under opener n s) (sym same) above) held)) held;
       within = λ q x c now rest.
           let w = was_open q x now in
           elim (t.within q x c w.0 rest) [
@@ -341,17 +366,7 @@ module _ {size : ℕ} {pars : List Par} {own : ℕ → Holding} {opener : ℕ �
       rises = t.rises;
       counted = counts_on;
       inside = t.inside;
-      ends = λ s e held. elim (t.ends s e held) [
-        | inl outside ↦ inl outside
-        | inr lent ↦ inr (
-          record {
-            process = lent.0.process;
-            owned = g.still (cell_of e.address) lent.0.process lent.0.owned;
-            above = lent.0.above;
-          },
-          lent.1,
-        )
-      ];
+      ends = λ s e. stays_lent opener owns s s e (λ q above. above) (λ q above. g.still (cell_of e.address) q);
       within = λ q x c now claimed. elim (cases_eq p q) [
         | inl e ↦ it_is (λ n y. claims y.rest c ≡ true → (claims (own n) c ≡ true) ⊎ OwnEnd owns n c) (g.rest c) q x e
             now claimed
@@ -517,23 +532,16 @@ module _ {size : ℕ} {pars : List Par} {own : ℕ → Holding} {opener : ℕ �
         → (size ≤ place_of e.address) ⊎ (Lent by owner new (cell_of e.address) × IsWord e.address)
     new_ends e (inl far) = absurd far
     new_ends e (inr gift) = elim gift.from [
-      | inl mine ↦ elim (t.ends p e mine) [
-        | inl outside ↦ inl outside
-        | inr lent ↦ inr (
-          record {
-            process = lent.0.process;
-            owned = lent.0.owned;
-            above = under_new lent.0.process lent.0.above;
-          },
-          lent.1,
-        )
-      ]
+      | inl mine ↦ stays_lent by owner p new e under_new (λ q above owned. owned) mine
       | inr end ↦ inr (record { process = p; owned = end.0; above = is_under }, end.1)
     ]
 
     new_inside : (x : ℕ) → IsBehind size (to_write x) ⊎ Given (to_write x) → x < size
     new_inside x (inl far) = absurd far
     new_inside x (inr gift) = elim gift.from [ inl mine ↦ t.inside p x mine | inr end ↦ absurd end ]
+
+    old_ones_keep : KeepOpen later
+    old_ones_keep q x c now mine = claimed_after q c (has_none q x now) mine
 
     pub comes : Holders size pars later by opened owner
     comes = record {
@@ -557,24 +565,11 @@ module _ {size : ℕ} {pars : List Par} {own : ℕ → Holding} {opener : ℕ �
       ends = λ s e held. elim (cases_eq new s) [
         | inl same ↦ subst (λ n. (size ≤ place_of e.address) ⊎ (Lent by owner n (cell_of e.address) × IsWord e.address))
             same (new_ends e (given_it s (to_use e) same held))
-        | inr differ ↦ elim (t.ends s e (claimed_before s (to_use e) differ held)) [
-          | inl outside ↦ inl outside
-          | inr lent ↦ inr (
-            record {
-              process = lent.0.process;
-              owned = lent.0.owned;
-              above = under_after lent.0.process s lent.0.above;
-            },
-            lent.1,
-          )
-        ]
+        | inr differ ↦ stays_lent by owner s s e (λ q above. under_after q s above) (λ q above owned. owned)
+            (claimed_before s (to_use e) differ held)
       ];
-      within = λ q x c now rest. elim (t.within q x c now rest) [
-        | inl mine ↦ inl (claimed_after q c (has_none q x now) mine)
-        | inr end ↦ inr end
-      ];
-      kept = λ q x keeps.
-          let k = keeper t q x keeps in claimed_after q (to_write x) (has_none q k.0 k.1) (t.kept q x keeps);
+      within = still_within later old_ones_keep;
+      kept = still_kept later old_ones_keep;
       hidden = t.hidden;
       both = t.both;
       opens = t.opens;

@@ -46,3 +46,4 @@ pub mod WhoWaitsOnLinks
 pub mod WaitingOnce
 pub mod EnabledIsHeld
 pub mod ReadyStays
+pub mod InOrder

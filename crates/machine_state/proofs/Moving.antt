@@ -10,7 +10,7 @@ use Rattle.machine_state.specs.declared.process.Mode.TheVariants.{Plain, Enablin
 use Rattle.machine_state.specs.declared.process.Condition.{Condition}
 use Rattle.machine_state.specs.declared.process.Condition.TheVariants.{Ready, Sending, Receiving, OnLink, Alternating}
 use Rattle.machine_state.specs.declared.process.Condition.TheVariants.{Stopped, Ended}
-use Rattle.machine_state.specs.World.{World, Join, Role}
+use Rattle.machine_state.specs.World.{World, Join, Role, Queue}
 use Rattle.machine_state.specs.Site.{Local}
 use Rattle.machine_state.specs.LocalStep.{with_a_alone}
 use Rattle.machine_state.specs.declared.process.Registers.{Registers}
@@ -33,9 +33,9 @@ pub record OnlyTasks (w after : World) : Type 0 where
   pub fault : after.fault ≡ w.fault
   pub size : length after.tasks ≡ length w.tasks
 
-tasks_only : (w : World) (tasks : List Task) → length tasks ≡ length w.tasks
-    → OnlyTasks w (record w { tasks = tasks })
-tasks_only w tasks size = record {
+tasks_only : (w : World) (tasks : List Task) (queue : Queue) → length tasks ≡ length w.tasks
+    → OnlyTasks w (record w { tasks = tasks; queue = queue })
+tasks_only w tasks queue size = record {
   memory = refl;
   roles = refl;
   links = refl;
@@ -46,7 +46,7 @@ tasks_only w tasks size = record {
 }
 
 nothing_changes : (w : World) → OnlyTasks w w
-nothing_changes w = tasks_only w w.tasks refl
+nothing_changes w = tasks_only w w.tasks w.queue refl
 
 pub on_task_only : (p : ℕ) (f : Task → Task) (w : World) → OnlyTasks w (on_task p f w)
 on_task_only p f w = on (slice_get w.tasks p)
@@ -54,7 +54,7 @@ on_task_only p f w = on (slice_get w.tasks p)
     on : (o : Option Task) → OnlyTasks w
         (elim o [ None ↦ w | Some task ↦ record w { tasks = slice_set w.tasks p (f task) } ])
     on None = nothing_changes w
-    on (Some task) = tasks_only w (slice_set w.tasks p (f task)) (length-set w.tasks p (f task))
+    on (Some task) = tasks_only w (slice_set w.tasks p (f task)) w.queue (length-set w.tasks p (f task))
 
 -- what is made of one that is there
 pub at_some : {A B : Type 0} (o : Option A) (x : A) (none : B) (some : A → B) → o ≡ Some x
@@ -62,28 +62,29 @@ pub at_some : {A B : Type 0} (o : Option A) (x : A) (none : B) (some : A → B) 
 at_some {A} {B} o x none some is =
     ap (λ (o : Option A). elim o as (λ o. B) [ None ↦ none | Some y ↦ some y ]) is
 
--- the world after a task was changed that is there, and its tasks
+-- the world after a task was changed that is there
 pub on_task_is : (q : ℕ) (f : Task → Task) (w : World) (t : Task) → slice_get w.tasks q ≡ Some t
     → on_task q f w ≡ record w { tasks = slice_set w.tasks q (f t) }
 on_task_is q f w t here =
     at_some (slice_get w.tasks q) t w (λ task. record w { tasks = slice_set w.tasks q (f task) }) here
 
-pub on_task_tasks : (q : ℕ) (f : Task → Task) (w : World) (t : Task) → slice_get w.tasks q ≡ Some t
-    → (on_task q f w).tasks ≡ slice_set w.tasks q (f t)
-on_task_tasks q f w t here = ap (λ (v : World). v.tasks) (on_task_is q f w t here)
+-- equal worlds have the same tasks, and the same roles
+pub tasks_of_equal : {v w : World} → v ≡ w → v.tasks ≡ w.tasks
+tasks_of_equal same = ap (λ (x : World). x.tasks) same
+
+pub roles_of_equal : {v w : World} → v ≡ w → v.roles ≡ w.roles
+roles_of_equal same = ap (λ (x : World). x.roles) same
 
 pub wake_only : (p : ℕ) (w : World) → OnlyTasks w (wake p w)
-wake_only p w =
-    let only = on_task_only p (λ task. record task { condition = Ready }) w in
-    record {
-      memory = only.memory;
-      roles = only.roles;
-      links = only.links;
-      channels = only.channels;
-      counters = only.counters;
-      fault = only.fault;
-      size = only.size;
-    }
+wake_only p w = on (slice_get w.tasks p)
+  where
+    ready : Task → Task
+    ready task = record task { condition = Ready }
+
+    on : (o : Option Task) → OnlyTasks w (enqueue p
+        (elim o [ None ↦ w | Some task ↦ record w { tasks = slice_set w.tasks p (ready task) } ]))
+    on None = tasks_only w w.tasks _ refl
+    on (Some task) = tasks_only w (slice_set w.tasks p (ready task)) _ (length-set w.tasks p (ready task))
 
 pub rouse_only : (o : Option ℕ) (w : World) → OnlyTasks w (rouse o w)
 rouse_only None w = nothing_changes w
@@ -203,15 +204,11 @@ on_role_only p f w = on (slice_get w.roles p)
     on (Some role) =
         record { quiet = record { memory = refl; counters = refl }; tasks = refl; links = refl; channels = refl }
 
--- the world after a role was changed that is there, and its roles
+-- the world after a role was changed that is there
 pub on_role_is : (p : ℕ) (f : Role → Role) (w : World) (r : Role) → slice_get w.roles p ≡ Some r
     → on_role p f w ≡ record w { roles = slice_set w.roles p (f r) }
 on_role_is p f w r here =
     at_some (slice_get w.roles p) r w (λ role. record w { roles = slice_set w.roles p (f role) }) here
-
-pub on_role_roles : (p : ℕ) (f : Role → Role) (w : World) (r : Role) → slice_get w.roles p ≡ Some r
-    → (on_role p f w).roles ≡ slice_set w.roles p (f r)
-on_role_roles p f w r here = ap (λ (v : World). v.roles) (on_role_is p f w r here)
 
 -- ---- a member of a join ends
 

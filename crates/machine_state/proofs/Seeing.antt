@@ -162,33 +162,47 @@ module _ (seen : ℕ → Bool) where
     tested true t t' u u' p q = p refl
     tested false t t' u u' p q = q refl
 
+    -- at a link's end, or inside
+    at_end : (o : Option ℕ) (outside outside' : ℕ → Turn) (inside inside' : Turn)
+        → ((k : ℕ) → o ≡ Some k → SameTurn seen (outside k) (outside' k)) → (o ≡ None → SameTurn seen inside inside')
+        → SameTurn seen (elim o as (λ o. Turn) [ Some k ↦ outside k | None ↦ inside ])
+        (elim o as (λ o. Turn) [ Some k ↦ outside' k | None ↦ inside' ])
+    at_end None outside outside' inside inside' p q = q refl
+    at_end (Some k) outside outside' inside inside' p q = p k refl
+
     follows : (t t' : Turn) → SameTurn seen t t' → SameTurn seen (followed h t w) (followed h t' w')
     follows t t' same = tested (nat_lt h.next (length h.contents.code)) t t' (failed h OutsideCode w)
         (failed h OutsideCode w') (λ e. same) (λ e. fails_alike OutsideCode)
 
     -- ---- messages
 
+    -- two processes meet, if their messages are of one length
+    meets_alike : (b : Bool) (other : ℕ) (source to : Exchange) (c : Channel) (r : Registers) (m n : Memory)
+        → Agree seen m n → Covers seen (place_of source.address) source.length
+        → SameTurn seen
+        (if b then followed h (answered turn.ran (counted (met h other source to c (here r m) w))) w
+        else failed h UnequalLengths w)
+        (if b then followed h (answered turn.ran (counted (met h other source to c (here r n) w'))) w'
+        else failed h UnequalLengths w')
+    meets_alike b other source to c r m n agree covers = tested b _ _ _ _
+        (λ same. follows _ _ (moves turn.ran (λ v. counted (wake other (with_channel source.channel
+        (record c { waiting = None }) v))) (λ v n. ap counted (wake_blind other
+        (with_channel source.channel (record c { waiting = None }) v) n))
+        (continued h h.next (record (here r m) {
+          memory = step.copied m (place_of source.address) (place_of to.address) source.length m;
+        }) w)
+        (step.copied n (place_of source.address) (place_of to.address) source.length n)
+        (copy_agrees seen m n (place_of source.address) (place_of to.address) source.length agree covers)))
+        (λ differ. fails_alike UnequalLengths)
+
     pub received_from : (e : Exchange) (c : Channel) (r : Registers) (m n : Memory) → Agree seen m n → (other : ℕ)
         → (condition : Condition)
         → ((sent : Exchange) → sent_by condition ≡ Some sent → Covers seen (place_of sent.address) sent.length)
         → SameTurn seen (exchange.received_from h e c (here r m) w other condition)
         (exchange.received_from h e c (here r n) w' other condition)
-    received_from e c r m n agree other (Sending sent) covers = tested (sent.length == e.length) _ _ _ _
-        (λ same. follows _ _ (moves turn.ran (λ v. counted (wake other (with_channel sent.channel
-        (record c { waiting = None }) v))) (λ v n. ap counted (wake_blind other
-        (with_channel sent.channel (record c { waiting = None }) v) n))
-        (continued h h.next (record (here r m) {
-          memory = step.copied m (place_of sent.address) (place_of e.address) sent.length m;
-        }) w)
-        (step.copied n (place_of sent.address) (place_of e.address) sent.length n)
-        (copy_agrees seen m n (place_of sent.address) (place_of e.address) sent.length agree (covers sent refl))))
-        (λ differ. fails_alike UnequalLengths)
-    received_from e c r m n agree other Ready covers = fails_alike EndNotHeld
-    received_from e c r m n agree other (Receiving x) covers = fails_alike EndNotHeld
-    received_from e c r m n agree other (OnLink x done) covers = fails_alike EndNotHeld
-    received_from e c r m n agree other Alternating covers = fails_alike EndNotHeld
-    received_from e c r m n agree other Stopped covers = fails_alike EndNotHeld
-    received_from e c r m n agree other Ended covers = fails_alike EndNotHeld
+    received_from e c r m n agree other (Sending sent) covers =
+        meets_alike (sent.length == e.length) other sent e c r m n agree (covers sent refl)
+    received_from e c r m n agree other _ covers = fails_alike EndNotHeld
 
     -- it waits in its turn
     waits_alike : (condition : Condition) (r : Registers) (m n : Memory) → Agree seen m n → (move : World → World)
@@ -201,7 +215,10 @@ module _ (seen : ℕ → Bool) where
     received : (e : Exchange) (r : Registers) (m n : Memory) → Agree seen m n
         → ((sent : Exchange) → sent_on w e ≡ Some sent → Covers seen (place_of sent.address) sent.length)
         → SameTurn seen (exchange.received h e (here r m) w) (exchange.received h e (here r n) w')
-    received e r m n agree covers = on_link (input_link e.channel) refl
+    received e r m n agree covers =
+        at_end (input_link e.channel) (λ k. exchange.received_outside h k e (here r m) w)
+        (λ k. exchange.received_outside h k e (here r n) w') _ _ (λ k is. on_input k (slice_get w.links.inputs k))
+        (λ inside. on_channel inside (channel_at w e.channel) refl)
       where
         on_waiting : (c : Channel) → input_link e.channel ≡ None → channel_at w e.channel ≡ Some c
             → (o : Option ℕ) → c.waiting ≡ o → SameTurn seen (elim o as (λ o. Turn) [
@@ -277,43 +294,22 @@ module _ (seen : ℕ → Bool) where
         on_input k (Some link) = tested (link_length h.contents (4 + k) == e.length) _ _ _ _
             (λ same. follows _ _ (on_kept k link link.kept)) (λ differ. fails_alike UnequalLengths)
 
-        on_link : (o : Option ℕ) → input_link e.channel ≡ o → SameTurn seen (elim o as (λ o. Turn) [
-          | Some k ↦ exchange.received_outside h k e (here r m) w
-          | None ↦ elim (channel_at w e.channel) as (λ o. Turn)
-              [ None ↦ failed h EndNotHeld w | Some c ↦ exchange.received_inside h e c (here r m) w ]
-        ]) (elim o as (λ o. Turn) [
-          | Some k ↦ exchange.received_outside h k e (here r n) w'
-          | None ↦ elim (channel_at w e.channel) as (λ o. Turn)
-              [ None ↦ failed h EndNotHeld w' | Some c ↦ exchange.received_inside h e c (here r n) w' ]
-        ])
-        on_link None is = on_channel is (channel_at w e.channel) refl
-        on_link (Some k) is = on_input k (slice_get w.links.inputs k)
-
     sent_to : (e : Exchange) (c : Channel) (r : Registers) (m n : Memory) → Agree seen m n
         → Covers seen (place_of e.address) e.length → (other : ℕ) (condition : Condition)
         → SameTurn seen (exchange.sent_to h e c (here r m) w other condition)
         (exchange.sent_to h e c (here r n) w' other condition)
-    sent_to e c r m n agree covers other (Receiving wanted) = tested (wanted.length == e.length) _ _ _ _
-        (λ same. follows _ _ (moves turn.ran (λ v. counted (wake other (with_channel e.channel
-        (record c { waiting = None }) v))) (λ v n. ap counted (wake_blind other
-        (with_channel e.channel (record c { waiting = None }) v) n))
-        (continued h h.next (record (here r m) {
-          memory = step.copied m (place_of e.address) (place_of wanted.address) e.length m;
-        }) w)
-        (step.copied n (place_of e.address) (place_of wanted.address) e.length n)
-        (copy_agrees seen m n (place_of e.address) (place_of wanted.address) e.length agree covers)))
-        (λ differ. fails_alike UnequalLengths)
-    sent_to e c r m n agree covers other Ready = fails_alike EndNotHeld
-    sent_to e c r m n agree covers other (Sending x) = fails_alike EndNotHeld
-    sent_to e c r m n agree covers other (OnLink x done) = fails_alike EndNotHeld
-    sent_to e c r m n agree covers other Alternating = fails_alike EndNotHeld
-    sent_to e c r m n agree covers other Stopped = fails_alike EndNotHeld
-    sent_to e c r m n agree covers other Ended = fails_alike EndNotHeld
+    sent_to e c r m n agree covers other (Receiving wanted) =
+        meets_alike (wanted.length == e.length) other e wanted c r m n agree covers
+    sent_to e c r m n agree covers other _ = fails_alike EndNotHeld
 
     sent : (e : Exchange) (r : Registers) (m n : Memory) → Agree seen m n
         → Covers seen (place_of e.address) e.length
         → SameTurn seen (exchange.sent h e (here r m) w) (exchange.sent h e (here r n) w')
-    sent e r m n agree covers = on_link (output_link e.channel)
+    sent e r m n agree covers =
+        at_end (output_link e.channel) (λ k. exchange.sent_outside h k e (here r m) w)
+        (λ k. exchange.sent_outside h k e (here r n) w') _ _ (λ k is. tested (link_length h.contents k == e.length) _ _ _ _
+        (λ same. follows _ _ (goes_out k)) (λ differ. fails_alike UnequalLengths))
+        (λ inside. on_channel (channel_at w e.channel))
       where
         on_waiting : (c : Channel) (o : Option ℕ) → SameTurn seen (elim o as (λ o. Turn) [
           | None ↦ followed h (answered turn.ran (left h
@@ -351,19 +347,6 @@ module _ (seen : ℕ → Bool) where
             (λ v. left h (with_output k (record { waiting = Some h.process }) v))
             (then_blind (with_output k (record { waiting = Some h.process })) (left h) (λ v n. refl) (left_blind h))
             (waiting h (OnLink e 0) (here r m) w) n agree)
-
-        on_link : (o : Option ℕ) → SameTurn seen (elim o as (λ o. Turn) [
-          | Some k ↦ exchange.sent_outside h k e (here r m) w
-          | None ↦ elim (channel_at w e.channel) as (λ o. Turn)
-              [ None ↦ failed h EndNotHeld w | Some c ↦ exchange.sent_inside h e c (here r m) w ]
-        ]) (elim o as (λ o. Turn) [
-          | Some k ↦ exchange.sent_outside h k e (here r n) w'
-          | None ↦ elim (channel_at w e.channel) as (λ o. Turn)
-              [ None ↦ failed h EndNotHeld w' | Some c ↦ exchange.sent_inside h e c (here r n) w' ]
-        ])
-        on_link None = on_channel (channel_at w e.channel)
-        on_link (Some k) = tested (link_length h.contents k == e.length) _ _ _ _
-            (λ same. follows _ _ (goes_out k)) (λ differ. fails_alike UnequalLengths)
 
     -- ---- alternations
 

@@ -2,10 +2,10 @@
 use Rattle.std.proofs.Common.{◌≡◌, ℕ, zero, suc, ◌<◌, ◌≤◌, Bool, true, false, cond, List, [], ◌∷◌, ◌++◌, length}
 use Rattle.std.proofs.Common.{get_or, set, replicate, map, Option, Some, None, refl, ap, ◌∙◌, arith}
 use Rattle.std.proofs.lemmas.List.{set_past, append_assoc, length-replicate}
-use Rattle.std.proofs.Common.{◌+◌, ◌-◌, ◌⊎◌, inl, inr, ◌&&◌, is_some, sym, take, drop, drop-cons}
+use Rattle.std.proofs.Common.{◌+◌, ◌-◌, ◌⊎◌, inl, inr, ◌&&◌, is_some, sym, subst, take, drop, drop-cons}
 use Rattle.std.proofs.lemmas.Bool.Decides.{leb_tells}
 use Rattle.std.specs.Option.{unwrap_or}
-use Rattle.machine_state.specs.Memory.{byte_at}
+use Rattle.machine_state.specs.Memory.{Memory, byte_at}
 use Rattle.machine_state.specs.Spans.{all_places}
 use Rattle.machine_state.specs.Exchanges.{bytes_at}
 use Rattle.machine_state.specs.Tagged.{tagged_cells}
@@ -112,7 +112,8 @@ and_both true true e = (refl, refl)
 and_both true false e = absurd (cc)
 and_both false b e = absurd (cc)
 
-abbrev is_defined : List ℕ → List Bool → ℕ → Bool
+-- whether the byte at a place is defined
+abbrev pub is_defined : List ℕ → List Bool → ℕ → Bool
 is_defined bytes tags place = is_some (byte_at (tagged_cells bytes tags) place)
 
 -- a byte that is defined lies inside, and is the one there
@@ -155,12 +156,26 @@ lent_from bytes tags place (suc n) same defined =
     ∙ ap (λ (p : ℕ). take n (drop p bytes)) next)
     ∙ sym (ap (take (suc n)) (drop-cons bytes place 0 here.0))
 
-pub lent : (bytes : List ℕ) (tags : List Bool) (place count : ℕ) → length tags ≡ length bytes
+-- so many bytes of a memory, which bytes and tags of one length make, are defined
+pub record Defines (cells : Memory) (bytes : List ℕ) (tags : List Bool) (place count : ℕ) : Type 0 where
+  pub same : length tags ≡ length bytes
+  pub made : tagged_cells bytes tags ≡ cells
+  pub defined : all_places (λ p. is_some (byte_at cells p)) place count ≡ true
+
+defined_bytes : {cells : Memory} (bytes : List ℕ) (tags : List Bool) (place count : ℕ)
+    → Defines cells bytes tags place count
     → all_places (λ p. is_some (byte_at (tagged_cells bytes tags) p)) place count ≡ true
-    → take (place + count - place) (drop place bytes) ≡ bytes_at (tagged_cells bytes tags) place count
-lent bytes tags place count same defined =
+defined_bytes bytes tags place count d =
+    subst (λ (m : Memory). all_places (λ p. is_some (byte_at m p)) place count ≡ true) (sym d.made) d.defined
+
+pub lent : {cells : Memory} (bytes : List ℕ) (tags : List Bool) (place count : ℕ)
+    → Defines cells bytes tags place count
+    → take (place + count - place) (drop place bytes) ≡ bytes_at cells place count
+lent bytes tags place count d =
     let all : place + count - place ≡ count = omega arith in
-    ap (λ (n : ℕ). take n (drop place bytes)) all ∙ sym (lent_from bytes tags place count same defined)
+    ap (λ (n : ℕ). take n (drop place bytes)) all
+    ∙ (sym (lent_from bytes tags place count d.same (defined_bytes bytes tags place count d))
+    ∙ ap (λ (m : Memory). bytes_at m place count) d.made)
 
 lent_within : (bytes : List ℕ) (tags : List Bool) (place count : ℕ) → length tags ≡ length bytes
     → all_places (λ p. is_some (byte_at (tagged_cells bytes tags) p)) place count ≡ true → 0 < count
@@ -178,12 +193,12 @@ lent_within bytes tags place (suc (suc n)) same defined some =
     omega (arith, later)
 
 -- where they would not lie inside, there are none
-pub lent_outside : (bytes : List ℕ) (tags : List Bool) (place count : ℕ) → length tags ≡ length bytes
-    → all_places (λ p. is_some (byte_at (tagged_cells bytes tags) p)) place count ≡ true
-    → (place + count < place) ⊎ (length bytes < place + count)
-    → [] ≡ bytes_at (tagged_cells bytes tags) place count
-lent_outside bytes tags place zero same defined outside = refl
-lent_outside bytes tags place (suc n) same defined (inl before) = absurd (omega arith)
-lent_outside bytes tags place (suc n) same defined (inr past) =
-    let inside = lent_within bytes tags place (suc n) same defined (omega arith) in
+pub lent_outside : {cells : Memory} (bytes : List ℕ) (tags : List Bool) (place count : ℕ)
+    → Defines cells bytes tags place count
+    → (place + count < place) ⊎ (length bytes < place + count) → [] ≡ bytes_at cells place count
+lent_outside bytes tags place zero d outside = refl
+lent_outside bytes tags place (suc n) d (inl before) = absurd (omega arith)
+lent_outside bytes tags place (suc n) d (inr past) =
+    let defined = defined_bytes bytes tags place (suc n) d in
+    let inside = lent_within bytes tags place (suc n) d.same defined (omega arith) in
     absurd (omega arith)

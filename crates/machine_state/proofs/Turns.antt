@@ -177,42 +177,73 @@ module _ (h : Here) (w : World) where
     is_followed t p = by_test (nat_lt h.next (length h.contents.code)) t (failed h OutsideCode w) (λ e. p)
         (λ e. at_fault OutsideCode)
 
+    -- a message of the length that the other side wants, and the next instruction inside the code
+    of_one_length : (b : Bool) (t : Turn) → (b ≡ true → Ends h w o t)
+        → Ends h w o (if b then followed h t w else failed h UnequalLengths w)
+    of_one_length b t p = by_test b _ _ (λ same. is_followed t (p same)) (λ differ. at_fault UnequalLengths)
+
   -- ---- messages
 
-  -- on the channel at an address nobody waits, or another process does
-  at_channel : (o : Outcome) (address : ℕ) (first : Channel → Turn) (second : Channel → ℕ → Turn)
-      → ((c : Channel) → channel_at w address ≡ Some c → c.waiting ≡ None → Ends h w o (first c))
-      → ((c : Channel) (other : ℕ) → channel_at w address ≡ Some c → c.waiting ≡ Some other
-      → Ends h w o (second c other))
-      → Ends h w o (elim (channel_at w address) [
-        | None ↦ failed h EndNotHeld w
-        | Some c ↦ elim c.waiting [ None ↦ first c | Some other ↦ second c other ]
-      ])
-  at_channel o address first second p q = on (channel_at w address) refl
-    where
-      on_waiting : (c : Channel) → channel_at w address ≡ Some c → (waiting : Option ℕ) → c.waiting ≡ waiting
-          → Ends h w o (elim waiting [ None ↦ first c | Some other ↦ second c other ])
-      on_waiting c here None is = p c here is
-      on_waiting c here (Some other) is = q c other here is
+  -- what comes of a message by what the process waits for that is at its channel
+  abbrev AtPartner : Outcome → Exchange → (ℕ → Option ℕ) → (Channel → ℕ → Condition → Turn) → Type 0
+  AtPartner o e link met_by = (c : Channel) (other : ℕ) → link e.channel ≡ None → channel_at w e.channel ≡ Some c
+      → c.waiting ≡ Some other → (condition : Condition) → condition_of w other ≡ condition
+      → Ends h w o (met_by c other condition)
 
-      on : (c : Option Channel) → channel_at w address ≡ c → Ends h w o (elim c [
-        | None ↦ failed h EndNotHeld w
-        | Some c ↦ elim c.waiting [ None ↦ first c | Some other ↦ second c other ]
+  -- a channel is a link's end, or lies inside, where nobody waits, or another process does
+  at_end : (o : Outcome) (e : Exchange) (link : ℕ → Option ℕ) (outside : ℕ → Turn) (first : Channel → Turn)
+      (met_by : Channel → ℕ → Condition → Turn)
+      → ((c : Channel) → link e.channel ≡ None → channel_at w e.channel ≡ Some c → c.waiting ≡ None
+      → Ends h w o (first c))
+      → AtPartner o e link met_by → ((k : ℕ) → link e.channel ≡ Some k → Ends h w o (outside k))
+      → Ends h w o (elim (link e.channel) [
+        | Some k ↦ outside k
+        | None ↦ elim (channel_at w e.channel) [
+          | None ↦ failed h EndNotHeld w
+          | Some c ↦ elim c.waiting
+              [ None ↦ followed h (first c) w | Some other ↦ met_by c other (condition_of w other) ]
+        ]
       ])
-      on None is = at_fault EndNotHeld
-      on (Some c) is = on_waiting c is c.waiting refl
+  at_end o e link outside first met_by p q r = on_link (link e.channel) refl
+    where
+      on_waiting : link e.channel ≡ None → (c : Channel) → channel_at w e.channel ≡ Some c
+          → (waiting : Option ℕ) → c.waiting ≡ waiting
+          → Ends h w o (elim waiting
+          [ None ↦ followed h (first c) w | Some other ↦ met_by c other (condition_of w other) ])
+      on_waiting inside c here None is = is_followed o (first c) (p c inside here is)
+      on_waiting inside c here (Some other) is = q c other inside here is (condition_of w other) refl
+
+      on_channel : link e.channel ≡ None → (c : Option Channel) → channel_at w e.channel ≡ c → Ends h w o (elim c [
+        | None ↦ failed h EndNotHeld w
+        | Some c ↦ elim c.waiting
+            [ None ↦ followed h (first c) w | Some other ↦ met_by c other (condition_of w other) ]
+      ])
+      on_channel inside None is = at_fault EndNotHeld
+      on_channel inside (Some c) is = on_waiting inside c is c.waiting refl
+
+      on_link : (k : Option ℕ) → link e.channel ≡ k → Ends h w o (elim k [
+        | Some k ↦ outside k
+        | None ↦ elim (channel_at w e.channel) [
+          | None ↦ failed h EndNotHeld w
+          | Some c ↦ elim c.waiting
+              [ None ↦ followed h (first c) w | Some other ↦ met_by c other (condition_of w other) ]
+        ]
+      ])
+      on_link None inside = on_channel inside (channel_at w e.channel) refl
+      on_link (Some k) is = r k is
 
   received_ends : (e : Exchange) (l : Local) → Ends h w (receives e l) (exchange.received h e l w)
-  received_ends e l = on_link (input_link e.channel) refl
+  received_ends e l =
+      at_end (receives e l) e input_link (λ k. exchange.received_outside h k e l w)
+      (λ c. answered ran (left h (waits_at h (Receiving e) e.channel c l w)))
+      (λ c. exchange.received_from h e c l w)
+      (λ c inside here nobody. has_run (receives_first e l c inside here nobody)) on_partner
+      (λ k is. on_input k is (slice_get w.links.inputs k) refl)
     where
-      on_partner : (c : Channel) (other : ℕ) → input_link e.channel ≡ None → channel_at w e.channel ≡ Some c
-          → c.waiting ≡ Some other → (condition : Condition) → condition_of w other ≡ condition
-          → Ends h w (receives e l) (exchange.received_from h e c l w other condition)
-      on_partner c other inside here partner (Sending sent) is =
-          by_test (receives e l) (sent.length == e.length) _ _
-          (λ same. is_followed (receives e l) _ (has_run (receives_from e l c other sent inside here partner is same)))
-          (λ differ. at_fault UnequalLengths)
-      on_partner c other inside here partner _ is = at_fault EndNotHeld
+      on_partner : AtPartner (receives e l) e input_link (λ c. exchange.received_from h e c l w)
+      on_partner c other inside here who (Sending sent) is =
+          of_one_length (receives e l) _ _ (λ same. has_run (receives_from e l c other sent inside here who is same))
+      on_partner c other inside here who _ is = at_fault EndNotHeld
 
       on_kept : (k : ℕ) (link : InputLink) → input_link e.channel ≡ Some k → slice_get w.links.inputs k ≡ Some link
           → (o : Option ℕ) → link.kept ≡ o
@@ -241,44 +272,20 @@ module _ (h : Here) (w : World) where
                 else failed h UnequalLengths w
           ])
       on_input k outside None is = at_fault EndNotHeld
-      on_input k outside (Some link) is = by_test (receives e l) (link_length h.contents (4 + k) == e.length) _ _
-          (λ same. is_followed (receives e l) _ (on_kept k link outside is link.kept refl))
-          (λ differ. at_fault UnequalLengths)
-
-      on_link : (o : Option ℕ) → input_link e.channel ≡ o
-          → Ends h w (receives e l) (elim o [
-            | Some k ↦ exchange.received_outside h k e l w
-            | None ↦ elim (channel_at w e.channel)
-                [ None ↦ failed h EndNotHeld w | Some c ↦ exchange.received_inside h e c l w ]
-          ])
-      on_link None inside = at_channel (receives e l) e.channel _ _
-          (λ c here nobody. is_followed (receives e l) _ (has_run (receives_first e l c inside here nobody)))
-          (λ c other here waits. on_partner c other inside here waits (condition_of w other) refl)
-      on_link (Some k) is = on_input k is (slice_get w.links.inputs k) refl
+      on_input k outside (Some link) is = of_one_length (receives e l) (link_length h.contents (4 + k) == e.length) _
+          (λ same. on_kept k link outside is link.kept refl)
 
   sent_ends : (e : Exchange) (l : Local) → Ends h w (sends e l) (exchange.sent h e l w)
-  sent_ends e l = on_link (output_link e.channel) refl
+  sent_ends e l =
+      at_end (sends e l) e output_link (λ k. exchange.sent_outside h k e l w)
+      (λ c. answered ran (left h (rouse c.enabled (waits_at h (Sending e) e.channel c l w))))
+      (λ c. exchange.sent_to h e c l w) (λ c inside here nobody. has_run (sends_first e l c inside here nobody))
+      on_partner (λ k is. of_one_length (sends e l) (link_length h.contents k == e.length) _ (has_emitted e l k is))
     where
-      on_partner : (c : Channel) (other : ℕ) → output_link e.channel ≡ None → channel_at w e.channel ≡ Some c
-          → c.waiting ≡ Some other → (condition : Condition) → condition_of w other ≡ condition
-          → Ends h w (sends e l) (exchange.sent_to h e c l w other condition)
-      on_partner c other inside here partner (Receiving wanted) is =
-          by_test (sends e l) (wanted.length == e.length) _ _
-          (λ same. is_followed (sends e l) _ (has_run (sends_to e l c other wanted inside here partner is same)))
-          (λ differ. at_fault UnequalLengths)
-      on_partner c other inside here partner _ is = at_fault EndNotHeld
-
-      on_link : (o : Option ℕ) → output_link e.channel ≡ o
-          → Ends h w (sends e l) (elim o [
-            | Some k ↦ exchange.sent_outside h k e l w
-            | None ↦ elim (channel_at w e.channel)
-                [ None ↦ failed h EndNotHeld w | Some c ↦ exchange.sent_inside h e c l w ]
-          ])
-      on_link None inside = at_channel (sends e l) e.channel _ _
-          (λ c here nobody. is_followed (sends e l) _ (has_run (sends_first e l c inside here nobody)))
-          (λ c other here waits. on_partner c other inside here waits (condition_of w other) refl)
-      on_link (Some k) is = by_test (sends e l) (link_length h.contents k == e.length) _ _
-          (λ same. is_followed (sends e l) _ (has_emitted e l k is same)) (λ differ. at_fault UnequalLengths)
+      on_partner : AtPartner (sends e l) e output_link (λ c. exchange.sent_to h e c l w)
+      on_partner c other inside here who (Receiving wanted) is =
+          of_one_length (sends e l) _ _ (λ same. has_run (sends_to e l c other wanted inside here who is same))
+      on_partner c other inside here who _ is = at_fault EndNotHeld
 
   -- ---- alternations
 

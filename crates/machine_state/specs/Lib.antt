@@ -1,5 +1,6 @@
 pub mod Memory
 pub mod Holding
+pub mod Access
 pub mod World
 pub mod Faults
 pub mod Instructions

@@ -3,6 +3,7 @@
 ghost use Rattle.std.specs.Prelude.{◌≡◌};
 ghost use Rattle.std.specs.List.{list_any};
 ghost use Rattle.machine_state.specs.Holding.{covers, may_write, may_read, may_write_word, may_read_word, has_end};
+ghost use Rattle.machine_state.specs.Access.{may};
 ghost use Rattle.machine_state.specs.Spans.{all_places};
 ghost use Rattle.machine_state.specs.Views.{holding_view};
 
@@ -38,6 +39,13 @@ pub struct End {
     pub direction: Direction,
 }
 
+/// What is done to a byte.
+#[derive(Clone, Copy)]
+pub(crate) enum Access {
+    Read,
+    Write,
+}
+
 /// The places that a process may write, those that it may only read, and the ends that it may use.
 #[derive(Drop)]
 pub struct Holding {
@@ -59,6 +67,15 @@ impl Holding {
         ensures { result ≡ may_read (holding_view self.now) place }
     {
         self.may_write(place) || any_covers(&self.reads, place)
+    }
+
+    fn may(&self, access: Access, place: u64) -> bool
+        ensures { result ≡ may access (holding_view self.now) place }
+    {
+        match access {
+            Access::Read => self.may_read(place),
+            Access::Write => self.may_write(place),
+        }
     }
 
     /// Whether all four bytes of the word at the place may be written.
@@ -85,28 +102,29 @@ impl Holding {
             && self.may_read(place + 3)
     }
 
-    /// Whether all of so many bytes from the place on may be read.
-    pub fn may_read_bytes(&self, place: u32, count: u32) -> bool
-        ensures { result ≡ all_places (may_read (holding_view self.now)) place count }
+    fn may_all(&self, access: Access, place: u32, count: u32) -> bool
+        ensures { result ≡ all_places (may access (holding_view self.now)) place count }
     {
         for k in 0..count {
-            if !self.may_read(u64::from(place) + u64::from(k)) {
+            if !self.may(access, u64::from(place) + u64::from(k)) {
                 return false;
             }
         }
         true
     }
 
+    /// Whether all of so many bytes from the place on may be read.
+    pub fn may_read_bytes(&self, place: u32, count: u32) -> bool
+        ensures { result ≡ all_places (may_read (holding_view self.now)) place count }
+    {
+        self.may_all(Access::Read, place, count)
+    }
+
     /// Whether all of so many bytes from the place on may be written.
     pub fn may_write_bytes(&self, place: u32, count: u32) -> bool
         ensures { result ≡ all_places (may_write (holding_view self.now)) place count }
     {
-        for k in 0..count {
-            if !self.may_write(u64::from(place) + u64::from(k)) {
-                return false;
-            }
-        }
-        true
+        self.may_all(Access::Write, place, count)
     }
 
     /// Whether the end is among those that may be used.

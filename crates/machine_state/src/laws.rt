@@ -56,6 +56,7 @@ pub fn faults_stay()
 /// A step changes only bytes that the running process may write, and where its message meets a receiver that waits,
 /// the bytes of the receiver's buffer, which become those sent. An arrival changes at most one byte, the next one in
 /// the buffer of the process that waits there, and an acknowledgement none.
+#[tactic(auto, using(crate::proofs::InOrder::writing))]
 pub fn events_write_their_own()
     ensures steps { StepsWriteOwn }
     ensures arrivals { ArrivalsWriteOne }
@@ -73,6 +74,7 @@ pub fn steps_see_what_they_read()
 /// there; in all that a module that keeps the format does, whoever waits on a link is recorded there, and holds that
 /// end of it. Each live branch is counted by the join that its opener has open; who has a join open is one of its
 /// members, or has done its own endp. Until it has, it is starting branches, and nobody else is.
+#[tactic(auto, using(crate::proofs::InOrder::waiting))]
 pub fn waiting_is_in_order()
     ensures lines { LinesAreReady }
     ensures links { LinksHaveTheirWaiters }
@@ -87,6 +89,7 @@ pub fn waiting_is_in_order()
 /// nothing that it has enabled has a sender or a byte. Where the module keeps the format, it holds what it has enabled,
 /// and nobody else waits there to receive. What is enabled and has a sender or a byte keeps it, and stays enabled until
 /// its owner disables it.
+#[tactic(auto, using(crate::proofs::InOrder::channels))]
 pub fn channels_are_in_order()
     ensures waiters { ChannelsHaveTheirWaiters }
     ensures recorded { WhoWaitsIsRecorded }

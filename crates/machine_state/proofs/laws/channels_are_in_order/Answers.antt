@@ -1,16 +1,7 @@
-use Rattle.machine_state.proofs.ChannelWaiters.{channels_have_their_waiters}
-use Rattle.machine_state.proofs.WhoWaits.{who_waits_is_recorded}
 use Rattle.machine_state.proofs.WhoEnabled.{who_enabled_alternates}
 use Rattle.machine_state.proofs.WhatIsEnabled.{who_may_wait_has_nothing_ready}
 use Rattle.machine_state.proofs.EnabledIsHeld.{who_enabled_holds}
-use Rattle.machine_state.proofs.ReadyStays.{what_is_ready_stays}
 use Rattle.machine_state.proofs.laws.channels_are_in_order.Goals as goal
-
-pub returns-clause-waiters : goal.returns-clause-waiters
-returns-clause-waiters c = channels_have_their_waiters
-
-pub returns-clause-recorded : goal.returns-clause-recorded
-returns-clause-recorded c = who_waits_is_recorded
 
 pub returns-clause-enabled : goal.returns-clause-enabled
 returns-clause-enabled c = who_enabled_alternates
@@ -20,6 +11,3 @@ returns-clause-quiet c = who_may_wait_has_nothing_ready
 
 pub returns-clause-held : goal.returns-clause-held
 returns-clause-held c = who_enabled_holds
-
-pub returns-clause-kept : goal.returns-clause-kept
-returns-clause-kept c = what_is_ready_stays
