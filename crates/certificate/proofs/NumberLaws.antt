@@ -11,8 +11,8 @@ use Rattle.std.proofs.lemmas.List.Sums.{sum_by-le}
 use Rattle.std.proofs.lemmas.Option.{get_or_from_slice_get}
 use Rattle.module_format.specs.declared.limits.TheConstants.{MAX_BRANCHES}
 use Rattle.module_format.specs.declared.places.Place.{Place}
-use Rattle.module_format.specs.declared.rows.ParRow.{ParRow}
-use Rattle.module_format.specs.declared.rows.BranchRow.{BranchRow}
+use Rattle.module_format.specs.Rows.{ParRow}
+use Rattle.module_format.specs.Rows.{BranchRow}
 use Rattle.module_format.specs.declared.tables.Tables.{Tables}
 use Rattle.module_format.specs.Contents.{Branch, Par, Contents, branch_of, par_of, contents_of}
 use Rattle.module_format.specs.Contexts.{branch_count, first_branch}

@@ -7,10 +7,10 @@ use Rattle.std.specs.List.Sorted.{IsNonDecreasingBy}
 use Rattle.std.proofs.Math.Bool.{or-false, or-true}
 use Rattle.std.proofs.lemmas.List.Folds.{list_any-append}
 use Rattle.std.proofs.lemmas.Bool.Decides.{nat_tests}
-use Rattle.module_format.specs.declared.rows.LabelRow.{LabelRow}
-use Rattle.module_format.specs.declared.rows.ProcedureRow.{ProcedureRow}
-use Rattle.module_format.specs.declared.rows.BranchRow.{BranchRow}
-use Rattle.module_format.specs.declared.rows.ParRow.{ParRow}
+use Rattle.module_format.specs.Rows.{LabelRow}
+use Rattle.module_format.specs.Rows.{ProcedureRow}
+use Rattle.module_format.specs.Rows.{BranchRow}
+use Rattle.module_format.specs.Rows.{ParRow}
 use Rattle.module_format.specs.declared.tables.Tables.{Tables}
 use Rattle.module_format.specs.Contents.{Procedure, label_of, procedure_of, par_of, branch_of, contents_of, label_at}
 use Rattle.module_format.specs.Order.{InOrder}

@@ -9,7 +9,7 @@ use Rattle.std.specs.List.{list_any}
 use Rattle.prefix_decoder.specs.declared.function.Fun.{Fun}
 use Rattle.word_arithmetic.specs.declared.binary.Binary.{Binary as BinaryOperation}
 use Rattle.word_arithmetic.specs.Word.{least_word}
-use Rattle.module_format.specs.declared.fact.Fact.{Fact}
+use Rattle.module_format.specs.Rows.{Fact}
 use Rattle.module_format.specs.declared.fact.Fact.TheVariants.{Unknown, Number, Pointer, CodeAddress, Loop}
 use Rattle.module_format.specs.declared.fact.Fact.TheVariants.{ReturnAddress}
 use Rattle.module_format.specs.declared.stack.Stack.{Stack}

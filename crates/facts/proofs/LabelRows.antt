@@ -2,10 +2,10 @@
 use Rattle.std.proofs.Common.{◌≡◌, ℕ, ℤ, Bool, cond, List, [], ◌∷◌, length, Some, sym, ap, ◌∙◌, subst, inl, inr}
 use Rattle.std.specs.Prelude.{find, ◌==◌}
 use Rattle.std.proofs.lemmas.Bool.{cases_Bool}
-use Rattle.module_format.specs.declared.fact.Fact.{Fact}
+use Rattle.module_format.specs.Rows.{Fact}
 use Rattle.module_format.specs.declared.fact.Fact.TheVariants.{Unknown, Number, Pointer, CodeAddress, Loop}
 use Rattle.module_format.specs.declared.fact.Fact.TheVariants.{ReturnAddress}
-use Rattle.module_format.specs.declared.rows.Entry.{Entry}
+use Rattle.module_format.specs.Rows.{Entry}
 use Rattle.module_format.specs.Contents.{Label, Contents, Procedure, label_at}
 use Rattle.module_format.specs.Order.{InOrder, least_word}
 use Rattle.module_format.specs.Facts.{LabelKeeps, behind_label, WordKeeps, EntryKeeps, behind_entry, end_of}

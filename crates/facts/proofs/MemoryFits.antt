@@ -9,7 +9,7 @@ use Rattle.std.specs.Prelude.{IsTrue, nat_lt, nat_le, int_le}
 use Rattle.std.specs.Int.{w32, int_wrap, cast_signed}
 use Rattle.module_format.specs.Order.{least_word, greatest_word}
 use Rattle.word_arithmetic.proofs.WordLaws.{words_fit, words_lie_between}
-use Rattle.module_format.specs.declared.fact.Fact.{Fact}
+use Rattle.module_format.specs.Rows.{Fact}
 use Rattle.module_format.specs.declared.fact.Fact.TheVariants.{Unknown, Number, Pointer, CodeAddress, Loop}
 use Rattle.module_format.specs.declared.fact.Fact.TheVariants.{ReturnAddress}
 use Rattle.module_format.specs.declared.fact.Step.{Step}

@@ -5,7 +5,7 @@ use Rattle.std.specs.Prelude.{int_le}
 use std.Path.{fun_ext}
 use Rattle.word_arithmetic.specs.Range.{Ends, range_between, shift_right_range}
 use Rattle.word_arithmetic.proofs.EndsLaws.{le_test}
-use Rattle.module_format.specs.declared.fact.Fact.{Fact}
+use Rattle.module_format.specs.Rows.{Fact}
 use Rattle.module_format.specs.declared.fact.Fact.TheVariants.{Unknown, Number, Pointer, CodeAddress, Loop}
 use Rattle.module_format.specs.declared.fact.Fact.TheVariants.{ReturnAddress}
 use Rattle.machine_state.specs.declared.op.Shift.{Shift}

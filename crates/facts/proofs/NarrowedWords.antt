@@ -6,7 +6,7 @@ use Rattle.word_arithmetic.specs.Word.{truth}
 use Rattle.word_arithmetic.specs.Range.{Ends, InRange, IsRange, in_range, range_between}
 use Rattle.word_arithmetic.proofs.EndsLaws.{in_range_out, not_in_range, words_in_order_are_ranges}
 use Rattle.word_arithmetic.proofs.NarrowingLaws.{inside_narrows, outside_narrows}
-use Rattle.module_format.specs.declared.fact.Fact.{Fact}
+use Rattle.module_format.specs.Rows.{Fact}
 use Rattle.module_format.specs.declared.fact.Fact.TheVariants.{Unknown, Number, Pointer, CodeAddress, Loop}
 use Rattle.module_format.specs.declared.fact.Fact.TheVariants.{ReturnAddress}
 use Rattle.module_format.specs.Contents.{Contents}

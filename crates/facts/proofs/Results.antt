@@ -23,7 +23,7 @@ use Rattle.word_arithmetic.proofs.ModularLaws.{in_full}
 use Rattle.word_arithmetic.proofs.BitLaws.{bits_below, wrapped_fits, cast_fits, shift_left_holds, shift_right_holds}
 use Rattle.word_arithmetic.proofs.BinaryLaws.{binary_holds}
 use Rattle.word_arithmetic.proofs.UnaryLaws.{unary_holds}
-use Rattle.module_format.specs.declared.fact.Fact.{Fact}
+use Rattle.module_format.specs.Rows.{Fact}
 use Rattle.module_format.specs.declared.fact.Fact.TheVariants.{Unknown, Number, Pointer, CodeAddress, Loop}
 use Rattle.module_format.specs.declared.fact.Fact.TheVariants.{ReturnAddress}
 use Rattle.module_format.specs.Contents.{Contents}

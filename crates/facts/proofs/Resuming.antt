@@ -5,7 +5,7 @@ use Rattle.std.proofs.Common.{ap, ◌∙◌, subst, arith}
 use Rattle.std.specs.Prelude.{slice_get, int_le, int_lt, nat_abs, ◌==◌}
 use Rattle.std.proofs.lemmas.Bool.Decides.{eqb_tells}
 use Rattle.std.proofs.lemmas.Int.{ints}
-use Rattle.module_format.specs.declared.fact.Fact.{Fact}
+use Rattle.module_format.specs.Rows.{Fact}
 use Rattle.module_format.specs.declared.fact.Fact.TheVariants.{Unknown, Number}
 use Rattle.module_format.specs.declared.rows.Parameter.{Parameter}
 use Rattle.module_format.specs.declared.rows.ParameterKind.{ParameterKind}

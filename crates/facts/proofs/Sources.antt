@@ -13,7 +13,7 @@ use Rattle.word_arithmetic.specs.Word.{truth, least_word, greatest_word}
 use Rattle.word_arithmetic.specs.Range.{Ends, InRange, IsRange, in_range, range_between, constant_of, is_constant}
 use Rattle.word_arithmetic.specs.Binary.{computed}
 use Rattle.word_arithmetic.proofs.EndsLaws.{le_test, le_test_fails, words_in_order_are_ranges}
-use Rattle.module_format.specs.declared.fact.Fact.{Fact}
+use Rattle.module_format.specs.Rows.{Fact}
 use Rattle.module_format.specs.declared.fact.Fact.TheVariants.{Unknown, Number, Pointer, CodeAddress, Loop}
 use Rattle.module_format.specs.declared.fact.Fact.TheVariants.{ReturnAddress}
 use Rattle.module_format.specs.Contents.{Contents}

@@ -5,7 +5,7 @@ use Rattle.std.proofs.lemmas.Int.{to_z-of_z}
 use Rattle.std.specs.Prelude.{FitsSigned, ok_or, IfSome, IfOk}
 use Rattle.std.specs.Int.{w32}
 use Rattle.prefix_decoder.specs.declared.decoding.Instr.{Instr}
-use Rattle.module_format.specs.declared.fact.Fact.{Fact}
+use Rattle.module_format.specs.Rows.{Fact}
 use Rattle.module_format.specs.declared.fact.Fact.TheVariants.{Unknown, Number, Pointer}
 use Rattle.module_format.specs.declared.fact.Step.TheVariants.{Word}
 use Rattle.machine_state.specs.declared.instruction.Instruction.{Instruction}

@@ -13,7 +13,7 @@ use Rattle.word_arithmetic.specs.Word.{least_word, is_below_unsigned}
 use Rattle.word_arithmetic.specs.Range.{Ends, InRange, IsRange, IsWordIn, full}
 use Rattle.word_arithmetic.specs.Binary.{result_range}
 use Rattle.word_arithmetic.proofs.EndsLaws.{member_fits}
-use Rattle.module_format.specs.declared.fact.Fact.{Fact}
+use Rattle.module_format.specs.Rows.{Fact}
 use Rattle.module_format.specs.declared.fact.Fact.TheVariants.{Unknown, Number, Pointer, CodeAddress, Loop}
 use Rattle.module_format.specs.declared.fact.Fact.TheVariants.{ReturnAddress}
 use Rattle.module_format.specs.declared.fact.Step.TheVariants.{Word}

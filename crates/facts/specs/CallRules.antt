@@ -3,7 +3,7 @@ use Rattle.std.specs.Prelude.{ℕ, zero, suc, ◌+◌, ◌-◌, ◌*◌, ◌/◌
 use Rattle.std.specs.Prelude.{if◌then◌else◌, ℤ, pos, negsuc, ◌+ℤ◌, ◌-ℤ◌, ◌*ℤ◌, int_le, int_lt, nat_abs, bit_and, List, [], ◌∷◌}
 use Rattle.std.specs.Prelude.{length, slice_get, Option, Some, None}
 use Rattle.std.specs.List.{list_all}
-use Rattle.module_format.specs.declared.fact.Fact.{Fact}
+use Rattle.module_format.specs.Rows.{Fact}
 use Rattle.module_format.specs.declared.fact.Fact.TheVariants.{Unknown, Number, Pointer, ReturnAddress}
 use Rattle.module_format.specs.declared.fact.Step.TheVariants.{Word}
 use Rattle.module_format.specs.declared.rows.Parameter.{Parameter}

@@ -3,7 +3,7 @@
 use Rattle.std.specs.Prelude.{ℕ, ◌+◌, ◌-◌, nat_lt, Bool, true, false, if◌then◌else◌, ℤ, pos, negsuc, ◌+ℤ◌, Option, Some}
 use Rattle.std.specs.Prelude.{None, Ok, Err}
 use Rattle.word_arithmetic.specs.Word.{least_word}
-use Rattle.module_format.specs.declared.fact.Fact.{Fact}
+use Rattle.module_format.specs.Rows.{Fact}
 use Rattle.module_format.specs.declared.fact.Fact.TheVariants.{Unknown, Number}
 use Rattle.module_format.specs.Contents.{Contents, label_at}
 use Rattle.module_format.specs.Stack.{of_empty, pushed, popped, reversed, with_top}

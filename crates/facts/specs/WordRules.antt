@@ -11,7 +11,7 @@ use Rattle.word_arithmetic.specs.Range.{Ends, range_between, constant_of, full, 
 use Rattle.word_arithmetic.specs.Range.{shift_right_range, inside, outside}
 use Rattle.word_arithmetic.specs.Binary.{result_range}
 use Rattle.word_arithmetic.specs.Unary.{unary_result_range}
-use Rattle.module_format.specs.declared.fact.Fact.{Fact}
+use Rattle.module_format.specs.Rows.{Fact}
 use Rattle.module_format.specs.declared.fact.Fact.TheVariants.{Number}
 use Rattle.module_format.specs.declared.stack.Stack.{Stack}
 use Rattle.module_format.specs.Contents.{Contents}

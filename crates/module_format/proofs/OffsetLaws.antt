@@ -8,7 +8,7 @@ use Rattle.std.proofs.lemmas.List.{get_or_default}
 use Rattle.std.proofs.lemmas.Bool.{cases_lt, ltb-true, ltb-false}
 use Rattle.std.proofs.lemmas.Bool.Decides.{nat_tests}
 use Rattle.std.proofs.Math.Bool.{or-true}
-use Rattle.module_format.specs.declared.rows.ProcedureRow.{ProcedureRow}
+use Rattle.module_format.specs.Rows.{ProcedureRow}
 use Rattle.module_format.specs.declared.tables.Version.{Version}
 use Rattle.module_format.specs.Contents.{procedure_of}
 use Rattle.module_format.specs.Order.{InOrder}

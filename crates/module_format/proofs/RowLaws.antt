@@ -7,11 +7,11 @@ use Rattle.std.specs.List.{flat_map, list_any, AllByRecursion}
 use Rattle.std.proofs.lemmas.Int.{ints}
 use Rattle.std.proofs.lemmas.Bool.{leb-true, le-leb, ltb-true, lt-ltb, eqb-true, not-true, and_parts}
 use Rattle.module_format.specs.declared.fault.FormatFaultKind.TheVariants as faults
-use Rattle.module_format.specs.declared.fact.Fact.{Fact}
+use Rattle.module_format.specs.Rows.{Fact}
 use Rattle.module_format.specs.declared.fact.Fact.TheVariants as facts
 use Rattle.module_format.specs.declared.fact.Step.{Step}
 use Rattle.module_format.specs.declared.fact.Step.TheVariants as steps
-use Rattle.module_format.specs.declared.rows.Entry.{Entry}
+use Rattle.module_format.specs.Rows.{Entry}
 use Rattle.module_format.specs.declared.stack.Stack.{Stack}
 use Rattle.module_format.specs.Contents.{Procedure, Label}
 use Rattle.module_format.specs.Order.{IsBytes, InOrder, IsInterval, least_word, greatest_word, is_stepped}

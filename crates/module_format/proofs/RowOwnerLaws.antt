@@ -6,7 +6,7 @@ use Rattle.std.specs.List.Sorted.{IsNonDecreasingBy, IsPartitionPoint}
 use Rattle.std.proofs.lemmas.Bool.{cases_lt, leb-true, leb-false}
 use Rattle.std.proofs.lemmas.List.{length-append, length-map, take_all}
 use Rattle.module_format.specs.declared.row_owners.RowOwner.{RowOwner}
-use Rattle.module_format.specs.declared.rows.ParRow.{ParRow}
+use Rattle.module_format.specs.Rows.{ParRow}
 use Rattle.module_format.specs.declared.tables.Tables.{Tables}
 use Rattle.module_format.specs.Contents.{Par, Contents, par_of, branch_of, contents_of}
 use Rattle.module_format.specs.Contexts.{owner, branch_count, first_branch, HasFewContexts}

@@ -1,19 +1,19 @@
 -- What a module file says, as plain data of lists and numbers. The fields are those of the tables in
 -- memory; facts, entries, parameters, channels, intervals, ends and table rows are the program's own types.
 use Rattle.std.specs.Prelude.{ℕ, ◌^◌, ◌<◌, ℤ, Bool, List, map, length, find, get_or, Option, ◌==◌}
-use Rattle.module_format.specs.declared.fact.Fact.{Fact}
+use Rattle.module_format.specs.Rows.{Fact}
 use Rattle.module_format.specs.declared.stack.Stack.{Stack}
 use Rattle.module_format.specs.declared.rows.Parameter.{Parameter}
-use Rattle.module_format.specs.declared.rows.Entry.{Entry}
+use Rattle.module_format.specs.Rows.{Entry}
 use Rattle.module_format.specs.declared.rows.ChannelRow.{ChannelRow}
 use Rattle.module_format.specs.declared.rows.Interval.{Interval}
 use Rattle.module_format.specs.declared.rows.EndRow.{EndRow}
 use Rattle.module_format.specs.declared.rows.TableRow.{TableRow}
-use Rattle.module_format.specs.declared.rows.ProcedureRow.{ProcedureRow}
-use Rattle.module_format.specs.declared.rows.LabelRow.{LabelRow}
-use Rattle.module_format.specs.declared.rows.BranchRow.{BranchRow}
+use Rattle.module_format.specs.Rows.{ProcedureRow}
+use Rattle.module_format.specs.Rows.{LabelRow}
+use Rattle.module_format.specs.Rows.{BranchRow}
 use Rattle.module_format.specs.declared.rows.BranchCounts.{BranchCounts}
-use Rattle.module_format.specs.declared.rows.ParRow.{ParRow}
+use Rattle.module_format.specs.Rows.{ParRow}
 use Rattle.module_format.specs.declared.tables.Version.{Version}
 use Rattle.module_format.specs.declared.tables.Tables.{Tables}
 

@@ -1,3 +1,4 @@
+pub mod Rows
 pub mod Order
 pub mod Contents
 pub mod Spelling

@@ -1,7 +1,7 @@
 -- Rows at code offsets.
 use Rattle.std.specs.Prelude.{◌≡◌, ◌≢◌, ℕ, ◌<◌, List, length, slice_index_or}
 use Rattle.std.specs.List.Sorted.{IsNonDecreasingBy}
-use Rattle.module_format.specs.declared.rows.ProcedureRow.{ProcedureRow}
+use Rattle.module_format.specs.Rows.{ProcedureRow}
 
 -- no row is at the offset
 abbrev pub IsNowhere : {X : Type 0} → (X → ℕ) → List X → ℕ → Type 0

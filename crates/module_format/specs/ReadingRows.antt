@@ -7,12 +7,12 @@ use Rattle.module_format.specs.declared.tags.TheConstants.{TAG_LOOP, TAG_RETURN_
 use Rattle.module_format.specs.declared.tags.TheConstants.{KIND_VALUE, KIND_READ_REGION, KIND_WRITTEN_REGION}
 use Rattle.module_format.specs.declared.tags.TheConstants.{KIND_CHANNELS}
 use Rattle.module_format.specs.declared.fault.FormatFaultKind.TheVariants as faults
-use Rattle.module_format.specs.declared.fact.Fact.{Fact}
+use Rattle.module_format.specs.Rows.{Fact}
 use Rattle.module_format.specs.declared.fact.Fact.TheVariants as facts
 use Rattle.module_format.specs.declared.fact.Step.{Step}
 use Rattle.module_format.specs.declared.fact.Step.TheVariants as steps
 use Rattle.module_format.specs.declared.stack.Stack.{Stack}
-use Rattle.module_format.specs.declared.rows.Entry.{Entry}
+use Rattle.module_format.specs.Rows.{Entry}
 use Rattle.module_format.specs.declared.rows.Ends.{Ends}
 use Rattle.module_format.specs.declared.rows.Parameter.{Parameter}
 use Rattle.module_format.specs.declared.rows.ParameterKind.{ParameterKind}

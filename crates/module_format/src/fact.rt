@@ -9,9 +9,9 @@ pub enum Step {
     Word,
 }
 
-/// What is known of a word of memory or a register.
+/// What is known of a word of memory or a register. `At` is a place in the code: an offset in a file.
 #[derive(Clone, Copy, Debug, PartialEq, Eq)]
-pub enum Fact {
+pub enum Fact<At = u32> {
     /// Nothing; the word may be undefined.
     Unknown,
     /// A defined number from `lo` to `hi`, both included.
@@ -30,7 +30,7 @@ pub enum Fact {
     },
     /// The address of a code offset.
     CodeAddress {
-        offset: u32,
+        offset: At,
     },
     /// The first of the two words of a loop: the second is a count c from 1 to `count`, and the first
     /// is `base + count - c`. Each turn that is left is paid with `weight`.

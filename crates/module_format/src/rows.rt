@@ -64,10 +64,10 @@ pub struct Parameter {
 }
 
 /// A procedure: where its code begins, its frame words from `lo` up to `hi` (not included), its
-/// number, and its parameters.
+/// number, and its parameters. `At` is a place in the code: an offset in a file.
 #[derive(Drop)]
-pub struct ProcedureRow {
-    pub entry: u32,
+pub struct ProcedureRow<At = u32> {
+    pub entry: At,
     pub lo: i32,
     pub hi: i32,
     pub number: u64,
@@ -76,23 +76,23 @@ pub struct ProcedureRow {
 
 /// One fact that holds for each of `span` frame words from `word` on.
 #[derive(Clone, Copy)]
-pub struct Entry {
+pub struct Entry<At = u32> {
     pub word: i32,
     pub span: u32,
-    pub fact: Fact,
+    pub fact: Fact<At>,
 }
 
 /// What holds at a code offset: the context, the depth of the workspace in words of the frame, the
 /// number, the facts of the three registers, and those of the frame's words; a word without an entry
-/// is unknown.
+/// is unknown. `In` names a context: by its number in a file.
 #[derive(Drop)]
-pub struct LabelRow {
-    pub offset: u32,
-    pub context: u16,
+pub struct LabelRow<At = u32, In = u16> {
+    pub offset: At,
+    pub context: In,
     pub depth: i32,
     pub number: u64,
-    pub stack: Stack<Fact>,
-    pub entries: Vec<Entry>,
+    pub stack: Stack<Fact<At>>,
+    pub entries: Vec<Entry<At>>,
 }
 
 /// A channel of a PAR: the frame word that it lies in and the bytes of its messages.
@@ -137,8 +137,8 @@ pub struct EndRow {
 /// A branch of a PAR: where its code begins, its workspace in words of the frame, and what it is
 /// given of the frame's words, the context's parameters and channel ends.
 #[derive(Drop)]
-pub struct BranchRow {
-    pub entry: u32,
+pub struct BranchRow<At = u32> {
+    pub entry: At,
     pub workspace: i32,
     pub writes: SmallVec<Interval, 2>,
     pub reads: SmallVec<Interval, 2>,
@@ -179,13 +179,13 @@ impl BranchRow {
 /// A PAR: the context and depth at which it stands, its join block's frame word, the code offset
 /// behind it, its channels and its branches.
 #[derive(Drop)]
-pub struct ParRow {
-    pub context: u16,
+pub struct ParRow<At = u32, In = u16> {
+    pub context: In,
     pub depth: i32,
     pub block: i32,
-    pub successor: u32,
+    pub successor: At,
     pub channels: Vec<ChannelRow>,
-    pub branches: Vec<BranchRow>,
+    pub branches: Vec<BranchRow<At>>,
 }
 
 /// The constants from byte `start` up to `end` (not included) are words from `lo` to `hi`.

@@ -7,10 +7,10 @@ use Rattle.std.proofs.lemmas.List.{get_or_default}
 use Rattle.std.proofs.lemmas.Bool.{cases_eq, cases_lt, cases_Bool}
 use Rattle.std.proofs.lemmas.Bool.Decides.{nat_tests}
 use Rattle.std.proofs.lemmas.Int.{ints, by_lt_z}
-use Rattle.module_format.specs.declared.fact.Fact.{Fact}
+use Rattle.module_format.specs.Rows.{Fact}
 use Rattle.module_format.specs.declared.fact.Fact.TheVariants.{Unknown, Number, Pointer, CodeAddress, Loop}
 use Rattle.module_format.specs.declared.fact.Fact.TheVariants.{ReturnAddress}
-use Rattle.module_format.specs.declared.rows.Entry.{Entry}
+use Rattle.module_format.specs.Rows.{Entry}
 use Rattle.states.specs.declared.overlay.Written.{Written}
 use Rattle.states.specs.Lookup.{lookup, ArePlaced}
 use Rattle.states.specs.declared.known.WordFact.{WordFact}

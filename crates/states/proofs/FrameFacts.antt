@@ -6,8 +6,8 @@ use Rattle.std.specs.Prelude.{int_le, option_map, unwrap_or}
 use Rattle.std.proofs.lemmas.Bool.{cases_eq, cases_lt}
 use Rattle.std.proofs.lemmas.Bool.Decides.{nat_tests}
 use Rattle.std.proofs.lemmas.Int.{ints, by_lt_z}
-use Rattle.module_format.specs.declared.fact.Fact.{Fact}
-use Rattle.module_format.specs.declared.rows.Entry.{Entry}
+use Rattle.module_format.specs.Rows.{Fact}
+use Rattle.module_format.specs.Rows.{Entry}
 use Rattle.states.specs.declared.overlay.Written.{Written}
 use Rattle.states.specs.Lookup.{lookup}
 use Rattle.states.specs.State.{Facts, by_itself, is_word, is_at, is_parted, with_fact, entry_fact}

@@ -2,7 +2,7 @@
 use Rattle.std.proofs.Common.{◌≡◌, ℕ, ◌-◌, ◌*◌, ℤ, pos, ◌+ℤ◌, Bool, true, false, cond, ◌&&◌, refl, sym, ap, ◌∙◌}
 use mathlib.Core.Bool.{beq}
 use Rattle.module_format.specs.declared.fact.Fact.TheVariants.{Loop}
-use Rattle.module_format.specs.declared.rows.Entry.{Entry}
+use Rattle.module_format.specs.Rows.{Entry}
 use Rattle.states.specs.declared.known.WordFact.{WordFact}
 use Rattle.states.specs.State.{Facts, is_alone}
 use Rattle.states.specs.Below.{are_alike, is_whole, holds_constant, price}

@@ -7,9 +7,9 @@ use Rattle.std.specs.Int.{w32}
 use Rattle.std.proofs.lemmas.List.{get_or_default}
 use Rattle.std.proofs.lemmas.Bool.{cases_Bool, cases_lt}
 use Rattle.std.proofs.lemmas.Int.{ints}
-use Rattle.module_format.specs.declared.fact.Fact.{Fact}
+use Rattle.module_format.specs.Rows.{Fact}
 use Rattle.module_format.specs.declared.contexts.Context.{Context}
-use Rattle.module_format.specs.declared.rows.ProcedureRow.{ProcedureRow}
+use Rattle.module_format.specs.Rows.{ProcedureRow}
 use Rattle.module_format.specs.Contents.{Contents, procedure_of}
 use Rattle.module_format.specs.Contexts.{context_at, own_context, owner, branch_count, root_context, procedure_context}
 use Rattle.certificate.specs.Rights.{has_word}

@@ -1,6 +1,6 @@
 -- One map of facts against another, word by word.
 use Rattle.std.specs.Prelude.{◌≡◌, ◌⊎◌, ℤ, ◌-ℤ◌, true, false, List, Some}
-use Rattle.module_format.specs.declared.fact.Fact.{Fact}
+use Rattle.module_format.specs.Rows.{Fact}
 use Rattle.states.specs.declared.overlay.Written.{Written}
 use Rattle.states.specs.State.{Facts}
 use Rattle.states.specs.declared.known.WordFact.TheVariants.{Alone}

@@ -1,8 +1,8 @@
 -- What is known of the words of a frame: what was written since the last label, over what the label's row says.
 use Rattle.std.specs.Prelude.{◌≡◌, ◌&&◌, Bool, true, false, if◌then◌else◌, ℕ, ℤ, pos, negsuc, ◌+ℤ◌, ◌-ℤ◌, ◌≤ℤ◌, ◌<ℤ◌}
 use Rattle.std.specs.Prelude.{◌<◌, List, length, get_or, Option, None, option_map, unwrap_or, vec_len}
-use Rattle.module_format.specs.declared.fact.Fact.{Fact}
-use Rattle.module_format.specs.declared.rows.Entry.{Entry}
+use Rattle.module_format.specs.Rows.{Fact}
+use Rattle.module_format.specs.Rows.{Entry}
 use Rattle.module_format.specs.declared.rows.Parameter.{Parameter}
 use Rattle.states.specs.declared.overlay.Written.{Written}
 use Rattle.states.specs.declared.frame.Frame.{Frame}

@@ -2,7 +2,7 @@
 -- and for each index the place in the list at which it may stand.
 use Rattle.std.specs.Prelude.{◌≡◌, ℕ, ◌<◌, ◌==◌, if◌then◌else◌, List, [], ◌∷◌, length, map, slice_index, Option, Some}
 use Rattle.std.specs.Prelude.{None}
-use Rattle.module_format.specs.declared.fact.Fact.{Fact}
+use Rattle.module_format.specs.Rows.{Fact}
 use Rattle.states.specs.declared.overlay.Written.{Written}
 
 -- the fact of an index, where it was written

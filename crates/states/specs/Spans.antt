@@ -1,7 +1,7 @@
 -- Spans of words: so many words from a first one on, what is known of them together, and how all of them change.
 use Rattle.std.specs.Prelude.{ℕ, zero, suc, ℤ, pos, ◌+ℤ◌, int_le, int_lt, ◌&&◌, Bool, true, false}
 use Rattle.std.specs.Int.{int_min, int_max}
-use Rattle.module_format.specs.declared.fact.Fact.{Fact}
+use Rattle.module_format.specs.Rows.{Fact}
 use Rattle.module_format.specs.declared.fact.Fact.TheVariants.{Unknown, Number}
 use Rattle.module_format.specs.Order.{least_word, greatest_word}
 use Rattle.module_format.specs.Stack.{mapped}

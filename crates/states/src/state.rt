@@ -179,6 +179,14 @@ impl<'a> State<'a> {
         self.frame.fact_at(i64::from(word))
     }
 
+    /// What is known of a word of the frame by its number, which need not be one of 32 bits.
+    pub fn fact_of(&self, word: i64) -> WordFact
+        ensures value { result ≡ (state_of self.now).frame word }
+        ensures fits { LoopFits result }
+    {
+        self.frame.fact_at(word)
+    }
+
     /// A word of the frame has this fact from now on, and no register speaks of what it was. A loop that
     /// loses one of its words leaves what the other says by itself. The time goes with the logarithm of the
     /// label's entries.

@@ -5,8 +5,8 @@ use Rattle.std.specs.Prelude.{◌==◌, find, slice_get}
 use Rattle.std.specs.List.{AllByRecursion}
 use Rattle.std.proofs.lemmas.Bool.{cases_lt}
 use Rattle.std.proofs.lemmas.Bool.Decides.{nat_tests}
-use Rattle.module_format.specs.declared.rows.LabelRow.{LabelRow}
-use Rattle.module_format.specs.declared.rows.ProcedureRow.{ProcedureRow}
+use Rattle.module_format.specs.Rows.{LabelRow}
+use Rattle.module_format.specs.Rows.{ProcedureRow}
 use Rattle.module_format.specs.Contents.{Contents, Procedure, label_at, label_of, procedure_of}
 use Rattle.module_format.specs.Facts.{LabelKeeps, behind_label}
 use Rattle.module_format.specs.Procedures.{ProcedureKeeps, behind_procedure}

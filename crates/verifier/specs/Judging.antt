@@ -2,8 +2,8 @@
 use Rattle.std.specs.Prelude.{◌≡◌, ℕ, ◌+◌, ◌-◌, ◌≤◌, Bool, List, [], ◌∷◌, map, drop, find, ◌==◌, slice_get, Option}
 use Rattle.std.specs.Prelude.{Some, None, Result, Ok, Err, ⊤, if◌then◌else◌}
 use Rattle.std.specs.List.{AllByRecursion}
-use Rattle.module_format.specs.declared.rows.LabelRow.{LabelRow}
-use Rattle.module_format.specs.declared.rows.ProcedureRow.{ProcedureRow}
+use Rattle.module_format.specs.Rows.{LabelRow}
+use Rattle.module_format.specs.Rows.{ProcedureRow}
 use Rattle.module_format.specs.Contents.{Contents, Label, label_at, label_of, procedure_of}
 use Rattle.certificate.specs.Starts.{procedure_from, procedure_at}
 use Rattle.states.specs.Rows.{AreApart, IsRowOf}

@@ -2,7 +2,7 @@ use Rattle.std.proofs.Common.{IfSome, ◌≡◌, ◌∙◌, List, [], ◌∷◌,
 use Rattle.std.proofs.Common.{arith}
 use Rattle.std.specs.Prelude.{slice_get}
 use Rattle.std.specs.Option.{option_copied}
-use Rattle.module_format.specs.declared.rows.LabelRow.{LabelRow}
+use Rattle.module_format.specs.Rows.{LabelRow}
 use Rattle.module_format.specs.Contents.{Contents, label_of}
 use Rattle.module_format.specs.Keeping.{Keeps}
 use Rattle.states.specs.Rows.{IsRowOf}

@@ -1,7 +1,7 @@
 use Rattle.std.proofs.Common.{◌∙◌, List, sym, ap}
 use Rattle.std.proofs.lemmas.Result.{IfOk-weaker}
 use Rattle.std.specs.List.{list_any}
-use Rattle.module_format.specs.declared.rows.BranchRow.{BranchRow}
+use Rattle.module_format.specs.Rows.{BranchRow}
 use Rattle.module_format.specs.Contents.{branch_of}
 use Rattle.machine_state.specs.Joins.{branch_names}
 use Rattle.joins.proofs.Mapped.{list_any-map}

@@ -2,7 +2,7 @@ use Rattle.std.proofs.Common.{rules, arith, refl, subst, length, List}
 use Rattle.std.proofs.lemmas.Int.{ints, clamps}
 use mir.Val.{to_z}
 use Rattle.std.specs.Int.{w32}
-use Rattle.module_format.specs.declared.rows.ProcedureRow.{ProcedureRow}
+use Rattle.module_format.specs.Rows.{ProcedureRow}
 use Rattle.module_format.specs.Contents.{contents_of}
 use Rattle.states.proofs.States.{covers, rows-within-more, RowsWithin}
 use Rattle.states.proofs.state.room_of.Goals as goal

@@ -1,8 +1,8 @@
 use Rattle.std.proofs.Common.{◌≡◌, ℕ, List, ◌∙◌, ◌-◌, ◌<◌, ◌≤◌, length, get_or, Some, sym, ap, rules}
 use Rattle.std.proofs.lemmas.Bool.{ltb-true, ltb-false}
 use Rattle.module_format.specs.declared.places.Place.{Place}
-use Rattle.module_format.specs.declared.rows.BranchRow.{BranchRow}
-use Rattle.module_format.specs.declared.rows.ParRow.{ParRow}
+use Rattle.module_format.specs.Rows.{BranchRow}
+use Rattle.module_format.specs.Rows.{ParRow}
 use Rattle.module_format.specs.declared.tables.Tables.{Tables}
 use Rattle.module_format.specs.Contents.{contents_of, par_of, branch_of}
 use Rattle.module_format.specs.Contexts.{first_branch, branch_count}

@@ -1,5 +1,5 @@
 use Rattle.std.proofs.Common.{◌∙◌, sym, ap, subst, map, List}
-use Rattle.module_format.specs.declared.rows.LabelRow.{LabelRow}
+use Rattle.module_format.specs.Rows.{LabelRow}
 use Rattle.module_format.specs.Contents.{Contents, label_of}
 use Rattle.states.specs.Rows.{IsRowOf}
 use Rattle.states.proofs.LabelRows.{label_row_of}

@@ -1,6 +1,6 @@
 use Rattle.std.proofs.Common.{◌≡◌, ℕ, ◌+◌, ◌<◌, List, [], ◌∷◌, ◌++◌, length, take, map, get_or, append_assoc}
 use Rattle.std.proofs.lemmas.List.{append-nil, map_more, map-append, take_all}
-use Rattle.module_format.specs.declared.rows.BranchRow.{BranchRow}
+use Rattle.module_format.specs.Rows.{BranchRow}
 use Rattle.module_format.specs.Contents.{Branch, branch_of}
 use Rattle.module_format.specs.Pars.{Before, BranchKeeps, behind_branch, entries_of}
 use Rattle.module_format.proofs.OffsetSetLaws.{one_more}

@@ -5,7 +5,7 @@ use Rattle.std.proofs.lemmas.List.{append-nil, map_more, length-append, length-m
 use Rattle.std.proofs.lemmas.Grind.{flat_map-append}
 use Rattle.std.proofs.lemmas.List.Concat.{flat_map-cons}
 use Rattle.module_format.specs.declared.limits.TheConstants.{MAX_BRANCHES}
-use Rattle.module_format.specs.declared.rows.ParRow.{ParRow}
+use Rattle.module_format.specs.Rows.{ParRow}
 use Rattle.module_format.specs.Contents.{Par, branch_of, par_of}
 use Rattle.module_format.specs.Pars.{Before, ParKeeps, behind_par, entries_of, entries_of_rows}
 use Rattle.module_format.proofs.OrderLaws.{order_goes_on, order_fails, order_is_done, is_broken, is_kept}

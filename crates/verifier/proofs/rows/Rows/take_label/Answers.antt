@@ -1,5 +1,5 @@
 use Rattle.std.proofs.Common.{◌≡◌, ◌∙◌, sym, ap, ◌∷◌}
-use Rattle.module_format.specs.declared.rows.LabelRow.{LabelRow}
+use Rattle.module_format.specs.Rows.{LabelRow}
 use Rattle.verifier.proofs.RowsLeft.{labels-none}
 use Rattle.verifier.proofs.rows.Rows.take_label.Goals as goal
 

@@ -1,5 +1,5 @@
 use Rattle.std.proofs.Common.{◌≡◌, ◌∙◌, sym, ap, ◌∷◌}
-use Rattle.module_format.specs.declared.rows.ProcedureRow.{ProcedureRow}
+use Rattle.module_format.specs.Rows.{ProcedureRow}
 use Rattle.verifier.proofs.RowsLeft.{procedures-none, procedures-later, procedures-here}
 use Rattle.verifier.proofs.rows.Rows.take_procedure.Goals as goal
 
