@@ -17,7 +17,7 @@ use Rattle.occam_parser.specs.Blocks.{Guarded, declaration_line, block_row, line
 use Rattle.occam_parser.specs.Blocks.{lines_of_components, lines_of_component, FitsProcess, FitsConstruct}
 use Rattle.occam_parser.specs.Blocks.{FitComponents, FitsComponent}
 use Rattle.occam_parser.specs.BlockReading.{ReadsLines, begins_at, Beginning, begun, beginning_from}
-use Rattle.occam_parser.specs.BlockReading.{with_declarations, components_of, only_one, block_with, replicated_with}
+use Rattle.occam_parser.specs.BlockReading.{with_declarations, components_of, only_one, read_as, block_with, replicated_with}
 use Rattle.occam_parser.specs.BlockReading.{body_with, construct_behind, process_behind, process_with, head_row}
 use Rattle.occam_parser.specs.BlockReading.{headed_with, plain, process_at, component_at}
 use Rattle.occam_parser.specs.Terminals.{Terminal}
@@ -97,7 +97,7 @@ block_again : (kind : BlockKind) (item : ReadsLines (Component (part_of kind))) 
     (level : ℕ) (rest : List Row) → begins_at level rest ≡ false
     → ContinuesBlock item level (lines_of_components cs level ++ rest) cs rest
     → block_with kind (components_of item level (lines_of_components cs level ++ rest)) ≡ Some (Block kind cs, rest)
-unfolding block_with
+unfolding read_as
 block_again kind item cs level rest stops c =
     ap (λ (o : Option (Components (part_of kind) × List Row)). o >>= λ x. Some (Block kind x.0, x.1))
     (block_ends item level (lines_of_components cs level ++ rest) cs rest stops c)
@@ -106,7 +106,7 @@ replicated_again : (kind : BlockKind) (r : Replicator) (read : Option (Component
     (c : Component (part_of kind)) (level : ℕ) (rest : List Row) → begins_at level rest ≡ false
     → read ≡ Some (c, rest)
     → replicated_with r (only_one level (body_with kind read)) ≡ Some (Replicated r (One kind c), rest)
-unfolding replicated_with only_one body_with
+unfolding read_as only_one
 replicated_again kind r read c level rest stops e =
     ap (λ (o : Option (Component (part_of kind) × List Row)). replicated_with r (only_one level (body_with kind o))) e
     ∙ ap (λ b. cond {A = Option (Body × List Row)} b None (Some (One kind c, rest)) >>= λ x. Some

@@ -19,7 +19,7 @@ use Rattle.occam_parser.specs.Blocks.{lines_of_construct, lines_of_components, l
 use Rattle.occam_parser.specs.Blocks.{FitsProcess, FitsConstruct, FitComponents, FitsComponent}
 use Rattle.occam_parser.specs.BlockReading.{ReadsLines, is_at, first_row, begins_at, Beginning, begun}
 use Rattle.occam_parser.specs.BlockReading.{beginning_from, with_declarations, component_step, components_from}
-use Rattle.occam_parser.specs.BlockReading.{components_of, only_one, block_with, replicated_with, body_with}
+use Rattle.occam_parser.specs.BlockReading.{components_of, only_one, read_as, body_with}
 use Rattle.occam_parser.specs.BlockReading.{construct_behind, process_behind, process_with, head_row, headed_with}
 use Rattle.occam_parser.specs.BlockReading.{plain, component_with, process_at, component_at}
 use Rattle.occam_parser.proofs.Options.{bind_some, at_some, not_chosen}
@@ -214,7 +214,7 @@ construct_sound : (component : (part : Part) → ReadsLines (Component part)) (l
     → ((part : Part) → SoundComponent (level + 1) (component part)) → (kind : BlockKind) (r : Option Replicator)
     (after : List Row) (x : Construct × List Row) → construct_behind component (level + 1) kind r after ≡ Some x
     → IsConstruct kind r line level after x
-unfolding block_with replicated_with body_with
+unfolding read_as
 construct_sound component level line s kind None after x e =
     let y = bind_some (components_of (component (part_of kind)) (level + 1) after) _ x e in
     let read = block_read (component (part_of kind)) (level + 1) after y.0 (s (part_of kind)) y.1 in

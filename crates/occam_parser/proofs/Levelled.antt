@@ -4,12 +4,16 @@ use Rattle.std.proofs.Common.{arith, ◌∙◌}
 use Rattle.occam_parser.specs.declared.head.BlockKind.{BlockKind}
 use Rattle.occam_parser.specs.Terminals.{Terminal}
 use Rattle.occam_parser.specs.Reading.{◌>>=◌}
-use Rattle.occam_parser.specs.Lines.{Replicator, Declaration, Opens}
+use Rattle.occam_parser.specs.Lines.{Replicator, Declaration, Action, Acts, Opens}
 use Rattle.occam_parser.specs.LineReading.{whole_at, guard_at}
-use Rattle.occam_parser.specs.Blocks.{Row, Process, Does, Construct, Part, Processes, Component, Chosen, Guarded}
-use Rattle.occam_parser.specs.BlockReading.{ReadsLines, Beginning, beginning_from, with_declarations}
+use Rattle.occam_parser.specs.Told.{Lacks}
+use Rattle.occam_parser.specs.Blocks.{Row, Process, Construct, Act, Part, Processes, Component, Plain, Chosen, Guarded}
+use Rattle.occam_parser.specs.Blocks.{Body}
+use Rattle.occam_parser.specs.BlockReading.{ReadsLines, Beginning, beginning_from, behind_declarations, read_as}
 use Rattle.occam_parser.specs.BlockReading.{construct_behind, process_behind, process_with}
 use Rattle.occam_parser.specs.BlockReading.{head_row, headed_with, plain, process_at, component_at}
+use Rattle.occam_parser.specs.declared.fault.Refusal.{Refusal}
+use Rattle.occam_parser.proofs.Answering.{passed_on}
 
 one_more : (level : ℕ) → level ≤ 64 → 65 - level ≡ suc (65 - (level + 1))
 one_more level low = omega arith
@@ -42,22 +46,41 @@ pub process_is : (level : ℕ) (rows rest : List Row) (b : Beginning) → level 
 process_is level rows rest b low e = ap (λ n. process_at n level rows) (one_more level low) ∙ found_at
     (65 - (level + 1)) level rows rest b e
 
+-- a process that is an action
+pub action_reads : (level : ℕ) (rows after : List Row) (ds : List Declaration) (line : ℕ) (a : Action) → level ≤ 64
+    → beginning_from level [] rows ≡ Some (record { declarations = ds; line = line; start = Acts a }, after)
+    → process_at (65 - level) level rows ≡ read_as (behind_declarations ds line) (Some (Act a, after))
+unfolding read_as
+action_reads level rows after ds line a low b =
+    process_is level rows after (record { declarations = ds; line = line; start = Acts a }) low b
+
 -- a process, from the construct that was read behind its head
 pub block_reads : (level : ℕ) (rows after : List Row) (ds : List Declaration) (line : ℕ) (kind : BlockKind)
     (r : Option Replicator) (read : Option (Construct × List Row)) → level ≤ 64
     → beginning_from level [] rows ≡ Some (record { declarations = ds; line = line; start = Opens kind r }, after)
     → construct_behind (component_at (65 - (level + 1)) (level + 1)) (level + 1) kind r after ≡ read
-    → process_at (65 - level) level rows ≡ (read >>= λ x. Some (with_declarations ds (Does line x.0), x.1))
+    → process_at (65 - level) level rows ≡ read_as (behind_declarations ds line) read
+unfolding read_as
 block_reads level rows after ds line kind r read low b e =
-    process_is level rows after (record { declarations = ds; line = line; start = Opens kind r }) low b ∙ ap
-    (λ (o : Option (Construct × List Row)). o >>= λ x. Some (with_declarations ds (Does line x.0), x.1)) e
+    process_is level rows after (record { declarations = ds; line = line; start = Opens kind r }) low b
+    ∙ ap (read_as (behind_declarations ds line)) e
 
 -- ---- components
 
+-- what was read, made into another tree and that into a third
+read_twice : {A B C : Type 0} (f : B → C) (g : A → B) (read : Option (A × List Row))
+    → read_as f (read_as g read) ≡ read_as (λ x. f (g x)) read
+unfolding read_as
+read_twice f g None = refl
+read_twice f g (Some x) = refl
+
 -- a process at a level is a component
-pub plain_is : (level : ℕ) (rows : List Row) (read : Option (Process × List Row))
-    → process_at (65 - level) level rows ≡ read → component_at (65 - level) level Processes rows ≡ plain read
-plain_is level rows read e = plain_at (65 - level) level rows ∙ ap plain e
+pub plain_leads : (make : Component Processes → Body) (level : ℕ) (rows : List Row)
+    → read_as make (component_at (65 - level) level Processes rows)
+    ≡ read_as (λ p. make (Plain p)) (process_at (65 - level) level rows)
+unfolding read_as
+plain_leads make level rows =
+    ap (read_as make) (plain_at (65 - level) level rows) ∙ read_twice make Plain (process_at (65 - level) level rows)
 
 -- ---- choices and branches
 
@@ -93,13 +116,22 @@ none_headed {A} {part} says make (suc n) level rows is e =
     ap (λ (item : ReadsLines (Component part)). item rows) (is n level)
     ∙ headed_is says make (process_at n (level + 1)) level rows None e
 
-pub head_none : {A : Type 0} {part : Part} (says : List Terminal → Option A) (make : ℕ → A → Process → Component part)
+head_none : {A : Type 0} {part : Part} (says : List Terminal → Option A) (make : ℕ → A → Process → Component part)
     (level : ℕ) (rows : List Row) → IsHeaded says make → head_row says level rows ≡ None
     → component_at (65 - level) level part rows ≡ None
 head_none says make level rows is e = none_headed says make (65 - level) level rows is e
 
+-- a head that is not read
+pub headed_lost : {A : Type 0} {part : Part} (says : List Terminal → Option A)
+    (make : ℕ → A → Process → Component part) (over : Component part → Body) (level : ℕ) (rows : List Row) (t : Refusal)
+    → IsHeaded says make → Lacks t (head_row says level rows)
+    → Lacks t (read_as over (component_at (65 - level) level part rows))
+unfolding read_as
+headed_lost says make over level rows t is lost =
+    passed_on t (head_row says level rows) _ (λ none. ap (read_as over) (head_none says make level rows is none)) lost
+
 -- what is read below a head that was read
-pub below_is : {A : Type 0} {part : Part} (says : List Terminal → Option A) (make : ℕ → A → Process → Component part)
+below_is : {A : Type 0} {part : Part} (says : List Terminal → Option A) (make : ℕ → A → Process → Component part)
     (level : ℕ) (rows : List Row) (head : (ℕ × A) × List Row)
     (p : Option (Process × List Row)) → IsHeaded says make → level ≤ 64
     → head_row says level rows ≡ Some head → process_at (65 - (level + 1)) (level + 1) head.1 ≡ p
@@ -109,3 +141,15 @@ below_is {A} {part} says make level rows head p is low e below =
     ∙ ap (λ (item : ReadsLines (Component part)). item rows) (is (65 - (level + 1)) level)
     ∙ headed_is says make (process_at (65 - (level + 1)) (level + 1)) level rows (Some head) e
     ∙ ap (λ (o : Option (Process × List Row)). o >>= λ q. Some (make head.0.0 head.0.1 q.0, q.1)) below
+
+pub headed_leads : {A : Type 0} {part : Part} (says : List Terminal → Option A)
+    (make : ℕ → A → Process → Component part) (over : Component part → Body) (level : ℕ) (rows after : List Row)
+    (line : ℕ) (saying : A) → IsHeaded says make → level ≤ 64
+    → head_row says level rows ≡ Some ((line, saying), after)
+    → read_as over (component_at (65 - level) level part rows)
+    ≡ read_as (λ p. over (make line saying p)) (process_at (65 - (level + 1)) (level + 1) after)
+unfolding read_as
+headed_leads says make over level rows after line saying is low e =
+    let below = process_at (65 - (level + 1)) (level + 1) after in
+    ap (read_as over) (below_is says make level rows ((line, saying), after) below is low e refl)
+    ∙ read_twice over (make line saying) below

@@ -1,9 +1,13 @@
 -- How the program's components are seen.
 use Rattle.std.proofs.Common.{◌≡◌, ℕ, ◌<◌, List, [], ◌∷◌, ◌++◌, length, map, fold, Option, Some}
-use Rattle.std.proofs.Common.{refl, ap, arith, ◌∙◌, rules, Vec, Global}
+use Rattle.std.proofs.Common.{Result, Ok, Err, refl, sym, ap, subst, arith, ◌∙◌, rules, Vec, Global}
+use Rattle.std.specs.Borrow.{Bor}
 use Rattle.std.proofs.lemmas.List.{length-map, map_push}
 use Rattle.occam_layout.specs.declared.token.Line.{Line}
+use Rattle.occam_parser.specs.declared.fault.Refusal.{Refusal}
+use Rattle.occam_parser.specs.declared.head.BlockKind.{BlockKind}
 use Rattle.occam_parser.specs.declared.head.BlockKind.TheVariants as block
+use Rattle.occam_parser.specs.declared.block.Components.{Components as CodeComponents}
 use Rattle.occam_parser.specs.declared.tree.Replicator.{Replicator as tree_replicator}
 use Rattle.occam_parser.specs.declared.tree.Process.{Process as CodeProcess}
 use Rattle.occam_parser.specs.declared.tree.Body.{Body as CodeBody, Seq as InSeq, Par as InPar, If as InIf}
@@ -19,11 +23,12 @@ use Rattle.occam_parser.specs.Views.{expression_of}
 use Rattle.occam_parser.specs.LineViews.{replicator_of, action_of, guard_of, start_of}
 use Rattle.occam_parser.specs.Lines.{Declaration}
 use Rattle.occam_parser.specs.declared.head.Start as start_type
-use Rattle.occam_parser.specs.Blocks.{Row, row_of, rows_of, Block, Replicated as Repeats, One, Part, Components}
-use Rattle.occam_parser.specs.Blocks.{NoComponent, Further, Component, Plain, Chosen, Guarded, Act}
+use Rattle.occam_parser.specs.Told.{Pushes}
+use Rattle.occam_parser.specs.Blocks.{Row, row_of, rows_of, Block, Replicated as Repeats, Body, One, Part, part_of}
+use Rattle.occam_parser.specs.Blocks.{Components, NoComponent, Further, Component, Plain, Chosen, Guarded, Act}
 use Rattle.occam_parser.specs.BlockReading.{Beginning}
 use Rattle.occam_parser.specs.BlockViews.{all_of, process_of, construct_of, body_of, choice_of, branch_of}
-use Rattle.occam_parser.specs.BlockViews.{all_processes, all_choices, all_branches}
+use Rattle.occam_parser.specs.BlockViews.{all_processes, all_choices, all_branches, components_in, HasOneMore, Adds}
 
 fold_push : {part : Part} (found : Components part) (cs : List (Component part)) (c : Component part)
     → fold Further found (cs ++ c ∷ []) ≡ Further (fold Further found cs) c
@@ -96,3 +101,29 @@ pub view-Branch : (line : ℕ) (g : CodeGuard) (p : CodeProcess)
     → branch_of (roll-Branch (record { line = line; guard = g; process = p })) ≡ Guarded line (guard_of g)
     (process_of p)
 view-Branch line g p = search (rules, the_lemmas)
+
+-- ---- a component more
+
+pushed_of : {A : Type 0} (kind : BlockKind) (view : A → Component (part_of kind)) (x : CodeBody) (item : A)
+    (rest : Bor (List Line)) (before after : List A) (old new : CodeComponents)
+    (answer : Result (Bor (List Line)) Refusal) → body_of x ≡ One kind (view item)
+    → components_in kind old ≡ all_of (map view before) → components_in kind new ≡ all_of (map view after)
+    → Pushes (Ok (item, rest)) before after answer → Adds (Ok (x, rest)) old new answer
+pushed_of kind view x item rest before after old new (Ok behind) is were are pushes = (
+  subst (λ (b : Body). HasOneMore b old new) (sym is)
+      (are ∙ all_push view before after item pushes.0 ∙ ap (λ cs. Further cs (view item)) (sym were)),
+  pushes.1,
+)
+pushed_of kind view x item rest before after old new (Err e) is were are pushes = pushes
+
+-- a component that was read, and is pushed to the list of its kind, is added
+pub adds_of : {A : Type 0} {read : Result (CodeBody × Bor (List Line)) Refusal} {component x : CodeBody} {item : A}
+    {rest : Bor (List Line)} (kind : BlockKind) (view : A → Component (part_of kind)) (before after : List A)
+    (old new : CodeComponents) (answer : Result (Bor (List Line)) Refusal) → read ≡ Ok (component, rest)
+    → component ≡ x → body_of x ≡ One kind (view item) → components_in kind old ≡ all_of (map view before)
+    → components_in kind new ≡ all_of (map view after) → Pushes (Ok (item, rest)) before after answer
+    → Adds read old new answer
+adds_of {A} {read} {component} {x} {item} {rest} kind view before after old new answer was is seen were are pushes =
+    subst (λ (r : Result (CodeBody × Bor (List Line)) Refusal). Adds r old new answer)
+    (sym (was ∙ ap (λ (b : CodeBody). Ok (b, rest)) is))
+    (pushed_of kind view x item rest before after old new answer seen were are pushes)

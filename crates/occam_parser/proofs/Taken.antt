@@ -1,177 +1,158 @@
--- Components that the program reads, and a head beside what was read below it.
-use Rattle.std.proofs.Common.{◌≡◌, ℕ, ◌+◌, ◌-◌, ◌<◌, ◌≤◌, Bool, true, cond, List, [], ◌∷◌, ◌++◌, length, map}
-use Rattle.std.proofs.Common.{Option, Some, None, Result, Ok, Err, sym, ap, subst, ◌∙◌}
+-- What the program reads and makes into trees, and a turn of its loop over components.
+use Rattle.std.proofs.Common.{◌≡◌, ℕ, ◌+◌, ◌-◌, ◌<◌, ◌≤◌, Bool, true, cond, List, [], length}
+use Rattle.std.proofs.Common.{Option, Some, None, Result, Ok, Err, refl, sym, ap, subst, ◌∙◌}
 use Rattle.std.specs.Prelude.{IfOk}
 use Rattle.std.specs.Borrow.{Bor}
 use Rattle.occam_layout.specs.declared.token.Line.{Line}
 use Rattle.occam_parser.specs.declared.fault.Refusal.{Refusal}
 use Rattle.occam_parser.specs.declared.head.BlockKind.{BlockKind}
-use Rattle.occam_parser.specs.declared.tree.Process.{Process as CodeProcess}
-use Rattle.occam_parser.specs.declared.tree.Construct.{Construct as CodeConstruct}
-use Rattle.occam_parser.specs.Terminals.{Terminal}
-use Rattle.occam_parser.specs.Reading.{◌>>=◌}
-use Rattle.occam_parser.specs.Lines.{Declaration, Replicator}
-use Rattle.occam_parser.specs.Told.{Lacks, Tells, Pushes, StandsAbove, IsOnlyOne}
-use Rattle.occam_parser.specs.Blocks.{Row, rows_of, Process, Does, Construct, Part, Processes, part_of, Component}
-use Rattle.occam_parser.specs.Blocks.{Components, Body, One, Block, Replicated as Repeats}
-use Rattle.occam_parser.specs.BlockReading.{begins_at, components_of, only_one, process_at, component_at}
-use Rattle.occam_parser.specs.BlockReading.{head_row, with_declarations, body_with, block_with, replicated_with}
-use Rattle.occam_parser.specs.BlockViews.{all_of, process_of, construct_of, plain_component, MakesProcess}
+use Rattle.occam_parser.specs.declared.head.BlockKind.TheVariants as block
+use Rattle.occam_parser.specs.declared.block.Components.{Components as CodeComponents}
+use Rattle.occam_parser.specs.declared.tree.Body.{Body as CodeBody}
+use Rattle.occam_parser.specs.Told.{Lacks, Tells, Makes, IsOnlyOne}
+use Rattle.occam_parser.specs.Blocks.{Row, rows_of, Body, One, part_of, Component, Components, NoComponent, Further}
+use Rattle.occam_parser.specs.BlockReading.{begins_at, components_of, only_one, component_at, read_as, body_with}
+use Rattle.occam_parser.specs.BlockReading.{block_with}
+use Rattle.occam_parser.specs.BlockViews.{all_processes, all_choices, all_branches, body_of, components_in, HasOneMore}
+use Rattle.occam_parser.specs.BlockViews.{Adds}
 use Rattle.occam_parser.proofs.Answering.{passed_on, lacks_none}
-use Rattle.occam_parser.proofs.Items.{pushed_lost}
+use Rattle.occam_parser.proofs.Options.{at_some}
 use Rattle.occam_parser.proofs.Turns.{ContinuesBlock, block_begins, block_goes_on, block_fails}
-use Rattle.occam_parser.proofs.SeenBlocks.{all_push, rows_less}
-use Rattle.occam_parser.proofs.Levelled.{plain_is, IsHeaded, head_none, below_is}
+use Rattle.occam_parser.proofs.SeenBlocks.{rows_less}
 
--- what a process gives is what its construct gives, behind the declarations
-pub made_tells : (declarations : List Declaration) (line : ℕ)
-    (read : Result (CodeConstruct × Bor (List Line)) Refusal) (answer : Result (CodeProcess × Bor (List Line)) Refusal)
-    (got : Option (Construct × List Row)) (whole : Option (Process × List Row))
-    → MakesProcess declarations line read answer → Tells (λ x. (construct_of x.0, rows_of x.1.now)) read got
-    → whole ≡ (got >>= λ x. Some (with_declarations declarations (Does line x.0), x.1))
-    → Tells (λ x. (process_of x.0, rows_of x.1.now)) answer whole
-made_tells ds line (Err e) (Err t) got whole made told is =
+-- ---- what was read, made into another tree
+
+pub read_as_found : {A B : Type 0} (make : A → B) (read : Option (A × List Row)) (x : A) (rest : List Row) (y : B)
+    → read ≡ Some (x, rest) → y ≡ make x → read_as make read ≡ Some (y, rest)
+unfolding read_as
+read_as_found make read x rest y e is = ap (read_as make) e ∙ ap (λ z. Some (z, rest)) (sym is)
+
+pub made_tells : {A B X Y : Type 0} (seen : A → X) (view : B → Y) (make : X → Y)
+    (read : Result (A × Bor (List Line)) Refusal) (answer : Result (B × Bor (List Line)) Refusal)
+    (got : Option (X × List Row)) (whole : Option (Y × List Row)) → Makes seen view make read answer
+    → Tells (λ x. (seen x.0, rows_of x.1.now)) read got → whole ≡ read_as make got
+    → Tells (λ x. (view x.0, rows_of x.1.now)) answer whole
+unfolding read_as
+made_tells seen view make (Err e) (Err t) got whole made told is =
     let same : e ≡ t = cc made in
-    subst (λ (u : Refusal). Lacks u whole) same (passed_on e got whole (λ none. is ∙ ap
-    (λ (o : Option (Construct × List Row)). o >>= λ x. Some (with_declarations ds (Does line x.0), x.1)) none) told)
-made_tells ds line (Err e) (Ok x) got whole made told is = absurd (cc made)
-made_tells ds line (Ok c) (Err t) got whole made told is = subst (λ (u : Refusal). Lacks u whole) (sym made) tt
-made_tells ds line (Ok c) (Ok x) got whole made told is =
+    subst (λ (u : Refusal). Lacks u whole) same (passed_on e got whole (λ none. is ∙ ap (read_as make) none) told)
+made_tells seen view make (Err e) (Ok x) got whole made told is = absurd (cc made)
+made_tells seen view make (Ok c) (Err t) got whole made told is = subst (λ (u : Refusal). Lacks u whole) (sym made) tt
+made_tells seen view make (Ok c) (Ok x) got whole made told is =
     is
-    ∙ ap (λ (o : Option (Construct × List Row)). o >>= λ y. Some (with_declarations ds (Does line y.0), y.1)) told
+    ∙ ap (read_as make) told
     ∙ ap (λ p. Some (p, rows_of c.1.now)) (sym made.0)
-    ∙ ap (λ (b : Bor (List Line)). Some (process_of x.0, rows_of b.now)) (sym made.1)
+    ∙ ap (λ (b : Bor (List Line)). Some (view x.0, rows_of b.now)) (sym made.1)
 
--- how much of the lines a process leaves
-pub made_within : (declarations : List Declaration) (line n : ℕ)
-    (read : Result (CodeConstruct × Bor (List Line)) Refusal) (answer : Result (CodeProcess × Bor (List Line)) Refusal)
-    → MakesProcess declarations line read answer → IfOk read (λ x. length x.1.now < n)
-    → IfOk answer (λ x. length x.1.now < n)
-made_within ds line n (Err e) (Err t) made within = tt
-made_within ds line n (Err e) (Ok x) made within = absurd (cc made)
-made_within ds line n (Ok c) (Err t) made within = tt
-made_within ds line n (Ok c) (Ok x) made within =
-    subst (λ (b : Bor (List Line)). length b.now < n) (sym made.1) within
-
--- a process that was read is a component
-pub plain_tells : (level : ℕ) (rows : List Row) (read : Result (CodeProcess × Bor (List Line)) Refusal)
-    → Tells (λ x. (process_of x.0, rows_of x.1.now)) read (process_at (65 - level) level rows)
-    → Tells (λ x. (plain_component x.0, rows_of x.1.now)) read (component_at (65 - level) level Processes rows)
-plain_tells level rows (Ok x) told = plain_is level rows (Some (process_of x.0, rows_of x.1.now)) told
-plain_tells level rows (Err e) told =
-    passed_on e (process_at (65 - level) level rows) (component_at (65 - level) level Processes rows)
-    (λ none. plain_is level rows None none) told
-
-pub plain_lost : (level : ℕ) (rows : List Row) (t : Refusal) → Lacks t (process_at (65 - level) level rows)
-    → Lacks t (component_at (65 - level) level Processes rows)
-plain_lost level rows t lost = passed_on t _ _ (λ none. plain_is level rows None none) lost
-
--- ---- the construct and the body that are made of what was read
-
-pub block_lost : (kind : BlockKind) (t : Refusal) (read : Option (Components (part_of kind) × List Row))
-    → Lacks t read → Lacks t (block_with kind read)
-unfolding block_with
-block_lost kind t read lost =
-    passed_on t read (block_with kind read) (λ none. ap
-    (λ (o : Option (Components (part_of kind) × List Row)). o >>= λ x. Some (Block kind x.0, x.1)) none) lost
-
-pub block_found : (kind : BlockKind) (read : Option (Components (part_of kind) × List Row))
-    (cs : Components (part_of kind)) (rest : List Row) (made : Construct) → read ≡ Some (cs, rest)
-    → made ≡ Block kind cs → block_with kind read ≡ Some (made, rest)
-unfolding block_with
-block_found kind read cs rest made e is =
-    ap (λ (o : Option (Components (part_of kind) × List Row)). o >>= λ x. Some (Block kind x.0, x.1)) e
-    ∙ ap (λ (c : Construct). Some (c, rest)) (sym is)
-
-pub body_lost : (kind : BlockKind) (t : Refusal) (read : Option (Component (part_of kind) × List Row))
-    → Lacks t read → Lacks t (body_with kind read)
-unfolding body_with
-body_lost kind t read lost =
-    passed_on t read (body_with kind read) (λ none. ap
-    (λ (o : Option (Component (part_of kind) × List Row)). o >>= λ x. Some (One kind x.0, x.1)) none) lost
-
-pub body_found : (kind : BlockKind) (read : Option (Component (part_of kind) × List Row))
-    (c : Component (part_of kind)) (rest : List Row) (made : Body) → read ≡ Some (c, rest)
-    → made ≡ One kind c → body_with kind read ≡ Some (made, rest)
-unfolding body_with
-body_found kind read c rest made e is =
-    ap (λ (o : Option (Component (part_of kind) × List Row)). o >>= λ x. Some (One kind x.0, x.1)) e
-    ∙ ap (λ (b : Body). Some (b, rest)) (sym is)
-
-pub replicated_none : (r : Replicator) (read : Option (Body × List Row)) → read ≡ None → replicated_with r read ≡ None
-unfolding replicated_with
-replicated_none r read e = ap (λ (o : Option (Body × List Row)). o >>= λ x. Some (Repeats r x.0, x.1)) e
-
-pub replicated_found : (r : Replicator) (read : Option (Body × List Row)) (b : Body) (rest : List Row)
-    → read ≡ Some (b, rest) → replicated_with r read ≡ Some (Repeats r b, rest)
-unfolding replicated_with
-replicated_found r read b rest e = ap (λ (o : Option (Body × List Row)). o >>= λ x. Some (Repeats r x.0, x.1)) e
+-- what holds of each number of lines that is less than so many, holds of the lines that it leaves
+pub made_within : {A B X Y : Type 0} (seen : A → X) (view : B → Y) (make : X → Y) (n : ℕ) (Left : ℕ → Type 0)
+    (read : Result (A × Bor (List Line)) Refusal) (answer : Result (B × Bor (List Line)) Refusal)
+    → Makes seen view make read answer → IfOk read (λ x. length x.1.now < n) → ((k : ℕ) → k < n → Left k)
+    → IfOk answer (λ x. Left (length x.1.now))
+made_within seen view make n Left (Err e) (Err t) made within fewer = tt
+made_within seen view make n Left (Err e) (Ok x) made within fewer = absurd (cc made)
+made_within seen view make n Left (Ok c) (Err t) made within fewer = tt
+made_within seen view make n Left (Ok c) (Ok x) made within fewer =
+    subst (λ (b : Bor (List Line)). Left (length b.now)) (sym made.1) (fewer (length c.1.now) within)
 
 -- ---- a turn of a loop over components
 
-pub turn_begins : {part : Part} {A : Type 0} (view : A → Component part) (level : ℕ) (lines rest : List Line)
-    (found : List A) → found ≡ [] → rest ≡ lines
-    → ContinuesBlock (component_at (65 - level) level part) level (rows_of lines) (all_of (map view found)) (rows_of rest)
-turn_begins {part} view level lines rest found none same =
-    let item = component_at (65 - level) level part in
-    subst (λ us. ContinuesBlock item level (rows_of lines) (all_of (map view found)) (rows_of us)) (sym same)
-    (subst (λ xs. ContinuesBlock item level (rows_of lines) (all_of (map view xs)) (rows_of lines)) (sym none)
+-- the components of a block at a level
+abbrev pub Continues : BlockKind → ℕ → List Row → CodeComponents → List Line → Type 0
+Continues kind level start found lines =
+    ContinuesBlock (component_at (65 - level) level (part_of kind)) level start (components_in kind found)
+    (rows_of lines)
+
+-- where there are none, there are none of a kind
+none_in : (kind : BlockKind) (found : CodeComponents) → found.processes.items ≡ [] → found.choices.items ≡ []
+    → found.branches.items ≡ [] → components_in kind found ≡ NoComponent
+none_in block.Seq found p c b = ap all_processes p
+none_in block.Par found p c b = ap all_processes p
+none_in block.If found p c b = ap all_choices c
+none_in block.Alt found p c b = ap all_branches b
+
+pub turn_begins : (kind : BlockKind) (level : ℕ) (lines rest : List Line) (found : CodeComponents)
+    → found.processes.items ≡ [] → found.choices.items ≡ [] → found.branches.items ≡ [] → rest ≡ lines
+    → Continues kind level (rows_of lines) found rest
+turn_begins kind level lines rest found p c b same =
+    let item = component_at (65 - level) level (part_of kind) in
+    subst (λ us. ContinuesBlock item level (rows_of lines) (components_in kind found) (rows_of us)) (sym same)
+    (subst (λ cs. ContinuesBlock item level (rows_of lines) cs (rows_of lines)) (sym (none_in kind found p c b))
     (block_begins item level (rows_of lines)))
 
--- the components of a block at a level
-abbrev pub Continues : {part : Part} → ℕ → List Row → Components part → List Line → Type 0
-Continues {part} level start found lines =
-    ContinuesBlock (component_at (65 - level) level part) level start found (rows_of lines)
+-- a component of a kind that was read
+found_of_kind : (kind : BlockKind) (got : Option (Component (part_of kind) × List Row)) (b : Body) (rest : List Row)
+    → body_with kind got ≡ Some (b, rest)
+    → (c : Component (part_of kind)) × (got ≡ Some (c, rest)) × (One kind c ≡ b)
+unfolding read_as
+found_of_kind kind None b rest e = absurd (cc)
+found_of_kind kind (Some x) b rest e =
+    at_some (λ (y : Body × List Row). (c : Component (part_of kind)) × (Some x ≡ Some (c, y.1)) × (One kind c ≡ y.0))
+    (One kind x.0, x.1) (b, rest) e (x.0, refl, refl)
 
-less_if : {A : Type 0} (read : Result (A × Bor (List Line)) Refusal) (old new : List A) (rest : Bor (List Line)) (n : ℕ)
-    → Pushes read old new (Ok rest) → IfOk read (λ x. length x.1.now < n) → length rest.now < n
-less_if (Err e) old new rest n pushes within = absurd (cc pushes)
-less_if (Ok x) old new rest n pushes within = subst (λ (us : List Line). length us < n) (sym pushes.1) within
+none_of_kind : (kind : BlockKind) (got : Option (Component (part_of kind) × List Row))
+    → body_with kind got ≡ None → got ≡ None
+unfolding read_as
+none_of_kind kind None e = refl
+none_of_kind kind (Some x) e = absurd (cc)
 
--- what was read, pushed, is one component more
-pushed_one : {A Y : Type 0} (view : A → Y) (read : Result (A × Bor (List Line)) Refusal) (old new : List A)
-    (rest : Bor (List Line)) (got : Option (Y × List Row)) → Pushes read old new (Ok rest)
-    → Tells (λ x. (view x.0, rows_of x.1.now)) read got
-    → (x : A) × (new ≡ old ++ x ∷ []) × (got ≡ Some (view x, rows_of rest.now))
-pushed_one view (Err e) old new rest got pushes told = absurd (cc pushes)
-pushed_one view (Ok x) old new rest got pushes told = (
-  x.0,
-  pushes.0,
-  told ∙ ap (λ (us : List Line). Some (view x.0, rows_of us)) (sym pushes.1),
-)
+-- what was read, added, is one component more
+added_one : (kind : BlockKind) (read : Result (CodeBody × Bor (List Line)) Refusal) (old new : CodeComponents)
+    (rest : Bor (List Line)) (got : Option (Component (part_of kind) × List Row)) → Adds read old new (Ok rest)
+    → Tells (λ x. (body_of x.0, rows_of x.1.now)) read (body_with kind got)
+    → (c : Component (part_of kind)) × (components_in kind new ≡ Further (components_in kind old) c)
+    × (got ≡ Some (c, rows_of rest.now))
+added_one kind (Err e) old new rest got adds told = absurd (cc adds)
+added_one kind (Ok x) old new rest got adds told =
+    let one = found_of_kind kind got (body_of x.0) (rows_of x.1.now) told in (
+      one.0,
+      subst (λ (b : Body). HasOneMore b old new) (sym one.2) adds.0,
+      one.1 ∙ ap (λ (us : List Line). Some (one.0, rows_of us)) (sym adds.1),
+    )
 
-pub turn_goes_on : {part : Part} {A : Type 0} (view : A → Component part) (level : ℕ) (start : List Row)
-    (lines : List Line) (behind : Bor (List Line)) (old new : List A) (goes : Bool)
-    (read : Result (A × Bor (List Line)) Refusal) → goes ≡ begins_at level (rows_of lines) → goes ≡ true
-    → Pushes read old new (Ok behind)
-    → Tells (λ x. (view x.0, rows_of x.1.now)) read (component_at (65 - level) level part (rows_of lines))
-    → IfOk read (λ x. length x.1.now < length lines)
-    → Continues level start (all_of (map view old)) lines
-    → Continues level start (all_of (map view new)) behind.now
-turn_goes_on {part} view level start lines behind old new goes read begins goes_on pushes told within c =
-    let item = component_at (65 - level) level part in
-    let x = pushed_one view read old new behind (item (rows_of lines)) pushes told in
-    let less = less_if read old new behind (length lines) pushes within in
-    subst (λ (cs : Components part). ContinuesBlock item level start cs (rows_of behind.now))
-    (sym (all_push view old new x.0 x.1))
-    (block_goes_on item level start (all_of (map view old)) (rows_of lines) (rows_of behind.now) (view x.0)
+pub turn_less : (read : Result (CodeBody × Bor (List Line)) Refusal) (old new : CodeComponents)
+    (rest : Bor (List Line)) (n : ℕ) → Adds read old new (Ok rest) → IfOk read (λ x. length x.1.now < n)
+    → length rest.now < n
+turn_less (Err e) old new rest n adds within = absurd (cc adds)
+turn_less (Ok x) old new rest n adds within = subst (λ (us : List Line). length us < n) (sym adds.1) within
+
+pub turn_goes_on : (kind : BlockKind) (level : ℕ) (start : List Row) (lines : List Line) (behind : Bor (List Line))
+    (old new : CodeComponents) (goes : Bool) (read : Result (CodeBody × Bor (List Line)) Refusal)
+    → goes ≡ begins_at level (rows_of lines) → goes ≡ true → Adds read old new (Ok behind)
+    → Tells (λ x. (body_of x.0, rows_of x.1.now)) read
+    (body_with kind (component_at (65 - level) level (part_of kind) (rows_of lines)))
+    → IfOk read (λ x. length x.1.now < length lines) → Continues kind level start old lines
+    → Continues kind level start new behind.now
+turn_goes_on kind level start lines behind old new goes read begins goes_on adds told within c =
+    let item = component_at (65 - level) level (part_of kind) in
+    let x = added_one kind read old new behind (item (rows_of lines)) adds told in
+    let less = turn_less read old new behind (length lines) adds within in
+    subst (λ (cs : Components (part_of kind)). ContinuesBlock item level start cs (rows_of behind.now)) (sym x.1)
+    (block_goes_on item level start (components_in kind old) (rows_of lines) (rows_of behind.now) x.0
     (sym begins ∙ goes_on) x.2 (rows_less behind.now lines less) c)
 
-pub turn_less : {A : Type 0} (read : Result (A × Bor (List Line)) Refusal) (old new : List A) (rest : Bor (List Line))
-    (n : ℕ) → Pushes read old new (Ok rest) → IfOk read (λ x. length x.1.now < n) → length rest.now < n
-turn_less = less_if
+added_lost : {Y : Type 0} (read : Result (CodeBody × Bor (List Line)) Refusal) (old new : CodeComponents)
+    (t : Refusal) (view : CodeBody × Bor (List Line) → Y) (got : Option Y) → Adds read old new (Err t)
+    → Tells view read got → Lacks t got
+added_lost (Err e) old new t view got adds told =
+    let same : e ≡ t = cc adds in subst (λ (u : Refusal). Lacks u got) same told
+added_lost (Ok x) old new t view got adds told = subst (λ (u : Refusal). Lacks u got) (sym adds) tt
 
-pub turn_fails : {part : Part} {A : Type 0} (view : A → Component part) (level : ℕ) (start : List Row)
-    (lines : List Line) (old new : List A) (goes : Bool) (read : Result (A × Bor (List Line)) Refusal) (t : Refusal)
-    → goes ≡ begins_at level (rows_of lines) → goes ≡ true → Pushes read old new (Err t)
-    → Tells (λ x. (view x.0, rows_of x.1.now)) read (component_at (65 - level) level part (rows_of lines))
-    → Continues level start (all_of (map view old)) lines
-    → Lacks t (components_of (component_at (65 - level) level part) level start)
-turn_fails {part} view level start lines old new goes read t begins goes_on pushes told c =
-    let item = component_at (65 - level) level part in
-    passed_on t (item (rows_of lines)) (components_of item level start)
-    (λ none. block_fails item level start (all_of (map view old)) (rows_of lines) (sym begins ∙ goes_on) none c)
-    (pushed_lost (λ x. (view x.0, rows_of x.1.now)) read old new t (item (rows_of lines)) pushes told)
+pub turn_fails : (kind : BlockKind) (level : ℕ) (start : List Row) (lines : List Line) (old new : CodeComponents)
+    (goes : Bool) (read : Result (CodeBody × Bor (List Line)) Refusal) (t : Refusal)
+    → goes ≡ begins_at level (rows_of lines) → goes ≡ true → Adds read old new (Err t)
+    → Tells (λ x. (body_of x.0, rows_of x.1.now)) read
+    (body_with kind (component_at (65 - level) level (part_of kind) (rows_of lines)))
+    → Continues kind level start old lines
+    → Lacks t (block_with kind (components_of (component_at (65 - level) level (part_of kind)) level start))
+unfolding read_as
+turn_fails kind level start lines old new goes read t begins goes_on adds told c =
+    let item = component_at (65 - level) level (part_of kind) in
+    let got = item (rows_of lines) in
+    passed_on t (body_with kind got) _
+    (λ none. ap (block_with kind) (block_fails item level start (components_in kind old) (rows_of lines)
+    (sym begins ∙ goes_on) (none_of_kind kind got none) c))
+    (added_lost read old new t (λ x. (body_of x.0, rows_of x.1.now)) (body_with kind got) adds told)
 
 -- ---- one component alone
 
@@ -200,69 +181,3 @@ only_within level n (Err e) (Ok x) only within = absurd (cc only)
 only_within level n (Ok x) (Err t) only within = tt
 only_within level n (Ok x) (Ok y) only within =
     subst (λ (us : List Line). length us < n) (sym only.1) within
-
--- ---- a head above what was read
-
-below_tells_head : {A B : Type 0} (head h : A) (x : B) (rest : Bor (List Line))
-    (read : Result (B × Bor (List Line)) Refusal) → StandsAbove head read (Ok ((h, x), rest))
-    → (head ≡ h) × (read ≡ Ok (x, rest))
-below_tells_head head h x rest (Err e) stands = absurd (cc stands)
-below_tells_head {A} {B} head h x rest (Ok y) stands =
-    let same : ((head, y.0), y.1) ≡ ((h, x), rest) = cc stands in (
-      ap (λ (z : (A × B) × Bor (List Line)). z.0.0) same,
-      ap (λ (z : (A × B) × Bor (List Line)). Ok (z.0.1, z.1)) same,
-    )
-
-pub below_lost : {A B Y : Type 0} (view : B × Bor (List Line) → Y) (head : A)
-    (read : Result (B × Bor (List Line)) Refusal) (t : Refusal) (got : Option Y)
-    → StandsAbove head read (Err t) → Tells view read got → Lacks t got
-below_lost view head (Err e) t got stands told = let same : e ≡ t =
-    cc stands in subst (λ (u : Refusal). Lacks u got) same told
-below_lost view head (Ok x) t got stands told = absurd (cc stands)
-
-pub below_found : {A B Y : Type 0} (view : B × Bor (List Line) → Y) (head h : A) (x : B) (rest : Bor (List Line))
-    (read : Result (B × Bor (List Line)) Refusal) (got : Option Y) → StandsAbove head read (Ok ((h, x), rest))
-    → Tells view read got → (head ≡ h) × (got ≡ Some (view (x, rest)))
-below_found view head h x rest read got stands told =
-    let is = below_tells_head head h x rest read stands in
-    (is.0, subst (λ (r : Result _ Refusal). Tells view r got) is.1 told)
-
-pub below_within : {A B : Type 0} (head h : A) (x : B) (rest : Bor (List Line)) (n : ℕ)
-    (read : Result (B × Bor (List Line)) Refusal) → StandsAbove head read (Ok ((h, x), rest))
-    → IfOk read (λ y. length y.1.now < n) → length rest.now < n
-below_within head h x rest n read stands within =
-    let is = below_tells_head head h x rest read stands in
-    subst (λ (r : Result _ Refusal). IfOk r (λ y. length y.1.now < n)) is.1 within
-
--- ---- a component that has a head
-
-pub head_lost : {A : Type 0} {part : Part} (says : List Terminal → Option A) (make : ℕ → A → Process → Component part)
-    (level : ℕ) (rows : List Row) (t : Refusal) → IsHeaded says make → Lacks t (head_row says level rows)
-    → Lacks t (component_at (65 - level) level part rows)
-head_lost says make level rows t is lost = passed_on t _ _ (λ none. head_none says make level rows is none) lost
-
--- a process below a head, as the program reads it
-abbrev pub ReadsProcess : ℕ → List Row → Result (CodeProcess × Bor (List Line)) Refusal → Type 0
-ReadsProcess level rows read =
-    Tells (λ x. (process_of x.0, rows_of x.1.now)) read (process_at (65 - (level + 1)) (level + 1) rows)
-
-pub headed_lost : {A H : Type 0} {part : Part} (says : List Terminal → Option A)
-    (make : ℕ → A → Process → Component part) (level : ℕ) (rows after : List Row) (line : ℕ) (saying : A) (head : H)
-    (read : Result (CodeProcess × Bor (List Line)) Refusal) (t : Refusal) → IsHeaded says make
-    → level ≤ 64 → head_row says level rows ≡ Some ((line, saying), after) → StandsAbove head read (Err t)
-    → ReadsProcess level after read → Lacks t (component_at (65 - level) level part rows)
-headed_lost says make level rows after line saying head read t is low e stands told =
-    passed_on t _ _
-    (λ none. below_is says make level rows ((line, saying), after) None is low e none)
-    (below_lost (λ x. (process_of x.0, rows_of x.1.now)) head read t _ stands told)
-
-pub headed_found : {A H : Type 0} {part : Part} (says : List Terminal → Option A)
-    (make : ℕ → A → Process → Component part) (view : H → A) (level : ℕ) (rows after : List Row) (line : ℕ)
-    (head h : H) (p : CodeProcess) (rest : Bor (List Line)) (read : Result (CodeProcess × Bor (List Line)) Refusal)
-    → IsHeaded says make → level ≤ 64 → head_row says level rows ≡ Some ((line, view head), after)
-    → StandsAbove head read (Ok ((h, p), rest)) → ReadsProcess level after read
-    → component_at (65 - level) level part rows ≡ Some (make line (view h) (process_of p), rows_of rest.now)
-headed_found says make view level rows after line head h p rest read is low e stands told =
-    let below = below_found (λ x. (process_of x.0, rows_of x.1.now)) head h p rest read _ stands told in
-    below_is says make level rows ((line, view head), after) _ is low e below.1
-    ∙ ap (λ z. Some (make line (view z) (process_of p), rows_of rest.now)) below.0

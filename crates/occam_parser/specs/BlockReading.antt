@@ -55,6 +55,10 @@ abbrev pub with_declarations : List Declaration → Process → Process
 with_declarations [] p = p
 with_declarations (d ∷ ds) p = Declared d (with_declarations ds p)
 
+-- the process that a construct is, behind declarations
+abbrev pub behind_declarations : List Declaration → ℕ → Construct → Process
+behind_declarations declarations line c = with_declarations declarations (Does line c)
+
 -- ---- components
 
 -- one more component where a line at the level comes next
@@ -80,17 +84,21 @@ only_one level read = read >>= λ x. if begins_at level x.1 then None else Some 
 
 -- ---- processes
 
+-- what was read, made into another tree
+unfoldable pub read_as : {A B : Type 0} → (A → B) → Option (A × List Row) → Option (B × List Row)
+read_as make read = read >>= λ x. Some (make x.0, x.1)
+
 -- a block without a replicator
-unfoldable pub block_with : (kind : BlockKind) → Option (Components (part_of kind) × List Row)
+abbrev pub block_with : (kind : BlockKind) → Option (Components (part_of kind) × List Row)
     → Option (Construct × List Row)
-block_with kind read = read >>= λ x. Some (Block kind x.0, x.1)
+block_with kind read = read_as (Block kind) read
 
 -- a block under a replicator
-unfoldable pub replicated_with : Replicator → Option (Body × List Row) → Option (Construct × List Row)
-replicated_with replicator read = read >>= λ x. Some (Replicated replicator x.0, x.1)
+abbrev pub replicated_with : Replicator → Option (Body × List Row) → Option (Construct × List Row)
+replicated_with replicator read = read_as (Replicated replicator) read
 
-unfoldable pub body_with : (kind : BlockKind) → Option (Component (part_of kind) × List Row) → Option (Body × List Row)
-body_with kind read = read >>= λ x. Some (One kind x.0, x.1)
+abbrev pub body_with : (kind : BlockKind) → Option (Component (part_of kind) × List Row) → Option (Body × List Row)
+body_with kind read = read_as (One kind) read
 
 abbrev pub construct_behind : ((part : Part) → ReadsLines (Component part)) → ℕ → BlockKind → Option Replicator
     → ReadsLines Construct

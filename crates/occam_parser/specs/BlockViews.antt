@@ -1,11 +1,15 @@
 -- The trees that processes and programs of the program are.
-use Rattle.std.specs.Prelude.{◌≡◌, ℕ, List, map, fold, Result, Ok, Err}
+use Rattle.std.specs.Prelude.{◌≡◌, ℕ, ◌-◌, List, map, fold, Result, Ok, Err}
 use Rattle.std.specs.Borrow.{Bor}
 use Rattle.occam_layout.specs.declared.token.Line.{Line}
 use Rattle.occam_parser.specs.declared.fault.Refusal.{Refusal}
 use Rattle.occam_parser.specs.declared.fault.Refusal.TheVariants as refusals
-use Rattle.occam_parser.specs.Lines.{Declaration}
+use Rattle.occam_parser.specs.declared.head.BlockKind.{BlockKind}
 use Rattle.occam_parser.specs.declared.head.BlockKind.TheVariants as block
+use Rattle.occam_parser.specs.declared.block.Components as components_type
+use Rattle.occam_parser.specs.declared.block.ComponentHead as head_type
+use Rattle.occam_parser.specs.declared.block.ComponentHead.TheVariants as head
+use Rattle.occam_parser.specs.declared.block.Lead.{Lead}
 use Rattle.occam_parser.specs.declared.tree.Process.{Process as CodeProcess}
 use Rattle.occam_parser.specs.declared.tree.Construct.{Construct as CodeConstruct}
 use Rattle.occam_parser.specs.declared.tree.Body.{Body as CodeBody}
@@ -21,10 +25,12 @@ use Rattle.occam_parser.specs.declared.tree.Item.TheVariants as item
 use Rattle.occam_parser.specs.Views.{expression_of}
 use Rattle.occam_parser.specs.LineViews.{declaration_of, action_of, replicator_of, guard_of, formal_of, constant_of}
 use Rattle.occam_parser.specs.LineViews.{start_of}
-use Rattle.occam_parser.specs.Blocks.{Process, Does, Construct, Act, Block, Replicated, Body, One, Part, Processes}
-use Rattle.occam_parser.specs.Blocks.{Choices, Branches, Components, NoComponent, Further, Component, Plain, Chosen, Guarded}
+use Rattle.occam_parser.specs.Told.{Lacks}
+use Rattle.occam_parser.specs.Blocks.{Row, rows_of, Process, Does, Construct, Act, Block, Replicated, Body, One, Part}
+use Rattle.occam_parser.specs.Blocks.{Processes, Choices, Branches, part_of, Components, NoComponent, Further, Component}
+use Rattle.occam_parser.specs.Blocks.{Plain, Chosen, Guarded}
 use Rattle.occam_parser.specs.Blocks.{Procedure, ProgramItem, GlobalConstant, GlobalProcedure}
-use Rattle.occam_parser.specs.BlockReading.{Beginning, with_declarations}
+use Rattle.occam_parser.specs.BlockReading.{Beginning, with_declarations, read_as, body_with, process_at, component_at}
 
 -- components from a list
 abbrev pub all_of : {part : Part} → List (Component part) → Components part
@@ -86,14 +92,36 @@ all_choices found = all_of (map choice_of found)
 abbrev pub all_branches : List Branch → Components Branches
 all_branches found = all_of (map branch_of found)
 
--- The process that declarations and a construct that was read make, beside the lines behind it: the refusal of the
--- construct, or a lack of memory, or that process.
-abbrev pub MakesProcess : List Declaration → ℕ → Result (CodeConstruct × Bor (List Line)) Refusal
-    → Result (CodeProcess × Bor (List Line)) Refusal → Type 0
-MakesProcess declarations line (Err e) answer = answer ≡ Err e
-MakesProcess declarations line (Ok c) (Ok x) =
-    (process_of x.0 ≡ with_declarations declarations (Does line (construct_of c.0))) × (x.1 ≡ c.1)
-MakesProcess declarations line (Ok c) (Err e) = e ≡ refusals.Memory
+-- those of a kind, of what a block has
+abbrev pub components_in : (kind : BlockKind) → components_type.Components → Components (part_of kind)
+components_in block.Seq found = all_processes found.processes.items
+components_in block.Par found = all_processes found.processes.items
+components_in block.If found = all_choices found.choices.items
+components_in block.Alt found = all_branches found.branches.items
+
+-- there is one more component of its kind
+abbrev pub HasOneMore : Body → (old new : components_type.Components) → Type 0
+HasOneMore (One kind c) old new = components_in kind new ≡ Further (components_in kind old) c
+
+-- The component that was read, added: its refusal, or a lack of memory, or one more of its kind and the lines behind.
+abbrev pub Adds : Result (CodeBody × Bor (List Line)) Refusal → (old new : components_type.Components)
+    → Result (Bor (List Line)) Refusal → Type 0
+Adds (Err e) old new answer = answer ≡ Err e
+Adds (Ok x) old new (Err e) = e ≡ refusals.Memory
+Adds (Ok x) old new (Ok rest) = HasOneMore (body_of x.0) old new × (rest.now ≡ x.1.now)
+
+-- the component that a process is, below what stands above it
+abbrev pub led : head_type.ComponentHead → Process → Body
+led head.Seq process = One block.Seq (Plain process)
+led head.Par process = One block.Par (Plain process)
+led (head.If line condition) process = One block.If (Chosen line (expression_of condition) process)
+led (head.Alt line guard) process = One block.Alt (Guarded line (guard_of guard) process)
+
+-- What leads to the process of a component: its refusal, or where the process is read that is left to read.
+abbrev pub LeadsTo : BlockKind → ℕ → List Row → Result (Lead × Bor (List Line)) Refusal → Type 0
+LeadsTo kind level rows (Err e) = Lacks e (body_with kind (component_at (65 - level) level (part_of kind) rows))
+LeadsTo kind level rows (Ok x) = body_with kind (component_at (65 - level) level (part_of kind) rows)
+    ≡ read_as (led x.0.head) (process_at (65 - x.0.level) x.0.level (rows_of x.1.now))
 
 abbrev pub procedure_of : proc_type.Proc → Procedure
 procedure_of p = record {

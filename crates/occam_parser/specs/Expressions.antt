@@ -9,15 +9,11 @@ use Rattle.occam_parser.specs.declared.tree.PrefixOperator.{PrefixOperator}
 use Rattle.occam_parser.specs.declared.tree.PrefixOperator.TheVariants as prefix
 use Rattle.occam_parser.specs.declared.tree.PairOperator.{PairOperator}
 use Rattle.occam_parser.specs.declared.tree.PairOperator.TheVariants as pair
-use Rattle.occam_parser.specs.declared.tree.ArithmeticPair.{ArithmeticPair}
 use Rattle.occam_parser.specs.declared.tree.ArithmeticPair.TheVariants as arithmetic_pair
-use Rattle.word_arithmetic.specs.declared.compare.Comparison.{Comparison}
 use Rattle.word_arithmetic.specs.declared.compare.Comparison.TheVariants as comparison
 use Rattle.occam_parser.specs.declared.tree.ChainOperator.{ChainOperator}
 use Rattle.occam_parser.specs.declared.tree.ChainOperator.TheVariants as chain
-use Rattle.occam_parser.specs.declared.tree.ArithmeticChain.{ArithmeticChain}
 use Rattle.occam_parser.specs.declared.tree.ArithmeticChain.TheVariants as arithmetic_chain
-use Rattle.occam_parser.specs.declared.tree.Logic.{Logic}
 use Rattle.occam_parser.specs.declared.tree.Logic.TheVariants as logic
 use Rattle.occam_parser.specs.declared.front.Operator as operator_type
 use Rattle.occam_parser.specs.declared.front.Operator.TheVariants as operator
@@ -61,46 +57,34 @@ truth_word false = Mark mark.False
 
 -- ---- the marks of operators
 
-abbrev pub arithmetic_pair_mark : ArithmeticPair → mark_type.Mark
-arithmetic_pair_mark arithmetic_pair.Subtract = mark.Subtract
-arithmetic_pair_mark arithmetic_pair.Divide = mark.Divide
-arithmetic_pair_mark arithmetic_pair.Remainder = mark.Remainder
-arithmetic_pair_mark arithmetic_pair.Minus = mark.Minus
-arithmetic_pair_mark arithmetic_pair.ShiftLeft = mark.ShiftLeft
-arithmetic_pair_mark arithmetic_pair.ShiftRight = mark.ShiftRight
-
-abbrev pub comparison_mark : Comparison → mark_type.Mark
-comparison_mark comparison.Equal = mark.Equal
-comparison_mark comparison.NotEqual = mark.NotEqual
-comparison_mark comparison.Less = mark.Less
-comparison_mark comparison.Greater = mark.Greater
-comparison_mark comparison.LessOrEqual = mark.LessOrEqual
-comparison_mark comparison.GreaterOrEqual = mark.GreaterOrEqual
-
-abbrev pub arithmetic_chain_mark : ArithmeticChain → mark_type.Mark
-arithmetic_chain_mark arithmetic_chain.Add = mark.Add
-arithmetic_chain_mark arithmetic_chain.Multiply = mark.Multiply
-arithmetic_chain_mark arithmetic_chain.Plus = mark.Plus
-arithmetic_chain_mark arithmetic_chain.Times = mark.Times
-arithmetic_chain_mark arithmetic_chain.BitAnd = mark.BitAnd
-arithmetic_chain_mark arithmetic_chain.BitOr = mark.BitOr
-arithmetic_chain_mark arithmetic_chain.BitXor = mark.BitXor
-
-abbrev pub logic_mark : Logic → mark_type.Mark
-logic_mark logic.And = mark.And
-logic_mark logic.Or = mark.Or
+abbrev pub operator_mark : operator_type.Operator → mark_type.Mark
+operator_mark (operator.Pair (pair.Arithmetic arithmetic_pair.Subtract)) = mark.Subtract
+operator_mark (operator.Pair (pair.Arithmetic arithmetic_pair.Divide)) = mark.Divide
+operator_mark (operator.Pair (pair.Arithmetic arithmetic_pair.Remainder)) = mark.Remainder
+operator_mark (operator.Pair (pair.Arithmetic arithmetic_pair.Minus)) = mark.Minus
+operator_mark (operator.Pair (pair.Arithmetic arithmetic_pair.ShiftLeft)) = mark.ShiftLeft
+operator_mark (operator.Pair (pair.Arithmetic arithmetic_pair.ShiftRight)) = mark.ShiftRight
+operator_mark (operator.Pair (pair.Comparison comparison.Equal)) = mark.Equal
+operator_mark (operator.Pair (pair.Comparison comparison.NotEqual)) = mark.NotEqual
+operator_mark (operator.Pair (pair.Comparison comparison.Less)) = mark.Less
+operator_mark (operator.Pair (pair.Comparison comparison.Greater)) = mark.Greater
+operator_mark (operator.Pair (pair.Comparison comparison.LessOrEqual)) = mark.LessOrEqual
+operator_mark (operator.Pair (pair.Comparison comparison.GreaterOrEqual)) = mark.GreaterOrEqual
+operator_mark (operator.Chain (chain.Arithmetic arithmetic_chain.Add)) = mark.Add
+operator_mark (operator.Chain (chain.Arithmetic arithmetic_chain.Multiply)) = mark.Multiply
+operator_mark (operator.Chain (chain.Arithmetic arithmetic_chain.Plus)) = mark.Plus
+operator_mark (operator.Chain (chain.Arithmetic arithmetic_chain.Times)) = mark.Times
+operator_mark (operator.Chain (chain.Arithmetic arithmetic_chain.BitAnd)) = mark.BitAnd
+operator_mark (operator.Chain (chain.Arithmetic arithmetic_chain.BitOr)) = mark.BitOr
+operator_mark (operator.Chain (chain.Arithmetic arithmetic_chain.BitXor)) = mark.BitXor
+operator_mark (operator.Chain (chain.Logic logic.And)) = mark.And
+operator_mark (operator.Chain (chain.Logic logic.Or)) = mark.Or
 
 abbrev pub pair_mark : PairOperator → mark_type.Mark
-pair_mark (pair.Arithmetic op) = arithmetic_pair_mark op
-pair_mark (pair.Comparison op) = comparison_mark op
+pair_mark op = operator_mark (operator.Pair op)
 
 abbrev pub chain_mark : ChainOperator → mark_type.Mark
-chain_mark (chain.Arithmetic op) = arithmetic_chain_mark op
-chain_mark (chain.Logic op) = logic_mark op
-
-abbrev pub operator_mark : operator_type.Operator → mark_type.Mark
-operator_mark (operator.Pair op) = pair_mark op
-operator_mark (operator.Chain op) = chain_mark op
+chain_mark op = operator_mark (operator.Chain op)
 
 -- ---- how a tree is written
 

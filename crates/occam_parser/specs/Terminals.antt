@@ -1,9 +1,8 @@
 -- What the grammar is written in: a token apart from where it stands.
 use Rattle.std.specs.Prelude.{ℕ, ℤ, List, map}
-use Rattle.occam_layout.specs.Kind.{bytes_of}
+use Rattle.occam_layout.specs.Kind.{told_by}
 use Rattle.occam_layout.specs.declared.token.Token.{Token}
 use Rattle.occam_layout.specs.declared.token.TokenKind.{TokenKind}
-use Rattle.occam_layout.specs.declared.token.TokenKind.TheVariants as token
 use Rattle.occam_layout.specs.declared.mark.Mark as mark_type
 
 pub data Terminal : Type 0 where
@@ -14,11 +13,7 @@ pub data Terminal : Type 0 where
   Mark : (mark : mark_type.Mark) → Terminal
 
 abbrev pub terminal_of : TokenKind → Terminal
-terminal_of (token.Name text) = Name text.now
-terminal_of (token.Integer value) = Integer value
-terminal_of (token.Character byte) = Character byte
-terminal_of (token.Text text) = Text (bytes_of text)
-terminal_of (token.Mark m) = Mark m
+terminal_of = told_by Name Integer Character Text Mark
 
 abbrev pub terminals_of : List Token → List Terminal
 terminals_of tokens = map (λ (t : Token). terminal_of t.kind) tokens

@@ -113,11 +113,13 @@ Pushes (Err e) old new answer = answer ≡ Err e
 Pushes (Ok x) old new (Err e) = e ≡ refusals.Memory
 Pushes (Ok x) old new (Ok rest) = (new ≡ old ++ x.0 ∷ []) × (rest.now ≡ x.1.now)
 
--- What a head has, beside what was read below it: the refusal of that, or both, and the lines behind.
-abbrev pub StandsAbove : {A B : Type 0} → A → Result (B × Bor (List Line)) Refusal
-    → Result ((A × B) × Bor (List Line)) Refusal → Type 0
-StandsAbove head (Err e) answer = answer ≡ Err e
-StandsAbove head (Ok x) answer = answer ≡ Ok ((head, x.0), x.1)
+-- What was read and is seen so, made into what is seen as another tree: its refusal, or a lack of memory, or that tree,
+-- and the same lines behind.
+abbrev pub Makes : {A B X Y : Type 0} → (A → X) → (B → Y) → (X → Y) → Result (A × Bor (List Line)) Refusal
+    → Result (B × Bor (List Line)) Refusal → Type 0
+Makes seen view make (Err e) answer = answer ≡ Err e
+Makes seen view make (Ok x) (Ok y) = (view y.0 ≡ make (seen x.0)) × (y.1 ≡ x.1)
+Makes seen view make (Ok x) (Err e) = e ≡ refusals.Memory
 
 -- What was read, if no other line at the level follows: its refusal, or a fault, or the same.
 abbrev pub IsOnlyOne : {A : Type 0} → ℕ → (read answer : Result (A × Bor (List Line)) Refusal) → Type 0

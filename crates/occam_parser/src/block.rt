@@ -1,19 +1,18 @@
 //! Processes, by the levels of their lines.
 
-ghost use Rattle.std.specs.Prelude.{◌≡◌, ◌≤◌, ◌<◌, ◌-◌, [], length, map, IfOk, OnOk};
-ghost use Rattle.occam_parser.specs.Told.{Tells, Pushes, StandsAbove, IsOnlyOne};
-ghost use Rattle.occam_parser.specs.BlockViews.{MakesProcess};
+ghost use Rattle.std.specs.Prelude.{◌≡◌, ◌≤◌, ◌<◌, ◌-◌, [], length, map, option_map, IfOk, OnOk};
+ghost use Rattle.occam_parser.specs.Told.{Tells, Pushes, Makes, IsOnlyOne};
 ghost use Rattle.occam_parser.specs.LineViews.{declaration_of, replicator_of};
-ghost use Rattle.occam_parser.specs.Blocks.{row_of, rows_of, Processes, Choices, Branches, part_of, NoComponent, One};
-ghost use Rattle.occam_parser.specs.BlockReading.{first_row, head_row, beginning_from, begins_at, components_of};
-ghost use Rattle.occam_parser.specs.BlockReading.{process_at, component_at, block_with, replicated_with, body_with};
-ghost use Rattle.occam_parser.specs.BlockReading.{only_one};
-ghost use Rattle.occam_parser.specs.BlockViews.{process_of, construct_of, beginning_of, body_of, all_processes};
-ghost use Rattle.occam_parser.specs.BlockViews.{all_choices, all_branches, choice_of, branch_of};
+ghost use Rattle.occam_parser.specs.Blocks.{row_of, rows_of, part_of, Block, Replicated as Repeats};
+ghost use Rattle.occam_parser.specs.BlockReading.{first_row, head_row, beginning_from, behind_declarations, begins_at};
+ghost use Rattle.occam_parser.specs.BlockReading.{process_at, component_at, components_of, construct_behind, block_with};
+ghost use Rattle.occam_parser.specs.BlockReading.{body_with, only_one};
+ghost use Rattle.occam_parser.specs.BlockViews.{process_of, construct_of, beginning_of, body_of, components_in};
+ghost use Rattle.occam_parser.specs.BlockViews.{Adds, led, LeadsTo};
 
 use crate::fault::{Fault, Refusal, at_line};
 use crate::head::{BlockKind, FromLine, Head, Start, head_of};
-use crate::tree::{Body, Branch, Choice, Construct, Declaration, Process, Replicator};
+use crate::tree::{Body, Branch, Choice, Construct, Declaration, Expr, Guard, Process, Replicator};
 use occam_layout::Line;
 use std::alloc::Global;
 
@@ -84,36 +83,38 @@ struct Opening<'a> {
     start: Start<'a>,
 }
 
-/// The lines of a process up to the one that its construct begins with, and the lines behind.
-fn read_opening<'l, 'a>(
-    alloc: Global,
-    owner: usize,
-    level: u32,
-    lines: &'l [Line<'a>],
-) -> Result<(Opening<'a>, &'l [Line<'a>]), Refusal>
-    ensures found { Tells (λ x. (beginning_of x.0, rows_of x.1.now)) result (beginning_from level [] (rows_of lines.now)) }
-    ensures within { IfOk result (λ x. length x.1.now < length lines.now) }
-    ensures level { OnOk result (level ≤ 64) }
-{
-    let mut declarations = Vec::new(alloc);
-    let (mut line, mut rest) = first_at(owner, level, lines)?;
-    loop {
-        let head = at_line(head_of(alloc, line), rest.len() + 1)?;
-        match head {
-            Head::Declaration(declaration) => declarations.push(declaration)?,
-            Head::Start(start) => {
-                let line = line.number;
-                return Ok((
-                    Opening {
-                        declarations,
-                        line,
-                        start,
-                    },
-                    rest,
-                ));
+impl<'a> Opening<'a> {
+    /// The lines of a process up to the one that its construct begins with, and the lines behind.
+    fn read<'l>(
+        alloc: Global,
+        owner: usize,
+        level: u32,
+        lines: &'l [Line<'a>],
+    ) -> Result<(Self, &'l [Line<'a>]), Refusal>
+        ensures found { Tells (λ x. (beginning_of x.0, rows_of x.1.now)) result (beginning_from level [] (rows_of lines.now)) }
+        ensures within { IfOk result (λ x. length x.1.now < length lines.now) }
+        ensures level { OnOk result (level ≤ 64) }
+    {
+        let mut declarations = Vec::new(alloc);
+        let (mut line, mut rest) = first_at(owner, level, lines)?;
+        loop {
+            let head = at_line(head_of(alloc, line), rest.len() + 1)?;
+            match head {
+                Head::Declaration(declaration) => declarations.push(declaration)?,
+                Head::Start(start) => {
+                    let line = line.number;
+                    return Ok((
+                        Opening {
+                            declarations,
+                            line,
+                            start,
+                        },
+                        rest,
+                    ));
+                }
             }
+            (line, rest) = first_at(owner, level, rest)?;
         }
-        (line, rest) = first_at(owner, level, rest)?;
     }
 }
 
@@ -124,7 +125,7 @@ fn made_of<'l, 'a>(
     line: u32,
     read: Result<(Construct<'a>, &'l [Line<'a>]), Refusal>,
 ) -> Result<(Process<'a>, &'l [Line<'a>]), Refusal>
-    ensures { MakesProcess (map declaration_of declarations.entry.items) line read.entry result }
+    ensures { Makes construct_of process_of (behind_declarations (map declaration_of declarations.entry.items) line) read.entry result }
 {
     let (construct, rest) = read?;
     let construct = Box::new(alloc, construct)?;
@@ -138,15 +139,157 @@ fn made_of<'l, 'a>(
     ))
 }
 
-/// What the line of a head says, beside what was read below it, and the lines behind that.
-fn below<'l, 'a, H: Drop, T: Drop>(
-    head: H,
-    read: Result<(T, &'l [Line<'a>]), Refusal>,
-) -> Result<((H, T), &'l [Line<'a>]), Refusal>
-    ensures { StandsAbove head read.entry result }
+/// What stands above the process of a component: nothing in a `SEQ` or a `PAR`, and a line in the others.
+#[derive(Drop)]
+enum ComponentHead<'a> {
+    Seq,
+    Par,
+    If { line: u32, condition: Expr<'a> },
+    Alt { line: u32, guard: Guard<'a> },
+}
+
+impl<'a> ComponentHead<'a> {
+    /// The component that has this process below.
+    fn above(self, process: Process<'a>) -> Body<'a>
+        ensures { body_of result ≡ led self.entry (process_of process.entry) }
+    {
+        match self {
+            ComponentHead::Seq => Body::Seq(process),
+            ComponentHead::Par => Body::Par(process),
+            ComponentHead::If { line, condition } => Body::If(Choice {
+                line,
+                condition,
+                process,
+            }),
+            ComponentHead::Alt { line, guard } => Body::Alt(Branch {
+                line,
+                guard,
+                process,
+            }),
+        }
+    }
+}
+
+/// What leads to the process of a component.
+#[derive(Drop)]
+struct Lead<'a> {
+    head: ComponentHead<'a>,
+    /// How many lines are left from the head on that the process belongs to.
+    owner: usize,
+    /// The level of the process.
+    level: u32,
+}
+
+impl<'a> Lead<'a> {
+    /// What leads to the process of the component at `level`, and the lines from that process on. The component
+    /// belongs to a head, from which on `owner` lines are left.
+    fn read<'l>(
+        alloc: Global,
+        kind: BlockKind,
+        owner: usize,
+        level: u32,
+        lines: &'l [Line<'a>],
+    ) -> Result<(Self, &'l [Line<'a>]), Refusal>
+        ensures leads { LeadsTo kind level (rows_of lines.now) result }
+        ensures within { IfOk result (λ x. length x.1.now ≤ length lines.now) }
+        ensures level { IfOk result (λ x. level ≤ x.0.level) }
+    {
+        match kind {
+            BlockKind::Seq => {
+                let head = ComponentHead::Seq;
+                Ok((Lead { head, owner, level }, lines))
+            }
+            BlockKind::Par => {
+                let head = ComponentHead::Par;
+                Ok((Lead { head, owner, level }, lines))
+            }
+            BlockKind::If => {
+                let ((line, condition), rest) = headed(alloc, owner, level, lines)?;
+                let head = ComponentHead::If { line, condition };
+                let (owner, level) = (rest.len() + 1, level + 1);
+                Ok((Lead { head, owner, level }, rest))
+            }
+            BlockKind::Alt => {
+                let ((line, guard), rest) = headed(alloc, owner, level, lines)?;
+                let head = ComponentHead::Alt { line, guard };
+                let (owner, level) = (rest.len() + 1, level + 1);
+                Ok((Lead { head, owner, level }, rest))
+            }
+        }
+    }
+}
+
+/// The component that a process is below its head, and the lines behind it.
+fn led_by<'l, 'a>(
+    head: ComponentHead<'a>,
+    read: Result<(Process<'a>, &'l [Line<'a>]), Refusal>,
+) -> Result<(Body<'a>, &'l [Line<'a>]), Refusal>
+    ensures { Makes process_of body_of (led head.entry) read.entry result }
 {
-    let (found, rest) = read?;
-    Ok(((head, found), rest))
+    let (process, rest) = read?;
+    Ok((head.above(process), rest))
+}
+
+/// A block under a replicator with the component that was read, and the lines behind it.
+fn replicated_of<'l, 'a>(
+    replicator: Replicator<'a>,
+    read: Result<(Body<'a>, &'l [Line<'a>]), Refusal>,
+) -> Result<(Construct<'a>, &'l [Line<'a>]), Refusal>
+    ensures { Makes body_of construct_of (Repeats (replicator_of replicator.entry)) read.entry result }
+{
+    let (body, rest) = read?;
+    Ok((Construct::Replicated { replicator, body }, rest))
+}
+
+/// The components of a block: those of its kind, and no others.
+#[derive(Drop)]
+struct Components<'a> {
+    processes: Vec<Process<'a>>,
+    choices: Vec<Choice<'a>>,
+    branches: Vec<Branch<'a>>,
+}
+
+impl<'a> Components<'a> {
+    fn none(alloc: Global) -> Components<'a>
+        ensures processes { result.processes.items ≡ [] }
+        ensures choices { result.choices.items ≡ [] }
+        ensures branches { result.branches.items ≡ [] }
+    {
+        Components {
+            processes: Vec::new(alloc),
+            choices: Vec::new(alloc),
+            branches: Vec::new(alloc),
+        }
+    }
+
+    /// Adds the component that was read, and tells the lines behind it.
+    fn add<'l>(
+        &mut self,
+        read: Result<(Body<'a>, &'l [Line<'a>]), Refusal>,
+    ) -> Result<&'l [Line<'a>], Refusal>
+        ensures { Adds read.entry self.old self.new result }
+    {
+        let (component, rest) = read?;
+        match component {
+            Body::Seq(process) | Body::Par(process) => {
+                push(&mut self.processes, Ok((process, rest)))
+            }
+            Body::If(choice) => push(&mut self.choices, Ok((choice, rest))),
+            Body::Alt(branch) => push(&mut self.branches, Ok((branch, rest))),
+        }
+    }
+
+    /// The block of this kind that has them.
+    fn into_block(self, kind: BlockKind) -> Construct<'a>
+        ensures { construct_of result ≡ Block kind (components_in kind self.entry) }
+    {
+        match kind {
+            BlockKind::Seq => Construct::Seq(self.processes),
+            BlockKind::Par => Construct::Par(self.processes),
+            BlockKind::If => Construct::If(self.choices),
+            BlockKind::Alt => Construct::Alt(self.branches),
+        }
+    }
 }
 
 /// The process at the front of some lines, at a level, and the lines behind it. It belongs to a head, from which on
@@ -161,7 +304,7 @@ pub(crate) fn process<'l, 'a>(
     ensures found { Tells (λ x. (process_of x.0, rows_of x.1.now)) result (process_at (65 - level) level (rows_of lines.now)) }
     ensures within { IfOk result (λ x. length x.1.now < length lines.now) }
 {
-    let (opening, rest) = read_opening(alloc, owner, level, lines)?;
+    let (opening, rest) = Opening::read(alloc, owner, level, lines)?;
     let Opening {
         declarations,
         line,
@@ -176,16 +319,8 @@ pub(crate) fn process<'l, 'a>(
                 Ok((Construct::Action(action), rest)),
             )
         }
-        Start::Block(kind, None) => {
-            made_of(
-                alloc,
-                declarations,
-                line,
-                block(alloc, kind, level + 1, rest),
-            )
-        }
-        Start::Block(kind, Some(replicator)) => {
-            let read = replicated(alloc, kind, replicator, level + 1, rest);
+        Start::Block(kind, replicator) => {
+            let read = construct(alloc, kind, replicator, level + 1, rest);
             made_of(alloc, declarations, line, read)
         }
     }
@@ -228,186 +363,51 @@ fn block<'l, 'a>(
     ensures found { Tells (λ x. (construct_of x.0, rows_of x.1.now)) result (block_with kind (components_of (component_at (65 - level) level (part_of kind)) level (rows_of lines.now))) }
     ensures within { IfOk result (λ x. length x.1.now ≤ length lines.now) }
 {
-    match kind {
-        BlockKind::Seq => {
-            let mut found = Vec::new(alloc);
-            let rest = processes(alloc, level, lines, &mut found)?;
-            Ok((Construct::Seq(found), rest))
-        }
-        BlockKind::Par => {
-            let mut found = Vec::new(alloc);
-            let rest = processes(alloc, level, lines, &mut found)?;
-            Ok((Construct::Par(found), rest))
-        }
-        BlockKind::If => {
-            let mut found = Vec::new(alloc);
-            let rest = choices(alloc, level, lines, &mut found)?;
-            Ok((Construct::If(found), rest))
-        }
-        BlockKind::Alt => {
-            let mut found = Vec::new(alloc);
-            let rest = branches(alloc, level, lines, &mut found)?;
-            Ok((Construct::Alt(found), rest))
+    let owner = lines.len() + 1;
+    let mut found = Components::none(alloc);
+    let (mut goes_on, mut rest) = begins_at(level, lines);
+    while goes_on {
+        let behind = found.add(body(alloc, kind, owner, level, rest))?;
+        (goes_on, rest) = begins_at(level, behind);
+    }
+    Ok((found.into_block(kind), rest))
+}
+
+/// The construct of a block's kind, whose components are at `level`, behind its head. Under a replicator there is one.
+#[cycle(process)]
+fn construct<'l, 'a>(
+    alloc: Global,
+    kind: BlockKind,
+    replicator: Option<Replicator<'a>>,
+    level: u32,
+    lines: &'l [Line<'a>],
+) -> Result<(Construct<'a>, &'l [Line<'a>]), Refusal>
+    ensures found { Tells (λ x. (construct_of x.0, rows_of x.1.now)) result (construct_behind (component_at (65 - level) level) level kind (option_map replicator_of replicator.entry) (rows_of lines.now)) }
+    ensures within { IfOk result (λ x. length x.1.now ≤ length lines.now) }
+{
+    match replicator {
+        None => block(alloc, kind, level, lines),
+        Some(replicator) => {
+            let read = body(alloc, kind, lines.len() + 1, level, lines);
+            replicated_of(replicator, only_one(level, read))
         }
     }
 }
 
-/// A block under a replicator, whose one component is at `level`, behind its head.
-#[cycle(process)]
-fn replicated<'l, 'a>(
-    alloc: Global,
-    kind: BlockKind,
-    replicator: Replicator<'a>,
-    level: u32,
-    lines: &'l [Line<'a>],
-) -> Result<(Construct<'a>, &'l [Line<'a>]), Refusal>
-    ensures found { Tells (λ x. (construct_of x.0, rows_of x.1.now)) result (replicated_with (replicator_of replicator.entry) (only_one level (body_with kind (component_at (65 - level) level (part_of kind) (rows_of lines.now))))) }
-    ensures within { IfOk result (λ x. length x.1.now ≤ length lines.now) }
-{
-    let read = below(replicator, only_one(level, body(alloc, kind, level, lines)));
-    let ((replicator, body), rest) = read?;
-    Ok((Construct::Replicated { replicator, body }, rest))
-}
-
-/// The component at `level` behind the head of a block.
+/// The component at the front of some lines, at a level, and the lines behind it. It belongs to a head, from which on
+/// `owner` lines are left.
 #[cycle(process)]
 fn body<'l, 'a>(
     alloc: Global,
     kind: BlockKind,
+    owner: usize,
     level: u32,
     lines: &'l [Line<'a>],
 ) -> Result<(Body<'a>, &'l [Line<'a>]), Refusal>
     ensures found { Tells (λ x. (body_of x.0, rows_of x.1.now)) result (body_with kind (component_at (65 - level) level (part_of kind) (rows_of lines.now))) }
     ensures within { IfOk result (λ x. length x.1.now < length lines.now) }
 {
-    let owner = lines.len() + 1;
-    match kind {
-        BlockKind::Seq => {
-            let (process, rest) = process(alloc, owner, level, lines)?;
-            Ok((Body::Seq(process), rest))
-        }
-        BlockKind::Par => {
-            let (process, rest) = process(alloc, owner, level, lines)?;
-            Ok((Body::Par(process), rest))
-        }
-        BlockKind::If => {
-            let (choice, rest) = choice(alloc, owner, level, lines)?;
-            Ok((Body::If(choice), rest))
-        }
-        BlockKind::Alt => {
-            let (branch, rest) = branch(alloc, owner, level, lines)?;
-            Ok((Body::Alt(branch), rest))
-        }
-    }
-}
-
-/// Reads the processes at `level` behind the head of a block, and tells the lines behind them.
-#[cycle(process)]
-fn processes<'l, 'a>(
-    alloc: Global,
-    level: u32,
-    lines: &'l [Line<'a>],
-    found: &mut Vec<Process<'a>>,
-) -> Result<&'l [Line<'a>], Refusal>
-    requires { found.old.items ≡ [] }
-    ensures found { Tells (λ rest. (all_processes found.new.items, rows_of rest.now)) result (components_of (component_at (65 - level) level Processes) level (rows_of lines.now)) }
-    ensures within { IfOk result (λ rest. length rest.now ≤ length lines.now) }
-{
-    let owner = lines.len() + 1;
-    let (mut goes_on, mut rest) = begins_at(level, lines);
-    while goes_on {
-        let behind = push(found, process(alloc, owner, level, rest))?;
-        (goes_on, rest) = begins_at(level, behind);
-    }
-    Ok(rest)
-}
-
-/// Reads the choices at `level` behind the head of an `IF`, and tells the lines behind them.
-#[cycle(process)]
-fn choices<'l, 'a>(
-    alloc: Global,
-    level: u32,
-    lines: &'l [Line<'a>],
-    found: &mut Vec<Choice<'a>>,
-) -> Result<&'l [Line<'a>], Refusal>
-    requires { found.old.items ≡ [] }
-    ensures found { Tells (λ rest. (all_choices found.new.items, rows_of rest.now)) result (components_of (component_at (65 - level) level Choices) level (rows_of lines.now)) }
-    ensures within { IfOk result (λ rest. length rest.now ≤ length lines.now) }
-{
-    let owner = lines.len() + 1;
-    let (mut goes_on, mut rest) = begins_at(level, lines);
-    while goes_on {
-        let behind = push(found, choice(alloc, owner, level, rest))?;
-        (goes_on, rest) = begins_at(level, behind);
-    }
-    Ok(rest)
-}
-
-/// A choice of an `IF` at `level`, and the lines behind it.
-#[cycle(process)]
-fn choice<'l, 'a>(
-    alloc: Global,
-    owner: usize,
-    level: u32,
-    lines: &'l [Line<'a>],
-) -> Result<(Choice<'a>, &'l [Line<'a>]), Refusal>
-    ensures found { Tells (λ x. (choice_of x.0, rows_of x.1.now)) result (component_at (65 - level) level Choices (rows_of lines.now)) }
-    ensures within { IfOk result (λ x. length x.1.now < length lines.now) }
-{
-    let ((line, condition), rest) = headed(alloc, owner, level, lines)?;
-    let read = below(condition, process(alloc, rest.len() + 1, level + 1, rest));
-    let ((condition, process), rest) = read?;
-    Ok((
-        Choice {
-            line,
-            condition,
-            process,
-        },
-        rest,
-    ))
-}
-
-/// Reads the branches at `level` behind the head of an `ALT`, and tells the lines behind them.
-#[cycle(process)]
-fn branches<'l, 'a>(
-    alloc: Global,
-    level: u32,
-    lines: &'l [Line<'a>],
-    found: &mut Vec<Branch<'a>>,
-) -> Result<&'l [Line<'a>], Refusal>
-    requires { found.old.items ≡ [] }
-    ensures found { Tells (λ rest. (all_branches found.new.items, rows_of rest.now)) result (components_of (component_at (65 - level) level Branches) level (rows_of lines.now)) }
-    ensures within { IfOk result (λ rest. length rest.now ≤ length lines.now) }
-{
-    let owner = lines.len() + 1;
-    let (mut goes_on, mut rest) = begins_at(level, lines);
-    while goes_on {
-        let behind = push(found, branch(alloc, owner, level, rest))?;
-        (goes_on, rest) = begins_at(level, behind);
-    }
-    Ok(rest)
-}
-
-/// A branch of an `ALT` at `level`, and the lines behind it.
-#[cycle(process)]
-fn branch<'l, 'a>(
-    alloc: Global,
-    owner: usize,
-    level: u32,
-    lines: &'l [Line<'a>],
-) -> Result<(Branch<'a>, &'l [Line<'a>]), Refusal>
-    ensures found { Tells (λ x. (branch_of x.0, rows_of x.1.now)) result (component_at (65 - level) level Branches (rows_of lines.now)) }
-    ensures within { IfOk result (λ x. length x.1.now < length lines.now) }
-{
-    let ((line, guard), rest) = headed(alloc, owner, level, lines)?;
-    let read = below(guard, process(alloc, rest.len() + 1, level + 1, rest));
-    let ((guard, process), rest) = read?;
-    Ok((
-        Branch {
-            line,
-            guard,
-            process,
-        },
-        rest,
-    ))
+    let (lead, rest) = Lead::read(alloc, kind, owner, level, lines)?;
+    let Lead { head, owner, level } = lead;
+    led_by(head, process(alloc, owner, level, rest))
 }

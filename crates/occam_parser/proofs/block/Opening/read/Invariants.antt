@@ -2,7 +2,7 @@ use Rattle.std.proofs.Common.{◌≡◌, ◌<◌, ◌≤◌, ◌∷◌, [], leng
 use Rattle.occam_parser.specs.LineViews.{declaration_of}
 use Rattle.occam_parser.specs.Blocks.{row_of, rows_of}
 use Rattle.occam_parser.specs.BlockReading.{is_at, beginning_from}
-use Rattle.occam_parser.proofs.block.read_opening.Given as goal
+use Rattle.occam_parser.proofs.block.Opening.read.Given as goal
 
 abbrev pub invariant-loop-declarations : goal.invariant-loop-declarations
 invariant-loop-declarations l = record {

@@ -7,7 +7,7 @@ use Rattle.occam_parser.specs.LineReading.{head_at}
 use Rattle.occam_parser.specs.Blocks.{row_of, rows_of}
 use Rattle.occam_parser.proofs.Answering.{told_found, told_lost, passed_on}
 use Rattle.occam_parser.proofs.Openings.{opening_none, opening_starts, opening_declares, opening_fails, opening_first}
-use Rattle.occam_parser.proofs.block.read_opening.Goals as goal
+use Rattle.occam_parser.proofs.block.Opening.read.Goals as goal
 
 pub returns-in_err-line-clause-found : goal.returns-in_err-line-clause-found
 returns-in_err-line-clause-found c =
