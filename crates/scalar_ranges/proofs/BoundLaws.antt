@@ -23,7 +23,8 @@ use Rattle.occam_parser.specs.Expressions.{Expression, Alone, Prefixed, Paired, 
 use Rattle.occam_parser.specs.Expressions.{Number, Byte, Truth, MostPos, MostNeg, Named, Element, Bracketed, Converted}
 use Rattle.scalar_ranges.specs.declared.types.ExprType.{ExprType}
 use Rattle.scalar_ranges.specs.declared.types.ExprType.TheVariants as types
-use Rattle.scalar_ranges.specs.Entries.{Meaning, Constant, Scalar, Array, Channel, Channels, Procedure, Entry, meaning_in}
+use Rattle.scalar_ranges.specs.Entries.{Meaning, Constant, Scalar, Array, Channel, Channels, Procedure, Entry}
+use Rattle.scalar_ranges.specs.Entries.{meaning_in}
 use Rattle.scalar_ranges.specs.Entries.{type_range}
 use Rattle.scalar_ranges.specs.Environments.{Held, Nothing, One, Many, Environment, held_in, one_of, element_of}
 use Rattle.scalar_ranges.specs.Environments.{item_of, IsHeld, Meets}

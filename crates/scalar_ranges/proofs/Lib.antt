@@ -4,5 +4,11 @@ pub mod Chains
 pub mod Lookups
 pub mod Operators
 pub mod BoundLaws
+pub mod ConstantLaws
 pub mod NarrowingLaws
 pub mod MoveLaws
+pub mod Rows
+pub mod Widening
+pub mod Named
+pub mod Joining
+pub mod Taking

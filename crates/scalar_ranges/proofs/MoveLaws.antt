@@ -9,7 +9,8 @@ use Rattle.scalar_ranges.specs.Environments.{Held, Nothing, One, Many, Binding, 
 use Rattle.scalar_ranges.specs.Narrowing.{Tested, test_of, with_range, changed, by_test, left_of, as_holds}
 use Rattle.scalar_ranges.specs.Moves.{outermost, at_number, assigned, assign, widened, is_one_of, widened_if, widen}
 use Rattle.scalar_ranges.specs.Moves.{hull_meaning, hulls, of_both, taken, ends_with}
-use Rattle.scalar_ranges.specs.MoveLaws.{DeclaringHolds, LeavingHolds, put, meaning_at, AssigningHolds, IsHeldAfter}
+use Rattle.scalar_ranges.specs.MoveLaws.{DeclaringHolds, LeavingHolds, put, meaning_at, ChangingHolds, HoldingHolds}
+use Rattle.scalar_ranges.specs.MoveLaws.{IsHeldAfter}
 use Rattle.scalar_ranges.specs.MoveLaws.{WideningHolds, shape, BranchesHold, ComponentsHold, ShapesStay}
 
 pub declaring_holds : DeclaringHolds
@@ -22,7 +23,8 @@ as_long [] (e ∷ es) m = absurd m
 as_long (b ∷ bs) [] m = absurd m
 as_long (b ∷ bs) (e ∷ es) m = let k = as_long bs es m.2 in omega arith
 
-leave_by : (t : Bool) (b : Binding) (bs : Environment) (e : Entry) (es : List Entry) (count : ℕ) → Meets (b ∷ bs) (e ∷ es)
+leave_by : (t : Bool) (b : Binding) (bs : Environment) (e : Entry) (es : List Entry) (count : ℕ)
+    → Meets (b ∷ bs) (e ∷ es)
     → Meets (outermost count bs) (outermost count es)
     → Meets (cond t (b ∷ bs) (outermost count bs)) (cond t (e ∷ es) (outermost count es))
 leave_by true b bs e es count m k = m
@@ -37,25 +39,37 @@ leaving_holds (e ∷ es) (b ∷ bs) count m =
     (sym (as_long bs es m.2))
     (leave_by (nat_lt (length es) count) b bs e es count m (leaving_holds es bs count m.2))
 
-assign_by : (t : Bool) (b : Binding) (bs : Environment) (e : Entry) (es : List Entry) (n : ℕ) (range : Ends) (m : Meaning)
-    (h : Held) → Meets (b ∷ bs) (e ∷ es) → cond t (Some e.meaning) (meaning_at n es) ≡ Some m
-    → IsHeld (assigned range m) h
-    → (meaning_at n es ≡ Some m → Meets (put n h bs) (at_number (assigned range) n es))
+change_by : (t : Bool) (b : Binding) (bs : Environment) (e : Entry) (es : List Entry) (n : ℕ) (f : Meaning → Meaning)
+    (m : Meaning) (h : Held) → Meets (b ∷ bs) (e ∷ es) → cond t (Some e.meaning) (meaning_at n es) ≡ Some m
+    → IsHeld (f m) h → (meaning_at n es ≡ Some m → Meets (put n h bs) (at_number f n es))
     → Meets (cond t (record { name = b.name; held = h } ∷ bs) (b ∷ put n h bs))
-    (cond t (record { name = e.name; meaning = assigned range e.meaning } ∷ es) (e ∷ at_number (assigned range) n es))
-assign_by true b bs e es n range m h meets is held others =
+    (cond t (record { name = e.name; meaning = f e.meaning } ∷ es) (e ∷ at_number f n es))
+change_by true b bs e es n f m h meets is held others =
     let same : e.meaning ≡ m = cc in
-    (meets.0, subst (λ k. IsHeld (assigned range k) h) (sym same) held, meets.2)
-assign_by false b bs e es n range m h meets is held others = (meets.0, meets.1, others is)
+    (meets.0, subst (λ k. IsHeld (f k) h) (sym same) held, meets.2)
+change_by false b bs e es n f m h meets is held others = (meets.0, meets.1, others is)
 
-pub assigning_holds : AssigningHolds
-assigning_holds [] env n range m h meets is held = absurd (cc)
-assigning_holds (e ∷ es) [] n range m h meets is held = absurd meets
-assigning_holds (e ∷ es) (b ∷ bs) n range m h meets is held =
+pub changing_holds : ChangingHolds
+changing_holds [] env n f m h meets is held = absurd (cc)
+changing_holds (e ∷ es) [] n f m h meets is held = absurd meets
+changing_holds (e ∷ es) (b ∷ bs) n f m h meets is held =
     subst (λ k. Meets (cond (nat_eq k n) (record { name = b.name; held = h } ∷ bs) (b ∷ put n h bs))
-    (assign n range (e ∷ es))) (sym (as_long bs es meets.2))
-    (assign_by (nat_eq (length es) n) b bs e es n range m h meets is held
-    (λ further. assigning_holds es bs n range m h meets.2 further held))
+    (at_number f n (e ∷ es))) (sym (as_long bs es meets.2))
+    (change_by (nat_eq (length es) n) b bs e es n f m h meets is held
+    (λ further. changing_holds es bs n f m h meets.2 further held))
+
+same_by : (t : Bool) (n : ℕ) (e : Entry) (es : List Entry) → at_number (λ m. m) n es ≡ es
+    → cond t (e ∷ es) (e ∷ at_number (λ m. m) n es) ≡ e ∷ es
+same_by true n e es h = refl
+same_by false n e es h = ap (λ ks. e ∷ ks) h
+
+all_same : (n : ℕ) (es : List Entry) → at_number (λ m. m) n es ≡ es
+all_same n [] = refl
+all_same n (e ∷ es) = same_by (nat_eq (length es) n) n e es (all_same n es)
+
+pub holding_holds : HoldingHolds
+holding_holds es env n m h meets is held =
+    subst (Meets (put n h env)) (all_same n es) (changing_holds es env n (λ k. k) m h meets is held)
 
 widened_held : (t : Bool) (e : Entry) (old new : Held) → IsHeld e.meaning old → IsHeldAfter t e.meaning old new
     → IsHeld (widened_if t e).meaning new
@@ -259,7 +273,8 @@ at_number_by false f n e es same h = ap (λ ks. flat_entry e ∷ ks) h
 assign_shape : (es : List Entry) (n : ℕ) (range : Ends) → shape (assign n range es) ≡ shape es
 assign_shape [] n range = refl
 assign_shape (e ∷ es) n range =
-    at_number_by (nat_eq (length es) n) (assigned range) n e es (assigned_flat range e.meaning) (assign_shape es n range)
+    at_number_by (nat_eq (length es) n) (assigned range) n e es (assigned_flat range e.meaning)
+    (assign_shape es n range)
 
 widened_entry : (t : Bool) (e : Entry) → flat_entry (widened_if t e) ≡ flat_entry e
 widened_entry false e = refl

@@ -15,7 +15,8 @@ use Rattle.occam_parser.specs.declared.tree.PairOperator.TheVariants as pair
 use Rattle.occam_parser.specs.Expressions.{Expression, Alone, Prefixed, Paired, Chained, Term, Named}
 use Rattle.scalar_ranges.specs.declared.types.ExprType.{ExprType}
 use Rattle.scalar_ranges.specs.declared.types.ExprType.TheVariants as types
-use Rattle.scalar_ranges.specs.Entries.{Meaning, Constant, Scalar, Array, Channel, Channels, Procedure, Entry, meaning_in}
+use Rattle.scalar_ranges.specs.Entries.{Meaning, Constant, Scalar, Array, Channel, Channels, Procedure, Entry}
+use Rattle.scalar_ranges.specs.Entries.{meaning_in}
 use Rattle.scalar_ranges.specs.Environments.{Held, Nothing, One, Many, Binding, Environment, held_in, one_of, IsHeld}
 use Rattle.scalar_ranges.specs.Environments.{Meets}
 use Rattle.scalar_ranges.specs.Types.{type_of, type_of_term, pair_type}
@@ -162,7 +163,8 @@ pub record IsTrueOf (env : Environment) (holds : Bool) (k : Tested) : Type 0 whe
   pub compares : compares (as_holds holds k.comparison) value k.constant ≡ true
 
 module _ (es : List Entry) (env : Environment) (meets : Meets env es) where
-  tested_by : (c : Comparison) (name : List ℕ) (t : Term) (k : Tested) (holds : Bool) (x y : ℤ) (s : ExprType) (b : Bool)
+  tested_by : (c : Comparison) (name : List ℕ) (t : Term) (k : Tested) (holds : Bool) (x y : ℤ) (s : ExprType)
+      (b : Bool)
       → cond b (option_map (λ v. record { name = name; comparison = c; constant = v }) (constant_in es t)) None
       ≡ Some k
       → number_of_term env (Named name) ≡ Some x → number_of_term env t ≡ Some y → type_of_term es t ≡ Ok s

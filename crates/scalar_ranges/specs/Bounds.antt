@@ -2,7 +2,8 @@
 use Rattle.std.specs.Prelude.{ℕ, ℤ, pos, Bool, ◌&&◌, List, if◌then◌else◌, Option, Some, None, option_map}
 use Rattle.std.specs.Prelude.{int_lt, int_le, Result, Ok, Err}
 use Rattle.word_arithmetic.specs.Word.{least_word, greatest_word, word_not, shifted_left, shifted_right}
-use Rattle.word_arithmetic.specs.Range.{Ends, is_within, range_between, constant, full, truths, not_range, shift_left_range}
+use Rattle.word_arithmetic.specs.Range.{Ends, is_within, range_between, constant, full, truths, not_range}
+use Rattle.word_arithmetic.specs.Range.{shift_left_range}
 use Rattle.word_arithmetic.specs.Range.{shift_right_range}
 use Rattle.word_arithmetic.specs.Binary.{computed, result_range}
 use Rattle.word_arithmetic.specs.declared.binary.Binary.{Binary}

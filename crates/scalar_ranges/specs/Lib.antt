@@ -1,12 +1,13 @@
 pub mod Entries
 pub mod Environments
 pub mod Steps
-pub mod Scopes
 pub mod Types
 pub mod Values
 pub mod Bounds
 pub mod BoundViews
 pub mod Narrowing
 pub mod Moves
+pub mod Scopes
+pub mod Tests
 pub mod Laws
 pub mod MoveLaws

@@ -6,7 +6,7 @@ use Rattle.occam_parser.specs.Expressions.{Expression}
 use Rattle.scalar_ranges.specs.Entries.{Meaning, Entry}
 use Rattle.scalar_ranges.specs.Environments.{Held, Environment, IsHeld, Meets}
 use Rattle.scalar_ranges.specs.Narrowing.{with_range, narrow}
-use Rattle.scalar_ranges.specs.Moves.{outermost, assigned, assign, widened, is_one_of, widen, hulls, taken}
+use Rattle.scalar_ranges.specs.Moves.{outermost, at_number, assign, widened, is_one_of, widen, hulls, taken}
 use Rattle.scalar_ranges.specs.Moves.{ends_with}
 
 -- ---- names
@@ -31,10 +31,15 @@ abbrev pub meaning_at : ℕ → List Entry → Option Meaning
 meaning_at n [] = None
 meaning_at n (e ∷ es) = if nat_eq (length es) n then Some e.meaning else meaning_at n es
 
--- What is assigned to holds what its meaning says then.
-abbrev pub AssigningHolds : Type 0
-AssigningHolds = (es : List Entry) (env : Environment) (n : ℕ) (range : Ends) (m : Meaning) (h : Held) → Meets env es
-    → meaning_at n es ≡ Some m → IsHeld (assigned range m) h → Meets (put n h env) (assign n range es)
+-- What is changed holds what its meaning says then: a number is assigned to a variable, or received.
+abbrev pub ChangingHolds : Type 0
+ChangingHolds = (es : List Entry) (env : Environment) (n : ℕ) (f : Meaning → Meaning) (m : Meaning) (h : Held)
+    → Meets env es → meaning_at n es ≡ Some m → IsHeld (f m) h → Meets (put n h env) (at_number f n es)
+
+-- The same of what a scope knows nothing more of, as an element of an array.
+abbrev pub HoldingHolds : Type 0
+HoldingHolds = (es : List Entry) (env : Environment) (n : ℕ) (m : Meaning) (h : Held) → Meets env es
+    → meaning_at n es ≡ Some m → IsHeld m h → Meets (put n h env) es
 
 -- what is held after some variables were changed, each to a number of its type
 abbrev pub IsHeldAfter : Bool → Meaning → Held → Held → Type 0

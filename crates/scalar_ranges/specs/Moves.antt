@@ -1,13 +1,27 @@
 -- What becomes known where a program goes on: each move from what was known before it.
 use Rattle.std.specs.Prelude.{ℕ, Bool, true, false, List, [], ◌∷◌, length, nat_eq, nat_lt, if◌then◌else◌, Option, Some}
-use Rattle.std.specs.Prelude.{None, unwrap_or}
-use Rattle.word_arithmetic.specs.Range.{Ends, hull}
+use Rattle.std.specs.Prelude.{None, unwrap_or, option_map, ℤ, pos}
+use Rattle.word_arithmetic.specs.Range.{Ends, constant, hull}
+use Rattle.occam_parser.specs.declared.tree.ValueType.{ValueType}
+use Rattle.occam_parser.specs.declared.tree.ValueType.TheVariants as value_type
 use Rattle.occam_parser.specs.Expressions.{Expression}
 use Rattle.scalar_ranges.specs.declared.scope.ScalarKind.TheVariants as kinds
-use Rattle.scalar_ranges.specs.Entries.{Meaning, Scalar, Entry, type_range}
+use Rattle.scalar_ranges.specs.Entries.{Meaning, Constant, Scalar, Entry, type_range}
 use Rattle.scalar_ranges.specs.Narrowing.{narrow}
 
 -- ---- names
+
+-- a variable that a line declares: it is 0
+abbrev pub variable : List ℕ → ValueType → Entry
+variable name type = record { name = name; meaning = Scalar kinds.Variable type (constant (pos 0)) }
+
+-- The replicator of a PAR, an IF or an ALT is a constant. It has no value where its declaration breaks a rule.
+abbrev pub constant_index : List ℕ → Option ℤ → Entry
+constant_index name value = record { name = name; meaning = Constant value_type.Int value }
+
+-- the replicator of a SEQ, by the range of its values
+abbrev pub index : List ℕ → Ends → Entry
+index name range = record { name = name; meaning = Scalar kinds.Index value_type.Int range }
 
 -- The outermost entries, as many as this: those that a block was entered with.
 abbrev pub outermost : {A : Type 0} → ℕ → List A → List A
@@ -95,21 +109,35 @@ end_of b es = outermost (length b.start) es
 abbrev pub begin : Known → Known
 begin k = record { entries = k.entries; blocks = record { start = k.entries; ends = None } ∷ k.blocks }
 
--- a branch that ended with these entries, and what is known where the next one begins
-abbrev pub next_from : (List Entry → List Entry) → List Entry → List Block → Known
-next_from narrows es [] = record { entries = es; blocks = [] }
-next_from narrows es (b ∷ bs) = record {
-  entries = narrows b.start;
-  blocks = record { start = narrows b.start; ends = Some (ends_with b.ends (end_of b es)) } ∷ bs;
+abbrev pub next_from : List Entry → List Block → Known
+next_from es [] = record { entries = es; blocks = [] }
+next_from es (b ∷ bs) = record {
+  entries = b.start;
+  blocks = record { start = b.start; ends = Some (ends_with b.ends (end_of b es)) } ∷ bs;
 }
 
 -- A branch has ended here. The next one begins as the first one did.
 abbrev pub next : Known → Known
-next k = next_from (λ es. es) k.entries k.blocks
+next k = next_from k.entries k.blocks
+
+abbrev pub exchanged : List Entry → List Block → Known
+exchanged es [] = record { entries = es; blocks = [] }
+exchanged es (b ∷ bs) = record { entries = b.start; blocks = record { start = es; ends = b.ends } ∷ bs }
+
+abbrev pub exclude_from : Expression → List Entry → List Block → Known
+exclude_from condition es [] = record { entries = es; blocks = [] }
+exclude_from condition es (b ∷ bs) = record {
+  entries = narrow b.start condition false;
+  blocks = record { start = narrow es condition false; ends = b.ends } ∷ bs;
+}
+
+-- The branches from here on begin where the condition did not hold. Where this one begins, both are the same entries.
+abbrev pub excluding : Expression → Known → Known
+excluding condition k = exclude_from condition k.entries k.blocks
 
 -- A branch of an IF has ended here. Where the next one begins, the condition of this one did not hold.
 abbrev pub next_choice : Expression → Known → Known
-next_choice condition k = next_from (λ es. narrow es condition false) k.entries k.blocks
+next_choice condition k = excluding condition (next k)
 
 -- what is known after a block whose last branch has ended: if it had none, it is as before
 abbrev pub after_block : List Entry → List Block → Known
@@ -126,11 +154,14 @@ begin_par k = record {
   blocks = record { start = k.entries; ends = Some k.entries } ∷ k.blocks;
 }
 
+abbrev pub component_end : List ℕ → Block → List Entry → Option (List Entry)
+component_end ns b es = option_map (λ ds. taken ns ds (end_of b es)) b.ends
+
 abbrev pub component_from : List ℕ → List Entry → List Block → Known
 component_from ns es [] = record { entries = es; blocks = [] }
 component_from ns es (b ∷ bs) = record {
   entries = b.start;
-  blocks = record { start = b.start; ends = Some (taken ns (unwrap_or b.ends b.start) (end_of b es)) } ∷ bs;
+  blocks = record { start = b.start; ends = component_end ns b es } ∷ bs;
 }
 
 -- A component has ended here, which changed the variables with these numbers.

@@ -1,11 +1,13 @@
 -- The entries that a scope of the program has.
-use Rattle.std.specs.Prelude.{List, map, reverse}
+use Rattle.std.specs.Prelude.{List, map, reverse, option_map}
 use Rattle.word_arithmetic.specs.Range.{ends_of}
 use Rattle.scalar_ranges.specs.declared.scope.Meaning as code_meaning
 use Rattle.scalar_ranges.specs.declared.scope.Meaning.TheVariants as meanings
 use Rattle.scalar_ranges.specs.declared.scope.Entry as code_entry
+use Rattle.scalar_ranges.specs.declared.scope.Block as code_block
 use Rattle.scalar_ranges.specs.declared.scope.Scope as code_scope
 use Rattle.scalar_ranges.specs.Entries.{Meaning, Constant, Scalar, Array, Channel, Channels, Procedure, Entry}
+use Rattle.scalar_ranges.specs.Moves.{Block, Known}
 
 abbrev pub meaning_of : code_meaning.Meaning → Meaning
 meaning_of (meanings.Constant type value) = Constant type value
@@ -24,3 +26,13 @@ entries_from entries = reverse (map entry_of entries)
 
 abbrev pub entries_of : code_scope.Scope → List Entry
 entries_of scope = entries_from scope.entries.items
+
+abbrev pub block_of : code_block.Block → Block
+block_of b = record { start = entries_from b.start.items; ends = option_map (λ ends. entries_from ends.items) b.ends }
+
+-- the innermost one first here too
+abbrev pub blocks_of : code_scope.Scope → List Block
+blocks_of scope = reverse (map block_of scope.blocks.items)
+
+abbrev pub known_of : code_scope.Scope → Known
+known_of scope = record { entries = entries_of scope; blocks = blocks_of scope }

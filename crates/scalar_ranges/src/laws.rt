@@ -1,13 +1,19 @@
 //! The laws of bounds, each the contract of a function that does nothing.
-ghost use Rattle.scalar_ranges.specs.Laws.{BoundsHold, NarrowingHolds};
-ghost use Rattle.scalar_ranges.specs.MoveLaws.{DeclaringHolds, LeavingHolds, AssigningHolds, WideningHolds};
-ghost use Rattle.scalar_ranges.specs.MoveLaws.{BranchesHold, ComponentsHold, ShapesStay};
+ghost use Rattle.scalar_ranges.specs.Laws.{BoundsHold, ConstantsHold, NarrowingHolds};
+ghost use Rattle.scalar_ranges.specs.MoveLaws.{DeclaringHolds, LeavingHolds, ChangingHolds, HoldingHolds};
+ghost use Rattle.scalar_ranges.specs.MoveLaws.{WideningHolds, BranchesHold, ComponentsHold, ShapesStay};
 
 /// Where a well typed expression has a bound, it has a value as the bound says in every environment that meets the
 /// scope.
 #[tactic(auto, using(crate::proofs::BoundLaws::bounds_hold))]
 pub fn bounds_hold()
     ensures { BoundsHold }
+{}
+
+/// The value of a constant expression is the number that it has in the environment of the constants alone.
+#[tactic(auto, using(crate::proofs::ConstantLaws::constants_hold))]
+pub fn constants_hold()
+    ensures { ConstantsHold }
 {}
 
 /// Where a well typed condition has a truth, the environments that meet the scope meet it narrowed by that truth.
@@ -24,12 +30,19 @@ pub fn names_hold()
     ensures leaving { LeavingHolds }
 {}
 
-/// An environment that meets a scope, and then some variables change, meets the scope with the ranges of what was
-/// assigned, or of the types where no more is known.
-#[tactic(auto, using(crate::proofs::MoveLaws::assigning_holds, crate::proofs::MoveLaws::widening_holds))]
+/// An environment that meets a scope, and of which something changes, meets the scope with the range of what was
+/// assigned, or of the type where no more is known.
+#[tactic(auto, using(crate::proofs::MoveLaws::changing_holds, crate::proofs::MoveLaws::holding_holds))]
 pub fn changes_hold()
-    ensures assigning { AssigningHolds }
-    ensures widening { WideningHolds }
+    ensures changing { ChangingHolds }
+    ensures holding { HoldingHolds }
+{}
+
+/// An environment that meets a scope, and in which a loop's body changes some variables, meets the scope where nothing
+/// more is known of these than their types.
+#[tactic(auto, using(crate::proofs::MoveLaws::widening_holds))]
+pub fn loops_hold()
+    ensures { WideningHolds }
 {}
 
 /// An environment that meets the end of a branch meets what is known after the block; and what each component of a PAR

@@ -2,7 +2,12 @@
 #![tactic(auto)]
 
 mod bounds;
+mod branches;
+mod entries;
 mod laws;
+mod leaving;
+mod moves;
+mod narrowing;
 mod ranges;
 mod results;
 mod scope;
@@ -11,8 +16,10 @@ mod types;
 
 pub use bounds::{OUT_OF_RANGE, OUTSIDE};
 pub use laws::{
-    bounds_hold, branches_hold, changes_hold, names_hold, narrowing_holds, shapes_stay,
+    bounds_hold, branches_hold, changes_hold, constants_hold, loops_hold, names_hold,
+    narrowing_holds, shapes_stay,
 };
+pub use narrowing::narrow_by;
 pub use ranges::{range_of, value_of};
 pub use scope::{ArrayKind, Entry, Meaning, ScalarKind, Scope};
 pub use types::{ExprType, UNKNOWN_NAME, WRONG_TYPE, type_of};

@@ -2,7 +2,7 @@
 
 ghost use Rattle.std.specs.Prelude.{◌≡◌, [], ◌∷◌, option_map, OnOk, OnErr};
 ghost use Rattle.scalar_ranges.specs.Entries.{meaning_in, number_in};
-ghost use Rattle.scalar_ranges.specs.Scopes.{meaning_of, entry_of, entries_of};
+ghost use Rattle.scalar_ranges.specs.Scopes.{meaning_of, entry_of, entries_of, blocks_of};
 
 use occam_parser::ValueType;
 use std::alloc::{AllocFailed, Global};
@@ -74,16 +74,31 @@ pub struct Entry<'a> {
 /// The names that are known at a place of a program: entries that are numbered from the outermost declaration on.
 #[derive(Drop)]
 pub struct Scope<'a> {
-    entries: Vec<Entry<'a>>,
+    pub(crate) alloc: Global,
+    pub(crate) entries: Vec<Entry<'a>>,
+    /// The blocks of branches around, the innermost one last.
+    pub(crate) blocks: Vec<Block<'a>>,
+}
+
+/// A block of branches.
+#[derive(Drop)]
+pub(crate) struct Block<'a> {
+    /// What is known where each branch begins.
+    pub(crate) start: Vec<Entry<'a>>,
+    /// What is known after the branches that have ended, if one has.
+    pub(crate) ends: Option<Vec<Entry<'a>>>,
 }
 
 impl<'a> Scope<'a> {
     /// A scope without names.
     pub fn new(alloc: Global) -> Scope<'a>
-        ensures { entries_of result ≡ [] }
+        ensures entries { entries_of result ≡ [] }
+        ensures blocks { blocks_of result ≡ [] }
     {
         Scope {
+            alloc,
             entries: Vec::new(alloc),
+            blocks: Vec::new(alloc),
         }
     }
 
@@ -91,6 +106,7 @@ impl<'a> Scope<'a> {
     pub fn declare(&mut self, entry: Entry<'a>) -> Result<(), AllocFailed<Entry<'a>>>
         ensures ok { OnOk result (entries_of self.new ≡ entry_of entry.entry ∷ entries_of self.old) }
         ensures err { OnErr result (entries_of self.new ≡ entries_of self.old) }
+        ensures blocks { blocks_of self.new ≡ blocks_of self.old }
     {
         self.entries.push(entry)
     }

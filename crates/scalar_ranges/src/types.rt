@@ -4,7 +4,8 @@ ghost use Rattle.std.specs.Prelude.{◌≡◌, option_map};
 ghost use Rattle.occam_parser.specs.Views.{expression_of, term_of};
 ghost use Rattle.scalar_ranges.specs.Scopes.{entries_of, meaning_of};
 ghost use Rattle.scalar_ranges.specs.Steps.{both};
-ghost use Rattle.scalar_ranges.specs.Types.{type_of, type_of_term, type_of_values, named_type, element_type, subscripted};
+ghost use Rattle.scalar_ranges.specs.Types.{type_of, type_of_term, type_of_values, named_type, element_type};
+ghost use Rattle.scalar_ranges.specs.Types.{subscripted};
 ghost use Rattle.scalar_ranges.specs.Types.{prefix_type, pair_type, chain_type, converted_type};
 
 use crate::scope::{Meaning, Scope};

@@ -24,6 +24,8 @@ bound_of-returns-after-loop-other t c =
     search (rules, the_lemmas) in
     bounds_end (entries_of c.args.scope.now) c.in-Chain.operator c.in-Chain.first c.in-Chain.second
     c.in-Chain.others (all_known c.bound_of_operand-first.result) (all_known c.bound_of_operand-in-Chain.result)
-    (all_known c.next_bound-found.result) (all_known c.loop-other.found) c.deref-other-items.result.now c.loop-other.other-index done
-    c.deref-other-items.ensures.value c.bound_of_operand-first.ensures c.bound_of_operand-in-Chain.ensures c.next_bound-found.ensures
+    (all_known c.next_bound-found.result) (all_known c.loop-other.found) c.deref-other-items.result.now
+    c.loop-other.other-index done
+    c.deref-other-items.ensures.value c.bound_of_operand-first.ensures c.bound_of_operand-in-Chain.ensures
+    c.next_bound-found.ensures
     c.loop-other.invariant ∙ ap (bound_of (entries_of c.args.scope.now)) (sym view)

@@ -24,5 +24,6 @@ type_of-returns-after-loop-other t c =
     types_end (entries_of c.args.scope.now) c.in-Chain.operator c.in-Chain.first c.in-Chain.second
     c.in-Chain.others c.type_of_operand-first.result c.type_of_operand-in-Chain.result
     c.next_type-found.result c.loop-other.found c.deref-other-items.result.now c.loop-other.other-index done
-    c.deref-other-items.ensures.value c.type_of_operand-first.ensures c.type_of_operand-in-Chain.ensures c.next_type-found.ensures
+    c.deref-other-items.ensures.value c.type_of_operand-first.ensures c.type_of_operand-in-Chain.ensures
+    c.next_type-found.ensures
     c.loop-other.invariant ∙ ap (type_of (entries_of c.args.scope.now)) (sym view)

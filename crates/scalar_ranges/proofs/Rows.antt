@@ -1,0 +1,132 @@
+-- The program has the outermost entry first, and the definitions have it last.
+use Rattle.std.proofs.Common.{◌≡◌, ℕ, zero, suc, ◌<◌, ◌≤◌, Bool, true, false, cond, List, [], ◌∷◌, ◌++◌, length, map}
+use Rattle.std.proofs.Common.{take, set}
+use Rattle.std.proofs.Common.{get_or, refl, sym, ap, arith, ◌∙◌, nat_eq, nat_lt}
+use Rattle.std.proofs.lemmas.Bool.Decides.{nat_tests}
+use Rattle.std.proofs.lemmas.List.{reverse-append}
+use Rattle.scalar_ranges.specs.declared.scope.Entry as code_entry
+use Rattle.scalar_ranges.specs.Entries.{Meaning, Entry}
+use Rattle.scalar_ranges.specs.Scopes.{meaning_of, entry_of, entries_from}
+use Rattle.scalar_ranges.specs.Moves.{outermost, at_number}
+
+pub entries_cons : (x : code_entry.Entry) (xs : List code_entry.Entry)
+    → entries_from (x ∷ xs) ≡ entries_from xs ++ entry_of x ∷ []
+entries_cons x xs = reverse-append (entry_of x ∷ []) (map entry_of xs)
+
+pub one_longer : {A : Type 0} (ys : List A) (y : A) → length (ys ++ y ∷ []) ≡ suc (length ys)
+one_longer [] y = refl
+one_longer (x ∷ xs) y = ap suc (one_longer xs y)
+
+pub as_many : (xs : List code_entry.Entry) → length (entries_from xs) ≡ length xs
+as_many [] = refl
+as_many (x ∷ xs) = ap length (entries_cons x xs) ∙ one_longer (entries_from xs) (entry_of x) ∙ ap suc (as_many xs)
+
+-- ---- tests
+
+lt_none : (a : ℕ) → nat_lt a 0 ≡ false
+lt_none a = grind (arith, nat_tests)
+
+lt_some : (a : ℕ) → nat_lt 0 (suc a) ≡ true
+lt_some a = grind (arith, nat_tests)
+
+lt_suc : (a b : ℕ) → nat_lt (suc a) (suc b) ≡ nat_lt a b
+lt_suc a b = grind (arith, nat_tests)
+
+pub eq_none : (a : ℕ) → nat_eq (suc a) 0 ≡ false
+eq_none a = grind (arith, nat_tests)
+
+pub eq_some : (a : ℕ) → nat_eq 0 (suc a) ≡ false
+eq_some a = grind (arith, nat_tests)
+
+pub eq_suc : (a b : ℕ) → nat_eq (suc a) (suc b) ≡ nat_eq a b
+eq_suc a b = grind (arith, nat_tests)
+
+-- ---- the outermost ones
+
+cut_none : {A : Type 0} (ys : List A) → outermost 0 ys ≡ []
+cut_none [] = refl
+cut_none (y ∷ ys) = ap (λ t. cond t (y ∷ ys) (outermost 0 ys)) (lt_none (length ys)) ∙ cut_none ys
+
+cut_by : {A : Type 0} (t : Bool) (count : ℕ) (x : A) (xs : List A) (y : A)
+    → outermost (suc count) (xs ++ y ∷ []) ≡ outermost count xs ++ y ∷ []
+    → cond t (x ∷ xs ++ y ∷ []) (outermost (suc count) (xs ++ y ∷ [])) ≡ cond t (x ∷ xs) (outermost count xs) ++ y ∷ []
+cut_by true count x xs y h = refl
+cut_by false count x xs y h = h
+
+cut_last : {A : Type 0} (count : ℕ) (ys : List A) (y : A)
+    → outermost (suc count) (ys ++ y ∷ []) ≡ outermost count ys ++ y ∷ []
+cut_last count [] y = ap (λ t. cond t (y ∷ []) []) (lt_some count)
+cut_last count (x ∷ xs) y =
+    ap (λ t. cond t (x ∷ xs ++ y ∷ []) (outermost (suc count) (xs ++ y ∷ [])))
+    (ap (λ n. nat_lt n (suc count)) (one_longer xs y) ∙ lt_suc (length xs) count)
+    ∙ cut_by (nat_lt (length xs) count) count x xs y (cut_last count xs y)
+
+pub entries_cut : (items : List code_entry.Entry) (count : ℕ)
+    → entries_from (take count items) ≡ outermost count (entries_from items)
+entries_cut [] zero = refl
+entries_cut [] (suc count) = refl
+entries_cut (x ∷ xs) zero = sym (cut_none (entries_from (x ∷ xs)))
+entries_cut (x ∷ xs) (suc count) = entries_cons x (take count xs)
+    ∙ ap (λ ys. ys ++ entry_of x ∷ []) (entries_cut xs count)
+    ∙ sym (cut_last count (entries_from xs) (entry_of x)) ∙ ap (outermost (suc count)) (sym (entries_cons x xs))
+
+-- ---- one of them
+
+abbrev pub with_meaning : (Meaning → Meaning) → Entry → Entry
+with_meaning f e = record { name = e.name; meaning = f e.meaning }
+
+at_last : (f : Meaning → Meaning) (ys : List Entry) (y : Entry)
+    → at_number f 0 (ys ++ y ∷ []) ≡ ys ++ with_meaning f y ∷ []
+at_last f [] y = refl
+at_last f (x ∷ xs) y =
+    ap (λ t. cond t (with_meaning f x ∷ xs ++ y ∷ []) (x ∷ at_number f 0 (xs ++ y ∷ [])))
+    (ap (λ n. nat_eq n 0) (one_longer xs y) ∙ eq_none (length xs))
+    ∙ ap (λ zs. x ∷ zs) (at_last f xs y)
+
+at_by : (t : Bool) (f : Meaning → Meaning) (n : ℕ) (x : Entry) (xs : List Entry) (y : Entry)
+    → at_number f (suc n) (xs ++ y ∷ []) ≡ at_number f n xs ++ y ∷ []
+    → cond t (with_meaning f x ∷ xs ++ y ∷ []) (x ∷ at_number f (suc n) (xs ++ y ∷ []))
+    ≡ cond t (with_meaning f x ∷ xs) (x ∷ at_number f n xs) ++ y ∷ []
+at_by true f n x xs y h = refl
+at_by false f n x xs y h = ap (λ zs. x ∷ zs) h
+
+at_further : (f : Meaning → Meaning) (n : ℕ) (ys : List Entry) (y : Entry)
+    → at_number f (suc n) (ys ++ y ∷ []) ≡ at_number f n ys ++ y ∷ []
+at_further f n [] y = ap (λ t. cond t (with_meaning f y ∷ []) (y ∷ [])) (eq_some n)
+at_further f n (x ∷ xs) y =
+    ap (λ t. cond t (with_meaning f x ∷ xs ++ y ∷ []) (x ∷ at_number f (suc n) (xs ++ y ∷ [])))
+    (ap (λ k. nat_eq k (suc n)) (one_longer xs y) ∙ eq_suc (length xs) n)
+    ∙ at_by (nat_eq (length xs) n) f n x xs y (at_further f n xs y)
+
+-- an entry of the program with its meaning changed
+pub entries_changed : (f : Meaning → Meaning) (items : List code_entry.Entry) (n : ℕ) (x d e : code_entry.Entry)
+    → n < length items → x.name.now ≡ (get_or items n d).name.now
+    → meaning_of x.meaning ≡ f (meaning_of (get_or items n e).meaning)
+    → entries_from (set items n x) ≡ at_number f n (entries_from items)
+entries_changed f [] n x d e less named means = absurd (omega arith)
+entries_changed f (y ∷ ys) zero x d e less named means =
+    entries_cons x ys
+    ∙ (λ i. entries_from ys ++ record { name = named i; meaning = means i } ∷ [])
+    ∙ sym (at_last f (entries_from ys) (entry_of y)) ∙ ap (at_number f 0) (sym (entries_cons y ys))
+entries_changed f (y ∷ ys) (suc n) x d e less named means =
+    entries_cons y (set ys n x)
+    ∙ ap (λ es. es ++ entry_of y ∷ []) (entries_changed f ys n x d e (omega arith) named means)
+    ∙ sym (at_further f n (entries_from ys) (entry_of y)) ∙ ap (at_number f (suc n)) (sym (entries_cons y ys))
+
+not_at : (t : Bool) (f : Meaning → Meaning) (n : ℕ) (e : Entry) (es : List Entry) → t ≡ false
+    → at_number f n es ≡ es → cond t (with_meaning f e ∷ es) (e ∷ at_number f n es) ≡ e ∷ es
+not_at true f n e es is h = absurd (cc)
+not_at false f n e es is h = ap (λ ks. e ∷ ks) h
+
+below : (a n : ℕ) → a < n → nat_eq a n ≡ false
+below a n less = grind (arith, nat_tests)
+
+-- there is no entry with a number as large as their count
+pub none_at : (f : Meaning → Meaning) (n : ℕ) (es : List Entry) → length es ≤ n → at_number f n es ≡ es
+none_at f n [] least = refl
+none_at f n (e ∷ es) least =
+    not_at (nat_eq (length es) n) f n e es (below (length es) n (omega arith)) (none_at f n es (omega arith))
+
+pub no_entry : (f : Meaning → Meaning) (n : ℕ) (items : List code_entry.Entry) → length items ≤ n
+    → entries_from items ≡ at_number f n (entries_from items)
+no_entry f n items least = sym (none_at f n (entries_from items) (let e = as_many items in omega arith))

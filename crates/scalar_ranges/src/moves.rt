@@ -1,0 +1,78 @@
+//! What becomes known where variables change.
+
+ghost use Rattle.std.specs.Prelude.{◌≡◌};
+ghost use Rattle.word_arithmetic.specs.Range.{ends_of};
+ghost use Rattle.scalar_ranges.specs.Moves.{at_number, assigned, assign, widened, widen};
+ghost use Rattle.scalar_ranges.specs.Scopes.{meaning_of, entries_of, blocks_of};
+
+use crate::bounds::type_range;
+use crate::scope::{Meaning, ScalarKind, Scope};
+use word_arithmetic::Range;
+
+impl Scope<'_> {
+    /// A number in this range was assigned to the variable with this number.
+    pub fn assign(&mut self, number: usize, range: Range)
+        ensures entries { entries_of self.new ≡ assign number (ends_of range) (entries_of self.old) }
+        ensures blocks { blocks_of self.new ≡ blocks_of self.old }
+    {
+        if number < self.entries.len() {
+            self.entries[number].meaning = assigned(range, self.entries[number].meaning);
+        }
+    }
+
+    /// The variable with this number was changed to any number of its type.
+    pub fn receive(&mut self, number: usize)
+        ensures entries { entries_of self.new ≡ at_number widened number (entries_of self.old) }
+        ensures blocks { blocks_of self.new ≡ blocks_of self.old }
+    {
+        if number < self.entries.len() {
+            self.entries[number].meaning = widened(self.entries[number].meaning);
+        }
+    }
+
+    /// Each of the variables with these numbers was changed to any number of its type.
+    pub fn widen(&mut self, numbers: &[usize])
+        ensures entries { entries_of self.new ≡ widen numbers.now (entries_of self.old) }
+        ensures blocks { blocks_of self.new ≡ blocks_of self.old }
+    {
+        for number in numbers {
+            self.receive(*number);
+        }
+    }
+}
+
+/// What a name means once a number in this range was assigned to it.
+fn assigned(range: Range, meaning: Meaning) -> Meaning
+    ensures { meaning_of result ≡ assigned (ends_of range) (meaning_of meaning) }
+{
+    match meaning {
+        Meaning::Scalar {
+            kind: ScalarKind::Variable,
+            value_type,
+            ..
+        } => Meaning::Scalar {
+            kind: ScalarKind::Variable,
+            value_type,
+            range,
+        },
+        other => other,
+    }
+}
+
+/// What a name means of which no more is known than its type.
+fn widened(meaning: Meaning) -> Meaning
+    ensures { meaning_of result ≡ widened (meaning_of meaning) }
+{
+    match meaning {
+        Meaning::Scalar {
+            kind: ScalarKind::Variable,
+            value_type,
+            ..
+        } => Meaning::Scalar {
+            kind: ScalarKind::Variable,
+            value_type,
+            range: type_range(value_type),
+        },
+        other => other,
+    }
+}

@@ -1,0 +1,187 @@
+//! What a condition tells of a scalar that it compares with a constant.
+
+ghost use Rattle.std.specs.Prelude.{◌≡◌, option_map};
+ghost use Rattle.word_arithmetic.specs.Range.{ends_of};
+ghost use Rattle.occam_parser.specs.Views.{expression_of, term_of};
+ghost use Rattle.scalar_ranges.specs.Narrowing.{is_narrowed, constant_in, tested, turned, opposite, as_holds, test_of};
+ghost use Rattle.scalar_ranges.specs.Narrowing.{left_of, with_range, changed, narrow};
+ghost use Rattle.scalar_ranges.specs.Scopes.{meaning_of, entries_of, blocks_of};
+ghost use Rattle.scalar_ranges.specs.Tests.{tested_of};
+
+use crate::bounds::Bound;
+use crate::ranges::bound_of_operand;
+use crate::scope::{Meaning, ScalarKind, Scope};
+use occam_parser::{Comparison, Expr, Operand, Operation, PairOperator};
+use word_arithmetic::Range;
+
+/// What a condition says: the scalar of this name compares so with this constant.
+#[derive(Clone, Copy)]
+pub(crate) struct Test<'e> {
+    pub(crate) name: &'e [u8],
+    pub(crate) comparison: Comparison,
+    pub(crate) constant: i32,
+}
+
+/// The scope where a condition has this truth. Only a condition that is exactly a scalar, a comparison and a constant,
+/// in either order, tells more than was known. It takes no memory.
+pub fn narrow_by(scope: &mut Scope, condition: &Expr, holds: bool)
+    ensures entries { entries_of scope.new ≡ narrow (entries_of scope.old) (expression_of condition.now) holds }
+    ensures blocks { blocks_of scope.new ≡ blocks_of scope.old }
+{
+    if let Some(test) = test_of(scope, condition) {
+        let comparison = as_holds(holds, test.comparison);
+        scope.narrow_name(test.name, comparison, test.constant);
+    }
+}
+
+impl Scope<'_> {
+    /// The innermost scalar of this name compares so with a constant.
+    fn narrow_name(&mut self, name: &[u8], comparison: Comparison, constant: i32)
+        ensures entries { entries_of self.new ≡ changed (left_of comparison constant) name.now (entries_of self.old) }
+        ensures blocks { blocks_of self.new ≡ blocks_of self.old }
+    {
+        if let Some(number) = self.find(name) {
+            self.entries[number].meaning = narrowed(
+                self.entries[number].meaning,
+                comparison,
+                constant,
+            );
+        }
+    }
+}
+
+/// What a condition says, if it is exactly a scalar and a constant with a comparison between them.
+fn test_of<'e>(scope: &Scope, condition: &'e Expr) -> Option<Test<'e>>
+    ensures { option_map tested_of result ≡ test_of (entries_of scope.now) (expression_of condition.now) }
+{
+    match &*condition.operation {
+        Operation::Pair {
+            operator: PairOperator::Comparison(comparison),
+            left,
+            right,
+        } => match tested(scope, *comparison, left, right) {
+            Some(test) => Some(test),
+            None => tested(scope, turned(*comparison), right, left),
+        },
+        _ => None,
+    }
+}
+
+fn tested<'e>(
+    scope: &Scope,
+    comparison: Comparison,
+    scalar: &'e Operand,
+    constant: &Operand,
+) -> Option<Test<'e>>
+    ensures { option_map tested_of result
+        ≡ tested (entries_of scope.now) comparison (term_of scalar.now) (term_of constant.now) }
+{
+    match scalar {
+        Operand::Name(name) => {
+            if !is_narrowed(scope.meaning(name)) {
+                return None;
+            }
+            let constant = constant_in(scope, constant)?;
+            Some(Test {
+                name,
+                comparison,
+                constant,
+            })
+        }
+        Operand::Integer(_)
+        | Operand::Character(_)
+        | Operand::Truth(_)
+        | Operand::MostPos
+        | Operand::MostNeg
+        | Operand::Element { .. }
+        | Operand::Bracketed(_)
+        | Operand::Converted { .. } => None,
+    }
+}
+
+/// The value of a constant operand.
+fn constant_in(scope: &Scope, operand: &Operand) -> Option<i32>
+    ensures { result ≡ constant_in (entries_of scope.now) (term_of operand.now) }
+{
+    match bound_of_operand(scope, operand) {
+        Ok(Bound::Exactly(value)) => Some(value),
+        _ => None,
+    }
+}
+
+/// Whether conditions narrow what has this meaning.
+fn is_narrowed(meaning: Option<Meaning>) -> bool
+    ensures { result ≡ is_narrowed (option_map meaning_of meaning) }
+{
+    match meaning {
+        Some(Meaning::Scalar { kind, .. }) => match kind {
+            ScalarKind::Variable | ScalarKind::Value => true,
+            ScalarKind::Reference | ScalarKind::Index => false,
+        },
+        _ => false,
+    }
+}
+
+/// The comparison that holds with the operands exchanged.
+fn turned(comparison: Comparison) -> Comparison
+    ensures { result ≡ turned comparison }
+{
+    match comparison {
+        Comparison::Equal => Comparison::Equal,
+        Comparison::NotEqual => Comparison::NotEqual,
+        Comparison::Less => Comparison::Greater,
+        Comparison::LessOrEqual => Comparison::GreaterOrEqual,
+        Comparison::Greater => Comparison::Less,
+        Comparison::GreaterOrEqual => Comparison::LessOrEqual,
+    }
+}
+
+/// The comparison that holds where this one does not.
+fn opposite(comparison: Comparison) -> Comparison
+    ensures { result ≡ opposite comparison }
+{
+    match comparison {
+        Comparison::Equal => Comparison::NotEqual,
+        Comparison::NotEqual => Comparison::Equal,
+        Comparison::Less => Comparison::GreaterOrEqual,
+        Comparison::LessOrEqual => Comparison::Greater,
+        Comparison::Greater => Comparison::LessOrEqual,
+        Comparison::GreaterOrEqual => Comparison::Less,
+    }
+}
+
+/// The comparison that holds where one has this truth.
+fn as_holds(holds: bool, comparison: Comparison) -> Comparison
+    ensures { result ≡ as_holds holds comparison }
+{
+    if holds {
+        comparison
+    } else {
+        opposite(comparison)
+    }
+}
+
+/// What is left of a scalar's range by a comparison with a constant.
+fn narrowed(meaning: Meaning, comparison: Comparison, constant: i32) -> Meaning
+    ensures { meaning_of result ≡ with_range (left_of comparison constant) (meaning_of meaning) }
+{
+    match meaning {
+        Meaning::Scalar {
+            kind,
+            value_type,
+            range,
+        } => Meaning::Scalar {
+            kind,
+            value_type,
+            range: left_of(range, comparison, constant),
+        },
+        other => other,
+    }
+}
+
+#[tactic(auto, using(crate::proofs::Words::range_is_between))]
+fn left_of(range: Range, comparison: Comparison, constant: i32) -> Range
+    ensures { ends_of result ≡ left_of comparison constant (ends_of range) }
+{
+    range.narrow(comparison, constant)
+}
