@@ -26,19 +26,17 @@ module _ (c : Counters) (f : Option Fault) where
   either true x y p q = p
   either false x y p q = q
 
+  -- by what there is
+  pub maybe : {A : Type 0} (o : Option A) (n : World) (s : A → World) {m : World} {t : A → World} → m ≡ beside c f n
+      → ((x : A) → t x ≡ beside c f (s x))
+      → elim o as (λ x. World) [ None ↦ m | Some x ↦ t x ]
+      ≡ beside c f (elim o as (λ x. World) [ None ↦ n | Some x ↦ s x ])
+  maybe None n s p q = p
+  maybe (Some x) n s p q = q x
+
   pub on_task-beside : (p : ℕ) (g : Task → Task) (w : World) → on_task p g (beside c f w) ≡ beside c f (on_task p g w)
-  on_task-beside p g w = cases (slice_get w.tasks p)
-    where
-      cases : (o : Option Task)
-          → elim o as (λ x. World) [
-            | None ↦ beside c f w
-            | Some task ↦ record (beside c f w) { tasks = slice_set w.tasks p (g task) }
-          ] ≡ beside c f (elim o as (λ x. World) [
-            | None ↦ w
-            | Some task ↦ record w { tasks = slice_set w.tasks p (g task) }
-          ])
-      cases None = refl
-      cases (Some task) = refl
+  on_task-beside p g w =
+      maybe (slice_get w.tasks p) w (λ task. record w { tasks = slice_set w.tasks p (g task) }) refl (λ task. refl)
 
   pub wake-beside : (p : ℕ) (w : World) → wake p (beside c f w) ≡ beside c f (wake p w)
   wake-beside p w = ap (enqueue p) (on_task-beside p (λ task. record task { condition = Ready }) w)
@@ -62,18 +60,9 @@ module _ (c : Counters) (f : Option Fault) where
 
   fill-beside : (p k byte : ℕ) (link : InputLink) (w : World)
       → fill p k byte link (beside c f w) ≡ beside c f (fill p k byte link w)
-  fill-beside p k byte link w = cases (slice_get w.tasks p)
-    where
-      cases : (o : Option Task)
-          → elim o as (λ x. World) [
-            | None ↦ beside c f w
-            | Some task ↦ fill_condition p k byte link task.condition (beside c f w)
-          ] ≡ beside c f (elim o as (λ x. World) [
-            | None ↦ w
-            | Some task ↦ fill_condition p k byte link task.condition w
-          ])
-      cases None = refl
-      cases (Some task) = fill_condition-beside p k byte link task.condition w
+  fill-beside p k byte link w =
+      maybe (slice_get w.tasks p) w (λ task. fill_condition p k byte link task.condition w) refl
+      (λ task. fill_condition-beside p k byte link task.condition w)
 
   rouse_enabling-beside : (p : ℕ) (mode : Mode) (w : World)
       → rouse_enabling p mode (beside c f w) ≡ beside c f (rouse_enabling p mode w)
@@ -87,18 +76,9 @@ module _ (c : Counters) (f : Option Fault) where
 
   pub rouse-beside : (enabled : Option ℕ) (w : World) → rouse enabled (beside c f w) ≡ beside c f (rouse enabled w)
   rouse-beside None w = refl
-  rouse-beside (Some p) w = cases (slice_get w.tasks p)
-    where
-      cases : (o : Option Task)
-          → elim o as (λ x. World) [
-            | None ↦ beside c f w
-            | Some task ↦ rouse_task p task.mode task.condition (beside c f w)
-          ] ≡ beside c f (elim o as (λ x. World) [
-            | None ↦ w
-            | Some task ↦ rouse_task p task.mode task.condition w
-          ])
-      cases None = refl
-      cases (Some task) = rouse_task-beside p task.mode task.condition w
+  rouse-beside (Some p) w =
+      maybe (slice_get w.tasks p) w (λ task. rouse_task p task.mode task.condition w) refl
+      (λ task. rouse_task-beside p task.mode task.condition w)
 
   -- ---- turns
 

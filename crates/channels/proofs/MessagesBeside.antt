@@ -1,5 +1,5 @@
 -- What comes of a message, whatever the counters and the fault are.
-use Rattle.std.proofs.Common.{◌≡◌, ℕ, ◌+◌, ◌==◌, if◌then◌else◌, Option, Some, None, refl, slice_get}
+use Rattle.std.proofs.Common.{◌≡◌, ℕ, ◌+◌, ◌==◌, Bool, if◌then◌else◌, Option, Some, None, refl, slice_get}
 use Rattle.module_format.specs.Contents.{link_length}
 use Rattle.machine_state.specs.declared.fault.Fault.{Fault}
 use Rattle.machine_state.specs.declared.fault.FaultKind.TheVariants.{UnequalLengths, EndNotHeld}
@@ -33,32 +33,33 @@ module _ (c : Counters) (f : Option Fault) where
       wake-beside c f other (with_channel source.channel (record channel { waiting = None })
       (continued h h.next (record l { memory = memory }) w))
 
-  meeting : (h : Here) (other : ℕ) (source to : Exchange) (channel : Channel) (l : Local) (w : World)
-      → followed h (answered ran (counted (met h other source to channel l (beside c f w)))) (beside c f w)
-      ≡ counted_beside c f (followed h (answered ran (counted (met h other source to channel l w))) w)
-  meeting h other source to channel l w =
+  meeting : (h : Here) (other : ℕ) (source to : Exchange) (channel : Channel) (l : Local) (w : World) (b : Bool)
+      → (if b then followed h (answered ran (counted (met h other source to channel l (beside c f w)))) (beside c f w)
+      else failed h UnequalLengths (beside c f w))
+      ≡ counted_beside c f (if b then followed h (answered ran (counted (met h other source to channel l w))) w
+      else failed h UnequalLengths w)
+  meeting h other source to channel l w b =
       let there : World = met h other source to channel l w in
-      followed-beside c f h (answered ran (counted there)) w
-      (executed-beside c f ran there (met-beside h other source to channel l w))
+      let turn : Turn = followed h (answered ran (counted there)) w in
+      either_turn c f b turn (failed h UnequalLengths w)
+      (followed-beside c f h (answered ran (counted there)) w
+      (executed-beside c f ran there (met-beside h other source to channel l w)))
+      refl
 
-  received_from-beside : (h : Here) (e : Exchange) (channel : Channel) (l : Local) (w : World) (other : ℕ)
+  -- by what the process at the other end waits for
+  abbrev FromBeside : (Here → Exchange → Channel → Local → World → ℕ → Condition → Turn) → Type 0
+  FromBeside meets = (h : Here) (e : Exchange) (channel : Channel) (l : Local) (w : World) (other : ℕ)
       (condition : Condition)
-      → received_from h e channel l (beside c f w) other condition
-      ≡ counted_beside c f (received_from h e channel l w other condition)
+      → meets h e channel l (beside c f w) other condition ≡ counted_beside c f (meets h e channel l w other condition)
+
+  received_from-beside : FromBeside received_from
   received_from-beside h e channel l w other (Sending source) =
-      either_turn c f (source.length == e.length)
-      (followed h (answered ran (counted (met h other source e channel l w))) w) (failed h UnequalLengths w)
-      (meeting h other source e channel l w) refl
+      meeting h other source e channel l w (source.length == e.length)
   received_from-beside h e channel l w other _ = refl
 
-  sent_to-beside : (h : Here) (e : Exchange) (channel : Channel) (l : Local) (w : World) (other : ℕ)
-      (condition : Condition)
-      → sent_to h e channel l (beside c f w) other condition
-      ≡ counted_beside c f (sent_to h e channel l w other condition)
+  sent_to-beside : FromBeside sent_to
   sent_to-beside h e channel l w other (Receiving wanted) =
-      either_turn c f (wanted.length == e.length)
-      (followed h (answered ran (counted (met h other e wanted channel l w))) w) (failed h UnequalLengths w)
-      (meeting h other e wanted channel l w) refl
+      meeting h other e wanted channel l w (wanted.length == e.length)
   sent_to-beside h e channel l w other _ = refl
 
   -- a process gives way, in the world that this one is beside the counters
@@ -136,69 +137,34 @@ module _ (c : Counters) (f : Option Fault) where
 
   -- ---- in and out
 
+  -- a channel's end is a link's, or there is a channel inside or none
+  at_end : (h : Here) (link : Option ℕ) (channel : Option Channel) (w : World) (outside : ℕ → Turn)
+      (inside : Channel → Turn) {outside' : ℕ → Turn} {inside' : Channel → Turn}
+      → ((k : ℕ) → outside' k ≡ counted_beside c f (outside k))
+      → ((channel : Channel) → inside' channel ≡ counted_beside c f (inside channel))
+      → elim link as (λ x. Turn) [
+        | Some k ↦ outside' k
+        | None ↦ elim channel as (λ x. Turn)
+            [ None ↦ failed h EndNotHeld (beside c f w) | Some channel ↦ inside' channel ]
+      ] ≡ counted_beside c f (elim link as (λ x. Turn) [
+        | Some k ↦ outside k
+        | None ↦ elim channel as (λ x. Turn) [ None ↦ failed h EndNotHeld w | Some channel ↦ inside channel ]
+      ])
+  at_end h (Some k) channel w outside inside p q = p k
+  at_end h None None w outside inside p q = refl
+  at_end h None (Some channel) w outside inside p q = q channel
+
   received-beside : (h : Here) (e : Exchange) (l : Local) (w : World)
       → received h e l (beside c f w) ≡ counted_beside c f (received h e l w)
-  received-beside h e l w = cases (input_link e.channel)
-    where
-      on_channel : (o : Option Channel)
-          → elim o as (λ x. Turn) [
-            | None ↦ failed h EndNotHeld (beside c f w)
-            | Some channel ↦ received_inside h e channel l (beside c f w)
-          ] ≡ counted_beside c f (elim o as (λ x. Turn) [
-            | None ↦ failed h EndNotHeld w
-            | Some channel ↦ received_inside h e channel l w
-          ])
-      on_channel None = refl
-      on_channel (Some channel) = received_inside-beside h e channel l w
-
-      cases : (o : Option ℕ)
-          → elim o as (λ x. Turn) [
-            | Some k ↦ received_outside h k e l (beside c f w)
-            | None ↦ elim (channel_at w e.channel) as (λ x. Turn) [
-              | None ↦ failed h EndNotHeld (beside c f w)
-              | Some channel ↦ received_inside h e channel l (beside c f w)
-            ]
-          ] ≡ counted_beside c f (elim o as (λ x. Turn) [
-            | Some k ↦ received_outside h k e l w
-            | None ↦ elim (channel_at w e.channel) as (λ x. Turn) [
-              | None ↦ failed h EndNotHeld w
-              | Some channel ↦ received_inside h e channel l w
-            ]
-          ])
-      cases (Some k) = received_outside-beside h k e l w
-      cases None = on_channel (channel_at w e.channel)
+  received-beside h e l w =
+      at_end h (input_link e.channel) (channel_at w e.channel) w _ _ (λ k. received_outside-beside h k e l w)
+      (λ channel. received_inside-beside h e channel l w)
 
   sent-beside : (h : Here) (e : Exchange) (l : Local) (w : World)
       → sent h e l (beside c f w) ≡ counted_beside c f (sent h e l w)
-  sent-beside h e l w = cases (output_link e.channel)
-    where
-      on_channel : (o : Option Channel)
-          → elim o as (λ x. Turn) [
-            | None ↦ failed h EndNotHeld (beside c f w)
-            | Some channel ↦ sent_inside h e channel l (beside c f w)
-          ] ≡ counted_beside c f (elim o as (λ x. Turn) [
-            | None ↦ failed h EndNotHeld w
-            | Some channel ↦ sent_inside h e channel l w
-          ])
-      on_channel None = refl
-      on_channel (Some channel) = sent_inside-beside h e channel l w
-
-      cases : (o : Option ℕ)
-          → elim o as (λ x. Turn) [
-            | Some k ↦ sent_outside h k e l (beside c f w)
-            | None ↦ elim (channel_at w e.channel) as (λ x. Turn) [
-              | None ↦ failed h EndNotHeld (beside c f w)
-              | Some channel ↦ sent_inside h e channel l (beside c f w)
-            ]
-          ] ≡ counted_beside c f (elim o as (λ x. Turn) [
-            | Some k ↦ sent_outside h k e l w
-            | None ↦ elim (channel_at w e.channel) as (λ x. Turn) [
-              | None ↦ failed h EndNotHeld w
-              | Some channel ↦ sent_inside h e channel l w
-            ]
-          ])
-      cases (Some k) = sent_outside-beside h k e l w
-      cases None = on_channel (channel_at w e.channel)
+  sent-beside h e l w =
+      at_end h (output_link e.channel) (channel_at w e.channel) w _ _ (λ k. sent_outside-beside h k e l w)
+      (λ channel. sent_inside-beside h e channel l w)
 
 pub receives_beside : ReceivesBeside
 receives_beside = λ h e l c f w. received-beside c f h e l w

@@ -1,6 +1,7 @@
 //! Moves of starts and joins: those of roles, of the table of channels, and of who runs next.
 
 ghost use Rattle.std.specs.Prelude.{◌≡◌, ◌<◌, ◌∷◌, ◌++◌, [], Some, length, slice_set, vec_len, vec_capacity, MatchResult};
+ghost use Rattle.std.specs.List.{All};
 ghost use Rattle.machine_state.specs.declared.process.Task.{Task as Process};
 ghost use Rattle.machine_state.specs.Joins.{on_role, with_channels, without_channels};
 ghost use Rattle.machine_state.specs.Memory.{place_of, with_word};
@@ -19,10 +20,21 @@ use machine_state::{Channel, Holding, Join, Progress, Store, TaggedStore, Task, 
 use process_queue::ListQueue;
 use std::alloc::AllocError;
 
+/// A process that is to be there: its task, and what it holds.
+#[derive(Drop)]
+pub struct NewProcess {
+    pub task: Task,
+    pub own: Holding,
+}
+
 /// The process of this number, if there is one, is this task, and there is one more process.
 fn put_both(tasks: &mut Vec<Task>, process: u64, task: Task, more: Task)
-    requires { vec_len tasks.old < vec_capacity tasks.old }
-    ensures { tasks.new.items ≡ slice_set tasks.old.items process task ++ more ∷ [] }
+    requires room { vec_len tasks.old < vec_capacity tasks.old }
+    requires tasks { All IsSteady tasks.old.items }
+    requires task { IsSteady task }
+    requires more { IsSteady more }
+    ensures tasks { tasks.new.items ≡ slice_set tasks.old.items process task ++ more ∷ [] }
+    ensures steady { All IsSteady tasks.new.items }
 {
     if let Some(place) = tasks.get_mut(process as usize) {
         *place = task;
@@ -102,30 +114,6 @@ impl Traffic<TaggedStore, ListQueue> {
         &self.cpu.store
     }
 
-    /// The process goes on as this task with this join open, whose first branch is a new process. If memory runs out,
-    /// nothing changes.
-    fn enter_first(
-        &mut self,
-        process: u64,
-        task: Task,
-        join: Join,
-        branch: Task,
-        own: Holding,
-    ) -> Result<(), AllocError>
-        requires task { IsSteady task }
-        requires branch { IsSteady branch }
-        ensures world { let w = self.old.world in
-            let there = on_role process (with_join (join_view join)) (put process task w.memory w) in
-            let role = branch_role process (holding_view own) in
-            MatchResult result (λ _. self.new.world ≡ with_process branch role there) (λ _. self.new.world ≡ w) }
-        ensures room { self.new.room ≡ self.old.room }
-    {
-        self.tasks.reserve(1)?;
-        self.cpu.store.open_join(process, join, own)?;
-        put_both(&mut self.tasks, process, task, branch);
-        Ok(())
-    }
-
     /// The process goes on as this task with this join open. The channels of the rows are there, in words of the join's
     /// frame, and the first branch is a new process. If memory runs out, nothing changes.
     pub fn open_join(
@@ -134,49 +122,24 @@ impl Traffic<TaggedStore, ListQueue> {
         task: Task,
         join: Join,
         channels: &[ChannelRow],
-        branch: Task,
-        own: Holding,
+        branch: NewProcess,
     ) -> Result<(), AllocError>
         requires task { IsSteady task }
-        requires branch { IsSteady branch }
+        requires branch { IsSteady branch.task }
         ensures world { let w = self.old.world in
             let opened = record w { channels = with_channels process join.base channels.now w.channels } in
             let there = on_role process (with_join (join_view join)) (put process task w.memory opened) in
-            let role = branch_role process (holding_view own) in
-            MatchResult result (λ _. self.new.world ≡ with_process branch role there) (λ _. self.new.world ≡ w) }
+            let role = branch_role process (holding_view branch.own) in
+            MatchResult result (λ _. self.new.world ≡ with_process branch.task role there) (λ _. self.new.world ≡ w) }
         ensures room { self.new.room ≡ self.old.room }
     {
         self.count_next()?;
         self.reserve_cells(process, channels.len())?;
-        let base = join.base;
-        self.enter_first(process, task, join, branch, own)?;
-        self.open_channels(process, base, channels);
-        Ok(())
-    }
-
-    /// The process goes on as this task. One more branch of the join that it has open is started, a new process. If
-    /// memory runs out, nothing changes.
-    fn enter_next(
-        &mut self,
-        process: u64,
-        task: Task,
-        to: Progress,
-        branch: Task,
-        own: Holding,
-    ) -> Result<(), AllocError>
-        requires task { IsSteady task }
-        requires branch { IsSteady branch }
-        ensures world { let w = self.old.world in
-            let next = with_branch (progress_view to) (length w.tasks) in
-            let there = on_role process next (put process task w.memory w) in
-            let role = branch_role process (holding_view own) in
-            MatchResult result (λ _. self.new.world ≡ with_process branch role there) (λ _. self.new.world ≡ w) }
-        ensures room { self.new.room ≡ self.old.room }
-    {
         self.tasks.reserve(1)?;
-        let member = self.tasks.len() as u64;
-        self.cpu.store.advance_join(process, to, member, own)?;
-        put_both(&mut self.tasks, process, task, branch);
+        let base = join.base;
+        self.cpu.store.open_join(process, join, branch.own)?;
+        put_both(&mut self.tasks, process, task, branch.task);
+        self.open_channels(process, base, channels);
         Ok(())
     }
 
@@ -187,20 +150,25 @@ impl Traffic<TaggedStore, ListQueue> {
         process: u64,
         task: Task,
         to: Progress,
-        branch: Task,
-        own: Holding,
+        branch: NewProcess,
     ) -> Result<(), AllocError>
         requires task { IsSteady task }
-        requires branch { IsSteady branch }
+        requires branch { IsSteady branch.task }
         ensures world { let w = self.old.world in
             let next = with_branch (progress_view to) (length w.tasks) in
             let there = on_role process next (put process task w.memory w) in
-            let role = branch_role process (holding_view own) in
-            MatchResult result (λ _. self.new.world ≡ with_process branch role there) (λ _. self.new.world ≡ w) }
+            let role = branch_role process (holding_view branch.own) in
+            MatchResult result (λ _. self.new.world ≡ with_process branch.task role there) (λ _. self.new.world ≡ w) }
         ensures room { self.new.room ≡ self.old.room }
     {
         self.count_next()?;
-        self.enter_next(process, task, to, branch, own)
+        self.tasks.reserve(1)?;
+        let member = self.tasks.len() as u64;
+        self.cpu
+            .store
+            .advance_join(process, to, member, branch.own)?;
+        put_both(&mut self.tasks, process, task, branch.task);
+        Ok(())
     }
 
     /// The word at an address is undefined from now on, whoever holds it.

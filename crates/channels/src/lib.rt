@@ -18,6 +18,7 @@ mod stop;
 mod traffic;
 
 pub use here::Here;
+pub use joining::NewProcess;
 pub use laws::{links_read_no_counters, messages_read_no_counters};
 pub use links::Arrival;
 pub use message::Message;

@@ -19,7 +19,7 @@ use Rattle.machine_state.specs.Joins.{without_words, scheduling_addresses, holdi
 use Rattle.machine_state.specs.Joins.{without_channels}
 use Rattle.channels.specs.Starting.{with_process}
 use Rattle.channels.specs.Beside.{beside, counted_beside, CountsBeside}
-use Rattle.channels.proofs.Beside.{either, on_task-beside}
+use Rattle.channels.proofs.Beside.{either, maybe, on_task-beside}
 use Rattle.channels.proofs.TurnsBeside.{either_turn, maybe_turn, executed-beside, followed-beside, left-beside}
 
 module _ (c : Counters) (f : Option Fault) where
@@ -42,18 +42,8 @@ module _ (c : Counters) (f : Option Fault) where
       on (Some kind) = refl
 
   on_role-beside : (p : ℕ) (g : Role → Role) (w : World) → on_role p g (beside c f w) ≡ beside c f (on_role p g w)
-  on_role-beside p g w = cases (slice_get w.roles p)
-    where
-      cases : (o : Option Role)
-          → elim o as (λ x. World) [
-            | None ↦ beside c f w
-            | Some role ↦ record (beside c f w) { roles = slice_set w.roles p (g role) }
-          ] ≡ beside c f (elim o as (λ x. World) [
-            | None ↦ w
-            | Some role ↦ record w { roles = slice_set w.roles p (g role) }
-          ])
-      cases None = refl
-      cases (Some role) = refl
+  on_role-beside p g w =
+      maybe c f (slice_get w.roles p) w (λ role. record w { roles = slice_set w.roles p (g role) }) refl (λ role. refl)
 
   started-beside : (h : Here) (plan : Plan) (found : Found) (workspace : ℕ) (l : Local) (w : World)
       → started h plan found workspace l (beside c f w) ≡ beside c f (started h plan found workspace l w)

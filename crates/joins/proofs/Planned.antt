@@ -38,7 +38,7 @@ module _ (m : Contents) (p workspace : ℕ) (h : Holding) (memory : Memory) (f :
       is.rest ∙ ap (λ (b : ℕ). opened_rest (length memory) h b f.par) is.base in
       ap with_base is.base ∙ (ap with_parameters same ∙ (ap with_addresses addresses ∙ ap with_rest rest))
 
-  module _ (mine : Contents) (cells : Memory) (held : Holding) (o : Opening) (ps : List Parameter)
+  module _ {mine : Contents} {cells : Memory} {held : Holding} {o : Opening} {ps : List Parameter}
       (is_mine : mine ≡ m) (is_memory : cells ≡ memory) (is_held : held ≡ h) (same : ps ≡ parameters_at m f.par.context)
       (is : IsOpening cells held workspace f.par ps o) where
     opened_here : opening_plan o f ps ≡ alone first

@@ -18,7 +18,7 @@ ghost use Rattle.joins.specs.Locals.{untouched};
 
 use crate::found::Found;
 use certificate::{BranchRow, ChannelRow, ParRow, Stack};
-use channels::{Here, Traffic};
+use channels::{Here, NewProcess, Traffic};
 use machine_state::{
     Condition, Holding, Join, Mode, Progress, Registers, TaggedStore, Task, local_address,
 };
@@ -93,8 +93,11 @@ pub(crate) fn advance(
     traffic.reserve()?;
     let process = traffic.count();
     let task = starter(here, registers);
-    let branch = new_task(found.branch, workspace);
-    traffic.advance_join(here.process, task, to, branch, own)?;
+    let branch = NewProcess {
+        task: new_task(found.branch, workspace),
+        own,
+    };
+    traffic.advance_join(here.process, task, to, branch)?;
     enter(traffic, workspace, process);
     Ok(())
 }
@@ -151,8 +154,11 @@ pub(crate) fn open(
     let process = traffic.count();
     let base = join.base;
     let task = starter(here, registers);
-    let branch = new_task(found.branch, workspace);
-    traffic.open_join(here.process, task, join, &found.par.channels, branch, own)?;
+    let branch = NewProcess {
+        task: new_task(found.branch, workspace),
+        own,
+    };
+    traffic.open_join(here.process, task, join, &found.par.channels, branch)?;
     take_block(traffic, base, found.par);
     enter(traffic, workspace, process);
     Ok(())

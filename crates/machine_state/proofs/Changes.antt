@@ -612,13 +612,13 @@ module _ (m : Contents) (w : World) (keeps : WaitsIn w) where
           let v = with_input k (record link { waiting = None }) (record w { memory = memory }) in
           let only = wake_only p v in
           these (wake p v) _ _ (fills_last p k link here waiting x)
-          (tasks_of_equal (on_task_is p (λ task. record task { condition = Ready }) v x.task x.here)) only.roles only.channels
-          only.links
+          (tasks_of_equal (on_task_is p (λ task. record task { condition = Ready }) v x.task x.here)) only.roles
+          only.channels only.links
       on false =
           let v = record w { memory = memory } in
           let only = on_task_only p waits v in
-          these (on_task p waits v) _ _ (fills_more p k x) (tasks_of_equal (on_task_is p waits v x.task x.here)) only.roles
-          only.channels only.links
+          these (on_task p waits v) _ _ (fills_more p k x) (tasks_of_equal (on_task_is p waits v x.task x.here))
+          only.roles only.channels only.links
 
   ended_so : (p pick : ℕ) (task : Task) → w.queue.running ≡ Some p → slice_get w.tasks p ≡ Some task
       → (o : Outcome) (t : Turn) → Ends (at_here m p task pick) w o t
@@ -663,7 +663,8 @@ module _ (m : Contents) (w : World) (keeps : WaitsIn w) where
       let v = with_output k (record { waiting = None }) w in
       let only = wake_only p v in
       these (wake p v) _ _ (acknowledges p k output here waiting x)
-      (tasks_of_equal (on_task_is p (λ task. record task { condition = Ready }) v x.task x.here)) only.roles only.channels only.links
+      (tasks_of_equal (on_task_is p (λ task. record task { condition = Ready }) v x.task x.here)) only.roles only.channels
+      only.links
 
 -- what is so of the loaded parts and kept by each event is so of the parts of every world that events lead to
 pub of_every_world : (m : Contents) (P : List Task → List Role → List (Option Channel) → Links → Type 0)

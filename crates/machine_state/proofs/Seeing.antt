@@ -15,8 +15,8 @@ use Rattle.machine_state.specs.declared.process.Mode.{Mode}
 use Rattle.machine_state.specs.declared.process.Mode.TheVariants.{Plain, Enabling, Disabling, Starting}
 use Rattle.machine_state.specs.declared.process.Channel.{Channel}
 use Rattle.machine_state.specs.declared.process.Condition.{Condition}
-use Rattle.machine_state.specs.declared.process.Condition.TheVariants.{Ready, Sending, Receiving, OnLink, Alternating}
-use Rattle.machine_state.specs.declared.process.Condition.TheVariants.{Stopped, Ended}
+use Rattle.machine_state.specs.declared.process.Condition.TheVariants.{Sending, Receiving, OnLink, Alternating}
+use Rattle.machine_state.specs.declared.process.Condition.TheVariants.{Stopped}
 use Rattle.machine_state.specs.declared.process.Exchange.{Exchange}
 use Rattle.machine_state.specs.Memory.{Memory, place_of, with_byte, word_at}
 use Rattle.machine_state.specs.Holding.{Holding, nothing, may_read, may_read_word, may_write_word}
@@ -307,7 +307,8 @@ module _ (seen : ℕ → Bool) where
         → SameTurn seen (exchange.sent h e (here r m) w) (exchange.sent h e (here r n) w')
     sent e r m n agree covers =
         at_end (output_link e.channel) (λ k. exchange.sent_outside h k e (here r m) w)
-        (λ k. exchange.sent_outside h k e (here r n) w') _ _ (λ k is. tested (link_length h.contents k == e.length) _ _ _ _
+        (λ k. exchange.sent_outside h k e (here r n) w') _ _
+        (λ k is. tested (link_length h.contents k == e.length) _ _ _ _
         (λ same. follows _ _ (goes_out k)) (λ differ. fails_alike UnequalLengths))
         (λ inside. on_channel (channel_at w e.channel))
       where

@@ -1,4 +1,4 @@
-use Rattle.std.proofs.Common.{◌≡◌, ◌<◌, ◌≤◌, length, refl, sym, arith, Some, None, slice_get, ⊎_elim, true, false}
+use Rattle.std.proofs.Common.{◌≡◌, ◌<◌, ◌≤◌, length, refl, sym, arith, None, slice_get, ⊎_elim, true, false}
 use Rattle.std.proofs.lemmas.Bool.{cases_lt}
 use Rattle.std.proofs.lemmas.Option.{slice_get_read, slice_get_past}
 use Rattle.channels.proofs.ListedCells.{all_in, listed_but_for}
@@ -13,9 +13,8 @@ returns-then-not-opened-clause-channels c =
 pub returns-in-Some-clause-channels : goal.returns-in-Some-clause-channels
 returns-in-Some-clause-channels c =
     let lists = c.args.opened.now.lists.items in
-    let within : c.args.opener < length lists = omega (arith, c.in-Some.ensures.variant.0 refl) in
-    let there : slice_get lists c.args.opener ≡ Some c.in-Some.cells.now =
-    slice_get_read lists (length lists) c.args.opener c.in-Some.cells.now refl within c.in-Some.ensures.value in
+    let there = slice_get_read lists (length lists) c.args.opener c.in-Some.cells.now refl
+    (omega (arith, c.in-Some.ensures.variant.0 refl)) c.in-Some.ensures.value in
     all_removed c.args.opener c.args.channels.now.items c.remove_listed.new.channels.items c.args.counts.now.items
     c.remove_listed.new.counts.items c.remove_listed.ensures.removes
     (c.remove_listed.ensures.gone (all_in c.args.opened.now c.args.channels.now.items c.args.opener _
@@ -24,9 +23,8 @@ returns-in-Some-clause-channels c =
 pub returns-in-Some-clause-listed : goal.returns-in-Some-clause-listed
 returns-in-Some-clause-listed c =
     let lists = c.args.opened.now.lists.items in
-    let within : c.args.opener < length lists = omega (arith, c.in-Some.ensures.variant.0 refl) in
-    let there : slice_get lists c.args.opener ≡ Some c.in-Some.cells.now =
-    slice_get_read lists (length lists) c.args.opener c.in-Some.cells.now refl within c.in-Some.ensures.value in
+    let there = slice_get_read lists (length lists) c.args.opener c.in-Some.cells.now refl
+    (omega (arith, c.in-Some.ensures.variant.0 refl)) c.in-Some.ensures.value in
     listed_but_for c.args.opened.now _ c.args.channels.now.items c.remove_listed.new.channels.items c.args.opener
     c.remove_listed.new.cells refl refl c.remove_listed.ensures.removes.kept
     (c.remove_listed.ensures.gone (all_in c.args.opened.now c.args.channels.now.items c.args.opener _

@@ -1,5 +1,4 @@
 use Rattle.std.proofs.Common.{◌∙◌, List, length, sym, ap}
-use Rattle.module_format.specs.Contents.{contents_of}
 use Rattle.module_format.specs.Contexts.{parameters_at}
 use Rattle.machine_state.specs.Joins.{join_after, first_plan}
 use Rattle.machine_state.specs.Views.{holding_view, join_view}
@@ -12,32 +11,24 @@ use Rattle.joins.proofs.gifts.first_gift.Goals as goal
 
 pub returns-in_err-gift-clause-finds : goal.returns-in_err-gift-clause-finds
 returns-in_err-gift-clause-finds c =
-    let w = c.args.traffic.now.world in
     let here = c.args.here.now in
-    let f = found_view c.args.found in
-    let m = c.args.module.now in
-    let h = holding_at w.roles here.process in
-    let tests = tests_planned m here.process here.task.registers.workspace h w.memory f
-    (contents_of c.tables.result.now) c.store-store.result.now.cells (holding_view c.held-holding.result.now)
-    c.in_ok-opening.opening c.parameters-parameters.result.now c.tables.ensures.contents c.store-store.ensures.memory
-    (c.held-holding.ensures ∙ ap (λ (roles : List Role). holding_at roles here.process) c.store-store.ensures.roles)
-    (c.parameters-parameters.ensures ∙ ap (parameters_at m) c.from.ensures) c.in_ok-opening.ensures c.args.workspace in
     hands_on Gift _ here c.from_residual-in_err-gift.result c.in_err-gift.field-0.0 _ _
-    c.from_residual-in_err-gift.ensures.1 tests c.in_err-gift.ensures.finds
+    c.from_residual-in_err-gift.ensures.1
+    (tests_planned c.args.module.now here.process _ _ _ (found_view c.args.found) c.tables.ensures.contents
+    c.store-store.ensures.memory
+    (c.held-holding.ensures ∙ ap (λ (roles : List Role). holding_at roles here.process) c.store-store.ensures.roles)
+    (c.parameters-parameters.ensures ∙ ap (parameters_at c.args.module.now) c.from.ensures)
+    c.in_ok-opening.ensures c.args.workspace) c.in_err-gift.ensures.finds
 
 pub returns-clause-finds : goal.returns-clause-finds
 returns-clause-finds c =
-    let w = c.args.traffic.now.world in
     let here = c.args.here.now in
-    let f = found_view c.args.found in
-    let m = c.args.module.now in
-    let h = holding_at w.roles here.process in
-    let tests = tests_planned m here.process here.task.registers.workspace h w.memory f
-    (contents_of c.tables.result.now) c.store-store.result.now.cells (holding_view c.held-holding.result.now)
-    c.in_ok-opening.opening c.parameters-parameters.result.now c.tables.ensures.contents c.store-store.ensures.memory
+    sym (tests_planned c.args.module.now here.process _ _ _ (found_view c.args.found) c.tables.ensures.contents
+    c.store-store.ensures.memory
     (c.held-holding.ensures ∙ ap (λ (roles : List Role). holding_at roles here.process) c.store-store.ensures.roles)
-    (c.parameters-parameters.ensures ∙ ap (parameters_at m) c.from.ensures) c.in_ok-opening.ensures c.args.workspace in
-    sym tests ∙ c.in_ok-gift.ensures.finds
+    (c.parameters-parameters.ensures ∙ ap (parameters_at c.args.module.now) c.from.ensures)
+    c.in_ok-opening.ensures c.args.workspace)
+    ∙ c.in_ok-gift.ensures.finds
 
 pub returns-clause-gift : goal.returns-clause-gift
 returns-clause-gift c =
@@ -45,23 +36,18 @@ returns-clause-gift c =
     let here = c.args.here.now in
     let f = found_view c.args.found in
     let m = c.args.module.now in
-    let from = here.task.registers.workspace in
-    let h = holding_at w.roles here.process in
+    let plan = first_plan m here.process here.task.registers.workspace (holding_at w.roles here.process) w.memory f in
     let held =
     c.held-holding.ensures ∙ ap (λ (roles : List Role). holding_at roles here.process) c.store-store.ensures.roles in
     let named = c.parameters-parameters.ensures ∙ ap (parameters_at m) c.from.ensures in
     record {
       join =
-          join_planned m here.process from h w.memory f (contents_of c.tables.result.now)
-          c.store-store.result.now.cells (holding_view c.held-holding.result.now) c.in_ok-opening.opening
-          c.parameters-parameters.result.now c.tables.ensures.contents c.store-store.ensures.memory held named
+          join_planned m here.process _ _ _ f c.tables.ensures.contents c.store-store.ensures.memory held named
           c.in_ok-opening.ensures c.count-branch.result (holding_view c.in_ok-gift.gift.rest)
           (join_view c.in_ok-join.join) c.in_ok-gift.ensures.rest c.in_ok-join.ensures
-          ∙ ap (join_after (length w.memory) (first_plan m here.process from h w.memory f) f) c.count-branch.ensures;
+          ∙ ap (join_after (length w.memory) plan f) c.count-branch.ensures;
       own =
           c.in_ok-gift.ensures.own
-          ∙ own_planned m here.process from h w.memory f (contents_of c.tables.result.now)
-          c.store-store.result.now.cells (holding_view c.held-holding.result.now) c.in_ok-opening.opening
-          c.parameters-parameters.result.now c.tables.ensures.contents c.store-store.ensures.memory held named
+          ∙ own_planned m here.process _ _ _ f c.tables.ensures.contents c.store-store.ensures.memory held named
           c.in_ok-opening.ensures;
     }
