@@ -3,3 +3,5 @@ pub mod Growing
 pub mod Progress
 pub mod Spelled
 pub mod Places
+pub mod RowLaws
+pub mod NumberLaws

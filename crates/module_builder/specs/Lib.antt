@@ -2,3 +2,8 @@ pub mod Drafts
 pub mod Layouts
 pub mod Spacing
 pub mod Spelling
+pub mod Placing
+pub mod Ordering
+pub mod Limits
+pub mod Assembled
+pub mod Whole

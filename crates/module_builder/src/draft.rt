@@ -1,117 +1,74 @@
 //! A module as a compiler thinks of it.
 
-ghost use Rattle.std.specs.Prelude.{◌≡◌, ◌≤◌, ◌++◌, ◌∷◌, [], ◌↔◌, ℕ, None, Some, IfOk, IfSome, OnErr, IsTrue, length, slice_set};
-ghost use Rattle.std.specs.Prelude.{slice_index_or};
-ghost use Rattle.module_builder.specs.Drafts.{target, IsMade, IsPlaced, OfItem, IsComplete};
+use crate::instructions::Instructions;
+use crate::item::Label;
+use module_format::{LabelRow, ParRow, ProcedureRow, TableRow, Version};
+use std::alloc::Global;
 
-use crate::item::{Item, Label, Operand};
-use std::alloc::{AllocError, Global};
-use std::marker::Model;
-
-/// Instructions over labels.
-#[derive(Drop)]
-pub struct Draft {
-    items: Vec<Item>,
-    /// By label: how many items are before it, if it is placed.
-    labels: Vec<Option<usize>>,
+/// A context of a draft. Rows go by their numbers in the order of adding, and may be named before they are added.
+#[derive(Clone, Copy)]
+pub enum ContextName {
+    /// The root.
+    Root,
+    /// The procedure of a row.
+    Procedure(usize),
+    /// A branch of a PAR row.
+    Branch { par: usize, branch: usize },
 }
 
-impl Model for Draft {
-    ghost use Rattle.std.specs.Prelude.{ℕ, ◌≤◌, IfSome, None, slice_index_or, length};
-    ghost use Rattle.module_builder.specs.Drafts.{Code};
-
-    ghost Value = { Code };
-
-    ghost view = { λ d. record { items = d.items.items; labels = d.labels.items } };
-
-    ghost invariant = { λ d. (k : ℕ) → IfSome (slice_index_or d.labels.items k None) (λ at. at ≤ length d.items.items) };
+/// A module: its instructions, and rows with labels in place of code offsets and names in place of the numbers of
+/// contexts.
+#[derive(Drop)]
+pub struct Draft {
+    /// The instructions and the labels.
+    pub code: Instructions,
+    /// The version of the file.
+    pub version: Version,
+    /// The constants.
+    pub constants: Vec<u8>,
+    /// The words of the data area.
+    pub data_words: u32,
+    /// The data word at which the root's workspace begins.
+    pub base: u32,
+    /// How many instruction bytes a run may execute.
+    pub budget: u64,
+    /// Where the module is finished, if anywhere. A label at offset 0 says the same as none.
+    pub finish: Option<Label>,
+    /// The bytes of a message on output links 0 to 3 and input links 0 to 3; 0 is a link not used.
+    pub lengths: [u32; 8],
+    /// Whether the operations on double words are there.
+    pub has_long_operations: bool,
+    /// The procedures, in any order.
+    pub procedures: Vec<ProcedureRow<Label>>,
+    /// What holds at labels, in any order.
+    pub labels: Vec<LabelRow<Label, ContextName>>,
+    /// The PARs, in any order.
+    pub pars: Vec<ParRow<Label, ContextName>>,
+    /// What is known of the constants, in any order.
+    pub table_rows: Vec<TableRow>,
 }
 
 impl Draft {
-    /// A draft with no instruction and no label.
-    pub fn new(alloc: Global) -> Self
-        ensures { result ≡ record { items = []; labels = [] } }
+    ghost use Rattle.module_builder.specs.Whole.{IsNew};
+
+    /// A draft with no instruction and no row, whose numbers are all 0.
+    pub fn new(alloc: Global, version: Version) -> Self
+        ensures { IsNew version result }
     {
         Draft {
-            items: Vec::new(alloc),
+            code: Instructions::new(alloc),
+            version,
+            constants: Vec::new(alloc),
+            data_words: 0,
+            base: 0,
+            budget: 0,
+            finish: None,
+            lengths: [0; 8],
+            has_long_operations: false,
+            procedures: Vec::new(alloc),
             labels: Vec::new(alloc),
+            pars: Vec::new(alloc),
+            table_rows: Vec::new(alloc),
         }
-    }
-
-    /// Makes a label, which is not placed.
-    pub fn label(&mut self) -> Result<Label, AllocError>
-        ensures made { IfOk result (λ label. (label.index ≡ length self.old.labels) × (self.new ≡ record self.old { labels = self.old.labels ++ None ∷ [] })) }
-        ensures err { OnErr result (self.new ≡ self.old) }
-    {
-        let index = self.labels.len();
-        self.labels.push(None)?;
-        Ok(Label { index })
-    }
-
-    /// Whether a label is placed.
-    pub fn is_placed(&self, label: Label) -> bool
-        ensures { IsTrue result ↔ IsPlaced self.now label }
-    {
-        self.labels.get(label.index).copied().flatten().is_some()
-    }
-
-    /// Places a label before the next item, or at the code's end if none follows.
-    pub fn place(&mut self, label: Label)
-        requires made { IsMade self.old label }
-        requires once { target self.old label ≡ None }
-        ensures { self.new ≡ record self.old { labels = slice_set self.old.labels label.index (Some (length self.old.items)) } }
-    {
-        self.labels[label.index] = Some(self.items.len());
-    }
-
-    /// Adds an item.
-    pub fn push(&mut self, item: Item) -> Result<(), AllocError>
-        requires { OfItem (IsMade self.old) item }
-        ensures ok { IfOk result (λ _. self.new ≡ record self.old { items = self.old.items ++ item ∷ [] }) }
-        ensures err { OnErr result (self.new ≡ self.old) }
-    {
-        self.items.push(item)?;
-        Ok(())
-    }
-
-    /// Whether each label that an item refers to is placed.
-    pub fn is_complete(&self) -> bool
-        ensures { IsTrue result ↔ IsComplete self.now }
-    {
-        self.items.iter().all(|item| match *item {
-            Item::Instruction {
-                operand: Operand::DistanceTo(label),
-                ..
-            } => self.is_placed(label),
-            Item::Instruction {
-                operand: Operand::Between { from, to },
-                ..
-            } => self.is_placed(from) && self.is_placed(to),
-            _ => true,
-        })
-    }
-
-    /// The items.
-    pub(crate) fn items(&self) -> &[Item]
-        ensures { result.now ≡ self.now.items }
-    {
-        &self.items
-    }
-
-    /// By label: how many items are before it, if it is placed.
-    pub(crate) fn labels(&self) -> &[Option<usize>]
-        ensures value { result.now ≡ self.now.labels }
-        ensures within { (k : ℕ) → IfSome (slice_index_or self.now.labels k None) (λ at. at ≤ length self.now.items) }
-    {
-        &self.labels
-    }
-
-    /// How many items are before a label.
-    pub(crate) fn target(&self, label: Label) -> usize
-        requires { IsPlaced self.now label }
-        ensures value { target self.now label ≡ Some result }
-        ensures within { result ≤ length self.now.items }
-    {
-        self.labels[label.index].unwrap()
     }
 }

@@ -12,6 +12,8 @@ pub enum GenFault {
     Limit,
     /// G2: memory ran out.
     Memory,
+    /// G3: the tables of the draft are not valid.
+    Invalid,
 }
 
 impl From<AllocError> for GenFault {

@@ -1,6 +1,14 @@
 //! What holds of all layouts, each law the contract of a function that does nothing.
 
-ghost use Rattle.std.specs.Prelude.{◌≡◌, ℕ, List, slice_get, Some};
+ghost use Rattle.std.specs.Prelude.{◌≡◌, ◌+◌, ◌<◌, ℕ, List, length, Option, slice_get, Some};
+ghost use Rattle.module_format.specs.declared.rows.ParRow.{ParRow};
+ghost use Rattle.module_builder.specs.declared.item.Label.{Label};
+ghost use Rattle.module_builder.specs.declared.draft.ContextName.{ContextName};
+ghost use Rattle.module_builder.specs.declared.draft.ContextName.TheVariants.{Procedure, Branch};
+ghost use Rattle.module_builder.specs.declared.draft.Draft.{Draft};
+ghost use Rattle.module_builder.specs.Limits.{IsWithin};
+ghost use Rattle.module_builder.specs.Ordering.{position};
+ghost use Rattle.module_builder.specs.Assembled.{Arrangement, AreInOrder, context_number, first_context};
 ghost use Rattle.module_builder.specs.declared.item.Item.{Item};
 ghost use Rattle.module_builder.specs.Drafts.{Code};
 ghost use Rattle.module_builder.specs.Layouts.{offset, Fits, IsLeast, IsBoundary};
@@ -21,4 +29,16 @@ pub fn one_least_layout()
 pub fn items_are_in_their_places()
     ensures { (code : Code) (lengths : List ℕ) (number : ℕ) (item : Item) → Fits code lengths
         → slice_get code.items number ≡ Some item → IsSpelledAt code lengths number item }
+{}
+
+/// A context of a draft that is there has a number that a file can name: no number is too large where the draft is
+/// within the limits and its rows stand in order.
+pub fn contexts_have_numbers()
+    ensures procedures { (d : Draft) (offsets : List (Option ℕ)) (a : Arrangement) (row : ℕ) → IsWithin d
+        → AreInOrder d offsets a → row < length d.procedures.items
+        → context_number d a.procedures a.pars (Procedure row) ≡ Some (1 + position a.procedures row) }
+    ensures branches { (d : Draft) (offsets : List (Option ℕ)) (a : Arrangement) (par branch : ℕ)
+        (row : ParRow Label ContextName) → IsWithin d → AreInOrder d offsets a
+        → slice_get d.pars.items par ≡ Some row → branch < length row.branches.items
+        → context_number d a.procedures a.pars (Branch par branch) ≡ Some (first_context d a.pars par + branch) }
 {}

@@ -1,23 +1,38 @@
 //! An assembler for certified modules: from instructions over labels to their least layout and their bytes.
 #![tactic(auto)]
 
+mod assembling;
 mod draft;
 mod fault;
+mod instructions;
 mod item;
 mod laws;
 mod layouts;
 mod least;
+mod limits;
+mod numbers;
+mod ordering;
+mod orders;
+mod placing;
+mod rows;
 mod sizes;
 mod spacing;
 mod spelling;
+mod whole;
 
-pub use draft::Draft;
+pub use assembling::assemble;
+pub use draft::{ContextName, Draft};
 pub use fault::GenFault;
+pub use instructions::Instructions;
 pub use item::{Item, Label, Operand};
-pub use laws::{items_are_in_their_places, one_least_layout, places_are_boundaries};
+pub use laws::{
+    contexts_have_numbers, items_are_in_their_places, one_least_layout, places_are_boundaries,
+};
 pub use layouts::Layout;
 pub use least::layout;
+pub use limits::MAX_CONTEXTS;
 pub use spelling::spell;
+pub use whole::is_whole;
 
 #[cfg(test)]
 mod tests;

@@ -1,10 +1,10 @@
 //! Lengths of a draft's items, and the places that follow from them.
 
-ghost use Rattle.std.specs.Prelude.{◌≡◌, ◌+◌, ◌≤◌, ◌<◌, sum, length, IfOk, Err};
+ghost use Rattle.std.specs.Prelude.{◌≡◌, ◌≢◌, ◌+◌, ◌≤◌, ◌<◌, sum, length, IfOk, Err};
 ghost use Rattle.module_builder.specs.Spacing.{AreOffsets};
 
-use crate::draft::Draft;
 use crate::fault::GenFault;
+use crate::instructions::Instructions;
 use crate::item::{Item, Label, Operand};
 use crate::sizes::spelling_len;
 use module_format::MAX_LONG_CODE;
@@ -27,6 +27,7 @@ impl Spacing {
     pub(crate) fn of(alloc: Global, lengths: Vec<u8>) -> Result<Spacing, GenFault>
         ensures same { IfOk result (λ spacing. spacing.lengths.items ≡ lengths.items) }
         ensures limit { result ≡ Err GenFault.Limit → MAX_LONG_CODE < sum lengths.items }
+        ensures faults { result ≢ Err GenFault.Invalid }
     {
         let mut offsets = Vec::with_capacity(alloc, lengths.len() + 1)?;
         let mut end = 0;
@@ -51,27 +52,27 @@ impl Spacing {
     }
 
     /// Where a label is.
-    pub(crate) fn place(&self, draft: &Draft, label: Label) -> u32
-        requires placed { IsPlaced draft.now label }
-        requires count { length self.now.lengths.items ≡ length draft.now.items }
-        ensures value { result ≡ place draft.now self.now.lengths.items label }
+    pub(crate) fn place(&self, code: &Instructions, label: Label) -> u32
+        requires placed { IsPlaced code.now label }
+        requires count { length self.now.lengths.items ≡ length code.now.items }
+        ensures value { result ≡ place code.now self.now.lengths.items label }
         ensures short { result ≤ MAX_LONG_CODE }
     {
-        self.offset(draft.target(label))
+        self.offset(code.target(label))
     }
 
     /// The operand of an instruction that ends here.
-    pub(crate) fn value(&self, draft: &Draft, end: u32, operand: Operand) -> i32
-        requires placed { OfOperand (IsPlaced draft.now) operand }
-        requires count { length self.now.lengths.items ≡ length draft.now.items }
+    pub(crate) fn value(&self, code: &Instructions, end: u32, operand: Operand) -> i32
+        requires placed { OfOperand (IsPlaced code.now) operand }
+        requires count { length self.now.lengths.items ≡ length code.now.items }
         requires short { end ≤ MAX_LONG_CODE }
-        ensures { result ≡ value draft.now self.now.lengths.items end operand }
+        ensures { result ≡ value code.now self.now.lengths.items end operand }
     {
         match operand {
             Operand::Number(number) => number,
-            Operand::DistanceTo(label) => self.place(draft, label) as i32 - end as i32,
+            Operand::DistanceTo(label) => self.place(code, label) as i32 - end as i32,
             Operand::Between { from, to } => {
-                self.place(draft, to) as i32 - self.place(draft, from) as i32
+                self.place(code, to) as i32 - self.place(code, from) as i32
             }
         }
     }
@@ -94,28 +95,28 @@ impl Spacing {
     }
 
     /// The bytes that an item takes, if it ends here.
-    fn bytes_of(&self, draft: &Draft, end: u32, item: Item) -> u8
-        requires placed { OfItem (IsPlaced draft.now) item }
-        requires count { length self.now.lengths.items ≡ length draft.now.items }
+    fn bytes_of(&self, code: &Instructions, end: u32, item: Item) -> u8
+        requires placed { OfItem (IsPlaced code.now) item }
+        requires count { length self.now.lengths.items ≡ length code.now.items }
         requires within { end ≤ sum self.now.lengths.items }
-        ensures { result ≡ bytes_of draft.now self.now.lengths.items end item }
+        ensures { result ≡ bytes_of code.now self.now.lengths.items end item }
     {
         match item {
-            Item::Instruction { fun: _, operand } => spelling_len(self.value(draft, end, operand)),
+            Item::Instruction { fun: _, operand } => spelling_len(self.value(code, end, operand)),
             Item::ConstantAddress { offset } => self.load_len(end, offset) + 2,
         }
     }
 
     /// The bytes that each item takes by these places.
-    pub(crate) fn needed(&self, alloc: Global, draft: &Draft) -> Result<Vec<u8>, AllocError>
-        requires complete { IsComplete draft.now }
-        requires count { length self.now.lengths.items ≡ length draft.now.items }
-        ensures { IfOk result (λ v. v.items ≡ needed draft.now self.now.lengths.items) }
+    pub(crate) fn needed(&self, alloc: Global, code: &Instructions) -> Result<Vec<u8>, AllocError>
+        requires complete { IsComplete code.now }
+        requires count { length self.now.lengths.items ≡ length code.now.items }
+        ensures { IfOk result (λ v. v.items ≡ needed code.now self.now.lengths.items) }
     {
-        let items = draft.items();
+        let items = code.items();
         let mut needed = Vec::with_capacity(alloc, items.len())?;
         for (number, item) in items.iter().enumerate() {
-            needed.push(self.bytes_of(draft, self.offset(number + 1), *item))?;
+            needed.push(self.bytes_of(code, self.offset(number + 1), *item))?;
         }
         Ok(needed)
     }

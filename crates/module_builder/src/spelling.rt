@@ -1,6 +1,6 @@
 //! The bytes of a draft's code.
 
-ghost use Rattle.std.specs.Prelude.{◌≡◌, ◌≢◌, ◌≤◌, ◌++◌, pos, length, sum, IfOk, Err};
+ghost use Rattle.std.specs.Prelude.{◌≡◌, ◌≤◌, ◌++◌, pos, length, sum, IfOk, IfErr};
 ghost use Rattle.prefix_decoder.specs.Spelling.{spelling};
 ghost use Rattle.module_builder.specs.Drafts.{IsComplete, IsPlaced, OfItem};
 ghost use Rattle.module_builder.specs.Layouts.{Fits};
@@ -8,6 +8,7 @@ ghost use Rattle.module_builder.specs.Spelling.{constants_start, address, spelle
 
 use crate::draft::Draft;
 use crate::fault::GenFault;
+use crate::instructions::Instructions;
 use crate::item::Item;
 use crate::layouts::Layout;
 use crate::spacing::Spacing;
@@ -55,19 +56,19 @@ fn push_address(
 /// Appends an item, which ends here.
 fn push_item(
     bytes: &mut Vec<u8>,
-    draft: &Draft,
+    code: &Instructions,
     spacing: &Spacing,
     end: u32,
     item: Item,
 ) -> Result<(), AllocError>
-    requires placed { OfItem (IsPlaced draft.now) item }
-    requires count { length spacing.now.lengths.items ≡ length draft.now.items }
+    requires placed { OfItem (IsPlaced code.now) item }
+    requires count { length spacing.now.lengths.items ≡ length code.now.items }
     requires within { end ≤ sum spacing.now.lengths.items }
-    ensures { IfOk result (λ _. bytes.new.items ≡ bytes.old.items ++ spelled_item draft.now spacing.now.lengths.items end item) }
+    ensures { IfOk result (λ _. bytes.new.items ≡ bytes.old.items ++ spelled_item code.now spacing.now.lengths.items end item) }
 {
     match item {
         Item::Instruction { fun, operand } => {
-            push_instruction(bytes, fun, spacing.value(draft, end, operand))
+            push_instruction(bytes, fun, spacing.value(code, end, operand))
         }
         Item::ConstantAddress { offset } => push_address(bytes, spacing, end, offset),
     }
@@ -80,18 +81,18 @@ fn push_item(
 ///
 /// `Memory` if memory runs out.
 pub fn spell(alloc: Global, draft: &Draft, layout: &Layout) -> Result<Vec<u8>, GenFault>
-    requires complete { IsComplete draft.now }
-    requires fits { Fits draft.now layout.now.lengths.items }
-    ensures code { IfOk result (λ v. v.items ≡ spelled draft.now layout.now.lengths.items) }
-    ensures err { result ≢ Err GenFault.Limit }
+    requires complete { IsComplete draft.now.code }
+    requires fits { Fits draft.now.code layout.now.lengths.items }
+    ensures code { IfOk result (λ v. v.items ≡ spelled draft.now.code layout.now.lengths.items) }
+    ensures err { IfErr result (λ e. e ≡ GenFault.Memory) }
 {
     let lengths = Vec::from_slice(alloc, &layout.lengths)?;
     let spacing = Spacing::of(alloc, lengths)?;
     let mut bytes = Vec::new(alloc);
-    for (number, item) in draft.items().iter().enumerate() {
+    for (number, item) in draft.code.items().iter().enumerate() {
         push_item(
             &mut bytes,
-            draft,
+            &draft.code,
             &spacing,
             spacing.offset(number + 1),
             *item,

@@ -1,4 +1,5 @@
 use super::*;
+use module_format::Version;
 use prefix_decoder::Fun;
 use std::alloc::Global;
 use std::test::*;
@@ -10,17 +11,18 @@ enum Step {
     Fill(usize),
     Place(usize),
     Jump(usize),
+    /// `ldc` with the distance from one label to another.
     Distance(usize, usize),
     Address(u16),
 }
 
-/// Takes a step, if the draft has its labels.
-fn take(draft: &mut Draft, step: Step) -> Result<(), GenFault> {
-    let count = draft.labels().len();
+/// Takes a step, if the code has its labels.
+fn take(code: &mut Instructions, step: Step) -> Result<(), GenFault> {
+    let count = code.labels().len();
     match step {
         Step::Fill(count) => {
             for _ in 0..count {
-                draft.push(Item::Instruction {
+                code.push(Item::Instruction {
                     fun: Fun::Operate,
                     operand: Operand::Number(0),
                 })?;
@@ -28,13 +30,13 @@ fn take(draft: &mut Draft, step: Step) -> Result<(), GenFault> {
         }
         Step::Place(index) if index < count => {
             let label = Label { index };
-            if !draft.is_placed(label) {
-                draft.place(label);
+            if !code.is_placed(label) {
+                code.place(label);
             }
         }
         Step::Jump(index) if index < count => {
             let operand = Operand::DistanceTo(Label { index });
-            draft.push(Item::Instruction {
+            code.push(Item::Instruction {
                 fun: Fun::Jump,
                 operand,
             })?;
@@ -42,28 +44,34 @@ fn take(draft: &mut Draft, step: Step) -> Result<(), GenFault> {
         Step::Distance(from, to) if from < count && to < count => {
             let from = Label { index: from };
             let to = Label { index: to };
-            draft.push(Item::Instruction {
+            code.push(Item::Instruction {
                 fun: Fun::LoadConstant,
                 operand: Operand::Between { from, to },
             })?;
         }
-        Step::Address(offset) => draft.push(Item::ConstantAddress { offset })?,
+        Step::Address(offset) => code.push(Item::ConstantAddress { offset })?,
         _ => {}
     }
     Ok(())
 }
 
+/// The draft that steps make with this many labels.
+fn drafted(alloc: Global, labels: usize, steps: &[Step]) -> Result<Draft, GenFault> {
+    let mut draft = Draft::new(alloc, Version::One);
+    for _ in 0..labels {
+        let _ = draft.code.label()?;
+    }
+    for step in steps {
+        take(&mut draft.code, *step)?;
+    }
+    Ok(draft)
+}
+
 /// What steps make of this many labels: the lengths of the items and the code. Both are empty if a label is not
 /// placed.
 fn made(alloc: Global, labels: usize, steps: &[Step]) -> Result<(Vec<u8>, Vec<u8>), GenFault> {
-    let mut draft = Draft::new(alloc);
-    for _ in 0..labels {
-        let _ = draft.label()?;
-    }
-    for step in steps {
-        take(&mut draft, *step)?;
-    }
-    if !draft.is_complete() {
+    let draft = drafted(alloc, labels, steps)?;
+    if !draft.code.is_complete() {
         return Ok((Vec::new(alloc), Vec::new(alloc)));
     }
     let layout = layout(alloc, &draft)?;

@@ -1,0 +1,144 @@
+//! From a draft to the bytes of its module.
+
+ghost use Rattle.std.specs.Prelude.{◌≡◌, ◌↔◌, ◌≤◌, IfOk, IsTrue, length};
+ghost use Rattle.std.specs.List.{AllByRecursion};
+ghost use Rattle.module_format.specs.Contents.{contents_of};
+ghost use Rattle.module_builder.specs.Layouts.{places, IsLeast};
+ghost use Rattle.module_builder.specs.Spelling.{spelled};
+ghost use Rattle.module_builder.specs.Limits.{IsWithin};
+ghost use Rattle.module_builder.specs.Assembled.{arrangement_of, IsThere, ContextsAreThere, tables_with, IsWithinLimits};
+ghost use Rattle.module_builder.specs.Assembled.{Assembles};
+ghost use Rattle.module_builder.specs.Whole.{IsWhole};
+
+use crate::draft::{ContextName, Draft};
+use crate::fault::GenFault;
+use crate::layouts::Layout;
+use crate::least::layout;
+use crate::limits::{is_within, max_code};
+use crate::numbers::context_number;
+use crate::orders::Orders;
+use crate::placing::finish_offset;
+use crate::rows::{label_rows, par_rows, procedure_rows, table_rows};
+use crate::spelling::spell;
+use module_format::{MAX_PARS, Tables, write};
+use std::alloc::{AllocError, Global};
+
+/// Whether there is a context.
+fn is_there(draft: &Draft, orders: &Orders, context: ContextName) -> bool
+    requires few { length orders.now.pars.items ≤ MAX_PARS }
+    requires within { IsWithin draft.now }
+    ensures { IsTrue result ↔ IsThere draft.now orders.now.procedures.items orders.now.pars.items context }
+{
+    context_number(draft, orders, context).is_some()
+}
+
+/// Whether the contexts that label rows name are there.
+fn label_contexts_are_there(draft: &Draft, orders: &Orders) -> bool
+    requires few { length orders.now.pars.items ≤ MAX_PARS }
+    requires within { IsWithin draft.now }
+    ensures { IsTrue result
+        ↔ AllByRecursion (λ row. IsThere draft.now orders.now.procedures.items orders.now.pars.items row.context) draft.now.labels.items }
+{
+    for row in &draft.labels {
+        if !is_there(draft, orders, row.context) {
+            return false;
+        }
+    }
+    true
+}
+
+/// Whether the contexts that PAR rows name are there.
+fn par_contexts_are_there(draft: &Draft, orders: &Orders) -> bool
+    requires few { length orders.now.pars.items ≤ MAX_PARS }
+    requires within { IsWithin draft.now }
+    ensures { IsTrue result
+        ↔ AllByRecursion (λ row. IsThere draft.now orders.now.procedures.items orders.now.pars.items row.context) draft.now.pars.items }
+{
+    for row in &draft.pars {
+        if !is_there(draft, orders, row.context) {
+            return false;
+        }
+    }
+    true
+}
+
+/// Whether the contexts that rows name are there.
+fn contexts_are_there(draft: &Draft, layout: &Layout, orders: &Orders) -> bool
+    requires few { length orders.now.pars.items ≤ MAX_PARS }
+    requires within { IsWithin draft.now }
+    ensures { IsTrue result ↔ ContextsAreThere draft.now (arrangement_of layout.now orders.now) }
+{
+    label_contexts_are_there(draft, orders) && par_contexts_are_there(draft, orders)
+}
+
+/// The tables of a draft.
+fn tables<'c>(
+    alloc: Global,
+    draft: &'c Draft,
+    layout: &Layout,
+    orders: &Orders,
+    code: &'c [u8],
+) -> Result<Tables<'c>, AllocError>
+    requires few { length orders.now.pars.items ≤ MAX_PARS }
+    requires within { IsWithin draft.now }
+    requires code { code.now ≡ spelled draft.now.code layout.now.lengths.items }
+    ensures { IfOk result (λ t. contents_of t
+        ≡ tables_with draft.now (arrangement_of layout.now orders.now) layout.now.places.items) }
+{
+    Ok(Tables {
+        version: draft.version,
+        code,
+        constants: &draft.constants,
+        data_words: draft.data_words,
+        base: draft.base,
+        budget: draft.budget,
+        finish: finish_offset(layout, draft.finish),
+        lengths: draft.lengths,
+        has_long_operations: draft.has_long_operations,
+        procedures: procedure_rows(alloc, layout, &draft.procedures, &orders.procedures)?,
+        labels: label_rows(alloc, draft, layout, orders)?,
+        pars: par_rows(alloc, draft, layout, orders)?,
+        table_rows: table_rows(alloc, &draft.table_rows, &orders.table_rows)?,
+    })
+}
+
+/// The file of a draft that is within the limits, under its least layout.
+fn file(alloc: Global, draft: &Draft, layout: &Layout, code: &[u8]) -> Result<Vec<u8>, GenFault>
+    requires within { IsWithinLimits draft.now layout.now.lengths.items }
+    requires least { IsLeast draft.now.code layout.now.lengths.items }
+    requires places { layout.now.places.items ≡ places draft.now.code layout.now.lengths.items }
+    requires code { code.now ≡ spelled draft.now.code layout.now.lengths.items }
+    ensures { Assembles (λ v. v.items) draft.now result }
+{
+    let orders = Orders::of(alloc, draft, layout)?;
+    let tables = tables(alloc, draft, layout, &orders, code)?;
+    if !contexts_are_there(draft, layout, &orders) || !tables.keeps() {
+        return Err(GenFault::Invalid);
+    }
+    Ok(write(alloc, &tables)?)
+}
+
+/// The module file of a draft. Its code is the instructions in their order, each as long as the least layout has it.
+/// Procedure rows stand by their entries, label rows by their offsets, PAR rows by the entries of their first
+/// branches and table rows by their starts, those at one place in the order of adding; lists inside a row stay as
+/// they are. Contexts have the numbers that follow from the order.
+///
+/// # Errors
+///
+/// `Limit` if no layout fits, if a number or the length of a list is above a limit of the format, or if there are
+/// more contexts than [`MAX_CONTEXTS`](crate::MAX_CONTEXTS); `Invalid` if the tables are not valid otherwise, or a
+/// row names a context that is not there; `Memory` if memory runs out.
+pub fn assemble(alloc: Global, draft: &Draft) -> Result<Vec<u8>, GenFault>
+    requires { IsWhole draft.now }
+    ensures { Assembles (λ v. v.items) draft.now result }
+{
+    if !is_within(draft) {
+        return Err(GenFault::Limit);
+    }
+    let layout = layout(alloc, draft)?;
+    let code = spell(alloc, draft, &layout)?;
+    if code.len() > max_code(draft.version) as usize {
+        return Err(GenFault::Limit);
+    }
+    file(alloc, draft, &layout, &code)
+}
