@@ -42,6 +42,7 @@ use Rattle.facts.specs.Regions.{scope_of, HoldsNamed, Keeps}
 use Rattle.facts.specs.Rulings as ruling
 use Rattle.facts.specs.Rulings.{Ruling, calls, returns, breaks}
 use Rattle.facts.specs.CallRules as rule
+use Rattle.facts.specs.declared.lent.Lent.{Lent}
 use Rattle.facts.specs.CallRules.{Calling, passes, passing, callee_word, frame_is_own, frame_size, with_lent, with_all_lent, lent}
 use Rattle.facts.specs.CallRules.{ends_are_given, callee_span, behind_call, wants, spends, calls_procedure, call_rule, return_rule, may_return}
 use Rattle.facts.specs.Meaning.{Layout, Activation, Means, says_nothing, is_return_address, MeansWord, is_fact, word_of, code_address}
@@ -201,7 +202,7 @@ lent_dues c (p ∷ ps) facts turns =
     let here = one (lent c p) in
     omega (arith, rest, here)
   where
-    one : (o : Option rule.Lent) → dues (with_lent o facts) turns ≤ dues facts turns
+    one : (o : Option Lent) → dues (with_lent o facts) turns ≤ dues facts turns
     one None = omega arith
     one (Some l) = on_test (l.is_written && (l.region == 0))
       where

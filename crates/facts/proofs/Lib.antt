@@ -16,6 +16,8 @@ pub mod NarrowedWords
 pub mod Narrowed
 pub mod Combining
 pub mod WordsFit
+pub mod WriteThrough
+pub mod WritesFit
 pub mod MemoryFits
 pub mod Offsets
 pub mod Lending
@@ -24,6 +26,8 @@ pub mod CallTests
 pub mod Passing
 pub mod Resuming
 pub mod CallsFit
+pub mod EndNumbers
+pub mod Touching
 pub mod Turning
 pub mod Blocks
 pub mod LoopsFit

@@ -18,11 +18,12 @@ use Rattle.facts.specs.Meaning.{owed, IsWellFormed}
 use Rattle.facts.specs.Fitting.{Changes, After, Here, rule_site, step_site, it_ends, it_breaks, RulesFitSteps}
 use Rattle.facts.proofs.Combining.{FitsIf, unknown_means, schedules_fits, leads_fits, in_plain_rule, beside_plain_rule}
 use Rattle.facts.proofs.Combining.{in_plain_step, after_stack, pays_fits}
-use Rattle.facts.proofs.CallsFit.{return_fits}
+use Rattle.facts.proofs.CallsFit.{call_fits, return_fits}
 use Rattle.facts.proofs.WordsFit.{ldc_fits, ldl_fits, stl_fits, constant_fits, reverse_fits, mint_fits, binary_fits}
 use Rattle.facts.proofs.WordsFit.{unary_fits, shift_fits, long_fits, subscript_fits, count_fits, pointer_fits}
 use Rattle.facts.proofs.WordsFit.{adjust_fits, cj_fits}
 use Rattle.facts.proofs.MemoryFits.{ldnlp_fits, bsub_fits, wsub_fits, ldpi_fits, ldnl_fits, lb_fits}
+use Rattle.facts.proofs.WritesFit.{stnl_fits, sb_fits}
 use Rattle.facts.proofs.LoopsFit.{lend_fits}
 use Rattle.states.proofs.RowFacts.{and-parts}
 
@@ -66,6 +67,7 @@ module _ (x : Here) (wf : IsWellFormed x.m) (s : State) (l : Local) (a : After x
   operation_fits operations.WordSubscript = wsub_fits x s l a same changes n
   operation_fits operations.LoadPointerToInstruction = ldpi_fits x s l a same changes n
   operation_fits operations.LoadByte = lb_fits x s l a same changes n wf
+  operation_fits operations.StoreByte = sb_fits x s l a same changes n
   operation_fits operations.Return = return_fits x wf s l a same changes n
   operation_fits operations.LoopEnd =
       lend_fits x wf s l a a.named.even (λ k t. wf.frames s.context k (and-parts _ _ t).0) same changes n
@@ -85,8 +87,9 @@ module _ (x : Here) (wf : IsWellFormed x.m) (s : State) (l : Local) (a : After x
   instruction_fits instructions.ConditionalJump e fits = cj_fits x s l a same changes n wf e fits
   instruction_fits instructions.LoadNonLocalPointer e fits = ldnlp_fits x s l a same changes n e fits
   instruction_fits instructions.LoadNonLocal e fits = ldnl_fits x s l a same changes n wf e fits
+  instruction_fits instructions.StoreNonLocal e fits = stnl_fits x s l a same changes n e fits
+  instruction_fits instructions.Call e fits = call_fits x wf s l a same changes n e
   instruction_fits (instructions.Operate op) e fits = operation_fits op
-  instruction_fits _ e fits = λ next. it_breaks
 
   option_fits : (i : Option Instruction) (e : ℤ) → FitsSigned w32 e
       → FitsIf x (table.rule_of (rule_site x) i e s) (step.step_of (step_site x) i e l)

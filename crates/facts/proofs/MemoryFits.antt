@@ -105,7 +105,7 @@ module _ (m : Contents) (layout : Layout) where
   unfolding pointer_of
   pointer_is (Pointer region lo hi steps) p e =
       let q = ok_if (are_near lo hi) (record { region = region; lo = lo; hi = hi; step = steps }) p _ e in
-      subst (λ (r : Pointed). (Pointer region lo hi steps ≡ Pointer r.region r.lo r.hi r.step)
+      subst (λ (r : Pointed). (◌≡◌ {A = Fact} (Pointer region lo hi steps) (Pointer r.region r.lo r.hi r.step))
       × (are_near r.lo r.hi ≡ true)) q.1 (refl, q.0)
   pointer_is Unknown p e = absurd (cc)
   pointer_is (Number lo hi) p e = absurd (cc)
@@ -324,33 +324,35 @@ module _ (x : Here) where
     popped : After x.m x.h x.mode x.act (rule.pop s) (step.pop l)
     popped = after_stack x a (record { a = a.knows.registers.b; b = a.knows.registers.c; c = unknown_means })
 
-    pub bsub_fits : FitsIf x (table.operation_rule (rule_site x) operations.ByteSubscript s)
-        (step.operation_step (step_site x) operations.ByteSubscript l)
-    unfolding table.operation_rule step.operation_step
-    bsub_fits =
+    -- A becomes the byte, or the word, of number B behind it, whose address is such a sum
+    element_fits : (element : Step) (sum : ℤ → ℤ → ℤ)
+        → ((p : Pointed) (r : Bounds) (v u : ℤ) (fact : Fact) → element_of element p r ≡ Ok fact
+        → Means x.m x.act.layout (Pointer p.region p.lo p.hi p.step) (Some v) → Lies r u
+        → Means x.m x.act.layout fact (Some (sum v u)))
+        → FitsIf x (memory.subscripts element (rule_site x) s)
+        (step.alone x.mode (step.uses l.registers.stack.a (λ v. step.uses l.registers.stack.b (λ u.
+        step.replaces_two (step_site x) (sum v u) l))))
+    element_fits element sum sound =
         in_plain_step x s a.same_mode _ _ (uses_fits x s.stack.a l.registers.stack.a _ _ a.knows.registers.a (λ v means.
         uses_fits x s.stack.b l.registers.stack.b _ _ a.knows.registers.b (λ u other.
         settles_fits (number_of s.stack.b.fact) _ _ (λ r number. settles_fits (pointer_of s.stack.a.fact) _ _ (λ p pointer.
-        settles_fits (element_of Byte p r) _ _ (λ fact is.
+        settles_fits (element_of element p r) _ _ (λ fact is.
         with_fact_fits (rule.pop s) (step.pop l) fact _ popped same changes n
-        (byte_means x.m x.act.layout p r v u fact is
+        (sound p r v u fact is
         (subst (λ (f : Fact). Means x.m x.act.layout f (Some v)) (pointer_is x.m x.act.layout s.stack.a.fact p pointer).0
         means.fact)
         (number_lies x.m x.act.layout s.stack.b.fact r u number other.fact))))))))
 
+    pub bsub_fits : FitsIf x (table.operation_rule (rule_site x) operations.ByteSubscript s)
+        (step.operation_step (step_site x) operations.ByteSubscript l)
+    unfolding table.operation_rule step.operation_step
+    bsub_fits =
+        element_fits Byte (λ v u. step.word_of ((step.address v + step.address u) % 2 ^ 32)) (byte_means x.m x.act.layout)
+
     pub wsub_fits : FitsIf x (table.operation_rule (rule_site x) operations.WordSubscript s)
         (step.operation_step (step_site x) operations.WordSubscript l)
     unfolding table.operation_rule step.operation_step
-    wsub_fits =
-        in_plain_step x s a.same_mode _ _ (uses_fits x s.stack.a l.registers.stack.a _ _ a.knows.registers.a (λ v means.
-        uses_fits x s.stack.b l.registers.stack.b _ _ a.knows.registers.b (λ u other.
-        settles_fits (number_of s.stack.b.fact) _ _ (λ r number. settles_fits (pointer_of s.stack.a.fact) _ _ (λ p pointer.
-        settles_fits (element_of Word p r) _ _ (λ fact is.
-        with_fact_fits (rule.pop s) (step.pop l) fact _ popped same changes n
-        (word_means x.m x.act.layout p r v u fact is
-        (subst (λ (f : Fact). Means x.m x.act.layout f (Some v)) (pointer_is x.m x.act.layout s.stack.a.fact p pointer).0
-        means.fact)
-        (number_lies x.m x.act.layout s.stack.b.fact r u number other.fact))))))))
+    wsub_fits = element_fits Word (λ v u. step.word_of (local_address (step.address v) u)) (word_means x.m x.act.layout)
 
     pub ldpi_fits : FitsIf x (table.operation_rule (rule_site x) operations.LoadPointerToInstruction s)
         (step.operation_step (step_site x) operations.LoadPointerToInstruction l)
@@ -371,7 +373,7 @@ module _ (x : Here) where
     reads_bytes_fits region first end r o go =
         on_rule_test x (may_read_bytes x.m s.context region first end) _ _ _ go (λ t next. it_breaks)
 
-    aligned_fits : (v : ℤ) (r : Ruling) (o : ℕ → Outcome) → (step.address v % 4 == 0) ≡ true
+    pub aligned_fits : (v : ℤ) (r : Ruling) (o : ℕ → Outcome) → (step.address v % 4 == 0) ≡ true
         → FitsIf x r (o (step.address v)) → FitsIf x r (step.aligned v o)
     unfolding step.aligned
     aligned_fits v r o even go =

@@ -57,7 +57,8 @@ use Rattle.facts.proofs.Constants.{word_in, row_word}
 use Rattle.facts.specs.Reach.{constant_range, lie_in_row, full}
 use Rattle.facts.specs.Reach.{may_read_bytes, may_write_bytes, may_read_parameter, may_write_parameter}
 use Rattle.facts.specs.CallRules as rule
-use Rattle.facts.specs.CallRules.{Calling, Lent, callee_word, given, lent_from, lent, suits, parameter_suits, numbers_suit}
+use Rattle.facts.specs.declared.lent.Lent.{Lent}
+use Rattle.facts.specs.CallRules.{Calling, callee_word, given, lent_from, lent, suits, parameter_suits, numbers_suit}
 use Rattle.facts.specs.CallRules.{numbers_fit, is_off_callee, may_use, words_fit, may_lend, pointers_fit, frame_size}
 use Rattle.facts.specs.CallRules.{frame_is_own, end_of, lent_words, ends_are_held, channel_of, holds_ends, has_direction}
 use Rattle.facts.specs.CallRules.{clash, are_apart, each_two, regions_are_apart, further}

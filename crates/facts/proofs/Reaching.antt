@@ -41,7 +41,7 @@ rest_of : (z : ℤ) → unsigned_abs (int_rem_euclid z (pos 4294967296)) < 42949
 rest_of (pos a) = omega arith
 rest_of (negsuc a) = omega arith
 
-address_of : (z : ℤ) → step.address (int_wrap w32 z) ≡ unsigned_abs (int_rem_euclid z (pos 4294967296))
+pub address_of : (z : ℤ) → step.address (int_wrap w32 z) ≡ unsigned_abs (int_rem_euclid z (pos 4294967296))
 unfolding int_wrap
 address_of z = of_z-to_z w32 (unsigned_abs (int_rem_euclid z (pos 4294967296))) (rest_of z)
 

@@ -17,7 +17,7 @@ use Rattle.module_format.specs.declared.rows.ParameterKind.TheVariants.{Value, R
 use Rattle.module_format.specs.Contents.{Contents}
 use Rattle.module_format.specs.Contexts.{parameters_at}
 use Rattle.machine_state.specs.Memory.{Memory, byte_at, word_at, joined, place_of}
-use Rattle.machine_state.specs.Holding.{Holding, may_read, may_write, may_read_word}
+use Rattle.machine_state.specs.Holding.{Holding, may_read, may_write, may_read_word, may_write_word}
 use Rattle.states.specs.declared.known.WordFact.{WordFact}
 use Rattle.states.specs.declared.span.Together.{Together}
 use Rattle.states.specs.State.{Facts, plain, is_alone}
@@ -110,13 +110,23 @@ frame_means m act facts first count k v low high means = on_one (count == 1) ref
 
 -- ---- words of regions
 
+-- each byte of a word passes a test
+each_byte : (may : ℕ → Bool) (place : ℕ) → ((n : ℕ) → n < 4 → may (place + n) ≡ true)
+    → (may place && may (place + 1) && may (place + 2) && may (place + 3)) ≡ true
+each_byte may place each =
+    and-both _ _ (and-both _ _ (and-both _ _
+    (ap may (let e : place ≡ place + 0 = omega arith in e) ∙ each 0 (omega arith)) (each 1 (omega arith)))
+    (each 2 (omega arith))) (each 3 (omega arith))
+
 pub word_readable : (h : Holding) (place : ℕ) → ((n : ℕ) → n < 4 → may_read h (place + n) ≡ true)
     → may_read_word h place ≡ true
 unfolding may_read_word
-word_readable h place each =
-    and-both _ _ (and-both _ _ (and-both _ _
-    (ap (may_read h) (let e : place ≡ place + 0 = omega arith in e) ∙ each 0 (omega arith)) (each 1 (omega arith)))
-    (each 2 (omega arith))) (each 3 (omega arith))
+word_readable h place each = each_byte (may_read h) place each
+
+pub word_writable : (h : Holding) (place : ℕ) → ((n : ℕ) → n < 4 → may_write h (place + n) ≡ true)
+    → may_write_word h place ≡ true
+unfolding may_write_word
+word_writable h place each = each_byte (may_write h) place each
 
 no_first_byte : (memory : Memory) (place : ℕ) → byte_at memory place ≡ None → word_at memory place ≡ None
 unfolding word_at

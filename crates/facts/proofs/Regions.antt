@@ -86,7 +86,7 @@ bytes_read h place held = bytes_of_word (may_read h) place held
 -- ---- what is written are bytes
 
 -- a byte of memory is one that is written, or was there
-byte_small : (memory : Memory) (place : ℕ) (byte : Option ℕ) → ((c : ℕ) → byte ≡ Some c → c < 256) → (q b : ℕ)
+pub byte_small : (memory : Memory) (place : ℕ) (byte : Option ℕ) → ((c : ℕ) → byte ≡ Some c → c < 256) → (q b : ℕ)
     → byte_at (with_byte memory place byte) q ≡ Some b → (b < 256) ⊎ (byte_at memory q ≡ Some b)
 byte_small memory place byte low q b found = elim (cases_eq q place) [
   | inr differ ↦ inr (sym (byte_at-with_byte_other memory place q byte differ) ∙ found)
@@ -209,22 +209,16 @@ module _ (m : Contents) (h : Holding) (scope : Scope) (old new : Memory) (change
 
 -- ---- a write to a word of the frame
 
-module _ (m : Contents) (h : Holding) (scope : Scope) (k : ℤ) (memory : Memory) (v : Option ℤ)
-    (inside : scope.words.writes k ≡ true) (counts : scope.words.reads k ≡ true)
-    (w : IsOwnWord h (length memory) scope.layout.origin k) where
-  byte_kept : (place : ℕ) → (byte_at (with_word memory w.place v) place ≡ byte_at memory place)
-      ⊎ IsByteOf scope.layout.origin k place
-  byte_kept place = elim (cases_lt place w.place) [
-    | inl low ↦ inl (byte_at-with_word_other memory w.place place v (inl low))
-    | inr high ↦ elim (cases_lt place (w.place + 4)) [
-      | inl here ↦ inr (record {
-        low = let is = w.is in omega (arith, ints);
-        high = let is = w.is in omega (arith, ints);
-      })
-      | inr behind ↦ inl (byte_at-with_word_other memory w.place place v (inr behind))
-    ]
-  ]
+-- Memory has changed in one word of the frame alone, and what is there now are bytes, or was there.
+pub record AltersWord (origin k : ℤ) (old new : Memory) : Type 0 where
+  pub size : length new ≡ length old
+  pub kept : (place : ℕ) → (byte_at new place ≡ byte_at old place) ⊎ IsByteOf origin k place
+  pub small : (place b : ℕ) → byte_at new place ≡ Some b → (b < 256) ⊎ (byte_at old place ≡ Some b)
 
+module _ (m : Contents) (h : Holding) (scope : Scope) (k : ℤ) (memory new : Memory)
+    (inside : scope.words.writes k ≡ true) (counts : scope.words.reads k ≡ true)
+    (w : IsOwnWord h (length memory) scope.layout.origin k)
+    (alters : AltersWord scope.layout.origin k memory new) where
   byte_is_own : (place : ℕ) → IsByteOf scope.layout.origin k place → may_write h place ≡ true
   byte_is_own place b =
       let is = w.is in
@@ -235,11 +229,11 @@ module _ (m : Contents) (h : Holding) (scope : Scope) (k : ℤ) (memory : Memory
       ap (may_write h) (let e : place ≡ w.place + (place - w.place) = omega arith in e)
       ∙ bytes_written h w.place w.mine (place - w.place) (omega arith)
 
-  write_alters : Alters h memory (with_word memory w.place v) (IsByteOf scope.layout.origin k)
-  write_alters = record {
-    bytes = λ place held. byte_kept place;
+  word_alters : Alters h memory new (IsByteOf scope.layout.origin k)
+  word_alters = record {
+    bytes = λ place held. alters.kept place;
     own = byte_is_own;
-    small = λ place b held found. word_small memory w.place v place b found;
+    small = λ place b held found. alters.small place b found;
   }
 
   region_beside : {may_use : ℕ → Bool} {start size : ℕ} {lo hi : ℤ} → IsRegion m may_use scope memory start size lo hi
@@ -255,11 +249,36 @@ module _ (m : Contents) (h : Holding) (scope : Scope) (k : ℤ) (memory : Memory
   beside (WrittenRegion size lo hi) start named place at b = region_beside named place at.0 at.1 b
   beside (Channels count len ends) start named place at b = at
 
-  -- a write to a word of the frame is one that the activation may make
-  pub write_keeps : Keeps m h scope memory (with_word memory w.place v)
-  write_keeps = record {
-    size = length-with_word memory w.place v;
-    bytes = λ place e. elim (byte_kept place) [ inl same ↦ inl same | inr b ↦ inr (in_frame k inside b) ];
-    named = λ has. named_left m h scope memory (with_word memory w.place v) (IsByteOf scope.layout.origin k) write_alters
+  -- a change of a word of the frame is one that the activation may make
+  pub frame_keeps : Keeps m h scope memory new
+  frame_keeps = record {
+    size = alters.size;
+    bytes = λ place e. elim (alters.kept place) [ inl same ↦ inl same | inr b ↦ inr (in_frame k inside b) ];
+    named = λ has. named_left m h scope memory new (IsByteOf scope.layout.origin k) word_alters
         (λ j p found. inl (beside p.kind (scope.layout.starts j) (has.each j p found))) has;
   }
+
+-- a word of the frame that is written
+pub word_written : (h : Holding) (origin k : ℤ) (memory : Memory) (v : Option ℤ) (w : IsOwnWord h (length memory) origin k)
+    → AltersWord origin k memory (with_word memory w.place v)
+word_written h origin k memory v w = record {
+  size = length-with_word memory w.place v;
+  kept = λ place. elim (cases_lt place w.place) [
+    | inl low ↦ inl (byte_at-with_word_other memory w.place place v (inl low))
+    | inr high ↦ elim (cases_lt place (w.place + 4)) [
+      | inl here ↦ inr (record {
+        low = let is = w.is in omega (arith, ints);
+        high = let is = w.is in omega (arith, ints);
+      })
+      | inr behind ↦ inl (byte_at-with_word_other memory w.place place v (inr behind))
+    ]
+  ];
+  small = λ place b found. word_small memory w.place v place b found;
+}
+
+pub write_keeps : (m : Contents) (h : Holding) (scope : Scope) (k : ℤ) (memory : Memory) (v : Option ℤ)
+    → scope.words.writes k ≡ true → scope.words.reads k ≡ true
+    → (w : IsOwnWord h (length memory) scope.layout.origin k) → Keeps m h scope memory (with_word memory w.place v)
+write_keeps m h scope k memory v inside counts w =
+    frame_keeps m h scope k memory (with_word memory w.place v) inside counts w
+    (word_written h scope.layout.origin k memory v w)

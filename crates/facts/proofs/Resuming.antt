@@ -24,7 +24,8 @@ use Rattle.states.specs.declared.span.Leaving.TheVariants.{Become}
 use Rattle.states.specs.Spans.{on_span}
 use Rattle.facts.specs.Reach.{word_of_byte}
 use Rattle.module_format.specs.Contexts.{parameters_at}
-use Rattle.facts.specs.CallRules.{Calling, Lent, callee_word, given, lent_to, lent, with_lent, with_all_lent, callee_span, frame_size}
+use Rattle.facts.specs.declared.lent.Lent.{Lent}
+use Rattle.facts.specs.CallRules.{Calling, callee_word, given, lent_to, lent, with_lent, with_all_lent, callee_span, frame_size}
 use Rattle.facts.proofs.Words.{bool_cases, means_same, itself_means, frame_word_is}
 use Rattle.facts.proofs.Offsets.{word_of_offset}
 use Rattle.facts.proofs.Lending.{number_means, same_word, run_byte, IsRegionKind, IsPart, of_frame, of_constants, of_parameter}

@@ -9,10 +9,11 @@ use Rattle.module_format.specs.Rows.{Fact}
 use Rattle.module_format.specs.declared.fact.Fact.TheVariants.{Unknown, Number, Pointer}
 use Rattle.module_format.specs.declared.fact.Step.TheVariants.{Word}
 use Rattle.machine_state.specs.declared.instruction.Instruction.{Instruction}
+use Rattle.machine_state.specs.declared.instruction.Instruction.TheVariants.{Call}
 use Rattle.machine_state.specs.declared.instruction.Instruction.TheVariants.{Jump, LoadConstant, LoadLocal, StoreLocal}
 use Rattle.machine_state.specs.declared.instruction.Instruction.TheVariants.{WithConstant, LoadLocalPointer}
 use Rattle.machine_state.specs.declared.instruction.Instruction.TheVariants.{AdjustWorkspace, ConditionalJump}
-use Rattle.machine_state.specs.declared.instruction.Instruction.TheVariants.{LoadNonLocalPointer, LoadNonLocal}
+use Rattle.machine_state.specs.declared.instruction.Instruction.TheVariants.{LoadNonLocalPointer, LoadNonLocal, StoreNonLocal}
 use Rattle.machine_state.specs.declared.instruction.Instruction.TheVariants.{Operate}
 use Rattle.machine_state.specs.declared.op.Op.{Op}
 use Rattle.machine_state.specs.declared.op.Op.TheVariants as ops
@@ -193,6 +194,7 @@ operation-without site ops.ByteSubscript s h = absurd (cc)
 operation-without site ops.WordSubscript s h = absurd (cc)
 operation-without site ops.LoadPointerToInstruction s h = absurd (cc)
 operation-without site ops.LoadByte s h = absurd (cc)
+operation-without site ops.StoreByte s h = absurd (cc)
 operation-without site ops.Return s h = absurd (cc)
 operation-without site ops.LoopEnd s h = absurd (cc)
 operation-without site _ s h = refl
@@ -200,18 +202,8 @@ operation-without site _ s h = refl
 instruction-without : (site : Site) (i : Instruction) (e : ℤ) (s : State)
     → instruction_has_rule site.contents i ≡ false → instruction_rule site i e s ≡ breaks rules.Spelling
 unfolding instruction_rule
-instruction-without site LoadConstant e s h = absurd (cc)
-instruction-without site LoadLocal e s h = absurd (cc)
-instruction-without site StoreLocal e s h = absurd (cc)
-instruction-without site (WithConstant op) e s h = absurd (cc)
-instruction-without site LoadLocalPointer e s h = absurd (cc)
-instruction-without site AdjustWorkspace e s h = absurd (cc)
-instruction-without site Jump e s h = absurd (cc)
-instruction-without site ConditionalJump e s h = absurd (cc)
-instruction-without site LoadNonLocalPointer e s h = absurd (cc)
-instruction-without site LoadNonLocal e s h = absurd (cc)
 instruction-without site (Operate op) e s h = operation-without site op s h
-instruction-without site _ e s h = refl
+instruction-without site _ e s h = absurd (cc)
 
 without-rule : (site : Site) (o : Option Instruction) (e : ℤ) (s : State)
     → (elim o as (λ o. Bool) [ None ↦ false | Some i ↦ instruction_has_rule site.contents i ]) ≡ false
@@ -238,16 +230,17 @@ pub passed-on : (P : ℤ → Type 0) (o : Option ℤ) (r : Result ℤ Rule) → 
 passed-on P (Some x) r r_is h = rw r_is h
 passed-on P None r r_is h = rw r_is tt
 
+-- a word that is asked for is handed on where it passes a test
+asked-by : (test : ℤ → Bool) (w z : ℤ) (o : Option ℤ) (r : Result ℤ Rule) → r ≡ ok_or o rules.OwnWord → z ≡ w
+    → is_some o ≡ test z → Admits r (λ k. cond (test w) k (breaks rules.OwnWord))
+asked-by test w z o r r_is z_is h = rw r_is (admitted (test w) o (h ∙ ap test z_is))
+
 pub written-by : (site : Site) (s : State) (w z : ℤ) (o : Option ℤ) (r : Result ℤ Rule) → r ≡ ok_or o rules.OwnWord
     → z ≡ w → is_some o ≡ may_write_word site.contents s.context z → Admits r (writes_word site s w)
 unfolding writes_word
-written-by site s w z o r r_is z_is h =
-    rw r_is (admitted (may_write_word site.contents s.context w) o
-    (h ∙ ap (may_write_word site.contents s.context) z_is))
+written-by site s w z o r r_is = asked-by (may_write_word site.contents s.context) w z o r r_is
 
 pub read-by : (site : Site) (s : State) (w z : ℤ) (o : Option ℤ) (r : Result ℤ Rule) → r ≡ ok_or o rules.OwnWord
     → z ≡ w → is_some o ≡ may_read_word site.contents s.context z → Admits r (reads_word site s w)
 unfolding reads_word
-read-by site s w z o r r_is z_is h =
-    rw r_is (admitted (may_read_word site.contents s.context w) o
-    (h ∙ ap (may_read_word site.contents s.context) z_is))
+read-by site s w z o r r_is = asked-by (may_read_word site.contents s.context) w z o r r_is

@@ -44,12 +44,24 @@ pub record WordThrough (m : Contents) (h : Holding) (layout : Layout) (memory : 
   pub held : may_read_word h place ≡ true
   pub means : Means m layout said (word_at memory place)
 
-natural : (z : ℤ) → pos 0 ≤ℤ z → (n : ℕ) × (z ≡ pos n)
+pub natural : (z : ℤ) → pos 0 ≤ℤ z → (n : ℕ) × (z ≡ pos n)
 natural (pos n) h = (n, refl)
 natural (negsuc n) h = absurd (omega (arith, ints))
 
-even_place : (place : ℕ) (q : ℤ) → pos place ≡ pos 4 *ℤ q → place % 4 ≡ 0
+pub even_place : (place : ℕ) (q : ℤ) → pos place ≡ pos 4 *ℤ q → place % 4 ≡ 0
 even_place place q e = omega (arith, ints)
+
+-- so many bytes from an offset on lie in a region, each wherever a pointer points
+pub inside_region : (size width : ℕ) (lo hi offset : ℤ) → lo ≤ℤ offset → offset ≤ℤ hi
+    → lie_in (Some size) lo (hi +ℤ pos width) ≡ true → (n : ℕ) × (offset ≡ pos n) × (n + width ≤ size)
+inside_region size width lo hi offset low high inside =
+    let f = lies_inside (Some size) lo (hi +ℤ pos width) inside in
+    let same : size ≡ f.0 = cc in
+    let from = f.2 in
+    let to = f.3 in
+    let n = natural offset (omega (arith, ints)) in
+    let is = n.1 in
+    (n.0, n.1, omega (arith, ints))
 
 module _ {m : Contents} {h : Holding} {mode : machine.Mode} {act : Activation} {s : State} {l : Local}
     (wf : IsWellFormed m) (a : After m h mode act s l) (lo hi offset : ℤ) (low : lo ≤ℤ offset) (high : offset ≤ℤ hi)
@@ -103,16 +115,12 @@ module _ {m : Contents} {h : Holding} {mode : machine.Mode} {act : Activation} {
       → WordThrough m h act.layout l.memory (pos (constants_start m)) offset
       (number_within (constant_range m lo (hi +ℤ pos 4)))
   through_constants inside =
-      let f = lies_inside (Some (length m.constants)) lo (hi +ℤ pos 4) inside in
-      let size : length m.constants ≡ f.0 = cc in
-      let from = f.2 in
-      let to = f.3 in
-      let n = natural offset (omega (arith, ints)) in
+      let n = inside_region (length m.constants) 4 lo hi offset low high inside in
       let is : offset ≡ pos n.0 = n.1 in
+      let fits : n.0 + 4 ≤ length m.constants = n.2 in
       let q = stepped_quotient offset aligned in
       let q_is = q.1 in
       let even : n.0 % 4 ≡ 0 = even_place n.0 q.0 (omega (arith, ints)) in
-      let fits : n.0 + 4 ≤ length m.constants = omega (arith, ints) in
       record {
         place = constants_start m + n.0;
         is = omega (arith, ints);
@@ -266,13 +274,10 @@ module _ {m : Contents} {h : Holding} {mode : machine.Mode} {act : Activation} {
   byte_constants : lie_in (Some (length m.constants)) lo (hi +ℤ pos 1) ≡ true
       → ByteThrough m h act.layout l.memory (pos (constants_start m)) offset (Number (pos 0) (pos 255))
   byte_constants inside =
-      let f = lies_inside (Some (length m.constants)) lo (hi +ℤ pos 1) inside in
-      let size : length m.constants ≡ f.0 = cc in
-      let from = f.2 in
-      let to = f.3 in
-      let n = natural offset (omega (arith, ints)) in
+      let n = inside_region (length m.constants) 1 lo hi offset low high inside in
       let is : offset ≡ pos n.0 = n.1 in
-      let within : n.0 < length m.constants = omega (arith, ints) in
+      let fits = n.2 in
+      let within : n.0 < length m.constants = omega arith in
       record {
         place = constants_start m + n.0;
         is = omega (arith, ints);

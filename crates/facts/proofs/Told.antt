@@ -1,5 +1,5 @@
 -- What functions tell of facts, where their arguments are told otherwise.
-use Rattle.std.proofs.Common.{◌≡◌, ℕ, ◌+◌, ℤ, pos, ◌-ℤ◌, nat_abs, ◌+ℤ◌, Result, Err, Bool, true, false, cond, ◌==◌, ◌≤ℤ◌, negsuc, sym, ap, ◌∙◌, subst}
+use Rattle.std.proofs.Common.{◌≡◌, ℕ, ◌+◌, ℤ, pos, ◌*ℤ◌, ◌-ℤ◌, nat_abs, ◌+ℤ◌, Result, Err, Bool, true, false, cond, ◌==◌, ◌≤ℤ◌, negsuc, sym, ap, ◌∙◌, subst}
 use Rattle.std.proofs.lemmas.Bool.{eq-eqb}
 use Rattle.std.specs.Prelude.{int_le}
 use Rattle.states.proofs.RowFacts.{and-parts, le-from}
@@ -10,14 +10,18 @@ use Rattle.module_format.specs.Contents.{Contents}
 use Rattle.states.specs.declared.rule.Rule.{Rule}
 use Rattle.states.specs.declared.rule.Rule.TheVariants as rules
 use Rattle.facts.specs.MemoryRules.{is_near, are_near, settles, word_fact, near_fact, shifted, place_fact, words_at, reads_bytes}
-use Rattle.facts.specs.MemoryRules.{number_within, frame_read, word_read}
+use Rattle.facts.specs.MemoryRules.{number_within, frame_read, word_read, pointer_of, words_behind, may_store_word, stored_word}
+use Rattle.facts.specs.MemoryRules.{writes_through, stores_word}
+use Rattle.facts.specs.WordRules.{in_bounds}
+use Rattle.states.specs.declared.span.Leaving.{Leaving}
 use Rattle.states.specs.declared.span.Together.{Together}
 use Rattle.states.specs.State.{State, Facts}
 use Rattle.states.specs.Spans.{together}
 use Rattle.facts.specs.declared.pointers.Pointed.{Pointed}
-use Rattle.facts.specs.Rulings.{Ruling, Site, breaks}
+use Rattle.facts.specs.Rulings.{Ruling, Site, breaks, uses}
 use Rattle.facts.specs.Reach.{word_of_byte, words_touched, may_read_bytes, region_range}
-use Rattle.facts.specs.Telling.{Gives}
+use Rattle.facts.specs.Telling.{Gives, Advances}
+use Rattle.facts.specs.declared.continuation.Continuation.{Continuation}
 
 abbrev Tells : Result Fact Rule → Result Fact Rule → Type 0
 Tells r answer = Gives (λ (fact : Fact). fact) r (settles answer)
@@ -122,3 +126,26 @@ near_end lo hi h =
     let high = (and-parts (is_near lo) (is_near hi) h).1 in
     let both = and-parts (int_le (negsuc 16777215) hi) (int_le hi (pos 16777216)) high in
     (le-from (negsuc 16777215) hi both.0, le-from hi (pos 16777216) both.1)
+
+-- ---- words that are stored
+
+-- B is stored, where each test passes
+pub stores_told : (r : Result Continuation Rule) (after : State) (site : Site) (e d : ℤ) (s : State) (a b : Fact) (q p : Pointed)
+    (leaving : Leaving) (holds : Bool) (size : ℤ) → ((k : Fact → Ruling) → uses s.stack.a k ≡ k a)
+    → ((k : Fact → Ruling) → uses s.stack.b k ≡ k b) → holds ≡ may_store_word site.contents s.context a b
+    → ((k : Ruling) → in_bounds holds k ≡ k) → ((k : Pointed → Ruling) → settles (pointer_of a) k ≡ k q)
+    → ((k : Pointed → Ruling) → settles (words_behind (pos 4 *ℤ d) q) k ≡ k p) → leaving ≡ stored_word p b
+    → Advances r after (writes_through site p size leaving s) → d ≡ e → size ≡ pos 4 → Advances r after (stores_word site e s)
+stores_told r after site e d s a b q p leaving holds size first second holds_is passes leads further leaving_is told d_is size_is =
+    subst (λ (t : Ruling). Advances r after t) (sym is)
+    (subst (λ (z : ℤ). Advances r after (writes_through site p z (stored_word p b) s)) size_is
+    (subst (λ (l : Leaving). Advances r after (writes_through site p size l s)) leaving_is told))
+  where
+    behind : (k : Pointed → Ruling) → settles (words_behind (pos 4 *ℤ e) q) k ≡ k p
+    behind k = subst (λ (z : ℤ). settles (words_behind (pos 4 *ℤ z) q) k ≡ k p) d_is (further k)
+
+    there : (k : Ruling) → in_bounds (may_store_word site.contents s.context a b) k ≡ k
+    there k = subst (λ (t : Bool). in_bounds t k ≡ k) holds_is (passes k)
+
+    is : stores_word site e s ≡ writes_through site p (pos 4) (stored_word p b) s
+    is = first _ ∙ (second _ ∙ (there _ ∙ (leads _ ∙ behind _)))

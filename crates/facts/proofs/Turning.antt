@@ -27,6 +27,7 @@ use Rattle.facts.specs.Rulings.{Site}
 use Rattle.facts.specs.LoopRules.{word_of_offset, word_pointed, last_index, block_of_loop, loop_block, is_beside_workspace}
 use Rattle.facts.specs.LoopRules.{provided, block_at, block_of, Beginning, begins_at, beginning_at, beginning}
 use Rattle.facts.proofs.Words.{word_test, bool_cases}
+use Rattle.facts.proofs.Reaching.{address_of}
 
 -- ---- tests that passed
 
@@ -250,14 +251,6 @@ finds_beginning site (Number lo hi) begins e = on_test (bool_cases (is_word lo h
         absurd (cc)
 
 -- ---- arithmetic modulo 2^32
-
-rest_of : (z : ℤ) → unsigned_abs (int_rem_euclid z (pos 4294967296)) < 4294967296
-rest_of (pos a) = omega arith
-rest_of (negsuc a) = omega arith
-
-address_of : (z : ℤ) → step.address (int_wrap w32 z) ≡ unsigned_abs (int_rem_euclid z (pos 4294967296))
-unfolding int_wrap
-address_of z = of_z-to_z w32 (unsigned_abs (int_rem_euclid z (pos 4294967296))) (rest_of z)
 
 -- an address, as a word, is the address
 pub address_small : (n : ℕ) → n < 4294967296 → step.address (int_wrap w32 (pos n)) ≡ n

@@ -34,6 +34,7 @@ use Rattle.states.specs.Spans.{all_words, together, on_span}
 use Rattle.facts.specs.Reach.{word_of_byte, may_read_bytes, may_write_bytes, constant_range}
 use Rattle.facts.specs.Rulings.{Ruling, Site, calls, returns, breaks, alone, pays}
 use Rattle.facts.specs.MemoryRules.{is_near, are_near}
+use Rattle.facts.specs.declared.lent.Lent.{Lent}
 
 -- ---- what is passed
 
@@ -66,16 +67,7 @@ given c p =
 
 -- ---- regions that are lent
 
--- Bytes of a region that a parameter names: so many, from an offset on. Each word is wanted from lo to hi.
-pub record Lent : Type 0 where
-  pub region : ℕ
-  pub first : ℤ
-  pub size : ℕ
-  pub lo : ℤ
-  pub hi : ℤ
-  pub is_written : Bool
-
--- where they end, which is not included
+-- where what is lent ends, which is not included
 abbrev pub end_of : Lent → ℤ
 end_of l = l.first +ℤ pos l.size
 
@@ -359,19 +351,24 @@ wants holds rule next = if holds then next else breaks rule
 unfoldable pub spends : ℕ → State → (State → Ruling) → Ruling
 spends price s k = if nat_lt s.number price then breaks rules.Budget else k (record s { number = s.number - price })
 
--- the call of a procedure that begins at an offset
-unfoldable pub calls_procedure : Site → ℕ → State → Entered → Ruling
-calls_procedure site to s found =
-    let c : Calling = record { contents = site.contents; state = passing site.contents s; callee = found.procedure } in
+-- what is passed suits the parameters
+abbrev pub passes_all : Calling → Ruling → Ruling
+passes_all c next =
     wants (list_all (numbers_fit c) c.callee.parameters) rules.Number
     (wants (list_all (pointers_fit c) c.callee.parameters) rules.Pointer
     (wants (regions_are_apart c) rules.RegionsMeet
     (wants (ends_are_given c) rules.Channel
-    (wants (list_all (lengths_fit c) c.callee.parameters) rules.MessageLength
+    (wants (list_all (lengths_fit c) c.callee.parameters) rules.MessageLength next))))
+
+-- the call of a procedure that begins at an offset
+unfoldable pub calls_procedure : Site → ℕ → State → Entered → Ruling
+calls_procedure site to s found =
+    let c : Calling = record { contents = site.contents; state = passing site.contents s; callee = found.procedure } in
+    passes_all c
     (alone s.mode
     (wants (may_call site.contents s.context found.context) rules.Call
     (wants (frame_is_own c) rules.OwnWord
-    (spends (site.length + c.callee.number) (behind_call c) (calls to)))))))))
+    (spends (site.length + c.callee.number) (behind_call c) (calls to)))))
 
 unfoldable pub call_rule : Site → ℤ → State → Ruling
 call_rule site e s =

@@ -3,6 +3,7 @@ pub mod WordRules
 pub mod Reach
 pub mod MemoryRules
 pub mod CallRules
+pub mod Callings
 pub mod LoopRules
 pub mod Rules
 pub mod Telling

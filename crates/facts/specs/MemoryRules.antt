@@ -1,6 +1,6 @@
 -- The rules of instructions that make pointers, and of those that read and write memory through them.
-use Rattle.std.specs.Prelude.{ℕ, ◌+◌, ◌-◌, ◌==◌, ◌&&◌, not, nat_lt, nat_le, ℤ, pos, negsuc, ◌+ℤ◌, ◌*ℤ◌, int_le, Bool}
-use Rattle.std.specs.Prelude.{if◌then◌else◌, length, Result, Ok, Err}
+use Rattle.std.specs.Prelude.{ℕ, ◌+◌, ◌-◌, ◌==◌, ◌&&◌, ◌||◌, not, nat_lt, nat_le, ℤ, pos, negsuc, ◌+ℤ◌, ◌*ℤ◌, int_le, Bool}
+use Rattle.std.specs.Prelude.{true, false, if◌then◌else◌, length, Result, Ok, Err}
 use Rattle.module_format.specs.Rows.{Fact}
 use Rattle.module_format.specs.declared.fact.Fact.TheVariants.{Unknown, Number, Pointer, CodeAddress}
 use Rattle.module_format.specs.declared.fact.Step.{Step}
@@ -13,8 +13,12 @@ use Rattle.states.specs.declared.rule.Rule.TheVariants as rules
 use Rattle.word_arithmetic.specs.Range.{Ends}
 use Rattle.states.specs.declared.span.Together.{Together}
 use Rattle.states.specs.State.{State, Facts, known, plain, is_word as is_same}
-use Rattle.states.specs.Spans.{together}
-use Rattle.facts.specs.Reach.{word_of_byte, words_touched, may_read_bytes, region_range}
+use Rattle.states.specs.declared.span.Leaving.{Leaving}
+use Rattle.states.specs.declared.span.Leaving.TheVariants.{Become, Widen}
+use Rattle.states.specs.Spans.{together, on_span, after_change}
+use Rattle.states.specs.Below.{lies_within}
+use Rattle.facts.specs.Reach.{word_of_byte, words_touched, may_read_bytes, may_write_bytes, region_range, parameter_range, full}
+use Rattle.facts.specs.WordRules.{in_bounds}
 use Rattle.facts.specs.declared.pointers.Pointed.{Pointed}
 use Rattle.facts.specs.declared.pointers.Bounds.{Bounds}
 use Rattle.facts.specs.Rulings.{Ruling, breaks, Site, alone, outside_starts, uses, goes_on, pop, with_a}
@@ -175,3 +179,77 @@ abbrev pub loads_byte : Site → State → Ruling
 loads_byte site s =
     uses s.stack.a (λ a. settles (pointer_of a) (λ p.
     reads_bytes site s p.region p.lo (p.hi +ℤ pos 1) (with_fact_a site (byte_read s p.region p.lo p.hi) s)))
+
+-- ---- words and bytes that are written
+
+-- the context may write the bytes of a region from the first up to `end`
+unfoldable pub writes_bytes : Site → State → ℕ → ℤ → ℤ → Ruling → Ruling
+writes_bytes site s region first end next =
+    if may_write_bytes site.contents s.context region first end then next else breaks rules.Pointer
+
+-- the range in which the words of a region are kept: that of a parameter's region
+abbrev pub wanted_range : Contents → ℕ → ℕ → Ends
+wanted_range m context region =
+    if (region == 0) || (region == 1) then full else parameter_range m context (region - 2)
+
+-- a number in a range
+abbrev pub is_number_in : Ends → Fact → Bool
+is_number_in range (Number lo hi) = lies_within lo hi range.lo range.hi
+is_number_in range _ = false
+
+-- B may be stored as a word where A points: in a word of the frame whatever it is, elsewhere as a number, which a
+-- parameter's region keeps in its range
+unfoldable pub may_store_word : Contents → ℕ → Fact → Fact → Bool
+may_store_word m context (Pointer region lo hi step) b =
+    ((region == 0) && is_same lo hi) || is_number_in (wanted_range m context region) b
+may_store_word m context _ b = is_number_in full b
+
+-- any word is in the range
+abbrev pub is_full : Ends → Bool
+is_full range = lies_within least_word greatest_word range.lo range.hi
+
+-- B may be stored as a byte where A points: it is a number, and a parameter's region may hold any
+unfoldable pub may_store_byte : Contents → ℕ → Fact → Fact → Bool
+may_store_byte m context (Pointer region lo hi step) b = is_full (wanted_range m context region) && is_number_in full b
+may_store_byte m context _ b = is_number_in full b
+
+-- what is left of a word that may have been replaced by one of which this is known
+abbrev pub widened_by : Fact → Leaving
+widened_by (Number lo hi) = Widen lo hi
+widened_by _ = Become Unknown
+
+-- what a pointer leaves of the words to which it may lead, where a word is stored: of one word what is known of B
+abbrev pub stored_word : Pointed → Fact → Leaving
+stored_word p b = if is_same p.lo p.hi then Become b else widened_by b
+
+-- where a byte is stored: a number may be any
+abbrev pub stored_byte : Leaving
+stored_byte = Widen least_word greatest_word
+
+-- words of the frame are left so where they have a byte from the first to which a pointer may lead up to `end`
+unfoldable pub leaves_words : Pointed → ℤ → Leaving → State → State
+leaves_words p end leaving s =
+    if p.region == 0 then after_change (on_span (word_of_byte p.lo) (words_touched p.lo end) leaving) s else s
+
+-- A and B are used up, outside alternations and starts
+abbrev pub pops_two : Site → State → Ruling
+pops_two site s = alone s.mode (goes_on site (pop (pop s)))
+
+-- so many bytes are written wherever a pointer leads, and A and B are used up
+abbrev pub writes_through : Site → Pointed → ℤ → Leaving → State → Ruling
+writes_through site p size leaving s =
+    let end = p.hi +ℤ size in
+    writes_bytes site s p.region p.lo end (pops_two site (leaves_words p end leaving s))
+
+-- stnl: B becomes the word e words behind A
+abbrev pub stores_word : Site → ℤ → State → Ruling
+stores_word site e s =
+    uses s.stack.a (λ a. uses s.stack.b (λ b. in_bounds (may_store_word site.contents s.context a b)
+    (settles (pointer_of a) (λ p. settles (words_behind (pos 4 *ℤ e) p) (λ p.
+    writes_through site p (pos 4) (stored_word p b) s)))))
+
+-- sb: the low byte of B becomes the byte at A
+abbrev pub stores_byte : Site → State → Ruling
+stores_byte site s =
+    uses s.stack.a (λ a. uses s.stack.b (λ b. in_bounds (may_store_byte site.contents s.context a b)
+    (settles (pointer_of a) (λ p. writes_through site p (pos 1) stored_byte s))))

@@ -11,13 +11,15 @@ use Rattle.machine_state.specs.declared.op.Op.{Op}
 use Rattle.machine_state.specs.declared.op.Op.TheVariants.{Reverse, StopProcess, MinimumInteger, Binary, Unary}
 use Rattle.machine_state.specs.declared.op.Op.TheVariants.{Shift, Long, CheckSubscript, CheckCount}
 use Rattle.machine_state.specs.declared.op.Op.TheVariants.{ByteSubscript, WordSubscript, LoadPointerToInstruction}
-use Rattle.machine_state.specs.declared.op.Op.TheVariants.{LoadByte, LoopEnd, Return}
+use Rattle.machine_state.specs.declared.op.Op.TheVariants.{LoadByte, StoreByte, LoopEnd, Return}
 use Rattle.machine_state.specs.declared.instruction.Instruction.{Instruction}
 use Rattle.machine_state.specs.declared.instruction.Instruction.TheVariants.{Jump, LoadConstant, LoadLocal, StoreLocal}
 use Rattle.machine_state.specs.declared.instruction.Instruction.TheVariants.{WithConstant, Operate}
 use Rattle.machine_state.specs.declared.instruction.Instruction.TheVariants.{LoadLocalPointer, AdjustWorkspace}
 use Rattle.machine_state.specs.declared.instruction.Instruction.TheVariants.{ConditionalJump}
 use Rattle.machine_state.specs.declared.instruction.Instruction.TheVariants.{LoadNonLocalPointer, LoadNonLocal}
+use Rattle.machine_state.specs.declared.instruction.Instruction.TheVariants.{StoreNonLocal}
+use Rattle.machine_state.specs.declared.instruction.Instruction.TheVariants.{Call}
 use Rattle.machine_state.specs.Instructions.{instruction_of}
 use Rattle.machine_state.specs.LocalStep.{target}
 use Rattle.states.specs.declared.rule.Rule.TheVariants as rules
@@ -26,12 +28,13 @@ use Rattle.states.specs.State.{State, known, written}
 use Rattle.facts.specs.Rulings.{Ruling, ends, breaks, Site, outside_alternation, outside_starts, alone, uses, forward}
 use Rattle.facts.specs.Rulings.{writes_word, reads_word, schedules, pays, forks_to, goes_on, goes_to, push, pop}
 use Rattle.facts.specs.Rulings.{reverse}
-use Rattle.facts.specs.CallRules.{return_rule}
+use Rattle.facts.specs.CallRules.{call_rule, return_rule}
 use Rattle.facts.specs.WordRules.{constant, loaded, in_bounds, has_range, numbers_have, has_long_operations}
 use Rattle.facts.specs.WordRules.{fact_of_two, result_fact, unary_result_fact, shift_range, is_subscript, is_count}
 use Rattle.facts.specs.WordRules.{long_results, result_source, constant_source, becomes, where_false, where_true}
 use Rattle.facts.specs.WordRules.{in_frame}
 use Rattle.facts.specs.MemoryRules.{near, shifts_pointer, subscripts, loads_place, loads_word, loads_byte}
+use Rattle.facts.specs.MemoryRules.{stores_word, stores_byte}
 use Rattle.facts.specs.LoopRules.{ends_turn}
 
 -- ---- the instructions
@@ -60,6 +63,7 @@ operation_rule site ByteSubscript s = subscripts Byte site s
 operation_rule site WordSubscript s = subscripts Word site s
 operation_rule site LoadPointerToInstruction s = loads_place site s
 operation_rule site LoadByte s = loads_byte site s
+operation_rule site StoreByte s = stores_byte site s
 operation_rule site Return s = return_rule site s
 operation_rule site LoopEnd s = ends_turn site s
 operation_rule site _ s = breaks rules.Spelling
@@ -87,8 +91,9 @@ instruction_rule site Jump e s =
     outside_alternation s.mode (forward e (goes_to site (target (site.at + site.length) e) s))
 instruction_rule site LoadNonLocalPointer e s = shifts_pointer site e s
 instruction_rule site LoadNonLocal e s = loads_word site e s
+instruction_rule site StoreNonLocal e s = stores_word site e s
+instruction_rule site Call e s = call_rule site e s
 instruction_rule site (Operate op) e s = operation_rule site op s
-instruction_rule site _ e s = breaks rules.Spelling
 
 -- the rule of an instruction that the machine has
 unfoldable pub rule_of : Site → Option Instruction → ℤ → State → Ruling
@@ -117,23 +122,14 @@ op_has_rule m ByteSubscript = true
 op_has_rule m WordSubscript = true
 op_has_rule m LoadPointerToInstruction = true
 op_has_rule m LoadByte = true
+op_has_rule m StoreByte = true
 op_has_rule m Return = true
 op_has_rule m LoopEnd = true
 op_has_rule m _ = false
 
 abbrev pub instruction_has_rule : Contents → Instruction → Bool
-instruction_has_rule m LoadConstant = true
-instruction_has_rule m LoadLocal = true
-instruction_has_rule m StoreLocal = true
-instruction_has_rule m (WithConstant op) = true
-instruction_has_rule m LoadLocalPointer = true
-instruction_has_rule m AdjustWorkspace = true
-instruction_has_rule m Jump = true
-instruction_has_rule m ConditionalJump = true
-instruction_has_rule m LoadNonLocalPointer = true
-instruction_has_rule m LoadNonLocal = true
 instruction_has_rule m (Operate op) = op_has_rule m op
-instruction_has_rule m _ = false
+instruction_has_rule m _ = true
 
 unfoldable pub has_rule : Contents → Instr → Bool
 has_rule m i =

@@ -28,6 +28,7 @@ fn op_has_rule(module: &Module, op: Op) -> bool
         | Op::WordSubscript
         | Op::LoadPointerToInstruction
         | Op::LoadByte
+        | Op::StoreByte
         | Op::LoopEnd
         | Op::Return => true,
         Op::Long(_) => module.tables().has_long_operations,
@@ -39,18 +40,8 @@ fn instruction_has_rule(module: &Module, instruction: Instruction) -> bool
     ensures { result ≡ instruction_has_rule «module».now instruction }
 {
     match instruction {
-        Instruction::LoadConstant
-        | Instruction::LoadLocal
-        | Instruction::StoreLocal
-        | Instruction::WithConstant(_)
-        | Instruction::LoadLocalPointer
-        | Instruction::AdjustWorkspace
-        | Instruction::Jump
-        | Instruction::ConditionalJump
-        | Instruction::LoadNonLocalPointer
-        | Instruction::LoadNonLocal => true,
         Instruction::Operate(op) => op_has_rule(module, op),
-        _ => false,
+        _ => true,
     }
 }
 
@@ -96,7 +87,8 @@ pub fn advance(
         Instruction::ConditionalJump => place.conditional_jump(state, instr.operand),
         Instruction::LoadNonLocalPointer => place.load_non_local_pointer(state, instr.operand),
         Instruction::LoadNonLocal => place.load_non_local(state, instr.operand),
+        Instruction::StoreNonLocal => place.store_non_local(state, instr.operand),
+        Instruction::Call => place.call(state, instr.operand),
         Instruction::Operate(op) => place.operate(state, op),
-        _ => Err(Rule::Spelling),
     }
 }

@@ -1,20 +1,195 @@
 //! The rules of calls and returns: what a call wants of what is passed, and what is known behind it.
 
+use crate::calling::{Calling, Touched};
 use crate::combinators::alone;
 use crate::continuation::Continuation;
+use crate::lent::Lent;
 use crate::place::Place;
-use certificate::Fact;
-use states::{Rule, State, WordFact};
+use certificate::{Fact, ProcedureRow, Stack};
+use states::{Known, Leaving, Rule, State, WordFact};
 
 impl Place<'_, '_> {
-    ghost use Rattle.std.specs.Prelude.{◌≡◌};
-    ghost use Rattle.module_format.specs.Contents.{Contents};
+    ghost use Rattle.std.specs.Prelude.{◌≡◌, ◌+◌, ◌<◌, ℕ, slice_get, IfOk, Some};
+    ghost use Rattle.std.specs.List.{AllByRecursion};
+    ghost use Rattle.module_format.specs.Contents.{Contents, procedure_of};
+    ghost use Rattle.certificate.specs.Starts.{procedure_at};
     ghost use Rattle.machine_state.specs.declared.op.Op.TheVariants.{Return};
-    ghost use Rattle.states.specs.Views.{state_of, BelongsTo};
-    ghost use Rattle.facts.specs.Rules.{operation_rule};
-    ghost use Rattle.facts.specs.CallRules.{may_return};
+    ghost use Rattle.machine_state.specs.declared.instruction.Instruction.TheVariants.{Call};
+    ghost use Rattle.states.specs.declared.span.Leaving.TheVariants.{Become};
+    ghost use Rattle.module_format.specs.declared.fact.Fact.TheVariants.{Unknown};
+    ghost use Rattle.module_format.specs.Stack.{of_empty};
+    ghost use Rattle.states.specs.State.{changed, unknown};
+    ghost use Rattle.states.specs.Spans.{on_span};
+    ghost use Rattle.states.specs.Views.{state_of, BelongsTo, CanWriteSpan};
+    ghost use Rattle.facts.specs.Rules.{operation_rule, instruction_rule};
+    ghost use Rattle.facts.specs.CallRules.{passes, passing, may_call, may_return, spends, with_lent};
+    ghost use Rattle.facts.specs.CallRules.{calls_procedure};
+    ghost use Rattle.facts.specs.Callings.{with_each, OwnsLent, admits, Touches, call_in, entered};
     ghost use Rattle.facts.specs.Places.{site_of};
-    ghost use Rattle.facts.specs.Telling.{Advances};
+    ghost use Rattle.facts.specs.Telling.{Admits, Advances, Leaves};
+
+    /// The word so far from the workspace has this fact from now on, where the context may write it.
+    #[tactic(auto, unfolding(crate::specs::CallRules::passes))]
+    fn passes(&self, state: &mut State, distance: i32, fact: Fact)
+        requires { BelongsTo self.now.module.now state.old }
+        ensures state { state_of state.new ≡ passes self.now.module.now distance fact (state_of state.old) }
+        ensures belongs { BelongsTo self.now.module.now state.new }
+    {
+        let word = i64::from(state.depth) + i64::from(distance);
+        match state.writable_word(word) {
+            Some(word) => state.write(word, fact),
+            None => {}
+        }
+    }
+
+    /// C, B, A and the return address lie in the four words below the workspace from now on.
+    fn passing(&self, state: &mut State)
+        requires { BelongsTo self.now.module.now state.old }
+        ensures state { state_of state.new ≡ passing self.now.module.now (state_of state.old) }
+        ensures belongs { BelongsTo self.now.module.now state.new }
+    {
+        let Stack { a, b, c } = state.stack;
+        self.passes(state, -1, c.fact);
+        self.passes(state, -2, b.fact);
+        self.passes(state, -3, a.fact);
+        self.passes(state, -4, Fact::Unknown);
+    }
+
+    /// Whether a context may call the procedure of a context: the root and its branches any, a procedure and its
+    /// branches those before it.
+    pub(crate) fn may_call(&self, context: u32, callee: u32) -> bool
+        ensures { result ≡ may_call self.now.module.now context callee }
+    {
+        match self.module.owner(context) {
+            Some(owner) => owner == 0 || callee < owner,
+            None => false,
+        }
+    }
+
+    /// A region of the frame that was lent to be written is numbers in its range.
+    fn leaves_lent(&self, state: &mut State, lent: Option<Lent>)
+        requires belongs { BelongsTo self.now.module.now state.old }
+        requires own { OwnsLent self.now.module.now state.old.context lent }
+        ensures state { let frame = with_lent lent (state_of state.old).frame in
+            state_of state.new ≡ record (state_of state.old) { stack = state.new.stack; frame = frame } }
+        ensures belongs { BelongsTo self.now.module.now state.new }
+    {
+        if let Some(lent) = lent {
+            if lent.is_written && lent.region == 0 {
+                state.change_span(lent.first_word(), lent.word_count(), lent.leaving());
+            }
+        }
+    }
+
+    /// The same of all that was lent, parameter by parameter.
+    fn leaves_each(&self, state: &mut State, all: &[Option<Lent>])
+        requires belongs { BelongsTo self.now.module.now state.old }
+        requires own { AllByRecursion (OwnsLent self.now.module.now state.old.context) all.now }
+        ensures state { let frame = with_each all.now (state_of state.old).frame in
+            state_of state.new ≡ record (state_of state.old) { stack = state.new.stack; frame = frame } }
+        ensures belongs { BelongsTo self.now.module.now state.new }
+    {
+        let mut rest = all;
+        while let Some((first, others)) = rest.split_first() {
+            self.leaves_lent(state, *first);
+            rest = others;
+        }
+    }
+
+    /// So much is paid.
+    #[tactic(auto, unfolding(crate::specs::CallRules::spends))]
+    fn spends(&self, state: &mut State, number: u64) -> Result<(), Rule>
+        ensures test { Leaves result (state_of state.new) (spends (self.now.len + number) (state_of state.old)) }
+        ensures belongs { (m : Contents) → BelongsTo m state.old → BelongsTo m state.new }
+    {
+        if state.number < number {
+            return Err(Rule::Budget);
+        }
+        let left = state.number - number;
+        let price = self.len as u64;
+        if left < price {
+            return Err(Rule::Budget);
+        }
+        state.number = left - price;
+        Ok(())
+    }
+
+    /// The words of the callee's frame are unknown, what was lent to be written is numbers in its range, and no
+    /// register is known.
+    fn has_returned(&self, state: &mut State, touched: &Touched)
+        requires belongs { BelongsTo self.now.module.now state.old }
+        requires room { CanWriteSpan state.old touched.now.first touched.now.count }
+        requires some { 0 < touched.now.count }
+        requires own { AllByRecursion (OwnsLent self.now.module.now state.old.context) touched.now.lent.items }
+        ensures state { let span = on_span touched.now.first touched.now.count (Become Unknown) in
+            let frame = with_each touched.now.lent.items (changed span (state_of state.old).frame) in
+            state_of state.new ≡ record (state_of state.old) { stack = of_empty unknown; frame = frame } }
+        ensures belongs { BelongsTo self.now.module.now state.new }
+    {
+        let nothing = Leaving::Become(Fact::Unknown);
+        state.change_span(touched.first, touched.count, nothing);
+        self.leaves_each(state, &touched.lent);
+        state.stack = Stack::of_empty(Known::UNKNOWN);
+    }
+
+    /// The call of the procedure that begins at an offset, which has this number as a context.
+    #[tactic(auto, unfolding(crate::specs::CallRules::calls_procedure))]
+    fn calls_procedure(
+        &self,
+        state: &mut State,
+        to: u32,
+        context: u32,
+        callee: &ProcedureRow,
+    ) -> Result<Continuation, Rule>
+        requires belongs { BelongsTo self.now.module.now state.old }
+        requires found { procedure_at self.now.module.now to ≡ Some (entered context callee.now) }
+        ensures ruling { let found = entered context callee.now in
+            Advances result (state_of state.new) (calls_procedure (site_of self.now) to (state_of state.old) found) }
+        ensures belongs { BelongsTo self.now.module.now state.new }
+    {
+        self.passing(state);
+        let touched = self.touched(state, context, callee)?;
+        self.has_returned(state, &touched);
+        self.spends(state, callee.number)?;
+        Ok(Continuation::Calls { to })
+    }
+
+    /// What the call of a procedure, which has this number as a context, may change, once what is passed is in the
+    /// words below the workspace.
+    fn touched(&self, state: &State, context: u32, callee: &ProcedureRow) -> Result<Touched, Rule>
+        requires belongs { BelongsTo self.now.module.now state.now }
+        requires row { let procedure = procedure_of callee.now in
+            (p : ℕ) × (slice_get self.now.module.now.procedures p ≡ Some procedure) }
+        ensures test { Admits result (admits (call_in self.now.module.now state.now callee.now) context) }
+        ensures touched { IfOk result (Touches (call_in self.now.module.now state.now callee.now)) }
+        ensures room { IfOk result (λ t. CanWriteSpan state.now t.first t.count) }
+    {
+        let calling = Calling {
+            place: *self,
+            state,
+            callee,
+        };
+        calling.touched(context)
+    }
+
+    /// `call`: the procedure at the offset that is so far from the next instruction, with A, B and C and what lies
+    /// behind them in its frame as parameters.
+    #[tactic(auto, unfolding(crate::specs::Rules::instruction_rule, crate::specs::CallRules::call_rule))]
+    pub(crate) fn call(&self, state: &mut State, distance: i32) -> Result<Continuation, Rule>
+        requires { BelongsTo self.now.module.now state.old }
+        ensures ruling { let ruling = instruction_rule (site_of self.now) Call distance (state_of state.old) in
+            Advances result (state_of state.new) ruling }
+        ensures belongs { BelongsTo self.now.module.now state.new }
+    {
+        let to = self.target(distance);
+        match self.module.procedure_at(to) {
+            Some((context, callee)) => self.calls_procedure(state, to, context, callee),
+            None => {
+                alone(state.mode)?;
+                Err(Rule::Call)
+            }
+        }
+    }
 
     /// Whether a procedure may return here: it is no branch, its workspace is where it was when it was called, and
     /// its word 0 has its return address still.

@@ -2,17 +2,22 @@
 #![tactic(auto)]
 
 mod advancing;
+mod calling;
 mod calls;
+mod channels;
 mod combinators;
 mod continuation;
 mod following;
+mod given_ends;
 mod laws;
+mod lent;
 mod loops;
 mod memory;
 mod narrowing;
 mod place;
 mod pointers;
 mod reach;
+mod stores;
 mod word_rules;
 
 pub use advancing::{advance, has_rule};

@@ -15,6 +15,7 @@ use crate::pointers::{
 };
 use crate::reach::{
     full, is_listed, kept_range, lie_in, lie_in_row, readable_size, word_of_byte, words_touched,
+    writable_size,
 };
 use certificate::{Fact, Step};
 use states::{Known, Rule, State, Together};
@@ -22,7 +23,7 @@ use states::{Known, Rule, State, Together};
 impl Place<'_, '_> {
     ghost use Rattle.std.specs.Prelude.{◌≡◌, ◌+◌, ◌≤◌, ◌≤ℤ◌, ◌+ℤ◌, ℤ, pos, negsuc, true};
     ghost use Rattle.facts.specs.Reach.{may_read_parameter, readable_bytes, may_read_bytes, constant_range};
-    ghost use Rattle.facts.specs.Reach.{region_range};
+    ghost use Rattle.facts.specs.Reach.{region_range, may_write_parameter, writable_bytes};
     ghost use Rattle.facts.specs.MemoryRules.{are_near, ends_in, reads_bytes, word_read, loads_word, loads_byte};
     ghost use Rattle.module_format.specs.Contents.{Contents};
     ghost use Rattle.states.specs.Views.{state_of, BelongsTo};
@@ -140,7 +141,7 @@ impl Place<'_, '_> {
     }
 
     /// How many bytes a parameter names that a context may read.
-    fn readable_bytes(&self, context: u32, parameter: u16) -> Option<u32>
+    pub(crate) fn readable_bytes(&self, context: u32, parameter: u16) -> Option<u32>
         ensures { result ≡ readable_bytes self.now.module.now context parameter }
     {
         let found = self.module.parameters(context).get(usize::from(parameter))?;
@@ -148,6 +149,27 @@ impl Place<'_, '_> {
             return None;
         }
         readable_size(found.kind)
+    }
+
+    /// Whether a context may write what a parameter of its procedure names: a branch, where its row lists it.
+    fn may_write_parameter(&self, context: u32, parameter: u16) -> bool
+        ensures { result ≡ may_write_parameter self.now.module.now context parameter }
+    {
+        match self.module.branch(context) {
+            Some((_row, branch)) => is_listed(&branch.written_parameters, parameter),
+            None => true,
+        }
+    }
+
+    /// How many bytes a parameter names that a context may write.
+    pub(crate) fn writable_bytes(&self, context: u32, parameter: u16) -> Option<u32>
+        ensures { result ≡ writable_bytes self.now.module.now context parameter }
+    {
+        let found = self.module.parameters(context).get(usize::from(parameter))?;
+        if !self.may_write_parameter(context, parameter) {
+            return None;
+        }
+        writable_size(found.kind)
     }
 
     /// Whether the state's context may read the bytes of a region from the first up to `end`.
@@ -186,7 +208,7 @@ impl Place<'_, '_> {
     /// The range of the constants that have bytes from the first up to `end`: that of the row of a table in which
     /// all of them lie, if there is one.
     #[tactic(auto, unfolding(crate::specs::Reach::constant_range))]
-    fn constant_range(&self, first: i32, end: i32) -> Bounds
+    pub(crate) fn constant_range(&self, first: i32, end: i64) -> Bounds
         ensures { ends_in result ≡ constant_range self.now.module.now first end }
     {
         let mut rows = self.module.tables().table_rows.iter();
@@ -207,7 +229,7 @@ impl Place<'_, '_> {
         ensures { ends_in result ≡ region_range self.now.module.now context region first end }
     {
         if region == 1 {
-            return self.constant_range(first, end);
+            return self.constant_range(first, i64::from(end));
         }
         match self.module.parameters(context).get(usize::from(region - 2)) {
             Some(parameter) => kept_range(parameter.kind),

@@ -21,6 +21,22 @@ pub(crate) struct Pointed {
     pub step: Step,
 }
 
+impl Pointed {
+    ghost use Rattle.std.specs.Prelude.{◌≡◌, ◌≤ℤ◌, ◌+ℤ◌, pos, negsuc, true};
+    ghost use Rattle.facts.specs.MemoryRules.{are_near};
+
+    /// The first offset behind so many bytes wherever the pointer leads.
+    #[tactic(auto, using(crate::proofs::Told::near_end))]
+    pub(crate) fn end(self, size: i32) -> i32
+        requires near { are_near self.lo self.hi ≡ true }
+        requires small { (pos 0 ≤ℤ size) × (size ≤ℤ pos 4) }
+        ensures value { result ≡ self.hi +ℤ size }
+        ensures near { negsuc 2147483646 ≤ℤ result }
+    {
+        self.hi + size
+    }
+}
+
 /// The bounds of a number, which both belong to it.
 #[derive(Clone, Copy, Debug)]
 pub(crate) struct Bounds {
@@ -29,7 +45,7 @@ pub(crate) struct Bounds {
 }
 
 /// Whether an offset is not far from its region's start.
-fn is_near(offset: i64) -> bool
+pub(crate) fn is_near(offset: i64) -> bool
     ensures { result ≡ is_near offset }
 {
     -FARTHEST <= offset && offset <= FARTHEST
@@ -47,7 +63,7 @@ pub(crate) fn near(offset: i64) -> Result<i32, Rule>
     Ok(offset as i32)
 }
 
-fn are_near(lo: i64, hi: i64) -> bool
+pub(crate) fn are_near(lo: i64, hi: i64) -> bool
     ensures { result ≡ are_near lo hi }
 {
     is_near(lo) && is_near(hi)

@@ -1,8 +1,8 @@
 //! Which bytes of its regions a context may use, and what their words may be.
 
 ghost use Rattle.std.specs.Prelude.{◌≡◌, ◌+◌, pos, negsuc, ◌+ℤ◌, ◌*ℤ◌, ◌≤ℤ◌, ◌<ℤ◌};
-ghost use Rattle.facts.specs.Reach.{word_of_byte, words_touched, lie_in, readable_size, is_listed, lie_in_row, full};
-ghost use Rattle.facts.specs.Reach.{kept_range};
+ghost use Rattle.facts.specs.Reach.{word_of_byte, words_touched, lie_in, readable_size, writable_size, is_listed};
+ghost use Rattle.facts.specs.Reach.{lie_in_row, full, kept_range};
 ghost use Rattle.facts.specs.MemoryRules.{ends_in};
 
 use crate::pointers::Bounds;
@@ -52,6 +52,16 @@ pub(crate) fn readable_size(kind: ParameterKind) -> Option<u32>
     }
 }
 
+/// How many bytes a parameter of this kind names that may be written.
+pub(crate) fn writable_size(kind: ParameterKind) -> Option<u32>
+    ensures { result ≡ writable_size kind }
+{
+    match kind {
+        ParameterKind::WrittenRegion { size, .. } => Some(size),
+        _ => None,
+    }
+}
+
 /// Whether a number is listed.
 pub(crate) fn is_listed(numbers: &[u16], number: u16) -> bool
     ensures { result ≡ is_listed numbers.now number }
@@ -60,10 +70,10 @@ pub(crate) fn is_listed(numbers: &[u16], number: u16) -> bool
 }
 
 /// Whether all bytes from the first up to `end` lie in the row of a table.
-pub(crate) fn lie_in_row(first: i32, end: i32, row: &TableRow) -> bool
+pub(crate) fn lie_in_row(first: i32, end: i64, row: &TableRow) -> bool
     ensures { result ≡ lie_in_row first end row.now }
 {
-    i64::from(row.start) <= i64::from(first) && i64::from(end) <= i64::from(row.end)
+    i64::from(row.start) <= i64::from(first) && end <= i64::from(row.end)
 }
 
 /// All numbers of a word.

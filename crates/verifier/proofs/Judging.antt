@@ -81,47 +81,57 @@ pub record Stepped (m : Contents) (at : ℕ) (before : Option State) (i : Instr)
   pub unbroken : (v : Rule) → rule_at m at i state ≡ breaks v → ⊥
   pub after_is : after ≡ falling (rule_at m at i state)
 
-both_ok : (e : Result ℕ Rule) (r : Ruling) (after : Option State) → both e r ≡ Ok after
-    → (cost : ℕ) × (e ≡ Ok cost) × ((v : Rule) → r ≡ breaks v → ⊥) × (after ≡ falling r)
-both_ok (Ok cost) (falls s) after h = (cost, refl, (λ v e. cc), cc)
-both_ok (Ok cost) (leads to) after h = (cost, refl, (λ v e. cc), cc)
-both_ok (Ok cost) (falls_or_leads s to) after h = (cost, refl, (λ v e. cc), cc)
-both_ok (Ok cost) (calls to s) after h = (cost, refl, (λ v e. cc), cc)
-both_ok (Ok cost) returns after h = (cost, refl, (λ v e. cc), cc)
-both_ok (Ok cost) ends after h = (cost, refl, (λ v e. cc), cc)
-both_ok (Ok cost) (breaks v) after h = absurd (cc)
-both_ok (Err u) (falls s) after h = absurd (cc)
-both_ok (Err u) (leads to) after h = absurd (cc)
-both_ok (Err u) (falls_or_leads s to) after h = absurd (cc)
-both_ok (Err u) (calls to s) after h = absurd (cc)
-both_ok (Err u) returns after h = absurd (cc)
-both_ok (Err u) ends after h = absurd (cc)
-both_ok (Err u) (breaks v) after h = absurd (cc)
+-- A ruling is that a rule is broken, or it goes on: then only what it costs to fall in decides.
+data Decides (r : Ruling) : Type 0 where
+  is_broken : (v : Rule) → r ≡ breaks v → Decides r
+  goes_on : ((v : Rule) → r ≡ breaks v → ⊥) → ((cost : ℕ) → both (Ok cost) r ≡ Ok (falling r))
+      → ((u : Rule) → both (Err u) r ≡ Err u) → Decides r
+
+decides : (r : Ruling) → Decides r
+decides (falls s) = goes_on (λ v e. cc) (λ cost. refl) (λ u. refl)
+decides (leads to) = goes_on (λ v e. cc) (λ cost. refl) (λ u. refl)
+decides (falls_or_leads s to) = goes_on (λ v e. cc) (λ cost. refl) (λ u. refl)
+decides (calls to s) = goes_on (λ v e. cc) (λ cost. refl) (λ u. refl)
+decides returns = goes_on (λ v e. cc) (λ cost. refl) (λ u. refl)
+decides ends = goes_on (λ v e. cc) (λ cost. refl) (λ u. refl)
+decides (breaks v) = is_broken v refl
 
 lower_is : (u w : Rule) (b : Bool) → ((if b then w else u) ≡ u) ⊎ ((if b then w else u) ≡ w)
 lower_is u w true = inr refl
 lower_is u w false = inl refl
 
+both_ok : (e : Result ℕ Rule) (r : Ruling) (after : Option State) → both e r ≡ Ok after
+    → (cost : ℕ) × (e ≡ Ok cost) × ((v : Rule) → r ≡ breaks v → ⊥) × (after ≡ falling r)
+both_ok (Ok cost) r after h = elim (decides r) [
+  | is_broken v is ↦ let no : both (Ok cost) (breaks v) ≡ Ok after = ap (both (Ok cost)) (sym is) ∙ h in absurd (cc)
+  | goes_on sound ok err ↦ (
+    cost,
+    refl,
+    sound,
+    let e : Ok after ≡ Ok (falling r) = sym h ∙ ok cost in (cc),
+  )
+]
+both_ok (Err u) r after h = elim (decides r) [
+  | is_broken v is ↦ let no : both (Err u) (breaks v) ≡ Ok after = ap (both (Err u)) (sym is) ∙ h in absurd (cc)
+  | goes_on sound ok err ↦ let no : Err u ≡ Ok after = sym (err u) ∙ h in absurd (cc)
+]
+
 both_err : (e : Result ℕ Rule) (r : Ruling) (v : Rule) → both e r ≡ Err v → (e ≡ Err v) ⊎ (r ≡ breaks v)
-both_err (Ok cost) (falls s) v h = absurd (cc)
-both_err (Ok cost) (leads to) v h = absurd (cc)
-both_err (Ok cost) (falls_or_leads s to) v h = absurd (cc)
-both_err (Ok cost) (calls to s) v h = absurd (cc)
-both_err (Ok cost) returns v h = absurd (cc)
-both_err (Ok cost) ends v h = absurd (cc)
-both_err (Ok cost) (breaks u) v h = inr (cc)
-both_err (Err u) (falls s) v h = inl (cc)
-both_err (Err u) (leads to) v h = inl (cc)
-both_err (Err u) (falls_or_leads s to) v h = inl (cc)
-both_err (Err u) (calls to s) v h = inl (cc)
-both_err (Err u) returns v h = inl (cc)
-both_err (Err u) ends v h = inl (cc)
-both_err (Err u) (breaks w) v h =
-    let e : lower u w ≡ v = cc in
-    elim (lower_is u w (nat_lt (number_of w) (number_of u))) [
-      | inl p ↦ inl (ap Err (sym p ∙ e))
-      | inr p ↦ inr (ap breaks (sym p ∙ e))
-    ]
+both_err (Ok cost) r v h = elim (decides r) [
+  | is_broken w is ↦ let e : both (Ok cost) (breaks w) ≡ Err v = ap (both (Ok cost)) (sym is) ∙ h in
+      let same : w ≡ v = cc in inr (is ∙ ap breaks same)
+  | goes_on sound ok err ↦ let no : Ok (falling r) ≡ Err v = sym (ok cost) ∙ h in absurd (cc)
+]
+both_err (Err u) r v h = elim (decides r) [
+  | is_broken w is ↦
+      let told : both (Err u) (breaks w) ≡ Err v = ap (both (Err u)) (sym is) ∙ h in
+      let e : lower u w ≡ v = cc in
+      elim (lower_is u w (nat_lt (number_of w) (number_of u))) [
+        | inl p ↦ inl (ap Err (sym p ∙ e))
+        | inr p ↦ inr (is ∙ ap breaks (sym p ∙ e))
+      ]
+  | goes_on sound ok err ↦ inl (sym (err u) ∙ h)
+]
 
 stepped_in : (m : Contents) (at : ℕ) (before : Option State) (i : Instr) (after : Option State) (o : Option State)
     → state_at m at before ≡ o → judged_in m at before i o ≡ Ok after → Stepped m at before i after

@@ -1,0 +1,10 @@
+use Rattle.std.proofs.Common.{rules, ◌∙◌, sym}
+use Rattle.facts.specs.CallRules.{give_other_ends}
+use Rattle.facts.specs.Callings.{calling_of}
+use Rattle.facts.proofs.Touching.{two_more}
+use Rattle.facts.proofs.calling.Calling.each_is_given_once.Goals as goal
+
+pub loop-first-preserved : goal.loop-first-preserved
+loop-first-preserved c =
+    two_more (give_other_ends (calling_of c.args.self.now)) c.in-Some.first.now c.loop-first.rest.now c.in-Some.others.now _
+    (search rules) (sym c.gives_other_ends.ensures ∙ c.if-not-gives_other_ends.false) c.loop-first.invariant
