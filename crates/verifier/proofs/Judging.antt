@@ -130,7 +130,10 @@ both_err (Err u) r v h = elim (decides r) [
         | inl p ↦ inl (ap Err (sym p ∙ e))
         | inr p ↦ inr (is ∙ ap breaks (sym p ∙ e))
       ]
-  | goes_on sound ok err ↦ inl (sym (err u) ∙ h)
+  | goes_on sound ok err ↦
+      let told : ◌≡◌ {A = Result (Option State) Rule} (Err u) (Err v) = sym (err u) ∙ h in
+      let same : u ≡ v = cc in
+      inl (ap Err same)
 ]
 
 stepped_in : (m : Contents) (at : ℕ) (before : Option State) (i : Instr) (after : Option State) (o : Option State)
