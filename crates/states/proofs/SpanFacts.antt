@@ -1,11 +1,14 @@
 -- Spans of words, written over a label's row.
-use Rattle.std.proofs.Common.{◌≡◌, ℕ, zero, suc, ◌+◌, ◌<◌, ℤ, pos, ◌+ℤ◌, ◌-ℤ◌, ◌≤ℤ◌, ◌<ℤ◌, Bool, true, false, ◌&&◌, cond}
+use Rattle.std.proofs.Common.{◌≡◌, ℕ, zero, suc, ◌+◌, ◌-◌, ◌<◌, ◌≤◌, vec_len, ℤ, pos, ◌+ℤ◌, ◌-ℤ◌, ◌≤ℤ◌, ◌<ℤ◌, Bool, true, false, ◌&&◌, ◌==◌, cond}
 use Rattle.std.proofs.Common.{refl, sym, ap, ◌∙◌, subst, arith, ◌⊎◌, inl, inr}
 use std.Path.{fun_ext}
 use Rattle.std.specs.Prelude.{int_le, int_lt}
 use Rattle.std.proofs.lemmas.Bool.{cases_lt}
+use Rattle.std.proofs.lemmas.Bool.Decides.{nat_tests}
 use Rattle.std.proofs.lemmas.Int.{ints, by_lt_z}
 use Rattle.module_format.specs.Rows.{Fact}
+use Rattle.module_format.specs.declared.fact.Fact.TheVariants.{Unknown, Number, Pointer, CodeAddress, Loop as LoopFact}
+use Rattle.module_format.specs.declared.fact.Fact.TheVariants.{ReturnAddress}
 use Rattle.states.specs.declared.known.Known.{Known}
 use Rattle.states.specs.declared.known.Loop.{Loop}
 use Rattle.states.specs.declared.known.LoopWord.{LoopWord}
@@ -14,13 +17,14 @@ use Rattle.states.specs.declared.known.WordFact.{WordFact}
 use Rattle.states.specs.declared.known.WordFact.TheVariants.{Alone, Index, Count}
 use Rattle.states.specs.declared.span.Leaving.{Leaving}
 use Rattle.states.specs.declared.span.Together.{Together}
-use Rattle.states.specs.State.{State, Facts, by_itself, is_word, is_parted, changed, forgets}
+use Rattle.states.specs.State.{State, Facts, by_itself, is_word, is_silent, is_parted, changed, forgets}
 use Rattle.states.specs.declared.frame.Frame.{Frame}
 use Rattle.states.specs.declared.state.State.{State as InMemory}
 use Rattle.states.specs.Views.{CanWriteSpan}
-use Rattle.states.specs.Frames.{with_alone, with_span, is_loop_word, parted, SameRoom, HasRoomForSpan}
-use Rattle.states.specs.Spans.{is_in_span, all_words, left_of, on_span, with_one, together, after_change}
+use Rattle.states.specs.Frames.{frame_facts, with_alone, with_span, is_loop_word, parted, HasRoom, SameRoom, HasRoomForSpan}
+use Rattle.states.specs.Spans.{is_in_span, all_words, left_of, on_span, of_none, with_one, with_silent, together, after_change}
 use Rattle.states.proofs.RowFacts.{le-yes, le-no, lt-yes, lt-no, and-both, and-parts}
+use Rattle.states.proofs.Loops.{room-known}
 use Rattle.states.proofs.FrameFacts.{is_word-same, is_word-below, is_word-above}
 
 -- ---- where a word lies
@@ -181,6 +185,77 @@ together-more facts first word n m here before new word_is m_is here_is before_i
     new_is ∙ (ap (with_one here) before_is
     ∙ (ap (λ (f : WordFact). with_one f (together facts first n)) (here_is ∙ ap facts word_is)
     ∙ (ap (together facts first) (let e : suc n ≡ m = omega arith in e))))
+
+-- ---- words of which nothing is known
+
+and-yes : (b : Bool) → b && true ≡ b
+and-yes true = refl
+and-yes false = refl
+
+-- the same so far, with so many more of which nothing is known
+pub silent-more : (facts : Facts) (first : ℤ) (n k : ℕ) → ((j : ℕ) → n ≤ j → j < n + k → facts (first +ℤ pos j) ≡ Alone Unknown)
+    → together facts first (n + k) ≡ with_silent k (together facts first n)
+silent-more facts first n zero silent =
+    ap (together facts first) (let e : n + 0 ≡ n = omega arith in e)
+    ∙ (let t = together facts first n in λ i. record t { are_numbers = sym (and-yes t.are_numbers) i })
+silent-more facts first n (suc k) silent =
+    let t = together facts first n in
+    let so_far = silent-more facts first n k (λ j low high. silent j low (omega arith)) in
+    ap (together facts first) (let e : n + suc k ≡ suc (n + k) = omega arith in e)
+    ∙ (ap (λ (f : WordFact). with_one f (together facts first (n + k))) (silent (n + k) (omega arith) (omega arith))
+    ∙ (ap (with_one (Alone Unknown)) so_far
+    ∙ ((λ i. record t { are_numbers = no t.are_numbers i; are_alone = and-yes t.are_alone i })
+    ∙ (λ i. record t { are_numbers = t.are_numbers && sym some i }))))
+  where
+    some : (suc k == 0) ≡ false
+    some = grind (arith, nat_tests)
+
+    no : (b : Bool) → false ≡ b && false
+    no true = refl
+    no false = refl
+
+-- nothing is known of a word that cannot be written
+silent-outside : (frame : Frame) (k : ℤ) → (HasRoom frame k → ⊥) → frame_facts frame k ≡ Alone Unknown
+silent-outside frame k outside = on (frame_facts frame k) refl
+  where
+    is-known : (f : WordFact) → frame_facts frame k ≡ f → is_silent f ≡ false → f ≡ Alone Unknown
+    is-known f e known = absurd (outside (room-known frame k f (sym e) known))
+
+    on : (f : WordFact) → frame_facts frame k ≡ f → f ≡ Alone Unknown
+    on (Alone Unknown) e = refl
+    on (Alone (Number lo hi)) e = is-known (Alone (Number lo hi)) e refl
+    on (Alone (Pointer region lo hi step)) e = is-known (Alone (Pointer region lo hi step)) e refl
+    on (Alone (CodeAddress offset)) e = is-known (Alone (CodeAddress offset)) e refl
+    on (Alone (LoopFact base count weight)) e = is-known (Alone (LoopFact base count weight)) e refl
+    on (Alone ReturnAddress) e = is-known (Alone ReturnAddress) e refl
+    on (Index loop) e = is-known (Index loop) e refl
+    on (Count loop) e = is-known (Count loop) e refl
+
+-- words that come before those that can be written
+pub silent-before : (frame : Frame) (first lo : ℤ) (n : ℕ) → lo ≡ frame.lo
+    → ((j : ℕ) → j < n → (first +ℤ pos j) <ℤ lo)
+    → with_silent n of_none ≡ together (frame_facts frame) first n
+silent-before frame first lo n lo_is before =
+    sym (ap (together (frame_facts frame) first) (let e : n ≡ 0 + n = omega arith in e)
+    ∙ silent-more (frame_facts frame) first 0 n
+    (λ j low high. silent-outside frame (first +ℤ pos j) (λ room.
+    let less = before j (omega arith) in
+    let from = room.low in
+    omega (arith, ints))))
+
+-- words that come behind them
+pub silent-behind : (frame : Frame) (first end : ℤ) (n count : ℕ) (all : Together) → n ≤ count
+    → end ≡ frame.lo +ℤ pos (vec_len frame.overlay.places) → ((j : ℕ) → n ≤ j → j < count → end ≤ℤ (first +ℤ pos j))
+    → all ≡ together (frame_facts frame) first n
+    → with_silent (count - n) all ≡ together (frame_facts frame) first count
+silent-behind frame first end n count all few end_is behind all_is =
+    ap (with_silent (count - n)) all_is
+    ∙ (sym (silent-more (frame_facts frame) first n (count - n)
+    (λ j low high. silent-outside frame (first +ℤ pos j) (λ room.
+    let more = behind j low (omega arith) in
+    let to = room.high in
+    omega (arith, ints))))
+    ∙ ap (together (frame_facts frame) first) (let e : n + (count - n) ≡ count = omega arith in e))
 
 -- ---- states
 

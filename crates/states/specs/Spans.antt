@@ -1,5 +1,5 @@
 -- Spans of words: so many words from a first one on, what is known of them together, and how all of them change.
-use Rattle.std.specs.Prelude.{ℕ, zero, suc, ℤ, pos, ◌+ℤ◌, int_le, int_lt, ◌&&◌, Bool, true, false}
+use Rattle.std.specs.Prelude.{ℕ, zero, suc, ℤ, pos, ◌+ℤ◌, int_le, int_lt, ◌&&◌, ◌==◌, Bool, true, false}
 use Rattle.std.specs.Int.{int_min, int_max}
 use Rattle.module_format.specs.Rows.{Fact}
 use Rattle.module_format.specs.declared.fact.Fact.TheVariants.{Unknown, Number}
@@ -38,6 +38,10 @@ with_one fact t = with_plain (plain fact) (record t { are_alone = t.are_alone &&
 abbrev pub together : Facts → ℤ → ℕ → Together
 together facts first zero = of_none
 together facts first (suc more) = with_one (facts (first +ℤ pos more)) (together facts first more)
+
+-- the same of so many more, of which nothing is known
+abbrev pub with_silent : ℕ → Together → Together
+with_silent count t = record t { are_numbers = t.are_numbers && (count == 0) }
 
 -- ---- changes of spans
 

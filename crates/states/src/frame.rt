@@ -1,6 +1,6 @@
 //! What is known of the words of a frame.
 
-ghost use Rattle.std.specs.Prelude.{◌≡◌, ◌≤◌, ◌<◌, ◌-◌, ℤ, pos, ◌+ℤ◌, ◌-ℤ◌, ◌≤ℤ◌, ◌<ℤ◌, ◌⊎◌, ◌^◌, IfOk, IsTrue};
+ghost use Rattle.std.specs.Prelude.{◌≡◌, ◌≤◌, ◌<◌, ◌-◌, ℕ, ℤ, pos, ◌+ℤ◌, ◌-ℤ◌, ◌≤ℤ◌, ◌<ℤ◌, ◌⊎◌, ◌^◌, IfOk, IsTrue};
 ghost use Rattle.std.specs.Prelude.{IsFalse, true, false, SomeIff, sum_by, length, Some, None, vec_len};
 ghost use Rattle.std.specs.List.{list_all};
 ghost use Rattle.module_format.specs.Contents.{procedure_of};
@@ -128,15 +128,25 @@ impl<'a> Frame<'a> {
         self.place(word, fact);
     }
 
-    /// What is known of so many words from `first` on together.
+    /// The first word behind those that can be written.
+    fn end(&self) -> i64
+        ensures value { result ≡ self.now.lo +ℤ pos (vec_len self.now.overlay.places) }
+    {
+        i64::from(self.lo) + self.overlay.places.len() as i64
+    }
+
+    /// What is known of so many words from `first` on together. Words that cannot be written are not looked at:
+    /// nothing is known of them.
     pub(crate) fn together(&self, first: i32, count: u32) -> Together
         ensures { result ≡ together (frame_facts self.now) first count }
     {
-        let mut all = Together::of_none();
-        for i in 0..count {
+        let before = words_before(first, count, i64::from(self.lo));
+        let end = words_before(first, count, self.end());
+        let mut all = Together::of_none().with_silent(before);
+        for i in before..end {
             all = all.with(self.fact_at(i64::from(first) + i64::from(i)));
         }
-        all
+        all.with_silent(count - end)
     }
 
     /// Each of so many words from `first` on is left so, and the others what they are.
@@ -334,6 +344,19 @@ impl<'a> Frame<'a> {
         }
         Some(left)
     }
+}
+
+/// How many of so many words from `first` on come before a word.
+fn words_before(first: i32, count: u32, word: i64) -> u32
+    ensures few { result ≤ count }
+    ensures before { (j : ℕ) → j < result → (first +ℤ pos j) <ℤ word }
+    ensures behind { (j : ℕ) → result ≤ j → j < count → word ≤ℤ (first +ℤ pos j) }
+{
+    let start = i64::from(first);
+    if word <= start {
+        return 0;
+    }
+    word.abs_diff(start).min(u64::from(count)) as u32
 }
 
 /// What a parameter's word holds where the procedure begins.

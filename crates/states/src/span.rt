@@ -2,7 +2,7 @@
 
 ghost use Rattle.std.specs.Prelude.{◌≡◌};
 ghost use Rattle.states.specs.Rows.{LoopFits};
-ghost use Rattle.states.specs.Spans.{of_none, with_plain, with_one, widened, left_of};
+ghost use Rattle.states.specs.Spans.{of_none, with_plain, with_one, with_silent, widened, left_of};
 
 use crate::known::WordFact;
 use certificate::Fact;
@@ -60,6 +60,16 @@ impl Together {
             ..self
         };
         all.with_plain(fact.plain())
+    }
+
+    /// The same of so many more, of which nothing is known.
+    pub(crate) fn with_silent(self, count: u32) -> Self
+        ensures { result ≡ with_silent count self }
+    {
+        Together {
+            are_numbers: self.are_numbers && count == 0,
+            ..self
+        }
     }
 }
 
