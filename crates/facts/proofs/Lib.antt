@@ -18,6 +18,8 @@ pub mod Combining
 pub mod WordsFit
 pub mod WriteThrough
 pub mod WritesFit
+pub mod Moving
+pub mod MovesFit
 pub mod MemoryFits
 pub mod Offsets
 pub mod Lending

@@ -24,6 +24,7 @@ use Rattle.facts.proofs.WordsFit.{unary_fits, shift_fits, long_fits, subscript_f
 use Rattle.facts.proofs.WordsFit.{adjust_fits, cj_fits}
 use Rattle.facts.proofs.MemoryFits.{ldnlp_fits, bsub_fits, wsub_fits, ldpi_fits, ldnl_fits, lb_fits}
 use Rattle.facts.proofs.WritesFit.{stnl_fits, sb_fits}
+use Rattle.facts.proofs.MovesFit.{move_fits}
 use Rattle.facts.proofs.LoopsFit.{lend_fits}
 use Rattle.states.proofs.RowFacts.{and-parts}
 
@@ -68,6 +69,7 @@ module _ (x : Here) (wf : IsWellFormed x.m) (s : State) (l : Local) (a : After x
   operation_fits operations.LoadPointerToInstruction = ldpi_fits x s l a same changes n
   operation_fits operations.LoadByte = lb_fits x s l a same changes n wf
   operation_fits operations.StoreByte = sb_fits x s l a same changes n
+  operation_fits operations.Move = move_fits x wf s l a same changes n
   operation_fits operations.Return = return_fits x wf s l a same changes n
   operation_fits operations.LoopEnd =
       lend_fits x wf s l a a.named.even (λ k t. wf.frames s.context k (and-parts _ _ t).0) same changes n

@@ -366,7 +366,7 @@ module _ (x : Here) where
         (loaded_place x.m x.act.layout (x.at + x.len) c v fact is p.0 p.1)))))
 
     -- the bytes of a region may be read
-    reads_bytes_fits : (region : ℕ) (first end : ℤ) (r : Ruling) (o : Outcome)
+    pub reads_bytes_fits : (region : ℕ) (first end : ℤ) (r : Ruling) (o : Outcome)
         → (may_read_bytes x.m s.context region first end ≡ true → FitsIf x r o)
         → FitsIf x (memory.reads_bytes (rule_site x) s region first end r) o
     unfolding memory.reads_bytes

@@ -11,7 +11,8 @@ use Rattle.states.specs.declared.rule.Rule.{Rule}
 use Rattle.states.specs.declared.rule.Rule.TheVariants as rules
 use Rattle.facts.specs.MemoryRules.{is_near, are_near, settles, word_fact, near_fact, shifted, place_fact, words_at, reads_bytes}
 use Rattle.facts.specs.MemoryRules.{number_within, frame_read, word_read, pointer_of, words_behind, may_store_word, stored_word}
-use Rattle.facts.specs.MemoryRules.{writes_through, stores_word}
+use Rattle.facts.specs.MemoryRules.{writes_through, stores_word, byte_read, is_number_in, writes_bytes}
+use Rattle.facts.specs.MoveRules.{are_numbers, come, moves_some}
 use Rattle.facts.specs.WordRules.{in_bounds}
 use Rattle.states.specs.declared.span.Leaving.{Leaving}
 use Rattle.states.specs.declared.span.Together.{Together}
@@ -19,7 +20,7 @@ use Rattle.states.specs.State.{State, Facts}
 use Rattle.states.specs.Spans.{together}
 use Rattle.facts.specs.declared.pointers.Pointed.{Pointed}
 use Rattle.facts.specs.Rulings.{Ruling, Site, breaks, uses}
-use Rattle.facts.specs.Reach.{word_of_byte, words_touched, may_read_bytes, region_range}
+use Rattle.facts.specs.Reach.{word_of_byte, words_touched, may_read_bytes, region_range, full}
 use Rattle.facts.specs.Telling.{Gives, Advances}
 use Rattle.facts.specs.declared.continuation.Continuation.{Continuation}
 
@@ -149,3 +150,32 @@ stores_told r after site e d s a b q p leaving holds size first second holds_is 
 
     is : stores_word site e s ≡ writes_through site p (pos 4) (stored_word p b) s
     is = first _ ∙ (second _ ∙ (there _ ∙ (leads _ ∙ behind _)))
+
+-- ---- bytes that are moved
+
+-- all bytes are those of numbers, where the last is told otherwise
+pub numbers_told : (s : State) (p : Pointed) (count low last : ℤ) (byte : Fact) (r : Bool) → low ≡ p.lo
+    → last ≡ p.hi +ℤ count -ℤ pos 1 → byte ≡ byte_read s p.region low last → r ≡ is_number_in full byte
+    → r ≡ are_numbers s p count
+numbers_told s p count low last byte r low_is last_is byte_is told =
+    told ∙ ap (is_number_in full) (byte_is ∙ (ap (λ (z : ℤ). byte_read s p.region z last) low_is
+    ∙ ap (byte_read s p.region p.lo) last_is))
+
+-- two numbers are in order, where they are told otherwise
+pub order_told : (a b first second : ℤ) → a ≡ first → b ≡ second → int_le a b ≡ int_le first second
+order_told a b first second a_is b_is = ap (λ (z : ℤ). int_le z b) a_is ∙ ap (int_le first) b_is
+
+-- bytes are moved, where each test passes
+pub moves_told : (r : Result Continuation Rule) (after : State) (site : Site) (count d e end : ℤ) (from to : Pointed) (s : State)
+    → d ≡ count → ((k : Ruling) → reads_bytes site s from.region from.lo (from.hi +ℤ d) k ≡ k) → end ≡ to.hi +ℤ count
+    → ((k : Ruling) → writes_bytes site s to.region to.lo end k ≡ k) → e ≡ count
+    → Advances r after (come site e from to s) → Advances r after (moves_some site count from to s)
+unfolding moves_some
+moves_told r after site count d e end from to s d_is reads end_is writes e_is told =
+    subst (λ (t : Ruling). Advances r after t) (sym is) (subst (λ (z : ℤ). Advances r after (come site z from to s)) e_is told)
+  where
+    is : moves_some site count from to s ≡ come site count from to s
+    is = subst (λ (z : ℤ). reads_bytes site s from.region from.lo (from.hi +ℤ z)
+        (writes_bytes site s to.region to.lo (to.hi +ℤ count) (come site count from to s)) ≡ come site count from to s) d_is
+        (reads _ ∙ subst (λ (z : ℤ). writes_bytes site s to.region to.lo z (come site count from to s) ≡ come site count from to s)
+        end_is (writes _))

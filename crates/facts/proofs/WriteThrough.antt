@@ -82,6 +82,18 @@ module _ (m : Contents) (layout : Layout) where
   widened_by_means (Loop base count weight) said v means = says_nothing
   widened_by_means ReturnAddress said v means = says_nothing
 
+  -- what is left of a word of which a byte is written
+  pub byte_left : (said : Fact) (old new : Option ℤ)
+      → ((lo hi : ℤ) → Means m layout (Number lo hi) old → Means m layout (Number least_word greatest_word) new)
+      → Means m layout said old → Means m layout (widened least_word greatest_word said) new
+  byte_left (Number lo hi) old new stays means =
+      widened_means least_word greatest_word (Number lo hi) new (inr (stays lo hi means))
+  byte_left Unknown old new stays means = says_nothing
+  byte_left (Pointer region lo hi step) old new stays means = says_nothing
+  byte_left (CodeAddress offset) old new stays means = says_nothing
+  byte_left (Loop base count weight) old new stays means = says_nothing
+  byte_left ReturnAddress old new stays means = says_nothing
+
 -- ---- a word of a span of the frame
 
 -- A span of words is left so as one of them changes.
@@ -137,18 +149,26 @@ module _ {m : Contents} {h : Holding} {mode : machine.Mode} {act : Activation} {
         high = to;
       }
 
+  -- what is known changes as memory does
+  pub after_followed : (change : Change) (new : Memory) → Follows m (words_of m s).reads act.layout change l.memory new
+      → Keeps m h (scope_of m s.context act.layout) l.memory new
+      → After m h mode act (after_change change s) (record l { memory = new })
+  unfolding after_change
+  after_followed change new follows keeps = record {
+    frame = same_frame (sym keeps.size) a.frame;
+    knows = knows_changed change follows a.knows;
+    named = keeps.named a.named;
+    same_mode = a.same_mode;
+  }
+
   -- what is known of a span changes as one of its words does
   pub after_span : (first : ℤ) (count : ℕ) (leaving : Leaving) (k : ℤ) (new : Memory) → is_in_span first count k ≡ true
       → LeavesWell m act.layout first count leaving k l.memory new
       → Keeps m h (scope_of m s.context act.layout) l.memory new
       → After m h mode act (after_change (on_span first count leaving) s) (record l { memory = new })
-  unfolding after_change
-  after_span first count leaving k new there leaves keeps = record {
-    frame = same_frame (sym keeps.size) a.frame;
-    knows = knows_changed (on_span first count leaving) (span_follows (words_of m s).reads first count k there leaves) a.knows;
-    named = keeps.named a.named;
-    same_mode = a.same_mode;
-  }
+  after_span first count leaving k new there leaves keeps =
+      after_followed (on_span first count leaving) new
+      (span_follows (words_of m s).reads first count k there leaves) keeps
 
   -- ---- what is known of the frame where a region changes that is beside it
 
@@ -343,26 +363,32 @@ number_within memory place means =
     let inside = inside_memory memory (place + 3) b.0 b.1 in
     omega arith
 
--- a word that is a number still is one, if one of its bytes is replaced
-pub number_stays : {m : Contents} {layout : Layout} {lo hi : ℤ} (h : Holding) (memory : Memory) (place n c : ℕ) → n < 4 → c < 256
-    → ((i : ℕ) → i < 4 → may_read h (place + i) ≡ true) → HasBytes h memory
-    → Means m layout (Number lo hi) (word_at memory place)
-    → Means m layout (Number least_word greatest_word) (word_at (with_byte memory (place + n) (Some c)) place)
-number_stays {m} {layout} {lo} {hi} h memory place n c less small held bytes means =
-    let new = with_byte memory (place + n) (Some c) in
-    let one = byte 0 (omega arith) in
-    let two = byte 1 (omega arith) in
-    let three = byte 2 (omega arith) in
-    let four = byte 3 (omega arith) in
+-- a word each of whose bytes is there is some number
+pub number_of_bytes : {m : Contents} {layout : Layout} (memory : Memory) (place : ℕ)
+    → ((i : ℕ) → i < 4 → (b : ℕ) × (byte_at memory (place + i) ≡ Some b) × (b < 256))
+    → Means m layout (Number least_word greatest_word) (word_at memory place)
+number_of_bytes {m} {layout} memory place each =
+    let one = each 0 (omega arith) in
+    let two = each 1 (omega arith) in
+    let three = each 2 (omega arith) in
+    let four = each 3 (omega arith) in
     subst (λ (v : Option ℤ). Means m layout (Number least_word greatest_word) v)
-    (sym (word_of_bytes new place one.0 two.0 three.0 four.0
-    (ap (byte_at new) (let e : place ≡ place + 0 = omega arith in e) ∙ one.1) two.1 three.1 four.1))
+    (sym (word_of_bytes memory place one.0 two.0 three.0 four.0
+    (ap (byte_at memory) (let e : place ≡ place + 0 = omega arith in e) ∙ one.1) two.1 three.1 four.1))
     (any (cast_signed w32 (one.0 + 256 * two.0 + 65536 * three.0 + 16777216 * four.0))
     (word_fits one.0 two.0 three.0 four.0 one.2 two.2 three.2 four.2))
   where
     any : (v : ℤ) → FitsSigned w32 v → Means m layout (Number least_word greatest_word) (Some v)
     any v fits = is_number (omega (arith, ints, fits)) (omega (arith, ints, fits)) fits
 
+-- a word that is a number still is one, if one of its bytes is replaced
+pub number_stays : {m : Contents} {layout : Layout} {lo hi : ℤ} (h : Holding) (memory : Memory) (place n c : ℕ) → n < 4 → c < 256
+    → ((i : ℕ) → i < 4 → may_read h (place + i) ≡ true) → HasBytes h memory
+    → Means m layout (Number lo hi) (word_at memory place)
+    → Means m layout (Number least_word greatest_word) (word_at (with_byte memory (place + n) (Some c)) place)
+number_stays {m} {layout} {lo} {hi} h memory place n c less small held bytes means =
+    number_of_bytes (with_byte memory (place + n) (Some c)) place byte
+  where
     byte : (i : ℕ) → i < 4 → (b : ℕ) × (byte_at (with_byte memory (place + n) (Some c)) (place + i) ≡ Some b) × (b < 256)
     byte i less =
         let old = number_byte memory place i less means in
@@ -382,13 +408,13 @@ number_stays {m} {layout} {lo} {hi} h memory place n c less small held bytes mea
         ]
 
 -- a byte of a word of the frame that is written
-pub byte_written : (origin k : ℤ) (memory : Memory) (place c : ℕ) → IsByteOf origin k place → c < 256
-    → AltersWord origin k memory (with_byte memory place (Some c))
-byte_written origin k memory place c b low = record {
-  size = length-with_byte memory place (Some c);
+pub byte_written : (origin k : ℤ) (memory : Memory) (place : ℕ) (byte : Option ℕ) → IsByteOf origin k place
+    → ((c : ℕ) → byte ≡ Some c → c < 256) → AltersWord origin k memory (with_byte memory place byte)
+byte_written origin k memory place byte b low = record {
+  size = length-with_byte memory place byte;
   kept = λ q. elim (cases_eq q place) [
     | inl same ↦ inr (subst (λ (n : ℕ). IsByteOf origin k n) (sym same) b)
-    | inr differ ↦ inl (byte_at-with_byte_other memory place q (Some c) differ)
+    | inr differ ↦ inl (byte_at-with_byte_other memory place q byte differ)
   ];
-  small = λ q b found. byte_small memory place (Some c) (λ d e. let is : c ≡ d = cc in subst (λ (n : ℕ). n < 256) is low) q b found;
+  small = byte_small memory place byte low;
 }

@@ -59,7 +59,7 @@ use Rattle.facts.proofs.Through.{natural, even_place}
 use Rattle.facts.proofs.Addresses.{stepped_quotient, stepped_sum, stepped_words}
 use Rattle.facts.proofs.WriteThrough.{number_wider, widened_means, widened_by_means, LeavesWell, FrameWord, frame_written, after_span}
 use Rattle.facts.proofs.WriteThrough.{after_beside, Writable, writable_found, Lies, AltersRegion, region_keeps, word_beside}
-use Rattle.facts.proofs.WriteThrough.{number_within, number_stays, byte_written}
+use Rattle.facts.proofs.WriteThrough.{number_within, number_stays, byte_written, byte_left}
 use Rattle.facts.proofs.Combining.{FitsIf, unknown_means, written_readable, on_rule_test, on_step_test, uses_fits, in_bounds_fits}
 use Rattle.facts.proofs.Combining.{writes_fits, goes_on_fits, in_plain_rule, beside_plain_rule, in_plain_step, after_stack}
 use Rattle.facts.proofs.MemoryFits.{ok_if, pointer_is, settles_fits, aligned_fits}
@@ -77,7 +77,7 @@ one_word_touched z k is =
     let none : word_of_byte (z +ℤ pos 4 -ℤ pos 1) -ℤ word_of_byte z ≡ pos 0 = omega (arith, ints) in
     (first, ap (λ (d : ℤ). nat_abs d + 1) none)
 
-same_numbers : (lo hi : ℤ) → is_same lo hi ≡ true → lo ≡ hi
+pub same_numbers : (lo hi : ℤ) → is_same lo hi ≡ true → lo ≡ hi
 same_numbers lo hi t = elim (word_test lo hi) [
   | inl p ↦ p.1
   | inr p ↦ let no : true ≡ false = sym t ∙ p.0 in absurd (cc)
@@ -123,18 +123,6 @@ module _ (m : Contents) (layout : Layout) where
   stored_number range (CodeAddress offset) v t means = absurd (cc)
   stored_number range (Loop base count weight) v t means = absurd (cc)
   stored_number range ReturnAddress v t means = absurd (cc)
-
-  -- what is left of a word of which a byte is written
-  byte_left : (said : Fact) (old new : Option ℤ)
-      → ((lo hi : ℤ) → Means m layout (Number lo hi) old → Means m layout (Number least_word greatest_word) new)
-      → Means m layout said old → Means m layout (widened least_word greatest_word said) new
-  byte_left (Number lo hi) old new stays means =
-      widened_means m layout least_word greatest_word (Number lo hi) new (inr (stays lo hi means))
-  byte_left Unknown old new stays means = says_nothing
-  byte_left (Pointer region lo hi step) old new stays means = says_nothing
-  byte_left (CodeAddress offset) old new stays means = says_nothing
-  byte_left (Loop base count weight) old new stays means = says_nothing
-  byte_left ReturnAddress old new stays means = says_nothing
 
 -- ---- a write through a pointer
 
@@ -372,7 +360,8 @@ module _ {m : Contents} {h : Holding} {mode : machine.Mode} {act : Activation} {
 
             keeps : Keeps m h scope l.memory new
             keeps = frame_keeps m h scope w.word l.memory new w.may (written_readable m s.context w.word w.may) w.own
-                (byte_written act.layout.origin w.word l.memory (w.own.place + n) c there byte)
+                (byte_written act.layout.origin w.word l.memory (w.own.place + n) (Some c) there
+                (λ d e. let is : c ≡ d = cc in subst (λ (x : ℕ). x < 256) is byte))
 
             leaves : LeavesWell m act.layout (word_of_byte lo) (words_touched lo (hi +ℤ pos 1)) stored_byte w.word l.memory new
             leaves = record {
@@ -488,7 +477,7 @@ module _ {m : Contents} {h : Holding} {mode : machine.Mode} {act : Activation} {
 module _ (x : Here) (s : State) (l : Local) (a : After x.m x.h x.mode x.act s l) (same : s.context ≡ x.context)
     (changes : Changes x l.memory) (n : owed s x.act ≤ x.owed) where
   -- the bytes of a region may be written
-  writes_bytes_fits : (region : ℕ) (first end : ℤ) (r : Ruling) (o : Outcome)
+  pub writes_bytes_fits : (region : ℕ) (first end : ℤ) (r : Ruling) (o : Outcome)
       → (may_write_bytes x.m s.context region first end ≡ true → FitsIf x r o)
       → FitsIf x (memory.writes_bytes (rule_site x) s region first end r) o
   unfolding memory.writes_bytes

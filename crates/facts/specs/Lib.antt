@@ -2,6 +2,7 @@ pub mod Rulings
 pub mod WordRules
 pub mod Reach
 pub mod MemoryRules
+pub mod MoveRules
 pub mod CallRules
 pub mod Callings
 pub mod LoopRules

@@ -11,7 +11,7 @@ use Rattle.machine_state.specs.declared.op.Op.{Op}
 use Rattle.machine_state.specs.declared.op.Op.TheVariants.{Reverse, StopProcess, MinimumInteger, Binary, Unary}
 use Rattle.machine_state.specs.declared.op.Op.TheVariants.{Shift, Long, CheckSubscript, CheckCount}
 use Rattle.machine_state.specs.declared.op.Op.TheVariants.{ByteSubscript, WordSubscript, LoadPointerToInstruction}
-use Rattle.machine_state.specs.declared.op.Op.TheVariants.{LoadByte, StoreByte, LoopEnd, Return}
+use Rattle.machine_state.specs.declared.op.Op.TheVariants.{LoadByte, StoreByte, Move, LoopEnd, Return}
 use Rattle.machine_state.specs.declared.instruction.Instruction.{Instruction}
 use Rattle.machine_state.specs.declared.instruction.Instruction.TheVariants.{Jump, LoadConstant, LoadLocal, StoreLocal}
 use Rattle.machine_state.specs.declared.instruction.Instruction.TheVariants.{WithConstant, Operate}
@@ -35,6 +35,7 @@ use Rattle.facts.specs.WordRules.{long_results, result_source, constant_source, 
 use Rattle.facts.specs.WordRules.{in_frame}
 use Rattle.facts.specs.MemoryRules.{near, shifts_pointer, subscripts, loads_place, loads_word, loads_byte}
 use Rattle.facts.specs.MemoryRules.{stores_word, stores_byte}
+use Rattle.facts.specs.MoveRules.{moves}
 use Rattle.facts.specs.LoopRules.{ends_turn}
 
 -- ---- the instructions
@@ -64,6 +65,7 @@ operation_rule site WordSubscript s = subscripts Word site s
 operation_rule site LoadPointerToInstruction s = loads_place site s
 operation_rule site LoadByte s = loads_byte site s
 operation_rule site StoreByte s = stores_byte site s
+operation_rule site Move s = moves site s
 operation_rule site Return s = return_rule site s
 operation_rule site LoopEnd s = ends_turn site s
 operation_rule site _ s = breaks rules.Spelling
@@ -123,6 +125,7 @@ op_has_rule m WordSubscript = true
 op_has_rule m LoadPointerToInstruction = true
 op_has_rule m LoadByte = true
 op_has_rule m StoreByte = true
+op_has_rule m Move = true
 op_has_rule m Return = true
 op_has_rule m LoopEnd = true
 op_has_rule m _ = false

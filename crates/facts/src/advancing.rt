@@ -29,6 +29,7 @@ fn op_has_rule(module: &Module, op: Op) -> bool
         | Op::LoadPointerToInstruction
         | Op::LoadByte
         | Op::StoreByte
+        | Op::Move
         | Op::LoopEnd
         | Op::Return => true,
         Op::Long(_) => module.tables().has_long_operations,

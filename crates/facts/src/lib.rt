@@ -13,6 +13,7 @@ mod laws;
 mod lent;
 mod loops;
 mod memory;
+mod moves;
 mod narrowing;
 mod place;
 mod pointers;

@@ -192,10 +192,10 @@ impl Place<'_, '_> {
 
     /// The state's context may read so many bytes wherever a pointer points.
     #[tactic(auto, unfolding(crate::specs::MemoryRules::reads_bytes))]
-    fn reads_bytes(&self, state: &State, pointer: Pointed, size: i32) -> Result<(), Rule>
+    pub(crate) fn reads_bytes(&self, state: &State, pointer: Pointed, size: i32) -> Result<(), Rule>
         requires belongs { BelongsTo self.now.module.now state.now }
         requires near { are_near pointer.lo pointer.hi ≡ true }
-        requires small { (pos 0 ≤ℤ size) × (size ≤ℤ pos 4) }
+        requires small { (pos 0 ≤ℤ size) × (size ≤ℤ pos 65536) }
         ensures { let end = pointer.hi +ℤ size in
             Admits result (reads_bytes (site_of self.now) (state_of state.now) pointer.region pointer.lo end) }
     {
@@ -314,7 +314,7 @@ fn frame_read(state: &State, first: i32, count: u32) -> Fact
 
 /// What is known together of the words of the frame that have a byte whose offset lies between two others.
 fn touched_together(state: &State, lo: i32, hi: i32) -> Together
-    requires { (negsuc 16777215 ≤ℤ hi) × (hi ≤ℤ pos 16777216) }
+    requires { (negsuc 1073741823 ≤ℤ hi) × (hi ≤ℤ pos 1073741823) }
     ensures { let count = words_touched lo (hi +ℤ pos 1) in result ≡ together (state_of state.now).frame (word_of_byte lo) count }
 {
     state.together(word_of_byte(lo), words_touched(lo, hi + 1))
@@ -322,8 +322,8 @@ fn touched_together(state: &State, lo: i32, hi: i32) -> Together
 
 /// What is read of a byte through a pointer.
 #[tactic(auto, unfolding(crate::specs::MemoryRules::byte_read))]
-fn byte_read(state: &State, pointer: Pointed) -> Fact
-    requires { are_near pointer.lo pointer.hi ≡ true }
+pub(crate) fn byte_read(state: &State, pointer: Pointed) -> Fact
+    requires { (negsuc 1073741823 ≤ℤ pointer.hi) × (pointer.hi ≤ℤ pos 1073741823) }
     ensures { result ≡ byte_read (state_of state.now) pointer.region pointer.lo pointer.hi }
 {
     if pointer.region == 0 {

@@ -198,6 +198,7 @@ impl Place<'_, '_> {
             Op::LoadPointerToInstruction => self.load_pointer_to_instruction(state),
             Op::LoadByte => self.load_byte(state),
             Op::StoreByte => self.store_byte(state),
+            Op::Move => self.move_bytes(state),
             Op::Return => self.return_to_caller(state),
             Op::LoopEnd => self.end_turn(state),
             _ => Err(Rule::Spelling),

@@ -4,6 +4,7 @@ ghost use Rattle.std.specs.Prelude.{IfOk, true, ◌≡◌, ◌≤ℤ◌, ◌*ℤ
 ghost use Rattle.module_format.specs.Order.{is_stepped};
 ghost use Rattle.facts.specs.MemoryRules.{is_near, near, are_near, near_fact, pointer_of, number_of, constant_of, settles, shifted};
 ghost use Rattle.facts.specs.MemoryRules.{element_of, word_fact, is_of_a_word, further, step_after, words_behind, words_at};
+ghost use Rattle.facts.specs.MoveRules.{exact_pointer};
 ghost use Rattle.facts.specs.Telling.{Admits, Gives};
 
 use certificate::{Fact, Step};
@@ -29,7 +30,7 @@ impl Pointed {
     #[tactic(auto, using(crate::proofs::Told::near_end))]
     pub(crate) fn end(self, size: i32) -> i32
         requires near { are_near self.lo self.hi ≡ true }
-        requires small { (pos 0 ≤ℤ size) × (size ≤ℤ pos 4) }
+        requires small { (pos 0 ≤ℤ size) × (size ≤ℤ pos 65536) }
         ensures value { result ≡ self.hi +ℤ size }
         ensures near { negsuc 2147483646 ≤ℤ result }
     {
@@ -145,6 +146,29 @@ pub(crate) fn words_behind(words: i32, pointer: Pointed) -> Result<Pointed, Rule
             i64::from(pointer.lo) + by,
             i64::from(pointer.hi) + by,
         ),
+    }
+}
+
+/// A pointer to one byte alone, whose offset is near.
+#[tactic(auto, unfolding(crate::specs::MemoryRules::settles, crate::specs::MoveRules::exact_pointer))]
+pub(crate) fn exact_pointer(fact: Fact) -> Result<Pointed, Rule>
+    ensures answer { Gives (λ pointer. pointer) result (settles (exact_pointer fact)) }
+    ensures near { IfOk result (λ pointer. are_near pointer.lo pointer.hi ≡ true) }
+    ensures one { IfOk result (λ pointer. pointer.lo ≡ pointer.hi) }
+{
+    match fact {
+        Fact::Pointer {
+            region,
+            lo,
+            hi,
+            step,
+        } if are_near(i64::from(lo), i64::from(hi)) && lo == hi => Ok(Pointed {
+            region,
+            lo,
+            hi,
+            step,
+        }),
+        _ => Err(Rule::Pointer),
     }
 }
 

@@ -1,8 +1,8 @@
 //! The rules of instructions that write memory through pointers.
 
-ghost use Rattle.std.specs.Prelude.{◌≡◌, ◌≤ℤ◌, negsuc};
+ghost use Rattle.std.specs.Prelude.{◌≡◌, ◌≤ℤ◌, ℤ, negsuc};
 ghost use Rattle.module_format.specs.Contents.{Contents};
-ghost use Rattle.states.specs.Views.{state_of, BelongsTo, CanWriteSpan};
+ghost use Rattle.states.specs.Views.{state_of, BelongsTo, CanWrite, CanWriteSpan};
 ghost use Rattle.facts.specs.Reach.{word_of_byte, words_touched};
 ghost use Rattle.facts.specs.MemoryRules.{ends_in, is_number_in, is_full, widened_by, stored_word, stored_byte, leaves_words};
 
@@ -44,7 +44,7 @@ impl Place<'_, '_> {
 
     /// The state's context may write the bytes from the first to which a pointer may lead up to `end`.
     #[tactic(auto, unfolding(crate::specs::MemoryRules::writes_bytes))]
-    fn writes_bytes(&self, state: &State, pointer: Pointed, end: i32) -> Result<(), Rule>
+    pub(crate) fn writes_bytes(&self, state: &State, pointer: Pointed, end: i32) -> Result<(), Rule>
         requires belongs { BelongsTo self.now.module.now state.now }
         requires near { negsuc 2147483646 ≤ℤ end }
         ensures test { Admits result (writes_bytes (site_of self.now) (state_of state.now) pointer.region pointer.lo end) }
@@ -58,7 +58,7 @@ impl Place<'_, '_> {
     }
 
     /// The range in which the words of a region are kept.
-    fn wanted_range(&self, context: u32, region: u16) -> Bounds
+    pub(crate) fn wanted_range(&self, context: u32, region: u16) -> Bounds
         ensures { ends_in result ≡ wanted_range self.now.module.now context region }
     {
         if region == 0 || region == 1 {
@@ -160,12 +160,13 @@ impl Place<'_, '_> {
 
 /// Words of the frame are left so where they have a byte from the first to which a pointer may lead up to `end`.
 #[tactic(auto, unfolding(crate::specs::MemoryRules::leaves_words))]
-fn leave_words(state: &mut State, pointer: Pointed, end: i32, leaving: Leaving)
+pub(crate) fn leave_words(state: &mut State, pointer: Pointed, end: i32, leaving: Leaving)
     requires near { negsuc 2147483646 ≤ℤ end }
     requires room { pointer.region ≡ 0
         → CanWriteSpan state.old (word_of_byte pointer.lo) (words_touched pointer.lo end) }
     ensures state { state_of state.new ≡ leaves_words pointer end leaving (state_of state.old) }
     ensures belongs { (m : Contents) → BelongsTo m state.old → BelongsTo m state.new }
+    ensures kept { (k : ℤ) → CanWrite state.old k → CanWrite state.new k }
 {
     if pointer.region == 0 {
         let count = words_touched(pointer.lo, end);
@@ -174,7 +175,7 @@ fn leave_words(state: &mut State, pointer: Pointed, end: i32, leaving: Leaving)
 }
 
 /// Whether a fact is a number within bounds.
-fn is_number_in(bounds: Bounds, fact: Fact) -> bool
+pub(crate) fn is_number_in(bounds: Bounds, fact: Fact) -> bool
     ensures { result ≡ is_number_in (ends_in bounds) fact }
 {
     match fact {
@@ -184,7 +185,7 @@ fn is_number_in(bounds: Bounds, fact: Fact) -> bool
 }
 
 /// Whether any word lies within bounds.
-fn is_full(bounds: Bounds) -> bool
+pub(crate) fn is_full(bounds: Bounds) -> bool
     ensures { result ≡ is_full (ends_in bounds) }
 {
     bounds.lo == i32::MIN && bounds.hi == i32::MAX
@@ -211,7 +212,7 @@ fn stored_word(pointer: Pointed, fact: Fact) -> Leaving
 }
 
 /// The same where a byte is stored.
-fn stored_byte() -> Leaving
+pub(crate) fn stored_byte() -> Leaving
     ensures { result ≡ stored_byte }
 {
     Leaving::Widen {

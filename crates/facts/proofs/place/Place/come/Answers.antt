@@ -1,0 +1,26 @@
+use Rattle.std.proofs.Common.{◌≡◌, ℤ, arith, subst, to_z, of_z, ◌+ℤ◌}
+use Rattle.std.proofs.lemmas.Int.{ints}
+use Rattle.std.specs.Int.{w32}
+use Rattle.states.specs.Views.{CanWriteSpan}
+use Rattle.facts.specs.Reach.{word_of_byte, words_touched}
+use Rattle.facts.proofs.Told.{near_end}
+use Rattle.facts.proofs.place.Place.come.Goals as goal
+
+pub fill-requires-clause-near : goal.fill-requires-clause-near
+fill-requires-clause-near c =
+    let near = near_end c.args.to.lo c.args.to.hi c.requires.target in
+    let high = near.1 in
+    let one = c.requires.exact in
+    omega (arith, ints)
+
+pub fill-requires-clause-room : goal.fill-requires-clause-room
+fill-requires-clause-room c = λ zero.
+    subst (λ (z : ℤ). CanWriteSpan c.args.state.now (word_of_byte c.args.to.lo) (words_touched c.args.to.lo z))
+    (let value = c.end.ensures.value in
+    let e : c.args.to.hi +ℤ c.args.count ≡ to_z w32 (of_z w32 c.end.result) = omega (arith, ints) in e)
+    (c.requires.room zero)
+
+pub returns-clause-belongs : goal.returns-clause-belongs
+returns-clause-belongs c =
+    let m = c.args.self.now.module.now in
+    c.clears.ensures.belongs m (c.fill.ensures.belongs m c.requires.belongs)
