@@ -34,6 +34,11 @@ block-by site s k y z first second beside y_is z_is one two three =
     (ap m (sym z_is) ∙ sym two)
     ∙ ap (λ (b : Bool). provided (is_some first) (provided (is_some second) (provided b rest))) (sym three))
 
+pub beside-is : (depth d word w : ℤ) (beside : Bool) → d ≡ depth → w ≡ word → beside ≡ is_beside_workspace d w
+    → beside ≡ is_beside_workspace depth word
+beside-is depth d word w beside d_is w_is is =
+    is ∙ (ap (λ (e : ℤ). is_beside_workspace e w) d_is ∙ ap (is_beside_workspace depth) w_is)
+
 pub no-second : {A : Type 0} (first : Bool) (second : Bool) (rest : Option A) → second ≡ false
     → provided first (provided second rest) ≡ None
 unfolding provided

@@ -46,7 +46,7 @@ use Rattle.facts.specs.Regions.{IsByteOf, Scope, scope_of, IsRegion, IsNamed, Ho
 use Rattle.states.specs.declared.span.Together.{Together}
 use Rattle.states.specs.Spans.{all_words, with_plain, together}
 use Rattle.facts.specs.Reach.{word_of_byte, all_touched, words_touched, lie_in, readable_size, writable_size, readable_bytes, writable_bytes}
-use Rattle.word_arithmetic.specs.Range.{Ends}
+use Rattle.word_arithmetic.specs.Range.{Ends, full}
 use Rattle.module_format.specs.declared.rows.TableRow.{TableRow}
 use Rattle.std.proofs.Common.{rules, get_or}
 use Rattle.std.specs.Int.{cast_signed}
@@ -54,7 +54,7 @@ use Rattle.std.specs.Option.{option_map}
 use Rattle.std.specs.Prelude.{find, unwrap_or}
 use Rattle.machine_state.specs.Memory.{joined}
 use Rattle.facts.proofs.Constants.{word_in, row_word}
-use Rattle.facts.specs.Reach.{constant_range, lie_in_row, full}
+use Rattle.facts.specs.Reach.{constant_range, lie_in_row, kept_range}
 use Rattle.facts.specs.Reach.{may_read_bytes, may_write_bytes, may_read_parameter, may_write_parameter}
 use Rattle.facts.specs.MemoryRules.{is_near}
 use Rattle.facts.specs.CallRules as rule
@@ -81,6 +81,7 @@ use Rattle.facts.proofs.Offsets.{address_of_word, place_of_address, place_behind
 use Rattle.facts.proofs.Offsets.{offset_of_word, words_of_region, all_words_at}
 use Rattle.facts.proofs.Lending.{byte_index, number_means, wider_means, same_word, run_byte, IsRegionKind, IsPart, of_frame}
 use Rattle.facts.proofs.Lending.{of_constants, of_parameter, PartOf, Part, Lends}
+use Rattle.facts.proofs.Reaching.{natural}
 
 -- ---- tests
 
@@ -93,10 +94,6 @@ other b x y e h = sym (ap (λ (c : Bool). cond c x y) e) ∙ h
 -- one of two numbers is the other, or is not
 pub number_test : (m n : ℕ) → (((m == n) ≡ true) × (m ≡ n)) ⊎ (((m == n) ≡ false) × (m ≡ n → ⊥))
 number_test m n = elim (eqb_tells m n) [ inl e ↦ inl (e.0, e.1) | inr e ↦ inr (e.0, e.1) ]
-
-pub natural : (z : ℤ) → pos 0 ≤ℤ z → (n : ℕ) × (z ≡ pos n)
-natural (pos n) h = (n, refl)
-natural (negsuc n) h = absurd (omega (arith, ints))
 
 -- two numbers that differ
 pub differs : (m n : ℕ) → (m ≡ n → ⊥) → (m == n) ≡ false
@@ -139,6 +136,16 @@ write_kind kind size total lo hi low high e (inl is) =
     let no' : WrittenRegion size lo hi ≡ ReadRegion total low high = sym e ∙ is in absurd (cc)
 write_kind kind size total lo hi low high e (inr is) =
     let same : WrittenRegion size lo hi ≡ WrittenRegion total low high = sym e ∙ is in (cc, cc, cc)
+
+-- a region that may be read is named to be read or to be written
+pub readable_kind : (kind : ParameterKind) (size : ℕ) → readable_size kind ≡ Some size
+    → IsRegionKind kind size (kept_range kind).lo (kept_range kind).hi
+readable_kind (Value lo hi) size e = absurd (cc)
+readable_kind (ReadRegion bytes lo hi) size e =
+    let same : bytes ≡ size = cc in inl (ap (λ (n : ℕ). ReadRegion n lo hi) same)
+readable_kind (WrittenRegion bytes lo hi) size e =
+    let same : bytes ≡ size = cc in inr (ap (λ (n : ℕ). WrittenRegion n lo hi) same)
+readable_kind (Channels count len ends) size e = absurd (cc)
 
 -- what a parameter of this kind is lent, by where it lies
 abbrev pub LinkedBy : ParameterKind → WordFact → ℕ → ℤ → Type 0
@@ -267,18 +274,10 @@ constants_near m n wf low = omega (arith, wf.short_code, wf.few_words, wf.few_co
 -- the ranges of a region's kind
 pub of_kind : (l : Lent) (r : Parameter) (total : ℕ) (low high : ℤ) → IsRegionKind r.kind total low high
     → parameter_suits l (Some r) ≡ true → suits l low high ≡ true
-of_kind l r total low high (inl e) h = sym (ap (λ (k : ParameterKind). elim k as (λ k. Bool) [
-  | Value lo hi ↦ true
-  | ReadRegion size lo hi ↦ suits l lo hi
-  | WrittenRegion size lo hi ↦ suits l lo hi
-  | Channels count len ends ↦ true
-]) e) ∙ h
-of_kind l r total low high (inr e) h = sym (ap (λ (k : ParameterKind). elim k as (λ k. Bool) [
-  | Value lo hi ↦ true
-  | ReadRegion size lo hi ↦ suits l lo hi
-  | WrittenRegion size lo hi ↦ suits l lo hi
-  | Channels count len ends ↦ true
-]) e) ∙ h
+of_kind l r total low high (inl e) h =
+    subst (λ (k : ParameterKind). parameter_suits l (Some (record r { kind = k })) ≡ true) e h
+of_kind l r total low high (inr e) h =
+    subst (λ (k : ParameterKind). parameter_suits l (Some (record r { kind = k })) ≡ true) e h
 
 -- ---- procedures
 

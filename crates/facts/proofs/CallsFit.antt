@@ -58,7 +58,9 @@ use Rattle.facts.proofs.Combining.{written_readable}
 use Rattle.facts.proofs.Lending.{lift, lift_named}
 use Rattle.facts.proofs.Resuming.{lent_span, resumes_words}
 use Rattle.facts.proofs.Passing as passing_of
-use Rattle.facts.proofs.CallTests.{HasPassed, found_row, natural, same_word_by}
+use Rattle.facts.proofs.Reaching.{natural}
+use Rattle.facts.proofs.Touching.{passing_rest}
+use Rattle.facts.proofs.CallTests.{HasPassed, found_row, same_word_by}
 use Rattle.facts.proofs.Offsets.{address_of_word, all_words_at}
 
 -- ---- what is passed
@@ -119,31 +121,13 @@ passing_is m s t0 t1 t2 t3 =
     passes_is m (negsuc 3) Unknown _ _ (passes_is m (negsuc 2) s.stack.a.fact _ _ (passes_is m (negsuc 1) s.stack.b.fact _ _
     (passes_is m (negsuc 0) s.stack.c.fact s s refl t0) t1) t2) t3
 
--- passing changes neither context nor depth
-record SamePlace (s t : State) : Type 0 where
-  context : t.context ≡ s.context
-  depth : t.depth ≡ s.depth
-
-passes_place : (m : Contents) (e : ℤ) (fact : Fact) (s t : State) → SamePlace s t → SamePlace s (passes m e fact t)
-unfolding passes written
-passes_place m e fact s t same = on_test (rights.may_write_word m t.context (t.depth +ℤ e))
-  where
-    on_test : (b : Bool) → SamePlace s (cond b (written (t.depth +ℤ e) fact t) t)
-    on_test true = record { context = same.context; depth = same.depth }
-    on_test false = same
-
-passing_place : (m : Contents) (s : State) → SamePlace s (passing m s)
-passing_place m s =
-    passes_place m (negsuc 3) Unknown s _ (passes_place m (negsuc 2) s.stack.a.fact s _ (passes_place m (negsuc 1)
-    s.stack.b.fact s _ (passes_place m (negsuc 0) s.stack.c.fact s s (record { context = refl; depth = refl }))))
-
 -- the callee's frame, where it lies in own words, has the four words below the workspace
 own_below : (m : Contents) (s : State) (p : Procedure) (low : p.lo ≤ℤ pos 0) (high : pos 4 ≤ℤ p.hi) (e : ℤ)
     → frame_is_own (record { contents = m; state = passing m s; callee = p }) ≡ true → negsuc 3 ≤ℤ e → e ≤ℤ negsuc 0
     → rights.may_write_word m s.context (s.depth +ℤ e) ≡ true
 unfolding frame_is_own
 own_below m s p low high e own above below =
-    let place = passing_place m s in
+    let place = passing_rest m s in
     let n = natural (p.hi -ℤ p.lo) (omega (arith, ints, low, high)) in
     let i = natural (e -ℤ negsuc 3 -ℤ p.lo) (omega (arith, ints, low, above)) in
     let size : frame_size p ≡ n.0 = ap nat_abs n.1 in

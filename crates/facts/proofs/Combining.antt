@@ -157,6 +157,11 @@ module _ (x : Here) where
   on_rule_test true one other o f g = f refl
   on_rule_test false one other o f g = g refl
 
+  -- what is wanted, else a rule is broken
+  pub wanted_fits : (b : Bool) (r : Ruling) (broken : Rule) (o : Outcome) → (b ≡ true → FitsIf x r o)
+      → FitsIf x (cond b r (breaks broken)) o
+  wanted_fits b r broken o go = on_rule_test b r (breaks broken) o go (λ t next. it_breaks)
+
   pub on_step_test : (b : Bool) (r : Ruling) (one other : Outcome) → (b ≡ true → FitsIf x r one)
       → (b ≡ false → FitsIf x r other) → FitsIf x r (cond b one other)
   on_step_test true r one other f g = f refl
@@ -197,7 +202,7 @@ module _ (x : Here) where
   -- what is wanted of numbers
   pub in_bounds_fits : (b : Bool) (r : Ruling) (o : Outcome) → (b ≡ true → FitsIf x r o) → FitsIf x (word.in_bounds b r) o
   unfolding word.in_bounds
-  in_bounds_fits b r o go = on_rule_test b _ _ _ go (λ t next. it_breaks)
+  in_bounds_fits b r o go = wanted_fits b _ _ _ go
 
   -- a test that holds
   pub holds_fits : (b : Bool) (kind : FaultKind) (r : Ruling) (o : Outcome) → b ≡ true → FitsIf x r o
@@ -210,16 +215,14 @@ module _ (x : Here) where
       → (rights.may_write_word x.m s.context (s.depth +ℤ e) ≡ true → FitsIf x r o)
       → FitsIf x (rule.writes_word (rule_site x) s (s.depth +ℤ e) r) o
   unfolding rule.writes_word
-  writes_word_fits s e r o go =
-      on_rule_test (rights.may_write_word x.m s.context (s.depth +ℤ e)) _ _ _ go (λ t next. it_breaks)
+  writes_word_fits s e r o go = wanted_fits (rights.may_write_word x.m s.context (s.depth +ℤ e)) _ _ _ go
 
   -- which is read
   pub reads_word_fits : (s : State) (e : ℤ) (r : Ruling) (o : Outcome)
       → (rights.may_read_word x.m s.context (s.depth +ℤ e) ≡ true → FitsIf x r o)
       → FitsIf x (rule.reads_word (rule_site x) s (s.depth +ℤ e) r) o
   unfolding rule.reads_word
-  reads_word_fits s e r o go =
-      on_rule_test (rights.may_read_word x.m s.context (s.depth +ℤ e)) _ _ _ go (λ t next. it_breaks)
+  reads_word_fits s e r o go = wanted_fits (rights.may_read_word x.m s.context (s.depth +ℤ e)) _ _ _ go
 
   pub writes_fits : (l : Local) (address place : ℕ) (v : Option ℤ) (r : Ruling) (o : Local → Outcome)
       → place_of address ≡ place → may_write_word x.h place ≡ true

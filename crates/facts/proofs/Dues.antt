@@ -115,14 +115,18 @@ never_from first paid word (suc more) low = elim (word_test first word) [
       omega (arith, none, rest)
 ]
 
+-- it is paid in full at that word
+once_at : (first : ℤ) (paid : ℕ) (word : ℤ) (more : ℕ) → first ≡ word → is_word first word ≡ true
+    → once first paid word + once_from first paid (word +ℤ pos 1) more ≡ paid
+once_at first paid word more same t =
+    let here : once first paid word ≡ paid = ap (λ (b : Bool). cond b paid 0) t in
+    let rest = never_from first paid (word +ℤ pos 1) more (omega (arith, ints)) in
+    omega (arith, here, rest)
+
 once_is_enough : (first : ℤ) (paid : ℕ) (word : ℤ) (more : ℕ) → once_from first paid word more ≤ paid
 once_is_enough first paid word zero = omega arith
 once_is_enough first paid word (suc more) = elim (word_test first word) [
-  | inl p ↦
-      let same : first ≡ word = p.1 in
-      let here : once first paid word ≡ paid = ap (λ (b : Bool). cond b paid 0) p.0 in
-      let rest = never_from first paid (word +ℤ pos 1) more (omega (arith, ints)) in
-      omega (arith, here, rest)
+  | inl p ↦ let whole = once_at first paid word more p.1 p.0 in omega (arith, whole)
   | inr p ↦
       let none : once first paid word ≡ 0 = ap (λ (b : Bool). cond b paid 0) p.0 in
       let rest = once_is_enough first paid (word +ℤ pos 1) more in
@@ -305,11 +309,7 @@ once_there : (first : ℤ) (paid : ℕ) (word : ℤ) (more : ℕ) → word ≤�
     → once_from first paid word more ≡ paid
 once_there first paid word zero low high = absurd (omega (arith, ints))
 once_there first paid word (suc more) low high = elim (word_test first word) [
-  | inl p ↦
-      let same : first ≡ word = p.1 in
-      let here : once first paid word ≡ paid = ap (λ (b : Bool). cond b paid 0) p.0 in
-      let rest = never_from first paid (word +ℤ pos 1) more (omega (arith, ints)) in
-      omega (arith, here, rest)
+  | inl p ↦ once_at first paid word more p.1 p.0
   | inr p ↦
       let none : once first paid word ≡ 0 = ap (λ (b : Bool). cond b paid 0) p.0 in
       let differ : word ≡ first → ⊥ = λ e. p.1 (sym e) in

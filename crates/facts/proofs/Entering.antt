@@ -355,13 +355,13 @@ agrees_tells s t e =
     let w = and-parts _ _ v.0 in
     let x = and-parts _ _ w.0 in
     record {
-      context = same_number s.context t.context x.0;
-      depth = same_word s.depth t.depth x.1;
-      plain = w.1;
       a = v.1;
       b = u.1;
       c = r.1;
+      context = same_number s.context t.context x.0;
+      depth = same_word s.depth t.depth x.1;
       entries = q.1;
+      plain = w.1;
       whole = p.1;
     }
 

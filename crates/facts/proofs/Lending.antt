@@ -208,7 +208,8 @@ same_kind kind total size lo hi low high (inl p) q = absurd (cc)
 same_kind kind total size lo hi low high (inr p) q =
     let e : WrittenRegion total lo hi ≡ WrittenRegion size low high = sym p ∙ q in (cc, cc, cc)
 
-named_at : (kind : ParameterKind) (total start : ℕ) (lo hi : ℤ) (place : ℕ) → IsRegionKind kind total lo hi
+-- each byte of a region is one of what its parameter names
+pub named_at : (kind : ParameterKind) (total start : ℕ) (lo hi : ℤ) (place : ℕ) → IsRegionKind kind total lo hi
     → place_of start ≤ place → place < place_of start + total → IsNamedAt kind start place
 named_at kind total start lo hi place (inl is) low high =
     subst (λ (k : ParameterKind). IsNamedAt k start place) (sym is) (low, high)

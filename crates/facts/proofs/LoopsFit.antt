@@ -550,12 +550,11 @@ module _ (x : Here) (wf : IsWellFormed x.m) (s : State) (l : Local) (a : After x
   on_compared : (number : ℕ) (o : Outcome)
       → ((cost : ℕ) → compared (number + block.turning.weight) (view (taken (settled number))) begins.label ≡ Ok cost
       → FitsIf x (falls_or_leads (after_loop block (taken (settled number))) begins.at) o)
-      → FitsIf x (falls (after_loop block (taken (settled number)))) o
+      → (ltb 1 block.turning.count ≡ false → FitsIf x (falls (after_loop block (taken (settled number)))) o)
       → FitsIf x (turns block begins (taken (settled number))) o
   unfolding turns written
   on_compared number o turn fall = on_rule_test x (ltb 1 block.turning.count) _ _ _
-      (λ u. on_result (compared (number + block.turning.weight) (view (taken (settled number))) begins.label) refl)
-      (λ u. fall)
+      (λ u. on_result (compared (number + block.turning.weight) (view (taken (settled number))) begins.label) refl) fall
     where
       on_result : (r : Result ℕ Rule)
           → compared (number + block.turning.weight) (view (taken (settled number))) begins.label ≡ r
@@ -574,7 +573,7 @@ module _ (x : Here) (wf : IsWellFormed x.m) (s : State) (l : Local) (a : After x
   unfolding ends_at written
   ends_fit number va one left =
       on_compared number _ (λ cost is. fall (falls_or_leads (after_loop block (taken (settled number))) begins.at) refl)
-      (fall (falls (after_loop block (taken (settled number)))) refl)
+      (λ u. fall (falls (after_loop block (taken (settled number)))) refl)
     where
       fall : (r : Ruling) → falling r ≡ Some (after_loop block (taken (settled number)))
           → FitsIf x r (step.schedules (step_site x) (record l { memory = counted 1 }) (ends_at false va))
@@ -593,20 +592,17 @@ module _ (x : Here) (wf : IsWellFormed x.m) (s : State) (l : Local) (a : After x
       → number + dues (taken s).frame x.act.turns + x.len ≤ x.owed
       → FitsIf x (turns block begins (taken (settled number)))
       (step.schedules (step_site x) (record l { memory = turned_memory (x.act.turns k) index.value }) (ends_at true va))
-  unfolding ends_at written turns
-  turns_fit number va some to fits left = on_rule_test x (ltb 1 block.turning.count) _ _ _
-      (λ u. on_result (compared (number + block.turning.weight) (view (taken (settled number))) begins.label) refl)
+  unfolding ends_at written
+  turns_fit number va some to fits left =
+      on_compared number _ turned
       (λ u. let more : true ≡ false = sym (lt-ltb 1 block.turning.count (omega (arith, index.most))) ∙ u in absurd (cc))
     where
-      on_result : (r : Result ℕ Rule)
-          → compared (number + block.turning.weight) (view (taken (settled number))) begins.label ≡ r
-          → FitsIf x (elim r as (λ r. Ruling) [
-            | Ok cost ↦ falls_or_leads (after_loop block (taken (settled number))) begins.at
-            | Err broken ↦ breaks broken
-          ]) (step.schedules (step_site x) (record l { memory = turned_memory (x.act.turns k) index.value })
+      turned : (cost : ℕ)
+          → compared (number + block.turning.weight) (view (taken (settled number))) begins.label ≡ Ok cost
+          → FitsIf x (falls_or_leads (after_loop block (taken (settled number))) begins.at)
+          (step.schedules (step_site x) (record l { memory = turned_memory (x.act.turns k) index.value })
           (ends_at true va))
-      on_result (Err broken) is = λ next. it_breaks
-      on_result (Ok cost) is =
+      turned cost is =
           let r = falls_or_leads (after_loop block (taken (settled number))) begins.at in
           taken_fits x (one_turn_less x.act.turns k) (settled number)
           (record l { memory = turned_memory (x.act.turns k) index.value }) r _

@@ -48,7 +48,7 @@ use Rattle.facts.proofs.Addresses.{address_added, words_added, local_word, stepp
 use Rattle.facts.proofs.Addresses.{keeps_step, any_step}
 use Rattle.facts.proofs.Through.{word_through, byte_through}
 use Rattle.facts.proofs.Combining.{FitsIf, unknown_means, uses_fits, goes_on_fits, in_plain_rule, beside_plain_rule}
-use Rattle.facts.proofs.Combining.{in_plain_step, beside_plain_step, after_stack, on_rule_test, on_step_test, reads_fits}
+use Rattle.facts.proofs.Combining.{in_plain_step, beside_plain_step, after_stack, wanted_fits, on_step_test, reads_fits}
 use Rattle.facts.proofs.Reaching.{place_at, region_at, word_place, even_word}
 
 -- ---- what answers tell
@@ -278,6 +278,42 @@ module _ (m : Contents) (layout : Layout) where
       at_place (pos n) e h = place_means n fact _ h (wrapped_sum (data_start + 4 * m.data_words + next) v fits
           ∙ ap (int_wrap w32) (omega (arith, ints)))
 
+-- an offset from which a pointer that is so many words further leads, as one of words does
+pub record WordsBehind (m : Contents) (layout : Layout) (e v : ℤ) (q p : Pointed) : Type 0 where
+  pub region : q.region ≡ p.region
+  pub offset : ℤ
+  pub low : p.lo ≤ℤ (offset +ℤ (pos 4 *ℤ e))
+  pub high : (offset +ℤ (pos 4 *ℤ e)) ≤ℤ p.hi
+  pub stepped : IsTrue (is_stepped (offset +ℤ (pos 4 *ℤ e)))
+  pub at : v ≡ int_wrap w32 (region_start m layout p.region +ℤ offset)
+
+pub words_behind_is : (m : Contents) (layout : Layout) (e v : ℤ) (q p : Pointed) → words_behind (pos 4 *ℤ e) q ≡ Ok p
+    → Means m layout (Pointer q.region q.lo q.hi q.step) (Some v) → WordsBehind m layout e v q p
+unfolding words_behind words_at
+words_behind_is m layout e v q p is means = on_words q.step is means
+  where
+    on_words : (steps : Step)
+        → (elim steps as (λ t. Result Pointed Rule) [
+          | Byte ↦ Err rules.Pointer
+          | Word ↦ words_at q.region (q.lo +ℤ (pos 4 *ℤ e)) (q.hi +ℤ (pos 4 *ℤ e))
+        ]) ≡ Ok p
+        → Means m layout (Pointer q.region q.lo q.hi steps) (Some v) → WordsBehind m layout e v q p
+    on_words Byte h pointer = absurd (cc)
+    on_words Word h (is_pointer offset low high stepped at) =
+        let t = ok_if (are_near (q.lo +ℤ (pos 4 *ℤ e)) (q.hi +ℤ (pos 4 *ℤ e)))
+        (record { region = q.region; lo = q.lo +ℤ (pos 4 *ℤ e); hi = q.hi +ℤ (pos 4 *ℤ e); step = Word }) p _ h in
+        let region_is : q.region ≡ p.region = ap (λ (r : Pointed). r.region) t.1 in
+        let lo_is : q.lo +ℤ (pos 4 *ℤ e) ≡ p.lo = ap (λ (r : Pointed). r.lo) t.1 in
+        let hi_is : q.hi +ℤ (pos 4 *ℤ e) ≡ p.hi = ap (λ (r : Pointed). r.hi) t.1 in
+        record {
+          region = region_is;
+          offset = offset;
+          low = omega (arith, ints);
+          high = omega (arith, ints);
+          stepped = stepped_sum offset (pos 4 *ℤ e) stepped (stepped_words e);
+          at = at ∙ ap (λ (n : ℕ). int_wrap w32 (region_start m layout n +ℤ offset)) region_is;
+        }
+
 -- ---- the instructions
 
 module _ (x : Here) where
@@ -365,13 +401,23 @@ module _ (x : Here) where
         with_fact_fits s l fact _ a same changes n
         (loaded_place x.m x.act.layout (x.at + x.len) c v fact is p.0 p.1)))))
 
+    -- A is a pointer that may be used
+    pointer_fits : (r : Pointed → Ruling) (o : ℤ → Outcome)
+        → ((v : ℤ) (p : Pointed) → Means x.m x.act.layout (Pointer p.region p.lo p.hi p.step) (Some v)
+        → FitsIf x (r p) (o v))
+        → FitsIf x (rule.uses s.stack.a (λ a. memory.settles (pointer_of a) r)) (step.uses l.registers.stack.a o)
+    pointer_fits r o go =
+        uses_fits x s.stack.a l.registers.stack.a _ _ a.knows.registers.a (λ v means.
+        settles_fits (pointer_of s.stack.a.fact) _ _ (λ p is. go v p
+        (subst (λ (f : Fact). Means x.m x.act.layout f (Some v)) (pointer_is x.m x.act.layout s.stack.a.fact p is).0
+        means.fact)))
+
     -- the bytes of a region may be read
     pub reads_bytes_fits : (region : ℕ) (first end : ℤ) (r : Ruling) (o : Outcome)
         → (may_read_bytes x.m s.context region first end ≡ true → FitsIf x r o)
         → FitsIf x (memory.reads_bytes (rule_site x) s region first end r) o
     unfolding memory.reads_bytes
-    reads_bytes_fits region first end r o go =
-        on_rule_test x (may_read_bytes x.m s.context region first end) _ _ _ go (λ t next. it_breaks)
+    reads_bytes_fits region first end r o go = wanted_fits x (may_read_bytes x.m s.context region first end) _ _ _ go
 
     pub aligned_fits : (v : ℤ) (r : Ruling) (o : ℕ → Outcome) → (step.address v % 4 == 0) ≡ true
         → FitsIf x r (o (step.address v)) → FitsIf x r (step.aligned v o)
@@ -401,58 +447,30 @@ module _ (x : Here) where
           → FitsIf x (memory.with_fact_a (rule_site x) (word_read x.m s p.region p.lo p.hi) s)
           (step.aligned v (λ at. step.reads (step_site x) (local_address at e) l (λ u.
           step.goes_on (step_site x) (step.on_stack (with_top u) l))))
-      unfolding words_behind words_at
-      ldnl_word e v q p is fits means may = on_words q.step is means
-        where
-          on_words : (steps : Step)
-              → (elim steps as (λ t. Result Pointed Rule) [
-                | Byte ↦ Err rules.Pointer
-                | Word ↦ words_at q.region (q.lo +ℤ (pos 4 *ℤ e)) (q.hi +ℤ (pos 4 *ℤ e))
-              ]) ≡ Ok p
-              → Means x.m x.act.layout (Pointer q.region q.lo q.hi steps) (Some v)
-              → FitsIf x (memory.with_fact_a (rule_site x) (word_read x.m s p.region p.lo p.hi) s)
-              (step.aligned v (λ at. step.reads (step_site x) (local_address at e) l (λ u.
-              step.goes_on (step_site x) (step.on_stack (with_top u) l))))
-          on_words Byte h pointer = absurd (cc)
-          on_words Word h (is_pointer offset low high stepped at) =
-              let t = ok_if (are_near (q.lo +ℤ (pos 4 *ℤ e)) (q.hi +ℤ (pos 4 *ℤ e)))
-              (record { region = q.region; lo = q.lo +ℤ (pos 4 *ℤ e); hi = q.hi +ℤ (pos 4 *ℤ e); step = Word }) p _ h in
-              let region_is : q.region ≡ p.region = ap (λ (r : Pointed). r.region) t.1 in
-              let lo_is : q.lo +ℤ (pos 4 *ℤ e) ≡ p.lo = ap (λ (r : Pointed). r.lo) t.1 in
-              let hi_is : q.hi +ℤ (pos 4 *ℤ e) ≡ p.hi = ap (λ (r : Pointed). r.hi) t.1 in
-              let w = word_through wf a p.lo p.hi (offset +ℤ (pos 4 *ℤ e)) (omega (arith, ints)) (omega (arith, ints))
-              (stepped_sum offset (pos 4 *ℤ e) stepped (stepped_words e)) p.region may in
-              let there = ap (λ (n : ℕ). region_start x.m x.act.layout n) region_is in
-              let is_at : v ≡ int_wrap w32 (region_start x.m x.act.layout p.region +ℤ offset) =
-              at ∙ ap (λ (z : ℤ). int_wrap w32 (z +ℤ offset)) there in
-              aligned_fits v _ _ (even_word v (region_start x.m x.act.layout p.region) offset e w.place is_at
-              (region_at x.m x.act.layout p.region (offset +ℤ (pos 4 *ℤ e)) w.place w.is) w.even)
-              (reads_fits x l (local_address (step.address v) e) w.place _ _
-              (word_place v (region_start x.m x.act.layout p.region) offset e w.place is_at fits
-              (region_at x.m x.act.layout p.region (offset +ℤ (pos 4 *ℤ e)) w.place w.is) w.small) w.held
-              (becomes_fits (word_read x.m s p.region p.lo p.hi) (word_at l.memory w.place) w.means))
+      ldnl_word e v q p is fits means may =
+          let b = words_behind_is x.m x.act.layout e v q p is means in
+          let w = word_through wf a p.lo p.hi (b.offset +ℤ (pos 4 *ℤ e)) b.low b.high b.stepped p.region may in
+          let from = region_at x.m x.act.layout p.region (b.offset +ℤ (pos 4 *ℤ e)) w.place w.is in
+          aligned_fits v _ _ (even_word v (region_start x.m x.act.layout p.region) b.offset e w.place b.at from w.even)
+          (reads_fits x l (local_address (step.address v) e) w.place _ _
+          (word_place v (region_start x.m x.act.layout p.region) b.offset e w.place b.at fits from w.small) w.held
+          (becomes_fits (word_read x.m s p.region p.lo p.hi) (word_at l.memory w.place) w.means))
 
       pub ldnl_fits : (e : ℤ) → FitsSigned w32 e
           → FitsIf x (table.instruction_rule (rule_site x) instructions.LoadNonLocal e s)
           (step.instruction_step (step_site x) instructions.LoadNonLocal e l)
       unfolding table.instruction_rule step.instruction_step
       ldnl_fits e fits =
-          in_plain_step x s a.same_mode _ _ (uses_fits x s.stack.a l.registers.stack.a _ _ a.knows.registers.a (λ v means.
-          settles_fits (pointer_of s.stack.a.fact) _ _ (λ q pointer.
+          in_plain_step x s a.same_mode _ _ (pointer_fits _ _ (λ v q means.
           settles_fits (words_behind (pos 4 *ℤ e) q) _ _ (λ p is.
-          reads_bytes_fits p.region p.lo (p.hi +ℤ pos 4) _ _ (λ may. ldnl_word e v q p is fits
-          (subst (λ (f : Fact). Means x.m x.act.layout f (Some v)) (pointer_is x.m x.act.layout s.stack.a.fact q pointer).0
-          means.fact) may)))))
+          reads_bytes_fits p.region p.lo (p.hi +ℤ pos 4) _ _ (λ may. ldnl_word e v q p is fits means may))))
 
       pub lb_fits : FitsIf x (table.operation_rule (rule_site x) operations.LoadByte s)
           (step.operation_step (step_site x) operations.LoadByte l)
       unfolding table.operation_rule step.operation_step step.reads_byte
       lb_fits =
-          in_plain_step x s a.same_mode _ _ (uses_fits x s.stack.a l.registers.stack.a _ _ a.knows.registers.a (λ v means.
-          settles_fits (pointer_of s.stack.a.fact) _ _ (λ p is.
-          reads_bytes_fits p.region p.lo (p.hi +ℤ pos 1) _ _ (λ may.
-          lb_byte v p (subst (λ (f : Fact). Means x.m x.act.layout f (Some v))
-          (pointer_is x.m x.act.layout s.stack.a.fact p is).0 means.fact) may))))
+          in_plain_step x s a.same_mode _ _ (pointer_fits _ _ (λ v p means.
+          reads_bytes_fits p.region p.lo (p.hi +ℤ pos 1) _ _ (λ may. lb_byte v p means may)))
         where
           byte_fits : (p : Pointed) (address place : ℕ) → place_of address ≡ place → may_read x.h place ≡ true
               → Means x.m x.act.layout (byte_read s p.region p.lo p.hi) (option_map pos (byte_at l.memory place))

@@ -17,7 +17,7 @@ use Rattle.module_format.specs.declared.rows.ParameterKind.TheVariants.{Value, R
 use Rattle.module_format.specs.declared.tables.Version.{Version}
 use Rattle.std.proofs.lemmas.Bool.{eqb-true, eq-eqb}
 use Rattle.module_format.specs.Order.{InOrder, is_multiple_of_four, is_stepped}
-use Rattle.module_format.specs.Procedures.{ParameterKeeps, behind_parameter, ProcedureKeeps}
+use Rattle.module_format.specs.Procedures.{KindKeeps, ParameterKeeps, behind_parameter, ProcedureKeeps}
 use Rattle.module_format.specs.Contents.{Contents, Procedure, Par, Branch}
 use Rattle.module_format.specs.Pars.{key_of}
 use Rattle.module_format.specs.Keeping.{is_region}
@@ -54,7 +54,7 @@ use Rattle.std.specs.Option.{option_map}
 use Rattle.std.specs.Prelude.{find, unwrap_or}
 use Rattle.machine_state.specs.Memory.{joined}
 use Rattle.facts.proofs.Constants.{word_in, row_word}
-use Rattle.facts.specs.Reach.{constant_range, lie_in_row, full}
+use Rattle.facts.specs.Reach.{constant_range, lie_in_row}
 use Rattle.facts.specs.Reach.{may_read_bytes, may_write_bytes, may_read_parameter, may_write_parameter}
 use Rattle.facts.specs.CallRules as rule
 use Rattle.facts.specs.declared.lent.Lent.{Lent}
@@ -79,9 +79,13 @@ use Rattle.facts.proofs.Combining.{readable_byte, readable, written_readable}
 use Rattle.facts.proofs.Offsets.{address_of_word, place_of_address, place_behind, word_of_address, defined_inside}
 use Rattle.facts.proofs.Offsets.{offset_of_word, words_of_region, all_words_at}
 use Rattle.facts.proofs.Lending.{byte_index, number_means, wider_means, same_word, run_byte, IsRegionKind, IsPart, of_frame}
-use Rattle.facts.proofs.Lending.{of_constants, of_parameter, PartOf, Part, Lends}
-use Rattle.facts.proofs.CallTests.{chosen, other, number_test, natural, differs, two_at_least, same_word_by, stepped_natural, no_region, read_kind, write_kind, LinkedBy, list_all_at, each_two_at, range_of_row, signed_fits, constant_known, stepped_further, whole_words, more_words, even_place, constants_aligned, constants_near, of_kind, found_row, parameter_keeps, lend_parts, words_parts, HoldsPointer, pointer_held, lent_fact, together_means, HasPassed, here_given, third_given, second_given, given_is}
+use Rattle.facts.proofs.Lending.{of_constants, of_parameter, named_at, PartOf, Part, Lends}
+use Rattle.facts.proofs.CallTests.{chosen, other, number_test, differs, two_at_least, same_word_by, stepped_natural, no_region, read_kind, write_kind, readable_kind, LinkedBy, list_all_at, each_two_at, range_of_row, signed_fits, constant_known, stepped_further, whole_words, more_words, even_place, constants_aligned, constants_near, of_kind, found_row, parameter_keeps, lend_parts, words_parts, HoldsPointer, pointer_held, lent_fact, together_means, HasPassed, here_given, third_given, second_given, given_is}
 use Rattle.facts.proofs.Regions.{bytes_read, bytes_written}
+use Rattle.facts.proofs.Reaching.{natural, lies_inside}
+use Rattle.facts.proofs.ReadThrough.{Usable, usable_found}
+use Rattle.facts.proofs.WriteThrough.{writable_kind}
+use Rattle.facts.specs.Reach.{kept_range}
 
 -- ---- regions that are passed
 
@@ -89,6 +93,11 @@ use Rattle.facts.proofs.Regions.{bytes_read, bytes_written}
 abbrev pub may_use_place : Holding → Bool → ℕ → Bool
 may_use_place h true = may_write h
 may_use_place h false = may_read h
+
+-- how many bytes a parameter names that may be used so
+abbrev size_used : Bool → ParameterKind → Option ℕ
+size_used true = writable_size
+size_used false = readable_size
 
 module _ (m : Contents) (h : Holding) (mode : machine.Mode) (act : Activation) (s : State) (l : Local)
     (wf : IsWellFormed m) (a : After m h mode act s l) (p : Procedure) (context : ℕ) (some : 1 ≤ context)
@@ -284,6 +293,15 @@ module _ (m : Contents) (h : Holding) (mode : machine.Mode) (act : Activation) (
       });
     }
 
+  -- a region of another size and range is the same where these are equal
+  same_region : {may : ℕ → Bool} {place size total : ℕ} {lo hi low high : ℤ}
+      → (size ≡ total) × (lo ≡ low) × (hi ≡ high) → IsRegion m may caller l.memory place size lo hi
+      → IsRegion m may caller l.memory place total low high
+  same_region {may} {place} {size} {total} {lo} {hi} {low} {high} same region =
+      subst (λ (z : ℤ). IsRegion m may caller l.memory place total low z) same.2
+      (subst (λ (z : ℤ). IsRegion m may caller l.memory place total z hi) same.1
+      (subst (λ (n : ℕ). IsRegion m may caller l.memory place n lo hi) same.0 region))
+
   -- of the caller's parameter of this number
   module _ (size count : ℕ) (whole : size ≡ 4 * count) (at_least : 1 ≤ count) (lo hi : ℤ) (w : Bool) (q n : ℕ) (r : Parameter)
       (found : slice_get caller.parameters q ≡ Some r) (start : ℕ)
@@ -355,9 +373,8 @@ module _ (m : Contents) (h : Holding) (mode : machine.Mode) (act : Activation) (
   record IsLent (size : ℕ) (lo hi : ℤ) (w : Bool) (j : ℕ) (q : Parameter) : Type 0 where
     region : ℕ
     first : ℤ
-    x : ℤ
-    held : value q ≡ Some x
-    fits : FitsSigned w32 x
+    whole : size ≡ 4 * (size / 4)
+    pointer : HoldsPointer m act.layout region first (value q)
     part_is : IsPassed size lo hi w region first (layout.starts j)
     lent_is : lent_from size lo hi w (given call q) ≡ Some (a_lent region first size lo hi w)
 
@@ -386,83 +403,36 @@ module _ (m : Contents) (h : Holding) (mode : machine.Mode) (act : Activation) (
   uses_bytes : (w : Bool) (k : ℕ) (first end : ℤ)
       → lie_in (if w then writable_bytes m s.context k else readable_bytes m s.context k) first end ≡ true
       → Uses w k first end
-  uses_bytes w k first end inside = on_found (slice_get caller.parameters k) refl w inside
+  uses_bytes w k first end inside =
+      let f = lies_inside (if w then writable_bytes m s.context k else readable_bytes m s.context k) first end inside in
+      let u = usable w f.0 f.1 in
+      record {
+        r = u.parameter;
+        found = u.found;
+        total = f.0;
+        low = (kept_range u.parameter.kind).lo;
+        high = (kept_range u.parameter.kind).hi;
+        kind = kind_of w u.parameter.kind f.0 u.has;
+        written = written_of w u.parameter.kind f.0 u.has;
+        from = f.2;
+        to = f.3;
+      }
     where
-      within : (size : ℕ) → lie_in (Some size) first end ≡ true → (pos 0 ≤ℤ first) × (end ≤ℤ pos size)
-      within size h =
-          let both = and-parts (int_le (pos 0) first) (int_le end (pos size)) h in
-          (le-from (pos 0) first both.0, le-from end (pos size) both.1)
+      usable : (w : Bool) (size : ℕ)
+          → (if w then writable_bytes m s.context k else readable_bytes m s.context k) ≡ Some size
+          → Usable m (size_used w) s.context k size
+      usable true size e = usable_found m writable_size (may_write_parameter m s.context k) s.context k size e
+      usable false size e = usable_found m readable_size (may_read_parameter m s.context k) s.context k size e
 
-      on_kind : (w : Bool) (r : Parameter) (kind : ParameterKind) → slice_get caller.parameters k ≡ Some r → r.kind ≡ kind
-          → lie_in (if w then writable_size kind else readable_size kind) first end ≡ true → Uses w k first end
-      on_kind true r (Value lo hi) found e h = absurd (cc)
-      on_kind false r (Value lo hi) found e h = absurd (cc)
-      on_kind true r (ReadRegion size lo hi) found e h = absurd (cc)
-      on_kind false r (ReadRegion size lo hi) found e h = record {
-        r = r;
-        found = found;
-        total = size;
-        low = lo;
-        high = hi;
-        kind = inl e;
-        written = λ no'. absurd (cc);
-        from = (within size h).0;
-        to = (within size h).1;
-      }
-      on_kind true r (WrittenRegion size lo hi) found e h = record {
-        r = r;
-        found = found;
-        total = size;
-        low = lo;
-        high = hi;
-        kind = inr e;
-        written = λ t. e;
-        from = (within size h).0;
-        to = (within size h).1;
-      }
-      on_kind false r (WrittenRegion size lo hi) found e h = record {
-        r = r;
-        found = found;
-        total = size;
-        low = lo;
-        high = hi;
-        kind = inr e;
-        written = λ t. e;
-        from = (within size h).0;
-        to = (within size h).1;
-      }
-      on_kind true r (Channels count len ends) found e h = absurd (cc)
-      on_kind false r (Channels count len ends) found e h = absurd (cc)
+      kind_of : (w : Bool) (kind : ParameterKind) (size : ℕ) → size_used w kind ≡ Some size
+          → IsRegionKind kind size (kept_range kind).lo (kept_range kind).hi
+      kind_of true kind size e = inr (writable_kind kind size e)
+      kind_of false kind size e = readable_kind kind size e
 
-      on_may : (b w : Bool) (r : Parameter) → slice_get caller.parameters k ≡ Some r
-          → lie_in (if b then (if w then writable_size r.kind else readable_size r.kind) else None) first end ≡ true
-          → Uses w k first end
-      on_may true w r found h = on_kind w r r.kind found refl h
-      on_may false w r found h = absurd (cc)
-
-      on_found : (o : Option Parameter) → slice_get caller.parameters k ≡ o → (w : Bool)
-          → lie_in (if w then writable_bytes m s.context k else readable_bytes m s.context k) first end ≡ true
-          → Uses w k first end
-      on_found None e true h =
-          let no' : false ≡ true = sym (ap (λ (o : Option Parameter). lie_in (elim o as (λ o. Option ℕ) [
-            | None ↦ None
-            | Some p ↦ if may_write_parameter m s.context k then writable_size p.kind else None
-          ]) first end) e) ∙ h in absurd (cc)
-      on_found None e false h =
-          let no' : false ≡ true = sym (ap (λ (o : Option Parameter). lie_in (elim o as (λ o. Option ℕ) [
-            | None ↦ None
-            | Some p ↦ if may_read_parameter m s.context k then readable_size p.kind else None
-          ]) first end) e) ∙ h in absurd (cc)
-      on_found (Some r) e true h = on_may (may_write_parameter m s.context k) true r e
-          (sym (ap (λ (o : Option Parameter). lie_in (elim o as (λ o. Option ℕ) [
-            | None ↦ None
-            | Some p ↦ if may_write_parameter m s.context k then writable_size p.kind else None
-          ]) first end) e) ∙ h)
-      on_found (Some r) e false h = on_may (may_read_parameter m s.context k) false r e
-          (sym (ap (λ (o : Option Parameter). lie_in (elim o as (λ o. Option ℕ) [
-            | None ↦ None
-            | Some p ↦ if may_read_parameter m s.context k then readable_size p.kind else None
-          ]) first end) e) ∙ h)
+      written_of : (w : Bool) (kind : ParameterKind) (size : ℕ) → size_used w kind ≡ Some size → w ≡ true
+          → kind ≡ WrittenRegion size (kept_range kind).lo (kept_range kind).hi
+      written_of true kind size e t = writable_kind kind size e
+      written_of false kind size e t = absurd (cc)
 
   -- the ranges of two regions suit
   record Ranges (lo hi low high : ℤ) (w : Bool) : Type 0 where
@@ -548,21 +518,15 @@ module _ (m : Contents) (h : Holding) (mode : machine.Mode) (act : Activation) (
             let no' : false ≡ true = no_region (Value lo' hi') r.kind total low high e is_kind in absurd (cc)
         on_kind (ReadRegion size' lo' hi') k n r e found total low high is_kind written ranges at fits region first region_is
             first_is named =
-            let same = read_kind r.kind size' total lo' hi' low high e is_kind in
             parameter_passed size count whole at_least lo hi w k n r found (layout.starts j) at total low high is_kind
-            (may_read h) (subst (λ (z : ℤ). IsRegion m (may_read h) caller l.memory (place_of (act.layout.starts k)) total low z) same.2
-            (subst (λ (z : ℤ). IsRegion m (may_read h) caller l.memory (place_of (act.layout.starts k)) total z hi') same.1
-            (subst (λ (n : ℕ). IsRegion m (may_read h) caller l.memory (place_of (act.layout.starts k)) n lo' hi') same.0 named)))
+            (may_read h) (same_region (read_kind r.kind size' total lo' hi' low high e is_kind) named)
             (λ place may. on_read w place (λ t. let no' : ReadRegion size' lo' hi' ≡ WrittenRegion total low high = sym e ∙ written t in cc) may)
             (λ t. let no' : ReadRegion size' lo' hi' ≡ WrittenRegion total low high = sym e ∙ written t in absurd (cc))
             ranges.below ranges.above fits region first region_is first_is
         on_kind (WrittenRegion size' lo' hi') k n r e found total low high is_kind written ranges at fits region first region_is
             first_is named =
-            let same = write_kind r.kind size' total lo' hi' low high e is_kind in
             parameter_passed size count whole at_least lo hi w k n r found (layout.starts j) at total low high is_kind
-            (may_write h) (subst (λ (z : ℤ). IsRegion m (may_write h) caller l.memory (place_of (act.layout.starts k)) total low z) same.2
-            (subst (λ (z : ℤ). IsRegion m (may_write h) caller l.memory (place_of (act.layout.starts k)) total z hi') same.1
-            (subst (λ (n : ℕ). IsRegion m (may_write h) caller l.memory (place_of (act.layout.starts k)) n lo' hi') same.0 named)))
+            (may_write h) (same_region (write_kind r.kind size' total lo' hi' low high e is_kind) named)
             (λ place may. on_write w place may)
             (λ t. written t ∙ ap (λ (z : ℤ). WrittenRegion total z high) (ranges.same t).0
             ∙ ap (λ (z : ℤ). WrittenRegion total lo z) (ranges.same t).1)
@@ -679,9 +643,8 @@ module _ (m : Contents) (h : Holding) (mode : machine.Mode) (act : Activation) (
         record {
           region = l.region;
           first = l.first;
-          x = held.x;
-          held = held.is;
-          fits = held.fits;
+          whole = omega (arith, whole);
+          pointer = held;
           part_is = elim (cases_eq l.region 0) [
             | inl zero' ↦ of_words l.region l.first fact.0 suit' may' held zero'
             | inr not_zero ↦ elim (cases_eq l.region 1) [
@@ -719,16 +682,35 @@ module _ (m : Contents) (h : Holding) (mode : machine.Mode) (act : Activation) (
     pub means : Means m layout (parameter_fact (2 + j) kind) v
     pub linked : LinkedBy kind fact part.region part.first
 
+  kind_kept : (j : ℕ) (q : Parameter) → slice_get p.parameters j ≡ Some q → KindKeeps m.version q.kind
+  kind_kept j q found = (parameter_keeps m.version p.hi 0 p.parameters j q row.1.parameters found).1.kind
+
   passed_lent : (j : ℕ) (q : Parameter) → slice_get p.parameters j ≡ Some q → (size : ℕ) (lo hi : ℤ) (w : Bool)
-      → is_multiple_of_four size ≡ true → 4 ≤ size
+      → KindKeeps m.version (ReadRegion size lo hi)
       → (elim (lent_from size lo hi w (given call q)) as (λ o. Bool) [ None ↦ true | Some l ↦ numbers_suit call l ]) ≡ true
       → (elim (lent_from size lo hi w (given call q)) as (λ o. Bool) [ None ↦ false | Some l ↦ may_lend call l ]) ≡ true
       → IsLent size lo hi w j q
-  passed_lent j q found size lo hi w words least suit may =
-      let e : size % 4 ≡ 0 = eqb-true (size % 4) 0 words in
+  passed_lent j q found size lo hi w keeps suit may =
+      let e : size % 4 ≡ 0 = eqb-true (size % 4) 0 keeps.words in
+      let least = keeps.some in
       let whole : size ≡ 4 * (size / 4) = omega arith in
       passed_region j q found size (size / 4) whole (omega (arith, whole)) lo hi w
       (lent_from size lo hi w (given call q)) refl suit may
+
+  -- a parameter that names a region has what it is lent
+  passed_of : (kind : ParameterKind) (j : ℕ) (q : Parameter) (size : ℕ) (lo hi : ℤ) (w : Bool)
+      → slice_get p.parameters j ≡ Some q → (it : IsLent size lo hi w j q)
+      → PartOf m caller callee base kind (layout.starts j) it.region it.first (size / 4)
+      → IsNamed m h callee l.memory kind (layout.starts j)
+      → parameter_fact (2 + j) kind ≡ Pointer (2 + j) (pos 0) (pos 0) Word
+      → LinkedBy kind (given call q) it.region it.first → Passed j kind (value q) (given call q)
+  passed_of kind j q size lo hi w found it part named fact linked = record {
+    part = record { region = it.region; first = it.first; count = size / 4; is = part };
+    named = named;
+    means = subst (λ (f : Fact). Means m layout f (value q)) (sym fact)
+        (address_means j q found it.pointer.x it.pointer.is it.pointer.fits);
+    linked = linked;
+  }
 
   pub passed_at : (j word : ℕ) (kind : ParameterKind)
       → slice_get p.parameters j ≡ Some (record { word = word; kind = kind })
@@ -746,26 +728,14 @@ module _ (m : Contents) (h : Holding) (mode : machine.Mode) (act : Activation) (
   }
   passed_at j word (ReadRegion size lo hi) found numbers pointers ends =
       let q : Parameter = record { word = word; kind = ReadRegion size lo hi } in
-      let keeps = (parameter_keeps m.version p.hi 0 p.parameters j q row.1.parameters found).1.kind in
-      let lent_it = passed_lent j q found size lo hi false keeps.words keeps.some numbers pointers in
-      let e : size % 4 ≡ 0 = eqb-true (size % 4) 0 keeps.words in
-      record {
-        part = record { region = lent_it.region; first = lent_it.first; count = size / 4; is = (omega arith, lent_it.part_is.part) };
-        named = lent_it.part_is.has;
-        means = address_means j q found lent_it.x lent_it.held lent_it.fits;
-        linked = lent_it.lent_is;
-      }
+      let it = passed_lent j q found size lo hi false (kind_kept j q found) numbers pointers in
+      passed_of (ReadRegion size lo hi) j q size lo hi false found it (it.whole, it.part_is.part) it.part_is.has
+      refl it.lent_is
   passed_at j word (WrittenRegion size lo hi) found numbers pointers ends =
       let q : Parameter = record { word = word; kind = WrittenRegion size lo hi } in
-      let keeps = (parameter_keeps m.version p.hi 0 p.parameters j q row.1.parameters found).1.kind in
-      let lent_it = passed_lent j q found size lo hi true keeps.words keeps.some numbers pointers in
-      let e : size % 4 ≡ 0 = eqb-true (size % 4) 0 keeps.words in
-      record {
-        part = record { region = lent_it.region; first = lent_it.first; count = size / 4; is = (omega arith, lent_it.part_is.part) };
-        named = lent_it.part_is.has;
-        means = address_means j q found lent_it.x lent_it.held lent_it.fits;
-        linked = lent_it.lent_is;
-      }
+      let it = passed_lent j q found size lo hi true (kind_kept j q found) numbers pointers in
+      passed_of (WrittenRegion size lo hi) j q size lo hi true found it (it.whole, it.part_is.part) it.part_is.has
+      refl it.lent_is
   passed_at j word (Channels count len ends) found numbers pointers held =
       on_channel (channel_of (given call q)) refl held
     where
@@ -844,13 +814,6 @@ module _ (m : Contents) (h : Holding) (mode : machine.Mode) (act : Activation) (
     beside_region q u total low high found (inr e) k i t inside b =
         (subst (λ (kind : ParameterKind). IsNamed m h caller l.memory kind (act.layout.starts q)) e (a.named.each q u found)).beside k i t inside b
 
-    named_place : (kind : ParameterKind) (total : ℕ) (lo hi : ℤ) (start place : ℕ) → IsRegionKind kind total lo hi
-        → place_of start ≤ place → place < place_of start + total → IsNamedAt kind start place
-    named_place kind total lo hi start place (inl e) low high =
-        subst (λ (k : ParameterKind). IsNamedAt k start place) (sym e) (low, high)
-    named_place kind total lo hi start place (inr e) low high =
-        subst (λ (k : ParameterKind). IsNamedAt k start place) (sym e) (low, high)
-
     -- two parts have a byte in common only where they clash
     parts_apart : (r1 r2 : ℕ) (f1 f2 : ℤ) (c1 c2 : ℕ) (lo1 hi1 lo2 hi2 : ℤ) (w : Bool) (p1 p2 i1 i2 : ℕ)
         → IsPart m caller callee base r1 f1 c1 lo1 hi1 true p1 → IsPart m caller callee base r2 f2 c2 lo2 hi2 w p2
@@ -897,7 +860,7 @@ module _ (m : Contents) (h : Holding) (mode : machine.Mode) (act : Activation) (
           | inr two ↦ a.named.apart q1 q2 u1 u2 found1 found2 two (p1 + i1)
               (subst (λ (kind : ParameterKind). IsWrittenAt kind (act.layout.starts q1) (p1 + i1)) (sym (written1 refl))
               (omega (arith, at1, low1, fits1), omega (arith, at1, low1, fits1)))
-              (named_place u2.kind total2 low'' high'' (act.layout.starts q2) (p1 + i1) kind2
+              (named_at u2.kind total2 (act.layout.starts q2) low'' high'' (p1 + i1) kind2
               (omega (arith, at2, same, low2, fits2)) (omega (arith, at2, same, low2, fits2)))
         ]
 
@@ -917,45 +880,38 @@ module _ (m : Contents) (h : Holding) (mode : machine.Mode) (act : Activation) (
       low : i < 4 * count
       lent_is : rule.lent_to kind fact ≡ Some (a_lent region first size lo hi w)
 
+    region_piece : (region : ℕ) (first : ℤ) (size count : ℕ) (lo hi : ℤ) (w : Bool) (kind : ParameterKind)
+        (fact : WordFact) (start place : ℕ) → size ≡ 4 * count
+        → IsPart m caller callee base region first count lo hi w (place_of start)
+        → (place_of start ≤ place) × (place < place_of start + size)
+        → rule.lent_to kind fact ≡ Some (a_lent region first size lo hi w) → Piece place start kind fact
+    region_piece region first size count lo hi w kind fact start place whole part there lent_is =
+        let i = byte_index place (place_of start) size there.0 there.1 in
+        record {
+          region = region;
+          first = first;
+          size = size;
+          count = count;
+          lo = lo;
+          hi = hi;
+          w = w;
+          whole = whole;
+          part = part;
+          i = i.0;
+          at = i.1;
+          low = omega (arith, i.2, whole);
+          lent_is = lent_is;
+        }
+
     piece_of : (j : ℕ) (kind : ParameterKind) (v : Option ℤ) (fact : WordFact) (place : ℕ) → Passed j kind v fact
         → IsNamedAt kind (layout.starts j) place → Piece place (layout.starts j) kind fact
     piece_of j (Value lo hi) v fact place passes there = absurd there
     piece_of j (ReadRegion size lo hi) v fact place passes there =
-        let whole = passes.part.is.0 in
-        let i = byte_index place (place_of (layout.starts j)) size there.0 there.1 in
-        record {
-          region = passes.part.region;
-          first = passes.part.first;
-          size = size;
-          count = passes.part.count;
-          lo = lo;
-          hi = hi;
-          w = false;
-          whole = whole;
-          part = passes.part.is.1;
-          i = i.0;
-          at = i.1;
-          low = omega (arith, i.2, whole);
-          lent_is = passes.linked;
-        }
+        region_piece passes.part.region passes.part.first size passes.part.count lo hi false (ReadRegion size lo hi) fact
+        (layout.starts j) place passes.part.is.0 passes.part.is.1 there passes.linked
     piece_of j (WrittenRegion size lo hi) v fact place passes there =
-        let whole = passes.part.is.0 in
-        let i = byte_index place (place_of (layout.starts j)) size there.0 there.1 in
-        record {
-          region = passes.part.region;
-          first = passes.part.first;
-          size = size;
-          count = passes.part.count;
-          lo = lo;
-          hi = hi;
-          w = true;
-          whole = whole;
-          part = passes.part.is.1;
-          i = i.0;
-          at = i.1;
-          low = omega (arith, i.2, whole);
-          lent_is = passes.linked;
-        }
+        region_piece passes.part.region passes.part.first size passes.part.count lo hi true (WrittenRegion size lo hi) fact
+        (layout.starts j) place passes.part.is.0 passes.part.is.1 there passes.linked
     piece_of j (Channels count len ends) v fact place passes there = absurd there
 
     -- two that are lent, of which one may be written, do not meet

@@ -26,11 +26,18 @@ use Rattle.facts.proofs.Addresses.{local_word}
 
 -- ---- addresses and places
 
--- the place where a region starts
+pub natural : (z : ℤ) → pos 0 ≤ℤ z → (n : ℕ) × (z ≡ pos n)
+natural (pos n) h = (n, refl)
+natural (negsuc n) h = absurd (omega (arith, ints))
+
+-- the place where a region starts: the frame, the constants, or what a parameter names
+abbrev pub place_by : Contents → Layout → ℕ → Bool → Bool → ℤ
+place_by m layout region frame constants =
+    if frame then layout.origin
+    else (if constants then pos (constants_start m) else pos (place_of (layout.starts (region - 2))))
+
 abbrev pub region_place : Contents → Layout → ℕ → ℤ
-region_place m layout region =
-    if region == 0 then layout.origin
-    else (if region == 1 then pos (constants_start m) else pos (place_of (layout.starts (region - 2))))
+region_place m layout region = place_by m layout region (region == 0) (region == 1)
 
 -- the address is that of a place, modulo 2^32
 pub record IsAt (z : ℤ) (place : ℕ) : Type 0 where

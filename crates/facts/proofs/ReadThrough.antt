@@ -7,7 +7,7 @@ use Rattle.std.proofs.lemmas.List.{get_or_past}
 use Rattle.std.proofs.lemmas.Int.{ints, clamps, by_lt_z}
 use Rattle.std.specs.Prelude.{slice_get, IsTrue}
 use Rattle.std.specs.Int.{w32, cast_signed, int_min, int_max}
-use Rattle.word_arithmetic.specs.Range.{Ends}
+use Rattle.word_arithmetic.specs.Range.{Ends, full}
 use Rattle.module_format.specs.Rows.{Fact}
 use Rattle.module_format.specs.declared.fact.Fact.TheVariants.{Unknown, Number, Pointer, CodeAddress, Loop}
 use Rattle.module_format.specs.declared.fact.Fact.TheVariants.{ReturnAddress}
@@ -25,7 +25,7 @@ use Rattle.states.specs.Spans.{with_plain, with_one, together}
 use Rattle.states.proofs.RowFacts.{and-both}
 use Rattle.facts.specs.Meaning.{Layout, Activation, Means, is_number, says_nothing, MeansWord, frame_word}
 use Rattle.facts.specs.Regions.{Scope, IsRegion, IsNamed}
-use Rattle.facts.specs.Reach.{readable_size, readable_bytes, may_read_parameter, kept_range, parameter_range, full}
+use Rattle.facts.specs.Reach.{readable_size, readable_bytes, may_read_parameter, kept_range, parameter_range}
 use Rattle.facts.specs.MemoryRules.{any_of, frame_read}
 use Rattle.facts.proofs.Words.{plain_means, bool_cases}
 use Rattle.facts.proofs.Regions.{may_too}
@@ -170,31 +170,29 @@ number_inside {m} {layout} {lo} {hi} memory place means = elim (cases_lt place (
     nothing : Means m layout (Number lo hi) None → ⊥
     nothing means = elim means [ ]
 
--- the parameter that a readable region is that of
-pub record Readable (m : Contents) (context j size : ℕ) : Type 0 where
+-- the parameter of whose region so many bytes may be used
+pub record Usable (m : Contents) (size_of : ParameterKind → Option ℕ) (context j size : ℕ) : Type 0 where
   pub parameter : Parameter
   pub found : slice_get (parameters_at m context) j ≡ Some parameter
-  pub has : readable_size parameter.kind ≡ Some size
+  pub has : size_of parameter.kind ≡ Some size
+
+pub usable_found : (m : Contents) (size_of : ParameterKind → Option ℕ) (may : Bool) (context j size : ℕ)
+    → (elim (slice_get (parameters_at m context) j) as (λ o. Option ℕ) [
+      | None ↦ None
+      | Some p ↦ cond may (size_of p.kind) None
+    ]) ≡ Some size → Usable m size_of context j size
+usable_found m size_of may context j size h = on (slice_get (parameters_at m context) j) may refl h
+  where
+    on : (o : Option Parameter) (may : Bool) → slice_get (parameters_at m context) j ≡ o
+        → (elim o as (λ o. Option ℕ) [ None ↦ None | Some p ↦ cond may (size_of p.kind) None ]) ≡ Some size
+        → Usable m size_of context j size
+    on None may e h = absurd (cc)
+    on (Some p) true e h = record { parameter = p; found = e; has = h }
+    on (Some p) false e h = absurd (cc)
 
 pub readable_found : (m : Contents) (context j size : ℕ) → readable_bytes m context j ≡ Some size
-    → Readable m context j size
-readable_found m context j size h = on (slice_get (parameters_at m context) j) refl h
-  where
-    allowed : (b : Bool) (o : Option ℕ) → cond b o None ≡ Some size → o ≡ Some size
-    allowed true o h = h
-    allowed false o h = absurd (cc)
-
-    on : (o : Option Parameter) → slice_get (parameters_at m context) j ≡ o
-        → (elim o as (λ o. Option ℕ) [
-          | None ↦ None
-          | Some p ↦ cond (may_read_parameter m context j) (readable_size p.kind) None
-        ]) ≡ Some size → Readable m context j size
-    on None e h = absurd (cc)
-    on (Some p) e h = record {
-      parameter = p;
-      found = e;
-      has = allowed (may_read_parameter m context j) (readable_size p.kind) h;
-    }
+    → Usable m readable_size context j size
+readable_found m context j size h = usable_found m readable_size (may_read_parameter m context j) context j size h
 
 pub range_found : (m : Contents) (context j : ℕ) (p : Parameter) → slice_get (parameters_at m context) j ≡ Some p
     → parameter_range m context j ≡ kept_range p.kind

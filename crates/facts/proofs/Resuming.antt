@@ -30,7 +30,8 @@ use Rattle.facts.proofs.Words.{bool_cases, means_same, itself_means, frame_word_
 use Rattle.facts.proofs.Offsets.{word_of_offset}
 use Rattle.facts.proofs.Lending.{number_means, same_word, run_byte, IsRegionKind, IsPart, of_frame, of_constants, of_parameter}
 use Rattle.facts.proofs.Lending.{PartOf, Part, Lends, WritesIn, writes_in, writes_of, Touched, word_kept, frame_byte}
-use Rattle.facts.proofs.CallTests.{lent_fact, natural}
+use Rattle.facts.proofs.CallTests.{lent_fact}
+use Rattle.facts.proofs.Reaching.{natural}
 use Rattle.facts.proofs.Regions.{bytes_read}
 
 -- ---- numbers
@@ -186,16 +187,14 @@ module _ (m : Contents) (h : Holding) (act : Activation) (s : State) (p : Proced
   base = s.depth +ℤ negsuc 3
 
   -- a parameter that is written was lent its part
+  abbrev pub part_lent : (j : ℕ) (q : Parameter) → slice_get callee.parameters j ≡ Some q → ℕ → ℤ → ℤ → Lent
+  part_lent j q found size lo hi =
+      let part = lends.parts j q found in
+      record { region = part.region; first = part.first; size = size; lo = lo; hi = hi; is_written = true }
+
   abbrev pub AreLinked : Type 0
   AreLinked = (j : ℕ) (q : Parameter) (found : slice_get callee.parameters j ≡ Some q) (size : ℕ) (lo hi : ℤ)
-      → q.kind ≡ WrittenRegion size lo hi → lent c q ≡ Some (record {
-        region = (lends.parts j q found).region;
-        first = (lends.parts j q found).first;
-        size = size;
-        lo = lo;
-        hi = hi;
-        is_written = true;
-      })
+      → q.kind ≡ WrittenRegion size lo hi → lent c q ≡ Some (part_lent j q found size lo hi)
 
   module _ (linked : AreLinked) (inside : (k : ℤ) → callee.words.reads k ≡ true → (p.lo ≤ℤ k) × (k <ℤ p.hi))
       (readable : (k : ℤ) → caller.words.reads k ≡ true → IsReadableWord h (length memory) act.layout.origin k)
@@ -293,14 +292,7 @@ module _ (m : Contents) (h : Holding) (act : Activation) (s : State) (p : Proced
               (record { low = omega (arith, ints, is); high = omega (arith, ints, is) })
               (subst (λ (n : ℕ). IsByteOf act.layout.origin (word +ℤ pos (i / 4)) n) (sym there)
               (run_byte act.layout.origin word (place_of (layout.starts j)) i start)) in
-              let l : Lent = record {
-                region = (lends.parts j q found).region;
-                first = (lends.parts j q found).first;
-                size = size;
-                lo = lo;
-                hi = hi;
-                is_written = true;
-              } in
+              let l : Lent = part_lent j q found size lo hi in
               let word_is : word_of_byte (lends.parts j q found).first ≡ word =
               ap word_of_byte (f ∙ first_is) ∙ word_of_offset word in
               let none = uncovered j q (subst (λ (ps : List Parameter). slice_get ps j ≡ Some q) parameters_are found) l

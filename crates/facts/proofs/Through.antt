@@ -6,7 +6,7 @@ use Rattle.std.proofs.lemmas.Int.{ints}
 use Rattle.std.specs.Prelude.{IsTrue, find, unwrap_or}
 use Rattle.std.specs.Option.{option_map}
 use Rattle.std.specs.Int.{w32}
-use Rattle.word_arithmetic.specs.Range.{Ends}
+use Rattle.word_arithmetic.specs.Range.{Ends, full}
 use Rattle.module_format.specs.Rows.{Fact}
 use Rattle.module_format.specs.declared.fact.Fact.TheVariants.{Unknown, Number}
 use Rattle.module_format.specs.declared.rows.TableRow.{TableRow}
@@ -23,13 +23,14 @@ use Rattle.states.specs.Spans.{together}
 use Rattle.facts.specs.Meaning.{Layout, Activation, Means, is_number, says_nothing, frame_word, IsWellFormed}
 use Rattle.facts.specs.Regions.{scope_of, IsRegion, HasBytes}
 use Rattle.facts.specs.Reach.{word_of_byte, words_touched, all_touched, lie_in, lie_in_row, readable_bytes, may_read_bytes}
-use Rattle.facts.specs.Reach.{full, kept_range, constant_range, parameter_range, region_range}
+use Rattle.facts.specs.Reach.{kept_range, constant_range, parameter_range, region_range}
 use Rattle.facts.specs.MemoryRules.{number_within, frame_read, word_read, byte_read}
 use Rattle.facts.specs.Fitting.{After}
 use Rattle.facts.proofs.Words.{plain_means, means_same, frame_word_is}
 use Rattle.facts.proofs.Regions.{bytes_read}
 use Rattle.facts.proofs.Addresses.{stepped_quotient, stepped}
-use Rattle.facts.proofs.Reaching.{region_place, word_of_byte_low, word_of_byte_high, touched_span, touched_passes, lies_inside}
+use Rattle.facts.proofs.Reaching.{region_place, word_of_byte_low, word_of_byte_high, touched_span, touched_passes}
+use Rattle.facts.proofs.Reaching.{lies_inside, natural, place_by}
 use Rattle.facts.proofs.Constants.{word_in, row_word}
 use Rattle.facts.proofs.ReadThrough.{frame_means, word_readable, number_inside, readable_found, range_found, readable_region}
 use Rattle.facts.proofs.ReadThrough.{word_of_bytes, word_fits, no_byte, number_among}
@@ -44,24 +45,35 @@ pub record WordThrough (m : Contents) (h : Holding) (layout : Layout) (memory : 
   pub held : may_read_word h place ≡ true
   pub means : Means m layout said (word_at memory place)
 
-pub natural : (z : ℤ) → pos 0 ≤ℤ z → (n : ℕ) × (z ≡ pos n)
-natural (pos n) h = (n, refl)
-natural (negsuc n) h = absurd (omega (arith, ints))
-
 pub even_place : (place : ℕ) (q : ℤ) → pos place ≡ pos 4 *ℤ q → place % 4 ≡ 0
 even_place place q e = omega (arith, ints)
 
--- so many bytes from an offset on lie in a region, each wherever a pointer points
-pub inside_region : (size width : ℕ) (lo hi offset : ℤ) → lo ≤ℤ offset → offset ≤ℤ hi
-    → lie_in (Some size) lo (hi +ℤ pos width) ≡ true → (n : ℕ) × (offset ≡ pos n) × (n + width ≤ size)
-inside_region size width lo hi offset low high inside =
-    let f = lies_inside (Some size) lo (hi +ℤ pos width) inside in
-    let same : size ≡ f.0 = cc in
+-- a context may read bytes of a region: of the frame, of the constants, or of what a parameter names
+abbrev reads_by : Contents → ℕ → ℕ → ℤ → ℤ → Bool → Bool → Bool
+reads_by m context region first end frame constants =
+    cond frame (all_touched (context_reads m context) first end)
+    (lie_in (cond constants (Some (length m.constants)) (readable_bytes m context (region - 2))) first end)
+
+-- so many bytes from an offset on lie in a region, each wherever a pointer points, if it is one
+pub inside_some : (size : Option ℕ) (width : ℕ) (lo hi offset : ℤ) → lo ≤ℤ offset → offset ≤ℤ hi
+    → lie_in size lo (hi +ℤ pos width) ≡ true
+    → (total : ℕ) × (size ≡ Some total) × (n : ℕ) × (offset ≡ pos n) × (n + width ≤ total)
+inside_some size width lo hi offset low high inside =
+    let f = lies_inside size lo (hi +ℤ pos width) inside in
     let from = f.2 in
     let to = f.3 in
     let n = natural offset (omega (arith, ints)) in
     let is = n.1 in
-    (n.0, n.1, omega (arith, ints))
+    (f.0, f.1, n.0, n.1, omega (arith, ints))
+
+pub inside_region : (size width : ℕ) (lo hi offset : ℤ) → lo ≤ℤ offset → offset ≤ℤ hi
+    → lie_in (Some size) lo (hi +ℤ pos width) ≡ true → (n : ℕ) × (offset ≡ pos n) × (n + width ≤ size)
+inside_region size width lo hi offset low high inside =
+    let f = inside_some (Some size) width lo hi offset low high inside in
+    let is = f.1 in
+    let same : size ≡ f.0 = cc in
+    let fits = f.4 in
+    (f.2, f.3, omega arith)
 
 module _ {m : Contents} {h : Holding} {mode : machine.Mode} {act : Activation} {s : State} {l : Local}
     (wf : IsWellFormed m) (a : After m h mode act s l) (lo hi offset : ℤ) (low : lo ≤ℤ offset) (high : offset ≤ℤ hi)
@@ -188,10 +200,8 @@ module _ {m : Contents} {h : Holding} {mode : machine.Mode} {act : Activation} {
   word_through region may = on (region == 0) (region == 1) may
     where
       on : (frame constants : Bool)
-          → cond frame (all_touched (context_reads m s.context) lo (hi +ℤ pos 4))
-          (lie_in (cond constants (Some (length m.constants)) (readable_bytes m s.context (region - 2))) lo (hi +ℤ pos 4)) ≡ true
-          → WordThrough m h act.layout l.memory
-          (cond frame act.layout.origin (cond constants (pos (constants_start m)) (pos (place_of (act.layout.starts (region - 2)))))) offset
+          → reads_by m s.context region lo (hi +ℤ pos 4) frame constants ≡ true
+          → WordThrough m h act.layout l.memory (place_by m act.layout region frame constants) offset
           (cond frame (frame_read s.frame (word_of_byte lo) (words_touched lo (hi +ℤ pos 1)))
           (number_within (cond constants (constant_range m lo (hi +ℤ pos 4)) (parameter_range m s.context (region - 2)))))
       on true constants may = through_frame may
@@ -331,10 +341,8 @@ module _ {m : Contents} {h : Holding} {mode : machine.Mode} {act : Activation} {
   byte_through region may = on (region == 0) (region == 1) may
     where
       on : (frame constants : Bool)
-          → cond frame (all_touched (context_reads m s.context) lo (hi +ℤ pos 1))
-          (lie_in (cond constants (Some (length m.constants)) (readable_bytes m s.context (region - 2))) lo (hi +ℤ pos 1)) ≡ true
-          → ByteThrough m h act.layout l.memory
-          (cond frame act.layout.origin (cond constants (pos (constants_start m)) (pos (place_of (act.layout.starts (region - 2)))))) offset
+          → reads_by m s.context region lo (hi +ℤ pos 1) frame constants ≡ true
+          → ByteThrough m h act.layout l.memory (place_by m act.layout region frame constants) offset
           (cond (frame && not (together s.frame (word_of_byte lo) (words_touched lo (hi +ℤ pos 1))).are_numbers) Unknown (Number (pos 0) (pos 255)))
       on true constants may = byte_frame may (together s.frame (word_of_byte lo) (words_touched lo (hi +ℤ pos 1))).are_numbers refl
       on false true may = byte_constants may

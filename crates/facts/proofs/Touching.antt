@@ -142,6 +142,7 @@ frame_some version code low p keeps =
 -- what passing leaves as it was
 pub record SameRest (s t : State) : Type 0 where
   pub context : t.context ≡ s.context
+  pub depth : t.depth ≡ s.depth
   pub mode : t.mode ≡ s.mode
 
 passes_rest : (m : Contents) (e : ℤ) (fact : Fact) (s t : State) → SameRest s t → SameRest s (passes m e fact t)
@@ -149,13 +150,13 @@ unfolding passes written
 passes_rest m e fact s t same = on_test (rights.may_write_word m t.context (t.depth +ℤ e))
   where
     on_test : (b : Bool) → SameRest s (cond b (written (t.depth +ℤ e) fact t) t)
-    on_test true = record { context = same.context; mode = same.mode }
+    on_test true = record { context = same.context; depth = same.depth; mode = same.mode }
     on_test false = same
 
 pub passing_rest : (m : Contents) (s : State) → SameRest s (passing m s)
 passing_rest m s =
     passes_rest m (negsuc 3) _ s _ (passes_rest m (negsuc 2) _ s _ (passes_rest m (negsuc 1) _ s _
-    (passes_rest m (negsuc 0) _ s s (record { context = refl; mode = refl }))))
+    (passes_rest m (negsuc 0) _ s s (record { context = refl; depth = refl; mode = refl }))))
 
 -- ---- the callee's frame
 
@@ -181,6 +182,10 @@ off_no c first count a b d f a_is b_is high d_is f_is =
     (sym (ap (λ (z : ℤ). int_le z b) a_is ∙ ap (int_le (first +ℤ pos count)) b_is) ∙ high))
 
 -- ---- each two parameters
+
+-- where some parameters are left, each two of these pass a test if each two of all do
+abbrev pub LeavesEachTwo : (Parameter → Parameter → Bool) → List Parameter → List Parameter → Type 0
+LeavesEachTwo test rest all = each_two test rest ≡ each_two test all
 
 pub two_more : (test : Parameter → Parameter → Bool) (p : Parameter) (rest others : List Parameter) (whole : Bool)
     → rest ≡ p ∷ others → list_all (test p) others ≡ true → each_two test rest ≡ whole → each_two test others ≡ whole

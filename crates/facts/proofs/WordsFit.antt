@@ -60,16 +60,23 @@ four_times : (k : ℤ) → IsOffset Word (pos 4 *ℤ k)
 four_times (pos n) = grind (arith, nat_tests)
 four_times (negsuc n) = grind (arith, nat_tests)
 
--- a number in bounds is a subscript, and a count
-subscript_below : (u v : ℤ) (r t : Ends) → IsRange r → IsRange t → InRange r u → InRange t v → pos 0 ≤ℤ r.lo
-    → r.hi <ℤ t.lo → is_below_unsigned u v ≡ true
-subscript_below u v r t p q a b low high =
+-- what is at least as great as a number of another range is so without signs, where neither is negative
+unsigned_below : (u v : ℤ) (r t : Ends) → IsRange r → IsRange t → InRange r u → InRange t v → (k : ℕ) → pos 0 ≤ℤ r.lo
+    → (r.hi +ℤ pos k) ≤ℤ t.lo → cast_unsigned w32 u + k ≤ cast_unsigned w32 v
+unsigned_below u v r t p q a b k low high =
     let f = member_fits r u p a in
     let g = member_fits t v q b in
     let from = a.from_lo in
     let to = a.to_hi in
     let least = b.from_lo in
-    le-leb (suc (cast_unsigned w32 u)) (cast_unsigned w32 v) (omega (arith, ints, f, g))
+    omega (arith, ints, f, g)
+
+-- a number in bounds is a subscript, and a count
+subscript_below : (u v : ℤ) (r t : Ends) → IsRange r → IsRange t → InRange r u → InRange t v → pos 0 ≤ℤ r.lo
+    → r.hi <ℤ t.lo → is_below_unsigned u v ≡ true
+subscript_below u v r t p q a b low high =
+    let less = unsigned_below u v r t p q a b 1 low (omega (arith, ints)) in
+    le-leb (suc (cast_unsigned w32 u)) (cast_unsigned w32 v) (omega (arith, less))
 
 not_above : (a b : ℕ) → a ≤ b → ltb b a ≡ false
 not_above a b h = elim (leb_tells (suc b) a) [
@@ -81,14 +88,12 @@ count_within : (u v : ℤ) (r t : Ends) → IsRange r → IsRange t → InRange 
     → r.hi ≤ℤ t.lo → (not (cast_unsigned w32 u == 0) && not (is_below_unsigned v u)) ≡ true
 count_within u v r t p q a b low high =
     let f = member_fits r u p a in
-    let g = member_fits t v q b in
     let from = a.from_lo in
-    let to = a.to_hi in
-    let least = b.from_lo in
+    let least = unsigned_below u v r t p q a b 0 (omega (arith, ints)) (omega (arith, ints)) in
     elim (eqb_tells (cast_unsigned w32 u) 0) [
       | inl e ↦ let zero : cast_unsigned w32 u ≡ 0 = e.1 in absurd (omega (arith, ints, f))
       | inr e ↦ ap (λ (x : Bool). not x && not (is_below_unsigned v u)) e.0
-          ∙ ap not (not_above (cast_unsigned w32 u) (cast_unsigned w32 v) (omega (arith, ints, f, g)))
+          ∙ ap not (not_above (cast_unsigned w32 u) (cast_unsigned w32 v) (omega (arith, least)))
     ]
 
 -- what is loaded comes from its word, if it is a number

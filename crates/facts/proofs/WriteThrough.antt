@@ -44,7 +44,7 @@ use Rattle.facts.specs.Fitting.{After}
 use Rattle.facts.proofs.Words.{means_same, frame_word_is, word_test, stored_means, Follows, knows_changed}
 use Rattle.facts.proofs.Regions.{AltersWord, frame_keeps, may_too, Alters, named_left, IsBeside, bytes_read, byte_small}
 use Rattle.facts.proofs.Regions.{word_small}
-use Rattle.facts.proofs.ReadThrough.{no_byte, word_of_bytes, word_fits}
+use Rattle.facts.proofs.ReadThrough.{no_byte, word_of_bytes, word_fits, usable_found}
 use Rattle.facts.proofs.Reaching.{inside_memory, touched_span, touched_passes, word_of_byte_low, word_of_byte_high, lies_inside}
 use Rattle.facts.proofs.Addresses.{stepped_quotient}
 use Rattle.facts.proofs.Combining.{same_frame, written_readable}
@@ -210,7 +210,7 @@ pub record Writable (m : Contents) (context j size : ℕ) : Type 0 where
   pub hi : ℤ
   pub is : parameter.kind ≡ WrittenRegion size lo hi
 
-writable_kind : (kind : ParameterKind) (size : ℕ) → writable_size kind ≡ Some size
+pub writable_kind : (kind : ParameterKind) (size : ℕ) → writable_size kind ≡ Some size
     → kind ≡ WrittenRegion size (kept_range kind).lo (kept_range kind).hi
 writable_kind (Value lo hi) size e = absurd (cc)
 writable_kind (ReadRegion bytes lo hi) size e = absurd (cc)
@@ -220,24 +220,14 @@ writable_kind (Channels count len ends) size e = absurd (cc)
 
 pub writable_found : (m : Contents) (context j size : ℕ) → writable_bytes m context j ≡ Some size
     → Writable m context j size
-writable_found m context j size h = on (slice_get (parameters_at m context) j) refl h
-  where
-    allowed : (b : Bool) (o : Option ℕ) → cond b o None ≡ Some size → o ≡ Some size
-    allowed true o h = h
-    allowed false o h = absurd (cc)
-
-    on : (o : Option Parameter) → slice_get (parameters_at m context) j ≡ o
-        → (elim o as (λ o. Option ℕ) [
-          | None ↦ None
-          | Some p ↦ cond (may_write_parameter m context j) (writable_size p.kind) None
-        ]) ≡ Some size → Writable m context j size
-    on None e h = absurd (cc)
-    on (Some p) e h = record {
-      parameter = p;
-      found = e;
-      lo = (kept_range p.kind).lo;
-      hi = (kept_range p.kind).hi;
-      is = writable_kind p.kind size (allowed (may_write_parameter m context j) (writable_size p.kind) h);
+writable_found m context j size h =
+    let u = usable_found m writable_size (may_write_parameter m context j) context j size h in
+    record {
+      parameter = u.parameter;
+      found = u.found;
+      lo = (kept_range u.parameter.kind).lo;
+      hi = (kept_range u.parameter.kind).hi;
+      is = writable_kind u.parameter.kind size u.has;
     }
 
 -- some bytes from a place on

@@ -6,7 +6,7 @@ use Rattle.std.proofs.lemmas.Bool.{cases_lt, cases_eq, eqb-true}
 use Rattle.std.proofs.lemmas.Int.{ints}
 use Rattle.std.specs.Prelude.{IsTrue, int_le, int_lt}
 use Rattle.std.specs.Int.{w32, int_wrap}
-use Rattle.word_arithmetic.specs.Range.{Ends}
+use Rattle.word_arithmetic.specs.Range.{Ends, full}
 use Rattle.module_format.specs.Rows.{Fact}
 use Rattle.module_format.specs.declared.fact.Fact.TheVariants.{Unknown, Number, Pointer, CodeAddress, Loop}
 use Rattle.module_format.specs.declared.fact.Fact.TheVariants.{ReturnAddress}
@@ -39,11 +39,12 @@ use Rattle.states.proofs.RowFacts.{and-parts, le-from, lt-from}
 use Rattle.facts.specs.declared.pointers.Pointed.{Pointed}
 use Rattle.facts.specs.Rulings as rule
 use Rattle.facts.specs.Rulings.{Ruling}
+use Rattle.facts.specs.WordRules as word
 use Rattle.facts.specs.MemoryRules as memory
 use Rattle.facts.specs.MemoryRules.{pointer_of, words_behind, words_at, are_near, wanted_range, is_number_in, may_store_word}
 use Rattle.facts.specs.MemoryRules.{is_full, may_store_byte, widened_by, stored_word, stored_byte, leaves_words}
 use Rattle.facts.specs.Reach.{word_of_byte, words_touched, all_touched, lie_in, may_write_bytes, writable_bytes, parameter_range}
-use Rattle.facts.specs.Reach.{full, kept_range}
+use Rattle.facts.specs.Reach.{kept_range}
 use Rattle.facts.specs.Rules as table
 use Rattle.facts.specs.Meaning.{Layout, Activation, Means, says_nothing, is_number, is_pointer, place_in, word_at_place, frame_word}
 use Rattle.facts.specs.Meaning.{words_of, owed, region_start, IsWellFormed}
@@ -54,15 +55,15 @@ use Rattle.facts.proofs.Dues.{changed_dues}
 use Rattle.facts.proofs.Regions.{write_keeps, frame_keeps, keeps_more, may_too, bytes_written, word_small, byte_small}
 use Rattle.facts.proofs.ReadThrough.{word_writable, range_found}
 use Rattle.facts.proofs.Reaching.{region_place, place_at, region_at, word_place, even_word, word_of_byte_low, word_of_byte_high}
-use Rattle.facts.proofs.Reaching.{lies_inside}
-use Rattle.facts.proofs.Through.{natural, even_place}
+use Rattle.facts.proofs.Reaching.{natural, place_by}
+use Rattle.facts.proofs.Through.{even_place, inside_some}
 use Rattle.facts.proofs.Addresses.{stepped_quotient, stepped_sum, stepped_words}
 use Rattle.facts.proofs.WriteThrough.{number_wider, widened_means, widened_by_means, LeavesWell, FrameWord, frame_written, after_span}
 use Rattle.facts.proofs.WriteThrough.{after_beside, Writable, writable_found, Lies, AltersRegion, region_keeps, word_beside}
 use Rattle.facts.proofs.WriteThrough.{number_within, number_stays, byte_written, byte_left}
-use Rattle.facts.proofs.Combining.{FitsIf, unknown_means, written_readable, on_rule_test, on_step_test, uses_fits, in_bounds_fits}
+use Rattle.facts.proofs.Combining.{FitsIf, unknown_means, written_readable, wanted_fits, on_step_test, uses_fits, in_bounds_fits}
 use Rattle.facts.proofs.Combining.{writes_fits, goes_on_fits, in_plain_rule, beside_plain_rule, in_plain_step, after_stack}
-use Rattle.facts.proofs.MemoryFits.{ok_if, pointer_is, settles_fits, aligned_fits}
+use Rattle.facts.proofs.MemoryFits.{pointer_is, words_behind_is, settles_fits, aligned_fits}
 
 -- ---- the words that are touched
 
@@ -146,6 +147,43 @@ module _ {m : Contents} {h : Holding} {mode : machine.Mode} {act : Activation} {
   abbrev scope : Scope
   scope = scope_of m s.context act.layout
 
+  -- ---- the region that a parameter names
+
+  named_region : (j size : ℕ) (r : Writable m s.context j size)
+      → IsRegion m (may_write h) scope l.memory (place_of (act.layout.starts j)) size r.lo r.hi
+  named_region j size r = subst (λ (kind : ParameterKind). IsNamed m h scope l.memory kind (act.layout.starts j)) r.is
+      (a.named.each j r.parameter r.found)
+
+  range_is : (j size : ℕ) (r : Writable m s.context j size)
+      → parameter_range m s.context j ≡ record { lo = r.lo; hi = r.hi }
+  range_is j size r = range_found m s.context j r.parameter r.found ∙ ap kept_range r.is
+
+  -- some of its bytes are written
+  into_region : (j size : ℕ) (r : Writable m s.context j size) (n width : ℕ) (new : ℕ → Memory) (mine : ℕ → Type 0)
+      → offset ≡ pos n → place_of (act.layout.starts j) + n < length l.memory
+      → mine (place_of (act.layout.starts j) + n)
+      → AltersRegion m h scope (place_of (act.layout.starts j)) size r.lo r.hi (place_of (act.layout.starts j) + n) width
+      l.memory (new (place_of (act.layout.starts j) + n))
+      → Written a (pos (place_of (act.layout.starts j))) offset new mine s
+  into_region j size r n width new mine is low own alters =
+      let small = a.frame.small in
+      let keeps = region_keeps m h scope l.memory (new place) a.named j r.parameter r.found size r.lo r.hi r.is place width
+      alters in
+      record {
+        place = place;
+        is = omega (arith, ints);
+        small = omega arith;
+        own = own;
+        after = after_beside a (new place) (λ k counts.
+            let w = a.frame.readable k counts in
+            word_beside m h scope l.memory (new place) a.named j r.parameter r.found size r.lo r.hi r.is place width alters
+            k w.place counts w.is) keeps;
+        keeps = keeps;
+      }
+    where
+      place : ℕ
+      place = place_of (act.layout.starts j) + n
+
   -- ---- a word
 
   module _ (aligned : IsTrue (is_stepped offset)) (b : Fact) (v : ℤ) (means : Means m act.layout b (Some v)) where
@@ -226,39 +264,26 @@ module _ {m : Contents} {h : Holding} {mode : machine.Mode} {act : Activation} {
         → is_number_in (parameter_range m s.context j) b ≡ true
         → Written a (pos (place_of (act.layout.starts j))) offset (λ place. with_word l.memory place (Some v)) (IsOwnAt h) s
     word_into_parameter j inside t =
-        let f = lies_inside (writable_bytes m s.context j) lo (hi +ℤ pos 4) inside in
-        let from = f.2 in
-        let to = f.3 in
-        let n = natural offset (omega (arith, ints)) in
-        let is = n.1 in
+        let f = inside_some (writable_bytes m s.context j) 4 lo hi offset low high inside in
+        let is = f.3 in
         let q = stepped_quotient offset aligned in
         let q_is = q.1 in
-        of_region f.0 (writable_found m s.context j f.0 f.1) n.0 is (even_place n.0 q.0 (omega (arith, ints))) (omega (arith, ints))
+        of_region f.0 (writable_found m s.context j f.0 f.1) f.2 is (even_place f.2 q.0 (omega (arith, ints))) f.4
       where
         of_region : (size : ℕ) (r : Writable m s.context j size) (n : ℕ) → offset ≡ pos n → n % 4 ≡ 0 → n + 4 ≤ size
             → Written a (pos (place_of (act.layout.starts j))) offset (λ place. with_word l.memory place (Some v))
             (IsOwnAt h) s
         of_region size r n is even fits =
-            let region = in_region_of in
+            let region = named_region j size r in
             let low = number_within l.memory (start + n) (old n even fits) in
-            let length_small = a.frame.small in
-            let keeps = region_keeps m h scope l.memory new a.named j r.parameter r.found size r.lo r.hi r.is (start + n) 4 alters in
-            record {
-              place = start + n;
-              is = omega (arith, ints);
-              small = omega arith;
-              own = record {
-                mine = word_writable h (start + n) (λ i less.
-                    ap (may_write h) (let e : start + n + i ≡ start + (n + i) = omega arith in e)
-                    ∙ region.held (n + i) (omega arith));
-                even = let aligned = eqb-true (start % 4) 0 region.aligned in omega (arith, even, aligned);
-              };
-              after = after_beside a new (λ k counts.
-                  let w = a.frame.readable k counts in
-                  word_beside m h scope l.memory new a.named j r.parameter r.found size r.lo r.hi r.is (start + n) 4 alters k
-                  w.place counts w.is) keeps;
-              keeps = keeps;
-            }
+            into_region j size r n 4 (λ place. with_word l.memory place (Some v)) (IsOwnAt h) is (omega arith)
+            (record {
+              mine = word_writable h (start + n) (λ i less.
+                  ap (may_write h) (let e : start + n + i ≡ start + (n + i) = omega arith in e)
+                  ∙ region.held (n + i) (omega arith));
+              even = let aligned = eqb-true (start % 4) 0 region.aligned in omega (arith, even, aligned);
+            })
+            alters
           where
             start : ℕ
             start = place_of (act.layout.starts j)
@@ -266,19 +291,13 @@ module _ {m : Contents} {h : Holding} {mode : machine.Mode} {act : Activation} {
             new : Memory
             new = with_word l.memory (start + n) (Some v)
 
-            in_region_of : IsRegion m (may_write h) scope l.memory start size r.lo r.hi
-            in_region_of = subst (λ (kind : ParameterKind). IsNamed m h scope l.memory kind (act.layout.starts j)) r.is
-                (a.named.each j r.parameter r.found)
-
             old : (n : ℕ) → n % 4 ≡ 0 → n + 4 ≤ size → Means m act.layout (Number r.lo r.hi) (word_at l.memory (start + n))
             old n even fits = subst (λ (p : ℕ). Means m act.layout (Number r.lo r.hi) (word_at l.memory p))
-                (let e : start + 4 * (n / 4) ≡ start + n = omega arith in e) (in_region_of.numbers (n / 4) (omega arith))
-
-            range_is : parameter_range m s.context j ≡ record { lo = r.lo; hi = r.hi }
-            range_is = range_found m s.context j r.parameter r.found ∙ ap kept_range r.is
+                (let e : start + 4 * (n / 4) ≡ start + n = omega arith in e)
+                ((named_region j size r).numbers (n / 4) (omega arith))
 
             stored : Means m act.layout (Number r.lo r.hi) (Some v)
-            stored = subst (λ (e : Ends). Means m act.layout (Number e.lo e.hi) (Some v)) range_is
+            stored = subst (λ (e : Ends). Means m act.layout (Number e.lo e.hi) (Some v)) (range_is j size r)
                 (stored_number m act.layout (parameter_range m s.context j) b (Some v) t means)
 
             number : (i : ℕ) → 4 * i + 4 ≤ size → Means m act.layout (Number r.lo r.hi) (word_at new (start + 4 * i))
@@ -289,7 +308,7 @@ module _ {m : Contents} {h : Holding} {mode : machine.Mode} {act : Activation} {
                   (number_within l.memory (start + n) (old n even fits)) stored)
               | inr differ ↦ subst (λ (u : Option ℤ). Means m act.layout (Number r.lo r.hi) u)
                   (sym (word_at-with_word_other l.memory (start + n) (start + 4 * i) (Some v) (apart i n even differ)))
-                  (in_region_of.numbers i inside)
+                  ((named_region j size r).numbers i inside)
             ]
               where
                 apart : (i n : ℕ) → n % 4 ≡ 0 → (4 * i ≡ n → ⊥) → (start + 4 * i + 4 ≤ start + n) ⊎ (start + n + 4 ≤ start + 4 * i)
@@ -382,30 +401,16 @@ module _ {m : Contents} {h : Holding} {mode : machine.Mode} {act : Activation} {
         → is_full (parameter_range m s.context j) ≡ true
         → Written a (pos (place_of (act.layout.starts j))) offset (λ place. with_byte l.memory place (Some c)) (λ place. may_write h place ≡ true) s
     byte_into_parameter j inside t =
-        let f = lies_inside (writable_bytes m s.context j) lo (hi +ℤ pos 1) inside in
-        let from = f.2 in
-        let to = f.3 in
-        let n = natural offset (omega (arith, ints)) in
-        let is = n.1 in
-        of_region f.0 (writable_found m s.context j f.0 f.1) n.0 is (omega (arith, ints))
+        let f = inside_some (writable_bytes m s.context j) 1 lo hi offset low high inside in
+        let fits = f.4 in
+        of_region f.0 (writable_found m s.context j f.0 f.1) f.2 f.3 (omega arith)
       where
         of_region : (size : ℕ) (r : Writable m s.context j size) (n : ℕ) → offset ≡ pos n → n < size
             → Written a (pos (place_of (act.layout.starts j))) offset (λ place. with_byte l.memory place (Some c)) (λ place. may_write h place ≡ true) s
         of_region size r n is within =
-            let length_small = a.frame.small in
             let inside = number_within l.memory (start + 4 * (n / 4)) (in_region_of.numbers (n / 4) fits) in
-            let keeps = region_keeps m h scope l.memory new a.named j r.parameter r.found size r.lo r.hi r.is (start + n) 1 alters in
-            record {
-              place = start + n;
-              is = omega (arith, ints);
-              small = omega arith;
-              own = in_region_of.held n within;
-              after = after_beside a new (λ k counts.
-                  let w = a.frame.readable k counts in
-                  word_beside m h scope l.memory new a.named j r.parameter r.found size r.lo r.hi r.is (start + n) 1 alters k
-                  w.place counts w.is) keeps;
-              keeps = keeps;
-            }
+            into_region j size r n 1 (λ place. with_byte l.memory place (Some c)) (λ place. may_write h place ≡ true) is
+            (omega arith) (in_region_of.held n within) alters
           where
             start : ℕ
             start = place_of (act.layout.starts j)
@@ -414,8 +419,7 @@ module _ {m : Contents} {h : Holding} {mode : machine.Mode} {act : Activation} {
             new = with_byte l.memory (start + n) (Some c)
 
             in_region_of : IsRegion m (may_write h) scope l.memory start size r.lo r.hi
-            in_region_of = subst (λ (kind : ParameterKind). IsNamed m h scope l.memory kind (act.layout.starts j)) r.is
-                (a.named.each j r.parameter r.found)
+            in_region_of = named_region j size r
 
             whole : size % 4 ≡ 0
             whole = eqb-true (size % 4) 0 in_region_of.whole
@@ -423,11 +427,8 @@ module _ {m : Contents} {h : Holding} {mode : machine.Mode} {act : Activation} {
             fits : 4 * (n / 4) + 4 ≤ size
             fits = omega (arith, whole)
 
-            range_is : parameter_range m s.context j ≡ record { lo = r.lo; hi = r.hi }
-            range_is = range_found m s.context j r.parameter r.found ∙ ap kept_range r.is
-
             wide : lies_within least_word greatest_word r.lo r.hi ≡ true
-            wide = ap is_full (sym range_is) ∙ t
+            wide = ap is_full (sym (range_is j size r)) ∙ t
 
             any : (p : ℕ) → Means m act.layout (Number least_word greatest_word) (word_at new p)
                 → Means m act.layout (Number r.lo r.hi) (word_at new p)
@@ -481,8 +482,24 @@ module _ (x : Here) (s : State) (l : Local) (a : After x.m x.h x.mode x.act s l)
       → (may_write_bytes x.m s.context region first end ≡ true → FitsIf x r o)
       → FitsIf x (memory.writes_bytes (rule_site x) s region first end r) o
   unfolding memory.writes_bytes
-  writes_bytes_fits region first end r o go =
-      on_rule_test x (may_write_bytes x.m s.context region first end) _ _ _ go (λ t next. it_breaks)
+  writes_bytes_fits region first end r o go = wanted_fits x (may_write_bytes x.m s.context region first end) _ _ _ go
+
+  -- A is a pointer that may be used, and B may be stored where it leads
+  stored_fits : (may_store : Fact → Fact → Bool) (r : Fact → Pointed → Ruling) (o : ℤ → ℤ → Outcome)
+      → ((v u : ℤ) (p : Pointed) → Means x.m x.act.layout (Pointer p.region p.lo p.hi p.step) (Some v)
+      → Means x.m x.act.layout s.stack.b.fact (Some u)
+      → may_store (Pointer p.region p.lo p.hi p.step) s.stack.b.fact ≡ true → FitsIf x (r s.stack.b.fact p) (o v u))
+      → FitsIf x (rule.uses s.stack.a (λ a. rule.uses s.stack.b (λ b. word.in_bounds (may_store a b)
+      (memory.settles (pointer_of a) (r b)))))
+      (step.uses l.registers.stack.a (λ v. step.uses l.registers.stack.b (o v)))
+  stored_fits may_store r o go =
+      uses_fits x s.stack.a l.registers.stack.a _ _ a.knows.registers.a (λ v means.
+      uses_fits x s.stack.b l.registers.stack.b _ _ a.knows.registers.b (λ u other.
+      in_bounds_fits x (may_store s.stack.a.fact s.stack.b.fact) _ _ (λ stores.
+      settles_fits x (pointer_of s.stack.a.fact) _ _ (λ p pointer.
+      let fact_is = (pointer_is x.m x.act.layout s.stack.a.fact p pointer).0 in
+      go v u p (subst (λ (f : Fact). Means x.m x.act.layout f (Some v)) fact_is means.fact) other.fact
+      (subst (λ (f : Fact). may_store f s.stack.b.fact ≡ true) fact_is stores)))))
 
   left_context : (p : Pointed) (end : ℤ) (leaving : Leaving) → (leaves_words p end leaving s).context ≡ s.context
   unfolding leaves_words after_change
@@ -539,9 +556,8 @@ module _ (x : Here) (s : State) (l : Local) (a : After x.m x.h x.mode x.act s l)
           (lie_in (cond constants None (writable_bytes x.m s.context (p.region - 2))) p.lo (p.hi +ℤ pos 4)) ≡ true
           → (frame ≡ false
           → is_number_in (cond (frame || constants) full (parameter_range x.m s.context (p.region - 2))) b ≡ true)
-          → Written a
-          (cond frame x.act.layout.origin (cond constants (pos (constants_start x.m)) (pos (place_of (x.act.layout.starts (p.region - 2))))))
-          offset (λ place. with_word l.memory place (Some v)) (IsOwnAt x.h)
+          → Written a (place_by x.m x.act.layout p.region frame constants) offset
+          (λ place. with_word l.memory place (Some v)) (IsOwnAt x.h)
           (cond frame (after_change (on_span (word_of_byte p.lo) (words_touched p.lo (p.hi +ℤ pos 4)) (stored_word p b)) s) s)
       on true constants may stores = word_into_frame a p.lo p.hi offset low high aligned b v means may
       on false true may stores = absurd (cc)
@@ -569,58 +585,31 @@ module _ (x : Here) (s : State) (l : Local) (a : After x.m x.h x.mode x.act s l)
       → FitsIf x (memory.pops_two (rule_site x) (leaves_words p (p.hi +ℤ pos 4) (stored_word p s.stack.b.fact) s))
       (step.aligned v (λ at. step.writes (step_site x) (local_address at e) (Some u) l (λ l.
       step.goes_on (step_site x) (step.pop (step.pop l)))))
-  unfolding words_behind words_at
-  stnl_word e v u q p is fits means other stores may = on_words q.step is means
-    where
-      on_words : (steps : Step)
-          → (elim steps as (λ t. Result Pointed Rule) [
-            | Byte ↦ Err rules.Pointer
-            | Word ↦ words_at q.region (q.lo +ℤ (pos 4 *ℤ e)) (q.hi +ℤ (pos 4 *ℤ e))
-          ]) ≡ Ok p
-          → Means x.m x.act.layout (Pointer q.region q.lo q.hi steps) (Some v)
-          → FitsIf x (memory.pops_two (rule_site x) (leaves_words p (p.hi +ℤ pos 4) (stored_word p s.stack.b.fact) s))
-          (step.aligned v (λ at. step.writes (step_site x) (local_address at e) (Some u) l (λ l.
-          step.goes_on (step_site x) (step.pop (step.pop l)))))
-      on_words Byte h pointer = absurd (cc)
-      on_words Word h (is_pointer offset low high stepped at) =
-          let t = ok_if (are_near (q.lo +ℤ (pos 4 *ℤ e)) (q.hi +ℤ (pos 4 *ℤ e)))
-          (record { region = q.region; lo = q.lo +ℤ (pos 4 *ℤ e); hi = q.hi +ℤ (pos 4 *ℤ e); step = Word }) p _ h in
-          let region_is : q.region ≡ p.region = ap (λ (r : Pointed). r.region) t.1 in
-          let lo_is : q.lo +ℤ (pos 4 *ℤ e) ≡ p.lo = ap (λ (r : Pointed). r.lo) t.1 in
-          let hi_is : q.hi +ℤ (pos 4 *ℤ e) ≡ p.hi = ap (λ (r : Pointed). r.hi) t.1 in
-          let number : (p.region == 0) ≡ false → is_number_in (wanted_range x.m s.context p.region) s.stack.b.fact ≡ true =
-          subst (λ (r : ℕ). (r == 0) ≡ false → is_number_in (wanted_range x.m s.context r) s.stack.b.fact ≡ true) region_is
-          (stores_number q s.stack.b.fact stores) in
-          let w = word_written_at p s.stack.b.fact u (offset +ℤ (pos 4 *ℤ e)) (omega (arith, ints)) (omega (arith, ints))
-          (stepped_sum offset (pos 4 *ℤ e) stepped (stepped_words e)) other number may in
-          let there = ap (λ (n : ℕ). region_start x.m x.act.layout n) region_is in
-          let is_at : v ≡ int_wrap w32 (region_start x.m x.act.layout p.region +ℤ offset) =
-          at ∙ ap (λ (z : ℤ). int_wrap w32 (z +ℤ offset)) there in
-          let from = region_at x.m x.act.layout p.region (offset +ℤ (pos 4 *ℤ e)) w.place w.is in
-          aligned_fits x s l a same changes n v _ _
-          (even_word v (region_start x.m x.act.layout p.region) offset e w.place is_at from w.own.even)
-          (writes_fits x l (local_address (step.address v) e) w.place (Some u) _ _
-          (word_place v (region_start x.m x.act.layout p.region) offset e w.place is_at fits from w.small) w.own.mine
-          (pops_two_fits p (p.hi +ℤ pos 4) (stored_word p s.stack.b.fact) (with_word l.memory w.place (Some u)) w.after (record {
-            own = changes_more x.h x.memory l.memory (with_word l.memory w.place (Some u)) changes.own
-                (write_is_own x.h l.memory w.place (Some u) w.own.mine);
-            keeps = keeps_more changes.keeps (changes_too (with_word l.memory w.place (Some u)) w.keeps);
-          })))
+  stnl_word e v u q p is fits means other stores may =
+      let b = words_behind_is x.m x.act.layout e v q p is means in
+      let number : (p.region == 0) ≡ false → is_number_in (wanted_range x.m s.context p.region) s.stack.b.fact ≡ true =
+      subst (λ (r : ℕ). (r == 0) ≡ false → is_number_in (wanted_range x.m s.context r) s.stack.b.fact ≡ true) b.region
+      (stores_number q s.stack.b.fact stores) in
+      let w = word_written_at p s.stack.b.fact u (b.offset +ℤ (pos 4 *ℤ e)) b.low b.high b.stepped other number may in
+      let from = region_at x.m x.act.layout p.region (b.offset +ℤ (pos 4 *ℤ e)) w.place w.is in
+      aligned_fits x s l a same changes n v _ _
+      (even_word v (region_start x.m x.act.layout p.region) b.offset e w.place b.at from w.own.even)
+      (writes_fits x l (local_address (step.address v) e) w.place (Some u) _ _
+      (word_place v (region_start x.m x.act.layout p.region) b.offset e w.place b.at fits from w.small) w.own.mine
+      (pops_two_fits p (p.hi +ℤ pos 4) (stored_word p s.stack.b.fact) (with_word l.memory w.place (Some u)) w.after (record {
+        own = changes_more x.h x.memory l.memory (with_word l.memory w.place (Some u)) changes.own
+            (write_is_own x.h l.memory w.place (Some u) w.own.mine);
+        keeps = keeps_more changes.keeps (changes_too (with_word l.memory w.place (Some u)) w.keeps);
+      })))
 
   pub stnl_fits : (e : ℤ) → FitsSigned w32 e
       → FitsIf x (table.instruction_rule (rule_site x) instructions.StoreNonLocal e s)
       (step.instruction_step (step_site x) instructions.StoreNonLocal e l)
   unfolding table.instruction_rule step.instruction_step
   stnl_fits e fits =
-      in_plain_step x s a.same_mode _ _ (uses_fits x s.stack.a l.registers.stack.a _ _ a.knows.registers.a (λ v means.
-      uses_fits x s.stack.b l.registers.stack.b _ _ a.knows.registers.b (λ u other.
-      in_bounds_fits x (may_store_word x.m s.context s.stack.a.fact s.stack.b.fact) _ _ (λ stores.
-      settles_fits x (pointer_of s.stack.a.fact) _ _ (λ q pointer.
+      in_plain_step x s a.same_mode _ _ (stored_fits (may_store_word x.m s.context) _ _ (λ v u q means other stores.
       settles_fits x (words_behind (pos 4 *ℤ e) q) _ _ (λ p is.
-      writes_bytes_fits p.region p.lo (p.hi +ℤ pos 4) _ _ (λ may.
-      let fact_is = (pointer_is x.m x.act.layout s.stack.a.fact q pointer).0 in
-      stnl_word e v u q p is fits (subst (λ (f : Fact). Means x.m x.act.layout f (Some v)) fact_is means.fact) other.fact
-      (subst (λ (f : Fact). may_store_word x.m s.context f s.stack.b.fact ≡ true) fact_is stores) may)))))))
+      writes_bytes_fits p.region p.lo (p.hi +ℤ pos 4) _ _ (λ may. stnl_word e v u q p is fits means other stores may))))
 
   -- ---- sb
 
@@ -646,9 +635,8 @@ module _ (x : Here) (s : State) (l : Local) (a : After x.m x.h x.mode x.act s l)
           → cond frame (all_touched (context_writes x.m s.context) p.lo (p.hi +ℤ pos 1))
           (lie_in (cond constants None (writable_bytes x.m s.context (p.region - 2))) p.lo (p.hi +ℤ pos 1)) ≡ true
           → is_full (cond (frame || constants) full (parameter_range x.m s.context (p.region - 2))) ≡ true
-          → Written a
-          (cond frame x.act.layout.origin (cond constants (pos (constants_start x.m)) (pos (place_of (x.act.layout.starts (p.region - 2))))))
-          offset (λ place. with_byte l.memory place (Some c)) (λ place. may_write x.h place ≡ true)
+          → Written a (place_by x.m x.act.layout p.region frame constants) offset
+          (λ place. with_byte l.memory place (Some c)) (λ place. may_write x.h place ≡ true)
           (cond frame (after_change (on_span (word_of_byte p.lo) (words_touched p.lo (p.hi +ℤ pos 1)) stored_byte) s) s)
       on true constants may wide = byte_into_frame a p.lo p.hi offset low high c byte may
       on false true may wide = absurd (cc)
@@ -683,11 +671,5 @@ module _ (x : Here) (s : State) (l : Local) (a : After x.m x.h x.mode x.act s l)
       (step.operation_step (step_site x) operations.StoreByte l)
   unfolding table.operation_rule step.operation_step
   sb_fits =
-      in_plain_step x s a.same_mode _ _ (uses_fits x s.stack.a l.registers.stack.a _ _ a.knows.registers.a (λ v means.
-      uses_fits x s.stack.b l.registers.stack.b _ _ a.knows.registers.b (λ u other.
-      in_bounds_fits x (may_store_byte x.m s.context s.stack.a.fact s.stack.b.fact) _ _ (λ stores.
-      settles_fits x (pointer_of s.stack.a.fact) _ _ (λ p pointer.
-      writes_bytes_fits p.region p.lo (p.hi +ℤ pos 1) _ _ (λ may.
-      let fact_is = (pointer_is x.m x.act.layout s.stack.a.fact p pointer).0 in
-      sb_byte v u p (subst (λ (f : Fact). Means x.m x.act.layout f (Some v)) fact_is means.fact)
-      (subst (λ (f : Fact). may_store_byte x.m s.context f s.stack.b.fact ≡ true) fact_is stores) may))))))
+      in_plain_step x s a.same_mode _ _ (stored_fits (may_store_byte x.m s.context) _ _ (λ v u p means other stores.
+      writes_bytes_fits p.region p.lo (p.hi +ℤ pos 1) _ _ (λ may. sb_byte v u p means stores may)))

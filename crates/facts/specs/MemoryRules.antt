@@ -10,14 +10,14 @@ use Rattle.module_format.specs.Contents.{Contents}
 use Rattle.machine_state.specs.World.{padding}
 use Rattle.states.specs.declared.rule.Rule.{Rule}
 use Rattle.states.specs.declared.rule.Rule.TheVariants as rules
-use Rattle.word_arithmetic.specs.Range.{Ends}
+use Rattle.word_arithmetic.specs.Range.{Ends, full}
 use Rattle.states.specs.declared.span.Together.{Together}
 use Rattle.states.specs.State.{State, Facts, known, plain, is_word as is_same}
 use Rattle.states.specs.declared.span.Leaving.{Leaving}
 use Rattle.states.specs.declared.span.Leaving.TheVariants.{Become, Widen}
 use Rattle.states.specs.Spans.{together, on_span, after_change}
 use Rattle.states.specs.Below.{lies_within}
-use Rattle.facts.specs.Reach.{word_of_byte, words_touched, may_read_bytes, may_write_bytes, region_range, parameter_range, full}
+use Rattle.facts.specs.Reach.{word_of_byte, words_touched, may_read_bytes, may_write_bytes, region_range, parameter_range}
 use Rattle.facts.specs.WordRules.{in_bounds}
 use Rattle.facts.specs.declared.pointers.Pointed.{Pointed}
 use Rattle.facts.specs.declared.pointers.Bounds.{Bounds}

@@ -4,8 +4,7 @@ use Rattle.std.specs.Prelude.{ℕ, ◌+◌, ◌-◌, ◌/◌, ◌==◌, ℤ, pos
 use Rattle.std.specs.Prelude.{true, false, if◌then◌else◌, List, length, Option, Some, None, slice_get, find, option_map}
 use Rattle.std.specs.Prelude.{unwrap_or}
 use Rattle.std.specs.List.{list_any}
-use Rattle.word_arithmetic.specs.Range.{Ends}
-use Rattle.word_arithmetic.specs.Word.{least_word, greatest_word}
+use Rattle.word_arithmetic.specs.Range.{Ends, full}
 use Rattle.module_format.specs.declared.rows.ParameterKind.{ParameterKind}
 use Rattle.module_format.specs.declared.rows.ParameterKind.TheVariants.{Value, ReadRegion, WrittenRegion, Channels}
 use Rattle.module_format.specs.declared.rows.TableRow.{TableRow}
@@ -93,9 +92,6 @@ may_write_bytes m context region first end =
     else lie_in (if region == 1 then None else writable_bytes m context (region - 2)) first end
 
 -- ---- what the words of a region other than the frame are
-
-abbrev pub full : Ends
-full = record { lo = least_word; hi = greatest_word }
 
 -- the range that a parameter of this kind keeps of what it names
 abbrev pub kept_range : ParameterKind → Ends

@@ -2,7 +2,8 @@
 
 ghost use Rattle.std.specs.Prelude.{◌≡◌, ◌+◌, pos, negsuc, ◌+ℤ◌, ◌*ℤ◌, ◌≤ℤ◌, ◌<ℤ◌};
 ghost use Rattle.facts.specs.Reach.{word_of_byte, words_touched, lie_in, readable_size, writable_size, is_listed};
-ghost use Rattle.facts.specs.Reach.{lie_in_row, full, kept_range};
+ghost use Rattle.facts.specs.Reach.{lie_in_row, kept_range};
+ghost use Rattle.word_arithmetic.specs.Range.{full};
 ghost use Rattle.facts.specs.MemoryRules.{ends_in};
 
 use crate::pointers::Bounds;

@@ -1,4 +1,4 @@
-use Rattle.std.proofs.Common.{◌≡◌, ◌∙◌, ℕ, ◌-◌, ◌<◌, true, sym, arith}
+use Rattle.std.proofs.Common.{◌≡◌, ◌∙◌, ℕ, ◌-◌, ◌<◌, Bool, true, sym, arith}
 use Rattle.facts.specs.Callings.{has_end_further}
 use Rattle.facts.proofs.EndNumbers.{all_from, one_fails}
 use Rattle.facts.proofs.calling.Calling.has_ends.Goals.{then-has_all_before, else-has_all_before}
@@ -10,9 +10,9 @@ returns-then-not-has_end c =
 
 pub returns : goal.returns
 returns c =
-    let m = c.args.self.now.place.module.now in
-    let context = c.args.self.now.state.now.context in
-    let each : (i : ℕ) → i < c.args.count → has_end_further m context c.args.first c.args.direction i ≡ true =
+    let has : ℕ → Bool = has_end_further c.args.self.now.place.module.now c.args.self.now.state.now.context c.args.first
+    c.args.direction in
+    let each : (i : ℕ) → i < c.args.count → has i ≡ true =
     elim c.if-has_all_before.branch [
       | then-has_all_before w ↦ λ i low.
           (c.has_all_before.ensures w.if-has_all_before.true).each (c.args.count - 1) i c.args.direction (omega arith)

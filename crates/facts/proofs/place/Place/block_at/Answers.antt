@@ -5,7 +5,7 @@ use Rattle.states.specs.declared.known.WordFact.{WordFact}
 use Rattle.states.specs.Views.{state_of}
 use Rattle.facts.specs.LoopRules.{is_beside_workspace, loop_block}
 use Rattle.facts.specs.Places.{site_of}
-use Rattle.facts.proofs.Blocks.{block-by, no-second, not-beside, all-pass, owns-by}
+use Rattle.facts.proofs.Blocks.{block-by, beside-is, no-second, not-beside, all-pass, owns-by}
 use Rattle.facts.proofs.place.Place.block_at.Goals as goal
 
 pub returns-in_err-second-clause-block : goal.returns-in_err-second-clause-block
@@ -27,8 +27,7 @@ returns-then-not-is_beside_workspace-clause-block c =
     c.writable_word-2.result c.is_beside_workspace.result (omega (arith, ints))
     (omega (arith, ints)) (c.writable_word.ensures.allowed m c.requires)
     (c.writable_word-2.ensures.allowed m c.requires)
-    (c.is_beside_workspace.ensures ∙ (ap (λ (d : ℤ). is_beside_workspace d (to_z w32 (of_z w32 c.args.word))) depth
-    ∙ ap (is_beside_workspace c.args.state.now.depth) word))
+    (beside-is _ _ _ _ _ depth word c.is_beside_workspace.ensures)
     ∙ not-beside (is_some c.writable_word.result) (is_some c.writable_word-2.result) c.is_beside_workspace.result _
     c.if-not-is_beside_workspace.true)
 
@@ -52,8 +51,7 @@ returns-clause-block c =
     c.writable_word-2.result c.is_beside_workspace.result (omega (arith, ints))
     (omega (arith, ints)) (c.writable_word.ensures.allowed m c.requires)
     (c.writable_word-2.ensures.allowed m c.requires)
-    (c.is_beside_workspace.ensures ∙ (ap (λ (d : ℤ). is_beside_workspace d (to_z w32 (of_z w32 c.args.word))) depth
-    ∙ ap (is_beside_workspace c.args.state.now.depth) word))
+    (beside-is _ _ _ _ _ depth word c.is_beside_workspace.ensures)
     ∙ all-pass (is_some c.writable_word.result) (is_some c.writable_word-2.result) c.is_beside_workspace.result _
     (ap is_some c.in_ok-first.was) (ap is_some c.in_ok-second.was) c.if-not-is_beside_workspace.false)
 
