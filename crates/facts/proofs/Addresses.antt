@@ -1,10 +1,10 @@
 -- Addresses modulo 2^32, and what is known of a pointer that is shifted.
-use Rattle.std.proofs.Common.{◌≡◌, ℕ, ◌+◌, ◌-◌, ◌*◌, ◌%◌, ◌/◌, ◌^◌, ◌<◌, ◌≤◌, ◌==◌, ℤ, pos, negsuc, ◌+ℤ◌, ◌*ℤ◌, ◌≤ℤ◌, Bool}
-use Rattle.std.proofs.Common.{suc, true, FitsSigned, Option, Some, None, refl, sym, ap, ◌∙◌, subst, arith}
+use Rattle.std.proofs.Common.{◌≡◌, ℕ, ◌+◌, ◌*◌, ◌%◌, ◌/◌, ◌^◌, ◌<◌, ℤ, pos, negsuc, ◌+ℤ◌, ◌*ℤ◌, ◌≤ℤ◌}
+use Rattle.std.proofs.Common.{suc, FitsSigned, Some, refl, ap, ◌∙◌, arith}
 use Rattle.std.proofs.lemmas.Bool.{eqb-true, eq-eqb}
 use Rattle.std.proofs.lemmas.Int.{ints, to_z-of_z, int_wrap-add_left, int_wrap-add_right, wrapping_add-bits}
 use Rattle.std.proofs.lemmas.Int.{wrapping_add_onto, wrapping_mul_onto}
-use Rattle.std.specs.Prelude.{unsigned_abs, IsTrue}
+use Rattle.std.specs.Prelude.{IsTrue}
 use Rattle.std.specs.Int.{w32, int_wrap, cast_unsigned, cast_signed}
 use Rattle.module_format.specs.declared.fact.Fact.TheVariants.{Pointer}
 use Rattle.module_format.specs.declared.fact.Step.{Step}

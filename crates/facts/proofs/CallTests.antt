@@ -1,15 +1,17 @@
 -- What the tests of a call say: of the procedure's row, of facts, and of the constants.
-use Rattle.std.proofs.Common.{◌≡◌, ℕ, zero, suc, ◌+◌, ◌-◌, ◌*◌, ◌/◌, ◌%◌, ◌≤◌, ◌<◌, ℤ, pos, negsuc, ◌+ℤ◌, ◌-ℤ◌, ◌*ℤ◌, ◌≤ℤ◌}
-use Rattle.std.proofs.Common.{◌^◌, ◌<ℤ◌, Bool, true, false, cond, if◌then◌else◌, ◌&&◌, ◌||◌, not, ◌⊎◌, inl, inr, List, [], ◌∷◌, length}
+use Rattle.std.proofs.Common.{◌≡◌, ℕ, zero, suc, ◌+◌, ◌-◌, ◌*◌, ◌/◌, ◌%◌, ◌≤◌, ◌<◌, ℤ, pos, negsuc, ◌+ℤ◌, ◌*ℤ◌, ◌≤ℤ◌}
+use Rattle.std.proofs.Common.{Bool, true, false, cond, if◌then◌else◌, ◌&&◌, ◌||◌, not, ◌⊎◌, inl, inr, List, [], ◌∷◌}
+use Rattle.std.proofs.Common.{length}
 use Rattle.std.proofs.Common.{Option, Some, None, FitsSigned, refl, sym, ap, ◌∙◌, subst, arith}
-use Rattle.std.specs.Int.{w32, cast_unsigned}
-use Rattle.std.specs.Prelude.{⊤, slice_get, int_le, int_lt, nat_abs, ◌==◌}
-use Rattle.std.specs.List.{list_all, list_any}
-use Rattle.std.proofs.lemmas.Bool.{cases_lt, cases_eq, cases_Bool}
-use Rattle.std.proofs.lemmas.Bool.Decides.{eqb_tells, leb_tells}
+use Rattle.std.specs.Int.{w32}
+use Rattle.std.specs.Prelude.{⊤, slice_get, int_le, ◌==◌}
+use Rattle.std.specs.List.{list_all}
+use Rattle.std.proofs.lemmas.Bool.{cases_eq}
+use Rattle.std.proofs.lemmas.Bool.Decides.{eqb_tells}
 use Rattle.std.proofs.lemmas.Int.{ints, clamps, SFits-int_wrap}
 use Rattle.module_format.specs.Rows.{Fact}
-use Rattle.module_format.specs.declared.fact.Fact.TheVariants.{Unknown, Number, Pointer, CodeAddress, Loop, ReturnAddress}
+use Rattle.module_format.specs.declared.fact.Fact.TheVariants.{Unknown, Number, Pointer, CodeAddress, Loop}
+use Rattle.module_format.specs.declared.fact.Fact.TheVariants.{ReturnAddress}
 use Rattle.module_format.specs.declared.fact.Step.TheVariants.{Word, Byte}
 use Rattle.module_format.specs.declared.rows.Parameter.{Parameter}
 use Rattle.module_format.specs.declared.rows.ParameterKind.{ParameterKind}
@@ -17,35 +19,25 @@ use Rattle.module_format.specs.declared.rows.ParameterKind.TheVariants.{Value, R
 use Rattle.module_format.specs.declared.tables.Version.{Version}
 use Rattle.std.proofs.lemmas.Bool.{eqb-true, eq-eqb}
 use Rattle.module_format.specs.Order.{InOrder, is_multiple_of_four, is_stepped}
-use Rattle.module_format.specs.Procedures.{ParameterKeeps, behind_parameter, ProcedureKeeps}
-use Rattle.module_format.specs.Contents.{Contents, Procedure, Par, Branch}
-use Rattle.module_format.specs.Pars.{key_of}
+use Rattle.module_format.specs.Procedures.{ParameterKeeps, behind_parameter}
+use Rattle.module_format.specs.Contents.{Contents, Procedure}
 use Rattle.module_format.specs.Keeping.{is_region}
-use Rattle.module_format.specs.Places.{branches_of}
-use Rattle.module_format.specs.Contexts.{first_branch, branch_count, owner, own_parameters, context_at, parameters_at, procedure_context}
-use Rattle.module_format.proofs.PlaceLaws.{owner_below}
-use Rattle.certificate.specs.Branches.{numbered_branch}
-use Rattle.certificate.specs.Rights as rights
-use Rattle.certificate.specs.Starts.{Entered, procedure_from, procedure_at}
-use Rattle.machine_state.specs.declared.process.Mode as machine
-use Rattle.machine_state.specs.Memory.{Memory, place_of, data_start, byte_at, word_at}
-use Rattle.machine_state.specs.Holding.{Holding, has_end, may_write, may_read, may_write_word, may_read_word}
+use Rattle.certificate.specs.Starts.{Entered, procedure_from}
+use Rattle.machine_state.specs.Memory.{Memory, byte_at, word_at}
+use Rattle.machine_state.specs.Holding.{Holding}
 use Rattle.machine_state.specs.World.{constants_start}
-use Rattle.machine_state.specs.Site.{Local}
 use Rattle.states.specs.declared.known.WordFact.{WordFact}
 use Rattle.states.specs.declared.known.WordFact.TheVariants.{Alone, Index, Count}
-use Rattle.states.specs.State.{State, Facts, is_alone, is_word, plain, parameter_fact, parameter_facts, procedure_facts}
-use Rattle.states.specs.Below.{lies_within, implies}
-use Rattle.states.proofs.RowFacts.{and-parts, and-both, le-from, lt-from, lt-yes}
-use Rattle.states.proofs.Procedures.{procedure-at}
-use Rattle.facts.specs.Meaning.{Layout, Activation, Means, MeansWord, is_number, is_pointer, is_fact, is_return_address}
-use Rattle.facts.specs.Meaning.{word_of, region_start, code_address, place_in, frame_word, word_at_place, IsOwnWord}
-use Rattle.facts.specs.Meaning.{IsReadableWord, HasFrame, words_of, words_in, frame_lo, frame_hi, IsWellFormed, says_nothing}
-use Rattle.module_format.specs.declared.contexts.Context.{Context}
-use Rattle.facts.specs.Regions.{IsByteOf, Scope, scope_of, IsRegion, IsNamed, HoldsNamed, HasConstants}
+use Rattle.states.specs.State.{State, Facts, is_alone, is_word, plain}
+use Rattle.states.specs.Below.{lies_within}
+use Rattle.states.proofs.RowFacts.{and-parts, le-from}
+use Rattle.facts.specs.Meaning.{Layout, Activation, Means, MeansWord, is_number, is_pointer, is_fact}
+use Rattle.facts.specs.Meaning.{word_of, region_start, place_in}
+use Rattle.facts.specs.Meaning.{IsWellFormed}
+use Rattle.facts.specs.Regions.{HasConstants}
 use Rattle.states.specs.declared.span.Together.{Together}
-use Rattle.states.specs.Spans.{all_words, with_plain, together}
-use Rattle.facts.specs.Reach.{word_of_byte, all_touched, words_touched, lie_in, readable_size, writable_size, readable_bytes, writable_bytes}
+use Rattle.states.specs.Spans.{with_plain, together}
+use Rattle.facts.specs.Reach.{word_of_byte, readable_size}
 use Rattle.word_arithmetic.specs.Range.{Ends, full}
 use Rattle.module_format.specs.declared.rows.TableRow.{TableRow}
 use Rattle.std.proofs.Common.{rules, get_or}
@@ -55,33 +47,16 @@ use Rattle.std.specs.Prelude.{find, unwrap_or}
 use Rattle.machine_state.specs.Memory.{joined}
 use Rattle.facts.proofs.Constants.{word_in, row_word}
 use Rattle.facts.specs.Reach.{constant_range, lie_in_row, kept_range}
-use Rattle.facts.specs.Reach.{may_read_bytes, may_write_bytes, may_read_parameter, may_write_parameter}
 use Rattle.facts.specs.MemoryRules.{is_near}
 use Rattle.facts.specs.CallRules as rule
 use Rattle.facts.specs.declared.lent.Lent.{Lent}
-use Rattle.facts.specs.CallRules.{Calling, callee_word, given, lent_from, lent, suits, parameter_suits, numbers_suit}
-use Rattle.facts.specs.CallRules.{numbers_fit, is_off_callee, may_use, words_fit, may_lend, pointers_fit, frame_size}
-use Rattle.facts.specs.CallRules.{frame_is_own, end_of, lent_words, ends_are_held, channel_of, holds_ends, has_direction}
-use Rattle.facts.specs.CallRules.{clash, are_apart, each_two, regions_are_apart, further}
-use Rattle.facts.proofs.Ends.{Names, names, end_held}
-use Rattle.module_format.specs.declared.rows.EndKind.{EndKind}
-use Rattle.module_format.specs.declared.rows.EndKind.TheVariants as end_kinds
-use Rattle.module_format.specs.declared.rows.Direction.{Direction}
-use Rattle.module_format.specs.declared.rows.Ends.{Ends as EndSet}
-use Rattle.facts.specs.Regions.{channel_address, IsWrittenAt, IsNamedAt}
-use Rattle.std.proofs.lemmas.Option.{slice_get_within}
-use Rattle.std.proofs.lemmas.Bool.{le-leb}
-use Rattle.std.proofs.Common.{leb}
-use Rattle.std.specs.Prelude.{nat_lt}
-use Rattle.facts.specs.Fitting.{After}
-use Rattle.facts.proofs.Words.{int_le_tells, word_test, bool_cases, means_same, plain_means, frame_word_is}
-use Rattle.facts.proofs.Entering.{implies_means}
-use Rattle.facts.proofs.Combining.{readable_byte, readable, written_readable}
-use Rattle.facts.proofs.Offsets.{address_of_word, place_of_address, place_behind, word_of_address, defined_inside}
-use Rattle.facts.proofs.Offsets.{offset_of_word, words_of_region, all_words_at}
-use Rattle.facts.proofs.Lending.{byte_index, number_means, wider_means, same_word, run_byte, IsRegionKind, IsPart, of_frame}
-use Rattle.facts.proofs.Lending.{of_constants, of_parameter, PartOf, Part, Lends}
-use Rattle.facts.proofs.Reaching.{natural}
+use Rattle.facts.specs.CallRules.{Calling, callee_word, given, lent_from, suits, parameter_suits}
+use Rattle.facts.specs.CallRules.{is_off_callee, may_use, words_fit, may_lend}
+use Rattle.facts.specs.CallRules.{lent_words}
+use Rattle.facts.specs.CallRules.{each_two}
+use Rattle.facts.proofs.Words.{word_test, plain_means}
+use Rattle.facts.proofs.Offsets.{offset_of_word}
+use Rattle.facts.proofs.Lending.{wider_means, IsRegionKind}
 
 -- ---- tests
 
@@ -118,7 +93,8 @@ stepped_natural z n is stepped = elim (eqb_tells (n % 4) 0) [
 ]
 
 -- a region's kind is that of its equal
-pub no_region : (kind other : ParameterKind) (total : ℕ) (low high : ℤ) → other ≡ kind → IsRegionKind other total low high
+pub no_region : (kind other : ParameterKind) (total : ℕ) (low high : ℤ) → other ≡ kind
+    → IsRegionKind other total low high
     → is_region kind ≡ true
 no_region kind other total low high e (inl is) = ap is_region (sym e ∙ is)
 no_region kind other total low high e (inr is) = ap is_region (sym e ∙ is)
@@ -185,7 +161,8 @@ pub signed_fits : (n : ℕ) → n < 4294967296 → FitsSigned w32 (cast_signed w
 signed_fits n low = search (rules, arith, ints)
 
 -- A word of the constants is a number from lo to hi, where that is the range of the row in which it lies with others.
-pub constant_known : (m : Contents) (wf : IsWellFormed m) (act : Activation) {h : Holding} (memory : Memory) → HasConstants m h memory
+pub constant_known : (m : Contents) (wf : IsWellFormed m) (act : Activation) {h : Holding} (memory : Memory)
+    → HasConstants m h memory
     → (first : ℤ) (start : ℕ) (end lo hi : ℤ) (place i : ℕ) → place ≡ constants_start m + i → i % 4 ≡ 0 → first ≤ℤ pos i
     → pos (i + 4) ≤ℤ end → i + 4 ≤ length m.constants
     → lies_within (constant_range m first end).lo (constant_range m first end).hi lo hi ≡ true
@@ -202,7 +179,8 @@ constant_known m wf act memory has first start end lo hi place i at even low hig
     small : (j : ℕ) → get_or m.constants j 0 < 256
     small j = wf.constant_bytes j
 
-    word_is : joined (byte_at memory place) (byte_at memory (place + 1)) (byte_at memory (place + 2)) (byte_at memory (place + 3))
+    word_is : joined (byte_at memory place) (byte_at memory (place + 1)) (byte_at memory (place + 2))
+        (byte_at memory (place + 3))
         ≡ Some (word_in m.constants i)
     word_is = rw (
       byte 0 place (omega arith) (omega arith),
@@ -212,15 +190,22 @@ constant_known m wf act memory has first start end lo hi place i at even low hig
     ) refl
 
     fits : FitsSigned w32 (word_in m.constants i)
-    fits = signed_fits _ (let a = small (i + 0) in let b = small (i + 1) in let c = small (i + 2) in let d = small (i + 3) in omega arith)
+    fits = signed_fits _ (let a = small (i + 0) in let b = small (i + 1) in let c = small (i + 2) in
+        let d = small (i + 3) in omega arith)
 
     of_word : lo ≤ℤ word_in m.constants i → word_in m.constants i ≤ℤ hi
-        → Means m act.layout (Number lo hi) (joined (byte_at memory place) (byte_at memory (place + 1)) (byte_at memory (place + 2)) (byte_at memory (place + 3)))
-    of_word from to = subst (λ (v : Option ℤ). Means m act.layout (Number lo hi) v) (sym word_is) (is_number from to fits)
+        → Means m act.layout (Number lo hi)
+        (joined (byte_at memory place) (byte_at memory (place + 1)) (byte_at memory (place + 2))
+        (byte_at memory (place + 3)))
+    of_word from to = subst (λ (v : Option ℤ). Means m act.layout (Number lo hi) v) (sym word_is)
+        (is_number from to fits)
 
     on_row : (o : Option TableRow) → find (lie_in_row first end) m.table_rows ≡ o
-        → lies_within (unwrap_or (option_map range_of_row o) full).lo (unwrap_or (option_map range_of_row o) full).hi lo hi ≡ true
-        → Means m act.layout (Number lo hi) (joined (byte_at memory place) (byte_at memory (place + 1)) (byte_at memory (place + 2)) (byte_at memory (place + 3)))
+        → lies_within (unwrap_or (option_map range_of_row o) full).lo
+        (unwrap_or (option_map range_of_row o) full).hi lo hi ≡ true
+        → Means m act.layout (Number lo hi)
+        (joined (byte_at memory place) (byte_at memory (place + 1)) (byte_at memory (place + 2))
+        (byte_at memory (place + 3)))
     on_row None e h =
         let both = and-parts (int_le lo full.lo) (int_le full.hi hi) h in
         let from = le-from lo full.lo both.0 in
@@ -239,7 +224,8 @@ constant_known m wf act memory has first start end lo hi place i at even low hig
 
 -- a place so many words further
 pub stepped_further : (z k : ℤ) → is_stepped z ≡ true → is_stepped (place_in z k) ≡ true
-stepped_further z k h = is_whole (place_in z k) (word_of_byte z +ℤ k) (let e = offset_of_word z h in omega (arith, ints, e))
+stepped_further z k h = is_whole (place_in z k) (word_of_byte z +ℤ k)
+    (let e = offset_of_word z h in omega (arith, ints, e))
   where
     is_whole : (y q : ℤ) → y ≡ pos 4 *ℤ q → is_stepped y ≡ true
     is_whole (pos n) q e = eq-eqb (n % 4) 0 (omega (arith, ints))
@@ -268,7 +254,8 @@ constants_aligned m n e = eq-eqb ((constants_start m + n) % 4) 0 (padded m.data_
     padded : (words code n : ℕ) → n ≡ 4 * (n / 4) → (4 * words + code + (4 - code % 4) % 4 + n) % 4 ≡ 0
     padded words code n e = omega arith
 
-pub constants_near : (m : Contents) (n : ℕ) → IsWellFormed m → n ≤ length m.constants → constants_start m + n ≤ 2147483391
+pub constants_near : (m : Contents) (n : ℕ) → IsWellFormed m → n ≤ length m.constants
+    → constants_start m + n ≤ 2147483391
 constants_near m n wf low = omega (arith, wf.short_code, wf.few_words, wf.few_constants)
 
 -- the ranges of a region's kind
@@ -288,18 +275,21 @@ found_row n [] at e h = absurd (cc)
 found_row n (p ∷ ps) at e h = elim (number_test p.entry at) [
   | inl here ↦
       let found : Some (record { context = n; procedure = p }) ≡ Some e =
-      sym (ap (λ (b : Bool). cond b (Some (record { context = n; procedure = p })) (procedure_from (n + 1) ps at)) here.0) ∙ h in
+      sym (ap (λ (b : Bool). cond b (Some (record { context = n; procedure = p })) (procedure_from (n + 1) ps at))
+      here.0) ∙ h in
       let is : record { context = n; procedure = p } ≡ e = cc in
       let context_is : n ≡ e.context = ap (λ (x : Entered). x.context) is in
       let procedure_is : p ≡ e.procedure = ap (λ (x : Entered). x.procedure) is in (
         omega (arith, context_is),
         (let first : 0 ≡ e.context - n = omega (arith, context_is) in
-            subst (λ (k : ℕ). slice_get (p ∷ ps) k ≡ Some e.procedure) first (ap (λ (x : Procedure). Some x) procedure_is)),
+            subst (λ (k : ℕ). slice_get (p ∷ ps) k ≡ Some e.procedure) first
+            (ap (λ (x : Procedure). Some x) procedure_is)),
         sym (ap (λ (x : Procedure). x.entry) procedure_is) ∙ here.1,
       )
   | inr there ↦
       let rest = found_row (n + 1) ps at e
-      (sym (ap (λ (b : Bool). cond b (Some (record { context = n; procedure = p })) (procedure_from (n + 1) ps at)) there.0) ∙ h) in
+      (sym (ap (λ (b : Bool). cond b (Some (record { context = n; procedure = p })) (procedure_from (n + 1) ps at))
+      there.0) ∙ h) in
       let low = rest.0 in (
         omega arith,
         (let next : suc (e.context - (n + 1)) ≡ e.context - n = omega arith in
@@ -365,7 +355,11 @@ unfolding lent_from
 lent_fact size lo hi w (Alone (Pointer region low high Word)) l h = elim (word_test low high) [
   | inl e ↦
       let is : Some (record { region = region; first = low; size = size; lo = lo; hi = hi; is_written = w }) ≡ Some l =
-      sym (ap (λ (b : Bool). cond b (Some (record { region = region; first = low; size = size; lo = lo; hi = hi; is_written = w })) None) e.0) ∙ h in
+      sym
+      (ap
+      (λ (b : Bool). cond b
+      (Some (record { region = region; first = low; size = size; lo = lo; hi = hi; is_written = w })) None)
+      e.0) ∙ h in
       let same : record { region = region; first = low; size = size; lo = lo; hi = hi; is_written = w } ≡ l = cc in
       let r : region ≡ l.region = ap (λ (x : Lent). x.region) same in
       let f : low ≡ l.first = ap (λ (x : Lent). x.first) same in (
@@ -376,7 +370,11 @@ lent_fact size lo hi w (Alone (Pointer region low high Word)) l h = elim (word_t
       )
   | inr e ↦
       let no' : None ≡ Some l =
-      sym (ap (λ (b : Bool). cond b (Some (record { region = region; first = low; size = size; lo = lo; hi = hi; is_written = w })) None) e.0) ∙ h in
+      sym
+      (ap
+      (λ (b : Bool). cond b
+      (Some (record { region = region; first = low; size = size; lo = lo; hi = hi; is_written = w })) None)
+      e.0) ∙ h in
       absurd (cc)
 ]
 lent_fact size lo hi w (Alone (Pointer region low high Byte)) l h = absurd (cc)
@@ -389,7 +387,8 @@ lent_fact size lo hi w (Index loop) l h = absurd (cc)
 lent_fact size lo hi w (Count loop) l h = absurd (cc)
 
 -- what is known of words together holds of each of them, where all are numbers
-pub together_means : {m : Contents} {act : Activation} (facts : Facts) (first : ℤ) (count i : ℕ) (v : Option ℤ) → i < count
+pub together_means : {m : Contents} {act : Activation} (facts : Facts) (first : ℤ) (count i : ℕ)
+    (v : Option ℤ) → i < count
     → (together facts first count).are_numbers ≡ true
     → MeansWord m act (first +ℤ pos i) (facts (first +ℤ pos i)) v
     → Means m act.layout (Number (together facts first count).lo (together facts first count).hi) v
@@ -401,15 +400,22 @@ together_means {m} {act} facts first (suc more) i v low numbers means =
     rest : Together
     rest = together facts first more
 
-    of_last : i ≡ more → (lo hi : ℤ) → plain (facts (first +ℤ pos more)) ≡ Number lo hi → Means m act.layout (Number lo hi) v
+    of_last : i ≡ more → (lo hi : ℤ) → plain (facts (first +ℤ pos more)) ≡ Number lo hi
+        → Means m act.layout (Number lo hi) v
     of_last e lo hi is =
         subst (λ (f : Fact). Means m act.layout f v) (ap (λ (n : ℕ). plain (facts (first +ℤ pos n))) e ∙ is)
         (plain_means m act (first +ℤ pos i) (facts (first +ℤ pos i)) v means)
 
-    no_number : (f : Fact) → plain (facts (first +ℤ pos more)) ≡ f → (with_plain f (record rest { are_alone = rest.are_alone && is_alone (facts (first +ℤ pos more)) })).are_numbers ≡ false
+    no_number : (f : Fact) → plain (facts (first +ℤ pos more)) ≡ f
+        → (with_plain f
+        (record rest { are_alone = rest.are_alone && is_alone (facts (first +ℤ pos more)) })).are_numbers ≡ false
         → Means m act.layout (Number (together facts first (suc more)).lo (together facts first (suc more)).hi) v
     no_number f e none =
-        let no' : false ≡ true = sym none ∙ ap (λ (g : Fact). (with_plain g (record rest { are_alone = rest.are_alone && is_alone (facts (first +ℤ pos more)) })).are_numbers) (sym e) ∙ numbers in
+        let no' : false ≡ true = sym none ∙ ap
+        (λ (g : Fact).
+        (with_plain g
+        (record rest { are_alone = rest.are_alone && is_alone (facts (first +ℤ pos more)) })).are_numbers)
+        (sym e) ∙ numbers in
         absurd (cc)
 
     on_plain : (f : Fact) → plain (facts (first +ℤ pos more)) ≡ f
@@ -417,12 +423,20 @@ together_means {m} {act} facts first (suc more) i v low numbers means =
         → Means m act.layout (Number (together facts first (suc more)).lo (together facts first (suc more)).hi) v
     on_plain (Number lo hi) e earlier_means =
         subst (λ (t : Together). Means m act.layout (Number t.lo t.hi) v)
-        (ap (λ (g : Fact). with_plain g (record rest { are_alone = rest.are_alone && is_alone (facts (first +ℤ pos more)) })) (sym e))
+        (ap
+        (λ (g : Fact). with_plain g (record
+        rest { are_alone = rest.are_alone && is_alone (facts (first +ℤ pos more)) })) (sym e))
         (elim (cases_eq i more) [
           | inl last ↦ wider_means (omega (arith, ints, clamps)) (omega (arith, ints, clamps)) (of_last last lo hi e)
           | inr earlier ↦
               let all : rest.are_numbers ≡ true =
-              ap (λ (g : Fact). (with_plain g (record rest { are_alone = rest.are_alone && is_alone (facts (first +ℤ pos more)) })).are_numbers) (sym e) ∙ numbers in
+              ap
+              (λ (g : Fact).
+              (with_plain g
+              (record rest {
+                are_alone = rest.are_alone && is_alone
+                    (facts (first +ℤ pos more));
+              })).are_numbers) (sym e) ∙ numbers in
               wider_means (omega (arith, ints, clamps)) (omega (arith, ints, clamps))
               (earlier_means (omega arith) all)
         ])
@@ -448,17 +462,20 @@ abbrev pub second_given : Calling → Parameter → WordFact
 second_given c q = if q.word == 2 then Alone c.state.stack.b.fact else third_given c q
 
 -- what is given is known of the callee's word
-pub given_is : (c : Calling) (q : Parameter) → HasPassed c.state → given c q ≡ c.state.frame (callee_word c.state (pos q.word))
+pub given_is : (c : Calling) (q : Parameter) → HasPassed c.state
+    → given c q ≡ c.state.frame (callee_word c.state (pos q.word))
 given_is c q has = elim (number_test q.word 1) [
   | inl e ↦ ap (λ (b : Bool). if b then Alone c.state.stack.a.fact else second_given c q) e.0 ∙ sym has.a
       ∙ ap (λ (n : ℕ). c.state.frame (callee_word c.state (pos n))) (sym e.1)
-  | inr e ↦ ap (λ (b : Bool). if b then Alone c.state.stack.a.fact else second_given c q) e.0 ∙ elim (number_test q.word 2) [
-    | inl f ↦ ap (λ (b : Bool). if b then Alone c.state.stack.b.fact else third_given c q) f.0 ∙ sym has.b
-        ∙ ap (λ (n : ℕ). c.state.frame (callee_word c.state (pos n))) (sym f.1)
-    | inr f ↦ ap (λ (b : Bool). if b then Alone c.state.stack.b.fact else third_given c q) f.0 ∙ elim (number_test q.word 3) [
-      | inl g ↦ ap (λ (b : Bool). if b then Alone c.state.stack.c.fact else here_given c q) g.0 ∙ sym has.c
-          ∙ ap (λ (n : ℕ). c.state.frame (callee_word c.state (pos n))) (sym g.1)
-      | inr g ↦ ap (λ (b : Bool). if b then Alone c.state.stack.c.fact else here_given c q) g.0
-    ]
-  ]
+  | inr e ↦ ap (λ (b : Bool). if b then Alone c.state.stack.a.fact else second_given c q) e.0
+      ∙ elim (number_test q.word 2) [
+        | inl f ↦ ap (λ (b : Bool). if b then Alone c.state.stack.b.fact else third_given c q) f.0 ∙ sym has.b
+            ∙ ap (λ (n : ℕ). c.state.frame (callee_word c.state (pos n))) (sym f.1)
+        | inr f ↦ ap (λ (b : Bool). if b then Alone c.state.stack.b.fact else third_given c q) f.0
+            ∙ elim (number_test q.word 3) [
+              | inl g ↦ ap (λ (b : Bool). if b then Alone c.state.stack.c.fact else here_given c q) g.0 ∙ sym has.c
+                  ∙ ap (λ (n : ℕ). c.state.frame (callee_word c.state (pos n))) (sym g.1)
+              | inr g ↦ ap (λ (b : Bool). if b then Alone c.state.stack.c.fact else here_given c q) g.0
+            ]
+      ]
 ]

@@ -1,59 +1,62 @@
 -- The rules of calls and returns fit their steps.
-use Rattle.std.proofs.Common.{◌≡◌, ℕ, zero, suc, ◌+◌, ◌-◌, ◌*◌, ◌%◌, ◌^◌, ◌≤◌, ◌<◌, ℤ, pos, negsuc, ◌+ℤ◌, ◌-ℤ◌, ◌*ℤ◌, ◌≤ℤ◌, ◌<ℤ◌}
+use Rattle.std.proofs.Common.{◌≡◌, ℕ, zero, suc, ◌+◌, ◌-◌, ◌*◌, ◌%◌, ◌^◌, ◌≤◌, ◌<◌, ℤ, pos, negsuc, ◌+ℤ◌, ◌-ℤ◌, ◌≤ℤ◌}
 use Rattle.std.proofs.Common.{FitsSigned, Bool, true, false, cond, if◌then◌else◌, ◌&&◌, inl, inr, List, [], ◌∷◌, length}
 use Rattle.std.proofs.Common.{Option, Some, None, refl, sym, ap, ◌∙◌, subst, arith, ltb}
-use Rattle.std.specs.Int.{w32, int_wrap, cast_signed, cast_unsigned}
+use Rattle.std.specs.Int.{w32, int_wrap}
 use Rattle.std.specs.Prelude.{nat_lt, nat_abs, ◌==◌, slice_get}
 use Rattle.std.specs.List.{list_all}
 use Rattle.std.proofs.lemmas.Bool.Decides.{leb_tells}
-use Rattle.std.proofs.lemmas.Int.{ints, of_z-to_z, SFits-int_wrap}
+use Rattle.std.proofs.lemmas.Int.{ints, SFits-int_wrap}
 use Rattle.states.proofs.RowFacts.{and-parts, and-both, le-yes, lt-yes}
 use Rattle.states.proofs.Procedures.{procedure-at}
 use Rattle.std.proofs.lemmas.Bool.{le-leb}
-use Rattle.std.proofs.Common.{◌||◌, leb}
+use Rattle.std.proofs.Common.{◌||◌}
 use Rattle.module_format.specs.Places.{branches_of}
 use Rattle.states.specs.declared.known.Mode.TheVariants as states_modes
 use Rattle.module_format.specs.Rows.{Fact}
-use Rattle.module_format.specs.declared.fact.Fact.TheVariants.{Unknown, Number, Pointer, CodeAddress, Loop, ReturnAddress}
+use Rattle.module_format.specs.declared.fact.Fact.TheVariants.{Unknown, Number, Pointer, CodeAddress, Loop}
+use Rattle.module_format.specs.declared.fact.Fact.TheVariants.{ReturnAddress}
 use Rattle.module_format.specs.declared.rows.Parameter.{Parameter}
 use Rattle.module_format.specs.Contents.{Contents, Procedure, Par, Branch}
 use Rattle.module_format.specs.Contexts.{first_branch, context_at}
-use Rattle.module_format.specs.Stack.{of_empty}
 use Rattle.certificate.specs.Rights as rights
 use Rattle.certificate.specs.Starts.{Entered, procedure_at}
-use Rattle.machine_state.specs.declared.process.Mode as machine
-use Rattle.machine_state.specs.declared.process.Mode.TheVariants as machine_modes
 use Rattle.machine_state.specs.declared.op.Op.TheVariants as operations
 use Rattle.machine_state.specs.declared.instruction.Instruction.TheVariants as instructions
 use Rattle.machine_state.specs.Memory.{Memory, place_of, local_address, data_start, word_at, with_word}
-use Rattle.machine_state.specs.Holding.{Holding}
 use Rattle.machine_state.specs.Site.{Outcome, Local, lands}
 use Rattle.machine_state.specs.LocalStep as step
 use Rattle.machine_state.specs.LocalStep.{target}
-use Rattle.machine_state.proofs.Reading.{word_at-with_word, length-with_word}
+use Rattle.machine_state.proofs.Reading.{word_at-with_word}
 use Rattle.machine_state.proofs.Frame.{write_is_own, changes_more}
 use Rattle.states.specs.declared.rule.Rule.{Rule}
 use Rattle.states.specs.declared.rule.Rule.TheVariants as rules
 use Rattle.states.specs.declared.known.WordFact.{WordFact}
 use Rattle.states.specs.declared.known.WordFact.TheVariants.{Alone, Index, Count}
-use Rattle.states.specs.State.{State, Facts, is_word, is_parted, by_itself, with_fact, changed, written, procedure_state, procedure_facts}
+use Rattle.states.specs.State.{State, Facts, is_word, is_parted, by_itself, with_fact, changed, written}
+use Rattle.states.specs.State.{procedure_state, procedure_facts}
 use Rattle.states.specs.State.{parameter_facts, parameter_fact}
-use Rattle.facts.specs.Regions.{scope_of, HoldsNamed, Keeps}
+use Rattle.facts.specs.Regions.{scope_of, HoldsNamed}
 use Rattle.facts.specs.Rulings as ruling
 use Rattle.facts.specs.Rulings.{Ruling, calls, returns, breaks}
 use Rattle.facts.specs.CallRules as rule
 use Rattle.facts.specs.declared.lent.Lent.{Lent}
-use Rattle.facts.specs.CallRules.{Calling, passes, passing, callee_word, frame_is_own, frame_size, with_lent, with_all_lent, lent}
-use Rattle.facts.specs.CallRules.{ends_are_given, callee_span, behind_call, wants, spends, calls_procedure, call_rule, return_rule, may_return}
-use Rattle.facts.specs.Meaning.{Layout, Activation, Means, says_nothing, is_return_address, MeansWord, is_fact, word_of, code_address}
-use Rattle.facts.specs.Meaning.{place_in, frame_word, HasFrame, IsWellFormed, SameMode, both_plain, dues, dues_from, loop_due, owed}
-use Rattle.facts.specs.Meaning.{farthest_word}
-use Rattle.facts.specs.Fitting.{After, Here, Changes, rule_site, step_site, Fits, it_calls, it_returns, it_breaks, Caller, Resumes, GoesOn, Waits}
+use Rattle.facts.specs.CallRules.{Calling, passes, passing, callee_word, frame_is_own, frame_size, with_lent}
+use Rattle.facts.specs.CallRules.{with_all_lent, lent}
+use Rattle.facts.specs.CallRules.{ends_are_given, callee_span, behind_call, wants, spends, calls_procedure, call_rule}
+use Rattle.facts.specs.CallRules.{return_rule, may_return}
+use Rattle.facts.specs.Meaning.{Layout, Activation, Means, says_nothing, is_return_address, MeansWord, is_fact, word_of}
+use Rattle.facts.specs.Meaning.{code_address}
+use Rattle.facts.specs.Meaning.{place_in, frame_word, IsWellFormed, SameMode, both_plain, dues, dues_from, loop_due}
+use Rattle.facts.specs.Meaning.{owed}
+use Rattle.facts.specs.Fitting.{After, Here, Changes, rule_site, step_site, it_calls, it_returns, it_breaks, Waits}
 use Rattle.facts.proofs.Words.{word_test, frame_word_is, stored_means, local_place}
 use Rattle.facts.proofs.Dues.{changed_dues, written_owed}
 use Rattle.facts.proofs.Regions.{keeps_more, write_keeps}
-use Rattle.facts.proofs.Combining.{FitsIf, on_rule_test, on_step_test, writes_fits, reads_fits, write_step, after_write, in_plain_rule}
-use Rattle.facts.proofs.Combining.{beside_plain_rule, in_plain_step, rule_plain, step_plain, same_frame, unknown_means, enough, below_not}
+use Rattle.facts.proofs.Combining.{FitsIf, on_rule_test, on_step_test, writes_fits, reads_fits, write_step, after_write}
+use Rattle.facts.proofs.Combining.{in_plain_rule}
+use Rattle.facts.proofs.Combining.{beside_plain_rule, in_plain_step, rule_plain, step_plain, same_frame, unknown_means}
+use Rattle.facts.proofs.Combining.{enough, below_not}
 use Rattle.facts.proofs.Combining.{written_readable}
 use Rattle.facts.proofs.Lending.{lift, lift_named}
 use Rattle.facts.proofs.Resuming.{lent_span, resumes_words}
@@ -68,7 +71,8 @@ use Rattle.facts.proofs.Offsets.{address_of_word, all_words_at}
 -- a fact that a word gets is its own, and stays where other words get one
 fact_here : (j k : ℤ) (fact : Fact) (facts : Facts) → k ≡ j → with_fact j fact facts k ≡ Alone fact
 fact_here j k fact facts e = elim (word_test k j) [
-  | inl p ↦ ap (λ (b : Bool). cond b (Alone fact) (cond (is_parted (λ i. is_word i j) k (facts k)) (Alone (by_itself (facts k))) (facts k))) p.0
+  | inl p ↦ ap (λ (b : Bool). cond b (Alone fact)
+      (cond (is_parted (λ i. is_word i j) k (facts k)) (Alone (by_itself (facts k))) (facts k))) p.0
   | inr p ↦ absurd (p.1 e)
 ]
 
@@ -76,7 +80,8 @@ fact_stays : (j k : ℤ) (fact other : Fact) (facts : Facts) → (k ≡ j → �
     → with_fact j fact facts k ≡ Alone other
 fact_stays j k fact other facts differ e = elim (word_test k j) [
   | inl p ↦ absurd (differ p.1)
-  | inr p ↦ ap (λ (b : Bool). cond b (Alone fact) (cond (is_parted (λ i. is_word i j) k (facts k)) (Alone (by_itself (facts k))) (facts k))) p.0
+  | inr p ↦ ap (λ (b : Bool). cond b (Alone fact)
+      (cond (is_parted (λ i. is_word i j) k (facts k)) (Alone (by_itself (facts k))) (facts k))) p.0
       ∙ ap (λ (f : WordFact). cond (is_parted (λ i. is_word i j) k f) (Alone (by_itself f)) f) e
 ]
 
@@ -93,19 +98,26 @@ has_passed s =
     let two : Facts = with_fact (d +ℤ negsuc 1) s.stack.b.fact one in
     let three : Facts = with_fact (d +ℤ negsuc 2) s.stack.a.fact two in
     record {
-      a = fact_stays (d +ℤ negsuc 3) ((d +ℤ negsuc 3) +ℤ pos 1) Unknown s.stack.a.fact three (λ e. omega (arith, ints, e))
+      a = fact_stays (d +ℤ negsuc 3) ((d +ℤ negsuc 3) +ℤ pos 1) Unknown s.stack.a.fact three
+          (λ e. omega (arith, ints, e))
           (fact_here (d +ℤ negsuc 2) ((d +ℤ negsuc 3) +ℤ pos 1) s.stack.a.fact two (omega (arith, ints)));
-      b = fact_stays (d +ℤ negsuc 3) ((d +ℤ negsuc 3) +ℤ pos 2) Unknown s.stack.b.fact three (λ e. omega (arith, ints, e))
-          (fact_stays (d +ℤ negsuc 2) ((d +ℤ negsuc 3) +ℤ pos 2) s.stack.a.fact s.stack.b.fact two (λ e. omega (arith, ints, e))
+      b = fact_stays (d +ℤ negsuc 3) ((d +ℤ negsuc 3) +ℤ pos 2) Unknown s.stack.b.fact three
+          (λ e. omega (arith, ints, e))
+          (fact_stays (d +ℤ negsuc 2) ((d +ℤ negsuc 3) +ℤ pos 2) s.stack.a.fact s.stack.b.fact two
+          (λ e. omega (arith, ints, e))
           (fact_here (d +ℤ negsuc 1) ((d +ℤ negsuc 3) +ℤ pos 2) s.stack.b.fact one (omega (arith, ints))));
-      c = fact_stays (d +ℤ negsuc 3) ((d +ℤ negsuc 3) +ℤ pos 3) Unknown s.stack.c.fact three (λ e. omega (arith, ints, e))
-          (fact_stays (d +ℤ negsuc 2) ((d +ℤ negsuc 3) +ℤ pos 3) s.stack.a.fact s.stack.c.fact two (λ e. omega (arith, ints, e))
-          (fact_stays (d +ℤ negsuc 1) ((d +ℤ negsuc 3) +ℤ pos 3) s.stack.b.fact s.stack.c.fact one (λ e. omega (arith, ints, e))
+      c = fact_stays (d +ℤ negsuc 3) ((d +ℤ negsuc 3) +ℤ pos 3) Unknown s.stack.c.fact three
+          (λ e. omega (arith, ints, e))
+          (fact_stays (d +ℤ negsuc 2) ((d +ℤ negsuc 3) +ℤ pos 3) s.stack.a.fact s.stack.c.fact two
+          (λ e. omega (arith, ints, e))
+          (fact_stays (d +ℤ negsuc 1) ((d +ℤ negsuc 3) +ℤ pos 3) s.stack.b.fact s.stack.c.fact one
+          (λ e. omega (arith, ints, e))
           (fact_here (d +ℤ negsuc 0) ((d +ℤ negsuc 3) +ℤ pos 3) s.stack.c.fact s.frame (omega (arith, ints)))));
     }
 
 -- where a word may be written, it is passed
-passes_is : (m : Contents) (e : ℤ) (fact : Fact) (s t : State) → s ≡ t → rights.may_write_word m t.context (t.depth +ℤ e) ≡ true
+passes_is : (m : Contents) (e : ℤ) (fact : Fact) (s t : State) → s ≡ t
+    → rights.may_write_word m t.context (t.depth +ℤ e) ≡ true
     → passes m e fact s ≡ written (t.depth +ℤ e) fact t
 unfolding passes
 passes_is m e fact s t same may =
@@ -118,7 +130,8 @@ passing_is : (m : Contents) (s : State) → rights.may_write_word m s.context (s
     → rights.may_write_word m s.context (s.depth +ℤ negsuc 3) ≡ true → passing m s ≡ all_passed s
 unfolding written
 passing_is m s t0 t1 t2 t3 =
-    passes_is m (negsuc 3) Unknown _ _ (passes_is m (negsuc 2) s.stack.a.fact _ _ (passes_is m (negsuc 1) s.stack.b.fact _ _
+    passes_is m (negsuc 3) Unknown _ _ (passes_is m (negsuc 2) s.stack.a.fact _ _
+    (passes_is m (negsuc 1) s.stack.b.fact _ _
     (passes_is m (negsuc 0) s.stack.c.fact s s refl t0) t1) t2) t3
 
 -- the callee's frame, where it lies in own words, has the four words below the workspace
@@ -131,7 +144,8 @@ own_below m s p low high e own above below =
     let n = natural (p.hi -ℤ p.lo) (omega (arith, ints, low, high)) in
     let i = natural (e -ℤ negsuc 3 -ℤ p.lo) (omega (arith, ints, low, above)) in
     let size : frame_size p ≡ n.0 = ap nat_abs n.1 in
-    let at = all_words_at (rights.may_write_word m (passing m s).context) (callee_word (passing m s) p.lo) (frame_size p) i.0 own
+    let at = all_words_at (rights.may_write_word m (passing m s).context) (callee_word (passing m s) p.lo)
+    (frame_size p) i.0 own
     (omega (arith, ints, i.1, n.1, size, high, below)) in
     let d = place.depth in
     subst (λ (n : ℕ). rights.may_write_word m n (s.depth +ℤ e) ≡ true) place.context
@@ -179,7 +193,8 @@ procedure_dues : (p : Procedure) (turns : ℤ → ℕ) → dues (procedure_facts
 unfolding dues
 procedure_dues p turns = alone_from (procedure_facts p) turns _ _ (procedure_alone p)
 
-lent_dues : (c : Calling) (ps : List Parameter) (facts : Facts) (turns : ℤ → ℕ) → dues (with_all_lent c ps facts) turns ≤ dues facts turns
+lent_dues : (c : Calling) (ps : List Parameter) (facts : Facts) (turns : ℤ → ℕ)
+    → dues (with_all_lent c ps facts) turns ≤ dues facts turns
 lent_dues c [] facts turns = omega arith
 lent_dues c (p ∷ ps) facts turns =
     let rest = lent_dues c ps (with_lent (lent c p) facts) turns in
@@ -204,7 +219,8 @@ return_address m back = refl
 -- the workspace four words below another
 four_below : (workspace place : ℕ) (origin depth : ℤ) → pos workspace ≡ pos data_start +ℤ place_in origin depth
     → pos place ≡ place_in origin (depth +ℤ negsuc 3) → place ≤ 1048576
-    → pos (local_address workspace (negsuc 3)) ≡ pos data_start +ℤ place_in (place_in origin (depth +ℤ negsuc 3)) (pos 0)
+    → pos (local_address workspace (negsuc 3)) ≡ pos data_start +ℤ place_in
+    (place_in origin (depth +ℤ negsuc 3)) (pos 0)
 unfolding local_address
 four_below workspace place origin depth at is low = omega (arith, ints)
 
@@ -234,13 +250,15 @@ module _ (x : Here) where
   lands_fits : (to : ℕ) (r : Ruling) (l : Local) → to < length x.m.code → FitsIf x r (lands to l)
       → FitsIf x r (step.lands_at (step_site x) to l)
   unfolding step.lands_at
-  lands_fits to r l low go = on_step_test x (ltb to (length x.m.code)) r _ _ (λ t. go) (λ t. absurd (below_not _ _ low t))
+  lands_fits to r l low go = on_step_test x (ltb to (length x.m.code)) r _ _ (λ t. go)
+      (λ t. absurd (below_not _ _ low t))
 
   module _ (wf : IsWellFormed x.m) (s : State) (l : Local) (a : After x.m x.h x.mode x.act s l)
       (same : s.context ≡ x.context) (changes : Changes x l.memory) (n : owed s x.act ≤ x.owed) where
     -- ---- a procedure that is called
 
-    module _ (to : ℕ) (f : Entered) (some : 1 ≤ f.context) (is : slice_get x.m.procedures (f.context - 1) ≡ Some f.procedure)
+    module _ (to : ℕ) (f : Entered) (some : 1 ≤ f.context)
+        (is : slice_get x.m.procedures (f.context - 1) ≡ Some f.procedure)
         (found : procedure_at x.m to ≡ Some f) (entry : f.procedure.entry ≡ to) where
       abbrev call_in : State → Calling
       call_in z = record { contents = x.m; state = z; callee = f.procedure }
@@ -278,31 +296,37 @@ module _ (x : Here) where
         in_callee = step.without_registers (step.with_workspace workspace passed_local)
 
         named : x.at + x.len < length x.m.code → HoldsNamed x.m x.h (scope_of x.m f.context layout) memory
-        named inside = passing_of.callee_named x.m x.h x.mode x.act (all_passed s) passed_local wf a4 f.procedure f.context some
+        named inside = passing_of.callee_named x.m x.h x.mode x.act
+            (all_passed s) passed_local wf a4 f.procedure f.context some
             is (x.at + x.len) own (has_passed s) numbers pointers beside held inside
 
         low_frame : (f.procedure.lo ≤ℤ pos 0) × (pos 4 ≤ℤ f.procedure.hi)
         low_frame = let row = (wf.procedures (f.context - 1) f.procedure is).1 in (row.lo_high, row.hi_low)
 
-        in_place : pos workspace ≡ pos data_start +ℤ place_in (place_in x.act.layout.origin (s.depth +ℤ negsuc 3)) (pos 0)
+        in_place : pos workspace ≡ pos data_start +ℤ place_in
+            (place_in x.act.layout.origin (s.depth +ℤ negsuc 3)) (pos 0)
         unfolding written
         in_place =
-            let t = passing_of.own_word x.m x.h x.mode x.act (all_passed s) passed_local wf a4 f.procedure f.context some is
+            let t = passing_of.own_word x.m x.h x.mode x.act
+            (all_passed s) passed_local wf a4 f.procedure f.context some is
             (x.at + x.len) own (has_passed s) (pos 0) (low_frame.0) (let h = low_frame.1 in omega (arith, ints, h)) in
             let w = a4.frame.own ((s.depth +ℤ negsuc 3) +ℤ pos 0) t in
             let at = w.is in
-            four_below l.registers.workspace w.place x.act.layout.origin s.depth a4.frame.start (omega (arith, ints, at))
+            four_below l.registers.workspace w.place x.act.layout.origin s.depth a4.frame.start
+            (omega (arith, ints, at))
             (let i = w.inside in let b = a4.frame.small in omega arith)
 
         after_call : x.at + x.len < length x.m.code
             → After x.m x.h x.mode callee_act (procedure_state f.context f.procedure) in_callee
         unfolding written
         after_call inside = record {
-          frame = passing_of.callee_frame x.m x.h x.mode x.act (all_passed s) passed_local wf a4 f.procedure f.context some is
+          frame = passing_of.callee_frame x.m x.h x.mode x.act
+              (all_passed s) passed_local wf a4 f.procedure f.context some is
               (x.at + x.len) own (has_passed s) workspace in_place;
           knows = record {
             registers = record { a = unknown_means; b = unknown_means; c = unknown_means };
-            words = λ k t. passing_of.callee_words x.m x.h x.mode x.act (all_passed s) passed_local wf a4 f.procedure f.context
+            words = λ k t. passing_of.callee_words x.m x.h x.mode x.act
+                (all_passed s) passed_local wf a4 f.procedure f.context
                 some is (x.at + x.len) own (has_passed s) numbers pointers beside held returned k;
           };
           named = named inside;
@@ -313,7 +337,8 @@ module _ (x : Here) where
             (record { act = x.act; state = behind_in (all_passed s); workspace = l.registers.workspace }) memory
         unfolding behind_call written
         waits inside =
-            let lends = passing_of.lends x.m x.h x.mode x.act (all_passed s) passed_local wf a4 f.procedure f.context some is
+            let lends = passing_of.lends x.m x.h x.mode x.act
+            (all_passed s) passed_local wf a4 f.procedure f.context some is
             (x.at + x.len) own (has_passed s) numbers pointers beside held in
             record {
               goes_on = record {
@@ -327,9 +352,11 @@ module _ (x : Here) where
                 frame = same_frame (sym keeps.size) a4.frame;
                 words = resumes_words x.m x.h x.act (all_passed s) f.procedure f.context layout lends memory later keeps
                     a4.named (keeps.named (named inside))
-                    (passing_of.parameters_are x.m x.h x.mode x.act (all_passed s) passed_local wf a4 f.procedure f.context
+                    (passing_of.parameters_are x.m x.h x.mode x.act
+                    (all_passed s) passed_local wf a4 f.procedure f.context
                     some is (x.at + x.len) own (has_passed s))
-                    (passing_of.linked x.m x.h x.mode x.act (all_passed s) passed_local wf a4 f.procedure f.context some is
+                    (passing_of.linked x.m x.h x.mode x.act
+                    (all_passed s) passed_local wf a4 f.procedure f.context some is
                     (x.at + x.len) own (has_passed s) numbers pointers beside held)
                     (passing_of.callee_word_inside x.m x.h x.mode x.act (all_passed s) passed_local wf a4 f.procedure
                     f.context some is (x.at + x.len) own (has_passed s))
@@ -339,7 +366,8 @@ module _ (x : Here) where
               };
             }
 
-        both_owed : owed (procedure_state f.context f.procedure) callee_act + owed (behind_in (all_passed s)) x.act + x.len
+        both_owed : owed (procedure_state f.context f.procedure) callee_act + owed
+            (behind_in (all_passed s)) x.act + x.len
             ≤ x.owed
         unfolding behind_call written
         both_owed =
@@ -363,7 +391,8 @@ module _ (x : Here) where
             let inside : x.at + x.len < length x.m.code = next _ refl in
             let row = (wf.procedures (f.context - 1) f.procedure is).1 in
             let low : to < length x.m.code = subst (λ (k : ℕ). k < length x.m.code) entry row.in_code in
-            it_calls callee_act l.registers.workspace found low (after_call inside) refl (waits inside) same c4 both_owed
+            it_calls callee_act l.registers.workspace found low (after_call inside) refl
+            (waits inside) same c4 both_owed
 
     -- ---- the step of a call
 
@@ -383,7 +412,8 @@ module _ (x : Here) where
         → rights.may_write_word x.m s.context (s.depth +ℤ negsuc 1) ≡ true
         → rights.may_write_word x.m s.context (s.depth +ℤ negsuc 2) ≡ true
         → rights.may_write_word x.m s.context (s.depth +ℤ negsuc 3) ≡ true
-        → ((memory : Memory) → After x.m x.h x.mode x.act (all_passed s) (record l { memory = memory }) → Changes x memory
+        → ((memory : Memory) → After x.m x.h x.mode x.act (all_passed s) (record l { memory = memory })
+        → Changes x memory
         → frame_word memory (place_in x.act.layout.origin (s.depth +ℤ negsuc 3)) (pos 0)
         ≡ Some (word_of (pos (code_address x.m (x.at + x.len))))
         → FitsIf x r (step.lands_at (step_site x) to (step.without_registers
@@ -407,23 +437,29 @@ module _ (x : Here) where
         (λ m3 a3 c3.
         let w = a3.frame.own (s.depth +ℤ negsuc 3) t3 in
         let word_is = return_address x.m (x.at + x.len) in
-        let fits : FitsSigned w32 return_word = subst (λ (z : ℤ). FitsSigned w32 z) (sym word_is) (SFits-int_wrap w32 _) in
-        writes_fits x (record l { memory = m3 }) (local_address l.registers.workspace (negsuc 3)) w.place (Some return_word) r _
+        let fits : FitsSigned w32 return_word = subst (λ (z : ℤ). FitsSigned w32 z) (sym word_is)
+        (SFits-int_wrap w32 _) in
+        writes_fits x (record l { memory = m3 }) (local_address l.registers.workspace (negsuc 3)) w.place
+        (Some return_word) r _
         (local_place a3.frame (negsuc 3) (omega (arith, ints)) w.place w.is w.inside) w.mine
         (go (with_word m3 w.place (Some return_word))
-        (after_write x third (record l { memory = m3 }) (negsuc 3) Unknown (Some return_word) a3 t3 w says_nothing) (record {
+        (after_write x third (record l { memory = m3 }) (negsuc 3) Unknown (Some return_word) a3 t3 w says_nothing)
+        (record {
           own = changes_more x.h x.memory m3 (with_word m3 w.place (Some return_word)) c3.own
               (write_is_own x.h m3 w.place (Some return_word) w.mine);
-          keeps = keeps_more c3.keeps (write_keeps x.m x.h (scope_of x.m x.context x.act.layout) (s.depth +ℤ negsuc 3) m3
+          keeps = keeps_more c3.keeps (write_keeps x.m x.h (scope_of x.m x.context x.act.layout)
+              (s.depth +ℤ negsuc 3) m3
               (Some return_word) (ap (λ (n : ℕ). rights.may_write_word x.m n (s.depth +ℤ negsuc 3)) (sym same) ∙ t3)
               (written_readable x.m x.context (s.depth +ℤ negsuc 3)
               (ap (λ (n : ℕ). rights.may_write_word x.m n (s.depth +ℤ negsuc 3)) (sym same) ∙ t3)) w);
         })
-        (frame_word_is (with_word m3 w.place (Some return_word)) (place_in x.act.layout.origin (s.depth +ℤ negsuc 3)) (pos 0) w.place
+        (frame_word_is (with_word m3 w.place (Some return_word)) (place_in x.act.layout.origin (s.depth +ℤ negsuc 3))
+        (pos 0) w.place
         (let at = w.is in omega (arith, ints, at))
         ∙ word_at-with_word m3 w.place return_word w.inside fits ∙ ap (λ (z : ℤ). Some z) word_is)))))
 
-    module _ (to : ℕ) (f : Entered) (some : 1 ≤ f.context) (is : slice_get x.m.procedures (f.context - 1) ≡ Some f.procedure)
+    module _ (to : ℕ) (f : Entered) (some : 1 ≤ f.context)
+        (is : slice_get x.m.procedures (f.context - 1) ≡ Some f.procedure)
         (found : procedure_at x.m to ≡ Some f) (entry : f.procedure.entry ≡ to) where
       procedure_fits : FitsIf x (calls_procedure (rule_site x) to s f) (passing_step to)
       unfolding calls_procedure ends_are_given behind_call written
@@ -433,10 +469,14 @@ module _ (x : Here) where
           in_plain_rule x s a.same_mode _ _ (beside_plain_rule x s a.same_mode _ _
           (wants_fits _ _ _ _ (λ may. wants_fits _ _ _ _ (λ own.
           let row = (wf.procedures (f.context - 1) f.procedure is).1 in
-          let t0 = own_below x.m s f.procedure row.lo_high row.hi_low (negsuc 0) own (omega (arith, ints)) (omega (arith, ints)) in
-          let t1 = own_below x.m s f.procedure row.lo_high row.hi_low (negsuc 1) own (omega (arith, ints)) (omega (arith, ints)) in
-          let t2 = own_below x.m s f.procedure row.lo_high row.hi_low (negsuc 2) own (omega (arith, ints)) (omega (arith, ints)) in
-          let t3 = own_below x.m s f.procedure row.lo_high row.hi_low (negsuc 3) own (omega (arith, ints)) (omega (arith, ints)) in
+          let t0 = own_below x.m s f.procedure row.lo_high row.hi_low (negsuc 0) own (omega (arith, ints))
+          (omega (arith, ints)) in
+          let t1 = own_below x.m s f.procedure row.lo_high row.hi_low (negsuc 1) own (omega (arith, ints))
+          (omega (arith, ints)) in
+          let t2 = own_below x.m s f.procedure row.lo_high row.hi_low (negsuc 2) own (omega (arith, ints))
+          (omega (arith, ints)) in
+          let t3 = own_below x.m s f.procedure row.lo_high row.hi_low (negsuc 3) own (omega (arith, ints))
+          (omega (arith, ints)) in
           settled (passing x.m s) (passing_is x.m s t0 t1 t2 t3) own numbers pointers beside (and-parts _ _ held).0
           t0 t1 t2 t3)))))))))
         where
@@ -449,7 +489,8 @@ module _ (x : Here) where
               → rights.may_write_word x.m s.context (s.depth +ℤ negsuc 1) ≡ true
               → rights.may_write_word x.m s.context (s.depth +ℤ negsuc 2) ≡ true
               → rights.may_write_word x.m s.context (s.depth +ℤ negsuc 3) ≡ true
-              → FitsIf x (spends (x.len + f.procedure.number) (behind_call (call_in to f some is found entry z)) (calls to)) (passing_step to)
+              → FitsIf x (spends (x.len + f.procedure.number) (behind_call (call_in to f some is found entry z))
+              (calls to)) (passing_step to)
           settled z e own numbers pointers beside held t0 t1 t2 t3 =
               subst (λ (y : State). FitsIf x (spends (x.len + f.procedure.number)
               (behind_call (call_in to f some is found entry y)) (calls to)) (passing_step to)) (sym e)
@@ -458,13 +499,17 @@ module _ (x : Here) where
               (wf.procedures (f.context - 1) f.procedure is).1.in_code)
               (called to f some is found entry
               (subst (λ (y : State). frame_is_own (call_in to f some is found entry y) ≡ true) e own)
-              (subst (λ (y : State). list_all (rule.numbers_fit (call_in to f some is found entry y)) f.procedure.parameters ≡ true) e numbers)
-              (subst (λ (y : State). list_all (rule.pointers_fit (call_in to f some is found entry y)) f.procedure.parameters ≡ true) e pointers)
+              (subst (λ (y : State). list_all (rule.numbers_fit (call_in to f some is found entry y))
+              f.procedure.parameters ≡ true) e numbers)
+              (subst (λ (y : State). list_all (rule.pointers_fit (call_in to f some is found entry y))
+              f.procedure.parameters ≡ true) e pointers)
               (subst (λ (y : State). rule.regions_are_apart (call_in to f some is found entry y) ≡ true) e beside)
-              (subst (λ (y : State). list_all (rule.ends_are_held (call_in to f some is found entry y)) f.procedure.parameters ≡ true) e held)
+              (subst (λ (y : State). list_all (rule.ends_are_held (call_in to f some is found entry y))
+              f.procedure.parameters ≡ true) e held)
               memory a4 c4 returned paid))))
 
-    pub call_fits : (e : ℤ) → FitsIf x (call_rule (rule_site x) e s) (step.instruction_step (step_site x) instructions.Call e l)
+    pub call_fits : (e : ℤ) → FitsIf x (call_rule (rule_site x) e s)
+        (step.instruction_step (step_site x) instructions.Call e l)
     unfolding call_rule step.instruction_step
     call_fits e = in_plain_step x s a.same_mode _ _ (on_found (procedure_at x.m (target (x.at + x.len) e)) refl)
       where
@@ -560,7 +605,8 @@ module _ (x : Here) where
     has_back r place is =
         sym (frame_word_is l.memory x.act.layout.origin (pos 0) place is)
         ∙ on_means (frame_word l.memory x.act.layout.origin (pos 0))
-        (subst (λ (f : WordFact). MeansWord x.m x.act (pos 0) f (frame_word l.memory x.act.layout.origin (pos 0))) r.fact
+        (subst (λ (f : WordFact). MeansWord x.m x.act (pos 0) f
+        (frame_word l.memory x.act.layout.origin (pos 0))) r.fact
         (a.knows.words (pos 0) r.reads))
       where
         on_means : (v : Option ℤ) → MeansWord x.m x.act (pos 0) (Alone ReturnAddress) v
@@ -575,7 +621,8 @@ module _ (x : Here) where
         let low = a.named.back in
         let few = wf.few_words in
         let short = wf.short_code in
-        ap (λ (n : ℕ). (n + 4294967296 - (data_start + 4 * x.m.data_words)) % 4294967296) (address_of_word (code_address x.m x.act.layout.back))
+        ap (λ (n : ℕ). (n + 4294967296 - (data_start + 4 * x.m.data_words)) % 4294967296)
+        (address_of_word (code_address x.m x.act.layout.back))
         ∙ offset x.m.data_words x.act.layout.back (omega arith) few
       where
         offset : (words back : ℕ) → back < 262144 → words ≤ 16384
@@ -594,7 +641,8 @@ module _ (x : Here) where
         (subst (λ (v : Option ℤ). FitsIf x returns (step.uses v (λ back. step.lands_at (step_site x)
         (step.code_offset (step_site x) (step.address back)) (step.without_registers (step.with_workspace
         (local_address l.registers.workspace (pos 4)) l))))) (sym (has_back r w.place w.is))
-        (subst (λ (to : ℕ). FitsIf x returns (step.lands_at (step_site x) to (step.without_registers (step.with_workspace
+        (subst (λ (to : ℕ). FitsIf x returns
+        (step.lands_at (step_site x) to (step.without_registers (step.with_workspace
         (local_address l.registers.workspace (pos 4)) l)))) (sym back_offset)
         (lands_fits x.act.layout.back returns _ a.named.back (λ next.
         it_returns (subst (λ (n : ℕ). 1 ≤ n) same r.some) (subst (λ (n : ℕ). n ≤ length x.m.procedures) same r.few)

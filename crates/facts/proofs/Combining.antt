@@ -1,14 +1,11 @@
 -- What the rules of instructions are made of fits what their steps are made of, combinator by combinator.
-use Rattle.std.proofs.Common.{lit<, ◌≡◌, ℕ, ◌+◌, ◌-◌, ◌≤◌, ◌<◌, ℤ, pos, negsuc, ◌+ℤ◌, FitsSigned, Bool, true, false}
-use Rattle.std.proofs.Common.{cond, if◌then◌else◌, ◌&&◌, ◌||◌, suc, inl, inr, length, Option, Some, None, Result, Ok}
+use Rattle.std.proofs.Common.{◌≡◌, ℕ, ◌+◌, ◌-◌, ◌≤◌, ◌<◌, ℤ, negsuc, ◌+ℤ◌, FitsSigned, Bool, true, false}
+use Rattle.std.proofs.Common.{cond, ◌&&◌, ◌||◌, suc, inl, inr, length, Option, Some, None, Result, Ok}
 use Rattle.std.proofs.Common.{Err, refl, sym, ap, ◌∙◌, subst, arith, ltb}
 use Rattle.std.proofs.lemmas.Bool.Decides.{leb_tells}
 use Rattle.std.proofs.lemmas.Int.{ints}
 use Rattle.std.specs.Int.{w32}
 use Rattle.std.specs.List.{list_any}
-use Rattle.prefix_decoder.specs.declared.function.Fun.{Fun}
-use Rattle.word_arithmetic.specs.declared.binary.Binary.{Binary as BinaryOperation}
-use Rattle.word_arithmetic.specs.Word.{least_word}
 use Rattle.module_format.specs.Rows.{Fact}
 use Rattle.module_format.specs.declared.fact.Fact.TheVariants.{Unknown, Number, Pointer, CodeAddress, Loop}
 use Rattle.module_format.specs.declared.fact.Fact.TheVariants.{ReturnAddress}
@@ -20,18 +17,11 @@ use Rattle.certificate.specs.Branches.{numbered_branch}
 use Rattle.certificate.specs.Rights as rights
 use Rattle.machine_state.specs.declared.process.Mode as machine
 use Rattle.machine_state.specs.declared.process.Mode.TheVariants as machine_modes
-use Rattle.machine_state.specs.declared.op.Op.{Op}
-use Rattle.machine_state.specs.declared.op.Op.TheVariants as operations
-use Rattle.machine_state.specs.declared.instruction.Instruction.{Instruction}
-use Rattle.machine_state.specs.declared.instruction.Instruction.TheVariants as instructions
-use Rattle.machine_state.specs.Instructions.{instruction_of}
 use Rattle.machine_state.specs.declared.fault.FaultKind.{FaultKind}
-use Rattle.machine_state.specs.declared.fault.FaultKind.TheVariants.{OutsideCode}
 use Rattle.machine_state.specs.Memory.{Memory, place_of, local_address, word_at, with_word}
 use Rattle.machine_state.specs.Holding.{Holding, covers, may_write, may_read, may_write_word, may_read_word}
 use Rattle.machine_state.specs.LocalStep as step
-use Rattle.machine_state.specs.Site.{Outcome, jumps, fails, Local}
-use Rattle.machine_state.specs.LocalStep.{target}
+use Rattle.machine_state.specs.Site.{Outcome, Local}
 use Rattle.machine_state.proofs.Reading.{length-with_word}
 use Rattle.machine_state.proofs.Frame.{write_is_own, changes_more}
 use Rattle.states.specs.declared.known.Mode as states
@@ -39,8 +29,7 @@ use Rattle.states.specs.declared.known.Mode.TheVariants as states_modes
 use Rattle.states.specs.declared.known.Known.{Known}
 use Rattle.states.specs.declared.rule.Rule.{Rule}
 use Rattle.states.specs.declared.rule.Rule.TheVariants as rules
-use Rattle.states.specs.declared.known.WordFact.{WordFact}
-use Rattle.states.specs.State.{State, unknown, plain, one_word, written, known}
+use Rattle.states.specs.State.{State, unknown, one_word, written}
 use Rattle.states.specs.Below.{below}
 use Rattle.states.proofs.RowFacts.{and-parts}
 use Rattle.facts.specs.Regions.{scope_of}
@@ -48,15 +37,15 @@ use Rattle.facts.proofs.Regions.{keeps_more, write_keeps}
 use Rattle.facts.specs.Rulings as rule
 use Rattle.facts.specs.WordRules as word
 use Rattle.facts.specs.Rulings.{Ruling, falls, leads, breaks, leading}
-use Rattle.facts.specs.Meaning.{Layout, Activation, Means, says_nothing, is_number, frame_word, IsOwnWord, Words}
-use Rattle.facts.specs.Meaning.{words_of, HasFrame, ComesFrom, from_nowhere, from_word, MeansWord, MeansKnown}
+use Rattle.facts.specs.Meaning.{Layout, Activation, Means, says_nothing, IsOwnWord, Words}
+use Rattle.facts.specs.Meaning.{words_of, HasFrame, from_nowhere, MeansKnown}
 use Rattle.facts.specs.Meaning.{IsWellFormed, SameMode, both_plain, dues, owed, label_turns}
-use Rattle.facts.specs.Fitting.{Changes, After, Here, rule_site, step_site, Fits, it_falls, it_leads, it_ends}
+use Rattle.facts.specs.Fitting.{Changes, After, Here, rule_site, step_site, Fits, it_falls, it_leads}
 use Rattle.facts.specs.Fitting.{it_breaks}
 use Rattle.facts.specs.Fitting.{GoesTo, goes_behind, is_jump, HasNext}
-use Rattle.facts.proofs.Words.{local_place, frame_word_is, stored_means, plain_means, knows_changed, write_follows}
+use Rattle.facts.proofs.Words.{local_place, knows_changed, write_follows}
 use Rattle.facts.proofs.Entering.{below_tells, label_after}
-use Rattle.facts.proofs.Dues.{changed_dues, written_owed, label_owed}
+use Rattle.facts.proofs.Dues.{written_owed, label_owed}
 
 abbrev pub FitsIf : Here → Ruling → Outcome → Type 0
 FitsIf x r o = HasNext x r → Fits x r o
@@ -200,7 +189,8 @@ module _ (x : Here) where
   uses_fits k v r o means go = uses_value k v r o means (λ a is. go a)
 
   -- what is wanted of numbers
-  pub in_bounds_fits : (b : Bool) (r : Ruling) (o : Outcome) → (b ≡ true → FitsIf x r o) → FitsIf x (word.in_bounds b r) o
+  pub in_bounds_fits : (b : Bool) (r : Ruling) (o : Outcome) → (b ≡ true → FitsIf x r o)
+      → FitsIf x (word.in_bounds b r) o
   unfolding word.in_bounds
   in_bounds_fits b r o go = wanted_fits b _ _ _ go
 
@@ -243,7 +233,8 @@ module _ (x : Here) where
       (λ t. subst (λ p. FitsIf x r (o (word_at l.memory p))) (sym is) go)
       (λ t. let no : true ≡ false = sym held ∙ ap (may_read_word x.h) (sym is) ∙ t in absurd (cc))
 
-  pub goes_on_fits : (s : State) (l : Local) → After x.m x.h x.mode x.act s l → s.context ≡ x.context → Changes x l.memory
+  pub goes_on_fits : (s : State) (l : Local) → After x.m x.h x.mode x.act s l → s.context ≡ x.context
+      → Changes x l.memory
       → owed s x.act ≤ x.owed → FitsIf x (rule.goes_on (rule_site x) s) (step.goes_on (step_site x) l)
   unfolding rule.goes_on rule.pays step.goes_on
   goes_on_fits s l a same changes n =
@@ -299,7 +290,8 @@ module _ (x : Here) where
       → Means x.m x.act.layout Unknown (word_at (with_word memory place None) place)
   undefined_means memory place inside = says_nothing
 
-  pub schedules_fits : (s : State) (l : Local) (r : State → Ruling) (o : Local → Outcome) → After x.m x.h x.mode x.act s l
+  pub schedules_fits : (s : State) (l : Local) (r : State → Ruling) (o : Local → Outcome)
+      → After x.m x.h x.mode x.act s l
       → s.context ≡ x.context → Changes x l.memory
       → ((s' : State) (memory : Memory) → After x.m x.h x.mode x.act s' (record l { memory = memory })
       → s'.context ≡ x.context → Changes x memory → owed s' x.act ≤ owed s x.act

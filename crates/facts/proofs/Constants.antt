@@ -1,7 +1,7 @@
 -- What is read of the constants.
-use Rattle.std.proofs.Common.{◌≡◌, ℕ, zero, suc, ◌+◌, ◌-◌, ◌*◌, ◌/◌, ◌%◌, ◌≤◌, ◌<◌, ℤ, pos, negsuc, ◌+ℤ◌, ◌≤ℤ◌, FitsSigned, Bool}
-use Rattle.std.proofs.Common.{true, false, cond, length, get_or, take, drop, Option, Some, None, refl, sym, ap, ◌∙◌, subst}
-use Rattle.std.proofs.Common.{arith, List, [], ◌∷◌, inl, inr}
+use Rattle.std.proofs.Common.{◌≡◌, ℕ, zero, suc, ◌+◌, ◌-◌, ◌*◌, ◌/◌, ◌%◌, ◌≤◌, ◌<◌, ℤ, pos, ◌≤ℤ◌, Bool}
+use Rattle.std.proofs.Common.{true, false, cond, length, get_or, take, drop, Some, refl, sym, ap, ◌∙◌, subst}
+use Rattle.std.proofs.Common.{arith, List, [], ◌∷◌}
 use Rattle.std.proofs.lemmas.List.{get_or-drop, get_or-take, length-drop, length-take-le}
 use Rattle.std.proofs.lemmas.Bool.{eqb-true}
 use Rattle.std.proofs.lemmas.Int.{ints}
@@ -17,7 +17,8 @@ use Rattle.facts.specs.Reach.{lie_in_row}
 -- the word that four bytes make, of which this is the first
 abbrev pub word_in : List ℕ → ℕ → ℤ
 word_in bytes i = cast_signed w32
-    (get_or bytes (i + 0) 0 + 256 * get_or bytes (i + 1) 0 + 65536 * get_or bytes (i + 2) 0 + 16777216 * get_or bytes (i + 3) 0)
+    (get_or bytes (i + 0) 0 + 256 * get_or bytes (i + 1) 0 + 65536 * get_or bytes
+    (i + 2) 0 + 16777216 * get_or bytes (i + 3) 0)
 
 -- each word of some bytes lies between the bounds in which all lie
 word_within : (lo hi : ℤ) (bytes : List ℕ) (i n : ℕ) → n ≡ 4 * i → n + 4 ≤ length bytes
@@ -83,12 +84,20 @@ row_word constants rows first end row n all found even low high =
     let quarter : at ≡ 4 * (at / 4) = omega arith in
     let within = word_within row.lo row.hi (take (row.end - row.start) (drop row.start constants)) (at / 4) at quarter
     (omega (arith, long)) k.words in
-    subst (λ (z : ℤ). IsWithin row.lo row.hi z) (same row.start (row.end - row.start) at n (omega arith) (omega arith)) within
+    subst (λ (z : ℤ). IsWithin row.lo row.hi z)
+    (same row.start (row.end - row.start) at n (omega arith) (omega arith)) within
   where
     same : (start size at n : ℕ) → at + 4 ≤ size → n ≡ start + at
         → word_in (take size (drop start constants)) at ≡ word_in constants n
     same start size at n low e =
-        ap (cast_signed w32) (omega (arith, byte 0 (omega arith), byte 1 (omega arith), byte 2 (omega arith), byte 3 (omega arith)))
+        ap (cast_signed w32) (omega (
+          arith,
+          byte 0 (omega arith),
+          byte 1 (omega arith),
+          byte 2 (omega arith),
+          byte 3
+              (omega arith),
+        ))
       where
         byte : (j : ℕ) → j < 4 → get_or (take size (drop start constants)) (at + j) 0 ≡ get_or constants (n + j) 0
         byte j less =

@@ -1,11 +1,13 @@
 -- Ends that contexts have are numbered as ends of rows are, and runs of them.
-use Rattle.std.proofs.Common.{◌≡◌, ℕ, zero, suc, ◌+◌, ◌-◌, ◌≤◌, ◌<◌, ◌^◌, ℤ, pos, negsuc, ◌+ℤ◌, ◌-ℤ◌, ◌≤ℤ◌, ◌<ℤ◌, FitsSigned, Bool}
-use Rattle.std.proofs.Common.{if◌then◌else◌, true, false, cond, ◌&&◌, ◌||◌, not, ◌⊎◌, inl, inr, List, [], ◌∷◌, length, get_or, Option, Some, None}
-use Rattle.std.proofs.Common.{rules, refl, sym, ap, ◌∙◌, subst, arith, ltb}
+use Rattle.std.proofs.Common.{◌≡◌, ℕ, zero, suc, ◌+◌, ◌-◌, ◌≤◌, ◌<◌, ◌^◌, ℤ, pos, negsuc, ◌+ℤ◌, ◌≤ℤ◌, ◌<ℤ◌, FitsSigned}
+use Rattle.std.proofs.Common.{Bool}
+use Rattle.std.proofs.Common.{if◌then◌else◌, true, false, cond, ◌&&◌, ◌||◌, not, inl, inr, List, [], ◌∷◌, length}
+use Rattle.std.proofs.Common.{get_or, Option, Some, None}
+use Rattle.std.proofs.Common.{rules, refl, sym, ap, ◌∙◌, subst, arith}
 use Rattle.std.specs.Int.{w32}
-use Rattle.std.specs.Prelude.{int_le, int_lt, nat_lt, slice_get, is_some, ◌==◌, bit_and, SomeIff}
-use Rattle.std.specs.List.{AllByRecursion, list_any}
-use Rattle.std.proofs.lemmas.Bool.{cases_Bool, cases_eq, cases_lt}
+use Rattle.std.specs.Prelude.{int_le, nat_lt, slice_get, is_some, ◌==◌, bit_and, SomeIff}
+use Rattle.std.specs.List.{list_any}
+use Rattle.std.proofs.lemmas.Bool.{cases_Bool, cases_lt}
 use Rattle.std.proofs.lemmas.Bool.Decides.{eqb_tells, leb_tells}
 use Rattle.std.proofs.lemmas.Int.{ints, by_lt_z}
 use Rattle.module_format.specs.declared.rows.Parameter.{Parameter}
@@ -23,14 +25,16 @@ use Rattle.module_format.specs.Contexts.{first_branch, context_at, parameters_at
 use Rattle.module_format.specs.Keeping.{Keeps}
 use Rattle.module_format.specs.Order.{InOrder, least_word}
 use Rattle.module_format.specs.Procedures.{KindKeeps}
-use Rattle.module_format.specs.Pars.{kind_of, number_of, element_of, first_key, key_of, direction_number, ChannelKeeps, behind_channel, EndKeeps, behind_end, EndKindKeeps}
+use Rattle.module_format.specs.Pars.{kind_of, number_of, element_of, first_key, key_of, direction_number, ChannelKeeps}
+use Rattle.module_format.specs.Pars.{behind_channel, EndKeeps, behind_end, EndKindKeeps}
 use Rattle.certificate.specs.Branches.{numbered_branch}
-use Rattle.certificate.specs.Rights.{has_end, gives_link, gives_element, gives_parameter, is_same_end, listed_length, length_around}
+use Rattle.certificate.specs.Rights.{has_end, gives_link, gives_element, gives_parameter, is_same_end, listed_length}
+use Rattle.certificate.specs.Rights.{length_around}
 use Rattle.certificate.specs.Rights.{channel_length}
-use Rattle.certificate.proofs.RightLaws.{found_kept, none_listed}
+use Rattle.certificate.proofs.RightLaws.{found_kept}
 use Rattle.states.proofs.RowFacts.{and-parts, and-both}
 use Rattle.states.proofs.Procedures.{at-row}
-use Rattle.facts.specs.CallRules.{further, all_below, message_length}
+use Rattle.facts.specs.CallRules.{all_below, message_length}
 use Rattle.facts.specs.Callings.{IsNumbered}
 use Rattle.facts.proofs.CallTests.{parameter_keeps, same_word_by}
 use Rattle.facts.proofs.Ends.{all_below_at}
@@ -76,7 +80,8 @@ same_end e d other keeps h =
     let one = and-parts _ _ two.0 in
     numbered_by e other.kind keeps one.0 one.1 two.1
 
-listed : (e : EndKind) (d : Direction) (before : EndKey) (others : List EndRow) → InOrder EndKeeps behind_end before others
+listed : (e : EndKind) (d : Direction) (before : EndKey) (others : List EndRow)
+    → InOrder EndKeeps behind_end before others
     → list_any (λ other. is_same_end (key_of other) (key_of (end e d))) others ≡ true → IsNumbered e
 listed e d before [] keeps h = absurd (cc)
 listed e d before (other ∷ others) keeps h = elim (cases_Bool (is_same_end (key_of other) (key_of (end e d)))) [
@@ -181,7 +186,8 @@ pub end_numbered : (m : Contents) → Keeps m → (n : ℕ) (e : EndKind) (d : D
     → IsNumbered e
 end_numbered m keeps n e d h = on (numbered_branch m n) refl h
   where
-    own : (b : Bool) → (cond b (gives_link m.lengths e d) (gives_parameter (parameters_at m n) e d)) ≡ true → IsNumbered e
+    own : (b : Bool) → (cond b (gives_link m.lengths e d) (gives_parameter (parameters_at m n) e d)) ≡ true
+        → IsNumbered e
     own true g = of_links m.lengths e d keeps.bounds.eight g
     own false g = of_parameters m n e d keeps g
 
@@ -189,7 +195,8 @@ end_numbered m keeps n e d h = on (numbered_branch m n) refl h
         → IsNumbered e
     on None is g = own (n == 0) (and-parts (is_some (context_at m n)) (cond (n == 0) (gives_link m.lengths e d)
         (gives_parameter (parameters_at m n) e d)) g).1
-    on (Some x) is g = listed e d first_key x.1.ends (found_kept m n x keeps is).0.ends (and-parts (is_some (context_at m n))
+    on (Some x) is g = listed e d first_key x.1.ends (found_kept m n x keeps is).0.ends
+        (and-parts (is_some (context_at m n))
         (list_any (λ other. is_same_end (key_of other) (key_of (end e d))) x.1.ends) g).1
 
 -- ---- ends of a procedure's own parameters
@@ -264,11 +271,19 @@ far_around m keeps (suc more) n k high =
         → ((x : Par × Branch) → length_around more m x.0.context k ≡ None)
         → (elim found as (λ found. Option ℕ) [
           | None ↦ None
-          | Some x ↦ elim (listed_length x.0.channels k) [ Some len ↦ Some len | None ↦ length_around more m x.0.context k ]
+          | Some x ↦ elim (listed_length x.0.channels k) [
+            | Some len ↦ Some len
+            | None ↦
+                length_around more m x.0.context k
+          ]
         ]) ≡ None
     on None is around = refl
     on (Some x) is around =
-        ap (λ (o : Option ℕ). elim o as (λ o. Option ℕ) [ Some len ↦ Some len | None ↦ length_around more m x.0.context k ])
+        ap (λ (o : Option ℕ). elim o as (λ o. Option ℕ) [
+          | Some len ↦ Some len
+          | None ↦
+              length_around more m x.0.context k
+        ])
         (far_listed k least_word x.0.channels high (found_kept m n x keeps is).1)
         ∙ around x
 

@@ -1,13 +1,14 @@
 -- The ends of channels that are passed to a procedure.
-use Rattle.std.proofs.Common.{◌≡◌, ℕ, zero, suc, ◌+◌, ◌-◌, ◌*◌, ◌/◌, ◌%◌, ◌^◌, ◌≤◌, ◌<◌, ℤ, pos, negsuc, ◌+ℤ◌, ◌-ℤ◌, ◌*ℤ◌, ◌≤ℤ◌}
-use Rattle.std.proofs.Common.{◌<ℤ◌, FitsSigned, Bool, true, false, cond, if◌then◌else◌, ◌&&◌, ◌||◌, not, ◌⊎◌, inl, inr, List, [], ◌∷◌}
-use Rattle.std.proofs.Common.{length, Option, Some, None, is_some, refl, sym, ap, ◌∙◌, subst, arith, ltb, leb}
-use Rattle.std.specs.Int.{w32, int_wrap, int_rem_euclid, cast_unsigned, cast_signed}
-use Rattle.std.specs.Prelude.{slice_get, unsigned_abs, bit_and, ◌==◌, nat_lt}
+use Rattle.std.proofs.Common.{◌≡◌, ℕ, zero, suc, ◌+◌, ◌-◌, ◌*◌, ◌/◌, ◌%◌, ◌<◌, ℤ, pos, negsuc, ◌+ℤ◌, ◌-ℤ◌, ◌*ℤ◌}
+use Rattle.std.proofs.Common.{FitsSigned, Bool, true, false, if◌then◌else◌, ◌&&◌, ◌||◌, not, inl, inr}
+use Rattle.std.proofs.Common.{Option, Some, None, refl, sym, ap, ◌∙◌, subst, arith}
+use Rattle.std.specs.Int.{w32, int_wrap, cast_unsigned, cast_signed}
+use Rattle.std.specs.Prelude.{unsigned_abs, ◌==◌, nat_lt}
 use Rattle.std.proofs.lemmas.Bool.Decides.{eqb_tells, leb_tells}
 use Rattle.std.proofs.lemmas.Bool.{cases_eq}
 use Rattle.std.proofs.lemmas.Int.{ints, of_z-to_z, int_rem_euclid_is, SFits-int_wrap}
-use Rattle.module_format.specs.declared.fact.Fact.TheVariants.{Unknown, Number, Pointer, CodeAddress, Loop, ReturnAddress}
+use Rattle.module_format.specs.declared.fact.Fact.TheVariants.{Unknown, Number, Pointer, CodeAddress, Loop}
+use Rattle.module_format.specs.declared.fact.Fact.TheVariants.{ReturnAddress}
 use Rattle.module_format.specs.declared.fact.Step.TheVariants.{Word, Byte}
 use Rattle.module_format.specs.declared.rows.EndKind.{EndKind}
 use Rattle.module_format.specs.declared.rows.EndKind.TheVariants.{FrameWord, Link, Parameter as Element}
@@ -21,9 +22,8 @@ use Rattle.machine_state.specs.Memory.{data_start}
 use Rattle.machine_state.specs.World.{link_words, constants_start}
 use Rattle.states.specs.declared.known.WordFact.{WordFact}
 use Rattle.states.specs.declared.known.WordFact.TheVariants.{Alone, Index, Count}
-use Rattle.states.specs.State.{is_word}
 use Rattle.states.proofs.RowFacts.{and-parts}
-use Rattle.facts.specs.Meaning.{Layout, Activation, Means, MeansWord, is_fact, is_number, is_pointer, word_of, region_start, place_in}
+use Rattle.facts.specs.Meaning.{Layout, Activation, MeansWord, is_fact, is_number, is_pointer, word_of, region_start}
 use Rattle.facts.specs.Regions.{channel_address}
 use Rattle.facts.specs.Reach.{word_of_byte}
 use Rattle.facts.specs.CallRules.{link_at, channel_in, channel_of, further, all_below, has_direction, holds_ends}
@@ -44,7 +44,8 @@ wrapped z k m is =
     (int_rem_euclid_is z (pos 4294967296) 4294967296 k m (omega arith) refl is)
     ∙ of_z-to_z w32 (m % 4294967296) (omega arith)
 
-pub address_further : (z : ℤ) (n : ℕ) → cast_unsigned w32 (word_of (z +ℤ pos n)) ≡ (cast_unsigned w32 (word_of z) + n) % 4294967296
+pub address_further : (z : ℤ) (n : ℕ)
+    → cast_unsigned w32 (word_of (z +ℤ pos n)) ≡ (cast_unsigned w32 (word_of z) + n) % 4294967296
 address_further z n =
     let a = around z in
     let first = wrapped z a.0 a.1 a.2 in
@@ -86,7 +87,8 @@ module _ (m : Contents) (act : Activation) (k : ℤ) where
       on_offset (negsuc n) e g = absurd (cc)
       on_offset (pos n) e g = on_test ((n % 4 == 0) && nat_lt n 32) refl g
         where
-          on_test : (b : Bool) → ((n % 4 == 0) && nat_lt n 32) ≡ b → (if b then Some (Link (n / 4)) else None) ≡ Some first
+          on_test : (b : Bool) → ((n % 4 == 0) && nat_lt n 32) ≡ b
+              → (if b then Some (Link (n / 4)) else None) ≡ Some first
               → Names act.layout first (Some x)
           on_test false t g = absurd (cc)
           on_test true t g =
@@ -115,11 +117,13 @@ module _ (m : Contents) (act : Activation) (k : ℤ) where
       fits : FitsSigned w32 x
       fits = subst (λ (z : ℤ). FitsSigned w32 z) (sym is) (SFits-int_wrap w32 _)
 
-      behind : (z : ℤ) (i : ℕ) → x ≡ word_of z → cast_unsigned w32 (word_of (z +ℤ pos (4 * i))) ≡ (cast_unsigned w32 x + 4 * i) % 4294967296
+      behind : (z : ℤ) (i : ℕ) → x ≡ word_of z
+          → cast_unsigned w32 (word_of (z +ℤ pos (4 * i))) ≡ (cast_unsigned w32 x + 4 * i) % 4294967296
       behind z i e = address_further z (4 * i) ∙ ap (λ (y : ℤ). (cast_unsigned w32 y + 4 * i) % 4294967296) (sym e)
 
       element : (n : ℕ) → region_start m act.layout region ≡ pos (act.layout.starts (region - 2)) → lo ≡ pos n
-          → (i : ℕ) → (act.layout.starts (region - 2) + 4 * (n / 4 + i)) % 4294967296 ≡ (cast_unsigned w32 x + 4 * i) % 4294967296
+          → (i : ℕ) → (act.layout.starts (region - 2) + 4 * (n / 4 + i)) % 4294967296
+          ≡ (cast_unsigned w32 x + 4 * i) % 4294967296
       element n starts e i =
           let quarter : 4 * (n / 4) ≡ n = omega (arith, ints, whole, e) in
           let u = ap (λ (z : ℤ). cast_unsigned w32 z) (is ∙ ap (λ (z : ℤ). word_of (z +ℤ lo)) starts
@@ -128,11 +132,13 @@ module _ (m : Contents) (act : Activation) (k : ℤ) where
           sum (act.layout.starts (region - 2)) n i quarter
           ∙ ap (λ (a : ℕ). (a + 4 * i) % 4294967296) (sym u)
         where
-          sum : (s n i : ℕ) → 4 * (n / 4) ≡ n → (s + 4 * (n / 4 + i)) % 4294967296 ≡ ((s + n) % 4294967296 + 4 * i) % 4294967296
+          sum : (s n i : ℕ) → 4 * (n / 4) ≡ n
+              → (s + 4 * (n / 4 + i)) % 4294967296 ≡ ((s + n) % 4294967296 + 4 * i) % 4294967296
           sum s n i e = omega arith
 
       on_offset : (z : ℤ) → lo ≡ z → region_start m act.layout region ≡ pos (act.layout.starts (region - 2))
-          → (elim z as (λ z. Option EndKind) [ pos n ↦ Some (Element (pos (region - 2)) (n / 4)) | negsuc n ↦ None ]) ≡ Some first
+          → (elim z as (λ z. Option EndKind) [ pos n ↦ Some (Element (pos (region - 2)) (n / 4)) | negsuc n ↦ None ])
+          ≡ Some first
           → Names act.layout first (Some x)
       on_offset (negsuc n) e starts g = absurd (cc)
       on_offset (pos n) e starts g =
@@ -141,18 +147,29 @@ module _ (m : Contents) (act : Activation) (k : ℤ) where
             x = x;
             is = refl;
             fits = fits;
-            addresses = λ i. ap (λ (c : EndKind). channel_address act.layout (further c i)) (sym is_first) ∙ element n starts e i;
+            addresses = λ i. ap (λ (c : EndKind). channel_address act.layout (further c i)) (sym is_first)
+                ∙ element n starts e i;
           }
 
       on_constants : (c : Bool) → (region == 1) ≡ c → (region == 0) ≡ false
-          → (if c then None else (elim lo as (λ z. Option EndKind) [ pos n ↦ Some (Element (pos (region - 2)) (n / 4)) | negsuc n ↦ None ])) ≡ Some first
+          → (if c then None else (elim lo as (λ z. Option EndKind) [
+            | pos n ↦
+                Some (Element (pos (region - 2)) (n / 4))
+            | negsuc n ↦ None
+          ])) ≡ Some first
           → Names act.layout first (Some x)
       on_constants true t r g = absurd (cc)
       on_constants false t r g =
-          on_offset lo refl (ap (λ (b : Bool). start region b (region == 1)) r ∙ ap (λ (c : Bool). start region false c) t) g
+          on_offset lo refl (ap (λ (b : Bool). start region b (region == 1)) r
+          ∙ ap (λ (c : Bool). start region false c) t) g
 
       on_frame : (b : Bool) → (region == 0) ≡ b
-          → (if b then Some (FrameWord (word_of_byte lo)) else if region == 1 then None else (elim lo as (λ z. Option EndKind) [ pos n ↦ Some (Element (pos (region - 2)) (n / 4)) | negsuc n ↦ None ])) ≡ Some first
+          → (if b then Some (FrameWord (word_of_byte lo)) else if region == 1 then None else
+          (elim lo as (λ z. Option EndKind) [
+            | pos n ↦ Some (Element (pos (region - 2)) (n / 4))
+            | negsuc n ↦
+                None
+          ])) ≡ Some first
           → Names act.layout first (Some x)
       on_frame true t g =
           let is_first : FrameWord (word_of_byte lo) ≡ first = cc in
@@ -168,7 +185,8 @@ module _ (m : Contents) (act : Activation) (k : ℤ) where
       on_frame false t g = on_constants (region == 1) refl t g
 
   -- what is known of a word that names a channel holds of its address
-  pub names : (fact : WordFact) (first : EndKind) (v : Option ℤ) → channel_of fact ≡ Some first → MeansWord m act k fact v
+  pub names : (fact : WordFact) (first : EndKind) (v : Option ℤ) → channel_of fact ≡ Some first
+      → MeansWord m act k fact v
       → Names act.layout first v
   unfolding channel_of
   names (Alone (Number lo hi)) first None h (is_fact means) = elim means [ ]
@@ -188,7 +206,8 @@ module _ (m : Contents) (act : Activation) (k : ℤ) where
             (is ∙ ap (λ (z : ℤ). word_of (region_start m act.layout region +ℤ z)) at)
             (sym (ap (λ (b : Bool). if b then channel_in region lo else None) e.0) ∙ h)
         | inr e ↦
-            let no' : None ≡ Some first = sym (ap (λ (b : Bool). if b then channel_in region lo else None) e.0) ∙ h in absurd (cc)
+            let no' : None ≡ Some first = sym (ap (λ (b : Bool). if b then channel_in region lo else None) e.0)
+            ∙ h in absurd (cc)
       ]
   names (Alone (Pointer region lo hi Byte)) first v h means = absurd (cc)
   names (Alone Unknown) first v h means = absurd (cc)

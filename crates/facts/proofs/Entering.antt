@@ -35,7 +35,8 @@ use Rattle.states.specs.Below.{entries_hold, are_alike, is_whole, is_plain, view
 use Rattle.states.specs.Rows.{IsRowOf, LoopFits, rise_from}
 use Rattle.facts.specs.Meaning.{Layout, Activation, with_turns, Means, says_nothing, is_number, is_pointer}
 use Rattle.facts.specs.Meaning.{is_code_address, word_of, region_start, code_address, IsOffset, MeansWord, is_fact}
-use Rattle.facts.specs.Meaning.{is_index, is_count, frame_word, Words, words_in, words_of, HasFrame, from_nowhere, MeansKnown}
+use Rattle.facts.specs.Meaning.{is_index, is_count, frame_word, Words, words_in, words_of, HasFrame, from_nowhere}
+use Rattle.facts.specs.Meaning.{MeansKnown}
 use Rattle.facts.specs.Meaning.{SameMode, both_plain, turns_from, label_turns, at_label, IsSpan, ArePairs, IsWellFormed}
 use Rattle.states.proofs.RowFacts.{and-parts, le-from, lt-from, rise-parts, about-within, about-behind}
 use Rattle.facts.specs.Regions.{scope_of, HoldsNamed}

@@ -1,9 +1,11 @@
--- What a call lends: whatever the callee may change its caller may change, and what the caller's parameters name is still
+-- What a call lends: whatever the callee may change its caller may change, and what the caller's parameters name is
+-- still
 -- there afterwards.
-use Rattle.std.proofs.Common.{◌≡◌, ℕ, zero, suc, ◌+◌, ◌-◌, ◌*◌, ◌/◌, ◌≤◌, ◌<◌, ℤ, pos, negsuc, ◌+ℤ◌, ◌-ℤ◌, ◌*ℤ◌, ◌≤ℤ◌, ◌<ℤ◌}
-use Rattle.std.proofs.Common.{Bool, true, false, ◌⊎◌, inl, inr, length, Option, Some, None, refl, sym, ap, ◌∙◌, subst, arith}
+use Rattle.std.proofs.Common.{◌≡◌, ℕ, ◌+◌, ◌-◌, ◌*◌, ◌/◌, ◌≤◌, ◌<◌, ℤ, pos, ◌+ℤ◌, ◌*ℤ◌, ◌≤ℤ◌, ◌<ℤ◌}
+use Rattle.std.proofs.Common.{Bool, true, false, ◌⊎◌, inl, inr, length, Option, Some, None, refl, sym, ap, ◌∙◌, subst}
+use Rattle.std.proofs.Common.{arith}
 use Rattle.std.specs.Prelude.{⊤, slice_get}
-use Rattle.std.proofs.lemmas.Bool.{cases_lt, cases_eq}
+use Rattle.std.proofs.lemmas.Bool.{cases_eq}
 use Rattle.std.proofs.lemmas.Int.{ints}
 use Rattle.module_format.specs.declared.fact.Fact.TheVariants.{Number}
 use Rattle.module_format.specs.declared.rows.Parameter.{Parameter}
@@ -11,11 +13,11 @@ use Rattle.module_format.specs.declared.rows.ParameterKind.{ParameterKind}
 use Rattle.module_format.specs.declared.rows.ParameterKind.TheVariants.{Value, ReadRegion, WrittenRegion, Channels}
 use Rattle.module_format.specs.Contents.{Contents}
 use Rattle.machine_state.specs.Memory.{Memory, byte_at, word_at, place_of}
-use Rattle.machine_state.specs.Holding.{Holding, may_write, may_read}
+use Rattle.machine_state.specs.Holding.{Holding, may_read}
 use Rattle.machine_state.specs.World.{constants_start}
 use Rattle.machine_state.proofs.Reading.{word_at_same}
-use Rattle.facts.specs.Meaning.{Layout, Words, Means, is_number, place_in, frame_word, word_at_place}
-use Rattle.facts.specs.Regions.{IsByteOf, Scope, IsRegion, IsNamed, HoldsNamed, HasConstants, IsWrittenAt, IsNamedAt}
+use Rattle.facts.specs.Meaning.{Layout, Means, is_number, place_in}
+use Rattle.facts.specs.Regions.{IsByteOf, Scope, IsRegion, IsNamed, HoldsNamed, IsWrittenAt, IsNamedAt}
 use Rattle.facts.specs.Regions.{MayChange, in_frame, in_region, Keeps}
 use Rattle.facts.proofs.Words.{int_le_tells}
 use Rattle.facts.proofs.Combining.{readable_byte}
@@ -36,7 +38,8 @@ wider_means {v = Some x} below above (is_number low high fits) =
     is_number (omega (arith, ints, below, low)) (omega (arith, ints, above, high)) fits
 
 -- the byte of a region that lies at a place
-pub byte_index : (place start size : ℕ) → start ≤ place → place < start + size → (i : ℕ) × (place ≡ start + i) × (i < size)
+pub byte_index : (place start size : ℕ) → start ≤ place → place < start + size
+    → (i : ℕ) × (place ≡ start + i) × (i < size)
 byte_index place start size low high = (place - start, omega arith, omega arith)
 
 -- a byte lies in one word of a frame
@@ -59,7 +62,8 @@ run_byte origin word place i is = record { low = omega (arith, ints); high = ome
 abbrev pub IsRegionKind : ParameterKind → ℕ → ℤ → ℤ → Type 0
 IsRegionKind kind size lo hi = (kind ≡ ReadRegion size lo hi) ⊎ (kind ≡ WrittenRegion size lo hi)
 
--- So many words of a region from a byte on, where the caller has them: `base` is its word that is word 0 of the callee's
+-- So many words of a region from a byte on, where the caller has them: `base` is its word that is word 0 of the
+-- callee's
 -- frame.
 pub data IsPart (m : Contents) (caller callee : Scope) (base : ℤ) (region : ℕ) (first : ℤ) (count : ℕ) (lo hi : ℤ)
     (written : Bool) (place : ℕ) : Type 0 where
@@ -144,8 +148,10 @@ module _ (m : Contents) (caller callee : Scope) (base : ℤ) (lends : Lends m ca
       (subst (λ (q : ℕ). IsByteOf caller.layout.origin (word +ℤ pos (i / 4)) q) (sym at)
       (run_byte caller.layout.origin word start i is))
   part_change (of_constants n r f read is fits) at inside = absurd (cc)
-  part_change {start = start} {place = place} (of_parameter q p n total low high r f found kind whole below above is fits) at inside =
-      in_region q p found (subst (λ (k : ParameterKind). IsWrittenAt k (caller.layout.starts q) place) (sym (whole refl))
+  part_change {start = start} {place = place}
+      (of_parameter q p n total low high r f found kind whole below above is fits) at inside =
+      in_region q p found (subst (λ (k : ParameterKind). IsWrittenAt k (caller.layout.starts q) place)
+      (sym (whole refl))
       (omega (arith, at, is, inside, fits), omega (arith, at, is, inside, fits)))
 
   -- whatever the callee may change its caller may
@@ -243,7 +249,8 @@ module _ (m : Contents) (h : Holding) (caller callee : Scope) (base : ℤ) (lend
           absurd (region.beside (word +ℤ pos (n / 4)) i (reads (n / 4) (omega arith)) inside
           (subst (λ (place : ℕ). IsByteOf caller.layout.origin (word +ℤ pos (n / 4)) place) (sym at)
           (run_byte caller.layout.origin word (place_of (callee.layout.starts j)) n place)))
-      on_part j r size lo' hi' region' first count n there is whole at less (of_constants k e f read place fits) = absurd (cc)
+      on_part j r size lo' hi' region' first count n there is whole at less
+          (of_constants k e f read place fits) = absurd (cc)
       on_part j r size lo' hi' region' first count n there is whole at less
           (of_parameter q' p' k total' low high e f found' kind' written below above place fits) =
           elim (cases_eq q q') [
@@ -270,7 +277,8 @@ module _ (m : Contents) (h : Holding) (caller callee : Scope) (base : ℤ) (lend
                 }
             | inr differ ↦ absurd (has.apart q' q p' p found' found (λ e. differ (sym e))
                 (place_of (caller.layout.starts q) + i)
-                (subst (λ (k : ParameterKind). IsWrittenAt k (caller.layout.starts q') (place_of (caller.layout.starts q) + i))
+                (subst (λ (k : ParameterKind). IsWrittenAt k (caller.layout.starts q')
+                (place_of (caller.layout.starts q) + i))
                 (sym (written refl)) (omega (arith, at, place, less, fits), omega (arith, at, place, less, fits)))
                 (named_at p.kind total (caller.layout.starts q) lo hi (place_of (caller.layout.starts q) + i) kind
                 (omega arith) (omega arith)))
@@ -298,7 +306,8 @@ module _ (m : Contents) (h : Holding) (caller callee : Scope) (base : ℤ) (lend
       start = place_of (caller.layout.starts q)
 
       readable : (k place : ℕ) → k < total → place ≡ start + k → may_read h place ≡ true
-      readable k place less is = subst (λ (n : ℕ). may_read h n ≡ true) (sym is) (reads (start + k) (region.held k less))
+      readable k place less is = subst (λ (n : ℕ). may_read h n ≡ true) (sym is)
+          (reads (start + k) (region.held k less))
 
       of_part : (i k : ℕ) → 4 * i + 4 ≤ total → 4 * i ≤ k → k < 4 * i + 4
           → InPart m callee (place_of (caller.layout.starts q)) lo hi k
@@ -309,7 +318,8 @@ module _ (m : Contents) (h : Holding) (caller callee : Scope) (base : ℤ) (lend
           (mine.each part.j part.p part.found) in
           subst (λ (place : ℕ). Means m caller.layout (Number lo hi) (word_at later place))
           (let is = part.place in let l = part.low in let u = part.high in omega arith)
-          (number_means (named.numbers (i - part.n) (let l = part.low in let u = part.high in let w = part.whole in omega arith)))
+          (number_means (named.numbers (i - part.n)
+          (let l = part.low in let u = part.high in let w = part.whole in omega arith)))
 
       numbers : (i : ℕ) → 4 * i + 4 ≤ total
           → Means m caller.layout (Number lo hi) (word_at later (place_of (caller.layout.starts q) + 4 * i))
@@ -318,7 +328,8 @@ module _ (m : Contents) (h : Holding) (caller callee : Scope) (base : ℤ) (lend
           (readable (4 * i + 1) (start + 4 * i + 1) (omega arith) (omega arith))
           (readable (4 * i + 2) (start + 4 * i + 2) (omega arith) (omega arith))
           (readable (4 * i + 3) (start + 4 * i + 3) (omega arith) (omega arith))) [
-            | inl same ↦ subst (λ (v : Option ℤ). Means m caller.layout (Number lo hi) v) (sym same) (region.numbers i fits)
+            | inl same ↦ subst (λ (v : Option ℤ). Means m caller.layout (Number lo hi) v) (sym same)
+                (region.numbers i fits)
             | inr touched ↦
                 let low = touched.low in
                 let high = touched.high in

@@ -1,18 +1,20 @@
 -- lend: what its rule says fits its step.
-use Rattle.std.proofs.Common.{◌≡◌, ℕ, zero, suc, ◌+◌, ◌-◌, ◌≤◌, ◌<◌, ◌%◌, ◌^◌, ◌==◌, ◌&&◌, ℤ, pos, negsuc, ◌+ℤ◌, ◌-ℤ◌, ◌*ℤ◌}
-use Rattle.std.proofs.Common.{◌≤ℤ◌, ◌<ℤ◌, FitsSigned, Bool, true, false, cond, ◌⊎◌, inl, inr, length, Option, Some, None}
+use Rattle.std.proofs.Common.{◌≡◌, ℕ, zero, suc, ◌+◌, ◌-◌, ◌≤◌, ◌<◌, ◌%◌, ◌^◌, ◌==◌, ◌&&◌, ℤ, pos, negsuc, ◌+ℤ◌, ◌-ℤ◌}
+use Rattle.std.proofs.Common.{◌*ℤ◌}
+use Rattle.std.proofs.Common.{◌≤ℤ◌, ◌<ℤ◌, FitsSigned, Bool, true, false, cond, ◌⊎◌, inl, inr, length, Option, Some}
+use Rattle.std.proofs.Common.{None}
 use Rattle.std.proofs.Common.{Result, Ok, Err, refl, sym, ap, ◌∙◌, subst, arith, ltb}
 use Rattle.std.proofs.lemmas.Bool.{lt-ltb, eqb-true, eq-eqb}
 use Rattle.std.proofs.lemmas.Int.{ints}
-use Rattle.std.specs.Prelude.{IsTrue, int_lt, nat_lt, neg_ℤ}
+use Rattle.std.specs.Prelude.{IsTrue, int_lt, neg_ℤ}
 use Rattle.std.specs.Int.{w32, int_wrap}
 use Rattle.module_format.specs.Rows.{Fact}
 use Rattle.module_format.specs.declared.fact.Fact.TheVariants.{Unknown, Number, Pointer}
 use Rattle.module_format.specs.declared.fact.Step.{Step}
 use Rattle.module_format.specs.declared.stack.Stack.{Stack}
-use Rattle.module_format.specs.Order.{is_stepped, is_multiple_of_four}
+use Rattle.module_format.specs.Order.{is_stepped}
 use Rattle.module_format.specs.Stack.{AreRelated, of_empty}
-use Rattle.module_format.specs.Contents.{Contents, Label, label_at}
+use Rattle.module_format.specs.Contents.{Contents}
 use Rattle.certificate.specs.Rights as rights
 use Rattle.machine_state.specs.declared.process.Mode as machine
 use Rattle.machine_state.specs.declared.fault.FaultKind.{FaultKind}
@@ -22,29 +24,29 @@ use Rattle.machine_state.specs.Memory.{Memory, place_of, local_address, word_at,
 use Rattle.machine_state.specs.Holding.{Holding, may_write_word}
 use Rattle.machine_state.specs.LocalStep as step
 use Rattle.machine_state.specs.LocalStep.{target}
-use Rattle.machine_state.specs.Site.{Outcome, jumps, Local}
+use Rattle.machine_state.specs.Site.{Outcome, Local}
 use Rattle.machine_state.proofs.Reading.{length-with_word, word_at-with_word}
 use Rattle.machine_state.proofs.Frame.{write_is_own, changes_more}
-use Rattle.states.specs.declared.known.Known.{Known}
 use Rattle.states.specs.declared.known.Loop.{Loop as CountedLoop}
 use Rattle.states.specs.declared.known.WordFact.{WordFact}
 use Rattle.states.specs.declared.known.WordFact.TheVariants.{Alone, Index, Count}
 use Rattle.states.specs.declared.rule.Rule.{Rule}
-use Rattle.states.specs.State.{State, Facts, Change, unknown, one_word, with_fact, written, label_state, is_word}
+use Rattle.states.specs.State.{State, Facts, unknown, one_word, with_fact, written, is_word}
 use Rattle.states.specs.Below.{below, view, compared}
 use Rattle.facts.specs.declared.loops.Block.{Block}
 use Rattle.facts.specs.Regions.{scope_of}
 use Rattle.facts.specs.Rulings as rule
 use Rattle.facts.specs.Rulings.{Ruling, falls, falls_or_leads, breaks, falling, leading}
-use Rattle.facts.specs.LoopRules.{Beginning, finds, turns, after_loop, ends_turn, beginning, block_of}
+use Rattle.facts.specs.LoopRules.{Beginning, finds, turns, after_loop, beginning, block_of}
 use Rattle.facts.specs.Rules as table
-use Rattle.facts.specs.Meaning.{Layout, Activation, with_turns, Means, says_nothing, is_number, is_pointer, frame_word, IsOwnWord}
+use Rattle.facts.specs.Meaning.{Layout, Activation, with_turns, Means, says_nothing, is_number, is_pointer, frame_word}
+use Rattle.facts.specs.Meaning.{IsOwnWord}
 use Rattle.facts.specs.Meaning.{place_in, words_of, MeansWord, is_fact, is_index, is_count, MeansKnown, owed, dues}
 use Rattle.facts.specs.Meaning.{IsWellFormed, label_turns, farthest_word}
-use Rattle.facts.specs.Fitting.{Changes, After, Here, rule_site, step_site, Fits, GoesTo, is_jump, it_falls, it_leads}
+use Rattle.facts.specs.Fitting.{Changes, After, Here, rule_site, step_site, is_jump, it_falls, it_leads}
 use Rattle.facts.specs.Fitting.{it_breaks}
-use Rattle.facts.proofs.Words.{frame_word_is, means_same, itself_means, word_elsewhere, word_test, write_follows}
-use Rattle.facts.proofs.Words.{Follows, knows_changed, local_place, stored_means}
+use Rattle.facts.proofs.Words.{frame_word_is, means_same, word_elsewhere, word_test, write_follows}
+use Rattle.facts.proofs.Words.{knows_changed, local_place, stored_means}
 use Rattle.facts.proofs.Regions.{keeps_more, write_keeps}
 use Rattle.facts.proofs.Entering.{below_tells, label_after}
 use Rattle.facts.proofs.Dues.{written_owed, label_owed, one_turn_less, turned_dues}
@@ -52,7 +54,8 @@ use Rattle.facts.proofs.Turning.{FindsBlock, finds_block, FindsBeginning, finds_
 use Rattle.facts.proofs.Turning.{place_here, place_next, one_less, one_more, back_target, index_kept}
 use Rattle.facts.proofs.Turning.{with_facts_commute, with_fact_same}
 use Rattle.facts.proofs.Combining.{FitsIf, unknown_means, uses_fits, writes_word_fits, writes_fits, on_rule_test}
-use Rattle.facts.proofs.Combining.{on_step_test, in_plain_rule, beside_plain_rule, in_plain_step, after_stack, pays_fits}
+use Rattle.facts.proofs.Combining.{on_step_test, in_plain_rule, beside_plain_rule, in_plain_step, after_stack}
+use Rattle.facts.proofs.Combining.{pays_fits}
 use Rattle.facts.proofs.Combining.{same_frame, below_not, and_both, written_readable}
 
 -- ---- what a loop's words are
@@ -144,7 +147,8 @@ module _ {m : Contents} {h : Holding} {mode : machine.Mode} {act : Activation} w
     frame = same_frame (sym (length-with_word l.memory w.place v)) a.frame;
     knows = knows_changed (one_word k f)
         (write_follows m h (words_of m s).reads act.layout k l.memory f v w means) a.knows;
-    named = (write_keeps m h (scope_of m s.context act.layout) k l.memory v t (written_readable m s.context k t) w).named a.named;
+    named = (write_keeps m h (scope_of m s.context act.layout) k l.memory v t
+        (written_readable m s.context k t) w).named a.named;
     same_mode = a.same_mode;
   }
 
@@ -155,7 +159,8 @@ module _ {m : Contents} {h : Holding} {mode : machine.Mode} {act : Activation} w
   after_said {s} {l} k f a means = record {
     frame = a.frame;
     knows = knows_changed (one_word k f) (record {
-      touched = λ j said inside e known. subst (λ (i : ℤ). Means m act.layout f (frame_word l.memory act.layout.origin i))
+      touched = λ j said inside e known. subst
+          (λ (i : ℤ). Means m act.layout f (frame_word l.memory act.layout.origin i))
           (at_word j k e) means;
       kept = λ j inside e. refl;
     }) a.knows;
@@ -337,7 +342,8 @@ turned_by more block index count l =
 
 module _ (x : Here) (wf : IsWellFormed x.m) (s : State) (l : Local) (a : After x.m x.h x.mode x.act s l)
     (even : IsTrue (is_stepped x.act.layout.origin))
-    (near : (k : ℤ) → rights.may_write_word x.m s.context k ≡ true → (neg_ℤ (pos farthest_word) ≤ℤ k) × (k <ℤ pos farthest_word))
+    (near : (k : ℤ) → rights.may_write_word x.m s.context k ≡ true → (neg_ℤ (pos farthest_word) ≤ℤ k)
+    × (k <ℤ pos farthest_word))
     (same : s.context ≡ x.context) (changes : Changes x l.memory) (n : owed s x.act ≤ x.owed) (fact distance : Fact)
     (block : Block) (begins : Beginning) (found : FindsBlock (rule_site x) s fact block.word block)
     (start : FindsBeginning (rule_site x) distance begins)
@@ -766,7 +772,8 @@ module _ (x : Here) (wf : IsWellFormed x.m) (s : State) (l : Local) (a : After x
       (subst (λ (f : Fact). Means x.m x.act.layout f (Some u)) found.leads.is second) place.is
       (omega (arith, a.frame.small, place.inside)) in
       tests_fit x s _ _ (λ each.
-      pays_fits x (taken s) (λ s. turns block begins (rule.without_registers s)) _ (omega (arith, taken_owed, n)) (λ left.
+      pays_fits x (taken s) (λ s. turns block begins (rule.without_registers s)) _
+      (omega (arith, taken_owed, n)) (λ left.
       aligned_fits x wf s l a even near same changes n s.stack.b.fact s.stack.a.fact block begins found start each
       (s.number - x.len) va u address to left))
 

@@ -1,8 +1,10 @@
 -- The instructions that make pointers, and those that read and write memory through them: what their rules say fits
 -- their steps.
-use Rattle.std.proofs.Common.{◌≡◌, ℕ, ◌+◌, ◌-◌, ◌*◌, ◌%◌, ◌^◌, ◌≤◌, ◌<◌, ℤ, pos, negsuc, ◌+ℤ◌, ◌*ℤ◌, ◌≤ℤ◌, ◌==◌, FitsSigned, Bool}
-use Rattle.std.proofs.Common.{if◌then◌else◌, true, false, cond, ◌&&◌, length, Option, Some, None, Result, Ok, Err, refl, sym, ap, ◌∙◌}
-use Rattle.std.proofs.Common.{subst, arith, rules as common_rules, inl, inr, ◌⊎◌}
+use Rattle.std.proofs.Common.{◌≡◌, ℕ, ◌+◌, ◌-◌, ◌*◌, ◌%◌, ◌^◌, ◌≤◌, ℤ, pos, negsuc, ◌+ℤ◌, ◌*ℤ◌, ◌≤ℤ◌, ◌==◌, FitsSigned}
+use Rattle.std.proofs.Common.{Bool}
+use Rattle.std.proofs.Common.{if◌then◌else◌, true, false, cond, ◌&&◌, length, Option, Some, Result, Ok, Err, refl, sym}
+use Rattle.std.proofs.Common.{ap, ◌∙◌}
+use Rattle.std.proofs.Common.{subst, arith, inl, inr}
 use Rattle.std.proofs.lemmas.Bool.Decides.{nat_tests}
 use Rattle.std.proofs.lemmas.Int.{ints, int_wrap_fits, int_wrap-add_left, SFits-int_wrap}
 use Rattle.std.specs.Prelude.{IsTrue, nat_lt, nat_le, int_le}
@@ -35,17 +37,18 @@ use Rattle.facts.specs.declared.pointers.Bounds.{Bounds}
 use Rattle.facts.specs.Rulings as rule
 use Rattle.facts.specs.Rulings.{Ruling}
 use Rattle.facts.specs.MemoryRules as memory
-use Rattle.facts.specs.MemoryRules.{is_near, are_near, near_fact, pointer_of, number_of, constant_of, word_fact, shifted}
+use Rattle.facts.specs.MemoryRules.{are_near, near_fact, pointer_of, number_of, constant_of, word_fact, shifted}
 use Rattle.facts.specs.MemoryRules.{is_of_a_word}
 use Rattle.facts.specs.MemoryRules.{element_of, place_fact, words_behind, words_at, word_read, byte_read}
 use Rattle.facts.specs.Reach.{may_read_bytes}
 use Rattle.facts.specs.Rules as table
 use Rattle.facts.specs.Meaning.{Layout, Means, IsOffset, is_number, is_pointer, is_code_address, from_nowhere}
-use Rattle.facts.specs.Meaning.{words_of, owed, code_address, region_start, IsWellFormed}
+use Rattle.facts.specs.Meaning.{owed, code_address, region_start, IsWellFormed}
 use Rattle.facts.specs.Fitting.{Changes, After, Here, rule_site, step_site, it_breaks}
-use Rattle.facts.proofs.Words.{bool_cases, word_test}
-use Rattle.facts.proofs.Addresses.{address_added, words_added, local_word, stepped, stepped_words, stepped_sum, pointer_added}
-use Rattle.facts.proofs.Addresses.{keeps_step, any_step}
+use Rattle.facts.proofs.Words.{word_test}
+use Rattle.facts.proofs.Addresses.{address_added, words_added, local_word, stepped, stepped_words, stepped_sum}
+use Rattle.facts.proofs.Addresses.{pointer_added}
+use Rattle.facts.proofs.Addresses.{keeps_step}
 use Rattle.facts.proofs.Through.{word_through, byte_through}
 use Rattle.facts.proofs.Combining.{FitsIf, unknown_means, uses_fits, goes_on_fits, in_plain_rule, beside_plain_rule}
 use Rattle.facts.proofs.Combining.{in_plain_step, beside_plain_step, after_stack, wanted_fits, on_step_test, reads_fits}
@@ -126,7 +129,8 @@ module _ (m : Contents) (layout : Layout) where
       let most = le-from (hi +ℤ by) greatest_word (and-parts (int_le least_word (hi +ℤ by)) _ both.1).1 in
       let there : FitsSigned w32 (v +ℤ by) = between (v +ℤ by) (omega (arith, ints)) (omega (arith, ints)) in
       subst (λ (f : Fact). Means m layout f (Some (int_wrap w32 (v +ℤ by)))) p.1
-      (subst (λ (z : ℤ). Means m layout (Number (lo +ℤ by) (hi +ℤ by)) (Some z)) (sym (int_wrap_fits w32 (v +ℤ by) there))
+      (subst (λ (z : ℤ). Means m layout (Number (lo +ℤ by) (hi +ℤ by)) (Some z))
+      (sym (int_wrap_fits w32 (v +ℤ by) there))
       (is_number (omega (arith, ints)) (omega (arith, ints)) there))
     where
       between : (z : ℤ) → least_word ≤ℤ z → z ≤ℤ greatest_word → FitsSigned w32 z
@@ -134,7 +138,8 @@ module _ (m : Contents) (layout : Layout) where
 
   -- a pointer further by a number between two others
   near_added : (region : ℕ) (lo hi low high v d : ℤ) (steps further : Step) (fact : Fact)
-      → near_fact region (lo +ℤ low) (hi +ℤ high) further ≡ Ok fact → Means m layout (Pointer region lo hi steps) (Some v)
+      → near_fact region (lo +ℤ low) (hi +ℤ high) further ≡ Ok fact
+      → Means m layout (Pointer region lo hi steps) (Some v)
       → low ≤ℤ d → d ≤ℤ high → ((offset : ℤ) → IsOffset steps offset → IsOffset further (offset +ℤ d))
       → Means m layout fact (Some (int_wrap w32 (v +ℤ d)))
   unfolding near_fact
@@ -163,7 +168,8 @@ module _ (m : Contents) (layout : Layout) where
       pointer_fits (is_pointer offset low high stepped is) =
           subst (λ (z : ℤ). FitsSigned w32 z) (sym is) (SFits-int_wrap w32 _)
 
-      on_near : (b : Bool) → cond b (near_fact region (lo +ℤ (pos 4 *ℤ e)) (hi +ℤ (pos 4 *ℤ e)) steps) (Err rules.Pointer)
+      on_near : (b : Bool) → cond b (near_fact region (lo +ℤ (pos 4 *ℤ e)) (hi +ℤ (pos 4 *ℤ e)) steps)
+          (Err rules.Pointer)
           ≡ Ok fact → near_fact region (lo +ℤ (pos 4 *ℤ e)) (hi +ℤ (pos 4 *ℤ e)) steps ≡ Ok fact
       on_near true h = h
       on_near false h = absurd (cc)
@@ -217,7 +223,8 @@ module _ (m : Contents) (layout : Layout) where
       (keeps_step p.step (pos 4 *ℤ u) (stepped_words u)))
 
   -- the address of a place behind the first byte of the code
-  place_means : (n : ℕ) (fact : Fact) (v : ℤ) → place_fact m (pos n) ≡ Ok fact → v ≡ int_wrap w32 (pos (code_address m n))
+  place_means : (n : ℕ) (fact : Fact) (v : ℤ) → place_fact m (pos n) ≡ Ok fact
+      → v ≡ int_wrap w32 (pos (code_address m n))
       → Means m layout fact (Some v)
   unfolding place_fact
   place_means n fact v is at = on_code (nat_lt n (length m.code)) refl is
@@ -255,7 +262,8 @@ module _ (m : Contents) (layout : Layout) where
       on_code false t h = on_constant (nat_le behind n && nat_lt n (behind + length m.constants)) refl h
 
   -- an address that a distance is added to
-  wrapped : (n : ℕ) (v : ℤ) → int_wrap w32 (cast_signed w32 (n % 2 ^ 32) +ℤ v) ≡ int_wrap w32 (int_wrap w32 (pos n) +ℤ v)
+  wrapped : (n : ℕ) (v : ℤ) → int_wrap w32 (cast_signed w32 (n % 2 ^ 32) +ℤ v) ≡ int_wrap w32
+      (int_wrap w32 (pos n) +ℤ v)
   unfolding int_wrap
   wrapped n v = refl
 
@@ -317,7 +325,8 @@ words_behind_is m layout e v q p is means = on_words q.step is means
 -- ---- the instructions
 
 module _ (x : Here) where
-  pub settles_fits : {A : Type 0} (r : Result A Rule) (k : A → Ruling) (o : Outcome) → ((v : A) → r ≡ Ok v → FitsIf x (k v) o)
+  pub settles_fits : {A : Type 0} (r : Result A Rule) (k : A → Ruling) (o : Outcome)
+      → ((v : A) → r ≡ Ok v → FitsIf x (k v) o)
       → FitsIf x (memory.settles r k) o
   unfolding memory.settles
   settles_fits (Ok v) k o go = go v refl
@@ -343,7 +352,8 @@ module _ (x : Here) where
         (step.instruction_step (step_site x) instructions.LoadNonLocalPointer e l)
     unfolding table.instruction_rule step.instruction_step
     ldnlp_fits e fits =
-        beside_plain_step x s a.same_mode _ _ (uses_fits x s.stack.a l.registers.stack.a _ _ a.knows.registers.a (λ v means.
+        beside_plain_step x s a.same_mode _ _
+        (uses_fits x s.stack.a l.registers.stack.a _ _ a.knows.registers.a (λ v means.
         settles_fits (shifted (pos 4 *ℤ e) s.stack.a.fact) _ _ (λ fact is.
         beside_plain_rule x s a.same_mode _ _
         (goes_on_fits x (rule.with_a (known fact) s) (step.with_a (step.word_of (local_address (step.address v) e)) l)
@@ -371,11 +381,13 @@ module _ (x : Here) where
     element_fits element sum sound =
         in_plain_step x s a.same_mode _ _ (uses_fits x s.stack.a l.registers.stack.a _ _ a.knows.registers.a (λ v means.
         uses_fits x s.stack.b l.registers.stack.b _ _ a.knows.registers.b (λ u other.
-        settles_fits (number_of s.stack.b.fact) _ _ (λ r number. settles_fits (pointer_of s.stack.a.fact) _ _ (λ p pointer.
+        settles_fits (number_of s.stack.b.fact) _ _
+        (λ r number. settles_fits (pointer_of s.stack.a.fact) _ _ (λ p pointer.
         settles_fits (element_of element p r) _ _ (λ fact is.
         with_fact_fits (rule.pop s) (step.pop l) fact _ popped same changes n
         (sound p r v u fact is
-        (subst (λ (f : Fact). Means x.m x.act.layout f (Some v)) (pointer_is x.m x.act.layout s.stack.a.fact p pointer).0
+        (subst (λ (f : Fact). Means x.m x.act.layout f (Some v))
+        (pointer_is x.m x.act.layout s.stack.a.fact p pointer).0
         means.fact)
         (number_lies x.m x.act.layout s.stack.b.fact r u number other.fact))))))))
 
@@ -383,7 +395,8 @@ module _ (x : Here) where
         (step.operation_step (step_site x) operations.ByteSubscript l)
     unfolding table.operation_rule step.operation_step
     bsub_fits =
-        element_fits Byte (λ v u. step.word_of ((step.address v + step.address u) % 2 ^ 32)) (byte_means x.m x.act.layout)
+        element_fits Byte (λ v u. step.word_of ((step.address v + step.address u) % 2 ^ 32))
+        (byte_means x.m x.act.layout)
 
     pub wsub_fits : FitsIf x (table.operation_rule (rule_site x) operations.WordSubscript s)
         (step.operation_step (step_site x) operations.WordSubscript l)
@@ -476,7 +489,8 @@ module _ (x : Here) where
               → Means x.m x.act.layout (byte_read s p.region p.lo p.hi) (option_map pos (byte_at l.memory place))
               → FitsIf x (memory.with_fact_a (rule_site x) (byte_read s p.region p.lo p.hi) s)
               (if may_read x.h (place_of address)
-              then step.goes_on (step_site x) (step.on_stack (with_top (option_map pos (byte_at l.memory (place_of address)))) l)
+              then step.goes_on (step_site x) (step.on_stack
+              (with_top (option_map pos (byte_at l.memory (place_of address)))) l)
               else fails NotOwn)
           byte_fits p address place is held means =
               on_step_test x (may_read x.h (place_of address)) _ _ _
@@ -489,7 +503,8 @@ module _ (x : Here) where
               → may_read_bytes x.m s.context p.region p.lo (p.hi +ℤ pos 1) ≡ true
               → FitsIf x (memory.with_fact_a (rule_site x) (byte_read s p.region p.lo p.hi) s)
               (if may_read x.h (place_of (step.address v))
-              then step.goes_on (step_site x) (step.on_stack (with_top (option_map pos (byte_at l.memory (place_of (step.address v))))) l)
+              then step.goes_on (step_site x) (step.on_stack
+              (with_top (option_map pos (byte_at l.memory (place_of (step.address v))))) l)
               else fails NotOwn)
           lb_byte v p (is_pointer offset low high stepped at) may =
               let w = byte_through wf a p.lo p.hi offset low high p.region may in

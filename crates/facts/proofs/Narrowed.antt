@@ -1,6 +1,7 @@
 -- Narrowing a word once more, and what the code of a conditional jump leaves.
-use Rattle.std.proofs.Common.{◌≡◌, ℤ, pos, ◌≤ℤ◌, ◌&&◌, Bool, true, false, cond, if◌then◌else◌, Option, Some, None, refl, sym}
-use Rattle.std.proofs.Common.{ap, ◌∙◌, subst}
+use Rattle.std.proofs.Common.{◌≡◌, ℤ, pos, ◌≤ℤ◌, ◌&&◌, Bool, true, false, cond, if◌then◌else◌, Option, Some, None, refl}
+use Rattle.std.proofs.Common.{sym}
+use Rattle.std.proofs.Common.{ap, ◌∙◌}
 use Rattle.std.specs.Prelude.{int_le}
 use std.Path.{fun_ext}
 use Rattle.word_arithmetic.specs.Range.{Ends, range_between, shift_right_range}
@@ -12,7 +13,7 @@ use Rattle.machine_state.specs.declared.op.Shift.{Shift}
 use Rattle.machine_state.specs.declared.op.Shift.TheVariants as shifts
 use Rattle.states.specs.declared.known.Known.{Known}
 use Rattle.states.specs.declared.known.Source.{Source}
-use Rattle.states.specs.declared.known.Source.TheVariants.{Nowhere, From, Test}
+use Rattle.states.specs.declared.known.Source.TheVariants.{Test}
 use Rattle.states.specs.declared.known.WordFact.{WordFact}
 use Rattle.states.specs.declared.known.WordFact.TheVariants.{Alone, Index, Count}
 use Rattle.states.specs.State.{State, Facts, is_silent, is_word}
@@ -21,7 +22,7 @@ use Rattle.facts.specs.declared.narrowing.Narrowing.{Narrowing}
 use Rattle.facts.specs.Narrowings.{narrowed_by}
 use Rattle.facts.specs.Rulings.{pop, with_a}
 use Rattle.facts.specs.WordRules.{constant, number_in, own_range, left_of, same, narrowed, where_false, where_true}
-use Rattle.facts.specs.WordRules.{are_shift_counts, shift_range}
+use Rattle.facts.specs.WordRules.{shift_range}
 
 -- a word that has a range is known
 pub ranged-known : (said : WordFact) (r : Ends) → Some r ≡ own_range said → is_silent said ≡ false
@@ -40,7 +41,8 @@ pub narrowed-is : (source : Source) (word w lo l hi h : ℤ) (within holds : Boo
     → Some r ≡ own_range said → Some t ≡ range_between l h → fact ≡ number_in (left_of (same within holds) r t)
     → narrowed source holds facts ≡ with_alone w fact facts
 unfolding narrowed
-narrowed-is source word w lo l hi h within holds facts said r t fact source_is w_is l_is h_is said_is r_is t_is fact_is =
+narrowed-is source word w lo l hi h within holds facts said r t fact source_is w_is l_is h_is said_is r_is
+    t_is fact_is =
     ap (λ (s : Source). narrowed s holds facts) source_is
     ∙ ap (λ (o : Option Ends). elim o as (λ o. Facts) [
       | None ↦ facts

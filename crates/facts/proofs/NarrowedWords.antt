@@ -1,5 +1,5 @@
 -- What a condition tells of a word holds of it, where the condition came out so.
-use Rattle.std.proofs.Common.{◌≡◌, ◌≢◌, zero, suc, ◌+◌, ◌≤◌, ℕ, ℤ, pos, ◌+ℤ◌, neg_ℤ, ◌*◌, Bool, true, false, not, cond}
+use Rattle.std.proofs.Common.{◌≡◌, ◌≢◌, zero, suc, ◌≤◌, ℕ, ℤ, pos, ◌+ℤ◌, neg_ℤ, ◌*◌, Bool, true, false, not, cond}
 use Rattle.std.specs.Prelude.{int_le}
 use Rattle.std.proofs.Common.{◌&&◌, inl, inr, Option, Some, None, refl, sym, ap, ◌∙◌, subst, arith}
 use Rattle.word_arithmetic.specs.Word.{truth}
@@ -20,8 +20,8 @@ use Rattle.states.specs.Frames.{with_alone}
 use Rattle.facts.specs.Meaning.{Activation, Means, is_number, MeansWord, is_fact, frame_word, ComesFrom, from_test}
 use Rattle.facts.specs.Meaning.{is_tested, loop_due, dues_from, farthest_word, dues}
 use Rattle.facts.specs.WordRules.{range_of, number_in, own_range, left_of, same, narrowed}
-use Rattle.facts.proofs.Words.{bool_cases, word_test, means_same}
-use Rattle.facts.proofs.Results.{Lies, lies}
+use Rattle.facts.proofs.Words.{word_test, means_same}
+use Rattle.facts.proofs.Results.{lies}
 
 -- a number that lies in a range, and in the other one or not, lies in what is left
 left_member : (b : Bool) (r other : Ends) (x : ℤ) → IsRange r → InRange r x → in_range other x ≡ b
@@ -126,7 +126,8 @@ module _ (m : Contents) (act : Activation) where
 
 -- ---- what is due
 
-alone_due : (b : Bool) (fact : Fact) (f : WordFact) (turns : ℕ) → loop_due (cond b (Alone fact) f) turns ≤ loop_due f turns
+alone_due : (b : Bool) (fact : Fact) (f : WordFact) (turns : ℕ)
+    → loop_due (cond b (Alone fact) f) turns ≤ loop_due f turns
 alone_due true fact f turns = omega arith
 alone_due false fact f turns = omega arith
 

@@ -1,14 +1,14 @@
 -- Addresses that words of the frame hold, and the places in memory that they name.
-use Rattle.std.proofs.Common.{◌≡◌, ℕ, zero, suc, ◌+◌, ◌-◌, ◌*◌, ◌/◌, ◌%◌, ◌^◌, ◌≤◌, ◌<◌, ℤ, pos, negsuc, ◌+ℤ◌, ◌-ℤ◌, ◌*ℤ◌, ◌≤ℤ◌}
-use Rattle.std.proofs.Common.{◌<ℤ◌, FitsSigned, Bool, true, false, ◌⊎◌, inl, inr, length, Option, Some, None, refl, sym, ap, ◌∙◌}
-use Rattle.std.proofs.Common.{subst, arith, ◌&&◌}
-use Rattle.std.specs.Int.{w32, int_wrap, int_rem_euclid, cast_unsigned, cast_signed}
-use Rattle.std.specs.Prelude.{unsigned_abs, nat_abs}
+use Rattle.std.proofs.Common.{◌≡◌, ℕ, zero, suc, ◌+◌, ◌-◌, ◌*◌, ◌%◌, ◌≤◌, ◌<◌, ℤ, pos, negsuc, ◌+ℤ◌, ◌-ℤ◌, ◌*ℤ◌, ◌≤ℤ◌}
+use Rattle.std.proofs.Common.{◌<ℤ◌, FitsSigned, Bool, true, false, inl, inr, length, Option, Some, None, sym, ap, ◌∙◌}
+use Rattle.std.proofs.Common.{subst, arith}
+use Rattle.std.specs.Int.{w32, int_wrap, cast_unsigned, cast_signed}
+use Rattle.std.specs.Prelude.{nat_abs}
 use Rattle.std.proofs.lemmas.Bool.{cases_lt, cases_eq}
 use Rattle.std.proofs.lemmas.Bool.Decides.{eqb_tells}
 use Rattle.std.proofs.lemmas.List.{get_or_past}
-use Rattle.std.proofs.lemmas.Int.{ints, of_z-to_z, to_z-of_z, int_rem_euclid_is}
-use Rattle.module_format.specs.Order.{is_multiple_of_four, is_stepped}
+use Rattle.std.proofs.lemmas.Int.{ints, of_z-to_z, to_z-of_z}
+use Rattle.module_format.specs.Order.{is_stepped}
 use Rattle.machine_state.specs.Memory.{Memory, place_of, data_start, byte_at, word_at, joined}
 use Rattle.states.proofs.RowFacts.{and-parts}
 use Rattle.facts.specs.Meaning.{word_of}

@@ -1,68 +1,56 @@
 -- What is passed to a procedure is what it wants, where the tests of a call hold.
-use Rattle.std.proofs.Common.{◌≡◌, ℕ, zero, suc, ◌+◌, ◌-◌, ◌*◌, ◌/◌, ◌%◌, ◌≤◌, ◌<◌, ℤ, pos, negsuc, ◌+ℤ◌, ◌-ℤ◌, ◌*ℤ◌, ◌≤ℤ◌}
-use Rattle.std.proofs.Common.{◌^◌, ◌<ℤ◌, Bool, true, false, cond, if◌then◌else◌, ◌&&◌, ◌||◌, not, ◌⊎◌, inl, inr, List, [], ◌∷◌, length}
+use Rattle.std.proofs.Common.{◌≡◌, ℕ, suc, ◌+◌, ◌-◌, ◌*◌, ◌/◌, ◌%◌, ◌≤◌, ◌<◌, ℤ, pos, negsuc, ◌+ℤ◌, ◌-ℤ◌, ◌*ℤ◌, ◌≤ℤ◌}
+use Rattle.std.proofs.Common.{◌^◌, ◌<ℤ◌, Bool, true, false, if◌then◌else◌, ◌||◌, not, inl, inr, List, [], ◌∷◌, length}
 use Rattle.std.proofs.Common.{Option, Some, None, FitsSigned, refl, sym, ap, ◌∙◌, subst, arith}
 use Rattle.std.specs.Int.{w32, cast_unsigned}
-use Rattle.std.specs.Prelude.{⊤, slice_get, int_le, int_lt, nat_abs, ◌==◌}
+use Rattle.std.specs.Prelude.{slice_get, int_le, int_lt, nat_abs, ◌==◌}
 use Rattle.std.specs.List.{list_all, list_any}
-use Rattle.std.proofs.lemmas.Bool.{cases_lt, cases_eq, cases_Bool}
-use Rattle.std.proofs.lemmas.Bool.Decides.{eqb_tells, leb_tells}
-use Rattle.std.proofs.lemmas.Int.{ints, clamps, SFits-int_wrap}
+use Rattle.std.proofs.lemmas.Bool.{cases_lt, cases_eq}
+use Rattle.std.proofs.lemmas.Bool.Decides.{leb_tells}
+use Rattle.std.proofs.lemmas.Int.{ints}
 use Rattle.module_format.specs.Rows.{Fact}
-use Rattle.module_format.specs.declared.fact.Fact.TheVariants.{Unknown, Number, Pointer, CodeAddress, Loop, ReturnAddress}
-use Rattle.module_format.specs.declared.fact.Step.TheVariants.{Word, Byte}
+use Rattle.module_format.specs.declared.fact.Fact.TheVariants.{Number, Pointer, ReturnAddress}
+use Rattle.module_format.specs.declared.fact.Step.TheVariants.{Word}
 use Rattle.module_format.specs.declared.rows.Parameter.{Parameter}
 use Rattle.module_format.specs.declared.rows.ParameterKind.{ParameterKind}
 use Rattle.module_format.specs.declared.rows.ParameterKind.TheVariants.{Value, ReadRegion, WrittenRegion, Channels}
-use Rattle.module_format.specs.declared.tables.Version.{Version}
 use Rattle.std.proofs.lemmas.Bool.{eqb-true, eq-eqb}
-use Rattle.module_format.specs.Order.{InOrder, is_multiple_of_four, is_stepped}
-use Rattle.module_format.specs.Procedures.{KindKeeps, ParameterKeeps, behind_parameter, ProcedureKeeps}
+use Rattle.module_format.specs.Procedures.{KindKeeps, ProcedureKeeps}
 use Rattle.module_format.specs.Contents.{Contents, Procedure, Par, Branch}
 use Rattle.module_format.specs.Pars.{key_of}
-use Rattle.module_format.specs.Keeping.{is_region}
 use Rattle.module_format.specs.Places.{branches_of}
-use Rattle.module_format.specs.Contexts.{first_branch, branch_count, owner, own_parameters, context_at, parameters_at, procedure_context}
+use Rattle.module_format.specs.Contexts.{first_branch, branch_count, owner, own_parameters, context_at, parameters_at}
+use Rattle.module_format.specs.Contexts.{procedure_context}
 use Rattle.module_format.proofs.PlaceLaws.{owner_below}
 use Rattle.certificate.specs.Branches.{numbered_branch}
 use Rattle.certificate.specs.Rights as rights
-use Rattle.certificate.specs.Starts.{Entered, procedure_from, procedure_at}
 use Rattle.machine_state.specs.declared.process.Mode as machine
-use Rattle.machine_state.specs.Memory.{Memory, place_of, data_start, byte_at, word_at}
-use Rattle.machine_state.specs.Holding.{Holding, has_end, may_write, may_read, may_write_word, may_read_word}
+use Rattle.machine_state.specs.Memory.{place_of, data_start, word_at}
+use Rattle.machine_state.specs.Holding.{Holding, has_end, may_write, may_read}
 use Rattle.machine_state.specs.World.{constants_start}
 use Rattle.machine_state.specs.Site.{Local}
 use Rattle.states.specs.declared.known.WordFact.{WordFact}
-use Rattle.states.specs.declared.known.WordFact.TheVariants.{Alone, Index, Count}
-use Rattle.states.specs.State.{State, Facts, is_alone, is_word, plain, parameter_fact, parameter_facts, procedure_facts}
-use Rattle.states.specs.Below.{lies_within, implies}
+use Rattle.states.specs.declared.known.WordFact.TheVariants.{Alone}
+use Rattle.states.specs.State.{State, is_word, plain, parameter_fact, parameter_facts, procedure_facts}
+use Rattle.states.specs.Below.{lies_within}
 use Rattle.states.proofs.RowFacts.{and-parts, and-both, le-from, lt-from, lt-yes}
 use Rattle.states.proofs.Procedures.{procedure-at}
-use Rattle.facts.specs.Meaning.{Layout, Activation, Means, MeansWord, is_number, is_pointer, is_fact, is_return_address}
-use Rattle.facts.specs.Meaning.{word_of, region_start, code_address, place_in, frame_word, word_at_place, IsOwnWord}
-use Rattle.facts.specs.Meaning.{IsReadableWord, HasFrame, words_of, words_in, frame_lo, frame_hi, IsWellFormed, says_nothing}
+use Rattle.facts.specs.Meaning.{Layout, Activation, Means, MeansWord, is_pointer, is_fact, is_return_address}
+use Rattle.facts.specs.Meaning.{word_of, region_start, code_address, place_in, frame_word, word_at_place}
+use Rattle.facts.specs.Meaning.{IsReadableWord, HasFrame, words_in, frame_lo, frame_hi, IsWellFormed, says_nothing}
 use Rattle.module_format.specs.declared.contexts.Context.{Context}
-use Rattle.facts.specs.Regions.{IsByteOf, Scope, scope_of, IsRegion, IsNamed, HoldsNamed, HasConstants}
-use Rattle.states.specs.declared.span.Together.{Together}
-use Rattle.states.specs.Spans.{all_words, with_plain, together}
-use Rattle.facts.specs.Reach.{word_of_byte, all_touched, words_touched, lie_in, readable_size, writable_size, readable_bytes, writable_bytes}
-use Rattle.word_arithmetic.specs.Range.{Ends}
-use Rattle.module_format.specs.declared.rows.TableRow.{TableRow}
-use Rattle.std.proofs.Common.{rules, get_or}
-use Rattle.std.specs.Int.{cast_signed}
-use Rattle.std.specs.Option.{option_map}
-use Rattle.std.specs.Prelude.{find, unwrap_or}
-use Rattle.machine_state.specs.Memory.{joined}
-use Rattle.facts.proofs.Constants.{word_in, row_word}
-use Rattle.facts.specs.Reach.{constant_range, lie_in_row}
+use Rattle.facts.specs.Regions.{IsByteOf, Scope, scope_of, IsRegion, IsNamed, HoldsNamed}
+use Rattle.states.specs.Spans.{all_words, together}
+use Rattle.facts.specs.Reach.{word_of_byte, words_touched, lie_in, readable_size, writable_size, readable_bytes}
+use Rattle.facts.specs.Reach.{writable_bytes}
 use Rattle.facts.specs.Reach.{may_read_bytes, may_write_bytes, may_read_parameter, may_write_parameter}
 use Rattle.facts.specs.CallRules as rule
 use Rattle.facts.specs.declared.lent.Lent.{Lent}
 use Rattle.facts.specs.CallRules.{Calling, callee_word, given, lent_from, lent, suits, parameter_suits, numbers_suit}
 use Rattle.facts.specs.CallRules.{numbers_fit, is_off_callee, may_use, words_fit, may_lend, pointers_fit, frame_size}
-use Rattle.facts.specs.CallRules.{frame_is_own, end_of, lent_words, ends_are_held, channel_of, holds_ends, has_direction}
-use Rattle.facts.specs.CallRules.{clash, are_apart, each_two, regions_are_apart, further}
-use Rattle.facts.proofs.Ends.{Names, names, end_held}
+use Rattle.facts.specs.CallRules.{frame_is_own, end_of, ends_are_held, channel_of, holds_ends, has_direction}
+use Rattle.facts.specs.CallRules.{clash, are_apart, regions_are_apart, further}
+use Rattle.facts.proofs.Ends.{names, end_held}
 use Rattle.module_format.specs.declared.rows.EndKind.{EndKind}
 use Rattle.module_format.specs.declared.rows.EndKind.TheVariants as end_kinds
 use Rattle.module_format.specs.declared.rows.Direction.{Direction}
@@ -70,17 +58,21 @@ use Rattle.module_format.specs.declared.rows.Ends.{Ends as EndSet}
 use Rattle.facts.specs.Regions.{channel_address, IsWrittenAt, IsNamedAt}
 use Rattle.std.proofs.lemmas.Option.{slice_get_within}
 use Rattle.std.proofs.lemmas.Bool.{le-leb}
-use Rattle.std.proofs.Common.{leb}
 use Rattle.std.specs.Prelude.{nat_lt}
 use Rattle.facts.specs.Fitting.{After}
-use Rattle.facts.proofs.Words.{int_le_tells, word_test, bool_cases, means_same, plain_means, frame_word_is}
+use Rattle.facts.proofs.Words.{word_test, bool_cases, means_same, plain_means, frame_word_is}
 use Rattle.facts.proofs.Entering.{implies_means}
 use Rattle.facts.proofs.Combining.{readable_byte, readable, written_readable}
 use Rattle.facts.proofs.Offsets.{address_of_word, place_of_address, place_behind, word_of_address, defined_inside}
 use Rattle.facts.proofs.Offsets.{offset_of_word, words_of_region, all_words_at}
-use Rattle.facts.proofs.Lending.{byte_index, number_means, wider_means, same_word, run_byte, IsRegionKind, IsPart, of_frame}
+use Rattle.facts.proofs.Lending.{byte_index, number_means, wider_means, same_word, run_byte, IsRegionKind, IsPart}
+use Rattle.facts.proofs.Lending.{of_frame}
 use Rattle.facts.proofs.Lending.{of_constants, of_parameter, named_at, PartOf, Part, Lends}
-use Rattle.facts.proofs.CallTests.{chosen, other, number_test, differs, two_at_least, same_word_by, stepped_natural, no_region, read_kind, write_kind, readable_kind, LinkedBy, list_all_at, each_two_at, range_of_row, signed_fits, constant_known, stepped_further, whole_words, more_words, even_place, constants_aligned, constants_near, of_kind, found_row, parameter_keeps, lend_parts, words_parts, HoldsPointer, pointer_held, lent_fact, together_means, HasPassed, here_given, third_given, second_given, given_is}
+use Rattle.facts.proofs.CallTests.{chosen, other, differs, two_at_least, same_word_by, stepped_natural, no_region}
+use Rattle.facts.proofs.CallTests.{read_kind, write_kind, readable_kind, LinkedBy, list_all_at, each_two_at}
+use Rattle.facts.proofs.CallTests.{constant_known, stepped_further, whole_words, more_words, even_place}
+use Rattle.facts.proofs.CallTests.{constants_aligned, constants_near, of_kind, parameter_keeps, lend_parts, words_parts}
+use Rattle.facts.proofs.CallTests.{HoldsPointer, pointer_held, lent_fact, together_means, HasPassed, given_is}
 use Rattle.facts.proofs.Regions.{bytes_read, bytes_written}
 use Rattle.facts.proofs.Reaching.{natural, lies_inside}
 use Rattle.facts.proofs.ReadThrough.{Usable, usable_found}
@@ -161,7 +153,8 @@ module _ (m : Contents) (h : Holding) (mode : machine.Mode) (act : Activation) (
       let n = natural (p.hi -ℤ p.lo) (omega (arith, ints)) in
       let size : frame_size p ≡ n.0 = ap nat_abs n.1 in
       subst (λ (z : ℤ). caller.words.writes z ≡ true) (omega (arith, ints, i.1))
-      (all_words_at caller.words.writes (callee_word s p.lo) (frame_size p) i.0 own (omega (arith, ints, i.1, n.1, size)))
+      (all_words_at caller.words.writes (callee_word s p.lo) (frame_size p) i.0 own
+      (omega (arith, ints, i.1, n.1, size)))
 
   pub own_read : (k : ℤ) → p.lo ≤ℤ k → k <ℤ p.hi → caller.words.reads (base +ℤ k) ≡ true
   own_read k low high = written_readable m s.context (base +ℤ k) (own_word k low high)
@@ -174,7 +167,8 @@ module _ (m : Contents) (h : Holding) (mode : machine.Mode) (act : Activation) (
   same_frame_word k = ap (word_at_place l.memory) (same_place k)
 
   -- what the caller knows of it holds
-  pub known_word : (k : ℤ) → p.lo ≤ℤ k → k <ℤ p.hi → MeansWord m act (base +ℤ k) (s.frame (base +ℤ k)) (frame_word l.memory origin k)
+  pub known_word : (k : ℤ) → p.lo ≤ℤ k → k <ℤ p.hi → MeansWord m act (base +ℤ k) (s.frame (base +ℤ k))
+      (frame_word l.memory origin k)
   known_word k low high =
       means_same (a.knows.words (base +ℤ k) (own_read k low high)) refl (sym (same_frame_word k))
 
@@ -212,11 +206,13 @@ module _ (m : Contents) (h : Holding) (mode : machine.Mode) (act : Activation) (
   readable_place false place e = e
 
   -- of the frame
-  module _ (size count : ℕ) (whole : size ≡ 4 * count) (at_least : 1 ≤ count) (lo hi : ℤ) (w : Bool) (word : ℤ) (start : ℕ)
+  module _ (size count : ℕ) (whole : size ≡ 4 * count) (at_least : 1 ≤ count) (lo hi : ℤ) (w : Bool)
+      (word : ℤ) (start : ℕ)
       (usable : all_words (if w then caller.words.writes else caller.words.reads) word count ≡ true)
       (numbers : (together s.frame word count).are_numbers ≡ true) (off : is_off_callee call word count ≡ true)
       (suit : lies_within (together s.frame word count).lo (together s.frame word count).hi lo hi ≡ true) where
-    reads_at : (b : Bool) (k : ℤ) → (if b then caller.words.writes else caller.words.reads) k ≡ true → caller.words.reads k ≡ true
+    reads_at : (b : Bool) (k : ℤ) → (if b then caller.words.writes else caller.words.reads) k ≡ true
+        → caller.words.reads k ≡ true
     reads_at true k t = written_readable m s.context k t
     reads_at false k t = t
 
@@ -224,7 +220,8 @@ module _ (m : Contents) (h : Holding) (mode : machine.Mode) (act : Activation) (
     reads i low = reads_at w (word +ℤ pos i)
         (all_words_at (if w then caller.words.writes else caller.words.reads) word count i usable low)
 
-    writes_at : (b : Bool) (k : ℤ) → (if b then caller.words.writes else caller.words.reads) k ≡ true → b ≡ true → caller.words.writes k ≡ true
+    writes_at : (b : Bool) (k : ℤ) → (if b then caller.words.writes else caller.words.reads) k ≡ true → b ≡ true
+        → caller.words.writes k ≡ true
     writes_at true k t e = t
     writes_at false k t e = absurd (cc)
 
@@ -236,7 +233,8 @@ module _ (m : Contents) (h : Holding) (mode : machine.Mode) (act : Activation) (
     apart_from i k low t e =
         let inside = callee_word_inside k t in
         elim (bool_cases (int_le (word +ℤ pos count) (callee_word s p.lo))) [
-          | inl before ↦ let b = le-from (word +ℤ pos count) (callee_word s p.lo) before in omega (arith, ints, b, e, inside.0, inside.1, low)
+          | inl before ↦ let b = le-from (word +ℤ pos count) (callee_word s p.lo) before in
+              omega (arith, ints, b, e, inside.0, inside.1, low)
           | inr not_before ↦
               let behind : int_le (callee_word s p.hi) word ≡ true =
               sym (ap (λ (b : Bool). b || int_le (callee_word s p.hi) word) not_before) ∙ off in
@@ -267,7 +265,8 @@ module _ (m : Contents) (h : Holding) (mode : machine.Mode) (act : Activation) (
     frame_passed : (region : ℕ) (first : ℤ) → region ≡ 0 → first ≡ pos 4 *ℤ word → place_of start ≡ first_place.place
         → IsPassed size lo hi w region first start
     frame_passed region first r f at = record {
-      part = subst (λ (n : ℕ). IsPart m caller callee base region first n lo hi w (place_of start)) (omega (arith, whole))
+      part = subst (λ (n : ℕ). IsPart m caller callee base region first n lo hi w (place_of start))
+          (omega (arith, whole))
           (of_frame word r f (omega (arith, ints, at, place_is)) reads writes apart_from);
       has = subst (λ (n : ℕ). IsRegion m (may_use_place h w) callee l.memory n size lo hi) (sym at) (record {
         whole = whole_words size count whole;
@@ -275,7 +274,8 @@ module _ (m : Contents) (h : Holding) (mode : machine.Mode) (act : Activation) (
         held = λ i low.
             subst (λ (n : ℕ). may_use_place h w n ≡ true) (omega arith)
             (byte_usable w (word +ℤ pos (i / 4)) (first_place.place + 4 * (i / 4)) (i % 4)
-            (all_words_at (if w then caller.words.writes else caller.words.reads) word count (i / 4) usable (omega (arith, whole)))
+            (all_words_at (if w then caller.words.writes else caller.words.reads) word count (i / 4) usable
+            (omega (arith, whole)))
             (omega (arith, ints, place_is)) (omega arith));
         beside = λ k i t low b. apart_from (i / 4) k (omega (arith, whole)) t
             (same_word act.layout.origin (word +ℤ pos (i / 4)) (base +ℤ k) (first_place.place + i)
@@ -283,13 +283,16 @@ module _ (m : Contents) (h : Holding) (mode : machine.Mode) (act : Activation) (
             (record { low = omega (arith, ints, b.low); high = omega (arith, ints, b.high) }));
         numbers = λ i fits.
             let low : i < count = omega (arith, whole) in
-            let both = and-parts (int_le lo (together s.frame word count).lo) (int_le (together s.frame word count).hi hi) suit in
-            let means = together_means {act = act} s.frame word count i (frame_word l.memory act.layout.origin (word +ℤ pos i))
+            let both = and-parts (int_le lo (together s.frame word count).lo)
+            (int_le (together s.frame word count).hi hi) suit in
+            let means = together_means {act = act} s.frame word count i
+            (frame_word l.memory act.layout.origin (word +ℤ pos i))
             low numbers (a.knows.words (word +ℤ pos i) (reads i low)) in
             let within : Means m act.layout (Number lo hi) (frame_word l.memory act.layout.origin (word +ℤ pos i)) =
             wider_means (le-from lo _ both.0) (le-from _ hi both.1) means in
             number_means (subst (λ (v : Option ℤ). Means m act.layout (Number lo hi) v)
-            (frame_word_is l.memory act.layout.origin (word +ℤ pos i) (first_place.place + 4 * i) (omega (arith, ints, place_is))) within);
+            (frame_word_is l.memory act.layout.origin (word +ℤ pos i) (first_place.place + 4 * i)
+            (omega (arith, ints, place_is))) within);
       });
     }
 
@@ -303,7 +306,8 @@ module _ (m : Contents) (h : Holding) (mode : machine.Mode) (act : Activation) (
       (subst (λ (n : ℕ). IsRegion m may caller l.memory place n lo hi) same.0 region))
 
   -- of the caller's parameter of this number
-  module _ (size count : ℕ) (whole : size ≡ 4 * count) (at_least : 1 ≤ count) (lo hi : ℤ) (w : Bool) (q n : ℕ) (r : Parameter)
+  module _ (size count : ℕ) (whole : size ≡ 4 * count) (at_least : 1 ≤ count) (lo hi : ℤ) (w : Bool) (q n : ℕ)
+      (r : Parameter)
       (found : slice_get caller.parameters q ≡ Some r) (start : ℕ)
       (at : start ≡ (act.layout.starts q + 4 * n) % 4294967296) where
     module _ (total : ℕ) (low high : ℤ) (kind : IsRegionKind r.kind total low high)
@@ -316,7 +320,8 @@ module _ (m : Contents) (h : Holding) (mode : machine.Mode) (act : Activation) (
           (region.numbers (n + (count - 1)) (omega arith))
         where
           on_value : (v : Option ℤ) → word_at l.memory (place_of (act.layout.starts q) + 4 * (n + (count - 1))) ≡ v
-              → Means m act.layout (Number low high) v → place_of (act.layout.starts q) + 4 * (n + (count - 1)) + 4 ≤ length l.memory
+              → Means m act.layout (Number low high) v
+              → place_of (act.layout.starts q) + 4 * (n + (count - 1)) + 4 ≤ length l.memory
           on_value None e means = elim means [ ]
           on_value (Some x) e means = defined_inside l.memory _ x e
 
@@ -327,29 +332,36 @@ module _ (m : Contents) (h : Holding) (mode : machine.Mode) (act : Activation) (
       parameter_passed : (region' : ℕ) (first : ℤ) → region' ≡ 2 + q → first ≡ pos (4 * n)
           → IsPassed size lo hi w region' first start
       parameter_passed region' first e f = record {
-        part = subst (λ (c : ℕ). IsPart m caller callee base region' first c lo hi w (place_of start)) (omega (arith, whole))
+        part = subst (λ (c : ℕ). IsPart m caller callee base region' first c lo hi w (place_of start))
+            (omega (arith, whole))
             (of_parameter q r n total low high e f found kind writes below above part_place fits);
-        has = subst (λ (place : ℕ). IsRegion m (may_use_place h w) callee l.memory place size lo hi) (sym part_place) (record {
-          whole = whole_words size count whole;
-          aligned = more_words (place_of (act.layout.starts q)) n region.aligned;
-          held = λ i low'. subst (λ (place : ℕ). may_use_place h w place ≡ true) (omega arith)
-              (may_so _ (region.held (4 * n + i) (omega (arith, whole))));
-          beside = λ k i t low' b.
-              let inside = callee_word_inside k t in
-              region.beside (base +ℤ k) (4 * n + i) (own_read k inside.0 inside.1) (omega (arith, whole))
-              (record { low = omega (arith, ints, b.low); high = omega (arith, ints, b.high) });
-          numbers = λ i fits'. subst (λ (place : ℕ). Means m layout (Number lo hi) (word_at l.memory place)) (omega arith)
-              (wider_means below above (region.numbers (n + i) (omega (arith, whole))));
-        });
+        has = subst (λ (place : ℕ). IsRegion m (may_use_place h w) callee l.memory place size lo hi)
+            (sym part_place) (record {
+              whole = whole_words size count whole;
+              aligned = more_words (place_of (act.layout.starts q)) n region.aligned;
+              held = λ i low'. subst (λ (place : ℕ). may_use_place h w place ≡ true) (omega arith)
+                  (may_so _ (region.held (4 * n + i) (omega (arith, whole))));
+              beside = λ k i t low' b.
+                  let inside = callee_word_inside k t in
+                  region.beside (base +ℤ k) (4 * n + i) (own_read k inside.0 inside.1) (omega (arith, whole))
+                  (record { low = omega (arith, ints, b.low); high = omega (arith, ints, b.high) });
+              numbers = λ i fits'. subst (λ (place : ℕ). Means m layout (Number lo hi) (word_at l.memory place))
+                  (omega arith)
+                  (wider_means below above (region.numbers (n + i) (omega (arith, whole))));
+            });
       }
 
   -- of the constants
-  module _ (size count : ℕ) (whole : size ≡ 4 * count) (at_least : 1 ≤ count) (lo hi : ℤ) (n start : ℕ) (aligned : n ≡ 4 * (n / 4))
+  module _ (size count : ℕ) (whole : size ≡ 4 * count) (at_least : 1 ≤ count) (lo hi : ℤ) (n start : ℕ)
+      (aligned : n ≡ 4 * (n / 4))
       (at : place_of start ≡ constants_start m + n) (fits : n + 4 * count ≤ length m.constants)
-      (numbers : (i : ℕ) → i < count → Means m act.layout (Number lo hi) (word_at l.memory (constants_start m + n + 4 * i))) where
-    constants_passed : (region : ℕ) (first : ℤ) → region ≡ 1 → first ≡ pos n → IsPassed size lo hi false region first start
+      (numbers : (i : ℕ) → i < count → Means m act.layout (Number lo hi)
+      (word_at l.memory (constants_start m + n + 4 * i))) where
+    constants_passed : (region : ℕ) (first : ℤ) → region ≡ 1 → first ≡ pos n
+        → IsPassed size lo hi false region first start
     constants_passed region first e f = record {
-      part = subst (λ (c : ℕ). IsPart m caller callee base region first c lo hi false (place_of start)) (omega (arith, whole))
+      part = subst (λ (c : ℕ). IsPart m caller callee base region first c lo hi false (place_of start))
+          (omega (arith, whole))
           (of_constants n e f refl at fits);
       has = subst (λ (place : ℕ). IsRegion m (may_read h) callee l.memory place size lo hi) (sym at) (record {
         whole = whole_words size count whole;
@@ -361,7 +373,8 @@ module _ (m : Contents) (h : Holding) (mode : machine.Mode) (act : Activation) (
             let w = a.frame.own (base +ℤ k) (own_word k inside.0 inside.1) in
             let is = w.is in
             let j = natural (pos (constants_start m + n + i) -ℤ pos w.place) (omega (arith, ints, is, b.low)) in
-            let low' = a.named.constants.behind (w.place + j.0) (bytes_written h w.place w.mine j.0 (omega (arith, ints, is, b.high, j.1))) in
+            let low' = a.named.constants.behind (w.place + j.0)
+            (bytes_written h w.place w.mine j.0 (omega (arith, ints, is, b.high, j.1))) in
             omega (arith, ints, j.1, low');
         numbers = λ i fits'. number_means (numbers i (omega (arith, whole)));
       });
@@ -451,11 +464,13 @@ module _ (m : Contents) (h : Holding) (mode : machine.Mode) (act : Activation) (
       let both = and-parts (int_le lo low) (int_le high hi) h in
       record { below = le-from lo low both.0; above = le-from high hi both.1; same = λ e. absurd (cc) }
 
-  module _ (j : ℕ) (q : Parameter) (found : slice_get p.parameters j ≡ Some q) (size count : ℕ) (whole : size ≡ 4 * count)
+  module _ (j : ℕ) (q : Parameter) (found : slice_get p.parameters j ≡ Some q) (size count : ℕ)
+      (whole : size ≡ 4 * count)
       (at_least : 1 ≤ count) (lo hi : ℤ) (w : Bool) where
     -- where a parameter of the caller's lends
     of_own : (region : ℕ) (first : ℤ) → given call q ≡ Alone (Pointer region first first Word)
-        → numbers_suit call (a_lent region first size lo hi w) ≡ true → may_lend call (a_lent region first size lo hi w) ≡ true
+        → numbers_suit call (a_lent region first size lo hi w) ≡ true
+        → may_lend call (a_lent region first size lo hi w) ≡ true
         → HoldsPointer m act.layout region first (value q) → (region ≡ 0 → ⊥) → (region ≡ 1 → ⊥)
         → IsPassed size lo hi w region first (layout.starts j)
     unfolding numbers_suit may_read_bytes may_write_bytes
@@ -478,26 +493,33 @@ module _ (m : Contents) (h : Holding) (mode : machine.Mode) (act : Activation) (
         ∙ ap (λ (z : ℤ). cast_unsigned w32 (word_of z)) (start_sum region first n.0 r r' n.1)
         ∙ address_of_word (act.layout.starts k + n.0)
         ∙ ap (λ (i : ℕ). (act.layout.starts k + i) % 4294967296) quarter in
-        on_kind u.r.kind k (n.0 / 4) u.r refl u.found u.total u.low u.high u.kind u.written ranges address fits region first
+        on_kind u.r.kind k (n.0 / 4) u.r refl u.found u.total u.low u.high u.kind u.written ranges address
+        fits region first
         (omega (arith, two_at_least region not_zero not_one)) (n.1 ∙ ap pos quarter)
         (a.named.each k u.r u.found)
       where
         on_use : (w : Bool) → (region == 0) ≡ false → (region == 1) ≡ false
             → rule.may_use call (a_lent region first size lo hi w) ≡ true
-            → lie_in (if w then writable_bytes m s.context (region - 2) else readable_bytes m s.context (region - 2)) first
+            → lie_in (if w then writable_bytes m s.context (region - 2) else readable_bytes m s.context
+            (region - 2)) first
             (end_of (a_lent region first size lo hi w)) ≡ true
         on_use true r r' used =
             sym (ap (λ (b : Bool). lie_in (if b then None else writable_bytes m s.context (region - 2)) first
             (end_of (a_lent region first size lo hi w))) r') ∙ other (region == 0) _ _ r used
         on_use false r r' used =
-            sym (ap (λ (b : Bool). lie_in (if b then Some (length m.constants) else readable_bytes m s.context (region - 2)) first
+            sym
+            (ap (λ (b : Bool). lie_in (if b then Some (length m.constants) else readable_bytes m s.context
+            (region - 2)) first
             (end_of (a_lent region first size lo hi w))) r') ∙ other (region == 0) _ _ r used
 
         start_sum : (region : ℕ) (first : ℤ) (n : ℕ) → (region == 0) ≡ false → (region == 1) ≡ false → first ≡ pos n
             → region_start m act.layout region +ℤ first ≡ pos (act.layout.starts (region - 2) + n)
         start_sum region first n r r' e =
-            ap (λ (b : Bool). (if b then pos data_start +ℤ act.layout.origin else (if region == 1 then pos (data_start + constants_start m) else pos (act.layout.starts (region - 2)))) +ℤ first) r
-            ∙ ap (λ (b : Bool). (if b then pos (data_start + constants_start m) else pos (act.layout.starts (region - 2))) +ℤ first) r'
+            ap (λ (b : Bool). (if b then pos data_start +ℤ act.layout.origin else
+            (if region == 1 then pos (data_start + constants_start m) else pos
+            (act.layout.starts (region - 2)))) +ℤ first) r
+            ∙ ap (λ (b : Bool). (if b then pos (data_start + constants_start m) else pos
+            (act.layout.starts (region - 2))) +ℤ first) r'
             ∙ ap (λ (z : ℤ). pos (act.layout.starts (region - 2)) +ℤ z) e
 
         on_read : (w : Bool) (place : ℕ) → (w ≡ true → ⊥) → may_read h place ≡ true → may_use_place h w place ≡ true
@@ -508,22 +530,29 @@ module _ (m : Contents) (h : Holding) (mode : machine.Mode) (act : Activation) (
         on_write true place may = may
         on_write false place may = readable_byte h place may
 
-        on_kind : (kind : ParameterKind) (k n : ℕ) (r : Parameter) → r.kind ≡ kind → slice_get caller.parameters k ≡ Some r
-            → (total : ℕ) (low high : ℤ) → IsRegionKind r.kind total low high → (w ≡ true → r.kind ≡ WrittenRegion total low high)
-            → Ranges lo hi low high w → layout.starts j ≡ (act.layout.starts k + 4 * n) % 4294967296 → 4 * n + 4 * count ≤ total
+        on_kind : (kind : ParameterKind) (k n : ℕ) (r : Parameter) → r.kind ≡ kind
+            → slice_get caller.parameters k ≡ Some r
+            → (total : ℕ) (low high : ℤ) → IsRegionKind r.kind total low high
+            → (w ≡ true → r.kind ≡ WrittenRegion total low high)
+            → Ranges lo hi low high w → layout.starts j ≡ (act.layout.starts k + 4 * n) % 4294967296
+            → 4 * n + 4 * count ≤ total
             → (region : ℕ) (first : ℤ) → region ≡ 2 + k → first ≡ pos (4 * n)
             → IsNamed m h caller l.memory kind (act.layout.starts k)
             → IsPassed size lo hi w region first (layout.starts j)
-        on_kind (Value lo' hi') k n r e found total low high is_kind written ranges at fits region first region_is first_is named =
+        on_kind (Value lo' hi') k n r e found total low high is_kind written ranges at fits region first region_is
+            first_is named =
             let no' : false ≡ true = no_region (Value lo' hi') r.kind total low high e is_kind in absurd (cc)
-        on_kind (ReadRegion size' lo' hi') k n r e found total low high is_kind written ranges at fits region first region_is
+        on_kind (ReadRegion size' lo' hi') k n r e found total low high is_kind written ranges at fits region
+            first region_is
             first_is named =
             parameter_passed size count whole at_least lo hi w k n r found (layout.starts j) at total low high is_kind
             (may_read h) (same_region (read_kind r.kind size' total lo' hi' low high e is_kind) named)
-            (λ place may. on_read w place (λ t. let no' : ReadRegion size' lo' hi' ≡ WrittenRegion total low high = sym e ∙ written t in cc) may)
+            (λ place may. on_read w place (λ t. let no' : ReadRegion size' lo' hi' ≡ WrittenRegion total low high =
+            sym e ∙ written t in cc) may)
             (λ t. let no' : ReadRegion size' lo' hi' ≡ WrittenRegion total low high = sym e ∙ written t in absurd (cc))
             ranges.below ranges.above fits region first region_is first_is
-        on_kind (WrittenRegion size' lo' hi') k n r e found total low high is_kind written ranges at fits region first region_is
+        on_kind (WrittenRegion size' lo' hi') k n r e found total low high is_kind written ranges at fits region
+            first region_is
             first_is named =
             parameter_passed size count whole at_least lo hi w k n r found (layout.starts j) at total low high is_kind
             (may_write h) (same_region (write_kind r.kind size' total lo' hi' low high e is_kind) named)
@@ -531,12 +560,15 @@ module _ (m : Contents) (h : Holding) (mode : machine.Mode) (act : Activation) (
             (λ t. written t ∙ ap (λ (z : ℤ). WrittenRegion total z high) (ranges.same t).0
             ∙ ap (λ (z : ℤ). WrittenRegion total lo z) (ranges.same t).1)
             ranges.below ranges.above fits region first region_is first_is
-        on_kind (Channels count' len ends) k n r e found total low high is_kind written ranges at fits region first region_is
-            first_is named = (let no' : false ≡ true = no_region (Channels count' len ends) r.kind total low high e is_kind in absurd (cc))
+        on_kind (Channels count' len ends) k n r e found total low high is_kind written ranges at fits region
+            first region_is
+            first_is named = (let no' : false ≡ true =
+            no_region (Channels count' len ends) r.kind total low high e is_kind in absurd (cc))
 
     -- where the frame lends
     of_words : (region : ℕ) (first : ℤ) → given call q ≡ Alone (Pointer region first first Word)
-        → numbers_suit call (a_lent region first size lo hi w) ≡ true → may_lend call (a_lent region first size lo hi w) ≡ true
+        → numbers_suit call (a_lent region first size lo hi w) ≡ true
+        → may_lend call (a_lent region first size lo hi w) ≡ true
         → HoldsPointer m act.layout region first (value q) → region ≡ 0
         → IsPassed size lo hi w region first (layout.starts j)
     unfolding numbers_suit may_read_bytes may_write_bytes
@@ -557,15 +589,19 @@ module _ (m : Contents) (h : Holding) (mode : machine.Mode) (act : Activation) (
         (on_use w region first r both.0) in
         let number = subst (λ (n : ℕ). (together s.frame word n).are_numbers ≡ true) size_is parts.0 in
         let off = subst (λ (n : ℕ). is_off_callee call word n ≡ true) size_is parts.1 in
-        let suits_it = subst (λ (n : ℕ). lies_within (together s.frame word n).lo (together s.frame word n).hi lo hi ≡ true)
+        let suits_it = subst (λ (n : ℕ). lies_within (together s.frame word n).lo
+        (together s.frame word n).hi lo hi ≡ true)
         size_is (chosen (region == 0) _ _ r suit) in
         let there = first_place size count whole at_least lo hi w word (layout.starts j) usable number off suits_it in
         let at : place_of (layout.starts j) ≡ there.place =
         at_address j q found region first held there.place
-        (ap (λ (b : Bool). (if b then pos data_start +ℤ act.layout.origin else (if region == 1 then pos (data_start + constants_start m) else pos (act.layout.starts (region - 2)))) +ℤ first) r
+        (ap (λ (b : Bool). (if b then pos data_start +ℤ act.layout.origin else
+        (if region == 1 then pos (data_start + constants_start m) else pos
+        (act.layout.starts (region - 2)))) +ℤ first) r
         ∙ (let e = there.is in omega (arith, ints, e, f)))
         (let i = there.inside in let b = a.frame.small in omega arith) in
-        frame_passed size count whole at_least lo hi w word (layout.starts j) usable number off suits_it region first zero' f at
+        frame_passed size count whole at_least lo hi w word
+        (layout.starts j) usable number off suits_it region first zero' f at
       where
         on_use : (w : Bool) (region : ℕ) (first : ℤ) → (region == 0) ≡ true
             → rule.may_use call (a_lent region first size lo hi w) ≡ true
@@ -576,12 +612,14 @@ module _ (m : Contents) (h : Holding) (mode : machine.Mode) (act : Activation) (
 
     -- where the constants lend
     of_the_constants : (region : ℕ) (first : ℤ) → given call q ≡ Alone (Pointer region first first Word)
-        → numbers_suit call (a_lent region first size lo hi w) ≡ true → may_lend call (a_lent region first size lo hi w) ≡ true
+        → numbers_suit call (a_lent region first size lo hi w) ≡ true
+        → may_lend call (a_lent region first size lo hi w) ≡ true
         → HoldsPointer m act.layout region first (value q) → region ≡ 1
         → IsPassed size lo hi w region first (layout.starts j)
     unfolding numbers_suit may_read_bytes may_write_bytes
     of_the_constants region first is suit may held one =
-        let r : (region == 0) ≡ false = differs region 0 (λ e. let no' : 1 ≡ 0 = sym one ∙ e in absurd (omega (arith, no'))) in
+        let r : (region == 0) ≡ false = differs region 0
+        (λ e. let no' : 1 ≡ 0 = sym one ∙ e in absurd (omega (arith, no'))) in
         let r' : (region == 1) ≡ true = ap (λ (n : ℕ). n == 1) one in
         on_written w refl r r' suit (lend_parts call (a_lent region first size lo hi w) may).0
       where
@@ -590,14 +628,17 @@ module _ (m : Contents) (h : Holding) (mode : machine.Mode) (act : Activation) (
             → lie_in (Some (length m.constants)) first (end_of (a_lent region first size lo hi w)) ≡ true
         inside lo hi true r r' no' used = absurd (cc)
         inside lo hi false r r' no' used =
-            sym (ap (λ (b : Bool). lie_in (if b then Some (length m.constants) else readable_bytes m s.context (region - 2)) first
+            sym
+            (ap (λ (b : Bool). lie_in (if b then Some (length m.constants) else readable_bytes m s.context
+            (region - 2)) first
             (end_of (a_lent region first size lo hi false))) r') ∙ other (region == 0) _ _ r used
 
         not_written : (lo hi : ℤ) (w : Bool) → (region == 0) ≡ false → (region == 1) ≡ true
             → rule.may_use call (a_lent region first size lo hi w) ≡ true → w ≡ false
         not_written lo hi false r r' used = refl
         not_written lo hi true r r' used =
-            let no' : false ≡ true = sym (ap (λ (b : Bool). lie_in (if b then None else writable_bytes m s.context (region - 2)) first
+            let no' : false ≡ true = sym (ap (λ (b : Bool). lie_in
+            (if b then None else writable_bytes m s.context (region - 2)) first
             (end_of (a_lent region first size lo hi true))) r') ∙ other (region == 0) _ _ r used in
             absurd (cc)
 
@@ -615,18 +656,23 @@ module _ (m : Contents) (h : Holding) (mode : machine.Mode) (act : Activation) (
             let fits : n.0 + 4 * count ≤ length m.constants = omega (arith, ints, to, n.1, whole) in
             let range = chosen (region == 1) _ _ r' (other (region == 0) _ _ r suit) in
             let start : region_start m act.layout region +ℤ first ≡ pos (data_start + (constants_start m + n.0)) =
-            ap (λ (b : Bool). (if b then pos data_start +ℤ act.layout.origin else (if region == 1 then pos (data_start + constants_start m) else pos (act.layout.starts (region - 2)))) +ℤ first) r
-            ∙ ap (λ (b : Bool). (if b then pos (data_start + constants_start m) else pos (act.layout.starts (region - 2))) +ℤ first) r'
+            ap (λ (b : Bool). (if b then pos data_start +ℤ act.layout.origin else
+            (if region == 1 then pos (data_start + constants_start m) else pos
+            (act.layout.starts (region - 2)))) +ℤ first) r
+            ∙ ap (λ (b : Bool). (if b then pos (data_start + constants_start m) else pos
+            (act.layout.starts (region - 2))) +ℤ first) r'
             ∙ (let f = n.1 in omega (arith, ints, f)) in
             let at = at_address j q found region first held (constants_start m + n.0) start
             (constants_near m n.0 wf (omega (arith, fits))) in
             subst (λ (b : Bool). IsPassed size lo hi b region first (layout.starts j)) (sym e)
             (constants_passed size count whole at_least lo hi n.0 (layout.starts j)
             (stepped_natural first n.0 n.1 held.stepped) at fits
-            (λ i low. constant_known m wf act l.memory a.named.constants first n.0 (end_of (a_lent region first size lo hi w)) lo hi
+            (λ i low. constant_known m wf act l.memory a.named.constants first n.0
+            (end_of (a_lent region first size lo hi w)) lo hi
             (constants_start m + n.0 + 4 * i) (n.0 + 4 * i) (omega arith)
             (let q = stepped_natural first n.0 n.1 held.stepped in omega arith)
-            (let f = n.1 in omega (arith, ints, f)) (let f = n.1 in omega (arith, ints, f, whole)) (omega (arith, fits)) range)
+            (let f = n.1 in omega (arith, ints, f)) (let f = n.1 in omega (arith, ints, f, whole))
+            (omega (arith, fits)) range)
             region first one n.1)
 
     -- what a region parameter is lent
@@ -667,9 +713,12 @@ module _ (m : Contents) (h : Holding) (mode : machine.Mode) (act : Activation) (
     where
       region : region_start m layout (2 + j) +ℤ pos 0 ≡ pos (cast_unsigned w32 x)
       region =
-          ap (λ (b : Bool). (if b then pos data_start +ℤ origin else (if (2 + j) == 1 then pos (data_start + constants_start m) else pos (layout.starts (2 + j - 2)))) +ℤ pos 0)
+          ap (λ (b : Bool). (if b then pos data_start +ℤ origin else
+          (if (2 + j) == 1 then pos (data_start + constants_start m) else pos (layout.starts (2 + j - 2)))) +ℤ pos
+          0)
           (differs (2 + j) 0 (λ e. omega (arith, e)))
-          ∙ ap (λ (b : Bool). (if b then pos (data_start + constants_start m) else pos (layout.starts (2 + j - 2))) +ℤ pos 0)
+          ∙ ap (λ (b : Bool). (if b then pos (data_start + constants_start m) else pos
+          (layout.starts (2 + j - 2))) +ℤ pos 0)
           (differs (2 + j) 1 (λ e. omega (arith, e)))
           ∙ ap (λ (n : ℕ). pos (layout.starts n) +ℤ pos 0) (let e : 2 + j - 2 ≡ j = omega arith in e)
           ∙ ap (λ (n : ℕ). pos n +ℤ pos 0) (start_is j q x found held)
@@ -687,7 +736,8 @@ module _ (m : Contents) (h : Holding) (mode : machine.Mode) (act : Activation) (
 
   passed_lent : (j : ℕ) (q : Parameter) → slice_get p.parameters j ≡ Some q → (size : ℕ) (lo hi : ℤ) (w : Bool)
       → KindKeeps m.version (ReadRegion size lo hi)
-      → (elim (lent_from size lo hi w (given call q)) as (λ o. Bool) [ None ↦ true | Some l ↦ numbers_suit call l ]) ≡ true
+      → (elim (lent_from size lo hi w (given call q)) as (λ o. Bool) [ None ↦ true | Some l ↦ numbers_suit call l ])
+      ≡ true
       → (elim (lent_from size lo hi w (given call q)) as (λ o. Bool) [ None ↦ false | Some l ↦ may_lend call l ]) ≡ true
       → IsLent size lo hi w j q
   passed_lent j q found size lo hi w keeps suit may =
@@ -722,8 +772,10 @@ module _ (m : Contents) (h : Holding) (mode : machine.Mode) (act : Activation) (
   passed_at j word (Value lo hi) found numbers pointers ends = record {
     part = record { region = 0; first = pos 0; count = 0; is = tt };
     named = tt;
-    means = number_means (implies_means m act.layout (plain (given call (record { word = word; kind = Value lo hi }))) (Number lo hi) _ numbers
-        (plain_means m act (callee_word s (pos word)) (given call (record { word = word; kind = Value lo hi })) _ (given_means j (record { word = word; kind = Value lo hi }) found)));
+    means = number_means (implies_means m act.layout (plain (given call (record { word = word; kind = Value lo hi })))
+        (Number lo hi) _ numbers
+        (plain_means m act (callee_word s (pos word)) (given call (record { word = word; kind = Value lo hi })) _
+        (given_means j (record { word = word; kind = Value lo hi }) found)));
     linked = tt;
   }
   passed_at j word (ReadRegion size lo hi) found numbers pointers ends =
@@ -766,7 +818,8 @@ module _ (m : Contents) (h : Holding) (mode : machine.Mode) (act : Activation) (
       ap (λ (b : Bool). if b then own_parameters m (owner (first_branch m) m.pars context) else [])
       (le-leb (suc context) (first_branch m + branch_count m.pars) (let low = row_inside in omega arith))
       ∙ ap (own_parameters m) (owner_below (first_branch m) m.pars context row_inside)
-      ∙ ap (λ (b : Bool). if b then [] else (elim (slice_get m.procedures (context - 1)) as (λ o. List Parameter) [ None ↦ [] | Some p ↦ p.parameters ]))
+      ∙ ap (λ (b : Bool). if b then [] else
+      (elim (slice_get m.procedures (context - 1)) as (λ o. List Parameter) [ None ↦ [] | Some p ↦ p.parameters ]))
       (differs context 0 (λ e. omega (arith, e)))
       ∙ ap (λ (o : Option Procedure). elim o as (λ o. List Parameter) [ None ↦ [] | Some p ↦ p.parameters ]) is
 
@@ -779,10 +832,13 @@ module _ (m : Contents) (h : Holding) (mode : machine.Mode) (act : Activation) (
 
   -- ---- what the tests of a call say
 
-  module _ (numbers : list_all (numbers_fit call) p.parameters ≡ true) (pointers : list_all (pointers_fit call) p.parameters ≡ true)
+  module _ (numbers : list_all (numbers_fit call) p.parameters ≡ true)
+      (pointers : list_all (pointers_fit call) p.parameters ≡ true)
       (beside : regions_are_apart call ≡ true) (held : list_all (ends_are_held call) p.parameters ≡ true) where
-    pub passed_parameter : (j : ℕ) (q : Parameter) → slice_get p.parameters j ≡ Some q → Passed j q.kind (value q) (given call q)
-    passed_parameter j q found = passed_at j q.word q.kind found (list_all_at (numbers_fit call) p.parameters j q numbers found)
+    pub passed_parameter : (j : ℕ) (q : Parameter) → slice_get p.parameters j ≡ Some q
+        → Passed j q.kind (value q) (given call q)
+    passed_parameter j q found = passed_at j q.word q.kind found
+        (list_all_at (numbers_fit call) p.parameters j q numbers found)
         (list_all_at (pointers_fit call) p.parameters j q pointers found)
         (list_all_at (ends_are_held call) p.parameters j q held found)
 
@@ -802,7 +858,8 @@ module _ (m : Contents) (h : Holding) (mode : machine.Mode) (act : Activation) (
     linked j q found size lo hi e =
         let given_it = passed_parameter j q (there j q found) in
         ap (λ (kind : ParameterKind). rule.lent_to kind (given call q)) e
-        ∙ subst (λ (kind : ParameterKind). LinkedBy kind (given call q) given_it.part.region given_it.part.first) e given_it.linked
+        ∙ subst (λ (kind : ParameterKind). LinkedBy kind (given call q) given_it.part.region given_it.part.first) e
+        given_it.linked
 
     -- ---- regions that do not meet
 
@@ -810,9 +867,11 @@ module _ (m : Contents) (h : Holding) (mode : machine.Mode) (act : Activation) (
         → IsRegionKind u.kind total low high → (k : ℤ) (i : ℕ) → caller.words.reads k ≡ true → i < total
         → IsByteOf act.layout.origin k (place_of (act.layout.starts q) + i) → ⊥
     beside_region q u total low high found (inl e) k i t inside b =
-        (subst (λ (kind : ParameterKind). IsNamed m h caller l.memory kind (act.layout.starts q)) e (a.named.each q u found)).beside k i t inside b
+        (subst (λ (kind : ParameterKind). IsNamed m h caller l.memory kind (act.layout.starts q)) e
+        (a.named.each q u found)).beside k i t inside b
     beside_region q u total low high found (inr e) k i t inside b =
-        (subst (λ (kind : ParameterKind). IsNamed m h caller l.memory kind (act.layout.starts q)) e (a.named.each q u found)).beside k i t inside b
+        (subst (λ (kind : ParameterKind). IsNamed m h caller l.memory kind (act.layout.starts q)) e
+        (a.named.each q u found)).beside k i t inside b
 
     -- two parts have a byte in common only where they clash
     parts_apart : (r1 r2 : ℕ) (f1 f2 : ℤ) (c1 c2 : ℕ) (lo1 hi1 lo2 hi2 : ℤ) (w : Bool) (p1 p2 i1 i2 : ℕ)
@@ -821,42 +880,54 @@ module _ (m : Contents) (h : Holding) (mode : machine.Mode) (act : Activation) (
         → (r1 ≡ r2 → f1 <ℤ (f2 +ℤ pos (4 * c2)) → f2 <ℤ (f1 +ℤ pos (4 * c1)) → ⊥) → ⊥
     parts_apart r1 r2 f1 f2 c1 c2 lo1 hi1 lo2 hi2 w p1 p2 i1 i2 (of_frame k1 e1 g1 at1 reads1 writes1 off1)
         (of_frame k2 e2 g2 at2 reads2 writes2 off2) same low1 low2 no_meet =
-        no_meet (e1 ∙ sym e2) (omega (arith, ints, at1, at2, g1, g2, same, low1, low2)) (omega (arith, ints, at1, at2, g1, g2, same, low1, low2))
+        no_meet (e1 ∙ sym e2) (omega (arith, ints, at1, at2, g1, g2, same, low1, low2))
+        (omega (arith, ints, at1, at2, g1, g2, same, low1, low2))
     parts_apart r1 r2 f1 f2 c1 c2 lo1 hi1 lo2 hi2 w p1 p2 i1 i2 (of_frame k1 e1 g1 at1 reads1 writes1 off1)
         (of_constants n2 e2 g2 read2 at2 fits2) same low1 low2 no_meet =
         let own1 = a.frame.own (k1 +ℤ pos (i1 / 4)) (writes1 (i1 / 4) (omega (arith, low1)) refl) in
         let is1 = own1.is in
         let place : own1.place + i1 % 4 ≡ p1 + i1 = omega (arith, ints, is1, at1) in
-        let behind = a.named.constants.behind (own1.place + i1 % 4) (bytes_written h own1.place own1.mine (i1 % 4) (omega arith)) in
+        let behind = a.named.constants.behind (own1.place + i1 % 4)
+        (bytes_written h own1.place own1.mine (i1 % 4) (omega arith)) in
         omega (arith, place, behind, same, at2)
     parts_apart r1 r2 f1 f2 c1 c2 lo1 hi1 lo2 hi2 w p1 p2 i1 i2 (of_frame k1 e1 g1 at1 reads1 writes1 off1)
-        (of_parameter q2 u2 n2 total2 low' high' e2 g2 found2 kind2 written2 below2 above2 at2 fits2) same low1 low2 no_meet =
-        beside_region q2 u2 total2 low' high' found2 kind2 (k1 +ℤ pos (i1 / 4)) (4 * n2 + i2) (reads1 (i1 / 4) (omega (arith, low1)))
-        (omega (arith, low2, fits2)) (subst (λ (n : ℕ). IsByteOf act.layout.origin (k1 +ℤ pos (i1 / 4)) n) (omega (arith, same, at2))
+        (of_parameter q2 u2 n2 total2 low' high' e2 g2 found2 kind2 written2 below2 above2 at2 fits2) same low1
+        low2 no_meet =
+        beside_region q2 u2 total2 low' high' found2 kind2 (k1 +ℤ pos (i1 / 4)) (4 * n2 + i2)
+        (reads1 (i1 / 4) (omega (arith, low1)))
+        (omega (arith, low2, fits2)) (subst (λ (n : ℕ). IsByteOf act.layout.origin (k1 +ℤ pos (i1 / 4)) n)
+        (omega (arith, same, at2))
         (run_byte act.layout.origin k1 p1 i1 at1))
-    parts_apart r1 r2 f1 f2 c1 c2 lo1 hi1 lo2 hi2 w p1 p2 i1 i2 (of_constants n1 e1 g1 no' at1 fits1) part2 same low1 low2 no_meet = cc
+    parts_apart r1 r2 f1 f2 c1 c2 lo1 hi1 lo2 hi2 w p1 p2 i1 i2
+        (of_constants n1 e1 g1 no' at1 fits1) part2 same low1 low2 no_meet = cc
     parts_apart r1 r2 f1 f2 c1 c2 lo1 hi1 lo2 hi2 w p1 p2 i1 i2
         (of_parameter q1 u1 n1 total1 low' high' e1 g1 found1 kind1 written1 below1 above1 at1 fits1)
         (of_frame k2 e2 g2 at2 reads2 writes2 off2) same low1 low2 no_meet =
-        beside_region q1 u1 total1 low' high' found1 kind1 (k2 +ℤ pos (i2 / 4)) (4 * n1 + i1) (reads2 (i2 / 4) (omega (arith, low2)))
-        (omega (arith, low1, fits1)) (subst (λ (n : ℕ). IsByteOf act.layout.origin (k2 +ℤ pos (i2 / 4)) n) (omega (arith, same, at1))
+        beside_region q1 u1 total1 low' high' found1 kind1 (k2 +ℤ pos (i2 / 4)) (4 * n1 + i1)
+        (reads2 (i2 / 4) (omega (arith, low2)))
+        (omega (arith, low1, fits1)) (subst (λ (n : ℕ). IsByteOf act.layout.origin (k2 +ℤ pos (i2 / 4)) n)
+        (omega (arith, same, at1))
         (run_byte act.layout.origin k2 p2 i2 at2))
     parts_apart r1 r2 f1 f2 c1 c2 lo1 hi1 lo2 hi2 w p1 p2 i1 i2
         (of_parameter q1 u1 n1 total1 low' high' e1 g1 found1 kind1 written1 below1 above1 at1 fits1)
         (of_constants n2 e2 g2 read2 at2 fits2) same low1 low2 no_meet =
-        let named = subst (λ (kind : ParameterKind). IsNamed m h caller l.memory kind (act.layout.starts q1)) (written1 refl)
+        let named = subst (λ (kind : ParameterKind). IsNamed m h caller l.memory kind (act.layout.starts q1))
+        (written1 refl)
         (a.named.each q1 u1 found1) in
-        let behind = a.named.constants.behind (place_of (act.layout.starts q1) + (4 * n1 + i1)) (named.held (4 * n1 + i1) (omega (arith, low1, fits1))) in
+        let behind = a.named.constants.behind (place_of (act.layout.starts q1) + (4 * n1 + i1))
+        (named.held (4 * n1 + i1) (omega (arith, low1, fits1))) in
         omega (arith, behind, same, at1, at2)
     parts_apart r1 r2 f1 f2 c1 c2 lo1 hi1 lo2 hi2 w p1 p2 i1 i2
         (of_parameter q1 u1 n1 total1 low' high' e1 g1 found1 kind1 written1 below1 above1 at1 fits1)
-        (of_parameter q2 u2 n2 total2 low'' high'' e2 g2 found2 kind2 written2 below2 above2 at2 fits2) same low1 low2 no_meet =
+        (of_parameter q2 u2 n2 total2 low'' high'' e2 g2 found2 kind2 written2 below2 above2 at2 fits2) same low1
+        low2 no_meet =
         elim (cases_eq q1 q2) [
           | inl one ↦
               let starts : place_of (act.layout.starts q1) ≡ place_of (act.layout.starts q2) =
               ap (λ (n : ℕ). place_of (act.layout.starts n)) one in
               no_meet (e1 ∙ ap (λ (n : ℕ). 2 + n) one ∙ sym e2)
-              (omega (arith, ints, g1, g2, at1, at2, starts, same, low1, low2)) (omega (arith, ints, g1, g2, at1, at2, starts, same, low1, low2))
+              (omega (arith, ints, g1, g2, at1, at2, starts, same, low1, low2))
+              (omega (arith, ints, g1, g2, at1, at2, starts, same, low1, low2))
           | inr two ↦ a.named.apart q1 q2 u1 u2 found1 found2 two (p1 + i1)
               (subst (λ (kind : ParameterKind). IsWrittenAt kind (act.layout.starts q1) (p1 + i1)) (sym (written1 refl))
               (omega (arith, at1, low1, fits1), omega (arith, at1, low1, fits1)))
@@ -907,10 +978,12 @@ module _ (m : Contents) (h : Holding) (mode : machine.Mode) (act : Activation) (
         → IsNamedAt kind (layout.starts j) place → Piece place (layout.starts j) kind fact
     piece_of j (Value lo hi) v fact place passes there = absurd there
     piece_of j (ReadRegion size lo hi) v fact place passes there =
-        region_piece passes.part.region passes.part.first size passes.part.count lo hi false (ReadRegion size lo hi) fact
+        region_piece passes.part.region passes.part.first size passes.part.count lo hi false
+        (ReadRegion size lo hi) fact
         (layout.starts j) place passes.part.is.0 passes.part.is.1 there passes.linked
     piece_of j (WrittenRegion size lo hi) v fact place passes there =
-        region_piece passes.part.region passes.part.first size passes.part.count lo hi true (WrittenRegion size lo hi) fact
+        region_piece passes.part.region passes.part.first size passes.part.count lo hi true
+        (WrittenRegion size lo hi) fact
         (layout.starts j) place passes.part.is.0 passes.part.is.1 there passes.linked
     piece_of j (Channels count len ends) v fact place passes there = absurd there
 
@@ -939,7 +1012,8 @@ module _ (m : Contents) (h : Holding) (mode : machine.Mode) (act : Activation) (
         is_named (WrittenRegion size lo hi) start place at = at
         is_named (Channels count len ends) start place at = at
 
-        is_written : (kind : ParameterKind) (fact : WordFact) (start place : ℕ) (l : Lent) → IsWrittenAt kind start place
+        is_written : (kind : ParameterKind) (fact : WordFact) (start place : ℕ) (l : Lent)
+            → IsWrittenAt kind start place
             → rule.lent_to kind fact ≡ Some l → l.is_written ≡ true
         is_written (Value lo hi) fact start place l at e = absurd at
         is_written (ReadRegion size lo hi) fact start place l at e = absurd at
@@ -949,15 +1023,18 @@ module _ (m : Contents) (h : Holding) (mode : machine.Mode) (act : Activation) (
 
         tested : (j k : ℕ) (q r : Parameter) → slice_get p.parameters j ≡ Some q → slice_get p.parameters k ≡ Some r
             → j < k → are_apart (lent call q) (lent call r) ≡ true
-        tested j k q r a b low = each_two_at (λ q r. are_apart (lent call q) (lent call r)) p.parameters j k q r low a b beside
+        tested j k q r a b low = each_two_at
+            (λ q r. are_apart (lent call q) (lent call r)) p.parameters j k q r low a b beside
 
-        meet : Piece place (layout.starts j) q.kind (given call q) → Piece place (layout.starts k) r.kind (given call r) → ⊥
+        meet : Piece place (layout.starts j) q.kind (given call q)
+            → Piece place (layout.starts k) r.kind (given call r) → ⊥
         meet x y =
             let mine : x.w ≡ true = is_written q.kind (given call q) (layout.starts j) place
             (a_lent x.region x.first x.size x.lo x.hi x.w) written x.lent_is in
             parts_apart x.region y.region x.first y.first x.count y.count x.lo x.hi y.lo y.hi y.w
             (place_of (layout.starts j)) (place_of (layout.starts k)) x.i y.i
-            (subst (λ (b : Bool). IsPart m caller callee base x.region x.first x.count x.lo x.hi b (place_of (layout.starts j))) mine x.part)
+            (subst (λ (b : Bool). IsPart m caller callee base x.region x.first x.count x.lo x.hi b
+            (place_of (layout.starts j))) mine x.part)
             y.part (sym x.at ∙ y.at) x.low y.low
             (λ same before behind. in_order x y mine same
             (let w = x.whole in let v = y.whole in omega (arith, ints, before, w, v))
@@ -970,8 +1047,10 @@ module _ (m : Contents) (h : Holding) (mode : machine.Mode) (act : Activation) (
             at_most : (j k : ℕ) → k ≤ j → (j ≡ k → ⊥) → k < j
             at_most j k low differ = elim (cases_lt k j) [ inl less ↦ less | inr more ↦ absurd (differ (omega arith)) ]
 
-            in_order : (x : Piece place (layout.starts j) q.kind (given call q)) (y : Piece place (layout.starts k) r.kind (given call r))
-                → x.w ≡ true → x.region ≡ y.region → x.first <ℤ (y.first +ℤ pos y.size) → y.first <ℤ (x.first +ℤ pos x.size) → ⊥
+            in_order : (x : Piece place (layout.starts j) q.kind (given call q))
+                (y : Piece place (layout.starts k) r.kind (given call r))
+                → x.w ≡ true → x.region ≡ y.region → x.first <ℤ (y.first +ℤ pos y.size)
+                → y.first <ℤ (x.first +ℤ pos x.size) → ⊥
             in_order x y mine same before behind = elim (cases_lt j k) [
               | inl low ↦ no_clash (lent call q) (lent call r) (a_lent x.region x.first x.size x.lo x.hi x.w)
                   (a_lent y.region y.first y.size y.lo y.hi y.w) x.lent_is y.lent_is
@@ -1018,11 +1097,14 @@ module _ (m : Contents) (h : Holding) (mode : machine.Mode) (act : Activation) (
         on_kind kind (subst (λ (ps : List Parameter). rights.gives_parameter ps kind d ≡ true) parameters_are
         (other (context == 0) _ _ (differs context 0 (λ e. omega (arith, e)))
         (sym (ap (λ (o : Option (Par × Branch)). elim o as (λ o. Bool) [
-          | Some found ↦ list_any (λ other. rights.is_same_end (key_of other) (key_of (record { kind = kind; direction = d }))) found.1.ends
-          | None ↦ if context == 0 then rights.gives_link m.lengths kind d else rights.gives_parameter (parameters_at m context) kind d
+          | Some found ↦ list_any (λ other. rights.is_same_end (key_of other)
+              (key_of (record { kind = kind; direction = d }))) found.1.ends
+          | None ↦ if context == 0 then rights.gives_link m.lengths kind d else rights.gives_parameter
+              (parameters_at m context) kind d
         ]) no_branch) ∙ (and-parts _ _ t).1)))
       where
-        on_element : (j word el : ℕ) (kind : ParameterKind) → slice_get p.parameters j ≡ Some (record { word = word; kind = kind })
+        on_element : (j word el : ℕ) (kind : ParameterKind)
+            → slice_get p.parameters j ≡ Some (record { word = word; kind = kind })
             → rights.gives_element kind el d ≡ true → ends_are_held call (record { word = word; kind = kind }) ≡ true
             → has_end h (record { address = (layout.starts j + 4 * el) % 2 ^ 32; direction = d }) ≡ true
         on_element j word el (Value lo hi) found gives holds = absurd (cc)
@@ -1064,18 +1146,21 @@ module _ (m : Contents) (h : Holding) (mode : machine.Mode) (act : Activation) (
     callee_act = record { layout = layout; turns = λ k. 0 }
 
     parameters_mean : (region : ℕ) (ps : List Parameter) (k : ℤ)
-        → ((j : ℕ) (q : Parameter) → slice_get ps j ≡ Some q → Means m layout (parameter_fact (region + j) q.kind) (value q))
+        → ((j : ℕ) (q : Parameter) → slice_get ps j ≡ Some q
+        → Means m layout (parameter_fact (region + j) q.kind) (value q))
         → MeansWord m callee_act k (parameter_facts region ps k) (frame_word l.memory origin k)
     parameters_mean region [] k means = is_fact says_nothing
     parameters_mean region (q ∷ ps) k means = elim (word_test k (pos q.word)) [
       | inl e ↦ means_same (is_fact (subst (λ (n : ℕ). Means m layout (parameter_fact n q.kind) (value q))
           (let z : region + 0 ≡ region = omega arith in z) (means 0 q refl)))
-          (sym (ap (λ (b : Bool). if b then Alone (parameter_fact region q.kind) else parameter_facts (region + 1) ps k) e.0))
+          (sym (ap (λ (b : Bool). if b then Alone (parameter_fact region q.kind) else parameter_facts
+          (region + 1) ps k) e.0))
           (ap (frame_word l.memory origin) (sym e.1))
       | inr e ↦ means_same (parameters_mean (region + 1) ps k (λ j r found.
           subst (λ (n : ℕ). Means m layout (parameter_fact n r.kind) (value r))
           (let z : region + suc j ≡ region + 1 + j = omega arith in z) (means (suc j) r found)))
-          (sym (ap (λ (b : Bool). if b then Alone (parameter_fact region q.kind) else parameter_facts (region + 1) ps k) e.0)) refl
+          (sym (ap (λ (b : Bool). if b then Alone (parameter_fact region q.kind) else parameter_facts
+          (region + 1) ps k) e.0)) refl
     ]
 
     pub callee_words : frame_word l.memory origin (pos 0) ≡ Some (word_of (pos (code_address m back))) → (k : ℤ)
@@ -1108,10 +1193,12 @@ module _ (m : Contents) (h : Holding) (mode : machine.Mode) (act : Activation) (
   }
     where
       lo_is : frame_lo m context ≡ p.lo
-      lo_is = ap (λ (o : Option Context). elim o as (λ o. ℤ) [ None ↦ pos 0 | Some context ↦ context.lo ]) callee_context
+      lo_is = ap (λ (o : Option Context). elim o as (λ o. ℤ) [ None ↦ pos 0 | Some context ↦ context.lo ])
+          callee_context
 
       hi_is : frame_hi m context ≡ p.hi
-      hi_is = ap (λ (o : Option Context). elim o as (λ o. ℤ) [ None ↦ pos 0 | Some context ↦ context.hi ]) callee_context
+      hi_is = ap (λ (o : Option Context). elim o as (λ o. ℤ) [ None ↦ pos 0 | Some context ↦ context.hi ])
+          callee_context
 
       from_start : pos 0 ≤ℤ place_in origin (frame_lo m context)
       from_start =
@@ -1125,7 +1212,8 @@ module _ (m : Contents) (h : Holding) (mode : machine.Mode) (act : Activation) (
       to_end =
           let low = row.1.lo_high in
           let high = row.1.hi_low in
-          let w = a.frame.own (base +ℤ (p.hi -ℤ pos 1)) (own_word (p.hi -ℤ pos 1) (omega (arith, ints, low, high)) (omega (arith, ints))) in
+          let w = a.frame.own (base +ℤ (p.hi -ℤ pos 1))
+          (own_word (p.hi -ℤ pos 1) (omega (arith, ints, low, high)) (omega (arith, ints))) in
           let at' = w.is in
           let inside' = w.inside in
           omega (arith, ints, at', hi_is, inside')

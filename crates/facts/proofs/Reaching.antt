@@ -1,23 +1,17 @@
 -- Where the bytes lie that a pointer leads to, and what is there.
-use Rattle.std.proofs.Common.{◌≡◌, ℕ, zero, suc, ◌+◌, ◌-◌, ◌*◌, ◌/◌, ◌%◌, ◌^◌, ◌≤◌, ◌<◌, ◌==◌, ℤ, pos, negsuc, ◌+ℤ◌, ◌-ℤ◌}
-use Rattle.std.proofs.Common.{◌*ℤ◌, ◌≤ℤ◌, ◌<ℤ◌, nat_abs, FitsSigned, Bool, true, false, cond, ◌&&◌, length, get_or, Option}
-use Rattle.std.proofs.Common.{if◌then◌else◌, Some, None, refl, sym, ap, ◌∙◌, subst, arith, ◌⊎◌, inl, inr, List}
-use Rattle.std.proofs.lemmas.Bool.{eqb-true, eq-eqb}
+use Rattle.std.proofs.Common.{◌≡◌, ℕ, ◌+◌, ◌-◌, ◌/◌, ◌%◌, ◌<◌, ◌==◌, ℤ, pos, negsuc, ◌+ℤ◌, ◌-ℤ◌}
+use Rattle.std.proofs.Common.{◌*ℤ◌, ◌≤ℤ◌, ◌<ℤ◌, nat_abs, FitsSigned, Bool, true, false, cond, length, Option}
+use Rattle.std.proofs.Common.{if◌then◌else◌, Some, None, refl, sym, ap, ◌∙◌, subst, arith, inl, inr}
+use Rattle.std.proofs.lemmas.Bool.{eq-eqb}
 use Rattle.std.proofs.lemmas.List.{get_or_past}
 use Rattle.std.proofs.lemmas.Bool.{cases_lt}
 use Rattle.std.proofs.lemmas.Int.{ints, of_z-to_z, int_wrap-add_left, SFits-int_wrap}
-use Rattle.std.specs.Prelude.{unsigned_abs, IsTrue, slice_get, int_le}
-use Rattle.std.specs.Int.{w32, int_wrap, int_rem_euclid, cast_unsigned, cast_signed}
-use Rattle.module_format.specs.declared.fact.Fact.TheVariants.{Number}
-use Rattle.module_format.specs.declared.rows.Parameter.{Parameter}
-use Rattle.module_format.specs.declared.rows.ParameterKind.{ParameterKind}
-use Rattle.module_format.specs.declared.rows.ParameterKind.TheVariants.{Value, ReadRegion, WrittenRegion, Channels}
-use Rattle.module_format.specs.Order.{is_stepped, is_multiple_of_four}
+use Rattle.std.specs.Prelude.{unsigned_abs, int_le}
+use Rattle.std.specs.Int.{w32, int_wrap, int_rem_euclid}
 use Rattle.module_format.specs.Contents.{Contents}
-use Rattle.machine_state.specs.Memory.{Memory, byte_at, word_at, place_of, local_address, data_start}
+use Rattle.machine_state.specs.Memory.{Memory, byte_at, place_of, local_address, data_start}
 use Rattle.machine_state.specs.World.{constants_start}
 use Rattle.machine_state.specs.LocalStep as step
-use Rattle.states.specs.Spans.{all_words}
 use Rattle.states.proofs.SpanFacts.{all-there}
 use Rattle.states.proofs.RowFacts.{and-parts, le-from}
 use Rattle.facts.specs.Meaning.{Layout, region_start}
@@ -75,7 +69,8 @@ even_at z place at even =
 
 start_at : (frame constants : Bool) (origin offset : ℤ) (begin start place : ℕ)
     → pos place ≡ cond frame origin (cond constants (pos begin) (pos (place_of start))) +ℤ offset
-    → IsAt (cond frame (pos data_start +ℤ origin) (cond constants (pos (data_start + begin)) (pos start)) +ℤ offset) place
+    → IsAt (cond frame (pos data_start +ℤ origin)
+    (cond constants (pos (data_start + begin)) (pos start)) +ℤ offset) place
 unfolding place_of
 start_at true constants origin offset begin start place is = record { turns = pos 0; is = omega (arith, ints) }
 start_at false true origin offset begin start place is = record { turns = pos 0; is = omega (arith, ints) }
@@ -162,7 +157,8 @@ pub word_place : (v start offset e : ℤ) (place : ℕ) → v ≡ int_wrap w32 (
     → IsAt (start +ℤ (offset +ℤ (pos 4 *ℤ e))) place → place < 4294967296
     → place_of (local_address (step.address v) e) ≡ place
 word_place v start offset e place v_is fits at low =
-    let there : FitsSigned w32 v = subst (λ (z : ℤ). FitsSigned w32 z) (sym v_is) (SFits-int_wrap w32 (start +ℤ offset)) in
+    let there : FitsSigned w32 v = subst (λ (z : ℤ). FitsSigned w32 z) (sym v_is)
+    (SFits-int_wrap w32 (start +ℤ offset)) in
     let word : step.word_of (local_address (step.address v) e) ≡ int_wrap w32 (start +ℤ (offset +ℤ (pos 4 *ℤ e))) =
     local_word v e there fits
     ∙ (ap (λ (z : ℤ). int_wrap w32 (z +ℤ (pos 4 *ℤ e))) v_is

@@ -1,12 +1,12 @@
 -- What is read through a pointer.
-use Rattle.std.proofs.Common.{◌≡◌, ℕ, zero, suc, ◌+◌, ◌-◌, ◌*◌, ◌/◌, ◌%◌, ◌≤◌, ◌<◌, ◌==◌, ℤ, pos, negsuc, ◌+ℤ◌, ◌*ℤ◌, ◌≤ℤ◌, ◌<ℤ◌}
-use Rattle.std.proofs.Common.{FitsSigned, Bool, true, false, cond, ◌&&◌, length, get_or, Option, Some, None, refl, sym, ap}
-use Rattle.std.proofs.Common.{◌∙◌, subst, arith, rules, ◌⊎◌, inl, inr, List}
+use Rattle.std.proofs.Common.{◌≡◌, ℕ, zero, suc, ◌+◌, ◌*◌, ◌<◌, ◌==◌, ℤ, pos, ◌+ℤ◌, ◌≤ℤ◌, ◌<ℤ◌}
+use Rattle.std.proofs.Common.{FitsSigned, Bool, true, false, cond, ◌&&◌, length, Option, Some, None, refl, ap}
+use Rattle.std.proofs.Common.{◌∙◌, subst, arith, rules, inl, inr}
 use Rattle.std.proofs.lemmas.Bool.{cases_lt, eqb-true}
 use Rattle.std.proofs.lemmas.List.{get_or_past}
 use Rattle.std.proofs.lemmas.Int.{ints, clamps, by_lt_z}
-use Rattle.std.specs.Prelude.{slice_get, IsTrue}
-use Rattle.std.specs.Int.{w32, cast_signed, int_min, int_max}
+use Rattle.std.specs.Prelude.{slice_get}
+use Rattle.std.specs.Int.{w32, cast_signed}
 use Rattle.word_arithmetic.specs.Range.{Ends, full}
 use Rattle.module_format.specs.Rows.{Fact}
 use Rattle.module_format.specs.declared.fact.Fact.TheVariants.{Unknown, Number, Pointer, CodeAddress, Loop}
@@ -18,16 +18,15 @@ use Rattle.module_format.specs.Contents.{Contents}
 use Rattle.module_format.specs.Contexts.{parameters_at}
 use Rattle.machine_state.specs.Memory.{Memory, byte_at, word_at, joined, place_of}
 use Rattle.machine_state.specs.Holding.{Holding, may_read, may_write, may_read_word, may_write_word}
-use Rattle.states.specs.declared.known.WordFact.{WordFact}
 use Rattle.states.specs.declared.span.Together.{Together}
 use Rattle.states.specs.State.{Facts, plain, is_alone}
-use Rattle.states.specs.Spans.{with_plain, with_one, together}
+use Rattle.states.specs.Spans.{with_plain, together}
 use Rattle.states.proofs.RowFacts.{and-both}
-use Rattle.facts.specs.Meaning.{Layout, Activation, Means, is_number, says_nothing, MeansWord, frame_word}
+use Rattle.facts.specs.Meaning.{Layout, Activation, Means, is_number, says_nothing, MeansWord}
 use Rattle.facts.specs.Regions.{Scope, IsRegion, IsNamed}
 use Rattle.facts.specs.Reach.{readable_size, readable_bytes, may_read_parameter, kept_range, parameter_range}
 use Rattle.facts.specs.MemoryRules.{any_of, frame_read}
-use Rattle.facts.proofs.Words.{plain_means, bool_cases}
+use Rattle.facts.proofs.Words.{plain_means}
 use Rattle.facts.proofs.Regions.{may_too}
 
 -- ---- what is known of words together
@@ -97,7 +96,8 @@ frame_means m act facts first count k v low high means = on_one (count == 1) ref
 
     on_any : (b : Bool) → (together facts first count).are_numbers ≡ b
         → Means m act.layout (cond b (Number (together facts first count).lo (together facts first count).hi) Unknown) v
-    on_any true h = within (together facts first count) (plain (facts k)) (number_among facts first count k h low high) known
+    on_any true h = within (together facts first count) (plain (facts k))
+        (number_among facts first count k h low high) known
     on_any false h = says_nothing
 
     on_one : (b : Bool) → (count == 1) ≡ b
@@ -202,7 +202,8 @@ range_found m context j p e = ap (λ (o : Option Parameter). elim o as (λ o. En
 ]) e
 
 -- it is a region that may be read
-pub readable_region : (m : Contents) (h : Holding) (scope : Scope) (memory : Memory) (kind : ParameterKind) (start size : ℕ)
+pub readable_region : (m : Contents) (h : Holding) (scope : Scope) (memory : Memory) (kind : ParameterKind)
+    (start size : ℕ)
     → readable_size kind ≡ Some size → IsNamed m h scope memory kind start
     → IsRegion m (may_read h) scope memory (place_of start) size (kept_range kind).lo (kept_range kind).hi
 readable_region m h scope memory (Value lo hi) start size e named = absurd (cc)
@@ -222,7 +223,8 @@ readable_region m h scope memory (Channels count len ends) start size e named = 
 
 -- ---- the constants
 
-pub word_of_bytes : (memory : Memory) (place a b c d : ℕ) → byte_at memory place ≡ Some a → byte_at memory (place + 1) ≡ Some b
+pub word_of_bytes : (memory : Memory) (place a b c d : ℕ) → byte_at memory place ≡ Some a
+    → byte_at memory (place + 1) ≡ Some b
     → byte_at memory (place + 2) ≡ Some c → byte_at memory (place + 3) ≡ Some d
     → word_at memory place ≡ Some (cast_signed w32 (a + 256 * b + 65536 * c + 16777216 * d))
 unfolding word_at

@@ -114,13 +114,15 @@ word_small memory place v q b found =
     let three = with_byte two (place + 2) (option_map (byte_worth 65536) v) in
     elim (byte_small three (place + 3) (option_map (byte_worth 16777216) v) (worth_small 16777216 v) q b found) [
       | inl low ↦ inl low
-      | inr found ↦ elim (byte_small two (place + 2) (option_map (byte_worth 65536) v) (worth_small 65536 v) q b found) [
-        | inl low ↦ inl low
-        | inr found ↦ elim (byte_small one (place + 1) (option_map (byte_worth 256) v) (worth_small 256 v) q b found) [
-          | inl low ↦ inl low
-          | inr found ↦ byte_small memory place (option_map (byte_worth 1) v) (worth_small 1 v) q b found
-        ]
-      ]
+      | inr found ↦ elim (byte_small two (place + 2) (option_map (byte_worth 65536) v)
+          (worth_small 65536 v) q b found) [
+            | inl low ↦ inl low
+            | inr found ↦ elim (byte_small one (place + 1) (option_map (byte_worth 256) v)
+                (worth_small 256 v) q b found) [
+                  | inl low ↦ inl low
+                  | inr found ↦ byte_small memory place (option_map (byte_worth 1) v) (worth_small 1 v) q b found
+                ]
+          ]
     ]
 
 -- ---- what is left of what is held
@@ -240,7 +242,8 @@ module _ (m : Contents) (h : Holding) (scope : Scope) (k : ℤ) (memory new : Me
       → (place : ℕ) → start ≤ place → place < start + size → IsByteOf scope.layout.origin k place → ⊥
   region_beside {may_use} {start} r place low high b =
       r.beside k (place - start) counts (omega arith)
-      (subst (λ (q : ℕ). IsByteOf scope.layout.origin k q) (let e : place ≡ start + (place - start) = omega arith in e) b)
+      (subst (λ (q : ℕ). IsByteOf scope.layout.origin k q)
+      (let e : place ≡ start + (place - start) = omega arith in e) b)
 
   beside : (kind : ParameterKind) (start : ℕ) → IsNamed m h scope memory kind start
       → IsBeside (IsByteOf scope.layout.origin k) kind start
@@ -259,7 +262,8 @@ module _ (m : Contents) (h : Holding) (scope : Scope) (k : ℤ) (memory new : Me
   }
 
 -- a word of the frame that is written
-pub word_written : (h : Holding) (origin k : ℤ) (memory : Memory) (v : Option ℤ) (w : IsOwnWord h (length memory) origin k)
+pub word_written : (h : Holding) (origin k : ℤ) (memory : Memory) (v : Option ℤ)
+    (w : IsOwnWord h (length memory) origin k)
     → AltersWord origin k memory (with_word memory w.place v)
 word_written h origin k memory v w = record {
   size = length-with_word memory w.place v;

@@ -1,35 +1,36 @@
 -- What a caller knows of its words behind a call holds, whatever the callee does to what it was lent.
-use Rattle.std.proofs.Common.{◌≡◌, ℕ, zero, suc, ◌+◌, ◌-◌, ◌*◌, ◌/◌, ◌≤◌, ◌<◌, ℤ, pos, negsuc, ◌+ℤ◌, ◌-ℤ◌, ◌*ℤ◌, ◌≤ℤ◌, ◌<ℤ◌}
-use Rattle.std.proofs.Common.{Bool, true, false, cond, ◌&&◌, ◌⊎◌, inl, inr, List, [], ◌∷◌, length, Option, Some, None, refl, sym}
+use Rattle.std.proofs.Common.{◌≡◌, ℕ, zero, suc, ◌+◌, ◌-◌, ◌*◌, ◌/◌, ◌≤◌, ◌<◌, ℤ, pos, negsuc, ◌+ℤ◌, ◌-ℤ◌, ◌≤ℤ◌, ◌<ℤ◌}
+use Rattle.std.proofs.Common.{Bool, true, false, cond, ◌&&◌, ◌⊎◌, inl, inr, List, [], ◌∷◌, length, Option, Some, None}
+use Rattle.std.proofs.Common.{refl, sym}
 use Rattle.std.proofs.Common.{ap, ◌∙◌, subst, arith}
 use Rattle.std.specs.Prelude.{slice_get, int_le, int_lt, nat_abs, ◌==◌}
 use Rattle.std.proofs.lemmas.Bool.Decides.{eqb_tells}
 use Rattle.std.proofs.lemmas.Int.{ints}
-use Rattle.module_format.specs.Rows.{Fact}
-use Rattle.module_format.specs.declared.fact.Fact.TheVariants.{Unknown, Number}
+use Rattle.module_format.specs.declared.fact.Fact.TheVariants.{Number}
 use Rattle.module_format.specs.declared.rows.Parameter.{Parameter}
 use Rattle.module_format.specs.declared.rows.ParameterKind.{ParameterKind}
 use Rattle.module_format.specs.declared.rows.ParameterKind.TheVariants.{Value, ReadRegion, WrittenRegion, Channels}
 use Rattle.module_format.specs.Contents.{Contents, Procedure}
 use Rattle.machine_state.specs.Memory.{Memory, word_at, place_of}
 use Rattle.machine_state.specs.Holding.{Holding, may_write, may_read}
-use Rattle.states.specs.declared.known.WordFact.{WordFact}
 use Rattle.states.specs.declared.known.WordFact.TheVariants.{Alone}
 use Rattle.states.specs.State.{State, Facts, Change, by_itself, is_parted, changed}
 use Rattle.states.proofs.RowFacts.{and-parts, and-both, le-from, lt-from, le-yes, lt-yes}
-use Rattle.facts.specs.Meaning.{Layout, Activation, Means, says_nothing, MeansWord, is_fact, nothing_known, place_in, frame_word}
+use Rattle.facts.specs.Meaning.{Layout, Activation, Means, says_nothing, MeansWord, is_fact, place_in, frame_word}
 use Rattle.facts.specs.Meaning.{IsReadableWord}
-use Rattle.facts.specs.Regions.{IsByteOf, Scope, scope_of, IsRegion, IsNamed, HoldsNamed, MayChange, in_frame, in_region, Keeps}
+use Rattle.facts.specs.Regions.{IsByteOf, Scope, scope_of, IsRegion, IsNamed, HoldsNamed, MayChange, in_frame}
+use Rattle.facts.specs.Regions.{in_region, Keeps}
 use Rattle.states.specs.declared.span.Leaving.TheVariants.{Become}
 use Rattle.states.specs.Spans.{on_span}
 use Rattle.facts.specs.Reach.{word_of_byte}
 use Rattle.module_format.specs.Contexts.{parameters_at}
 use Rattle.facts.specs.declared.lent.Lent.{Lent}
-use Rattle.facts.specs.CallRules.{Calling, callee_word, given, lent_to, lent, with_lent, with_all_lent, callee_span, frame_size}
+use Rattle.facts.specs.CallRules.{Calling, callee_word, given, lent_to, lent, with_lent, with_all_lent, callee_span}
+use Rattle.facts.specs.CallRules.{frame_size}
 use Rattle.facts.proofs.Words.{bool_cases, means_same, itself_means, frame_word_is}
 use Rattle.facts.proofs.Offsets.{word_of_offset}
-use Rattle.facts.proofs.Lending.{number_means, same_word, run_byte, IsRegionKind, IsPart, of_frame, of_constants, of_parameter}
-use Rattle.facts.proofs.Lending.{PartOf, Part, Lends, WritesIn, writes_in, writes_of, Touched, word_kept, frame_byte}
+use Rattle.facts.proofs.Lending.{number_means, same_word, run_byte, IsPart, of_frame, of_constants, of_parameter}
+use Rattle.facts.proofs.Lending.{PartOf, Lends, WritesIn, writes_in, writes_of, word_kept, frame_byte}
 use Rattle.facts.proofs.CallTests.{lent_fact}
 use Rattle.facts.proofs.Reaching.{natural}
 use Rattle.facts.proofs.Regions.{bytes_read}
@@ -212,7 +213,8 @@ module _ (m : Contents) (h : Holding) (act : Activation) (s : State) (p : Proced
         let first_is : l.first ≡ first = ap (λ (x : Lent). x.first) is in
         let size_is : l.size ≡ size = ap (λ (x : Lent). x.size) is in
         let word_is : word_of_byte l.first ≡ word = ap word_of_byte (first_is ∙ f) ∙ word_of_offset word in
-        let both = and-parts (int_le (word_of_byte l.first) k) (int_lt k (word_of_byte l.first +ℤ pos (l.size / 4))) touches in
+        let both = and-parts (int_le (word_of_byte l.first) k)
+        (int_lt k (word_of_byte l.first +ℤ pos (l.size / 4))) touches in
         let low = le-from (word_of_byte l.first) k both.0 in
         let high = lt-from k (word_of_byte l.first +ℤ pos (l.size / 4)) both.1 in
         let i = natural (k -ℤ word) (omega (arith, ints, low, word_is)) in
@@ -255,11 +257,14 @@ module _ (m : Contents) (h : Holding) (act : Activation) (s : State) (p : Proced
             absurd (cc)
         on_kind (WrittenRegion size lo hi) e at =
             let part = lends.parts j q there in
-            let is_part = subst (λ (kind : ParameterKind). PartOf m caller callee base kind (layout.starts j) part.region part.first part.count) e part.is in
-            let same : l ≡ record { region = part.region; first = part.first; size = size; lo = lo; hi = hi; is_written = true } =
-            let f : Some l ≡ Some (record { region = part.region; first = part.first; size = size; lo = lo; hi = hi; is_written = true }) = sym is ∙ linked j q there size lo hi e in cc in
-            lent_part k q l (layout.starts j) size lo hi part.region part.first part.count same region_is touches is_part.0
-            (subst (λ (kind : ParameterKind). IsNamed m h callee later kind (layout.starts j)) e (mine.each j q there)) is_part.1
+            let is_part = subst (λ (kind : ParameterKind). PartOf m caller callee base kind
+            (layout.starts j) part.region part.first part.count) e part.is in
+            let same : l ≡ part_lent j q there size lo hi =
+            let f : Some l ≡ Some (part_lent j q there size lo hi) = sym is ∙ linked j q there size lo hi e in cc in
+            lent_part k q l (layout.starts j) size lo hi part.region part.first part.count same region_is
+            touches is_part.0
+            (subst (λ (kind : ParameterKind). IsNamed m h callee later kind (layout.starts j)) e
+            (mine.each j q there)) is_part.1
         on_kind (Channels count len ends) e at = absurd (cc)
 
     -- a word that neither the callee's frame has nor any parameter was lent is the same
@@ -301,7 +306,8 @@ module _ (m : Contents) (h : Holding) (act : Activation) (s : State) (p : Proced
               and-both _ _ (le-yes (word_of_byte l.first) k (omega (arith, ints, same, word_is)))
               (lt-yes k (word_of_byte l.first +ℤ pos (size / 4)) (omega (arith, ints, same, word_is, whole, less))) in
               let no' : false ≡ true = sym none ∙ yes in (cc)
-          on_part j q size lo hi region first count i found r f kind whole there less (of_constants n e g no' start fits) =
+          on_part j q size lo hi region first count i found r f kind whole there less
+              (of_constants n e g no' start fits) =
               cc
           on_part j q size lo hi region first count i found r f kind whole there less
               (of_parameter o u n total low' high' e g own kind' written below above start fits) =
@@ -320,7 +326,8 @@ module _ (m : Contents) (h : Holding) (act : Activation) (s : State) (p : Proced
       same_value : frame_word later act.layout.origin k ≡ frame_word memory act.layout.origin k
       same_value =
           let w = readable k t in
-          elim (word_kept keeps w.place (subst (λ (n : ℕ). may_read h n ≡ true) (omega arith) (bytes_read h w.place w.readable 0 (omega arith)))
+          elim (word_kept keeps w.place (subst (λ (n : ℕ). may_read h n ≡ true) (omega arith)
+          (bytes_read h w.place w.readable 0 (omega arith)))
           (bytes_read h w.place w.readable 1 (omega arith)) (bytes_read h w.place w.readable 2 (omega arith))
           (bytes_read h w.place w.readable 3 (omega arith))) [
             | inl same ↦ frame_word_is later act.layout.origin k w.place w.is ∙ same
@@ -333,11 +340,14 @@ module _ (m : Contents) (h : Holding) (act : Activation) (s : State) (p : Proced
         → MeansWord m act k (with_all_lent c p.parameters (changed (callee_span c) s.frame) k)
         (frame_word later act.layout.origin k)
     resumes_words k t = elim (search m act c k (frame_word later act.layout.origin k) p.parameters) [
-      | inl at ↦ covered_lent m act c k (frame_word later act.layout.origin k) p.parameters (changed (callee_span c) s.frame)
+      | inl at ↦ covered_lent m act c k (frame_word later act.layout.origin k) p.parameters
+          (changed (callee_span c) s.frame)
           (all_hold k) at.j at.q at.l at.found at.is at.writes at.touches
-      | inr none ↦ all_lent m act c k (frame_word later act.layout.origin k) p.parameters (changed (callee_span c) s.frame)
+      | inr none ↦ all_lent m act c k (frame_word later act.layout.origin k) p.parameters
+          (changed (callee_span c) s.frame)
           (all_hold k) (elim (bool_cases ((callee_span c).touches k)) [
-            | inl touches ↦ touched_means m act (callee_span c) s.frame k (frame_word later act.layout.origin k) touches says_nothing
+            | inl touches ↦ touched_means m act (callee_span c) s.frame k
+                (frame_word later act.layout.origin k) touches says_nothing
             | inr outside ↦ changed_means m act (callee_span c) s.frame k (frame_word later act.layout.origin k)
                 (means_same (words k t) refl (sym (same_value k t outside none)))
                 (λ touches. let no' : true ≡ false = sym touches ∙ outside in absurd (cc))

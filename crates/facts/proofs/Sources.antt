@@ -1,5 +1,5 @@
 -- Where the result of a comparison comes from: it tells where a word lies.
-use Rattle.std.proofs.Common.{◌≡◌, ◌⊎◌, ◌≤ℤ◌, ◌<ℤ◌, ℤ, pos, ◌+ℤ◌, ◌-ℤ◌, ◌&&◌, FitsSigned, Bool, true, false, not, cond}
+use Rattle.std.proofs.Common.{◌≡◌, ℤ, pos, ◌+ℤ◌, ◌-ℤ◌, ◌&&◌, FitsSigned, Bool, true, false, not, cond}
 use Rattle.std.proofs.Common.{if◌then◌else◌, inl, inr, Option, Some, None, refl, sym, ap, ◌∙◌, subst, arith}
 use Rattle.std.proofs.lemmas.Int.{ints}
 use Rattle.std.proofs.lemmas.Bool.Decides.{Decides-int_eq}
@@ -10,23 +10,21 @@ use Rattle.std.specs.Int.{w32}
 use Rattle.word_arithmetic.specs.declared.binary.Binary.{Binary as BinaryOperation}
 use Rattle.word_arithmetic.specs.declared.binary.Binary.TheVariants as binary
 use Rattle.word_arithmetic.specs.Word.{truth, least_word, greatest_word}
-use Rattle.word_arithmetic.specs.Range.{Ends, InRange, IsRange, in_range, range_between, constant_of, is_constant}
+use Rattle.word_arithmetic.specs.Range.{Ends, range_between, constant_of, is_constant}
 use Rattle.word_arithmetic.specs.Binary.{computed}
-use Rattle.word_arithmetic.proofs.EndsLaws.{le_test, le_test_fails, words_in_order_are_ranges}
+use Rattle.word_arithmetic.proofs.EndsLaws.{words_in_order_are_ranges}
 use Rattle.module_format.specs.Rows.{Fact}
-use Rattle.module_format.specs.declared.fact.Fact.TheVariants.{Unknown, Number, Pointer, CodeAddress, Loop}
-use Rattle.module_format.specs.declared.fact.Fact.TheVariants.{ReturnAddress}
 use Rattle.module_format.specs.Contents.{Contents}
 use Rattle.machine_state.specs.Memory.{Memory}
 use Rattle.states.specs.declared.known.Known.{Known}
 use Rattle.states.specs.declared.known.Source.{Source}
 use Rattle.states.specs.declared.known.Source.TheVariants.{Nowhere, From, Test}
 use Rattle.states.specs.State.{is_word}
-use Rattle.facts.specs.Meaning.{Layout, Means, is_number, frame_word, ComesFrom, from_nowhere, from_word, from_test}
+use Rattle.facts.specs.Meaning.{Layout, Means, frame_word, ComesFrom, from_nowhere, from_word, from_test}
 use Rattle.facts.specs.Meaning.{MeansKnown, is_tested}
 use Rattle.facts.specs.WordRules.{range_of, constant_in, test_of, word_and_constant, greater_source, equal_source}
 use Rattle.facts.specs.WordRules.{result_source, constant_source}
-use Rattle.facts.proofs.Words.{int_le_tells, word_test, bool_cases}
+use Rattle.facts.proofs.Words.{int_le_tells, word_test}
 use Rattle.facts.proofs.Results.{Lies, lies}
 
 -- x is above v exactly if it lies from the next word to the greatest

@@ -1,5 +1,6 @@
 -- The rules, one test behind another.
-use Rattle.std.proofs.Common.{◌≡◌, ℕ, ℤ, pos, negsuc, ◌*ℤ◌, ◌+ℤ◌, ◌+◌, Result, Ok, Err, Option, Some, None, sym, ap, ◌∙◌, subst}
+use Rattle.std.proofs.Common.{◌≡◌, ℕ, ℤ, pos, negsuc, ◌*ℤ◌, ◌+ℤ◌, ◌+◌, Result, Ok, Err, Option, Some, None, sym, ap}
+use Rattle.std.proofs.Common.{◌∙◌, subst}
 use Rattle.std.proofs.Common.{refl, Bool, false, cond, ◌&&◌, is_some, to_z, of_z}
 use Rattle.std.proofs.lemmas.Int.{to_z-of_z}
 use Rattle.std.specs.Prelude.{FitsSigned, ok_or, IfSome, IfOk}
@@ -9,11 +10,8 @@ use Rattle.module_format.specs.Rows.{Fact}
 use Rattle.module_format.specs.declared.fact.Fact.TheVariants.{Unknown, Number, Pointer}
 use Rattle.module_format.specs.declared.fact.Step.TheVariants.{Word}
 use Rattle.machine_state.specs.declared.instruction.Instruction.{Instruction}
-use Rattle.machine_state.specs.declared.instruction.Instruction.TheVariants.{Call}
 use Rattle.machine_state.specs.declared.instruction.Instruction.TheVariants.{Jump, LoadConstant, LoadLocal, StoreLocal}
-use Rattle.machine_state.specs.declared.instruction.Instruction.TheVariants.{WithConstant, LoadLocalPointer}
-use Rattle.machine_state.specs.declared.instruction.Instruction.TheVariants.{AdjustWorkspace, ConditionalJump}
-use Rattle.machine_state.specs.declared.instruction.Instruction.TheVariants.{LoadNonLocalPointer, LoadNonLocal, StoreNonLocal}
+use Rattle.machine_state.specs.declared.instruction.Instruction.TheVariants.{LoadLocalPointer}
 use Rattle.machine_state.specs.declared.instruction.Instruction.TheVariants.{Operate}
 use Rattle.machine_state.specs.declared.op.Op.{Op}
 use Rattle.machine_state.specs.declared.op.Op.TheVariants as ops
@@ -115,26 +113,31 @@ jump-forward site s e fits alternation =
 
 -- ---- labels
 
-pub leads-on : (site : Site) (to : ℕ) (s : State) (t : Label) (r : Result ℕ Rule) → label_at site.contents to ≡ Some t
-    → r ≡ below s t → leads_to site to s ≡ elim r as (λ r. Ruling) [ Ok cost ↦ leads to | Err broken ↦ breaks broken ]
-unfolding leads_to
-leads-on site to s t r found is =
-    ap (λ (o : Option Label). elim o as (λ o. Ruling) [
-      | None ↦ breaks rules.Label
-      | Some t ↦ elim (below s t) as
-          (λ r. Ruling) [ Ok cost ↦ leads to | Err broken ↦ breaks broken ]
-    ]) found
-    ∙ ap (λ (r : Result ℕ Rule). elim r as (λ r. Ruling) [ Ok cost ↦ leads to | Err broken ↦ breaks broken ]) (sym is)
+-- where a state goes on at a label, if it may fork to it
+abbrev pub led : Ruling → Ruling
+led (falls_or_leads s to) = leads to
+led r = r
 
-pub leads-nowhere : (site : Site) (to : ℕ) (s : State) → label_at site.contents to ≡ None
-    → leads_to site to s ≡ breaks rules.Label
-unfolding leads_to
-leads-nowhere site to s found =
-    ap (λ (o : Option Label). elim o as (λ o. Ruling) [
-      | None ↦ breaks rules.Label
-      | Some t ↦ elim (below s t) as
-          (λ r. Ruling) [ Ok cost ↦ leads to | Err broken ↦ breaks broken ]
-    ]) found
+pub leads_forked : (site : Site) (to : ℕ) (s : State) → leads_to site to s ≡ led (forks_to site to s s)
+unfolding leads_to forks_to
+leads_forked site to s = on_label (label_at site.contents to)
+  where
+    on_cost : (r : Result ℕ Rule) → (elim r as (λ r. Ruling) [ Ok cost ↦ leads to | Err broken ↦ breaks broken ])
+        ≡ led (elim r as (λ r. Ruling) [ Ok cost ↦ falls_or_leads s to | Err broken ↦ breaks broken ])
+    on_cost (Ok cost) = refl
+    on_cost (Err broken) = refl
+
+    on_label : (o : Option Label)
+        → (elim o as (λ o. Ruling) [
+          | None ↦ breaks rules.Label
+          | Some t ↦ elim (below s t) as (λ r. Ruling) [ Ok cost ↦ leads to | Err broken ↦ breaks broken ]
+        ])
+        ≡ led (elim o as (λ o. Ruling) [
+          | None ↦ breaks rules.Label
+          | Some t ↦ elim (below s t) as (λ r. Ruling) [ Ok cost ↦ falls_or_leads s to | Err broken ↦ breaks broken ]
+        ])
+    on_label None = refl
+    on_label (Some t) = on_cost (below s t)
 
 pub forks-on : (site : Site) (to : ℕ) (s here : State) (t : Label) (r : Result ℕ Rule)
     → label_at site.contents to ≡ Some t → r ≡ below s t

@@ -1,6 +1,8 @@
 -- Where a pointer leads that a context may read through, and what is there.
-use Rattle.std.proofs.Common.{◌≡◌, ℕ, ◌+◌, ◌-◌, ◌*◌, ◌/◌, ◌%◌, ◌≤◌, ◌<◌, ◌==◌, ℤ, pos, negsuc, ◌+ℤ◌, ◌*ℤ◌, ◌≤ℤ◌, ◌<ℤ◌, ◌&&◌, Bool}
-use Rattle.std.proofs.Common.{rules, neg_ℤ, not, true, false, cond, length, get_or, FitsSigned, Option, Some, None, refl, sym, ap, ◌∙◌, subst, arith}
+use Rattle.std.proofs.Common.{◌≡◌, ℕ, ◌+◌, ◌-◌, ◌*◌, ◌/◌, ◌%◌, ◌≤◌, ◌<◌, ◌==◌, ℤ, pos, ◌+ℤ◌, ◌*ℤ◌, ◌≤ℤ◌, ◌<ℤ◌, ◌&&◌}
+use Rattle.std.proofs.Common.{Bool}
+use Rattle.std.proofs.Common.{rules, neg_ℤ, not, true, false, cond, length, get_or, FitsSigned, Option, Some, None}
+use Rattle.std.proofs.Common.{refl, sym, ap, ◌∙◌, subst, arith}
 use Rattle.std.proofs.lemmas.Bool.{eqb-true}
 use Rattle.std.proofs.lemmas.Int.{ints}
 use Rattle.std.specs.Prelude.{IsTrue, find, unwrap_or}
@@ -22,17 +24,19 @@ use Rattle.states.specs.State.{State, plain}
 use Rattle.states.specs.Spans.{together}
 use Rattle.facts.specs.Meaning.{Layout, Activation, Means, is_number, says_nothing, frame_word, IsWellFormed}
 use Rattle.facts.specs.Regions.{scope_of, IsRegion, HasBytes}
-use Rattle.facts.specs.Reach.{word_of_byte, words_touched, all_touched, lie_in, lie_in_row, readable_bytes, may_read_bytes}
+use Rattle.facts.specs.Reach.{word_of_byte, words_touched, all_touched, lie_in, lie_in_row, readable_bytes}
+use Rattle.facts.specs.Reach.{may_read_bytes}
 use Rattle.facts.specs.Reach.{kept_range, constant_range, parameter_range, region_range}
 use Rattle.facts.specs.MemoryRules.{number_within, frame_read, word_read, byte_read}
 use Rattle.facts.specs.Fitting.{After}
 use Rattle.facts.proofs.Words.{plain_means, means_same, frame_word_is}
 use Rattle.facts.proofs.Regions.{bytes_read}
-use Rattle.facts.proofs.Addresses.{stepped_quotient, stepped}
+use Rattle.facts.proofs.Addresses.{stepped_quotient}
 use Rattle.facts.proofs.Reaching.{region_place, word_of_byte_low, word_of_byte_high, touched_span, touched_passes}
 use Rattle.facts.proofs.Reaching.{lies_inside, natural, place_by}
 use Rattle.facts.proofs.Constants.{word_in, row_word}
-use Rattle.facts.proofs.ReadThrough.{frame_means, word_readable, number_inside, readable_found, range_found, readable_region}
+use Rattle.facts.proofs.ReadThrough.{frame_means, word_readable, number_inside, readable_found, range_found}
+use Rattle.facts.proofs.ReadThrough.{readable_region}
 use Rattle.facts.proofs.ReadThrough.{word_of_bytes, word_fits, no_byte, number_among}
 
 -- A word of a region, by its offset, that may be read, and what is known of it.
@@ -86,7 +90,8 @@ module _ {m : Contents} {h : Holding} {mode : machine.Mode} {act : Activation} {
       let q = stepped_quotient offset aligned in
       let k = q.0 in
       let k_is : offset ≡ pos 4 *ℤ k = q.1 in
-      let counts = touched_passes (context_reads m s.context) lo (hi +ℤ pos 4) k all (omega (arith, ints)) (omega (arith, ints)) in
+      let counts = touched_passes (context_reads m s.context) lo (hi +ℤ pos 4) k all (omega (arith, ints))
+      (omega (arith, ints)) in
       let span = touched_span lo (hi +ℤ pos 1) k (omega (arith, ints)) (omega (arith, ints)) in
       let w = a.frame.readable k counts in
       let is = w.is in
@@ -100,7 +105,8 @@ module _ {m : Contents} {h : Holding} {mode : machine.Mode} {act : Activation} {
         small = omega arith;
         even = even_place w.place (o.0 +ℤ k) (omega (arith, ints));
         held = w.readable;
-        means = frame_means m act s.frame (word_of_byte lo) (words_touched lo (hi +ℤ pos 1)) k (word_at l.memory w.place)
+        means = frame_means m act s.frame (word_of_byte lo) (words_touched lo (hi +ℤ pos 1)) k
+            (word_at l.memory w.place)
             span.0 span.1
             (means_same (a.knows.words k counts) refl (frame_word_is l.memory act.layout.origin k w.place w.is));
       }
@@ -116,11 +122,13 @@ module _ {m : Contents} {h : Holding} {mode : machine.Mode} {act : Activation} {
           (wf.constant_bytes (n + 3))
 
       on : (o : Option TableRow) → find (lie_in_row lo (hi +ℤ pos 4)) m.table_rows ≡ o
-          → Means m act.layout (number_within (unwrap_or (option_map (λ (row : TableRow). record { lo = row.lo; hi = row.hi }) o) full))
+          → Means m act.layout (number_within
+          (unwrap_or (option_map (λ (row : TableRow). record { lo = row.lo; hi = row.hi }) o) full))
           (Some (word_in m.constants n))
       on None e = is_number (omega (arith, ints, fits)) (omega (arith, ints, fits)) fits
       on (Some row) e =
-          let w = row_word m.constants m.table_rows lo (hi +ℤ pos 4) row n wf.tables e even (omega (arith, ints)) (omega (arith, ints)) in
+          let w = row_word m.constants m.table_rows lo (hi +ℤ pos 4) row n wf.tables e even (omega (arith, ints))
+          (omega (arith, ints)) in
           is_number w.low w.high fits
 
   through_constants : lie_in (Some (length m.constants)) lo (hi +ℤ pos 4) ≡ true
@@ -142,7 +150,8 @@ module _ {m : Contents} {h : Holding} {mode : machine.Mode} {act : Activation} {
             ap (may_read h) (let e : constants_start m + n.0 + j ≡ constants_start m + (n.0 + j) = omega arith in e)
             ∙ a.named.constants.readable (n.0 + j) (omega arith));
         means = subst (λ (v : Option ℤ). Means m act.layout (number_within (constant_range m lo (hi +ℤ pos 4))) v)
-            (sym (word_of_bytes l.memory (constants_start m + n.0) _ _ _ _ (byte n.0 0 fits (omega arith) _ (omega arith))
+            (sym (word_of_bytes l.memory (constants_start m + n.0) _ _ _ _
+            (byte n.0 0 fits (omega arith) _ (omega arith))
             (byte n.0 1 fits (omega arith) _ (omega arith)) (byte n.0 2 fits (omega arith) _ (omega arith))
             (byte n.0 3 fits (omega arith) _ (omega arith))))
             (constant_means n.0 even is fits);
@@ -159,11 +168,14 @@ module _ {m : Contents} {h : Holding} {mode : machine.Mode} {act : Activation} {
   through_parameter j inside =
       let f = lies_inside (readable_bytes m s.context j) lo (hi +ℤ pos 4) inside in
       let r = readable_found m s.context j f.0 f.1 in
-      let region = readable_region m h (scope_of m s.context act.layout) l.memory r.parameter.kind (act.layout.starts j) f.0 r.has
+      let region = readable_region m h (scope_of m s.context act.layout) l.memory r.parameter.kind
+      (act.layout.starts j) f.0 r.has
       (a.named.each j r.parameter r.found) in
-      subst (λ (e : Ends). WordThrough m h act.layout l.memory (pos (place_of (act.layout.starts j))) offset (number_within e))
+      subst (λ (e : Ends). WordThrough m h act.layout l.memory (pos (place_of (act.layout.starts j))) offset
+      (number_within e))
       (sym (range_found m s.context j r.parameter r.found))
-      (of_region (place_of (act.layout.starts j)) f.0 (kept_range r.parameter.kind).lo (kept_range r.parameter.kind).hi region f.2 f.3)
+      (of_region (place_of (act.layout.starts j)) f.0 (kept_range r.parameter.kind).lo
+      (kept_range r.parameter.kind).hi region f.2 f.3)
     where
       of_region : (start size : ℕ) (least most : ℤ)
           → IsRegion m (may_read h) (scope_of m s.context act.layout) l.memory start size least most
@@ -203,7 +215,8 @@ module _ {m : Contents} {h : Holding} {mode : machine.Mode} {act : Activation} {
           → reads_by m s.context region lo (hi +ℤ pos 4) frame constants ≡ true
           → WordThrough m h act.layout l.memory (place_by m act.layout region frame constants) offset
           (cond frame (frame_read s.frame (word_of_byte lo) (words_touched lo (hi +ℤ pos 1)))
-          (number_within (cond constants (constant_range m lo (hi +ℤ pos 4)) (parameter_range m s.context (region - 2)))))
+          (number_within (cond constants (constant_range m lo (hi +ℤ pos 4))
+          (parameter_range m s.context (region - 2)))))
       on true constants may = through_frame may
       on false true may = through_constants may
       on false false may = through_parameter (region - 2) may
@@ -240,16 +253,19 @@ byte_of_word {m} {layout} {lo} {hi} h memory place n less held bytes means =
         is_number (omega (arith, ints)) (omega (arith, ints)) (byte_fits b low)
 
 module _ {m : Contents} {h : Holding} {mode : machine.Mode} {act : Activation} {s : State} {l : Local}
-    (wf : IsWellFormed m) (a : After m h mode act s l) (lo hi offset : ℤ) (low : lo ≤ℤ offset) (high : offset ≤ℤ hi) where
+    (wf : IsWellFormed m) (a : After m h mode act s l) (lo hi offset : ℤ) (low : lo ≤ℤ offset)
+    (high : offset ≤ℤ hi) where
   -- a byte of the frame
   byte_frame : all_touched (context_reads m s.context) lo (hi +ℤ pos 1) ≡ true
       → (numbers : Bool) → (together s.frame (word_of_byte lo) (words_touched lo (hi +ℤ pos 1))).are_numbers ≡ numbers
-      → ByteThrough m h act.layout l.memory act.layout.origin offset (cond (not numbers) Unknown (Number (pos 0) (pos 255)))
+      → ByteThrough m h act.layout l.memory act.layout.origin offset
+      (cond (not numbers) Unknown (Number (pos 0) (pos 255)))
   byte_frame all numbers known =
       let k = word_of_byte offset in
       let from = word_of_byte_low offset in
       let to = word_of_byte_high offset in
-      let counts = touched_passes (context_reads m s.context) lo (hi +ℤ pos 1) (word_of_byte offset) all (omega (arith, ints)) (omega (arith, ints)) in
+      let counts = touched_passes (context_reads m s.context) lo (hi +ℤ pos 1) (word_of_byte offset) all
+      (omega (arith, ints)) (omega (arith, ints)) in
       let span = touched_span lo (hi +ℤ pos 1) (word_of_byte offset) (omega (arith, ints)) (omega (arith, ints)) in
       let w = a.frame.readable (word_of_byte offset) counts in
       let is = w.is in
@@ -268,17 +284,20 @@ module _ {m : Contents} {h : Holding} {mode : machine.Mode} {act : Activation} {
             (frame_word_is l.memory act.layout.origin (word_of_byte offset) w.place w.is);
       }
     where
-      on : (numbers : Bool) → (together s.frame (word_of_byte lo) (words_touched lo (hi +ℤ pos 1))).are_numbers ≡ numbers
+      on : (numbers : Bool) → (together s.frame (word_of_byte lo) (words_touched lo (hi +ℤ pos 1))).are_numbers
+          ≡ numbers
           → (k : ℤ) (place n : ℕ) → n < 4 → may_read h (place + n) ≡ true → context_reads m s.context k ≡ true
           → word_of_byte lo ≤ℤ k → k <ℤ (word_of_byte lo +ℤ pos (words_touched lo (hi +ℤ pos 1)))
           → frame_word l.memory act.layout.origin k ≡ word_at l.memory place
-          → Means m act.layout (cond (not numbers) Unknown (Number (pos 0) (pos 255))) (option_map pos (byte_at l.memory (place + n)))
+          → Means m act.layout (cond (not numbers) Unknown (Number (pos 0) (pos 255)))
+          (option_map pos (byte_at l.memory (place + n)))
       on false known k place n less held counts low high is = says_nothing
       on true known k place n less held counts low high is =
           let among = number_among s.frame (word_of_byte lo) (words_touched lo (hi +ℤ pos 1)) k known low high in
           byte_of_word h l.memory place n less held a.named.bytes
           (subst (λ (f : Fact). Means m act.layout f (word_at l.memory place)) among.is
-          (subst (λ (v : Option ℤ). Means m act.layout (plain (s.frame k)) v) is (plain_means m act k (s.frame k) _ (a.knows.words k counts))))
+          (subst (λ (v : Option ℤ). Means m act.layout (plain (s.frame k)) v) is
+          (plain_means m act k (s.frame k) _ (a.knows.words k counts))))
 
   -- a byte of the constants
   byte_constants : lie_in (Some (length m.constants)) lo (hi +ℤ pos 1) ≡ true
@@ -305,9 +324,11 @@ module _ {m : Contents} {h : Holding} {mode : machine.Mode} {act : Activation} {
   byte_parameter j inside =
       let f = lies_inside (readable_bytes m s.context j) lo (hi +ℤ pos 1) inside in
       let r = readable_found m s.context j f.0 f.1 in
-      let region = readable_region m h (scope_of m s.context act.layout) l.memory r.parameter.kind (act.layout.starts j) f.0 r.has
+      let region = readable_region m h (scope_of m s.context act.layout) l.memory r.parameter.kind
+      (act.layout.starts j) f.0 r.has
       (a.named.each j r.parameter r.found) in
-      of_region (place_of (act.layout.starts j)) f.0 (kept_range r.parameter.kind).lo (kept_range r.parameter.kind).hi region f.2 f.3
+      of_region (place_of (act.layout.starts j)) f.0 (kept_range r.parameter.kind).lo
+      (kept_range r.parameter.kind).hi region f.2 f.3
     where
       of_region : (start size : ℕ) (least most : ℤ)
           → IsRegion m (may_read h) (scope_of m s.context act.layout) l.memory start size least most
@@ -329,7 +350,8 @@ module _ {m : Contents} {h : Holding} {mode : machine.Mode} {act : Activation} {
             is = omega (arith, ints);
             small = omega arith;
             held = held;
-            means = subst (λ (p : ℕ). Means m act.layout (Number (pos 0) (pos 255)) (option_map pos (byte_at l.memory p))) same
+            means = subst (λ (p : ℕ). Means m act.layout (Number (pos 0) (pos 255))
+                (option_map pos (byte_at l.memory p))) same
                 (byte_of_word h l.memory (start + 4 * (n.0 / 4)) (n.0 % 4) (omega arith) (ap (may_read h) same ∙ held)
                 a.named.bytes means);
           }
@@ -343,7 +365,9 @@ module _ {m : Contents} {h : Holding} {mode : machine.Mode} {act : Activation} {
       on : (frame constants : Bool)
           → reads_by m s.context region lo (hi +ℤ pos 1) frame constants ≡ true
           → ByteThrough m h act.layout l.memory (place_by m act.layout region frame constants) offset
-          (cond (frame && not (together s.frame (word_of_byte lo) (words_touched lo (hi +ℤ pos 1))).are_numbers) Unknown (Number (pos 0) (pos 255)))
-      on true constants may = byte_frame may (together s.frame (word_of_byte lo) (words_touched lo (hi +ℤ pos 1))).are_numbers refl
+          (cond (frame && not (together s.frame (word_of_byte lo) (words_touched lo (hi +ℤ pos 1))).are_numbers) Unknown
+          (Number (pos 0) (pos 255)))
+      on true constants may = byte_frame may
+          (together s.frame (word_of_byte lo) (words_touched lo (hi +ℤ pos 1))).are_numbers refl
       on false true may = byte_constants may
       on false false may = byte_parameter (region - 2) may

@@ -1,5 +1,6 @@
 -- What functions tell of facts, where their arguments are told otherwise.
-use Rattle.std.proofs.Common.{◌≡◌, ℕ, ◌+◌, ℤ, pos, ◌*ℤ◌, ◌-ℤ◌, nat_abs, ◌+ℤ◌, Result, Err, Bool, true, false, cond, ◌==◌, ◌≤ℤ◌, negsuc, sym, ap, ◌∙◌, subst}
+use Rattle.std.proofs.Common.{◌≡◌, ℕ, ◌+◌, ℤ, pos, ◌*ℤ◌, ◌-ℤ◌, nat_abs, ◌+ℤ◌, Result, Err, Bool, true, false, cond}
+use Rattle.std.proofs.Common.{◌≤ℤ◌, negsuc, sym, ap, ◌∙◌, subst}
 use Rattle.std.proofs.lemmas.Bool.{eq-eqb}
 use Rattle.std.specs.Prelude.{int_le}
 use Rattle.states.proofs.RowFacts.{and-parts, le-from}
@@ -9,8 +10,10 @@ use Rattle.module_format.specs.declared.fact.Step.{Step}
 use Rattle.module_format.specs.Contents.{Contents}
 use Rattle.states.specs.declared.rule.Rule.{Rule}
 use Rattle.states.specs.declared.rule.Rule.TheVariants as rules
-use Rattle.facts.specs.MemoryRules.{is_near, are_near, settles, word_fact, near_fact, shifted, place_fact, words_at, reads_bytes}
-use Rattle.facts.specs.MemoryRules.{number_within, frame_read, word_read, pointer_of, words_behind, may_store_word, stored_word}
+use Rattle.facts.specs.MemoryRules.{is_near, are_near, settles, word_fact, near_fact, shifted, place_fact, words_at}
+use Rattle.facts.specs.MemoryRules.{reads_bytes}
+use Rattle.facts.specs.MemoryRules.{number_within, frame_read, word_read, pointer_of, words_behind, may_store_word}
+use Rattle.facts.specs.MemoryRules.{stored_word}
 use Rattle.facts.specs.MemoryRules.{writes_through, stores_word, byte_read, is_number_in, writes_bytes}
 use Rattle.facts.specs.MoveRules.{are_numbers, come, moves_some}
 use Rattle.facts.specs.WordRules.{in_bounds}
@@ -76,7 +79,8 @@ words_told r region lo hi a b a_is b_is told =
 -- ---- bytes that may be read, where their bounds are told otherwise
 
 pub reads_told : (site : Site) (s : State) (region : ℕ) (first end a b : ℤ) → a ≡ first → b ≡ end
-    → true ≡ may_read_bytes site.contents s.context region a b → (k : Ruling) → reads_bytes site s region first end k ≡ k
+    → true ≡ may_read_bytes site.contents s.context region a b → (k : Ruling)
+    → reads_bytes site s region first end k ≡ k
 unfolding reads_bytes
 reads_told site s region first end a b a_is b_is may = λ k.
     ap (λ (t : Bool). cond t k (breaks rules.Pointer))
@@ -102,7 +106,8 @@ span_told first lo hi w x y f count w_is first_is x_is y_is count_is f_is = (
   count_is ∙ (ap (λ (z : ℤ). words_touched z y) x_is ∙ ap (words_touched lo) y_is),
 )
 
-pub together_told : (facts : Facts) (first lo hi w x y f : ℤ) (count : ℕ) (r : Together) → w ≡ lo → first ≡ word_of_byte w
+pub together_told : (facts : Facts) (first lo hi w x y f : ℤ) (count : ℕ) (r : Together) → w ≡ lo
+    → first ≡ word_of_byte w
     → x ≡ lo → y ≡ hi +ℤ pos 1 → count ≡ words_touched x y → f ≡ first → r ≡ together facts f count
     → r ≡ together facts (word_of_byte lo) (words_touched lo (hi +ℤ pos 1))
 together_told facts first lo hi w x y f count r w_is first_is x_is y_is count_is f_is told =
@@ -131,13 +136,16 @@ near_end lo hi h =
 -- ---- words that are stored
 
 -- B is stored, where each test passes
-pub stores_told : (r : Result Continuation Rule) (after : State) (site : Site) (e d : ℤ) (s : State) (a b : Fact) (q p : Pointed)
+pub stores_told : (r : Result Continuation Rule) (after : State) (site : Site) (e d : ℤ) (s : State) (a b : Fact)
+    (q p : Pointed)
     (leaving : Leaving) (holds : Bool) (size : ℤ) → ((k : Fact → Ruling) → uses s.stack.a k ≡ k a)
     → ((k : Fact → Ruling) → uses s.stack.b k ≡ k b) → holds ≡ may_store_word site.contents s.context a b
     → ((k : Ruling) → in_bounds holds k ≡ k) → ((k : Pointed → Ruling) → settles (pointer_of a) k ≡ k q)
     → ((k : Pointed → Ruling) → settles (words_behind (pos 4 *ℤ d) q) k ≡ k p) → leaving ≡ stored_word p b
-    → Advances r after (writes_through site p size leaving s) → d ≡ e → size ≡ pos 4 → Advances r after (stores_word site e s)
-stores_told r after site e d s a b q p leaving holds size first second holds_is passes leads further leaving_is told d_is size_is =
+    → Advances r after (writes_through site p size leaving s) → d ≡ e → size ≡ pos 4
+    → Advances r after (stores_word site e s)
+stores_told r after site e d s a b q p leaving holds size first second holds_is passes leads further leaving_is told
+    d_is size_is =
     subst (λ (t : Ruling). Advances r after t) (sym is)
     (subst (λ (z : ℤ). Advances r after (writes_through site p z (stored_word p b) s)) size_is
     (subst (λ (l : Leaving). Advances r after (writes_through site p size l s)) leaving_is told))

@@ -1,9 +1,9 @@
 -- What a call may change of its caller's frame.
-use Rattle.std.proofs.Common.{◌≡◌, ℕ, zero, suc, ◌+◌, ◌-◌, ◌/◌, ◌≤◌, ◌<◌, ℤ, pos, negsuc, ◌+ℤ◌, ◌-ℤ◌, ◌*ℤ◌, ◌≤ℤ◌, ◌<ℤ◌, Bool, true}
-use Rattle.std.proofs.Common.{false, cond, ◌&&◌, inl, inr, List, [], ◌∷◌, length, map, Option, Some, None, refl, sym, ap, ◌∙◌}
+use Rattle.std.proofs.Common.{◌≡◌, ℕ, ◌+◌, ◌/◌, ◌≤◌, ℤ, pos, negsuc, ◌+ℤ◌, Bool, true}
+use Rattle.std.proofs.Common.{false, cond, ◌&&◌, List, [], ◌∷◌, length, map, Option, Some, None, refl, sym, ap, ◌∙◌}
 use Rattle.std.proofs.Common.{subst, arith, is_some}
 use Rattle.std.proofs.lemmas.Bool.{eq-eqb}
-use Rattle.std.specs.Prelude.{nat_abs, slice_get, ◌==◌, ◌||◌, int_le}
+use Rattle.std.specs.Prelude.{slice_get, ◌||◌, int_le}
 use Rattle.std.specs.List.{list_all, AllByRecursion}
 use Rattle.std.proofs.lemmas.Int.{ints}
 use Rattle.module_format.specs.declared.rows.Parameter.{Parameter}
@@ -16,7 +16,6 @@ use Rattle.module_format.specs.Rows.{ProcedureRow}
 use Rattle.module_format.specs.declared.stack.Stack.{Stack}
 use Rattle.module_format.specs.Stack.{of_empty}
 use Rattle.module_format.specs.Contents.{Contents, Procedure, procedure_of}
-use Rattle.module_format.specs.Contexts.{context_at}
 use Rattle.module_format.specs.Keeping.{Keeps}
 use Rattle.module_format.specs.Order.{InOrder}
 use Rattle.module_format.specs.Procedures.{KindKeeps, ParameterKeeps, behind_parameter, ProcedureKeeps}
@@ -36,7 +35,7 @@ use Rattle.states.proofs.SpanFacts.{all-fail}
 use Rattle.states.proofs.Procedures.{at-row}
 use Rattle.states.proofs.OwnWords.{written-own}
 use Rattle.facts.specs.declared.lent.Lent.{Lent}
-use Rattle.facts.specs.Reach.{word_of_byte, all_touched, may_write_bytes, may_read_bytes}
+use Rattle.facts.specs.Reach.{word_of_byte, may_write_bytes, may_read_bytes}
 use Rattle.facts.specs.CallRules as rule
 use Rattle.facts.specs.CallRules.{Calling, given, lent, lent_to, lent_from, pointers_fit, may_lend, end_of, frame_size}
 use Rattle.facts.specs.CallRules.{with_all_lent, passes, passing, callee_word, frame_is_own, is_off_callee, each_two}
@@ -104,9 +103,11 @@ unfolding pointers_fit
 parameter_owned c version word (Value lo hi) keeps may = tt
 parameter_owned c version word (Channels count len ends) keeps may = tt
 parameter_owned c version word (ReadRegion size lo hi) keeps may =
-    kind_owned c version (ReadRegion size lo hi) (given c (record { word = word; kind = ReadRegion size lo hi })) keeps may
+    kind_owned c version (ReadRegion size lo hi)
+    (given c (record { word = word; kind = ReadRegion size lo hi })) keeps may
 parameter_owned c version word (WrittenRegion size lo hi) keeps may =
-    kind_owned c version (WrittenRegion size lo hi) (given c (record { word = word; kind = WrittenRegion size lo hi })) keeps
+    kind_owned c version (WrittenRegion size lo hi)
+    (given c (record { word = word; kind = WrittenRegion size lo hi })) keeps
     may
 
 -- where pointers fit, what is lent to be written of the frame are own words
@@ -133,7 +134,8 @@ pub row_keeps : (m : Contents) → Keeps m → (i : ℕ) (p : Procedure) → sli
     → (low : ℕ) × ProcedureKeeps m.version (length m.code) low p
 row_keeps m keeps i p is = at-row m.version (length m.code) 0 m.procedures i p keeps.rows.procedures is
 
-pub frame_some : (version : Version) (code low : ℕ) (p : Procedure) → ProcedureKeeps version code low p → 1 ≤ frame_size p
+pub frame_some : (version : Version) (code low : ℕ) (p : Procedure) → ProcedureKeeps version code low p
+    → 1 ≤ frame_size p
 frame_some version code low p keeps =
     let a = keeps.lo_high in let b = keeps.hi_low in omega (arith, ints, a, b)
 
@@ -167,7 +169,8 @@ not_own c w is some not_may =
     sym (all-fail (rights.may_write_word c.contents c.state.context) (callee_word c.state c.callee.lo) w 0
     (frame_size c.callee) (omega (arith, ints, is)) (omega arith) not_may)
 
-pub off_yes : (c : Calling) (first : ℤ) (count : ℕ) (a b : ℤ) → a ≡ first +ℤ pos count → b ≡ callee_word c.state c.callee.lo
+pub off_yes : (c : Calling) (first : ℤ) (count : ℕ) (a b : ℤ) → a ≡ first +ℤ pos count
+    → b ≡ callee_word c.state c.callee.lo
     → int_le a b ≡ true → int_le a b ≡ is_off_callee c first count
 off_yes c first count a b a_is b_is low =
     low ∙ sym (ap (λ (t : Bool). t || int_le (callee_word c.state c.callee.hi) first)
@@ -182,10 +185,6 @@ off_no c first count a b d f a_is b_is high d_is f_is =
     (sym (ap (λ (z : ℤ). int_le z b) a_is ∙ ap (int_le (first +ℤ pos count)) b_is) ∙ high))
 
 -- ---- each two parameters
-
--- where some parameters are left, each two of these pass a test if each two of all do
-abbrev pub LeavesEachTwo : (Parameter → Parameter → Bool) → List Parameter → List Parameter → Type 0
-LeavesEachTwo test rest all = each_two test rest ≡ each_two test all
 
 pub two_more : (test : Parameter → Parameter → Bool) (p : Parameter) (rest others : List Parameter) (whole : Bool)
     → rest ≡ p ∷ others → list_all (test p) others ≡ true → each_two test rest ≡ whole → each_two test others ≡ whole
@@ -223,7 +222,9 @@ lent_told l o s t w count leaving o_is writes zero_is w_is count_is leaving_is i
     (ap (λ (x : Leaving). changed (on_span w count x) s.frame) leaving_is
     ∙ ap (λ (z : ℤ). changed (on_span z count (Become (Number l.lo l.hi))) s.frame) w_is
     ∙ ap (λ (n : ℕ). changed (on_span (word_of_byte l.first) n (Become (Number l.lo l.hi))) s.frame) count_is
-    ∙ sym (ap (λ (b : Bool). cond b (changed (on_span (word_of_byte l.first) (l.size / 4) (Become (Number l.lo l.hi))) s.frame)
+    ∙ sym
+    (ap (λ (b : Bool). cond b (changed
+    (on_span (word_of_byte l.first) (l.size / 4) (Become (Number l.lo l.hi))) s.frame)
     s.frame) (and-both _ _ writes (eq-eqb l.region 0 zero_is)))
     ∙ sym (ap (λ (x : Option Lent). rule.with_lent x s.frame) o_is))
 
@@ -241,12 +242,18 @@ pub returned_told : (s t u : State) (e : Stack Known) (first w : ℤ) (count : �
     → t ≡ after_change (on_span w count (Become Unknown)) s
     → u ≡ record t { stack = u.stack; frame = with_each xs t.frame } → e ≡ of_empty unknown → w ≡ first → xs ≡ items
     → record u { stack = e }
-    ≡ record s { stack = of_empty unknown; frame = with_each items (changed (on_span first count (Become Unknown)) s.frame) }
+    ≡ record s {
+      stack = of_empty unknown;
+      frame =
+          with_each items (changed (on_span first count (Become Unknown)) s.frame);
+    }
 unfolding after_change
 returned_told s t u e first w count xs items t_is u_is e_is w_is xs_is =
     ap (λ (x : State). record x { stack = e }) u_is
     ∙ ap (λ (x : State). record x { stack = e; frame = with_each xs x.frame }) t_is
-    ∙ ap (λ (x : Stack Known). record s { stack = x; frame = with_each xs (changed (on_span w count (Become Unknown)) s.frame) })
+    ∙ ap
+    (λ (x : Stack Known).
+    record s { stack = x; frame = with_each xs (changed (on_span w count (Become Unknown)) s.frame) })
     e_is
     ∙ ap (λ (z : ℤ). record s {
       stack = of_empty unknown;
@@ -269,7 +276,8 @@ behind_told c t u touches is =
     is ∙ ap (λ (f : Facts). record c.state { stack = of_empty unknown; frame = f })
     (ap (λ (xs : List (Option Lent)). with_each xs (changed (on_span t.first t.count (Become Unknown)) c.state.frame))
     touches.lent
-    ∙ ap (λ (z : ℤ). with_each (map (lent c) c.callee.parameters) (changed (on_span z t.count (Become Unknown)) c.state.frame))
+    ∙ ap (λ (z : ℤ). with_each (map (lent c) c.callee.parameters)
+    (changed (on_span z t.count (Become Unknown)) c.state.frame))
     touches.first
     ∙ ap (λ (n : ℕ). with_each (map (lent c) c.callee.parameters) (changed (on_span (callee_word c.state c.callee.lo) n
     (Become Unknown)) c.state.frame)) touches.count
@@ -280,13 +288,15 @@ pub procedure_called : (site : Site) (to : ℕ) (s t : State) (row : ProcedureRo
     → t ≡ passing site.contents s
     → calls_procedure site to s (entered context row)
     ≡ admits (record { contents = site.contents; state = t; callee = procedure_of row }) context
-    (spends (site.length + row.number) (behind_call (record { contents = site.contents; state = t; callee = procedure_of row }))
+    (spends (site.length + row.number) (behind_call
+    (record { contents = site.contents; state = t; callee = procedure_of row }))
     (calls to))
 unfolding calls_procedure
 procedure_called site to s t row context t_is =
     ap (λ (mode : Mode). passes_all c0 (alone mode (rest s.context))) (sym same.mode)
     ∙ ap (λ (n : ℕ). passes_all c0 (alone c0.state.mode (rest n))) (sym same.context)
-    ∙ ap (λ (u : State). admits (by u) context (spends (site.length + row.number) (behind_call (by u)) (calls to))) (sym t_is)
+    ∙ ap (λ (u : State). admits (by u) context (spends (site.length + row.number) (behind_call (by u)) (calls to)))
+    (sym t_is)
   where
     by : State → Calling
     by u = record { contents = site.contents; state = u; callee = procedure_of row }

@@ -1,11 +1,12 @@
 -- What lend finds, what a turn costs, and the words of a loop's block.
-use Rattle.std.proofs.Common.{◌≡◌, ℕ, zero, suc, ◌+◌, ◌-◌, ◌*◌, ◌%◌, ◌/◌, ◌^◌, ◌<◌, ◌≤◌, ◌==◌, nat_le, ◌&&◌, ◌||◌, ℤ, pos, negsuc}
-use Rattle.std.proofs.Common.{◌+ℤ◌, ◌-ℤ◌, ◌*ℤ◌, ◌≤ℤ◌, ◌<ℤ◌, neg_ℤ, FitsSigned, Bool, true, false, cond, ◌⊎◌, inl, inr, Option, Some}
+use Rattle.std.proofs.Common.{◌≡◌, ℕ, suc, ◌+◌, ◌-◌, ◌%◌, ◌^◌, ◌<◌, ◌≤◌, ◌==◌, nat_le, ◌&&◌, ◌||◌, ℤ, pos, negsuc}
+use Rattle.std.proofs.Common.{◌+ℤ◌, ◌-ℤ◌, ◌*ℤ◌, ◌≤ℤ◌, ◌<ℤ◌, FitsSigned, Bool, true, false, cond, ◌⊎◌, inl, inr, Option}
+use Rattle.std.proofs.Common.{Some}
 use Rattle.std.proofs.Common.{None, refl, sym, ap, ◌∙◌, subst, arith}
-use Rattle.std.proofs.lemmas.Bool.{eqb-true, eq-eqb, leb-true}
+use Rattle.std.proofs.lemmas.Bool.{eqb-true}
 use Rattle.std.proofs.lemmas.Int.{ints, of_z-to_z, to_z-of_z, wrapping_add_onto, int_wrap_fits}
-use Rattle.std.specs.Prelude.{IsTrue, unsigned_abs, int_le, int_lt, option_map, option_and_then}
-use Rattle.std.specs.Int.{w32, int_wrap, int_rem_euclid, cast_unsigned}
+use Rattle.std.specs.Prelude.{int_le, int_lt, option_map, option_and_then}
+use Rattle.std.specs.Int.{w32, int_wrap, cast_unsigned}
 use Rattle.module_format.specs.Rows.{Fact}
 use Rattle.module_format.specs.declared.fact.Fact.TheVariants.{Unknown, Number, Pointer, CodeAddress, Loop}
 use Rattle.module_format.specs.declared.fact.Fact.TheVariants.{ReturnAddress}
@@ -24,7 +25,8 @@ use Rattle.states.specs.Below.{is_same_loop}
 use Rattle.states.proofs.RowFacts.{and-parts, le-from, lt-from}
 use Rattle.facts.specs.declared.loops.Block.{Block}
 use Rattle.facts.specs.Rulings.{Site}
-use Rattle.facts.specs.LoopRules.{word_of_offset, word_pointed, last_index, block_of_loop, loop_block, is_beside_workspace}
+use Rattle.facts.specs.LoopRules.{word_of_offset, word_pointed, last_index, block_of_loop, loop_block}
+use Rattle.facts.specs.LoopRules.{is_beside_workspace}
 use Rattle.facts.specs.LoopRules.{provided, block_at, block_of, Beginning, begins_at, beginning_at, beginning}
 use Rattle.facts.proofs.Words.{word_test, bool_cases}
 use Rattle.facts.proofs.Reaching.{address_of}

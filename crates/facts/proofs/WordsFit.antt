@@ -1,7 +1,8 @@
 -- The instructions on words: what their rules say fits their steps.
-use Rattle.std.proofs.Common.{lit<, ◌≡◌, ◌≢◌, ◌+◌, ◌-◌, ◌≤◌, ◌<◌, ℕ, suc, ℤ, pos, negsuc, ◌+ℤ◌, ◌*ℤ◌, ◌≤ℤ◌, ◌<ℤ◌}
-use Rattle.std.proofs.Common.{FitsSigned, Bool, true, false, not, ◌&&◌, if◌then◌else◌, inl, inr, length, Option, Some, None}
-use Rattle.std.proofs.Common.{IsSomeAnd, refl, sym, ap, ◌∙◌, subst, arith, ltb, eqb}
+use Rattle.std.proofs.Common.{lit<, ◌≡◌, ◌≢◌, ◌+◌, ◌-◌, ◌≤◌, ℕ, suc, ℤ, pos, negsuc, ◌+ℤ◌, ◌*ℤ◌, ◌≤ℤ◌, ◌<ℤ◌}
+use Rattle.std.proofs.Common.{FitsSigned, Bool, true, false, not, ◌&&◌, if◌then◌else◌, inl, inr, length, Option, Some}
+use Rattle.std.proofs.Common.{None}
+use Rattle.std.proofs.Common.{IsSomeAnd, refl, sym, ap, ◌∙◌, subst, arith, ltb}
 use Rattle.std.proofs.lemmas.Bool.{le-leb}
 use Rattle.std.proofs.lemmas.Bool.Decides.{leb_tells, eqb_tells, nat_tests}
 use Rattle.std.proofs.lemmas.Int.{ints}
@@ -41,9 +42,11 @@ use Rattle.facts.specs.WordRules as word
 use Rattle.facts.specs.MemoryRules.{is_near, near}
 use Rattle.facts.specs.WordRules.{has_range}
 use Rattle.facts.specs.Rules as table
-use Rattle.facts.specs.Meaning.{Activation, IsOffset, Means, is_number, is_pointer, frame_word, words_of, ComesFrom, from_nowhere}
+use Rattle.facts.specs.Meaning.{Activation, IsOffset, Means, is_number, is_pointer, frame_word, words_of, ComesFrom}
+use Rattle.facts.specs.Meaning.{from_nowhere}
 use Rattle.facts.specs.Meaning.{from_word, MeansWord, MeansKnown, frame_lo, frame_hi, owed, IsWellFormed}
-use Rattle.facts.specs.Fitting.{Changes, After, Here, rule_site, step_site, it_falls, it_breaks, goes_behind, is_landing}
+use Rattle.facts.specs.Fitting.{Changes, After, Here, rule_site, step_site, it_falls, it_breaks, goes_behind}
+use Rattle.facts.specs.Fitting.{is_landing}
 use Rattle.facts.proofs.Words.{local_place, local_word, moved_workspace, frame_word_is, stored_means, plain_means}
 use Rattle.facts.proofs.Results.{ResultMeans, Lies, lies, two_means, result_means, unary_result_means, numbers_fit}
 use Rattle.facts.proofs.Results.{shift_computed, shift_holds, long_holds}
@@ -306,7 +309,8 @@ module _ (x : Here) (s : State) (l : Local) (a : After x.m x.h x.mode x.act s l)
       s.stack.a.fact u v other.fact means.fact))))
     where
       on_test : (u v : ℤ) (f : Fact) (b : Bool)
-          → IsSomeAnd (if b then Some (step.shifted op u (nat_abs v)) else None) (λ w. Means x.m x.act.layout f (Some w))
+          → IsSomeAnd (if b then Some (step.shifted op u (nat_abs v)) else None)
+          (λ w. Means x.m x.act.layout f (Some w))
           → FitsIf x (word.becomes (rule_site x) (Some f) Nowhere (rule.pop s))
           (if b then step.replaces_two (step_site x) (step.shifted op u (nat_abs v)) l else fails CountRange)
       on_test u v f true m =
@@ -431,7 +435,8 @@ module _ (x : Here) (s : State) (l : Local) (a : After x.m x.h x.mode x.act s l)
   -- ---- cj
 
   -- where the condition came out so
-  after_narrowing : (s' : State) (l' : Local) (source : Source) (holds : Bool) (v : ℤ) → After x.m x.h x.mode x.act s' l'
+  after_narrowing : (s' : State) (l' : Local) (source : Source) (holds : Bool) (v : ℤ)
+      → After x.m x.h x.mode x.act s' l'
       → ComesFrom (words_of x.m s').reads l'.memory x.act.layout.origin source (Some v) → (holds ≡ true → v ≢ pos 0)
       → (holds ≡ false → v ≡ pos 0)
       → After x.m x.h x.mode x.act (record s' { frame = word.narrowed source holds s'.frame }) l'

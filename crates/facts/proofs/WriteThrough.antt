@@ -1,59 +1,55 @@
 -- Where a pointer leads that a context may write through, and what a write there leaves.
-use Rattle.std.proofs.Common.{◌≡◌, ℕ, zero, suc, ◌+◌, ◌-◌, ◌*◌, ◌/◌, ◌%◌, ◌≤◌, ◌<◌, ◌==◌, ℤ, pos, ◌+ℤ◌, ◌-ℤ◌, ◌*ℤ◌, ◌≤ℤ◌, ◌<ℤ◌}
-use Rattle.std.proofs.Common.{Bool, true, false, cond, ◌&&◌, length, FitsSigned, Option, Some, None, refl, sym, ap, ◌∙◌, subst}
-use Rattle.std.proofs.Common.{nat_abs, arith, ◌⊎◌, inl, inr}
-use Rattle.std.proofs.lemmas.Bool.{cases_lt, cases_eq, eqb-true}
+use Rattle.std.proofs.Common.{◌≡◌, ℕ, ◌+◌, ◌-◌, ◌*◌, ◌≤◌, ◌<◌, ℤ, pos, ◌+ℤ◌, ◌*ℤ◌, ◌≤ℤ◌, ◌<ℤ◌}
+use Rattle.std.proofs.Common.{Bool, true, false, length, FitsSigned, Option, Some, None, refl, sym, ap, ◌∙◌, subst}
+use Rattle.std.proofs.Common.{arith, ◌⊎◌, inl, inr}
+use Rattle.std.proofs.lemmas.Bool.{cases_eq}
 use Rattle.std.proofs.lemmas.Int.{ints, clamps}
-use Rattle.std.specs.Prelude.{IsTrue, int_le, int_lt, slice_get}
+use Rattle.std.specs.Prelude.{slice_get}
 use Rattle.std.specs.Int.{w32, cast_signed}
-use Rattle.word_arithmetic.specs.Range.{Ends}
 use Rattle.module_format.specs.Rows.{Fact}
 use Rattle.module_format.specs.declared.fact.Fact.TheVariants.{Unknown, Number, Pointer, CodeAddress, Loop}
 use Rattle.module_format.specs.declared.fact.Fact.TheVariants.{ReturnAddress}
 use Rattle.module_format.specs.declared.rows.Parameter.{Parameter}
 use Rattle.module_format.specs.declared.rows.ParameterKind.{ParameterKind}
 use Rattle.module_format.specs.declared.rows.ParameterKind.TheVariants.{Value, ReadRegion, WrittenRegion, Channels}
-use Rattle.module_format.specs.declared.stack.Stack.{Stack}
-use Rattle.module_format.specs.Order.{is_stepped, least_word, greatest_word}
+use Rattle.module_format.specs.Order.{least_word, greatest_word}
 use Rattle.module_format.specs.Contents.{Contents}
 use Rattle.module_format.specs.Contexts.{parameters_at}
 use Rattle.certificate.specs.Rights.{may_write_word as context_writes}
 use Rattle.machine_state.specs.declared.process.Mode as machine
-use Rattle.machine_state.specs.Memory.{Memory, byte_at, word_at, with_byte, with_word, place_of}
-use Rattle.machine_state.specs.Holding.{Holding, may_read, may_write, may_write_word}
+use Rattle.machine_state.specs.Memory.{Memory, byte_at, word_at, with_byte, place_of}
+use Rattle.machine_state.specs.Holding.{Holding, may_read, may_write}
 use Rattle.machine_state.specs.Site.{Local}
-use Rattle.machine_state.proofs.Reading.{length-with_word, length-with_byte, byte_at-with_byte, byte_at-with_byte_other}
-use Rattle.machine_state.proofs.Reading.{byte_at-with_word_other, word_at-with_word_other, word_at-with_byte_other, word_at_same}
+use Rattle.machine_state.proofs.Reading.{length-with_byte, byte_at-with_byte, byte_at-with_byte_other}
+use Rattle.machine_state.proofs.Reading.{word_at_same}
 use Rattle.states.specs.declared.known.Known.{Known}
 use Rattle.states.specs.declared.known.Source.{Source}
 use Rattle.states.specs.declared.known.Source.TheVariants.{Nowhere, From, Test}
 use Rattle.states.specs.declared.span.Leaving.{Leaving}
-use Rattle.states.specs.declared.span.Leaving.TheVariants.{Become, Widen}
-use Rattle.states.specs.State.{State, Facts, Change, is_word}
+use Rattle.states.specs.State.{State}
 use Rattle.states.specs.Spans.{is_in_span, widened, left_of, on_span, after_change}
-use Rattle.states.proofs.RowFacts.{and-parts, le-from, lt-from, and-both}
 use Rattle.states.proofs.SpanFacts.{in-span}
 use Rattle.facts.specs.Meaning.{Layout, Activation, Means, says_nothing, is_number, place_in, frame_word, IsOwnWord}
-use Rattle.facts.specs.Meaning.{words_of, ComesFrom, from_nowhere, from_word, from_test, MeansKnown, Knows}
-use Rattle.facts.specs.Regions.{Scope, scope_of, IsByteOf, IsRegion, IsNamed, IsWrittenAt, IsNamedAt, HoldsNamed, HasBytes}
+use Rattle.facts.specs.Meaning.{words_of, ComesFrom, from_nowhere, from_word, from_test, MeansKnown}
+use Rattle.facts.specs.Regions.{Scope, scope_of, IsByteOf, IsRegion, IsNamed, IsWrittenAt, HoldsNamed, HasBytes}
 use Rattle.facts.specs.Regions.{in_region, Keeps}
-use Rattle.facts.specs.Reach.{word_of_byte, words_touched, all_touched, lie_in, writable_size, writable_bytes, may_write_parameter}
+use Rattle.facts.specs.Reach.{word_of_byte, words_touched, all_touched, writable_size, writable_bytes}
+use Rattle.facts.specs.Reach.{may_write_parameter}
 use Rattle.facts.specs.Reach.{kept_range}
 use Rattle.facts.specs.MemoryRules.{widened_by}
 use Rattle.facts.specs.Fitting.{After}
-use Rattle.facts.proofs.Words.{means_same, frame_word_is, word_test, stored_means, Follows, knows_changed}
-use Rattle.facts.proofs.Regions.{AltersWord, frame_keeps, may_too, Alters, named_left, IsBeside, bytes_read, byte_small}
-use Rattle.facts.proofs.Regions.{word_small}
+use Rattle.facts.proofs.Words.{means_same, frame_word_is, word_test, Follows, knows_changed}
+use Rattle.facts.proofs.Regions.{AltersWord, Alters, named_left, IsBeside, byte_small}
 use Rattle.facts.proofs.ReadThrough.{no_byte, word_of_bytes, word_fits, usable_found}
-use Rattle.facts.proofs.Reaching.{inside_memory, touched_span, touched_passes, word_of_byte_low, word_of_byte_high, lies_inside}
-use Rattle.facts.proofs.Addresses.{stepped_quotient}
-use Rattle.facts.proofs.Combining.{same_frame, written_readable}
+use Rattle.facts.proofs.Reaching.{inside_memory, touched_span, touched_passes, word_of_byte_low, word_of_byte_high}
+use Rattle.facts.proofs.Combining.{same_frame}
 
 -- ---- what is left of what is known of a word
 
 module _ (m : Contents) (layout : Layout) where
   -- a number in a range is one in a wider range
-  pub number_wider : {lo hi : ℤ} (low high : ℤ) (v : Option ℤ) → low ≤ℤ lo → hi ≤ℤ high → Means m layout (Number lo hi) v
+  pub number_wider : {lo hi : ℤ} (low high : ℤ) (v : Option ℤ) → low ≤ℤ lo → hi ≤ℤ high
+      → Means m layout (Number lo hi) v
       → Means m layout (Number low high) v
   number_wider low high None from to means = elim means [ ]
   number_wider low high (Some x) from to (is_number least most fits) =
@@ -101,11 +97,13 @@ pub record LeavesWell (m : Contents) (layout : Layout) (first : ℤ) (count : �
     (old new : Memory) : Type 0 where
   pub here : (said : Fact) → Means m layout said (frame_word old layout.origin k)
       → Means m layout (left_of leaving said) (frame_word new layout.origin k)
-  pub others : (j : ℤ) (said : Fact) (v : Option ℤ) → (j ≡ k → ⊥) → is_in_span first count j ≡ true → Means m layout said v
+  pub others : (j : ℤ) (said : Fact) (v : Option ℤ) → (j ≡ k → ⊥) → is_in_span first count j ≡ true
+      → Means m layout said v
       → Means m layout (left_of leaving said) v
   pub elsewhere : (j : ℤ) → (j ≡ k → ⊥) → frame_word new layout.origin j ≡ frame_word old layout.origin j
 
-pub span_follows : {m : Contents} {layout : Layout} {leaving : Leaving} {old new : Memory} (counts : ℤ → Bool) (first : ℤ)
+pub span_follows : {m : Contents} {layout : Layout} {leaving : Leaving} {old new : Memory}
+    (counts : ℤ → Bool) (first : ℤ)
     (count : ℕ) (k : ℤ) → is_in_span first count k ≡ true → LeavesWell m layout first count leaving k old new
     → Follows m counts layout (on_span first count leaving) old new
 span_follows {m} {layout} {leaving} {old} {new} counts first count k there leaves = record {
@@ -189,11 +187,13 @@ module _ {m : Contents} {h : Holding} {mode : machine.Mode} {act : Activation} {
     same_mode = a.same_mode;
   }
     where
-      source_same : (source : Source) (v : Option ℤ) → ComesFrom (words_of m s).reads l.memory act.layout.origin source v
+      source_same : (source : Source) (v : Option ℤ)
+          → ComesFrom (words_of m s).reads l.memory act.layout.origin source v
           → ComesFrom (words_of m s).reads new act.layout.origin source v
       source_same Nowhere v comes = from_nowhere
       source_same (From word) v (from_word counts is) = from_word counts (is ∙ sym (same word counts))
-      source_same (Test word lo hi inside) v (from_test x counts is tested) = from_test x counts (same word counts ∙ is) tested
+      source_same (Test word lo hi inside) v (from_test x counts is tested) =
+          from_test x counts (same word counts ∙ is) tested
 
       register : (known : Known) (v : Option ℤ)
           → MeansKnown m (words_of m s).reads act.layout l.memory known v
@@ -295,7 +295,8 @@ module _ (m : Contents) (h : Holding) (scope : Scope) (old new : Memory) (has : 
         let p_is : p ≡ q = cc in
         inr (subst (λ (n : ℕ). IsNamed m h scope new q.kind (scope.layout.starts n)) (sym same)
         (subst (λ (r : Parameter). IsNamed m h scope new r.kind (scope.layout.starts j)) p_is again))
-    | inr differ ↦ inl (λ place at lies. has.apart j i p q found there (λ e. differ (sym e)) place (is_written place lies) at)
+    | inr differ ↦ inl (λ place at lies. has.apart j i p q found there (λ e. differ (sym e)) place
+        (is_written place lies) at)
   ]
 
   -- it is a change that the activation may make
@@ -314,7 +315,8 @@ module _ (m : Contents) (h : Holding) (scope : Scope) (old new : Memory) (has : 
       → frame_word new scope.layout.origin k ≡ frame_word old scope.layout.origin k
   word_beside k place counts at =
       frame_word_is new scope.layout.origin k place at
-      ∙ (word_at_same new old place (same place (omega arith) (omega arith)) (same (place + 1) (omega arith) (omega arith))
+      ∙ (word_at_same new old place (same place (omega arith) (omega arith))
+      (same (place + 1) (omega arith) (omega arith))
       (same (place + 2) (omega arith) (omega arith)) (same (place + 3) (omega arith) (omega arith))
       ∙ sym (frame_word_is old scope.layout.origin k place at))
     where
@@ -342,7 +344,8 @@ number_byte {m} {layout} {lo} {hi} memory place n less means = on (byte_at memor
     nothing means = elim means [ ]
 
     on : (o : Option ℕ) → byte_at memory (place + n) ≡ o → (b : ℕ) × (o ≡ Some b)
-    on None e = absurd (nothing (subst (λ (v : Option ℤ). Means m layout (Number lo hi) v) (no_byte memory place n less e) means))
+    on None e = absurd (nothing (subst (λ (v : Option ℤ). Means m layout (Number lo hi) v)
+        (no_byte memory place n less e) means))
     on (Some b) e = (b, refl)
 
 -- so the word lies in memory

@@ -1,39 +1,36 @@
 -- The instructions that write memory through pointers: what their rules say fits their steps.
-use Rattle.std.proofs.Common.{◌≡◌, ℕ, ◌+◌, ◌-◌, ◌*◌, ◌/◌, ◌%◌, ◌≤◌, ◌<◌, ◌==◌, ℤ, pos, ◌+ℤ◌, ◌-ℤ◌, ◌*ℤ◌, ◌≤ℤ◌, ◌<ℤ◌, nat_abs}
-use Rattle.std.proofs.Common.{neg_ℤ, FitsSigned, Bool, true, false, cond, ◌&&◌, ◌||◌, length, Option, Some, None, Result, Ok, Err}
+use Rattle.std.proofs.Common.{◌≡◌, ℕ, ◌+◌, ◌-◌, ◌*◌, ◌/◌, ◌%◌, ◌≤◌, ◌<◌, ◌==◌, ℤ, pos, ◌+ℤ◌, ◌-ℤ◌, ◌*ℤ◌, ◌≤ℤ◌, ◌<ℤ◌}
+use Rattle.std.proofs.Common.{nat_abs}
+use Rattle.std.proofs.Common.{neg_ℤ, FitsSigned, Bool, true, false, cond, ◌&&◌, ◌||◌, length, Option, Some, None, Ok}
 use Rattle.std.proofs.Common.{refl, sym, ap, ◌∙◌, subst, arith, ◌⊎◌, inl, inr, negsuc}
 use Rattle.std.proofs.lemmas.Bool.{cases_lt, cases_eq, eqb-true}
 use Rattle.std.proofs.lemmas.Int.{ints}
 use Rattle.std.specs.Prelude.{IsTrue, int_le, int_lt}
-use Rattle.std.specs.Int.{w32, int_wrap}
+use Rattle.std.specs.Int.{w32}
 use Rattle.word_arithmetic.specs.Range.{Ends, full}
 use Rattle.module_format.specs.Rows.{Fact}
 use Rattle.module_format.specs.declared.fact.Fact.TheVariants.{Unknown, Number, Pointer, CodeAddress, Loop}
 use Rattle.module_format.specs.declared.fact.Fact.TheVariants.{ReturnAddress}
-use Rattle.module_format.specs.declared.fact.Step.{Step}
-use Rattle.module_format.specs.declared.fact.Step.TheVariants.{Byte, Word}
 use Rattle.module_format.specs.declared.rows.ParameterKind.{ParameterKind}
 use Rattle.module_format.specs.Order.{is_stepped, least_word, greatest_word}
 use Rattle.module_format.specs.Contents.{Contents}
-use Rattle.certificate.specs.Rights as rights
 use Rattle.certificate.specs.Rights.{may_write_word as context_writes}
 use Rattle.machine_state.specs.declared.op.Op.TheVariants as operations
 use Rattle.machine_state.specs.declared.instruction.Instruction.TheVariants as instructions
 use Rattle.machine_state.specs.declared.process.Mode as machine
-use Rattle.machine_state.specs.Memory.{Memory, byte_at, word_at, with_byte, with_word, place_of, local_address, byte_worth}
-use Rattle.machine_state.specs.Holding.{Holding, may_read, may_write, may_write_word}
-use Rattle.machine_state.specs.World.{constants_start}
+use Rattle.machine_state.specs.Memory.{Memory, byte_at, word_at, with_byte, with_word, place_of, local_address}
+use Rattle.machine_state.specs.Memory.{byte_worth}
+use Rattle.machine_state.specs.Holding.{Holding, may_write, may_write_word}
 use Rattle.machine_state.specs.LocalStep as step
 use Rattle.machine_state.specs.Site.{Outcome, Local}
-use Rattle.machine_state.proofs.Reading.{length-with_word, length-with_byte, byte_at-with_byte_other, byte_at-with_word_other}
+use Rattle.machine_state.proofs.Reading.{length-with_word, length-with_byte, byte_at-with_byte_other}
+use Rattle.machine_state.proofs.Reading.{byte_at-with_word_other}
 use Rattle.machine_state.proofs.Reading.{word_at-with_word_other, word_at-with_byte_other}
 use Rattle.machine_state.proofs.Frame.{write_is_own, byte_is_own, changes_more}
-use Rattle.states.specs.declared.rule.Rule.{Rule}
-use Rattle.states.specs.declared.rule.Rule.TheVariants as rules
 use Rattle.states.specs.declared.span.Leaving.{Leaving}
-use Rattle.states.specs.declared.span.Leaving.TheVariants.{Become, Widen}
+use Rattle.states.specs.declared.span.Leaving.TheVariants.{Become}
 use Rattle.states.specs.State.{State, is_word as is_same}
-use Rattle.states.specs.Spans.{is_in_span, widened, left_of, on_span, after_change}
+use Rattle.states.specs.Spans.{is_in_span, widened, on_span, after_change}
 use Rattle.states.specs.Below.{lies_within}
 use Rattle.states.proofs.RowFacts.{and-parts, le-from, lt-from}
 use Rattle.facts.specs.declared.pointers.Pointed.{Pointed}
@@ -41,28 +38,35 @@ use Rattle.facts.specs.Rulings as rule
 use Rattle.facts.specs.Rulings.{Ruling}
 use Rattle.facts.specs.WordRules as word
 use Rattle.facts.specs.MemoryRules as memory
-use Rattle.facts.specs.MemoryRules.{pointer_of, words_behind, words_at, are_near, wanted_range, is_number_in, may_store_word}
+use Rattle.facts.specs.MemoryRules.{pointer_of, words_behind, wanted_range, is_number_in, may_store_word}
 use Rattle.facts.specs.MemoryRules.{is_full, may_store_byte, widened_by, stored_word, stored_byte, leaves_words}
-use Rattle.facts.specs.Reach.{word_of_byte, words_touched, all_touched, lie_in, may_write_bytes, writable_bytes, parameter_range}
+use Rattle.facts.specs.Reach.{word_of_byte, words_touched, all_touched, lie_in, may_write_bytes, writable_bytes}
+use Rattle.facts.specs.Reach.{parameter_range}
 use Rattle.facts.specs.Reach.{kept_range}
 use Rattle.facts.specs.Rules as table
-use Rattle.facts.specs.Meaning.{Layout, Activation, Means, says_nothing, is_number, is_pointer, place_in, word_at_place, frame_word}
-use Rattle.facts.specs.Meaning.{words_of, owed, region_start, IsWellFormed}
+use Rattle.facts.specs.Meaning.{Layout, Activation, Means, says_nothing, is_pointer, place_in, word_at_place}
+use Rattle.facts.specs.Meaning.{frame_word}
+use Rattle.facts.specs.Meaning.{owed, region_start}
 use Rattle.facts.specs.Regions.{Scope, scope_of, IsByteOf, IsRegion, IsNamed, Keeps}
-use Rattle.facts.specs.Fitting.{Changes, After, Here, rule_site, step_site, it_breaks}
+use Rattle.facts.specs.Fitting.{Changes, After, Here, rule_site, step_site}
 use Rattle.facts.proofs.Words.{frame_word_is, word_test, stored_means, word_elsewhere}
 use Rattle.facts.proofs.Dues.{changed_dues}
 use Rattle.facts.proofs.Regions.{write_keeps, frame_keeps, keeps_more, may_too, bytes_written, word_small, byte_small}
 use Rattle.facts.proofs.ReadThrough.{word_writable, range_found}
-use Rattle.facts.proofs.Reaching.{region_place, place_at, region_at, word_place, even_word, word_of_byte_low, word_of_byte_high}
+use Rattle.facts.proofs.Reaching.{region_place, place_at, region_at, word_place, even_word, word_of_byte_low}
+use Rattle.facts.proofs.Reaching.{word_of_byte_high}
 use Rattle.facts.proofs.Reaching.{natural, place_by}
 use Rattle.facts.proofs.Through.{even_place, inside_some}
-use Rattle.facts.proofs.Addresses.{stepped_quotient, stepped_sum, stepped_words}
-use Rattle.facts.proofs.WriteThrough.{number_wider, widened_means, widened_by_means, LeavesWell, FrameWord, frame_written, after_span}
-use Rattle.facts.proofs.WriteThrough.{after_beside, Writable, writable_found, Lies, AltersRegion, region_keeps, word_beside}
+use Rattle.facts.proofs.Addresses.{stepped_quotient}
+use Rattle.facts.proofs.WriteThrough.{number_wider, widened_means, widened_by_means, LeavesWell, FrameWord}
+use Rattle.facts.proofs.WriteThrough.{frame_written, after_span}
+use Rattle.facts.proofs.WriteThrough.{after_beside, Writable, writable_found, Lies, AltersRegion, region_keeps}
+use Rattle.facts.proofs.WriteThrough.{word_beside}
 use Rattle.facts.proofs.WriteThrough.{number_within, number_stays, byte_written, byte_left}
-use Rattle.facts.proofs.Combining.{FitsIf, unknown_means, written_readable, wanted_fits, on_step_test, uses_fits, in_bounds_fits}
-use Rattle.facts.proofs.Combining.{writes_fits, goes_on_fits, in_plain_rule, beside_plain_rule, in_plain_step, after_stack}
+use Rattle.facts.proofs.Combining.{FitsIf, unknown_means, written_readable, wanted_fits, on_step_test, uses_fits}
+use Rattle.facts.proofs.Combining.{in_bounds_fits}
+use Rattle.facts.proofs.Combining.{writes_fits, goes_on_fits, in_plain_rule, beside_plain_rule, in_plain_step}
+use Rattle.facts.proofs.Combining.{after_stack}
 use Rattle.facts.proofs.MemoryFits.{pointer_is, words_behind_is, settles_fits, aligned_fits}
 
 -- ---- the words that are touched
@@ -101,7 +105,8 @@ byte_elsewhere memory origin j k place c b differ = at_place (place_in origin j)
         below_or_above : (j k : ℤ) → (j ≡ k → ⊥) → (j <ℤ k) ⊎ (k <ℤ j)
         below_or_above j k differ = grind (arith, ints)
 
-        apart : (other : ℕ) → pos other ≡ place_in origin j → (j <ℤ k) ⊎ (k <ℤ j) → (place < other) ⊎ (other + 4 ≤ place)
+        apart : (other : ℕ) → pos other ≡ place_in origin j → (j <ℤ k) ⊎ (k <ℤ j)
+            → (place < other) ⊎ (other + 4 ≤ place)
         apart other is (inl less) = let low = b.low in inr (omega (arith, ints))
         apart other is (inr more) = let high = b.high in inl (omega (arith, ints))
 
@@ -114,7 +119,8 @@ byte_elsewhere memory origin j k place c b differ = at_place (place_in origin j)
 
 module _ (m : Contents) (layout : Layout) where
   -- a fact that is a number in a range
-  pub stored_number : (range : Ends) (fact : Fact) (v : Option ℤ) → is_number_in range fact ≡ true → Means m layout fact v
+  pub stored_number : (range : Ends) (fact : Fact) (v : Option ℤ) → is_number_in range fact ≡ true
+      → Means m layout fact v
       → Means m layout (Number range.lo range.hi) v
   stored_number range (Number lo hi) v t means =
       let both = and-parts (int_le range.lo lo) (int_le hi range.hi) t in
@@ -162,12 +168,14 @@ module _ {m : Contents} {h : Holding} {mode : machine.Mode} {act : Activation} {
   into_region : (j size : ℕ) (r : Writable m s.context j size) (n width : ℕ) (new : ℕ → Memory) (mine : ℕ → Type 0)
       → offset ≡ pos n → place_of (act.layout.starts j) + n < length l.memory
       → mine (place_of (act.layout.starts j) + n)
-      → AltersRegion m h scope (place_of (act.layout.starts j)) size r.lo r.hi (place_of (act.layout.starts j) + n) width
+      → AltersRegion m h scope (place_of (act.layout.starts j)) size r.lo r.hi
+      (place_of (act.layout.starts j) + n) width
       l.memory (new (place_of (act.layout.starts j) + n))
       → Written a (pos (place_of (act.layout.starts j))) offset new mine s
   into_region j size r n width new mine is low own alters =
       let small = a.frame.small in
-      let keeps = region_keeps m h scope l.memory (new place) a.named j r.parameter r.found size r.lo r.hi r.is place width
+      let keeps = region_keeps m h scope l.memory
+      (new place) a.named j r.parameter r.found size r.lo r.hi r.is place width
       alters in
       record {
         place = place;
@@ -176,7 +184,8 @@ module _ {m : Contents} {h : Holding} {mode : machine.Mode} {act : Activation} {
         own = own;
         after = after_beside a (new place) (λ k counts.
             let w = a.frame.readable k counts in
-            word_beside m h scope l.memory (new place) a.named j r.parameter r.found size r.lo r.hi r.is place width alters
+            word_beside m h scope l.memory (new place) a.named j r.parameter r.found size r.lo r.hi r.is
+            place width alters
             k w.place counts w.is) keeps;
         keeps = keeps;
       }
@@ -229,7 +238,8 @@ module _ {m : Contents} {h : Holding} {mode : machine.Mode} {act : Activation} {
                 (sym (frame_word_is new act.layout.origin w.word w.own.place w.own.is))
                 (stored_means m act.layout b v l.memory w.own.place w.own.inside means)
 
-            elsewhere : (j : ℤ) → (j ≡ w.word → ⊥) → frame_word new act.layout.origin j ≡ frame_word l.memory act.layout.origin j
+            elsewhere : (j : ℤ) → (j ≡ w.word → ⊥)
+                → frame_word new act.layout.origin j ≡ frame_word l.memory act.layout.origin j
             elsewhere j differ = word_elsewhere l.memory act.layout.origin j w.word w.own.place (Some v) w.own.is differ
 
             alone : is_same lo hi ≡ true → (j : ℤ)
@@ -262,7 +272,8 @@ module _ {m : Contents} {h : Holding} {mode : machine.Mode} {act : Activation} {
 
     word_into_parameter : (j : ℕ) → lie_in (writable_bytes m s.context j) lo (hi +ℤ pos 4) ≡ true
         → is_number_in (parameter_range m s.context j) b ≡ true
-        → Written a (pos (place_of (act.layout.starts j))) offset (λ place. with_word l.memory place (Some v)) (IsOwnAt h) s
+        → Written a (pos (place_of (act.layout.starts j))) offset
+        (λ place. with_word l.memory place (Some v)) (IsOwnAt h) s
     word_into_parameter j inside t =
         let f = inside_some (writable_bytes m s.context j) 4 lo hi offset low high inside in
         let is = f.3 in
@@ -291,7 +302,8 @@ module _ {m : Contents} {h : Holding} {mode : machine.Mode} {act : Activation} {
             new : Memory
             new = with_word l.memory (start + n) (Some v)
 
-            old : (n : ℕ) → n % 4 ≡ 0 → n + 4 ≤ size → Means m act.layout (Number r.lo r.hi) (word_at l.memory (start + n))
+            old : (n : ℕ) → n % 4 ≡ 0 → n + 4 ≤ size
+                → Means m act.layout (Number r.lo r.hi) (word_at l.memory (start + n))
             old n even fits = subst (λ (p : ℕ). Means m act.layout (Number r.lo r.hi) (word_at l.memory p))
                 (let e : start + 4 * (n / 4) ≡ start + n = omega arith in e)
                 ((named_region j size r).numbers (n / 4) (omega arith))
@@ -311,7 +323,8 @@ module _ {m : Contents} {h : Holding} {mode : machine.Mode} {act : Activation} {
                   ((named_region j size r).numbers i inside)
             ]
               where
-                apart : (i n : ℕ) → n % 4 ≡ 0 → (4 * i ≡ n → ⊥) → (start + 4 * i + 4 ≤ start + n) ⊎ (start + n + 4 ≤ start + 4 * i)
+                apart : (i n : ℕ) → n % 4 ≡ 0 → (4 * i ≡ n → ⊥) → (start + 4 * i + 4 ≤ start + n)
+                    ⊎ (start + n + 4 ≤ start + 4 * i)
                 apart i n even differ = grind arith
 
             alters : AltersRegion m h scope start size r.lo r.hi (start + n) 4 l.memory new
@@ -343,7 +356,8 @@ module _ {m : Contents} {h : Holding} {mode : machine.Mode} {act : Activation} {
 
   module _ (c : ℕ) (byte : c < 256) where
     byte_into_frame : all_touched (context_writes m s.context) lo (hi +ℤ pos 1) ≡ true
-        → Written a act.layout.origin offset (λ place. with_byte l.memory place (Some c)) (λ place. may_write h place ≡ true)
+        → Written a act.layout.origin offset (λ place. with_byte l.memory place (Some c))
+        (λ place. may_write h place ≡ true)
         (after_change (on_span (word_of_byte lo) (words_touched lo (hi +ℤ pos 1)) stored_byte) s)
     byte_into_frame all =
         let w = frame_written a lo (hi +ℤ pos 1) offset low (omega (arith, ints)) all in
@@ -353,9 +367,11 @@ module _ {m : Contents} {h : Holding} {mode : machine.Mode} {act : Activation} {
         let n_is = n.1 in
         of_word w n.0 (omega (arith, ints)) (omega (arith, ints))
       where
-        of_word : (w : FrameWord m h s.context (length l.memory) act.layout.origin lo (hi +ℤ pos 1) offset) (n : ℕ) → n < 4
+        of_word : (w : FrameWord m h s.context (length l.memory) act.layout.origin lo (hi +ℤ pos 1) offset)
+            (n : ℕ) → n < 4
             → offset ≡ pos 4 *ℤ w.word +ℤ pos n
-            → Written a act.layout.origin offset (λ place. with_byte l.memory place (Some c)) (λ place. may_write h place ≡ true)
+            → Written a act.layout.origin offset (λ place. with_byte l.memory place (Some c))
+            (λ place. may_write h place ≡ true)
             (after_change (on_span (word_of_byte lo) (words_touched lo (hi +ℤ pos 1)) stored_byte) s)
         of_word w n less at =
             let own = w.own in
@@ -367,7 +383,8 @@ module _ {m : Contents} {h : Holding} {mode : machine.Mode} {act : Activation} {
               is = omega (arith, ints);
               small = omega arith;
               own = bytes_written h own.place own.mine n less;
-              after = after_span a (word_of_byte lo) (words_touched lo (hi +ℤ pos 1)) stored_byte w.word new w.in_span leaves keeps;
+              after = after_span a (word_of_byte lo)
+                  (words_touched lo (hi +ℤ pos 1)) stored_byte w.word new w.in_span leaves keeps;
               keeps = keeps;
             }
           where
@@ -382,31 +399,37 @@ module _ {m : Contents} {h : Holding} {mode : machine.Mode} {act : Activation} {
                 (byte_written act.layout.origin w.word l.memory (w.own.place + n) (Some c) there
                 (λ d e. let is : c ≡ d = cc in subst (λ (x : ℕ). x < 256) is byte))
 
-            leaves : LeavesWell m act.layout (word_of_byte lo) (words_touched lo (hi +ℤ pos 1)) stored_byte w.word l.memory new
+            leaves : LeavesWell m act.layout (word_of_byte lo)
+                (words_touched lo (hi +ℤ pos 1)) stored_byte w.word l.memory new
             leaves = record {
               here = λ said known. byte_left m act.layout said _ _
                   (λ low high known.
                   subst (λ (u : Option ℤ). Means m act.layout (Number least_word greatest_word) u)
                   (sym (frame_word_is new act.layout.origin w.word w.own.place w.own.is))
                   (number_stays h l.memory w.own.place n c less byte
-                  (λ i below. may_too h (w.own.place + i) (bytes_written h w.own.place w.own.mine i below)) a.named.bytes
+                  (λ i below. may_too h (w.own.place + i)
+                  (bytes_written h w.own.place w.own.mine i below)) a.named.bytes
                   (subst (λ (u : Option ℤ). Means m act.layout (Number low high) u)
                   (frame_word_is l.memory act.layout.origin w.word w.own.place w.own.is) known)))
                   known;
-              others = λ j said u differ inside known. widened_means m act.layout least_word greatest_word said u (inl known);
-              elsewhere = λ j differ. byte_elsewhere l.memory act.layout.origin j w.word (w.own.place + n) (Some c) there differ;
+              others = λ j said u differ inside known.
+                  widened_means m act.layout least_word greatest_word said u (inl known);
+              elsewhere = λ j differ. byte_elsewhere l.memory act.layout.origin j w.word (w.own.place + n)
+                  (Some c) there differ;
             }
 
     byte_into_parameter : (j : ℕ) → lie_in (writable_bytes m s.context j) lo (hi +ℤ pos 1) ≡ true
         → is_full (parameter_range m s.context j) ≡ true
-        → Written a (pos (place_of (act.layout.starts j))) offset (λ place. with_byte l.memory place (Some c)) (λ place. may_write h place ≡ true) s
+        → Written a (pos (place_of (act.layout.starts j))) offset (λ place. with_byte l.memory place (Some c))
+        (λ place. may_write h place ≡ true) s
     byte_into_parameter j inside t =
         let f = inside_some (writable_bytes m s.context j) 1 lo hi offset low high inside in
         let fits = f.4 in
         of_region f.0 (writable_found m s.context j f.0 f.1) f.2 f.3 (omega arith)
       where
         of_region : (size : ℕ) (r : Writable m s.context j size) (n : ℕ) → offset ≡ pos n → n < size
-            → Written a (pos (place_of (act.layout.starts j))) offset (λ place. with_byte l.memory place (Some c)) (λ place. may_write h place ≡ true) s
+            → Written a (pos (place_of (act.layout.starts j))) offset (λ place. with_byte l.memory place (Some c))
+            (λ place. may_write h place ≡ true) s
         of_region size r n is within =
             let inside = number_within l.memory (start + 4 * (n / 4)) (in_region_of.numbers (n / 4) fits) in
             into_region j size r n 1 (λ place. with_byte l.memory place (Some c)) (λ place. may_write h place ≡ true) is
@@ -434,12 +457,14 @@ module _ {m : Contents} {h : Holding} {mode : machine.Mode} {act : Activation} {
                 → Means m act.layout (Number r.lo r.hi) (word_at new p)
             any p means =
                 let both = and-parts (int_le r.lo least_word) (int_le greatest_word r.hi) wide in
-                number_wider m act.layout r.lo r.hi _ (le-from r.lo least_word both.0) (le-from greatest_word r.hi both.1) means
+                number_wider m act.layout r.lo r.hi _ (le-from r.lo least_word both.0)
+                (le-from greatest_word r.hi both.1) means
 
             number : (i : ℕ) → 4 * i + 4 ≤ size → Means m act.layout (Number r.lo r.hi) (word_at new (start + 4 * i))
             number i inside = elim (cases_eq i (n / 4)) [
               | inl same ↦ any (start + 4 * i)
-                  (subst (λ (p : ℕ). Means m act.layout (Number least_word greatest_word) (word_at (with_byte l.memory p (Some c)) (start + 4 * i)))
+                  (subst (λ (p : ℕ). Means m act.layout (Number least_word greatest_word)
+                  (word_at (with_byte l.memory p (Some c)) (start + 4 * i)))
                   (let e : start + 4 * i + n % 4 ≡ start + n = omega (arith, same) in e)
                   (number_stays h l.memory (start + 4 * i) (n % 4) c (omega arith) byte
                   (λ k below. may_too h (start + 4 * i + k)
@@ -450,7 +475,8 @@ module _ {m : Contents} {h : Holding} {mode : machine.Mode} {act : Activation} {
                   (in_region_of.numbers i inside)
             ]
               where
-                apart : (start i n : ℕ) → (i ≡ n / 4 → ⊥) → (start + n < start + 4 * i) ⊎ (start + 4 * i + 4 ≤ start + n)
+                apart : (start i n : ℕ) → (i ≡ n / 4 → ⊥) → (start + n < start + 4 * i)
+                    ⊎ (start + 4 * i + 4 ≤ start + n)
                 apart start i n differ = elim (cases_lt (start + n) (start + 4 * i)) [
                   | inl low ↦ inl low
                   | inr high ↦ elim (cases_lt (start + n) (start + 4 * i + 4)) [
@@ -506,7 +532,8 @@ module _ (x : Here) (s : State) (l : Local) (a : After x.m x.h x.mode x.act s l)
   left_context p end leaving = on (p.region == 0)
     where
       on : (frame : Bool)
-          → (cond frame (after_change (on_span (word_of_byte p.lo) (words_touched p.lo end) leaving) s) s).context ≡ s.context
+          → (cond frame (after_change (on_span (word_of_byte p.lo) (words_touched p.lo end) leaving) s) s).context
+          ≡ s.context
       on true = refl
       on false = refl
 
@@ -515,7 +542,8 @@ module _ (x : Here) (s : State) (l : Local) (a : After x.m x.h x.mode x.act s l)
   left_owed p end leaving = on (p.region == 0)
     where
       on : (frame : Bool)
-          → owed (cond frame (after_change (on_span (word_of_byte p.lo) (words_touched p.lo end) leaving) s) s) x.act ≤ owed s x.act
+          → owed (cond frame (after_change (on_span (word_of_byte p.lo) (words_touched p.lo end) leaving) s) s)
+          x.act ≤ owed s x.act
       on true =
           let less = changed_dues (on_span (word_of_byte p.lo) (words_touched p.lo end) leaving) s.frame x.act.turns in
           omega (arith, less)
@@ -542,7 +570,8 @@ module _ (x : Here) (s : State) (l : Local) (a : After x.m x.h x.mode x.act s l)
   -- ---- stnl
 
   -- where a word goes
-  word_written_at : (p : Pointed) (b : Fact) (v offset : ℤ) → p.lo ≤ℤ offset → offset ≤ℤ p.hi → IsTrue (is_stepped offset)
+  word_written_at : (p : Pointed) (b : Fact) (v offset : ℤ) → p.lo ≤ℤ offset → offset ≤ℤ p.hi
+      → IsTrue (is_stepped offset)
       → Means x.m x.act.layout b (Some v)
       → ((p.region == 0) ≡ false → is_number_in (wanted_range x.m s.context p.region) b ≡ true)
       → may_write_bytes x.m s.context p.region p.lo (p.hi +ℤ pos 4) ≡ true
@@ -558,7 +587,8 @@ module _ (x : Here) (s : State) (l : Local) (a : After x.m x.h x.mode x.act s l)
           → is_number_in (cond (frame || constants) full (parameter_range x.m s.context (p.region - 2))) b ≡ true)
           → Written a (place_by x.m x.act.layout p.region frame constants) offset
           (λ place. with_word l.memory place (Some v)) (IsOwnAt x.h)
-          (cond frame (after_change (on_span (word_of_byte p.lo) (words_touched p.lo (p.hi +ℤ pos 4)) (stored_word p b)) s) s)
+          (cond frame (after_change (on_span (word_of_byte p.lo) (words_touched p.lo (p.hi +ℤ pos 4))
+          (stored_word p b)) s) s)
       on true constants may stores = word_into_frame a p.lo p.hi offset low high aligned b v means may
       on false true may stores = absurd (cc)
       on false false may stores =
@@ -596,7 +626,8 @@ module _ (x : Here) (s : State) (l : Local) (a : After x.m x.h x.mode x.act s l)
       (even_word v (region_start x.m x.act.layout p.region) b.offset e w.place b.at from w.own.even)
       (writes_fits x l (local_address (step.address v) e) w.place (Some u) _ _
       (word_place v (region_start x.m x.act.layout p.region) b.offset e w.place b.at fits from w.small) w.own.mine
-      (pops_two_fits p (p.hi +ℤ pos 4) (stored_word p s.stack.b.fact) (with_word l.memory w.place (Some u)) w.after (record {
+      (pops_two_fits p (p.hi +ℤ pos 4) (stored_word p s.stack.b.fact)
+      (with_word l.memory w.place (Some u)) w.after (record {
         own = changes_more x.h x.memory l.memory (with_word l.memory w.place (Some u)) changes.own
             (write_is_own x.h l.memory w.place (Some u) w.own.mine);
         keeps = keeps_more changes.keeps (changes_too (with_word l.memory w.place (Some u)) w.keeps);

@@ -1,6 +1,7 @@
 -- The rules of calls and returns: what a call wants of what is passed, and what is known behind it.
-use Rattle.std.specs.Prelude.{ℕ, zero, suc, ◌+◌, ◌-◌, ◌*◌, ◌/◌, ◌%◌, nat_lt, nat_le, ◌==◌, ◌&&◌, ◌||◌, not, Bool, true, false}
-use Rattle.std.specs.Prelude.{if◌then◌else◌, ℤ, pos, negsuc, ◌+ℤ◌, ◌-ℤ◌, ◌*ℤ◌, int_le, int_lt, nat_abs, bit_and, List, [], ◌∷◌}
+use Rattle.std.specs.Prelude.{ℕ, zero, suc, ◌+◌, ◌-◌, ◌/◌, ◌%◌, nat_lt, ◌==◌, ◌&&◌, ◌||◌, not, Bool, true, false}
+use Rattle.std.specs.Prelude.{if◌then◌else◌, ℤ, pos, negsuc, ◌+ℤ◌, ◌-ℤ◌, int_le, int_lt, nat_abs, bit_and, List, []}
+use Rattle.std.specs.Prelude.{◌∷◌}
 use Rattle.std.specs.Prelude.{length, slice_get, Option, Some, None}
 use Rattle.std.specs.List.{list_all}
 use Rattle.module_format.specs.Rows.{Fact}
@@ -18,7 +19,7 @@ use Rattle.module_format.specs.Contexts.{first_branch, parameters_at}
 use Rattle.module_format.specs.Pars.{direction_number}
 use Rattle.module_format.specs.Places.{owner_at}
 use Rattle.module_format.specs.Stack.{of_empty}
-use Rattle.certificate.specs.Rights.{may_write_word, may_read_word, channel_length, has_end}
+use Rattle.certificate.specs.Rights.{may_write_word, channel_length, has_end}
 use Rattle.certificate.specs.Starts.{Entered, procedure_at}
 use Rattle.word_arithmetic.specs.Word.{least_word}
 use Rattle.machine_state.specs.LocalStep.{target}

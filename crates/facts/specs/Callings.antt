@@ -1,5 +1,6 @@
 -- A call in memory, as the call that it is, and what its changes want.
-use Rattle.std.specs.Prelude.{◌≡◌, ⊤, ℕ, Bool, ◌≤◌, ◌<◌, ◌^◌, ◌/◌, ◌==◌, ℤ, pos, ◌+ℤ◌, ◌≤ℤ◌, ◌<ℤ◌, FitsSigned, true, List, [], ◌∷◌, Option, Some}
+use Rattle.std.specs.Prelude.{◌≡◌, ⊤, ℕ, Bool, ◌≤◌, ◌<◌, ◌^◌, ◌/◌, ℤ, pos, ◌+ℤ◌, ◌≤ℤ◌, ◌<ℤ◌, FitsSigned, true, List, []}
+use Rattle.std.specs.Prelude.{◌∷◌, Option, Some}
 use Rattle.std.specs.Prelude.{None}
 use Rattle.std.specs.Prelude.{map}
 use Rattle.std.specs.List.{AllByRecursion}
@@ -21,9 +22,14 @@ use Rattle.facts.specs.declared.lent.Lent.{Lent}
 use Rattle.facts.specs.declared.calling.Calling.{Calling as InMemory}
 use Rattle.facts.specs.Reach.{word_of_byte}
 use Rattle.facts.specs.declared.calling.Touched.{Touched}
+use Rattle.facts.specs.declared.calling.Wanted.{Wanted}
+use Rattle.facts.specs.declared.calling.Wanted.TheVariants as wanted
+use Rattle.facts.specs.declared.calling.Pairwise.{Pairwise}
+use Rattle.facts.specs.declared.calling.Pairwise.TheVariants as pairwise
 use Rattle.facts.specs.Rulings.{Ruling, alone}
 use Rattle.facts.specs.CallRules.{Calling, callee_word, lent, passes_all, may_call, frame_is_own, frame_size, wants}
 use Rattle.facts.specs.CallRules.{with_lent, are_apart, further, message_length, is_length}
+use Rattle.facts.specs.CallRules.{numbers_fit, pointers_fit, ends_are_held, lengths_fit, give_other_ends}
 
 abbrev pub calling_of : InMemory → Calling
 calling_of c =
@@ -40,6 +46,18 @@ entered context row = record { context = context; procedure = procedure_of row }
 -- no region that is written meets another, of two parameters
 abbrev pub are_apart_from : Calling → Parameter → Parameter → Bool
 are_apart_from c p q = are_apart (lent c p) (lent c q)
+
+-- a parameter is passed what is wanted of each
+abbrev pub fits : Wanted → Calling → Parameter → Bool
+fits wanted.Numbers = numbers_fit
+fits wanted.Pointers = pointers_fit
+fits wanted.Ends = ends_are_held
+fits wanted.Lengths = lengths_fit
+
+-- two parameters are passed what is wanted of each two
+abbrev pub fit_together : Pairwise → Calling → Parameter → Parameter → Bool
+fit_together pairwise.Apart = are_apart_from
+fit_together pairwise.OtherEnds = give_other_ends
 
 -- the caller has the end, in a direction, of the channel so many further
 abbrev pub has_end_further : Contents → ℕ → EndKind → Direction → ℕ → Bool

@@ -23,7 +23,8 @@ use Rattle.facts.specs.Regions.{scope_of, HoldsNamed, Keeps}
 use Rattle.facts.specs.Rulings as rule
 use Rattle.facts.specs.Rules as table
 use Rattle.facts.specs.Rulings.{Ruling, calls, returns, ends, breaks, falling, leading}
-use Rattle.facts.specs.Meaning.{Layout, Activation, MeansWord, frame_word, place_in, with_turns, words_of, HasFrame, Knows, owed, SameMode, IsWellFormed}
+use Rattle.facts.specs.Meaning.{Layout, Activation, MeansWord, frame_word, place_in, with_turns, words_of, HasFrame}
+use Rattle.facts.specs.Meaning.{Knows, owed, SameMode, IsWellFormed}
 
 -- what holds behind an instruction: the frame is still there, and the state is known
 pub record After (m : Contents) (h : Holding) (mode : machine.Mode) (act : Activation) (s : State)
@@ -86,7 +87,8 @@ pub record GoesOn (layout : Layout) (c : Caller) : Type 0 where
   pub workspace : pos c.workspace ≡ pos data_start +ℤ place_in layout.origin (pos 4)
 
 -- Whatever a procedure that was called still changes, its caller's scope keeps it, and the caller goes on.
-pub record Waits (m : Contents) (h : Holding) (context : ℕ) (layout : Layout) (c : Caller) (memory : Memory) : Type 0 where
+pub record Waits (m : Contents) (h : Holding) (context : ℕ) (layout : Layout) (c : Caller)
+    (memory : Memory) : Type 0 where
   pub goes_on : GoesOn layout c
   pub lifts : (later : Memory) → Keeps m h (scope_of m context layout) memory later
       → Keeps m h (scope_of m c.state.context c.act.layout) memory later
@@ -113,7 +115,8 @@ pub data Fits (x : Here) : Ruling → Outcome → Type 0 where
       → After x.m x.h x.mode act (procedure_state e.context e.procedure) l → act.layout.back ≡ x.at + x.len
       → Waits x.m x.h e.context act.layout (record { act = x.act; state = s; workspace = workspace }) l.memory
       → s.context ≡ x.context → Changes x l.memory
-      → owed (procedure_state e.context e.procedure) act + owed s x.act + x.len ≤ x.owed → Fits x (calls to s) (lands to l)
+      → owed (procedure_state e.context e.procedure) act + owed s x.act + x.len ≤ x.owed
+      → Fits x (calls to s) (lands to l)
   it_returns : {l : Local} → 1 ≤ x.context → x.context ≤ length x.m.procedures → x.mode ≡ machine_modes.Plain
       → Changes x l.memory → l.registers.stack ≡ of_empty None
       → pos l.registers.workspace ≡ pos data_start +ℤ place_in x.act.layout.origin (pos 4)

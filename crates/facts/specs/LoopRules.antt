@@ -1,6 +1,8 @@
 -- The rule of lend, which ends a turn of a loop: the loop's block is two words of the frame, its index and its count.
-use Rattle.std.specs.Prelude.{◌≡◌, ℕ, ◌+◌, ◌/◌, nat_lt, nat_le, ◌==◌, ◌&&◌, ◌||◌, ℤ, pos, negsuc, ◌+ℤ◌, ◌-ℤ◌, int_le, int_lt}
-use Rattle.std.specs.Prelude.{FitsSigned, Bool, true, false, if◌then◌else◌, Option, Some, None, Result, Ok, Err, option_map, option_and_then}
+use Rattle.std.specs.Prelude.{◌≡◌, ℕ, ◌+◌, ◌/◌, nat_lt, nat_le, ◌==◌, ◌&&◌, ◌||◌, ℤ, pos, negsuc, ◌+ℤ◌, ◌-ℤ◌, int_le}
+use Rattle.std.specs.Prelude.{int_lt}
+use Rattle.std.specs.Prelude.{FitsSigned, Bool, true, false, if◌then◌else◌, Option, Some, None, Result, Ok, Err}
+use Rattle.std.specs.Prelude.{option_map, option_and_then}
 use Rattle.module_format.specs.Rows.{Fact}
 use Rattle.module_format.specs.declared.fact.Fact.TheVariants.{Number, Pointer}
 use Rattle.module_format.specs.Order.{is_stepped, least_word, greatest_word}

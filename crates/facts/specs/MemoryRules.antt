@@ -1,6 +1,7 @@
 -- The rules of instructions that make pointers, and of those that read and write memory through them.
-use Rattle.std.specs.Prelude.{ℕ, ◌+◌, ◌-◌, ◌==◌, ◌&&◌, ◌||◌, not, nat_lt, nat_le, ℤ, pos, negsuc, ◌+ℤ◌, ◌*ℤ◌, int_le, Bool}
-use Rattle.std.specs.Prelude.{true, false, if◌then◌else◌, length, Result, Ok, Err}
+use Rattle.std.specs.Prelude.{ℕ, ◌+◌, ◌-◌, ◌==◌, ◌&&◌, ◌||◌, not, nat_lt, nat_le, ℤ, pos, negsuc, ◌+ℤ◌, ◌*ℤ◌, int_le}
+use Rattle.std.specs.Prelude.{Bool}
+use Rattle.std.specs.Prelude.{false, if◌then◌else◌, length, Result, Ok, Err}
 use Rattle.module_format.specs.Rows.{Fact}
 use Rattle.module_format.specs.declared.fact.Fact.TheVariants.{Unknown, Number, Pointer, CodeAddress}
 use Rattle.module_format.specs.declared.fact.Step.{Step}
@@ -17,7 +18,8 @@ use Rattle.states.specs.declared.span.Leaving.{Leaving}
 use Rattle.states.specs.declared.span.Leaving.TheVariants.{Become, Widen}
 use Rattle.states.specs.Spans.{together, on_span, after_change}
 use Rattle.states.specs.Below.{lies_within}
-use Rattle.facts.specs.Reach.{word_of_byte, words_touched, may_read_bytes, may_write_bytes, region_range, parameter_range}
+use Rattle.facts.specs.Reach.{word_of_byte, words_touched, may_read_bytes, may_write_bytes, region_range}
+use Rattle.facts.specs.Reach.{parameter_range}
 use Rattle.facts.specs.WordRules.{in_bounds}
 use Rattle.facts.specs.declared.pointers.Pointed.{Pointed}
 use Rattle.facts.specs.declared.pointers.Bounds.{Bounds}

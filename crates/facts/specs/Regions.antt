@@ -97,8 +97,10 @@ pub record HasConstants (m : Contents) (h : Holding) (memory : Memory) : Type 0 
 pub record HasBytes (h : Holding) (memory : Memory) : Type 0 where
   pub each : (place b : ℕ) → may_read h place ≡ true → byte_at memory place ≡ Some b → b < 256
 
--- The process holds what each parameter of the scope names, the constants, and the ends of the scope. No byte of a region
--- that is written is one of another parameter's region. The frame lies at a multiple of 4, and the activation returns into
+-- The process holds what each parameter of the scope names, the constants, and the ends of the scope. No byte of a
+-- region
+-- that is written is one of another parameter's region. The frame lies at a multiple of 4, and the activation returns
+-- into
 -- the code.
 pub record HoldsNamed (m : Contents) (h : Holding) (scope : Scope) (memory : Memory) : Type 0 where
   pub each : (j : ℕ) (p : Parameter) → slice_get scope.parameters j ≡ Some p

@@ -1,10 +1,9 @@
 -- Where a rule leads, and the tests and changes of states that rules are made of. The tests are in rising order of the
 -- numbers of rules.
-use Rattle.std.specs.Prelude.{ℕ, ◌+◌, ◌-◌, nat_lt, Bool, true, false, if◌then◌else◌, ℤ, pos, negsuc, ◌+ℤ◌, Option, Some}
+use Rattle.std.specs.Prelude.{ℕ, ◌-◌, nat_lt, if◌then◌else◌, ℤ, pos, negsuc, ◌+ℤ◌, Option, Some}
 use Rattle.std.specs.Prelude.{None, Ok, Err}
-use Rattle.word_arithmetic.specs.Word.{least_word}
 use Rattle.module_format.specs.Rows.{Fact}
-use Rattle.module_format.specs.declared.fact.Fact.TheVariants.{Unknown, Number}
+use Rattle.module_format.specs.declared.fact.Fact.TheVariants.{Unknown}
 use Rattle.module_format.specs.Contents.{Contents, label_at}
 use Rattle.module_format.specs.Stack.{of_empty, pushed, popped, reversed, with_top}
 use Rattle.certificate.specs.Rights.{may_write_word, may_read_word}

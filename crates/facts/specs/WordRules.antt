@@ -14,7 +14,6 @@ use Rattle.word_arithmetic.specs.Unary.{unary_result_range}
 use Rattle.module_format.specs.Rows.{Fact}
 use Rattle.module_format.specs.declared.fact.Fact.TheVariants.{Number}
 use Rattle.module_format.specs.declared.stack.Stack.{Stack}
-use Rattle.module_format.specs.Contents.{Contents}
 use Rattle.module_format.specs.Contexts.{context_at}
 use Rattle.machine_state.specs.declared.op.Shift.{Shift}
 use Rattle.machine_state.specs.declared.op.Shift.TheVariants as shifts

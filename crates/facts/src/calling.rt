@@ -33,6 +33,28 @@ pub(crate) struct Touched {
     pub lent: ArrayVec<Option<Lent>, MAX_LENT>,
 }
 
+/// What a call wants of each parameter.
+#[derive(Clone, Copy)]
+pub(crate) enum Wanted {
+    /// A number in its range, or numbers that suit.
+    Numbers,
+    /// A region that may be lent.
+    Pointers,
+    /// Channels whose ends the caller has.
+    Ends,
+    /// Channels that have messages of the length.
+    Lengths,
+}
+
+/// What a call wants of each two parameters.
+#[derive(Clone, Copy)]
+pub(crate) enum Pairwise {
+    /// No region that is written meets another.
+    Apart,
+    /// No end is given to both.
+    OtherEnds,
+}
+
 /// A test that holds, else this rule is broken.
 #[tactic(auto, unfolding(crate::specs::CallRules::wants))]
 pub(crate) fn wants(holds: bool, rule: Rule) -> Result<(), Rule>
@@ -64,12 +86,11 @@ impl Calling<'_, '_, '_, '_> {
     ghost use Rattle.states.specs.Views.{state_of, BelongsTo, CanWriteSpan};
     ghost use Rattle.facts.specs.Reach.{word_of_byte, lie_in};
     ghost use Rattle.facts.specs.CallRules.{callee_word, given, lent, lent_words, numbers_suit, numbers_fit};
-    ghost use Rattle.facts.specs.CallRules.{is_off_callee, may_use, words_fit, may_lend, pointers_fit, wants};
-    ghost use Rattle.facts.specs.CallRules.{regions_are_apart, each_two, end_of, frame_size, frame_is_own, passes_all};
-    ghost use Rattle.facts.specs.CallRules.{ends_are_given, lengths_fit};
+    ghost use Rattle.facts.specs.CallRules.{is_off_callee, may_use, words_fit, may_lend, pointers_fit};
+    ghost use Rattle.facts.specs.CallRules.{each_two, end_of, frame_size, frame_is_own, passes_all, wants};
     ghost use Rattle.facts.specs.CallRules.{parameter_suits};
     ghost use Rattle.states.specs.declared.rule.Rule.TheVariants.{OwnWord};
-    ghost use Rattle.facts.specs.Callings.{calling_of, admits, Touches, are_apart_from};
+    ghost use Rattle.facts.specs.Callings.{calling_of, admits, Touches, are_apart_from, fits, fit_together};
     ghost use Rattle.facts.specs.Telling.{Admits};
 
     /// The caller's word that is a word of the callee's frame.
@@ -257,42 +278,59 @@ impl Calling<'_, '_, '_, '_> {
         }
     }
 
-    fn all_numbers_fit(&self) -> bool
-        ensures { let call = calling_of self.now in result ≡ list_all (numbers_fit call) call.callee.parameters }
+    /// Whether a parameter is passed what is wanted.
+    fn fits(&self, wanted: Wanted, parameter: &Parameter) -> bool
+        requires { BelongsTo self.now.place.module.now self.now.state.now }
+        ensures { result ≡ fits wanted (calling_of self.now) parameter.now }
     {
-        self.callee
-            .parameters
-            .iter()
-            .all(|parameter| self.numbers_fit(parameter))
+        match wanted {
+            Wanted::Numbers => self.numbers_fit(parameter),
+            Wanted::Pointers => self.pointers_fit(parameter),
+            Wanted::Ends => self.ends_are_held(parameter),
+            Wanted::Lengths => self.lengths_fit(parameter),
+        }
     }
 
-    fn all_pointers_fit(&self) -> bool
+    fn all_fit(&self, wanted: Wanted) -> bool
         requires { BelongsTo self.now.place.module.now self.now.state.now }
-        ensures { let call = calling_of self.now in result ≡ list_all (pointers_fit call) call.callee.parameters }
+        ensures { let call = calling_of self.now in result ≡ list_all (fits wanted call) call.callee.parameters }
     {
         for parameter in &self.callee.parameters {
-            if !self.pointers_fit(parameter) {
+            if !self.fits(wanted, parameter) {
                 return false;
             }
         }
         true
     }
 
-    /// Whether no region that is written meets another, of one parameter and some.
-    fn is_apart_from(&self, one: &Parameter, others: &[Parameter]) -> bool
-        ensures { result ≡ list_all (are_apart_from (calling_of self.now) one.now) others.now }
+    /// Whether two parameters are passed what is wanted.
+    fn fit_together(&self, wanted: Pairwise, one: &Parameter, other: &Parameter) -> bool
+        ensures { result ≡ fit_together wanted (calling_of self.now) one.now other.now }
     {
-        others.iter().all(|other| self.are_apart(one, other))
+        match wanted {
+            Pairwise::Apart => self.are_apart(one, other),
+            Pairwise::OtherEnds => self.give_other_ends(one, other),
+        }
     }
 
-    /// Whether no region that is written meets another.
-    #[tactic(auto, unfolding(crate::specs::CallRules::regions_are_apart))]
-    fn regions_are_apart(&self) -> bool
-        ensures { result ≡ regions_are_apart (calling_of self.now) }
+    fn fits_each(&self, wanted: Pairwise, one: &Parameter, others: &[Parameter]) -> bool
+        ensures { result ≡ list_all (fit_together wanted (calling_of self.now) one.now) others.now }
+    {
+        for other in others {
+            if !self.fit_together(wanted, one, other) {
+                return false;
+            }
+        }
+        true
+    }
+
+    fn each_two_fit(&self, wanted: Pairwise) -> bool
+        ensures { let call = calling_of self.now in
+            result ≡ each_two (fit_together wanted call) call.callee.parameters }
     {
         let mut rest = self.callee.parameters.as_slice();
         while let Some((first, others)) = rest.split_first() {
-            if !self.is_apart_from(first, others) {
+            if !self.fits_each(wanted, first, others) {
                 return false;
             }
             rest = others;
@@ -301,17 +339,19 @@ impl Calling<'_, '_, '_, '_> {
     }
 
     /// What is passed suits the parameters.
+    #[tactic(auto, unfolding(crate::specs::CallRules::regions_are_apart, crate::specs::CallRules::ends_are_given))]
     fn passes_all(&self) -> Result<(), Rule>
         requires { BelongsTo self.now.place.module.now self.now.state.now }
         ensures test { Admits result (passes_all (calling_of self.now)) }
         ensures pointers { let call = calling_of self.now in
             IfOk result (λ _. list_all (pointers_fit call) call.callee.parameters ≡ true) }
     {
-        wants(self.all_numbers_fit(), Rule::Number)?;
-        wants(self.all_pointers_fit(), Rule::Pointer)?;
-        wants(self.regions_are_apart(), Rule::RegionsMeet)?;
-        wants(self.ends_are_given(), Rule::Channel)?;
-        wants(self.all_lengths_fit(), Rule::MessageLength)
+        wants(self.all_fit(Wanted::Numbers), Rule::Number)?;
+        wants(self.all_fit(Wanted::Pointers), Rule::Pointer)?;
+        wants(self.each_two_fit(Pairwise::Apart), Rule::RegionsMeet)?;
+        let ends = self.all_fit(Wanted::Ends) && self.each_two_fit(Pairwise::OtherEnds);
+        wants(ends, Rule::Channel)?;
+        wants(self.all_fit(Wanted::Lengths), Rule::MessageLength)
     }
 
     /// How many words the callee's frame has.
@@ -328,7 +368,8 @@ impl Calling<'_, '_, '_, '_> {
         requires some { 1 ≤ frame_size (procedure_of self.now.callee.now) }
         ensures own { is_some result ≡ frame_is_own (calling_of self.now) }
         ensures first { IfSome result (λ k. k ≡ callee_word (state_of self.now.state.now) self.now.callee.now.lo) }
-        ensures room { IfSome result (λ k. CanWriteSpan self.now.state.now k (frame_size (procedure_of self.now.callee.now))) }
+        ensures room { IfSome result (λ k. CanWriteSpan self.now.state.now k
+            (frame_size (procedure_of self.now.callee.now))) }
     {
         let first = self.state.writable_word(self.callee_word(self.callee.lo))?;
         if !self.state.writes_words(first, self.frame_size()) {
@@ -344,7 +385,8 @@ impl Calling<'_, '_, '_, '_> {
         requires some { 1 ≤ frame_size (procedure_of self.now.callee.now) }
         ensures test { Admits result (wants (frame_is_own (calling_of self.now)) OwnWord) }
         ensures first { IfOk result (λ k. k ≡ callee_word (state_of self.now.state.now) self.now.callee.now.lo) }
-        ensures room { IfOk result (λ k. CanWriteSpan self.now.state.now k (frame_size (procedure_of self.now.callee.now))) }
+        ensures room { IfOk result (λ k. CanWriteSpan self.now.state.now k
+            (frame_size (procedure_of self.now.callee.now))) }
     {
         match self.own_frame() {
             Some(first) => Ok(first),

@@ -2,7 +2,8 @@
 
 ghost use Rattle.std.specs.Int.{w32};
 ghost use Rattle.std.specs.Prelude.{◌≡◌, SomeIff, FitsSigned, ◌==◌, bit_and, ◌≤ℤ◌, pos, negsuc};
-ghost use Rattle.facts.specs.CallRules.{link_at, channel_in, channel_of, further, has_direction, runs_meet, channels_meet};
+ghost use Rattle.facts.specs.CallRules.{link_at, channel_in, channel_of, further, has_direction, runs_meet};
+ghost use Rattle.facts.specs.CallRules.{channels_meet};
 ghost use Rattle.facts.specs.Callings.{IsNumbered};
 
 use crate::reach::word_of_byte;

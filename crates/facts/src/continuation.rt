@@ -1,7 +1,7 @@
 //! How a process goes on after an instruction, by the rule of that instruction.
 
 /// How a process goes on after an instruction.
-#[derive(Clone, Copy, Debug, PartialEq, Eq)]
+#[derive(Clone, Copy)]
 pub enum Continuation {
     /// After the instruction, in the state that it leaves.
     Falls,

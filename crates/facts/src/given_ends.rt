@@ -6,11 +6,10 @@ use certificate::{Direction, EndKind, EndRow, Ends, Parameter, ParameterKind};
 
 impl Calling<'_, '_, '_, '_> {
     ghost use Rattle.std.specs.Prelude.{◌≡◌, ℕ, true};
-    ghost use Rattle.std.specs.List.{list_all};
     ghost use Rattle.module_format.specs.Contents.{link_length};
     ghost use Rattle.module_format.specs.Keeping.{Keeps};
     ghost use Rattle.facts.specs.CallRules.{further, all_below, holds_ends, ends_are_held, message_length, lengths_fit};
-    ghost use Rattle.facts.specs.CallRules.{give_other_ends, ends_are_given, each_two};
+    ghost use Rattle.facts.specs.CallRules.{give_other_ends};
     ghost use Rattle.facts.specs.Callings.{calling_of, has_end_further, HasAllBefore, has_length_further};
     ghost use Rattle.facts.specs.Callings.{length_of_parameter};
 
@@ -73,7 +72,7 @@ impl Calling<'_, '_, '_, '_> {
 
     /// Whether a parameter that brings channels is passed some whose ends the caller has.
     #[tactic(auto, unfolding(crate::specs::CallRules::ends_are_held))]
-    fn ends_are_held(&self, parameter: &Parameter) -> bool
+    pub fn ends_are_held(&self, parameter: &Parameter) -> bool
         requires { Keeps self.now.place.module.now }
         ensures { result ≡ ends_are_held (calling_of self.now) parameter.now }
     {
@@ -88,7 +87,7 @@ impl Calling<'_, '_, '_, '_> {
 
     /// Whether no end is given to both parameters.
     #[tactic(auto, unfolding(crate::specs::CallRules::give_other_ends))]
-    fn give_other_ends(&self, one: &Parameter, other: &Parameter) -> bool
+    pub fn give_other_ends(&self, one: &Parameter, other: &Parameter) -> bool
         ensures { result ≡ give_other_ends (calling_of self.now) one.now other.now }
     {
         let ParameterKind::Channels { count, ends, .. } = one.kind else {
@@ -108,47 +107,6 @@ impl Calling<'_, '_, '_, '_> {
             }
             _ => true,
         }
-    }
-
-    fn all_ends_are_held(&self) -> bool
-        requires { Keeps self.now.place.module.now }
-        ensures { let call = calling_of self.now in result ≡ list_all (ends_are_held call) call.callee.parameters }
-    {
-        for parameter in &self.callee.parameters {
-            if !self.ends_are_held(parameter) {
-                return false;
-            }
-        }
-        true
-    }
-
-    /// Whether no end is given both to one parameter and to another of some.
-    fn gives_other_ends(&self, one: &Parameter, others: &[Parameter]) -> bool
-        ensures { result ≡ list_all (give_other_ends (calling_of self.now) one.now) others.now }
-    {
-        others.iter().all(|other| self.give_other_ends(one, other))
-    }
-
-    /// Whether no end is given twice.
-    fn each_is_given_once(&self) -> bool
-        ensures { let call = calling_of self.now in result ≡ each_two (give_other_ends call) call.callee.parameters }
-    {
-        let mut rest = self.callee.parameters.as_slice();
-        while let Some((first, others)) = rest.split_first() {
-            if !self.gives_other_ends(first, others) {
-                return false;
-            }
-            rest = others;
-        }
-        true
-    }
-
-    #[tactic(auto, unfolding(crate::specs::CallRules::ends_are_given))]
-    pub fn ends_are_given(&self) -> bool
-        requires { Keeps self.now.place.module.now }
-        ensures { result ≡ ends_are_given (calling_of self.now) }
-    {
-        self.all_ends_are_held() && self.each_is_given_once()
     }
 
     /// The bytes of the messages on a link; none on one that there is not.
@@ -227,7 +185,7 @@ impl Calling<'_, '_, '_, '_> {
 
     /// Whether the channels that a parameter is passed have messages of the length that it wants.
     #[tactic(auto, unfolding(crate::specs::CallRules::lengths_fit))]
-    fn lengths_fit(&self, parameter: &Parameter) -> bool
+    pub fn lengths_fit(&self, parameter: &Parameter) -> bool
         requires { Keeps self.now.place.module.now }
         ensures { result ≡ lengths_fit (calling_of self.now) parameter.now }
     {
@@ -238,17 +196,5 @@ impl Calling<'_, '_, '_, '_> {
             Some(first) => self.have_length(first, count, length),
             None => true,
         }
-    }
-
-    pub fn all_lengths_fit(&self) -> bool
-        requires { Keeps self.now.place.module.now }
-        ensures { let call = calling_of self.now in result ≡ list_all (lengths_fit call) call.callee.parameters }
-    {
-        for parameter in &self.callee.parameters {
-            if !self.lengths_fit(parameter) {
-                return false;
-            }
-        }
-        true
     }
 }

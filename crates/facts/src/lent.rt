@@ -7,13 +7,13 @@ ghost use Rattle.states.specs.Below.{lies_within};
 ghost use Rattle.facts.specs.Reach.{word_of_byte, words_touched, lie_in};
 ghost use Rattle.facts.specs.CallRules.{end_of, lent_from, lent_to, suits, parameter_suits, clash};
 
-use crate::reach::word_of_byte;
+use crate::reach::{word_of_byte, word_of_offset};
 use certificate::{Fact, Parameter, ParameterKind, Step};
 use states::{Leaving, WordFact};
 
 /// Bytes of a region that a parameter names: `size` of them, from the offset `first` on. The procedure wants each
 /// word of them to be a number from `lo` to `hi`.
-#[derive(Clone, Copy, Debug)]
+#[derive(Clone, Copy)]
 pub(crate) struct Lent {
     pub region: u16,
     pub first: i32,
@@ -122,17 +122,6 @@ impl Lent {
         }
         self.begins_before_end(other) && other.begins_before_end(self)
     }
-}
-
-/// The word in which a byte of the frame lies.
-fn word_of_offset(offset: i64) -> i64
-    ensures { result ≡ word_of_byte offset }
-{
-    if offset < 0 {
-        let back = (-1 - offset).unsigned_abs();
-        return -1 - (back / 4) as i64;
-    }
-    (offset.unsigned_abs() / 4) as i64
 }
 
 /// What an exact pointer to a word lends.

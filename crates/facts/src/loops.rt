@@ -5,8 +5,8 @@ ghost use Rattle.std.specs.Int.{w32};
 ghost use Rattle.module_format.specs.Contents.{Contents, label_of};
 ghost use Rattle.states.specs.Rows.{AreApart};
 ghost use Rattle.states.specs.Views.{state_of, CanWrite, BelongsTo};
-ghost use Rattle.facts.specs.LoopRules.{after_loop, begins_at, is_beside_workspace, last_index, loop_block, word_pointed};
-ghost use Rattle.facts.specs.LoopRules.{Permits};
+ghost use Rattle.facts.specs.LoopRules.{after_loop, begins_at, is_beside_workspace, last_index, loop_block};
+ghost use Rattle.facts.specs.LoopRules.{word_pointed, Permits};
 
 use crate::combinators::{outside_alternation, outside_starts, uses};
 use crate::continuation::Continuation;

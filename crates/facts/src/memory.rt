@@ -27,13 +27,15 @@ impl Place<'_, '_> {
     ghost use Rattle.facts.specs.MemoryRules.{are_near, ends_in, reads_bytes, word_read, loads_word, loads_byte};
     ghost use Rattle.module_format.specs.Contents.{Contents};
     ghost use Rattle.states.specs.Views.{state_of, BelongsTo};
-    ghost use Rattle.facts.specs.MemoryRules.{settles, with_fact_a, shifts_pointer, subscripts, place_fact, loads_place};
+    ghost use Rattle.facts.specs.MemoryRules.{settles, with_fact_a, shifts_pointer, subscripts, place_fact};
+    ghost use Rattle.facts.specs.MemoryRules.{loads_place};
     ghost use Rattle.facts.specs.Telling.{Admits, Gives, Advances};
     ghost use Rattle.facts.specs.Places.{site_of};
 
     /// A becomes this, outside alternations and starts.
     pub(crate) fn with_fact_a(&self, state: &mut State, fact: Fact) -> Result<Continuation, Rule>
-        ensures ruling { Advances result (state_of state.new) (with_fact_a (site_of self.now) fact (state_of state.old)) }
+        ensures ruling { Advances result (state_of state.new)
+            (with_fact_a (site_of self.now) fact (state_of state.old)) }
         ensures belongs { (m : Contents) → BelongsTo m state.old → BelongsTo m state.new }
     {
         alone(state.mode)?;
@@ -47,7 +49,8 @@ impl Place<'_, '_> {
         state: &mut State,
         words: i32,
     ) -> Result<Continuation, Rule>
-        ensures ruling { Advances result (state_of state.new) (shifts_pointer (site_of self.now) words (state_of state.old)) }
+        ensures ruling { Advances result (state_of state.new)
+            (shifts_pointer (site_of self.now) words (state_of state.old)) }
         ensures belongs { (m : Contents) → BelongsTo m state.old → BelongsTo m state.new }
     {
         let fact = uses(state.stack.a)?;
@@ -59,7 +62,8 @@ impl Place<'_, '_> {
 
     /// `bsub` and `wsub`: the byte, or the word, of number B behind A.
     pub(crate) fn subscript(&self, state: &mut State, element: Step) -> Result<Continuation, Rule>
-        ensures ruling { Advances result (state_of state.new) (subscripts element (site_of self.now) (state_of state.old)) }
+        ensures ruling { Advances result (state_of state.new)
+            (subscripts element (site_of self.now) (state_of state.old)) }
         ensures belongs { (m : Contents) → BelongsTo m state.old → BelongsTo m state.new }
     {
         let a = uses(state.stack.a)?;
@@ -253,7 +257,8 @@ impl Place<'_, '_> {
     /// `ldnl`: the word so many words behind A.
     pub(crate) fn load_non_local(&self, state: &mut State, words: i32) -> Result<Continuation, Rule>
         requires { BelongsTo self.now.module.now state.old }
-        ensures ruling { Advances result (state_of state.new) (loads_word (site_of self.now) words (state_of state.old)) }
+        ensures ruling { Advances result (state_of state.new)
+            (loads_word (site_of self.now) words (state_of state.old)) }
         ensures belongs { BelongsTo self.now.module.now state.new }
     {
         let fact = uses(state.stack.a)?;
@@ -315,7 +320,8 @@ fn frame_read(state: &State, first: i32, count: u32) -> Fact
 /// What is known together of the words of the frame that have a byte whose offset lies between two others.
 fn touched_together(state: &State, lo: i32, hi: i32) -> Together
     requires { (negsuc 1073741823 ≤ℤ hi) × (hi ≤ℤ pos 1073741823) }
-    ensures { let count = words_touched lo (hi +ℤ pos 1) in result ≡ together (state_of state.now).frame (word_of_byte lo) count }
+    ensures { let count = words_touched lo (hi +ℤ pos 1) in
+        result ≡ together (state_of state.now).frame (word_of_byte lo) count }
 {
     state.together(word_of_byte(lo), words_touched(lo, hi + 1))
 }

@@ -53,8 +53,10 @@ fn left_fact(is_inside: bool, holds: bool, range: Range, other: Range) -> Fact
 /// What a condition that comes from there tells of a word. `None`: nothing more than is known.
 #[tactic(auto, unfolding(crate::specs::WordRules::narrowed))]
 pub(crate) fn told_by(state: &State, source: Source) -> Option<Narrowing>
-    ensures if_false { narrowed source false (state_of state.now).frame ≡ narrowed_by result false (state_of state.now).frame }
-    ensures if_true { narrowed source true (state_of state.now).frame ≡ narrowed_by result true (state_of state.now).frame }
+    ensures if_false { narrowed source false (state_of state.now).frame
+        ≡ narrowed_by result false (state_of state.now).frame }
+    ensures if_true { narrowed source true (state_of state.now).frame
+        ≡ narrowed_by result true (state_of state.now).frame }
     ensures room { IfSome result (λ n. CanWrite state.now n.word) }
 {
     let Source::Test {

@@ -108,18 +108,13 @@ impl Place<'_, '_> {
     }
 
     /// There is a label at the offset, and the state may go on as it.
-    #[tactic(auto, unfolding(crate::specs::Rulings::leads_to))]
+    #[tactic(auto, using(crate::proofs::Steps::leads_forked))]
     pub(crate) fn leads_to(&self, state: &State, to: u32) -> Result<Continuation, Rule>
         requires { Keeps self.now.module.now }
         ensures { Advances result (state_of state.now) (leads_to (site_of self.now) to (state_of state.now)) }
     {
-        match self.module.label_at(to) {
-            Some(row) => {
-                cost_below(state, row)?;
-                Ok(Continuation::Leads { to })
-            }
-            None => Err(Rule::Label),
-        }
+        self.forks_to(state, to)?;
+        Ok(Continuation::Leads { to })
     }
 
     /// There is a label at the offset, and the state may go on as it, or after the instruction as another one.
@@ -128,10 +123,9 @@ impl Place<'_, '_> {
         requires { Keeps self.now.module.now }
         ensures { Forks result to (forks_to (site_of self.now) to (state_of state.now)) }
     {
-        let found = self.module.label_at(to);
-        match found {
-            Some(label) => {
-                cost_below(state, label)?;
+        match self.module.label_at(to) {
+            Some(row) => {
+                cost_below(state, row)?;
                 Ok(())
             }
             None => Err(Rule::Label),

@@ -2,8 +2,10 @@
 
 ghost use Rattle.std.specs.Prelude.{IfOk, true, ◌≡◌, ◌≤ℤ◌, ◌*ℤ◌, pos, negsuc};
 ghost use Rattle.module_format.specs.Order.{is_stepped};
-ghost use Rattle.facts.specs.MemoryRules.{is_near, near, are_near, near_fact, pointer_of, number_of, constant_of, settles, shifted};
-ghost use Rattle.facts.specs.MemoryRules.{element_of, word_fact, is_of_a_word, further, step_after, words_behind, words_at};
+ghost use Rattle.facts.specs.MemoryRules.{is_near, near, are_near, near_fact, pointer_of, number_of, constant_of};
+ghost use Rattle.facts.specs.MemoryRules.{settles, shifted};
+ghost use Rattle.facts.specs.MemoryRules.{element_of, word_fact, is_of_a_word, further, step_after, words_behind};
+ghost use Rattle.facts.specs.MemoryRules.{words_at};
 ghost use Rattle.facts.specs.MoveRules.{exact_pointer};
 ghost use Rattle.facts.specs.Telling.{Admits, Gives};
 
@@ -14,7 +16,7 @@ use states::Rule;
 const FARTHEST: i64 = 1 << 24;
 
 /// A pointer: its region, and how it may point there.
-#[derive(Clone, Copy, Debug)]
+#[derive(Clone, Copy)]
 pub(crate) struct Pointed {
     pub region: u16,
     pub lo: i32,
@@ -39,7 +41,7 @@ impl Pointed {
 }
 
 /// The bounds of a number, which both belong to it.
-#[derive(Clone, Copy, Debug)]
+#[derive(Clone, Copy)]
 pub(crate) struct Bounds {
     pub lo: i32,
     pub hi: i32,
@@ -248,7 +250,8 @@ pub(crate) fn words_further(words: i32, fact: Fact) -> Result<Fact, Rule>
 
 /// A pointer that is further by a number between two others.
 fn further(pointer: Pointed, low: i64, high: i64, step: Step) -> Result<Fact, Rule>
-    requires { (negsuc 8589934591 ≤ℤ low) × (low ≤ℤ pos 8589934592) × (negsuc 8589934591 ≤ℤ high) × (high ≤ℤ pos 8589934592) }
+    requires { (negsuc 8589934591 ≤ℤ low) × (low ≤ℤ pos 8589934592) × (negsuc 8589934591 ≤ℤ high)
+        × (high ≤ℤ pos 8589934592) }
     ensures { Gives (λ fact. fact) result (settles (further pointer low high step)) }
 {
     let (lo, hi) = (i64::from(pointer.lo), i64::from(pointer.hi));

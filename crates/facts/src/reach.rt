@@ -10,16 +10,25 @@ use crate::pointers::Bounds;
 use certificate::{ParameterKind, TableRow};
 
 /// The word in which a byte of the frame lies.
-pub(crate) fn word_of_byte(offset: i32) -> i32
+pub(crate) fn word_of_offset(offset: i64) -> i64
     ensures value { result ≡ word_of_byte offset }
     ensures low { (pos 4 *ℤ result) ≤ℤ offset }
     ensures high { offset <ℤ (pos 4 *ℤ result +ℤ pos 4) }
 {
     if offset < 0 {
         let back = (-1 - offset).unsigned_abs();
-        return -1 - (back / 4) as i32;
+        return -1 - (back / 4) as i64;
     }
-    (offset.unsigned_abs() / 4) as i32
+    (offset.unsigned_abs() / 4) as i64
+}
+
+/// The same of an offset of 32 bits.
+pub(crate) fn word_of_byte(offset: i32) -> i32
+    ensures value { result ≡ word_of_byte offset }
+    ensures low { (pos 4 *ℤ result) ≤ℤ offset }
+    ensures high { offset <ℤ (pos 4 *ℤ result +ℤ pos 4) }
+{
+    word_of_offset(i64::from(offset)) as i32
 }
 
 /// How many words have a byte from the first up to `end` (not included).
@@ -67,7 +76,12 @@ pub(crate) fn writable_size(kind: ParameterKind) -> Option<u32>
 pub(crate) fn is_listed(numbers: &[u16], number: u16) -> bool
     ensures { result ≡ is_listed numbers.now number }
 {
-    numbers.iter().any(|k| *k == number)
+    for listed in numbers {
+        if *listed == number {
+            return true;
+        }
+    }
+    false
 }
 
 /// Whether all bytes from the first up to `end` lie in the row of a table.

@@ -4,7 +4,8 @@ ghost use Rattle.std.specs.Prelude.{◌≡◌, ◌≤ℤ◌, ℤ, negsuc};
 ghost use Rattle.module_format.specs.Contents.{Contents};
 ghost use Rattle.states.specs.Views.{state_of, BelongsTo, CanWrite, CanWriteSpan};
 ghost use Rattle.facts.specs.Reach.{word_of_byte, words_touched};
-ghost use Rattle.facts.specs.MemoryRules.{ends_in, is_number_in, is_full, widened_by, stored_word, stored_byte, leaves_words};
+ghost use Rattle.facts.specs.MemoryRules.{ends_in, is_number_in, is_full, widened_by, stored_word, stored_byte};
+ghost use Rattle.facts.specs.MemoryRules.{leaves_words};
 
 use crate::combinators::{alone, in_bounds, uses};
 use crate::continuation::Continuation;
@@ -47,7 +48,8 @@ impl Place<'_, '_> {
     pub(crate) fn writes_bytes(&self, state: &State, pointer: Pointed, end: i32) -> Result<(), Rule>
         requires belongs { BelongsTo self.now.module.now state.now }
         requires near { negsuc 2147483646 ≤ℤ end }
-        ensures test { Admits result (writes_bytes (site_of self.now) (state_of state.now) pointer.region pointer.lo end) }
+        ensures test { Admits result
+            (writes_bytes (site_of self.now) (state_of state.now) pointer.region pointer.lo end) }
         ensures room { IfOk result (λ _. pointer.region ≡ 0
             → CanWriteSpan state.now (word_of_byte pointer.lo) (words_touched pointer.lo end)) }
     {
@@ -135,7 +137,8 @@ impl Place<'_, '_> {
         words: i32,
     ) -> Result<Continuation, Rule>
         requires { BelongsTo self.now.module.now state.old }
-        ensures ruling { Advances result (state_of state.new) (stores_word (site_of self.now) words (state_of state.old)) }
+        ensures ruling { Advances result (state_of state.new)
+            (stores_word (site_of self.now) words (state_of state.old)) }
         ensures belongs { BelongsTo self.now.module.now state.new }
     {
         let a = uses(state.stack.a)?;

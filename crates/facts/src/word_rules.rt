@@ -115,7 +115,8 @@ impl Place<'_, '_> {
         op: BinaryOperation,
         value: i32,
     ) -> Result<Continuation, Rule>
-        ensures ruling { let ruling = instruction_rule (site_of self.now) (WithConstant op) value (state_of state.old) in
+        ensures ruling { let ruling = instruction_rule (site_of self.now) (WithConstant op) value
+            (state_of state.old) in
             Advances result (state_of state.new) ruling }
         ensures belongs { (m : Contents) → BelongsTo m state.old → BelongsTo m state.new }
     {
@@ -253,7 +254,8 @@ impl Place<'_, '_> {
         state: &mut State,
         distance: i32,
     ) -> Result<Continuation, Rule>
-        ensures ruling { let ruling = instruction_rule (site_of self.now) LoadLocalPointer distance (state_of state.old) in
+        ensures ruling { let ruling = instruction_rule (site_of self.now) LoadLocalPointer distance
+            (state_of state.old) in
             Advances result (state_of state.new) ruling }
         ensures belongs { (m : Contents) → BelongsTo m state.old → BelongsTo m state.new }
     {
@@ -287,7 +289,8 @@ impl Place<'_, '_> {
         distance: i32,
     ) -> Result<Continuation, Rule>
         requires { BelongsTo self.now.module.now state.old }
-        ensures ruling { let ruling = instruction_rule (site_of self.now) AdjustWorkspace distance (state_of state.old) in
+        ensures ruling { let ruling = instruction_rule (site_of self.now) AdjustWorkspace distance
+            (state_of state.old) in
             Advances result (state_of state.new) ruling }
         ensures belongs { BelongsTo self.now.module.now state.new }
     {
@@ -304,7 +307,8 @@ impl Place<'_, '_> {
         distance: i32,
     ) -> Result<Continuation, Rule>
         requires { BelongsTo self.now.module.now state.old }
-        ensures ruling { let ruling = instruction_rule (site_of self.now) ConditionalJump distance (state_of state.old) in
+        ensures ruling { let ruling = instruction_rule (site_of self.now) ConditionalJump distance
+            (state_of state.old) in
             Advances result (state_of state.new) ruling }
         ensures belongs { BelongsTo self.now.module.now state.new }
     {
@@ -321,7 +325,8 @@ impl Place<'_, '_> {
     fn forks(&self, state: &mut State, to: u32) -> Result<Continuation, Rule>
         requires { BelongsTo self.now.module.now state.old }
         ensures ruling { let before = state_of state.old in
-            Advances result (state_of state.new) (forks_to (site_of self.now) to (where_false before) (where_true before)) }
+            Advances result (state_of state.new)
+            (forks_to (site_of self.now) to (where_false before) (where_true before)) }
         ensures belongs { BelongsTo self.now.module.now state.new }
     {
         let source = state.stack.a.source;

@@ -14,5 +14,7 @@ returns-in-Number c =
 pub returns-else-not-are_near : goal.returns-else-not-are_near
 returns-else-not-are_near c =
     rw c.in-Pointer.is (pointer_told c.near_fact.result c.args.by c.in-Pointer.region c.in-Pointer.step c.in-Pointer.lo
-    c.in-Pointer.hi (to_z w64 (of_z w64 c.from-lo.result)) (to_z w64 (of_z w64 c.from-hi.result)) _ _ c.if-not-are_near.ensures (omega (arith, ints)) (omega (arith, ints)) (omega (arith, ints))
+    c.in-Pointer.hi (to_z w64 (of_z w64 c.from-lo.result))
+    (to_z w64 (of_z w64 c.from-hi.result)) _ _ c.if-not-are_near.ensures (omega (arith, ints)) (omega (arith, ints))
+    (omega (arith, ints))
     (omega (arith, ints)) c.near_fact.ensures)

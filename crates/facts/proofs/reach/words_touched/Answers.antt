@@ -1,4 +1,4 @@
-use Rattle.std.proofs.Common.{rules, arith, ◌≡◌, ◌-ℤ◌, nat_abs}
+use Rattle.std.proofs.Common.{rules, arith}
 use Rattle.std.proofs.lemmas.Int.{ints}
 use Rattle.facts.proofs.Told.{touched_told}
 use Rattle.facts.proofs.reach.words_touched.Goals as goal

@@ -1,4 +1,4 @@
-use Rattle.std.proofs.Common.{◌≡◌, ◌∙◌, ℕ, ◌+◌, ◌<◌, true, sym, ap, arith, Option}
+use Rattle.std.proofs.Common.{◌≡◌, ◌∙◌, ℕ, ◌+◌, ◌<◌, true, sym, ap, arith}
 use Rattle.module_format.specs.declared.rows.EndKind.{EndKind}
 use Rattle.facts.specs.CallRules.{further, is_length, message_length}
 use Rattle.facts.specs.Callings.{has_length_further}
@@ -26,7 +26,8 @@ returns c =
           ap (λ (e : EndKind). is_length c.args.length (message_length m context (further e i))) w.in-Parameter.is
           ∙ ap (is_length c.args.length) (one_length m context w.in-Parameter.number (w.in-Parameter.element + i)
           (w.in-Parameter.element + 0))
-          ∙ sym (ap (λ (e : EndKind). is_length c.args.length (message_length m context (further e 0))) w.in-Parameter.is)
+          ∙ sym (ap (λ (e : EndKind). is_length c.args.length (message_length m context (further e 0)))
+          w.in-Parameter.is)
           ∙ c.loop-n.invariant 0 (omega (arith, is, least))
       | in_default w ↦ λ i low. c.loop-n.invariant i (let is = w.end-is in omega (arith, is))
     ] in

@@ -8,7 +8,7 @@ use Rattle.facts.proofs.place.Place.forks_to.Goals as goal
 
 pub cost_below-requires : goal.cost_below-requires
 cost_below-requires c =
-    (label_row_at c.args.self.now.module.now c.args.to (label_of c.in-Some.label.now) c.requires c.in-Some.ensures).apart
+    (label_row_at c.args.self.now.module.now c.args.to (label_of c.in-Some.row.now) c.requires c.in-Some.ensures).apart
 
 pub returns-in_err-cost_below-in-Some : goal.returns-in_err-cost_below-in-Some
 returns-in_err-cost_below-in-Some c =

@@ -14,4 +14,5 @@ pub returns-clause-state : goal.returns-clause-state
 returns-clause-state c =
     returned_told (state_of c.args.state.now) (state_of c.change_span.new.self) (state_of c.leaves_each.new.state)
     c.of_empty-state.result c.args.touched.now.first _ c.args.touched.now.count _ c.args.touched.now.lent.items
-    c.change_span.ensures.state c.leaves_each.ensures.state c.of_empty-state.ensures (omega (arith, ints)) c.deref.ensures.0
+    c.change_span.ensures.state c.leaves_each.ensures.state c.of_empty-state.ensures
+    (omega (arith, ints)) c.deref.ensures.0

@@ -23,5 +23,6 @@ returns-in-Some-clause-belongs c = c.write.ensures.belongs c.args.self.now.modul
 
 pub returns-in-None-clause-state : goal.returns-in-None-clause-state
 returns-in-None-clause-state c =
-    passes_not c.args.self.now.module.now (state_of c.args.state.now) c.args.distance _ c.args.fact c.writable_word.result
+    passes_not c.args.self.now.module.now
+    (state_of c.args.state.now) c.args.distance _ c.args.fact c.writable_word.result
     c.in-None.is (omega (arith, ints)) (c.writable_word.ensures.allowed c.args.self.now.module.now c.requires)

@@ -1,7 +1,7 @@
 use Rattle.std.proofs.Common.{arith}
 use Rattle.std.proofs.lemmas.Int.{ints}
 use Rattle.facts.proofs.Reaching.{word_behind, word_ahead}
-use Rattle.facts.proofs.reach.word_of_byte.Goals as goal
+use Rattle.facts.proofs.reach.word_of_offset.Goals as goal
 
 pub returns-then-offset-lt0-clause-value : goal.returns-then-offset-lt0-clause-value
 returns-then-offset-lt0-clause-value c =
