@@ -8,6 +8,7 @@ use Rattle.std.proofs.lemmas.Int.{ints}
 use Rattle.std.specs.Prelude.{int_le, nat_lt}
 use Rattle.std.specs.Int.{w32, int_wrap}
 use Rattle.std.specs.Option.{option_map}
+use Rattle.word_arithmetic.specs.Range.{full}
 use Rattle.module_format.specs.Rows.{Fact}
 use Rattle.module_format.specs.declared.fact.Fact.TheVariants.{Unknown, Number, Pointer, CodeAddress, Loop}
 use Rattle.module_format.specs.declared.fact.Fact.TheVariants.{ReturnAddress}
@@ -42,7 +43,7 @@ use Rattle.facts.specs.MemoryRules.{stored_byte, leaves_words}
 use Rattle.facts.specs.MoveRules as move
 use Rattle.facts.specs.MoveRules.{exact_pointer, takes_any, is_movable, are_apart, word_behind, words_within, filled, become_numbers}
 use Rattle.facts.specs.Reach.{word_of_byte, words_touched, all_touched, lie_in, may_read_bytes, may_write_bytes, writable_bytes}
-use Rattle.facts.specs.Reach.{parameter_range, full}
+use Rattle.facts.specs.Reach.{parameter_range}
 use Rattle.facts.specs.Rules as table
 use Rattle.facts.specs.Meaning.{Layout, Means, is_number, is_pointer, owed, region_start, IsWellFormed}
 use Rattle.facts.specs.Regions.{scope_of, Keeps}
@@ -50,8 +51,7 @@ use Rattle.facts.specs.Fitting.{Changes, After, Here, rule_site, step_site, it_b
 use Rattle.facts.proofs.Words.{word_test, bool_cases}
 use Rattle.facts.proofs.Dues.{changed_dues}
 use Rattle.facts.proofs.Regions.{keeps_more}
-use Rattle.facts.proofs.Reaching.{region_place, place_at, region_at}
-use Rattle.facts.proofs.Through.{natural}
+use Rattle.facts.proofs.Reaching.{region_place, natural, place_at, region_at}
 use Rattle.facts.proofs.Combining.{FitsIf, unknown_means, on_rule_test, on_step_test, uses_fits, in_bounds_fits, holds_fits}
 use Rattle.facts.proofs.Combining.{goes_on_fits, in_plain_rule, beside_plain_rule, in_plain_step, after_stack}
 use Rattle.facts.proofs.MemoryFits.{ok_if, constant_is, settles_fits, reads_bytes_fits}

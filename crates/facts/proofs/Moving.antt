@@ -41,8 +41,8 @@ use Rattle.facts.specs.Fitting.{After}
 use Rattle.facts.proofs.Words.{bool_cases, frame_word_is, Follows}
 use Rattle.facts.proofs.Regions.{frame_keeps, keeps_all, keeps_more, may_too, bytes_written, bytes_read}
 use Rattle.facts.proofs.ReadThrough.{readable_found, range_found}
-use Rattle.facts.proofs.Reaching.{region_place, word_of_byte_low, word_of_byte_high, touched_span, touched_passes, lies_inside}
-use Rattle.facts.proofs.Through.{natural, ByteThrough, byte_through}
+use Rattle.facts.proofs.Reaching.{region_place, natural, word_of_byte_low, word_of_byte_high, touched_span, touched_passes, lies_inside}
+use Rattle.facts.proofs.Through.{ByteThrough, byte_through}
 use Rattle.facts.proofs.WriteThrough.{byte_left, number_wider, FrameWord, frame_written, after_followed, after_beside}
 use Rattle.facts.proofs.WriteThrough.{Writable, writable_found, Lies, number_within}
 use Rattle.facts.proofs.WriteThrough.{AltersRegion, region_keeps, word_beside, number_byte, number_of_bytes, byte_written}

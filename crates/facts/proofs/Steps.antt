@@ -198,6 +198,7 @@ operation-without site ops.WordSubscript s h = absurd (cc)
 operation-without site ops.LoadPointerToInstruction s h = absurd (cc)
 operation-without site ops.LoadByte s h = absurd (cc)
 operation-without site ops.StoreByte s h = absurd (cc)
+operation-without site ops.Move s h = absurd (cc)
 operation-without site ops.Return s h = absurd (cc)
 operation-without site ops.LoopEnd s h = absurd (cc)
 operation-without site _ s h = refl

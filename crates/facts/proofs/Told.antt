@@ -4,6 +4,7 @@ use Rattle.std.proofs.Common.{◌≤ℤ◌, negsuc, sym, ap, ◌∙◌, subst}
 use Rattle.std.proofs.lemmas.Bool.{eq-eqb}
 use Rattle.std.specs.Prelude.{int_le}
 use Rattle.states.proofs.RowFacts.{and-parts, le-from}
+use Rattle.word_arithmetic.specs.Range.{full}
 use Rattle.module_format.specs.Rows.{Fact}
 use Rattle.module_format.specs.declared.fact.Fact.TheVariants.{Pointer}
 use Rattle.module_format.specs.declared.fact.Step.{Step}
@@ -23,7 +24,7 @@ use Rattle.states.specs.State.{State, Facts}
 use Rattle.states.specs.Spans.{together}
 use Rattle.facts.specs.declared.pointers.Pointed.{Pointed}
 use Rattle.facts.specs.Rulings.{Ruling, Site, breaks, uses}
-use Rattle.facts.specs.Reach.{word_of_byte, words_touched, may_read_bytes, region_range, full}
+use Rattle.facts.specs.Reach.{word_of_byte, words_touched, may_read_bytes, region_range}
 use Rattle.facts.specs.Telling.{Gives, Advances}
 use Rattle.facts.specs.declared.continuation.Continuation.{Continuation}
 

@@ -26,7 +26,7 @@ use Rattle.states.specs.declared.known.Known.{Known}
 use Rattle.states.specs.declared.known.Source.{Source}
 use Rattle.states.specs.declared.known.Source.TheVariants.{Nowhere, From, Test}
 use Rattle.states.specs.declared.span.Leaving.{Leaving}
-use Rattle.states.specs.State.{State}
+use Rattle.states.specs.State.{Change, State}
 use Rattle.states.specs.Spans.{is_in_span, widened, left_of, on_span, after_change}
 use Rattle.states.proofs.SpanFacts.{in-span}
 use Rattle.facts.specs.Meaning.{Layout, Activation, Means, says_nothing, is_number, place_in, frame_word, IsOwnWord}

@@ -1,6 +1,7 @@
 -- The rule of move, which copies bytes from one place to another.
 use Rattle.std.specs.Prelude.{ℕ, ◌+◌, ◌==◌, ◌&&◌, ◌||◌, not, nat_lt, ℤ, pos, negsuc, ◌+ℤ◌, ◌-ℤ◌, int_le, Bool}
 use Rattle.std.specs.Prelude.{true, if◌then◌else◌, Result, Ok, Err}
+use Rattle.word_arithmetic.specs.Range.{full}
 use Rattle.module_format.specs.Rows.{Fact}
 use Rattle.module_format.specs.declared.fact.Fact.TheVariants.{Unknown, Pointer}
 use Rattle.module_format.specs.Stack.{of_empty}
@@ -10,7 +11,7 @@ use Rattle.states.specs.declared.rule.Rule.TheVariants as rules
 use Rattle.states.specs.declared.span.Leaving.TheVariants.{Become}
 use Rattle.states.specs.State.{State, unknown, is_word as is_same}
 use Rattle.states.specs.Spans.{on_span, after_change}
-use Rattle.facts.specs.Reach.{word_of_byte, full}
+use Rattle.facts.specs.Reach.{word_of_byte}
 use Rattle.facts.specs.declared.pointers.Pointed.{Pointed}
 use Rattle.facts.specs.Rulings.{Ruling, breaks, Site, alone, uses, goes_on}
 use Rattle.facts.specs.WordRules.{in_bounds}
