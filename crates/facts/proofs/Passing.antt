@@ -401,6 +401,18 @@ module _ (m : Contents) (h : Holding) (mode : machine.Mode) (act : Activation) (
       ∙ ap (λ (x : ℤ). place_of (cast_unsigned w32 x)) held.address
       ∙ place_of_address (region_start m act.layout region +ℤ first) place is low
 
+  -- where a region starts: the frame, the constants, or what a parameter names
+  start_by : (place : Layout) (region : ℕ) (first : ℤ) (frame constants : Bool) → (region == 0) ≡ frame
+      → (region == 1) ≡ constants
+      → region_start m place region +ℤ first
+      ≡ (if frame then pos data_start +ℤ place.origin
+      else (if constants then pos (data_start + constants_start m) else pos (place.starts (region - 2)))) +ℤ first
+  start_by place region first frame constants r r' =
+      ap (λ (b : Bool). (if b then pos data_start +ℤ place.origin
+      else (if region == 1 then pos (data_start + constants_start m) else pos (place.starts (region - 2)))) +ℤ first) r
+      ∙ ap (λ (b : Bool). (if frame then pos data_start +ℤ place.origin
+      else (if b then pos (data_start + constants_start m) else pos (place.starts (region - 2)))) +ℤ first) r'
+
   -- bytes of a parameter of the caller's that it may use so
   record Uses (w : Bool) (k : ℕ) (first end : ℤ) : Type 0 where
     r : Parameter
@@ -467,29 +479,32 @@ module _ (m : Contents) (h : Holding) (mode : machine.Mode) (act : Activation) (
   module _ (j : ℕ) (q : Parameter) (found : slice_get p.parameters j ≡ Some q) (size count : ℕ)
       (whole : size ≡ 4 * count)
       (at_least : 1 ≤ count) (lo hi : ℤ) (w : Bool) where
+    -- a region that may be lent from a byte on, to which the parameter's word points
+    record MayLend (region : ℕ) (first : ℤ) : Type 0 where
+      suit : numbers_suit call (a_lent region first size lo hi w) ≡ true
+      may : may_lend call (a_lent region first size lo hi w) ≡ true
+      held : HoldsPointer m act.layout region first (value q)
+
     -- where a parameter of the caller's lends
-    of_own : (region : ℕ) (first : ℤ) → given call q ≡ Alone (Pointer region first first Word)
-        → numbers_suit call (a_lent region first size lo hi w) ≡ true
-        → may_lend call (a_lent region first size lo hi w) ≡ true
-        → HoldsPointer m act.layout region first (value q) → (region ≡ 0 → ⊥) → (region ≡ 1 → ⊥)
+    of_own : (region : ℕ) (first : ℤ) → MayLend region first → (region ≡ 0 → ⊥) → (region ≡ 1 → ⊥)
         → IsPassed size lo hi w region first (layout.starts j)
     unfolding numbers_suit may_read_bytes may_write_bytes
-    of_own region first is suit may held not_zero not_one =
+    of_own region first lends not_zero not_one =
         let r : (region == 0) ≡ false = differs region 0 not_zero in
         let r' : (region == 1) ≡ false = differs region 1 not_one in
         let k : ℕ = region - 2 in
-        let used = (lend_parts call (a_lent region first size lo hi w) may).0 in
+        let used = (lend_parts call (a_lent region first size lo hi w) lends.may).0 in
         let u = uses_bytes w k first (end_of (a_lent region first size lo hi w)) (on_use w r r' used) in
         let n = natural first u.from in
-        let suit' = other (region == 1) _ _ r' (other (region == 0) _ _ r suit) in
+        let suit' = other (region == 1) _ _ r' (other (region == 0) _ _ r lends.suit) in
         let ranges = ranges_of region first size lo hi u.low u.high w
         (of_kind (a_lent region first size lo hi w) u.r u.total u.low u.high u.kind
         (sym (ap (parameter_suits (a_lent region first size lo hi w)) u.found) ∙ suit')) in
-        let quarter : n.0 ≡ 4 * (n.0 / 4) = stepped_natural first n.0 n.1 held.stepped in
+        let quarter : n.0 ≡ 4 * (n.0 / 4) = stepped_natural first n.0 n.1 lends.held.stepped in
         let to = u.to in
         let fits : 4 * (n.0 / 4) + 4 * count ≤ u.total = omega (arith, ints, to, n.1, quarter, whole) in
         let address : layout.starts j ≡ (act.layout.starts k + 4 * (n.0 / 4)) % 4294967296 =
-        start_is j q held.x found held.is ∙ ap (cast_unsigned w32) held.address
+        start_is j q lends.held.x found lends.held.is ∙ ap (cast_unsigned w32) lends.held.address
         ∙ ap (λ (z : ℤ). cast_unsigned w32 (word_of z)) (start_sum region first n.0 r r' n.1)
         ∙ address_of_word (act.layout.starts k + n.0)
         ∙ ap (λ (i : ℕ). (act.layout.starts k + i) % 4294967296) quarter in
@@ -515,11 +530,7 @@ module _ (m : Contents) (h : Holding) (mode : machine.Mode) (act : Activation) (
         start_sum : (region : ℕ) (first : ℤ) (n : ℕ) → (region == 0) ≡ false → (region == 1) ≡ false → first ≡ pos n
             → region_start m act.layout region +ℤ first ≡ pos (act.layout.starts (region - 2) + n)
         start_sum region first n r r' e =
-            ap (λ (b : Bool). (if b then pos data_start +ℤ act.layout.origin else
-            (if region == 1 then pos (data_start + constants_start m) else pos
-            (act.layout.starts (region - 2)))) +ℤ first) r
-            ∙ ap (λ (b : Bool). (if b then pos (data_start + constants_start m) else pos
-            (act.layout.starts (region - 2))) +ℤ first) r'
+            start_by act.layout region first false false r r'
             ∙ ap (λ (z : ℤ). pos (act.layout.starts (region - 2)) +ℤ z) e
 
         on_read : (w : Bool) (place : ℕ) → (w ≡ true → ⊥) → may_read h place ≡ true → may_use_place h w place ≡ true
@@ -566,18 +577,15 @@ module _ (m : Contents) (h : Holding) (mode : machine.Mode) (act : Activation) (
             no_region (Channels count' len ends) r.kind total low high e is_kind in absurd (cc))
 
     -- where the frame lends
-    of_words : (region : ℕ) (first : ℤ) → given call q ≡ Alone (Pointer region first first Word)
-        → numbers_suit call (a_lent region first size lo hi w) ≡ true
-        → may_lend call (a_lent region first size lo hi w) ≡ true
-        → HoldsPointer m act.layout region first (value q) → region ≡ 0
+    of_words : (region : ℕ) (first : ℤ) → MayLend region first → region ≡ 0
         → IsPassed size lo hi w region first (layout.starts j)
     unfolding numbers_suit may_read_bytes may_write_bytes
-    of_words region first is suit may held zero' =
+    of_words region first lends zero' =
         let word : ℤ = word_of_byte first in
-        let f : first ≡ pos 4 *ℤ word = offset_of_word first held.stepped in
+        let f : first ≡ pos 4 *ℤ word = offset_of_word first lends.held.stepped in
         let r : (region == 0) ≡ true = ap (λ (n : ℕ). n == 0) zero' in
         let size_is : size / 4 ≡ count = omega (arith, whole) in
-        let both = lend_parts call (a_lent region first size lo hi w) may in
+        let both = lend_parts call (a_lent region first size lo hi w) lends.may in
         let parts = words_parts call (a_lent region first size lo hi w)
         (chosen (region == 0) (words_fit call (a_lent region first size lo hi w)) true r both.1) in
         let many : words_touched first (end_of (a_lent region first size lo hi w)) ≡ count =
@@ -591,13 +599,11 @@ module _ (m : Contents) (h : Holding) (mode : machine.Mode) (act : Activation) (
         let off = subst (λ (n : ℕ). is_off_callee call word n ≡ true) size_is parts.1 in
         let suits_it = subst (λ (n : ℕ). lies_within (together s.frame word n).lo
         (together s.frame word n).hi lo hi ≡ true)
-        size_is (chosen (region == 0) _ _ r suit) in
+        size_is (chosen (region == 0) _ _ r lends.suit) in
         let there = first_place size count whole at_least lo hi w word (layout.starts j) usable number off suits_it in
         let at : place_of (layout.starts j) ≡ there.place =
-        at_address j q found region first held there.place
-        (ap (λ (b : Bool). (if b then pos data_start +ℤ act.layout.origin else
-        (if region == 1 then pos (data_start + constants_start m) else pos
-        (act.layout.starts (region - 2)))) +ℤ first) r
+        at_address j q found region first lends.held there.place
+        (start_by act.layout region first true (region == 1) r refl
         ∙ (let e = there.is in omega (arith, ints, e, f)))
         (let i = there.inside in let b = a.frame.small in omega arith) in
         frame_passed size count whole at_least lo hi w word
@@ -611,17 +617,14 @@ module _ (m : Contents) (h : Holding) (mode : machine.Mode) (act : Activation) (
         on_use false region first r used = chosen (region == 0) _ _ r used
 
     -- where the constants lend
-    of_the_constants : (region : ℕ) (first : ℤ) → given call q ≡ Alone (Pointer region first first Word)
-        → numbers_suit call (a_lent region first size lo hi w) ≡ true
-        → may_lend call (a_lent region first size lo hi w) ≡ true
-        → HoldsPointer m act.layout region first (value q) → region ≡ 1
+    of_the_constants : (region : ℕ) (first : ℤ) → MayLend region first → region ≡ 1
         → IsPassed size lo hi w region first (layout.starts j)
     unfolding numbers_suit may_read_bytes may_write_bytes
-    of_the_constants region first is suit may held one =
+    of_the_constants region first lends one =
         let r : (region == 0) ≡ false = differs region 0
         (λ e. let no' : 1 ≡ 0 = sym one ∙ e in absurd (omega (arith, no'))) in
         let r' : (region == 1) ≡ true = ap (λ (n : ℕ). n == 1) one in
-        on_written w refl r r' suit (lend_parts call (a_lent region first size lo hi w) may).0
+        on_written w refl r r' lends.suit (lend_parts call (a_lent region first size lo hi w) lends.may).0
       where
         inside : (lo hi : ℤ) (w : Bool) → (region == 0) ≡ false → (region == 1) ≡ true → w ≡ false
             → rule.may_use call (a_lent region first size lo hi w) ≡ true
@@ -656,21 +659,17 @@ module _ (m : Contents) (h : Holding) (mode : machine.Mode) (act : Activation) (
             let fits : n.0 + 4 * count ≤ length m.constants = omega (arith, ints, to, n.1, whole) in
             let range = chosen (region == 1) _ _ r' (other (region == 0) _ _ r suit) in
             let start : region_start m act.layout region +ℤ first ≡ pos (data_start + (constants_start m + n.0)) =
-            ap (λ (b : Bool). (if b then pos data_start +ℤ act.layout.origin else
-            (if region == 1 then pos (data_start + constants_start m) else pos
-            (act.layout.starts (region - 2)))) +ℤ first) r
-            ∙ ap (λ (b : Bool). (if b then pos (data_start + constants_start m) else pos
-            (act.layout.starts (region - 2))) +ℤ first) r'
+            start_by act.layout region first false true r r'
             ∙ (let f = n.1 in omega (arith, ints, f)) in
-            let at = at_address j q found region first held (constants_start m + n.0) start
+            let at = at_address j q found region first lends.held (constants_start m + n.0) start
             (constants_near m n.0 wf (omega (arith, fits))) in
             subst (λ (b : Bool). IsPassed size lo hi b region first (layout.starts j)) (sym e)
             (constants_passed size count whole at_least lo hi n.0 (layout.starts j)
-            (stepped_natural first n.0 n.1 held.stepped) at fits
+            (stepped_natural first n.0 n.1 lends.held.stepped) at fits
             (λ i low. constant_known m wf act l.memory a.named.constants first n.0
             (end_of (a_lent region first size lo hi w)) lo hi
             (constants_start m + n.0 + 4 * i) (n.0 + 4 * i) (omega arith)
-            (let q = stepped_natural first n.0 n.1 held.stepped in omega arith)
+            (let q = stepped_natural first n.0 n.1 lends.held.stepped in omega arith)
             (let f = n.1 in omega (arith, ints, f)) (let f = n.1 in omega (arith, ints, f, whole))
             (omega (arith, fits)) range)
             region first one n.1)
@@ -686,16 +685,17 @@ module _ (m : Contents) (h : Holding) (mode : machine.Mode) (act : Activation) (
         (means_same (given_means j q found) fact.0 refl) in
         let suit' = subst (λ (x : Lent). numbers_suit call x ≡ true) fact.1 suit in
         let may' = subst (λ (x : Lent). may_lend call x ≡ true) fact.1 may in
+        let lends : MayLend l.region l.first = record { suit = suit'; may = may'; held = held } in
         record {
           region = l.region;
           first = l.first;
           whole = omega (arith, whole);
           pointer = held;
           part_is = elim (cases_eq l.region 0) [
-            | inl zero' ↦ of_words l.region l.first fact.0 suit' may' held zero'
+            | inl zero' ↦ of_words l.region l.first lends zero'
             | inr not_zero ↦ elim (cases_eq l.region 1) [
-              | inl one ↦ of_the_constants l.region l.first fact.0 suit' may' held one
-              | inr not_one ↦ of_own l.region l.first fact.0 suit' may' held not_zero not_one
+              | inl one ↦ of_the_constants l.region l.first lends one
+              | inr not_one ↦ of_own l.region l.first lends not_zero not_one
             ]
           ];
           lent_is = e ∙ ap (λ (x : Lent). Some x) fact.1;
@@ -713,12 +713,7 @@ module _ (m : Contents) (h : Holding) (mode : machine.Mode) (act : Activation) (
     where
       region : region_start m layout (2 + j) +ℤ pos 0 ≡ pos (cast_unsigned w32 x)
       region =
-          ap (λ (b : Bool). (if b then pos data_start +ℤ origin else
-          (if (2 + j) == 1 then pos (data_start + constants_start m) else pos (layout.starts (2 + j - 2)))) +ℤ pos
-          0)
-          (differs (2 + j) 0 (λ e. omega (arith, e)))
-          ∙ ap (λ (b : Bool). (if b then pos (data_start + constants_start m) else pos
-          (layout.starts (2 + j - 2))) +ℤ pos 0)
+          start_by layout (2 + j) (pos 0) false false (differs (2 + j) 0 (λ e. omega (arith, e)))
           (differs (2 + j) 1 (λ e. omega (arith, e)))
           ∙ ap (λ (n : ℕ). pos (layout.starts n) +ℤ pos 0) (let e : 2 + j - 2 ≡ j = omega arith in e)
           ∙ ap (λ (n : ℕ). pos n +ℤ pos 0) (start_is j q x found held)

@@ -23,7 +23,7 @@ use Rattle.machine_state.specs.Site.{Local}
 use Rattle.states.specs.State.{State, plain}
 use Rattle.states.specs.Spans.{together}
 use Rattle.facts.specs.Meaning.{Layout, Activation, Means, is_number, says_nothing, frame_word, IsWellFormed}
-use Rattle.facts.specs.Regions.{scope_of, IsRegion, HasBytes}
+use Rattle.facts.specs.Regions.{Scope, scope_of, IsRegion, HasBytes}
 use Rattle.facts.specs.Reach.{word_of_byte, words_touched, all_touched, lie_in, lie_in_row, readable_bytes}
 use Rattle.facts.specs.Reach.{may_read_bytes}
 use Rattle.facts.specs.Reach.{kept_range, constant_range, parameter_range, region_range}
@@ -78,6 +78,32 @@ inside_region size width lo hi offset low high inside =
     let same : size ≡ f.0 = cc in
     let fits = f.4 in
     (f.2, f.3, omega arith)
+
+-- the region that a parameter names, of which the bytes from the first up to `end` may be read
+record Readable (m : Contents) (h : Holding) (scope : Scope) (context : ℕ) (memory : Memory) (j : ℕ) (first end : ℤ)
+    : Type 0 where
+  size : ℕ
+  range : Ends
+  range_is : parameter_range m context j ≡ range
+  region : IsRegion m (may_read h) scope memory (place_of (scope.layout.starts j)) size range.lo range.hi
+  from : pos 0 ≤ℤ first
+  to : end ≤ℤ pos size
+
+named_readable : {m : Contents} {h : Holding} {mode : machine.Mode} {act : Activation} {s : State} {l : Local}
+    → After m h mode act s l → (j : ℕ) (first end : ℤ) → lie_in (readable_bytes m s.context j) first end ≡ true
+    → Readable m h (scope_of m s.context act.layout) s.context l.memory j first end
+named_readable {m} {h} {mode} {act} {s} {l} a j first end inside =
+    let f = lies_inside (readable_bytes m s.context j) first end inside in
+    let r = readable_found m s.context j f.0 f.1 in
+    record {
+      size = f.0;
+      range = kept_range r.parameter.kind;
+      range_is = range_found m s.context j r.parameter r.found;
+      region = readable_region m h (scope_of m s.context act.layout) l.memory r.parameter.kind (act.layout.starts j) f.0
+          r.has (a.named.each j r.parameter r.found);
+      from = f.2;
+      to = f.3;
+    }
 
 module _ {m : Contents} {h : Holding} {mode : machine.Mode} {act : Activation} {s : State} {l : Local}
     (wf : IsWellFormed m) (a : After m h mode act s l) (lo hi offset : ℤ) (low : lo ≤ℤ offset) (high : offset ≤ℤ hi)
@@ -166,16 +192,10 @@ module _ {m : Contents} {h : Holding} {mode : machine.Mode} {act : Activation} {
       → WordThrough m h act.layout l.memory (pos (place_of (act.layout.starts j))) offset
       (number_within (parameter_range m s.context j))
   through_parameter j inside =
-      let f = lies_inside (readable_bytes m s.context j) lo (hi +ℤ pos 4) inside in
-      let r = readable_found m s.context j f.0 f.1 in
-      let region = readable_region m h (scope_of m s.context act.layout) l.memory r.parameter.kind
-      (act.layout.starts j) f.0 r.has
-      (a.named.each j r.parameter r.found) in
+      let r = named_readable a j lo (hi +ℤ pos 4) inside in
       subst (λ (e : Ends). WordThrough m h act.layout l.memory (pos (place_of (act.layout.starts j))) offset
-      (number_within e))
-      (sym (range_found m s.context j r.parameter r.found))
-      (of_region (place_of (act.layout.starts j)) f.0 (kept_range r.parameter.kind).lo
-      (kept_range r.parameter.kind).hi region f.2 f.3)
+      (number_within e)) (sym r.range_is)
+      (of_region (place_of (act.layout.starts j)) r.size r.range.lo r.range.hi r.region r.from r.to)
     where
       of_region : (start size : ℕ) (least most : ℤ)
           → IsRegion m (may_read h) (scope_of m s.context act.layout) l.memory start size least most
@@ -322,13 +342,8 @@ module _ {m : Contents} {h : Holding} {mode : machine.Mode} {act : Activation} {
   byte_parameter : (j : ℕ) → lie_in (readable_bytes m s.context j) lo (hi +ℤ pos 1) ≡ true
       → ByteThrough m h act.layout l.memory (pos (place_of (act.layout.starts j))) offset (Number (pos 0) (pos 255))
   byte_parameter j inside =
-      let f = lies_inside (readable_bytes m s.context j) lo (hi +ℤ pos 1) inside in
-      let r = readable_found m s.context j f.0 f.1 in
-      let region = readable_region m h (scope_of m s.context act.layout) l.memory r.parameter.kind
-      (act.layout.starts j) f.0 r.has
-      (a.named.each j r.parameter r.found) in
-      of_region (place_of (act.layout.starts j)) f.0 (kept_range r.parameter.kind).lo
-      (kept_range r.parameter.kind).hi region f.2 f.3
+      let r = named_readable a j lo (hi +ℤ pos 1) inside in
+      of_region (place_of (act.layout.starts j)) r.size r.range.lo r.range.hi r.region r.from r.to
     where
       of_region : (start size : ℕ) (least most : ℤ)
           → IsRegion m (may_read h) (scope_of m s.context act.layout) l.memory start size least most

@@ -29,7 +29,7 @@ use Rattle.facts.specs.Rulings.{Ruling, ends, breaks, Site, outside_alternation,
 use Rattle.facts.specs.Rulings.{writes_word, reads_word, schedules, pays, forks_to, goes_on, goes_to, push, pop}
 use Rattle.facts.specs.Rulings.{reverse}
 use Rattle.facts.specs.CallRules.{call_rule, return_rule}
-use Rattle.facts.specs.WordRules.{constant, loaded, in_bounds, has_range, numbers_have, has_long_operations}
+use Rattle.facts.specs.WordRules.{constant, loaded, in_bounds, has_range, checks, has_long_operations}
 use Rattle.facts.specs.WordRules.{fact_of_two, result_fact, unary_result_fact, shift_range, is_subscript, is_count}
 use Rattle.facts.specs.WordRules.{long_results, result_source, constant_source, becomes, where_false, where_true}
 use Rattle.facts.specs.WordRules.{in_frame}
@@ -54,12 +54,8 @@ operation_rule site (Long op) s =
     has_long_operations site (uses s.stack.a (λ a. uses s.stack.b (λ b. uses s.stack.c (λ c.
     in_bounds (has_range a && has_range b && has_range c)
     (alone s.mode (goes_on site (record s { stack = long_results op })))))))
-operation_rule site CheckSubscript s =
-    uses s.stack.a (λ a. uses s.stack.b (λ b.
-    in_bounds (numbers_have is_subscript b a) (alone s.mode (goes_on site (pop s)))))
-operation_rule site CheckCount s =
-    uses s.stack.a (λ a. uses s.stack.b (λ b.
-    in_bounds (numbers_have is_count b a) (alone s.mode (goes_on site (pop s)))))
+operation_rule site CheckSubscript s = checks is_subscript site s
+operation_rule site CheckCount s = checks is_count site s
 operation_rule site ByteSubscript s = subscripts Byte site s
 operation_rule site WordSubscript s = subscripts Word site s
 operation_rule site LoadPointerToInstruction s = loads_place site s

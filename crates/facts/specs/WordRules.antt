@@ -27,7 +27,9 @@ use Rattle.states.specs.declared.known.WordFact.{WordFact}
 use Rattle.states.specs.declared.known.WordFact.TheVariants.{Alone}
 use Rattle.states.specs.State.{State, Facts, unknown, known, plain, is_word}
 use Rattle.states.specs.Frames.{with_alone}
-use Rattle.facts.specs.Rulings.{Ruling, breaks, Site, alone, goes_on, pop, with_a}
+use Rattle.facts.specs.declared.combinators.Check.{Check}
+use Rattle.facts.specs.declared.combinators.Check.TheVariants as check
+use Rattle.facts.specs.Rulings.{Ruling, breaks, Site, alone, uses, goes_on, pop, with_a}
 
 -- a constant
 abbrev pub constant : ℤ → Known
@@ -111,6 +113,16 @@ is_subscript r bounds = int_le (pos 0) r.lo && int_lt r.hi bounds.lo
 -- a count lies from 1 up to each bound
 abbrev pub is_count : Ends → Ends → Bool
 is_count r bounds = int_le (pos 1) r.lo && int_le r.hi bounds.lo
+
+-- the test that a check is
+abbrev pub test_of_check : Check → Ends → Ends → Bool
+test_of_check check.Subscript = is_subscript
+test_of_check check.Count = is_count
+
+-- csub0 and ccnt1: B passes a test by A, and is kept
+abbrev pub checks : (Ends → Ends → Bool) → Site → State → Ruling
+checks test site s =
+    uses s.stack.a (λ a. uses s.stack.b (λ b. in_bounds (numbers_have test b a) (alone s.mode (goes_on site (pop s)))))
 
 -- what a long operation leaves in B: the carry, the borrow, or the high word
 abbrev pub high_range : LongOp → Ends

@@ -7,7 +7,7 @@ ghost use Rattle.word_arithmetic.specs.Range.{ends_of, range_between};
 ghost use Rattle.states.specs.Rows.{LoopFits};
 ghost use Rattle.facts.specs.Rulings.{outside_alternation, outside_starts, alone, uses, forward};
 ghost use Rattle.facts.specs.WordRules.{source_of, loaded, range_of, number_in, constant_in, has_range, in_bounds};
-ghost use Rattle.facts.specs.WordRules.{numbers_have, is_subscript, is_count, fact_of_two, result_fact};
+ghost use Rattle.facts.specs.WordRules.{numbers_have, fact_of_two, result_fact};
 ghost use Rattle.facts.specs.WordRules.{unary_result_fact, shift_range, long_results, word_and_constant, test_of};
 ghost use Rattle.facts.specs.WordRules.{greater_source, equal_source, result_source, constant_source};
 ghost use Rattle.facts.specs.Telling.{Admits, Gives};
@@ -128,25 +128,30 @@ pub(crate) fn in_bounds(holds: bool) -> Result<(), Rule>
     Ok(())
 }
 
-/// Whether a number is a subscript, from 0 to below each bound.
-#[tactic(auto, unfolding(crate::specs::WordRules::numbers_have))]
-pub(crate) fn is_subscript(subscript: Fact, bound: Fact) -> bool
-    ensures { result ≡ numbers_have is_subscript subscript bound }
-{
-    match (range_of(subscript), range_of(bound)) {
-        (Some(range), Some(bounds)) => 0 <= range.lo && range.hi < bounds.lo,
-        _ => false,
-    }
+/// A test of a number by a bound.
+#[derive(Clone, Copy)]
+pub(crate) enum Check {
+    /// From 0 to below each bound.
+    Subscript,
+    /// From 1 to each bound.
+    Count,
 }
 
-/// Whether a number is a count, from 1 to each bound.
-#[tactic(auto, unfolding(crate::specs::WordRules::numbers_have))]
-pub(crate) fn is_count(count: Fact, bound: Fact) -> bool
-    ensures { result ≡ numbers_have is_count count bound }
-{
-    match (range_of(count), range_of(bound)) {
-        (Some(range), Some(bounds)) => 1 <= range.lo && range.hi <= bounds.lo,
-        _ => false,
+impl Check {
+    ghost use Rattle.facts.specs.WordRules.{test_of_check};
+
+    /// Whether a number passes the test.
+    #[tactic(auto, unfolding(crate::specs::WordRules::numbers_have))]
+    pub(crate) fn passes(self, number: Fact, bound: Fact) -> bool
+        ensures { result ≡ numbers_have (test_of_check self) number bound }
+    {
+        let (Some(range), Some(bounds)) = (range_of(number), range_of(bound)) else {
+            return false;
+        };
+        match self {
+            Check::Subscript => 0 <= range.lo && range.hi < bounds.lo,
+            Check::Count => 1 <= range.lo && range.hi <= bounds.lo,
+        }
     }
 }
 

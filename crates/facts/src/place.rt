@@ -1,6 +1,6 @@
 //! The place of an instruction, and the rules there.
 
-use crate::combinators::{alone, forward, outside_alternation, outside_starts};
+use crate::combinators::{Check, alone, forward, outside_alternation, outside_starts};
 use crate::continuation::Continuation;
 use certificate::{Fact, Module, Stack, Step};
 use machine_state::Op;
@@ -185,8 +185,8 @@ impl Place<'_, '_> {
             Op::Unary(op) => self.unary(state, op),
             Op::Shift(op) => self.shift(state, op),
             Op::Long(op) => self.long(state, op),
-            Op::CheckSubscript => self.check_subscript(state),
-            Op::CheckCount => self.check_count(state),
+            Op::CheckSubscript => self.check(state, Check::Subscript),
+            Op::CheckCount => self.check(state, Check::Count),
             Op::ByteSubscript => self.subscript(state, Step::Byte),
             Op::WordSubscript => self.subscript(state, Step::Word),
             Op::LoadPointerToInstruction => self.load_pointer_to_instruction(state),

@@ -3,8 +3,8 @@
 ghost use Rattle.std.specs.Prelude.{◌≡◌, ◌&&◌, int_le, if◌then◌else◌, Some, None, pos, negsuc, ◌≤ℤ◌};
 
 use crate::combinators::{
-    alone, constant_source, fact_of_shift, forward, has_range, in_bounds, is_count, is_subscript,
-    loaded, long_results, outside_alternation, outside_starts, result_fact, result_source,
+    Check, alone, constant_source, fact_of_shift, forward, has_range, in_bounds, loaded,
+    long_results, outside_alternation, outside_starts, result_fact, result_source,
     unary_result_fact, uses,
 };
 use crate::continuation::Continuation;
@@ -35,7 +35,7 @@ impl Place<'_, '_> {
     ghost use Rattle.std.specs.Prelude.{◌≡◌, ◌+◌, ℤ, ◌+ℤ◌, IfOk};
     ghost use Rattle.module_format.specs.Contents.{Contents};
     ghost use Rattle.machine_state.specs.declared.op.Op.TheVariants.{Reverse, MinimumInteger, Binary, Unary, Shift};
-    ghost use Rattle.machine_state.specs.declared.op.Op.TheVariants.{Long, CheckSubscript, CheckCount};
+    ghost use Rattle.machine_state.specs.declared.op.Op.TheVariants.{Long};
     ghost use Rattle.machine_state.specs.declared.instruction.Instruction.TheVariants.{LoadConstant, LoadLocal};
     ghost use Rattle.machine_state.specs.declared.instruction.Instruction.TheVariants.{StoreLocal, WithConstant};
     ghost use Rattle.machine_state.specs.declared.instruction.Instruction.TheVariants.{LoadLocalPointer};
@@ -43,7 +43,8 @@ impl Place<'_, '_> {
     ghost use Rattle.machine_state.specs.declared.instruction.Instruction.TheVariants.{ConditionalJump};
     ghost use Rattle.states.specs.Views.{state_of, CanWrite, BelongsTo};
     ghost use Rattle.facts.specs.Rulings.{goes_on, forks_to};
-    ghost use Rattle.facts.specs.WordRules.{becomes, has_long_operations, in_frame, where_false, where_true};
+    ghost use Rattle.facts.specs.WordRules.{becomes, checks, has_long_operations, in_frame, where_false, where_true};
+    ghost use Rattle.facts.specs.WordRules.{test_of_check};
     ghost use Rattle.facts.specs.Rules.{operation_rule, instruction_rule};
     ghost use Rattle.facts.specs.Telling.{Admits, Advances};
     ghost use Rattle.facts.specs.Places.{site_of};
@@ -220,29 +221,15 @@ impl Place<'_, '_> {
         self.goes_on(state)
     }
 
-    #[tactic(auto, unfolding(crate::specs::Rules::operation_rule))]
-    pub(crate) fn check_subscript(&self, state: &mut State) -> Result<Continuation, Rule>
-        ensures ruling { let ruling = operation_rule (site_of self.now) CheckSubscript (state_of state.old) in
-            Advances result (state_of state.new) ruling }
+    /// `csub0` and `ccnt1`: B passes a test by A, and is kept.
+    pub(crate) fn check(&self, state: &mut State, check: Check) -> Result<Continuation, Rule>
+        ensures ruling { Advances result (state_of state.new)
+            (checks (test_of_check check) (site_of self.now) (state_of state.old)) }
         ensures belongs { (m : Contents) → BelongsTo m state.old → BelongsTo m state.new }
     {
         let bound = uses(state.stack.a)?;
-        let subscript = uses(state.stack.b)?;
-        in_bounds(is_subscript(subscript, bound))?;
-        alone(state.mode)?;
-        state.pop();
-        self.goes_on(state)
-    }
-
-    #[tactic(auto, unfolding(crate::specs::Rules::operation_rule))]
-    pub(crate) fn check_count(&self, state: &mut State) -> Result<Continuation, Rule>
-        ensures ruling { let ruling = operation_rule (site_of self.now) CheckCount (state_of state.old) in
-            Advances result (state_of state.new) ruling }
-        ensures belongs { (m : Contents) → BelongsTo m state.old → BelongsTo m state.new }
-    {
-        let bound = uses(state.stack.a)?;
-        let count = uses(state.stack.b)?;
-        in_bounds(is_count(count, bound))?;
+        let number = uses(state.stack.b)?;
+        in_bounds(check.passes(number, bound))?;
         alone(state.mode)?;
         state.pop();
         self.goes_on(state)
