@@ -858,6 +858,7 @@ module _ (m : Contents) (h : Holding) (mode : machine.Mode) (act : Activation) (
 
     -- ---- regions that do not meet
 
+    -- a word that counts has no byte of a region that a parameter names
     beside_region : (q : ℕ) (u : Parameter) (total : ℕ) (low high : ℤ) → slice_get caller.parameters q ≡ Some u
         → IsRegionKind u.kind total low high → (k : ℤ) (i : ℕ) → caller.words.reads k ≡ true → i < total
         → IsByteOf act.layout.origin k (place_of (act.layout.starts q) + i) → ⊥
@@ -867,6 +868,15 @@ module _ (m : Contents) (h : Holding) (mode : machine.Mode) (act : Activation) (
     beside_region q u total low high found (inr e) k i t inside b =
         (subst (λ (kind : ParameterKind). IsNamed m h caller l.memory kind (act.layout.starts q)) e
         (a.named.each q u found)).beside k i t inside b
+
+    -- nor has a run of words that count a byte of one
+    beside_run : (q : ℕ) (u : Parameter) (total : ℕ) (low high : ℤ) → slice_get caller.parameters q ≡ Some u
+        → IsRegionKind u.kind total low high → (k : ℤ) (place i n : ℕ) → caller.words.reads (k +ℤ pos (i / 4)) ≡ true
+        → n < total → pos place ≡ place_in act.layout.origin k → place + i ≡ place_of (act.layout.starts q) + n → ⊥
+    beside_run q u total low high found kind k place i n t inside at same =
+        beside_region q u total low high found kind (k +ℤ pos (i / 4)) n t inside
+        (subst (λ (b : ℕ). IsByteOf act.layout.origin (k +ℤ pos (i / 4)) b) same
+        (run_byte act.layout.origin k place i at))
 
     -- two parts have a byte in common only where they clash
     parts_apart : (r1 r2 : ℕ) (f1 f2 : ℤ) (c1 c2 : ℕ) (lo1 hi1 lo2 hi2 : ℤ) (w : Bool) (p1 p2 i1 i2 : ℕ)
@@ -888,21 +898,15 @@ module _ (m : Contents) (h : Holding) (mode : machine.Mode) (act : Activation) (
     parts_apart r1 r2 f1 f2 c1 c2 lo1 hi1 lo2 hi2 w p1 p2 i1 i2 (of_frame k1 e1 g1 at1 reads1 writes1 off1)
         (of_parameter q2 u2 n2 total2 low' high' e2 g2 found2 kind2 written2 below2 above2 at2 fits2) same low1
         low2 no_meet =
-        beside_region q2 u2 total2 low' high' found2 kind2 (k1 +ℤ pos (i1 / 4)) (4 * n2 + i2)
-        (reads1 (i1 / 4) (omega (arith, low1)))
-        (omega (arith, low2, fits2)) (subst (λ (n : ℕ). IsByteOf act.layout.origin (k1 +ℤ pos (i1 / 4)) n)
-        (omega (arith, same, at2))
-        (run_byte act.layout.origin k1 p1 i1 at1))
+        beside_run q2 u2 total2 low' high' found2 kind2 k1 p1 i1 (4 * n2 + i2) (reads1 (i1 / 4) (omega (arith, low1)))
+        (omega (arith, low2, fits2)) at1 (omega (arith, same, at2))
     parts_apart r1 r2 f1 f2 c1 c2 lo1 hi1 lo2 hi2 w p1 p2 i1 i2
         (of_constants n1 e1 g1 no' at1 fits1) part2 same low1 low2 no_meet = cc
     parts_apart r1 r2 f1 f2 c1 c2 lo1 hi1 lo2 hi2 w p1 p2 i1 i2
         (of_parameter q1 u1 n1 total1 low' high' e1 g1 found1 kind1 written1 below1 above1 at1 fits1)
         (of_frame k2 e2 g2 at2 reads2 writes2 off2) same low1 low2 no_meet =
-        beside_region q1 u1 total1 low' high' found1 kind1 (k2 +ℤ pos (i2 / 4)) (4 * n1 + i1)
-        (reads2 (i2 / 4) (omega (arith, low2)))
-        (omega (arith, low1, fits1)) (subst (λ (n : ℕ). IsByteOf act.layout.origin (k2 +ℤ pos (i2 / 4)) n)
-        (omega (arith, same, at1))
-        (run_byte act.layout.origin k2 p2 i2 at2))
+        beside_run q1 u1 total1 low' high' found1 kind1 k2 p2 i2 (4 * n1 + i1) (reads2 (i2 / 4) (omega (arith, low2)))
+        (omega (arith, low1, fits1)) at2 (omega (arith, same, at1))
     parts_apart r1 r2 f1 f2 c1 c2 lo1 hi1 lo2 hi2 w p1 p2 i1 i2
         (of_parameter q1 u1 n1 total1 low' high' e1 g1 found1 kind1 written1 below1 above1 at1 fits1)
         (of_constants n2 e2 g2 read2 at2 fits2) same low1 low2 no_meet =
