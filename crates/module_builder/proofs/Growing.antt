@@ -22,11 +22,11 @@ IsPositive (x ∷ xs) = (1 ≤ x) × IsPositive xs
 
 -- ---- where items begin
 
-offset-nil : (k : ℕ) → offset [] k ≡ 0
+pub offset-nil : (k : ℕ) → offset [] k ≡ 0
 offset-nil zero = refl
 offset-nil (suc k) = refl
 
-offset-cons : (x : ℕ) (xs : List ℕ) (k : ℕ) → offset (x ∷ xs) (suc k) ≡ x + offset xs k
+pub offset-cons : (x : ℕ) (xs : List ℕ) (k : ℕ) → offset (x ∷ xs) (suc k) ≡ x + offset xs k
 offset-cons x xs k = sum_by-cons (λ (n : ℕ). n) x (take k xs)
 
 pub offset-le-sum : (xs : List ℕ) (k : ℕ) → offset xs k ≤ sum xs

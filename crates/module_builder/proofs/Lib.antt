@@ -1,5 +1,6 @@
 pub mod Lengths
 pub mod Growing
+pub mod References
 pub mod Progress
 pub mod Spelled
 pub mod Places

@@ -1,6 +1,8 @@
 pub mod Drafts
 pub mod Layouts
 pub mod Spacing
+pub mod References
+pub mod Plans
 pub mod Spelling
 pub mod Placing
 pub mod Ordering

@@ -11,6 +11,7 @@ use crate::fault::GenFault;
 use crate::instructions::Instructions;
 use crate::item::Item;
 use crate::layouts::Layout;
+use crate::offsets::{Offsets, load_len, value};
 use crate::spacing::Spacing;
 use module_format::MAX_LONG_CODE;
 use prefix_decoder::{Fun, encode};
@@ -47,7 +48,7 @@ fn push_address(
     let distance = constants_start(spacing.end()) + u32::from(offset) - end;
     let load = encode(Fun::LoadConstant, distance as i32);
     bytes.extend_from_slice(load.as_slice())?;
-    if load.len() < usize::from(spacing.load_len(end, offset)) {
+    if load.len() < usize::from(load_len(spacing, end, offset)) {
         push_instruction(bytes, Fun::AddConstant, 0)?;
     }
     push_instruction(bytes, Fun::Operate, LDPI)
@@ -68,7 +69,7 @@ fn push_item(
 {
     match item {
         Item::Instruction { fun, operand } => {
-            push_instruction(bytes, fun, spacing.value(code, end, operand))
+            push_instruction(bytes, fun, value(spacing, code, end, operand))
         }
         Item::ConstantAddress { offset } => push_address(bytes, spacing, end, offset),
     }

@@ -1,55 +1,113 @@
-use Rattle.std.proofs.Common.{◌≡◌, ◌≢◌, ◌<◌, ◌≤◌, ℕ, List, length, sum, subst, arith, ap, sym, ◌∙◌, Err}
-use Rattle.std.proofs.lemmas.Bool.Decides.{Decides-eqb, not_from_Decides}
-use Rattle.std.proofs.lemmas.Slice.Eq.{slice_eq-Decides}
+use Rattle.std.proofs.Common.{◌≡◌, ◌<◌, ◌≤◌, ℕ, List, sum, subst, arith, ap, sym, ◌∙◌, Err}
 use Rattle.std.proofs.lemmas.Result.{err_from_is_err_and}
 use Rattle.module_format.specs.declared.limits.TheConstants.{MAX_LONG_CODE}
 use Rattle.module_builder.specs.declared.fault.GenFault.TheVariants.{Limit}
-use Rattle.module_builder.specs.Layouts.{needed}
-use Rattle.module_builder.proofs.Progress.{on_the_way_start, on_the_way_more, on_the_way_count, grows, none_fits}
+use Rattle.module_builder.specs.Layouts.{needed, places, IsLeast}
+use Rattle.module_builder.specs.Plans.{planned}
+use Rattle.module_builder.proofs.Progress.{IsOnTheWay, start, on_the_way_start, on_the_way_more, on_the_way_count}
+use Rattle.module_builder.proofs.Progress.{needed_sum, none_fits, least_end, first_is, next_is, end_is}
 use Rattle.module_builder.proofs.least.layout.Goals as goal
 
-pub loop-spacing-init : goal.loop-spacing-init
-loop-spacing-init c =
-    let h = c.in_ok-lengths.ensures in
-    rw (h.items_if_clones_equal (λ (y : ℕ) (e : y ≡ 1). e), c.items.ensures) (on_the_way_start c.args.draft.now.code)
-
-pub returns-in_err-spacing-clause-limit : goal.returns-in_err-spacing-clause-limit
-returns-in_err-spacing-clause-limit c = λ is lengths fits.
-    let told = err_from_is_err_and c.from_residual-in_err-spacing.result c.from_residual-in_err-spacing.ensures.1 in
-    let limit : Err c.in_err-spacing.field-0.0 ≡ Err Limit = cc in
-    none_fits c.args.draft.now.code c.loop-spacing.lengths.items c.loop-spacing.invariant (c.in_err-spacing.ensures.limit limit)
+pub returns-in_err-grown-clause-limit : goal.returns-in_err-grown-clause-limit
+returns-in_err-grown-clause-limit c = λ is lengths fits.
+    let code = c.args.draft.now.code in
+    let plan = c.in_ok-plan.plan in
+    let told = err_from_is_err_and c.from_residual-in_err-grown.result c.from_residual-in_err-grown.ensures.1 in
+    let limit : Err c.in_err-grown.field-0.0 ≡ Err Limit = cc in
+    let first : planned plan c.in_ok-sizes.sizes.items ≡ start code =
+    first_is code plan c.in_ok-sizes.sizes.items c.len.result c.in_ok-plan.ensures.plan
+    (c.in_ok-sizes.ensures.items_if_clones_equal (λ (y : ℕ) (e : y ≡ 1). e)) (c.len.ensures ∙ plan.references.ok.0) in
+    none_fits code (start code) (on_the_way_start code) (omega (arith, c.in_err-grown.ensures.limit limit, ap sum first))
     lengths fits
+
+pub loop-grown-init : goal.loop-grown-init
+loop-grown-init c =
+    let code = c.args.draft.now.code in
+    let plan = c.in_ok-plan.plan in
+    let first : planned plan c.in_ok-sizes.sizes.items ≡ start code =
+    first_is code plan c.in_ok-sizes.sizes.items c.len.result c.in_ok-plan.ensures.plan
+    (c.in_ok-sizes.ensures.items_if_clones_equal (λ (y : ℕ) (e : y ≡ 1). e)) (c.len.ensures ∙ plan.references.ok.0) in
+    subst (λ (xs : List ℕ). IsOnTheWay code xs) (sym (c.in_ok-grown.ensures.lengths ∙ first)) (on_the_way_start code)
+
+pub needed_by-requires-clause-count : goal.needed_by-requires-clause-count
+needed_by-requires-clause-count c =
+    let grown = c.loop-grown.grown in
+    on_the_way_count c.args.draft.now.code (planned grown.plan.now grown.sizes.lengths.items) c.loop-grown.invariant
 
 pub needed-requires-clause-count : goal.needed-requires-clause-count
 needed-requires-clause-count c =
-    let same = c.in_ok-spacing.ensures.same in
-    omega (arith, on_the_way_count c.args.draft.now.code c.loop-spacing.lengths.items c.loop-spacing.invariant, ap length same)
+    let grown = c.loop-grown.grown in
+    on_the_way_count c.args.draft.now.code (planned grown.plan.now grown.sizes.lengths.items) c.loop-grown.invariant
 
 pub places_of-requires : goal.places_of-requires
 places_of-requires c =
-    let same = c.in_ok-spacing.ensures.same in
-    omega (arith, on_the_way_count c.args.draft.now.code c.loop-spacing.lengths.items c.loop-spacing.invariant, ap length same)
+    let grown = c.loop-grown.grown in
+    on_the_way_count c.args.draft.now.code (planned grown.plan.now grown.sizes.lengths.items) c.loop-grown.invariant
 
-pub loop-spacing-smaller : goal.loop-spacing-smaller
-loop-spacing-smaller c =
-    let before = c.loop-spacing.lengths.items in
-    let same : c.in_ok-spacing.spacing.lengths.items ≡ before = c.in_ok-spacing.ensures.same in
-    let after : c.in_ok-needed.needed.items ≡ needed c.args.draft.now.code before =
-    c.in_ok-needed.ensures ∙ ap (λ (xs : List ℕ). needed c.args.draft.now.code xs) same in
-    let differs : before ≢ needed c.args.draft.now.code before = λ (equal : before ≡ needed c.args.draft.now.code before).
-    not_from_Decides c.eq.result
-    (slice_eq-Decides Decides-eqb c.as_slice.result.now c.as_slice-in-loop-spacing.result.now c.eq.result c.eq.ensures)
-    c.if-eq.false
-    (c.as_slice.ensures.value ∙ after ∙ sym equal ∙ sym same ∙ sym c.as_slice-in-loop-spacing.ensures.value) in
-    let more : sum before < sum (needed c.args.draft.now.code before) =
-    grows c.args.draft.now.code before c.loop-spacing.invariant differs in
-    let short : sum before ≤ MAX_LONG_CODE = subst (λ (xs : List ℕ). sum xs ≤ MAX_LONG_CODE) same c.in_ok-spacing.spacing.follow.short in
-    rw after (omega (arith, more, short))
+pub returns-in_err-next-clause-limit : goal.returns-in_err-next-clause-limit
+returns-in_err-next-clause-limit c = λ is lengths fits.
+    let code = c.args.draft.now.code in
+    let before = planned c.loop-grown.grown.plan.now c.loop-grown.grown.sizes.lengths.items in
+    let told = err_from_is_err_and c.from_residual-in_err-next.result c.from_residual-in_err-next.ensures.1 in
+    let limit : Err c.in_err-next.field-0.0 ≡ Err Limit = cc in
+    let after =
+    next_is code c.in_ok-plan.plan before c.in_ok-sizes-2.sizes.items c.deref.result.now c.in_ok-plan.ensures.plan
+    c.deref.ensures.value c.in_ok-sizes-2.ensures in
+    none_fits code (needed code before) (on_the_way_more code before c.loop-grown.invariant)
+    (omega (arith, c.in_err-next.ensures.limit limit, ap sum after)) lengths fits
 
-pub loop-spacing-preserved : goal.loop-spacing-preserved
-loop-spacing-preserved c =
-    let before = c.loop-spacing.lengths.items in
-    let same : c.in_ok-spacing.spacing.lengths.items ≡ before = c.in_ok-spacing.ensures.same in
-    let after : c.in_ok-needed.needed.items ≡ needed c.args.draft.now.code before =
-    c.in_ok-needed.ensures ∙ ap (λ (xs : List ℕ). needed c.args.draft.now.code xs) same in
-    rw after (on_the_way_more c.args.draft.now.code before c.loop-spacing.invariant)
+pub loop-grown-preserved : goal.loop-grown-preserved
+loop-grown-preserved c =
+    let code = c.args.draft.now.code in
+    let before = planned c.loop-grown.grown.plan.now c.loop-grown.grown.sizes.lengths.items in
+    let after =
+    next_is code c.in_ok-plan.plan before c.in_ok-sizes-2.sizes.items c.deref.result.now c.in_ok-plan.ensures.plan
+    c.deref.ensures.value c.in_ok-sizes-2.ensures in
+    subst (λ (xs : List ℕ). IsOnTheWay code xs) (sym (c.in_ok-next.ensures.lengths ∙ after))
+    (on_the_way_more code before c.loop-grown.invariant)
+
+pub loop-grown-smaller : goal.loop-grown-smaller
+loop-grown-smaller c =
+    let code = c.args.draft.now.code in
+    let before = planned c.loop-grown.grown.plan.now c.loop-grown.grown.sizes.lengths.items in
+    let next = planned c.in_ok-next.next.plan.now c.in_ok-next.next.sizes.lengths.items in
+    let after =
+    next_is code c.in_ok-plan.plan before c.in_ok-sizes-2.sizes.items c.deref.result.now c.in_ok-plan.ensures.plan
+    c.deref.ensures.value c.in_ok-sizes-2.ensures in
+    let same : sum next ≡ sum (needed code before) = ap sum (c.in_ok-next.ensures.lengths ∙ after) in
+    let no_less : sum before ≤ sum (needed code before) = needed_sum code before c.loop-grown.invariant in
+    let more : sum before < sum next = omega (arith, c.if-end.false, c.end.ensures.value, c.end-in-loop-grown.ensures.value) in
+    let short : sum next ≤ MAX_LONG_CODE =
+    omega (arith, c.end.ensures.value, c.end.ensures.short, c.end-in-loop-grown.ensures.value, c.end-in-loop-grown.ensures.short) in
+    omega (arith, more, short)
+
+pub returns-then-end-clause-least : goal.returns-then-end-clause-least
+returns-then-end-clause-least c =
+    let code = c.args.draft.now.code in
+    let before = planned c.loop-grown.grown.plan.now c.loop-grown.grown.sizes.lengths.items in
+    let next = planned c.in_ok-next.next.plan.now c.in_ok-next.next.sizes.lengths.items in
+    let after =
+    next_is code c.in_ok-plan.plan before c.in_ok-sizes-2.sizes.items c.deref.result.now c.in_ok-plan.ensures.plan
+    c.deref.ensures.value c.in_ok-sizes-2.ensures in
+    let same : sum next ≡ sum before =
+    omega (arith, c.if-end.true, c.end.ensures.value, c.end-in-loop-grown.ensures.value) in
+    let end : before ≡ needed code before =
+    end_is code before next c.loop-grown.invariant (c.in_ok-next.ensures.lengths ∙ after) same in
+    let short : sum before ≤ MAX_LONG_CODE =
+    omega (arith, c.end.ensures.value, c.end.ensures.short, c.end-in-loop-grown.ensures.value, c.end-in-loop-grown.ensures.short) in
+    subst (λ (xs : List ℕ). IsLeast code xs) (end ∙ sym c.in_ok-needed.ensures)
+    (least_end code before c.loop-grown.invariant end short)
+
+pub returns-then-end-clause-places : goal.returns-then-end-clause-places
+returns-then-end-clause-places c =
+    let code = c.args.draft.now.code in
+    let before = planned c.loop-grown.grown.plan.now c.loop-grown.grown.sizes.lengths.items in
+    let next = planned c.in_ok-next.next.plan.now c.in_ok-next.next.sizes.lengths.items in
+    let after =
+    next_is code c.in_ok-plan.plan before c.in_ok-sizes-2.sizes.items c.deref.result.now c.in_ok-plan.ensures.plan
+    c.deref.ensures.value c.in_ok-sizes-2.ensures in
+    let same : sum next ≡ sum before =
+    omega (arith, c.if-end.true, c.end.ensures.value, c.end-in-loop-grown.ensures.value) in
+    let end : before ≡ needed code before =
+    end_is code before next c.loop-grown.invariant (c.in_ok-next.ensures.lengths ∙ after) same in
+    c.in_ok-places_of.ensures ∙ ap (λ (xs : List ℕ). places code xs) (end ∙ sym c.in_ok-needed.ensures)

@@ -3,5 +3,5 @@ use Rattle.module_builder.specs.Layouts.{offset}
 use Rattle.module_builder.proofs.least.places_of.Given as goal
 
 abbrev pub invariant-loop-target : goal.invariant-loop-target
-invariant-loop-target l =
-    l.places.items ≡ map (option_map (offset l.spacing.lengths.items)) (take l.target-index l.target-items)
+invariant-loop-target g l =
+    l.places.items ≡ map (option_map (offset (g.P.Offsets.lengths l.offsets))) (take l.target-index l.target-items)
