@@ -6,3 +6,4 @@ pub mod Spelled
 pub mod Places
 pub mod RowLaws
 pub mod NumberLaws
+pub mod OrderLaws

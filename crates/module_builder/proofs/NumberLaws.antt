@@ -68,7 +68,7 @@ counted_all front (row ∷ back) (key ∷ keys) same =
     let whole = sum_by-cons (λ (r : ParRow Label ContextName). length r.branches.items) row back in
     omega (arith, here, rest, first, whole)
 
-numbered_at : (first : ℕ) (keys : List ℕ) (i : ℕ) (d : ℕ × ℕ)
+pub numbered_at : (first : ℕ) (keys : List ℕ) (i : ℕ) (d : ℕ × ℕ)
     → i < length keys
     → get_or (numbered first keys) i d ≡ (get_or keys i 0, first + i)
 numbered_at first [] i d h = absurd (omega arith)
@@ -76,7 +76,7 @@ numbered_at first (key ∷ keys) zero d h = rw add-zero refl
 numbered_at first (key ∷ keys) (suc i) d h = rw (add-suc, ← suc-add) (numbered_at (suc first) keys i d (omega arith))
 
 -- each row has its place in the order
-position_below : (keys : List ℕ) (order : List (ℕ × ℕ)) (number : ℕ)
+pub position_below : (keys : List ℕ) (order : List (ℕ × ℕ)) (number : ℕ)
     → IsPermutation (numbered 0 keys) order
     → number < length keys
     → position order number < length order
@@ -99,7 +99,7 @@ not_false : {b : Bool} → not b ≡ false → b ≡ true
 not_false {b = true} h = refl
 not_false {b = false} h = absurd (true_is_not_false h)
 
-position_is : (order : List (ℕ × ℕ)) (number : ℕ) (d : ℕ × ℕ)
+pub position_is : (order : List (ℕ × ℕ)) (number : ℕ) (d : ℕ × ℕ)
     → position order number < length order
     → (get_or order (position order number) d).1 ≡ number
 position_is order number d h =

@@ -1,14 +1,18 @@
 //! What holds of all layouts, each law the contract of a function that does nothing.
 
 ghost use Rattle.std.specs.Prelude.{◌≡◌, ◌+◌, ◌<◌, ℕ, List, length, Option, slice_get, Some};
+ghost use Rattle.std.specs.List.Sorted.{IsNonDecreasingBy};
+ghost use Rattle.module_format.specs.declared.rows.BranchRow.{BranchRow};
 ghost use Rattle.module_format.specs.declared.rows.ParRow.{ParRow};
 ghost use Rattle.module_builder.specs.declared.item.Label.{Label};
 ghost use Rattle.module_builder.specs.declared.draft.ContextName.{ContextName};
 ghost use Rattle.module_builder.specs.declared.draft.ContextName.TheVariants.{Procedure, Branch};
 ghost use Rattle.module_builder.specs.declared.draft.Draft.{Draft};
 ghost use Rattle.module_builder.specs.Limits.{IsWithin};
-ghost use Rattle.module_builder.specs.Ordering.{position};
-ghost use Rattle.module_builder.specs.Assembled.{Arrangement, AreInOrder, context_number, first_context};
+ghost use Rattle.module_builder.specs.Placing.{label_offset};
+ghost use Rattle.module_builder.specs.Ordering.{IsOrder, position};
+ghost use Rattle.module_builder.specs.Assembled.{Arrangement, AreInOrder, IsArranged, context_number, first_context};
+ghost use Rattle.module_builder.specs.Assembled.{first_entry};
 ghost use Rattle.module_builder.specs.declared.item.Item.{Item};
 ghost use Rattle.module_builder.specs.Drafts.{Code};
 ghost use Rattle.module_builder.specs.Layouts.{offset, Fits, IsLeast, IsBoundary};
@@ -41,4 +45,23 @@ pub fn contexts_have_numbers()
         (row : ParRow Label ContextName) → IsWithin d → AreInOrder d offsets a
         → slice_get d.pars.items par ≡ Some row → branch < length row.branches.items
         → context_number d a.procedures a.pars (Branch par branch) ≡ Some (first_context d a.pars par + branch) }
+{}
+
+/// Rows with the same keys have one order, so a draft has one arrangement at most: one layout and one order of the rows
+/// of each kind.
+pub fn one_arrangement()
+    ensures order { (keys : List ℕ) (a b : List (ℕ × ℕ)) → IsOrder keys a → IsOrder keys b → a ≡ b }
+    ensures arrangement { (d : Draft) (a b : Arrangement) → IsArranged d a → IsArranged d b → a ≡ b }
+{}
+
+/// A PAR whose branches are placed in order comes before each PAR that begins behind one of its branches. So where what
+/// is in a branch is placed behind the branch's beginning, a PAR comes before the PARs in it.
+pub fn outer_pars_come_first()
+    ensures { (d : Draft) (offsets : List (Option ℕ)) (a : Arrangement) (par branch number : ℕ)
+        (outer inner : ParRow Label ContextName) (b : BranchRow Label) → AreInOrder d offsets a
+        → slice_get d.pars.items par ≡ Some outer → slice_get d.pars.items number ≡ Some inner
+        → IsNonDecreasingBy (λ (r : BranchRow Label). label_offset offsets r.entry) outer.branches.items
+        → slice_get outer.branches.items branch ≡ Some b
+        → label_offset offsets b.entry < first_entry offsets inner
+        → position a.pars par < position a.pars number }
 {}

@@ -29,7 +29,8 @@ pub use fault::GenFault;
 pub use instructions::Instructions;
 pub use item::{Item, Label, Operand};
 pub use laws::{
-    contexts_have_numbers, items_are_in_their_places, one_least_layout, places_are_boundaries,
+    contexts_have_numbers, items_are_in_their_places, one_arrangement, one_least_layout,
+    outer_pars_come_first, places_are_boundaries,
 };
 pub use layouts::Layout;
 pub use least::layout;
