@@ -7,3 +7,4 @@ pub mod Places
 pub mod RowLaws
 pub mod NumberLaws
 pub mod OrderLaws
+pub mod Numbering

@@ -24,7 +24,7 @@ use Rattle.module_builder.specs.Assembled.{Arrangement, AreInOrder, first_entry,
 use Rattle.module_builder.proofs.RowLaws.{true_is_not_false, length-numbered}
 
 -- the branches of the row with a number
-abbrev counted : List (ParRow Label ContextName) → ℕ × ℕ → ℕ
+abbrev pub counted : List (ParRow Label ContextName) → ℕ × ℕ → ℕ
 counted rows pair = branch_count (option_to_list (slice_get rows pair.1))
 
 counted_one : (found : Option (ParRow Label ContextName)) (rest : List (ParRow Label ContextName))
@@ -35,7 +35,7 @@ counted_one (Some row) rest =
     ∙ ap (λ (n : ℕ). n + branch_count rest) (sym (zero-add (length row.branches.items)))
 
 -- the branches of rows in an order, pair by pair
-counted_in : (rows : List (ParRow Label ContextName)) (order : List (ℕ × ℕ))
+pub counted_in : (rows : List (ParRow Label ContextName)) (order : List (ℕ × ℕ))
     → branch_count (rows_in order rows) ≡ sum_by (counted rows) order
 counted_in rows [] = refl
 counted_in rows (pair ∷ order) =

@@ -6,12 +6,7 @@ use Rattle.std.proofs.lemmas.List.Elements.{filter_map-append}
 use Rattle.std.proofs.Common.{◌∙◌, true, false, nat_lt, inl, inr, zero-add, map}
 use Rattle.std.proofs.lemmas.List.{map-append}
 use Rattle.std.proofs.lemmas.Bool.{cases_lt, lt-ltb, le-ltb}
-use Rattle.std.proofs.lemmas.List.Sums.{sum_by-append}
 use Rattle.std.proofs.lemmas.Option.{get_or_from_slice_get, slice_get_within, slice_get_read, slice_get_past}
-use Rattle.module_format.specs.declared.rows.ParRow.{ParRow}
-use Rattle.module_builder.specs.declared.item.Label.{Label}
-use Rattle.module_builder.specs.declared.draft.ContextName.{ContextName}
-use Rattle.module_builder.specs.Limits.{branch_count}
 use Rattle.std.specs.List.{AllByRecursion}
 use Rattle.module_builder.specs.Ordering.{numbered, rows_in}
 
@@ -95,23 +90,6 @@ missing_row rows number past =
       | inl lt ↦ absurd (true_is_not_false (sym (lt-ltb number (length rows) lt) ∙ sym past))
       | inr le ↦ slice_get_past rows number le
     ]
-
--- ---- branches
-
--- the branches of one more row
-pub counted_more : (order : List (ℕ × ℕ)) (rows : List (ParRow Label ContextName)) (i count after : ℕ) (d : ℕ × ℕ)
-    (row : ParRow Label ContextName)
-    → i < length order
-    → slice_get rows (get_or order i d).1 ≡ Some row
-    → count ≡ branch_count (rows_in (take i order) rows)
-    → after ≡ count + length row.branches.items
-    → after ≡ branch_count (rows_in (take (i + 1) order) rows)
-counted_more order rows i count after d row within is was more =
-    let before = rows_in (take i order) rows in
-    let whole : branch_count (before ++ row ∷ []) ≡ branch_count before + branch_count (row ∷ []) =
-    sum_by-append (λ (r : ParRow Label ContextName). length r.branches.items) before (row ∷ []) in
-    let one : branch_count (row ∷ []) ≡ length row.branches.items = zero-add (length row.branches.items) in
-    rw (rows_in_more order rows i d row within is) (omega (arith, more, was, whole, one))
 
 -- ---- what a loop over an order has pushed
 

@@ -8,4 +8,5 @@ pub mod Placing
 pub mod Ordering
 pub mod Limits
 pub mod Assembled
+pub mod Numbered
 pub mod Whole

@@ -1,6 +1,6 @@
 //! From a draft to the bytes of its module.
 
-ghost use Rattle.std.specs.Prelude.{◌≡◌, ◌↔◌, ◌≤◌, IfOk, IsTrue, length};
+ghost use Rattle.std.specs.Prelude.{◌≡◌, ◌↔◌, IfOk, IsTrue};
 ghost use Rattle.std.specs.List.{AllByRecursion};
 ghost use Rattle.module_format.specs.Contents.{contents_of};
 ghost use Rattle.module_builder.specs.Layouts.{places, IsLeast};
@@ -8,6 +8,7 @@ ghost use Rattle.module_builder.specs.Spelling.{spelled};
 ghost use Rattle.module_builder.specs.Limits.{IsWithin};
 ghost use Rattle.module_builder.specs.Assembled.{arrangement_of, IsThere, ContextsAreThere, tables_with, IsWithinLimits};
 ghost use Rattle.module_builder.specs.Assembled.{Assembles};
+ghost use Rattle.module_builder.specs.Numbered.{IsNumbered};
 ghost use Rattle.module_builder.specs.Whole.{IsWhole};
 
 use crate::draft::{ContextName, Draft};
@@ -20,12 +21,12 @@ use crate::orders::Orders;
 use crate::placing::finish_offset;
 use crate::rows::{label_rows, par_rows, procedure_rows, table_rows};
 use crate::spelling::spell;
-use module_format::{MAX_PARS, Tables, write};
+use module_format::{Tables, write};
 use std::alloc::{AllocError, Global};
 
 /// Whether there is a context.
 fn is_there(draft: &Draft, orders: &Orders, context: ContextName) -> bool
-    requires few { length orders.now.pars.items ≤ MAX_PARS }
+    requires numbered { IsNumbered draft.now orders.now }
     requires within { IsWithin draft.now }
     ensures { IsTrue result ↔ IsThere draft.now orders.now.procedures.items orders.now.pars.items context }
 {
@@ -34,7 +35,7 @@ fn is_there(draft: &Draft, orders: &Orders, context: ContextName) -> bool
 
 /// Whether the contexts that label rows name are there.
 fn label_contexts_are_there(draft: &Draft, orders: &Orders) -> bool
-    requires few { length orders.now.pars.items ≤ MAX_PARS }
+    requires numbered { IsNumbered draft.now orders.now }
     requires within { IsWithin draft.now }
     ensures { IsTrue result
         ↔ AllByRecursion (λ row. IsThere draft.now orders.now.procedures.items orders.now.pars.items row.context) draft.now.labels.items }
@@ -49,7 +50,7 @@ fn label_contexts_are_there(draft: &Draft, orders: &Orders) -> bool
 
 /// Whether the contexts that PAR rows name are there.
 fn par_contexts_are_there(draft: &Draft, orders: &Orders) -> bool
-    requires few { length orders.now.pars.items ≤ MAX_PARS }
+    requires numbered { IsNumbered draft.now orders.now }
     requires within { IsWithin draft.now }
     ensures { IsTrue result
         ↔ AllByRecursion (λ row. IsThere draft.now orders.now.procedures.items orders.now.pars.items row.context) draft.now.pars.items }
@@ -64,7 +65,7 @@ fn par_contexts_are_there(draft: &Draft, orders: &Orders) -> bool
 
 /// Whether the contexts that rows name are there.
 fn contexts_are_there(draft: &Draft, layout: &Layout, orders: &Orders) -> bool
-    requires few { length orders.now.pars.items ≤ MAX_PARS }
+    requires numbered { IsNumbered draft.now orders.now }
     requires within { IsWithin draft.now }
     ensures { IsTrue result ↔ ContextsAreThere draft.now (arrangement_of layout.now orders.now) }
 {
@@ -79,7 +80,7 @@ fn tables<'c>(
     orders: &Orders,
     code: &'c [u8],
 ) -> Result<Tables<'c>, AllocError>
-    requires few { length orders.now.pars.items ≤ MAX_PARS }
+    requires numbered { IsNumbered draft.now orders.now }
     requires within { IsWithin draft.now }
     requires code { code.now ≡ spelled draft.now.code layout.now.lengths.items }
     ensures { IfOk result (λ t. contents_of t

@@ -2,6 +2,7 @@
 #![tactic(auto)]
 
 mod assembling;
+mod branches;
 mod draft;
 mod fault;
 mod grown;

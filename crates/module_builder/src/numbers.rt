@@ -1,34 +1,16 @@
 //! The numbers of contexts.
 
-ghost use Rattle.std.specs.Prelude.{◌≡◌, ◌↔◌, ◌≤◌, ◌*◌, IsTrue, length, Some};
-ghost use Rattle.std.specs.List.{AllByRecursion};
-ghost use Rattle.module_builder.specs.Limits.{ParIsWithin, branch_count, IsWithin};
-ghost use Rattle.module_builder.specs.Ordering.{rows_in};
+ghost use Rattle.std.specs.Prelude.{◌≡◌, ◌≤◌, ◌<◌, ◌*◌, length, Some};
+ghost use Rattle.module_builder.specs.Limits.{IsWithin};
+ghost use Rattle.module_builder.specs.Numbered.{IsNumbered};
 ghost use Rattle.module_builder.specs.Assembled.{nameable, branch_number, first_context, context_number};
 ghost use Rattle.module_builder.specs.declared.draft.ContextName.TheVariants.{Procedure, Branch};
 
 use crate::draft::{ContextName, Draft};
 use crate::item::Label;
 use crate::limits::MAX_CONTEXTS;
-use crate::ordering::position;
 use crate::orders::Orders;
-use module_format::{MAX_PARS, ParRow};
-
-/// How many branches the rows in an order have.
-fn branches_in(rows: &[ParRow<Label, ContextName>], order: &[(u32, usize)]) -> usize
-    requires few { length order.now ≤ MAX_PARS }
-    requires within { AllByRecursion ParIsWithin rows.now }
-    ensures value { result ≡ branch_count (rows_in order.now rows.now) }
-    ensures small { result ≤ MAX_CONTEXTS }
-{
-    let mut count = 0;
-    for pair in order {
-        if let Some(row) = rows.get(pair.1) {
-            count += row.branches.len();
-        }
-    }
-    count
-}
+use module_format::ParRow;
 
 /// A number that a file can name.
 fn nameable(number: usize) -> Option<u16>
@@ -42,14 +24,14 @@ fn nameable(number: usize) -> Option<u16>
 }
 
 /// The number of a PAR row's first branch.
-fn first_context(draft: &Draft, order: &[(u32, usize)], par: usize) -> usize
-    requires few { length order.now ≤ MAX_PARS }
+fn first_context(draft: &Draft, orders: &Orders, par: usize) -> usize
+    requires numbered { IsNumbered draft.now orders.now }
     requires within { IsWithin draft.now }
-    ensures value { result ≡ first_context draft.now order.now par }
+    requires there { par < length draft.now.pars.items }
+    ensures value { result ≡ first_context draft.now orders.now.pars.items par }
     ensures small { result ≤ 2 * MAX_CONTEXTS }
 {
-    let before = &order[..position(order, par)];
-    1 + draft.procedures.len() + branches_in(&draft.pars, before)
+    1 + draft.procedures.len() + orders.branches_before[orders.par_places[par]]
 }
 
 /// The number of a branch of a row that has its first branch at `first`.
@@ -66,10 +48,11 @@ fn branch_number(first: usize, branch: usize, row: &ParRow<Label, ContextName>) 
 
 /// The number of a procedure.
 fn procedure_number(draft: &Draft, orders: &Orders, row: usize) -> Option<u16>
+    requires { IsNumbered draft.now orders.now }
     ensures { result ≡ context_number draft.now orders.now.procedures.items orders.now.pars.items (Procedure row) }
 {
     if row < draft.procedures.len() {
-        nameable(1 + position(&orders.procedures, row))
+        nameable(1 + orders.procedure_places[row])
     } else {
         None
     }
@@ -77,20 +60,19 @@ fn procedure_number(draft: &Draft, orders: &Orders, row: usize) -> Option<u16>
 
 /// The number of a branch.
 fn number_of_branch(draft: &Draft, orders: &Orders, par: usize, branch: usize) -> Option<u16>
-    requires few { length orders.now.pars.items ≤ MAX_PARS }
+    requires numbered { IsNumbered draft.now orders.now }
     requires within { IsWithin draft.now }
     ensures { result ≡ context_number draft.now orders.now.procedures.items orders.now.pars.items (Branch par branch) }
 {
-    let first = first_context(draft, &orders.pars, par);
     match draft.pars.get(par) {
-        Some(row) => branch_number(first, branch, row),
+        Some(row) => branch_number(first_context(draft, orders, par), branch, row),
         None => None,
     }
 }
 
 /// The number of a context, if there is that context.
 pub(crate) fn context_number(draft: &Draft, orders: &Orders, context: ContextName) -> Option<u16>
-    requires few { length orders.now.pars.items ≤ MAX_PARS }
+    requires numbered { IsNumbered draft.now orders.now }
     requires within { IsWithin draft.now }
     ensures { result ≡ context_number draft.now orders.now.procedures.items orders.now.pars.items context }
 {

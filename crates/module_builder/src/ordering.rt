@@ -1,7 +1,8 @@
 //! The order of rows in a file.
 
-ghost use Rattle.std.specs.Prelude.{◌≡◌, ◌≤◌, IfOk, length};
-ghost use Rattle.module_builder.specs.Ordering.{IsOrder, position};
+ghost use Rattle.std.specs.Prelude.{◌≡◌, IfOk, length, slice_set};
+ghost use Rattle.module_builder.specs.Ordering.{IsOrder};
+ghost use Rattle.module_builder.specs.Numbered.{ArePlaces};
 
 use std::alloc::{AllocError, Global};
 
@@ -18,14 +19,28 @@ pub(crate) fn order_of(alloc: Global, keys: &[u32]) -> Result<Vec<(u32, usize)>,
     Ok(order)
 }
 
-/// How many rows are before the row with this number.
-pub(crate) fn position(order: &[(u32, usize)], number: usize) -> usize
-    ensures value { result ≡ position order.now number }
-    ensures within { result ≤ length order.now }
+/// Sets the place of a row, if there is that row.
+fn set_place(places: &mut [usize], row: usize, place: usize)
+    ensures { places.new ≡ slice_set places.old row place }
 {
-    let mut before = 0;
-    while before < order.len() && order[before].1 != number {
-        before += 1;
+    if row < places.len() {
+        places[row] = place;
     }
-    before
+}
+
+/// By row: how many rows are before it in an order.
+pub(crate) fn places_in(
+    alloc: Global,
+    order: &[(u32, usize)],
+    count: usize,
+) -> Result<Vec<usize>, AllocError>
+    ensures { IfOk result (λ v. ArePlaces order.now count v.items) }
+{
+    let mut places = vec![in alloc; order.len(); count]?;
+    let mut place = order.len();
+    while place > 0 {
+        place -= 1;
+        set_place(&mut places, order[place].1, place);
+    }
+    Ok(places)
 }

@@ -4,10 +4,11 @@ ghost use Rattle.std.specs.Prelude.{◌≡◌, IfOk, map, length};
 ghost use Rattle.module_builder.specs.Placing.{label_offset};
 ghost use Rattle.module_builder.specs.Assembled.{first_entry};
 
+use crate::branches::branches_before;
 use crate::draft::{ContextName, Draft};
 use crate::item::Label;
 use crate::layouts::Layout;
-use crate::ordering::order_of;
+use crate::ordering::{order_of, places_in};
 use crate::placing::label_offset;
 use module_format::{LabelRow, ParRow, ProcedureRow, TableRow};
 use std::alloc::{AllocError, Global};
@@ -19,6 +20,12 @@ pub(crate) struct Orders {
     pub(crate) labels: Vec<(u32, usize)>,
     pub(crate) pars: Vec<(u32, usize)>,
     pub(crate) table_rows: Vec<(u32, usize)>,
+    /// By procedure row: how many rows are before it in the order.
+    pub(crate) procedure_places: Vec<usize>,
+    /// By PAR row: the same.
+    pub(crate) par_places: Vec<usize>,
+    /// By place in the order of PAR rows: how many branches the rows before it have.
+    pub(crate) branches_before: Vec<usize>,
 }
 
 /// Where procedures begin.
@@ -88,22 +95,30 @@ fn par_keys(
 }
 
 impl Orders {
-    ghost use Rattle.std.specs.Prelude.{◌≡◌, IfOk, length};
+    ghost use Rattle.std.specs.Prelude.{IfOk};
+    ghost use Rattle.module_builder.specs.Limits.{IsWithin};
     ghost use Rattle.module_builder.specs.Assembled.{AreInOrder, arrangement_of};
+    ghost use Rattle.module_builder.specs.Numbered.{IsNumbered};
 
     /// The orders of a draft's rows, where its labels are placed so.
     pub(crate) fn of(alloc: Global, draft: &Draft, layout: &Layout) -> Result<Orders, AllocError>
+        requires { IsWithin draft.now }
         ensures order { IfOk result (λ o. AreInOrder draft.now layout.now.places.items (arrangement_of layout.now o)) }
-        ensures len { IfOk result (λ o. length o.pars.items ≡ length draft.now.pars.items) }
+        ensures numbered { IfOk result (λ o. IsNumbered draft.now o) }
     {
         let procedures = procedure_keys(alloc, layout, &draft.procedures)?;
         let labels = label_keys(alloc, layout, &draft.labels)?;
         let pars = par_keys(alloc, layout, &draft.pars)?;
         let table_rows = table_keys(alloc, &draft.table_rows)?;
+        let procedure_order = order_of(alloc, &procedures)?;
+        let par_order = order_of(alloc, &pars)?;
         Ok(Orders {
-            procedures: order_of(alloc, &procedures)?,
+            procedure_places: places_in(alloc, &procedure_order, draft.procedures.len())?,
+            par_places: places_in(alloc, &par_order, draft.pars.len())?,
+            branches_before: branches_before(alloc, &draft.pars, &par_order)?,
+            procedures: procedure_order,
             labels: order_of(alloc, &labels)?,
-            pars: order_of(alloc, &pars)?,
+            pars: par_order,
             table_rows: order_of(alloc, &table_rows)?,
         })
     }

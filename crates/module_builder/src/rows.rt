@@ -1,11 +1,12 @@
 //! The rows of a file, in their order.
 
-ghost use Rattle.std.specs.Prelude.{◌≡◌, ◌≤◌, IfOk, map, length};
+ghost use Rattle.std.specs.Prelude.{◌≡◌, IfOk, map};
 ghost use Rattle.module_format.specs.Contents.{procedure_of, label_of, par_of};
 ghost use Rattle.module_builder.specs.Limits.{IsWithin};
 ghost use Rattle.module_builder.specs.Placing.{placed_procedure, placed_label, placed_par};
 ghost use Rattle.module_builder.specs.Ordering.{rows_in};
 ghost use Rattle.module_builder.specs.Assembled.{number_in, arrangement_of};
+ghost use Rattle.module_builder.specs.Numbered.{IsNumbered};
 
 use crate::draft::Draft;
 use crate::item::Label;
@@ -13,7 +14,7 @@ use crate::layouts::Layout;
 use crate::numbers::context_number;
 use crate::orders::Orders;
 use crate::placing::{placed_label, placed_par, placed_procedure};
-use module_format::{LabelRow, MAX_PARS, ParRow, ProcedureRow, TableRow};
+use module_format::{LabelRow, ParRow, ProcedureRow, TableRow};
 use std::alloc::{AllocError, Global};
 
 pub(crate) fn table_rows(
@@ -56,7 +57,7 @@ pub(crate) fn label_rows(
     layout: &Layout,
     orders: &Orders,
 ) -> Result<Vec<LabelRow>, AllocError>
-    requires few { length orders.now.pars.items ≤ MAX_PARS }
+    requires numbered { IsNumbered draft.now orders.now }
     requires within { IsWithin draft.now }
     ensures { IfOk result (λ v. map label_of v.items
         ≡ map (λ row. placed_label layout.now.places.items (number_in draft.now (arrangement_of layout.now orders.now) row.context) row)
@@ -78,7 +79,7 @@ pub(crate) fn par_rows(
     layout: &Layout,
     orders: &Orders,
 ) -> Result<Vec<ParRow>, AllocError>
-    requires few { length orders.now.pars.items ≤ MAX_PARS }
+    requires numbered { IsNumbered draft.now orders.now }
     requires within { IsWithin draft.now }
     ensures { IfOk result (λ v. map par_of v.items
         ≡ map (λ row. placed_par layout.now.places.items (number_in draft.now (arrangement_of layout.now orders.now) row.context) row)
