@@ -1,13 +1,12 @@
 -- A loop that joins one entry after another, from the innermost one on, joins two ends.
-use Rattle.std.proofs.Common.{◌≡◌, ℕ, zero, suc, ◌+◌, ◌-◌, ◌<◌, ◌≤◌, true, false, cond, List, [], ◌∷◌, length, map}
-use Rattle.std.proofs.Common.{set, get_or, min, refl, sym, ap, arith, ◌∙◌, nat_eq}
+use Rattle.std.proofs.Common.{◌≡◌, ℕ, zero, suc, ◌+◌, ◌-◌, ◌<◌, ◌≤◌, cond, List, [], ◌∷◌, length, map}
+use Rattle.std.proofs.Common.{set, get_or, min, refl, sym, ap, arith, ◌∙◌}
 use Rattle.std.proofs.lemmas.List.{get_or-reverse, get_or-map, length-map}
-use Rattle.std.proofs.lemmas.Bool.Decides.{nat_tests}
 use Rattle.scalar_ranges.specs.declared.scope.Entry as code_entry
 use Rattle.scalar_ranges.specs.Entries.{Meaning, Entry}
 use Rattle.scalar_ranges.specs.Scopes.{meaning_of, entry_of, entries_from}
-use Rattle.scalar_ranges.specs.Moves.{at_number, hull_meaning, hulls}
-use Rattle.scalar_ranges.proofs.Rows.{with_meaning, as_many, entries_changed}
+use Rattle.scalar_ranges.specs.Moves.{at_number, with_meaning, hull_meaning, hulls}
+use Rattle.scalar_ranges.proofs.Rows.{as_many, same_number, lower_number, entries_changed}
 
 -- the first entries joined
 abbrev pub joined : ℕ → List Entry → List Entry → List Entry
@@ -33,28 +32,24 @@ joined_all (suc n) (d ∷ ds) (e ∷ es) h =
     ap (λ ks. record { name = d.name; meaning = hull_meaning d.meaning e.meaning } ∷ ks)
     (joined_all n ds es (omega arith))
 
-pub same_number : (a b : ℕ) → a ≡ b → nat_eq a b ≡ true
-same_number a b h = grind (arith, nat_tests)
-
-pub other_number : (a b : ℕ) → b < a → nat_eq a b ≡ false
-other_number a b h = grind (arith, nat_tests)
-
 -- the next one
 pub join_one : (place number : ℕ) (ds es : List Entry) (d : Entry) → number + suc place ≡ length ds
     → place < length es
-    → at_number (λ m. hull_meaning m (get_or es place d).meaning) number (joined place ds es)
+    → at_number (with_meaning (λ m. hull_meaning m (get_or es place d).meaning)) number (joined place ds es)
     ≡ joined (suc place) ds es
 join_one place number [] es d at less = absurd (omega arith)
 join_one place number (x ∷ ds) [] d at less = absurd (omega arith)
 join_one zero number (x ∷ ds) (e ∷ es) d at less =
     ap (λ t. cond t (with_meaning (λ m. hull_meaning m e.meaning) x ∷ ds)
-    (x ∷ at_number (λ m. hull_meaning m e.meaning) number ds)) (same_number (length ds) number (omega arith))
+    (x ∷ at_number (with_meaning (λ m. hull_meaning m e.meaning)) number ds))
+    (same_number (length ds) number (omega arith))
 join_one (suc place) number (x ∷ ds) (e ∷ es) d at less =
     let f : Meaning → Meaning = λ m. hull_meaning m (get_or es place d).meaning in
     let y : Entry = record { name = x.name; meaning = hull_meaning x.meaning e.meaning } in
     let long = joined_long place ds es in
-    ap (λ t. cond t (with_meaning f y ∷ joined place ds es) (y ∷ at_number f number (joined place ds es)))
-    (other_number (length (joined place ds es)) number (omega arith))
+    ap (λ t. cond t (with_meaning f y ∷ joined place ds es)
+    (y ∷ at_number (with_meaning f) number (joined place ds es)))
+    (lower_number (length (joined place ds es)) number (omega arith))
     ∙ ap (λ ks. y ∷ ks) (join_one place number ds es d (omega arith) (omega arith))
 
 -- the entry at a place, in the program's order
@@ -84,9 +79,9 @@ join_step ends end before place x d e k so_far same less within named means =
     let inside : number < length before = omega arith in
     let at : number + suc place ≡ length (entries_from ends) = omega arith in
     let there : place < length (entries_from end) = omega arith in
-    entries_changed f before number x d e inside named
+    entries_changed (with_meaning f) before number x d e inside named
     (means ∙ ap (hull_meaning (meaning_of (get_or before number e).meaning))
     (sym (ap (λ (e : Entry). e.meaning) (entry_at_place end place k within))))
-    ∙ ap (at_number f number) so_far
+    ∙ ap (at_number (with_meaning f) number) so_far
     ∙ join_one place number (entries_from ends) (entries_from end) (entry_of k) at there
     ∙ ap (λ n. joined n (entries_from ends) (entries_from end)) (let e : suc place ≡ place + 1 = omega arith in e)

@@ -2,12 +2,15 @@
 use Rattle.std.proofs.Common.{◌≡◌, ℕ, suc, ℤ, Bool, true, false, cond, List, [], ◌∷◌, length, Option, Some, None}
 use Rattle.std.proofs.Common.{refl, sym, ap, subst, arith, ◌∙◌, nat_eq, nat_lt, bytes_eq}
 use Rattle.std.proofs.lemmas.Int.{ints, clamps}
+use Rattle.occam_parser.specs.declared.tree.ValueType.{ValueType}
 use Rattle.word_arithmetic.specs.Range.{Ends, InRange, hull, full}
 use Rattle.scalar_ranges.specs.declared.scope.ScalarKind.TheVariants as kinds
 use Rattle.scalar_ranges.specs.Entries.{Meaning, Constant, Scalar, Array, Channel, Channels, Procedure, Entry}
+use Rattle.scalar_ranges.specs.Entries.{type_range}
 use Rattle.scalar_ranges.specs.Environments.{Held, Nothing, One, Many, Binding, Environment, IsHeld, Meets}
 use Rattle.scalar_ranges.specs.Narrowing.{Tested, test_of, with_range, changed, by_test, left_of, as_holds}
-use Rattle.scalar_ranges.specs.Moves.{outermost, at_number, assigned, assign, widened, is_one_of, widened_if, widen}
+use Rattle.scalar_ranges.specs.Moves.{outermost, at_number, with_meaning, ranged, assigned, assign}
+use Rattle.scalar_ranges.specs.Moves.{widened, is_one_of, widened_if, widen}
 use Rattle.scalar_ranges.specs.Moves.{hull_meaning, hulls, of_both, taken, ends_with}
 use Rattle.scalar_ranges.specs.MoveLaws.{DeclaringHolds, LeavingHolds, put, meaning_at, ChangingHolds, HoldingHolds}
 use Rattle.scalar_ranges.specs.MoveLaws.{IsHeldAfter}
@@ -41,9 +44,9 @@ leaving_holds (e ∷ es) (b ∷ bs) count m =
 
 change_by : (t : Bool) (b : Binding) (bs : Environment) (e : Entry) (es : List Entry) (n : ℕ) (f : Meaning → Meaning)
     (m : Meaning) (h : Held) → Meets (b ∷ bs) (e ∷ es) → cond t (Some e.meaning) (meaning_at n es) ≡ Some m
-    → IsHeld (f m) h → (meaning_at n es ≡ Some m → Meets (put n h bs) (at_number f n es))
+    → IsHeld (f m) h → (meaning_at n es ≡ Some m → Meets (put n h bs) (at_number (with_meaning f) n es))
     → Meets (cond t (record { name = b.name; held = h } ∷ bs) (b ∷ put n h bs))
-    (cond t (record { name = e.name; meaning = f e.meaning } ∷ es) (e ∷ at_number f n es))
+    (cond t (record { name = e.name; meaning = f e.meaning } ∷ es) (e ∷ at_number (with_meaning f) n es))
 change_by true b bs e es n f m h meets is held others =
     let same : e.meaning ≡ m = cc in
     (meets.0, subst (λ k. IsHeld (f k) h) (sym same) held, meets.2)
@@ -54,16 +57,16 @@ changing_holds [] env n f m h meets is held = absurd (cc)
 changing_holds (e ∷ es) [] n f m h meets is held = absurd meets
 changing_holds (e ∷ es) (b ∷ bs) n f m h meets is held =
     subst (λ k. Meets (cond (nat_eq k n) (record { name = b.name; held = h } ∷ bs) (b ∷ put n h bs))
-    (at_number f n (e ∷ es))) (sym (as_long bs es meets.2))
+    (at_number (with_meaning f) n (e ∷ es))) (sym (as_long bs es meets.2))
     (change_by (nat_eq (length es) n) b bs e es n f m h meets is held
     (λ further. changing_holds es bs n f m h meets.2 further held))
 
-same_by : (t : Bool) (n : ℕ) (e : Entry) (es : List Entry) → at_number (λ m. m) n es ≡ es
-    → cond t (e ∷ es) (e ∷ at_number (λ m. m) n es) ≡ e ∷ es
+same_by : (t : Bool) (n : ℕ) (e : Entry) (es : List Entry) → at_number (with_meaning (λ m. m)) n es ≡ es
+    → cond t (e ∷ es) (e ∷ at_number (with_meaning (λ m. m)) n es) ≡ e ∷ es
 same_by true n e es h = refl
 same_by false n e es h = ap (λ ks. e ∷ ks) h
 
-all_same : (n : ℕ) (es : List Entry) → at_number (λ m. m) n es ≡ es
+all_same : (n : ℕ) (es : List Entry) → at_number (with_meaning (λ m. m)) n es ≡ es
 all_same n [] = refl
 all_same n (e ∷ es) = same_by (nat_eq (length es) n) n e es (all_same n es)
 
@@ -242,43 +245,32 @@ tested_shape : (es : List Entry) (holds : Bool) (o : Option Tested) → shape (b
 tested_shape es holds None = refl
 tested_shape es holds (Some t) = changed_shape (left_of (as_holds holds t.comparison) t.constant) t.name es
 
-assigned_flat : (range : Ends) (m : Meaning) → flat (assigned range m) ≡ flat m
-assigned_flat range (Scalar kinds.Variable type r) = refl
-assigned_flat range (Scalar kinds.Value type r) = refl
-assigned_flat range (Scalar kinds.Reference type r) = refl
-assigned_flat range (Scalar kinds.Index type r) = refl
-assigned_flat range (Constant type value) = refl
-assigned_flat range (Array kind type size r) = refl
-assigned_flat range (Channel type) = refl
-assigned_flat range (Channels type size) = refl
-assigned_flat range (Procedure number) = refl
-
-widened_flat : (m : Meaning) → flat (widened m) ≡ flat m
-widened_flat (Scalar kinds.Variable type r) = refl
-widened_flat (Scalar kinds.Value type r) = refl
-widened_flat (Scalar kinds.Reference type r) = refl
-widened_flat (Scalar kinds.Index type r) = refl
-widened_flat (Constant type value) = refl
-widened_flat (Array kind type size r) = refl
-widened_flat (Channel type) = refl
-widened_flat (Channels type size) = refl
-widened_flat (Procedure number) = refl
+ranged_flat : (range : ValueType → Ends) (m : Meaning) → flat (ranged range m) ≡ flat m
+ranged_flat range (Scalar kinds.Variable type r) = refl
+ranged_flat range (Scalar kinds.Value type r) = refl
+ranged_flat range (Scalar kinds.Reference type r) = refl
+ranged_flat range (Scalar kinds.Index type r) = refl
+ranged_flat range (Constant type value) = refl
+ranged_flat range (Array kind type size r) = refl
+ranged_flat range (Channel type) = refl
+ranged_flat range (Channels type size) = refl
+ranged_flat range (Procedure number) = refl
 
 at_number_by : (t : Bool) (f : Meaning → Meaning) (n : ℕ) (e : Entry) (es : List Entry)
-    → flat (f e.meaning) ≡ flat e.meaning → shape (at_number f n es) ≡ shape es
-    → shape (cond t (record { name = e.name; meaning = f e.meaning } ∷ es) (e ∷ at_number f n es)) ≡ shape (e ∷ es)
+    → flat (f e.meaning) ≡ flat e.meaning → shape (at_number (with_meaning f) n es) ≡ shape es
+    → shape (cond t (with_meaning f e ∷ es) (e ∷ at_number (with_meaning f) n es)) ≡ shape (e ∷ es)
 at_number_by true f n e es same h = ap (λ k. k ∷ shape es) (same_entry e (f e.meaning) same)
 at_number_by false f n e es same h = ap (λ ks. flat_entry e ∷ ks) h
 
 assign_shape : (es : List Entry) (n : ℕ) (range : Ends) → shape (assign n range es) ≡ shape es
 assign_shape [] n range = refl
 assign_shape (e ∷ es) n range =
-    at_number_by (nat_eq (length es) n) (assigned range) n e es (assigned_flat range e.meaning)
+    at_number_by (nat_eq (length es) n) (assigned range) n e es (ranged_flat (λ type. range) e.meaning)
     (assign_shape es n range)
 
 widened_entry : (t : Bool) (e : Entry) → flat_entry (widened_if t e) ≡ flat_entry e
 widened_entry false e = refl
-widened_entry true e = same_entry e (widened e.meaning) (widened_flat e.meaning)
+widened_entry true e = same_entry e (widened e.meaning) (ranged_flat type_range e.meaning)
 
 widen_shape : (es : List Entry) (ns : List ℕ) → shape (widen ns es) ≡ shape es
 widen_shape [] ns = refl

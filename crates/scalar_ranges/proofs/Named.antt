@@ -3,43 +3,46 @@ use Rattle.std.proofs.Common.{◌≡◌, ℕ, suc, ◌<◌, Bool, true, false, c
 use Rattle.std.proofs.Common.{ap}
 use Rattle.std.proofs.Common.{arith, ◌∙◌, nat_eq, bytes_eq}
 use Rattle.word_arithmetic.specs.Range.{Ends}
-use Rattle.std.proofs.lemmas.Bool.Decides.{nat_tests}
+use Rattle.scalar_ranges.specs.declared.scope.Entry as code_entry
 use Rattle.scalar_ranges.specs.Entries.{Entry, number_in}
+use Rattle.scalar_ranges.specs.Scopes.{entries_from}
 use Rattle.scalar_ranges.specs.Narrowing.{with_range, changed}
-use Rattle.scalar_ranges.specs.Moves.{at_number}
-use Rattle.scalar_ranges.proofs.Rows.{with_meaning}
+use Rattle.scalar_ranges.specs.Moves.{at_number, with_meaning}
+use Rattle.scalar_ranges.proofs.Rows.{as_many, same_number, lower_number}
 
 below_by : (t : Bool) (name : List ℕ) (es : List Entry) (n : ℕ) → cond t (Some (length es)) (number_in name es) ≡ Some n
     → (number_in name es ≡ Some n → n < length es) → n < suc (length es)
 below_by true name es n is further = let same : length es ≡ n = cc in omega arith
 below_by false name es n is further = let less = further is in omega arith
 
-pub number_below : (name : List ℕ) (es : List Entry) (n : ℕ) → number_in name es ≡ Some n → n < length es
+number_below : (name : List ℕ) (es : List Entry) (n : ℕ) → number_in name es ≡ Some n → n < length es
 number_below name [] n is = absurd (cc)
 number_below name (e ∷ es) n is = below_by (bytes_eq e.name name) name es n is (number_below name es n)
 
-same_number : (a b : ℕ) → a ≡ b → nat_eq a b ≡ true
-same_number a b h = grind (arith, nat_tests)
-
-other_number : (a b : ℕ) → b < a → nat_eq a b ≡ false
-other_number a b h = grind (arith, nat_tests)
+pub number_within : (name : List ℕ) (items : List code_entry.Entry) (n : ℕ)
+    → number_in name (entries_from items) ≡ Some n → n < length items
+number_within name items n is =
+    let less = number_below name (entries_from items) n is in
+    let many = as_many items in
+    omega arith
 
 changed_by : (t : Bool) (f : Ends → Ends) (name : List ℕ) (n : ℕ) (e : Entry) (es : List Entry)
     → cond t (Some (length es)) (number_in name es) ≡ Some n
-    → (number_in name es ≡ Some n → changed f name es ≡ at_number (with_range f) n es)
+    → (number_in name es ≡ Some n → changed f name es ≡ at_number (with_meaning (with_range f)) n es)
     → cond t (with_meaning (with_range f) e ∷ es) (e ∷ changed f name es)
-    ≡ cond (nat_eq (length es) n) (with_meaning (with_range f) e ∷ es) (e ∷ at_number (with_range f) n es)
+    ≡ cond (nat_eq (length es) n) (with_meaning (with_range f) e ∷ es)
+    (e ∷ at_number (with_meaning (with_range f)) n es)
 changed_by true f name n e es is further =
     let same : length es ≡ n = cc in
-    ap (λ t. cond t (with_meaning (with_range f) e ∷ es) (e ∷ at_number (with_range f) n es))
+    ap (λ t. cond t (with_meaning (with_range f) e ∷ es) (e ∷ at_number (with_meaning (with_range f)) n es))
     (sym (same_number (length es) n same))
 changed_by false f name n e es is further =
     ap (λ ks. e ∷ ks) (further is)
-    ∙ ap (λ t. cond t (with_meaning (with_range f) e ∷ es) (e ∷ at_number (with_range f) n es))
-    (sym (other_number (length es) n (number_below name es n is)))
+    ∙ ap (λ t. cond t (with_meaning (with_range f) e ∷ es) (e ∷ at_number (with_meaning (with_range f)) n es))
+    (sym (lower_number (length es) n (number_below name es n is)))
 
 pub changed_at : (f : Ends → Ends) (name : List ℕ) (n : ℕ) (es : List Entry) → number_in name es ≡ Some n
-    → changed f name es ≡ at_number (with_range f) n es
+    → changed f name es ≡ at_number (with_meaning (with_range f)) n es
 changed_at f name n [] is = absurd (cc)
 changed_at f name n (e ∷ es) is =
     changed_by (bytes_eq e.name name) f name n e es is (changed_at f name n es)

@@ -5,7 +5,7 @@ use Rattle.std.proofs.Common.{get_or, refl, sym, ap, arith, ◌∙◌, nat_eq, n
 use Rattle.std.proofs.lemmas.Bool.Decides.{nat_tests}
 use Rattle.std.proofs.lemmas.List.{reverse-append}
 use Rattle.scalar_ranges.specs.declared.scope.Entry as code_entry
-use Rattle.scalar_ranges.specs.Entries.{Meaning, Entry}
+use Rattle.scalar_ranges.specs.Entries.{Entry}
 use Rattle.scalar_ranges.specs.Scopes.{meaning_of, entry_of, entries_from}
 use Rattle.scalar_ranges.specs.Moves.{outermost, at_number}
 
@@ -70,38 +70,50 @@ entries_cut (x ∷ xs) (suc count) = entries_cons x (take count xs)
     ∙ ap (λ ys. ys ++ entry_of x ∷ []) (entries_cut xs count)
     ∙ sym (cut_last count (entries_from xs) (entry_of x)) ∙ ap (outermost (suc count)) (sym (entries_cons x xs))
 
+-- what the end of a branch has of the entries with which it began
+pub entries_begun : (start items kept : List code_entry.Entry) (count : ℕ) → count ≡ length start
+    → kept ≡ take count items → entries_from kept ≡ outermost (length (entries_from start)) (entries_from items)
+entries_begun start items kept count size is =
+    ap entries_from is ∙ entries_cut items count
+    ∙ ap (λ n. outermost n (entries_from items)) (size ∙ sym (as_many start))
+
 -- ---- one of them
 
-abbrev pub with_meaning : (Meaning → Meaning) → Entry → Entry
-with_meaning f e = record { name = e.name; meaning = f e.meaning }
+pub same_number : (a b : ℕ) → a ≡ b → nat_eq a b ≡ true
+same_number a b h = grind (arith, nat_tests)
 
-at_last : (f : Meaning → Meaning) (ys : List Entry) (y : Entry)
-    → at_number f 0 (ys ++ y ∷ []) ≡ ys ++ with_meaning f y ∷ []
+pub lower_number : (a b : ℕ) → b < a → nat_eq a b ≡ false
+lower_number a b h = grind (arith, nat_tests)
+
+higher_number : (a b : ℕ) → a < b → nat_eq a b ≡ false
+higher_number a b h = grind (arith, nat_tests)
+
+at_last : {A : Type 0} (f : A → A) (ys : List A) (y : A) → at_number f 0 (ys ++ y ∷ []) ≡ ys ++ f y ∷ []
 at_last f [] y = refl
 at_last f (x ∷ xs) y =
-    ap (λ t. cond t (with_meaning f x ∷ xs ++ y ∷ []) (x ∷ at_number f 0 (xs ++ y ∷ [])))
+    ap (λ t. cond t (f x ∷ xs ++ y ∷ []) (x ∷ at_number f 0 (xs ++ y ∷ [])))
     (ap (λ n. nat_eq n 0) (one_longer xs y) ∙ eq_none (length xs))
     ∙ ap (λ zs. x ∷ zs) (at_last f xs y)
 
-at_by : (t : Bool) (f : Meaning → Meaning) (n : ℕ) (x : Entry) (xs : List Entry) (y : Entry)
+at_by : {A : Type 0} (t : Bool) (f : A → A) (n : ℕ) (x : A) (xs : List A) (y : A)
     → at_number f (suc n) (xs ++ y ∷ []) ≡ at_number f n xs ++ y ∷ []
-    → cond t (with_meaning f x ∷ xs ++ y ∷ []) (x ∷ at_number f (suc n) (xs ++ y ∷ []))
-    ≡ cond t (with_meaning f x ∷ xs) (x ∷ at_number f n xs) ++ y ∷ []
+    → cond t (f x ∷ xs ++ y ∷ []) (x ∷ at_number f (suc n) (xs ++ y ∷ []))
+    ≡ cond t (f x ∷ xs) (x ∷ at_number f n xs) ++ y ∷ []
 at_by true f n x xs y h = refl
 at_by false f n x xs y h = ap (λ zs. x ∷ zs) h
 
-at_further : (f : Meaning → Meaning) (n : ℕ) (ys : List Entry) (y : Entry)
+at_further : {A : Type 0} (f : A → A) (n : ℕ) (ys : List A) (y : A)
     → at_number f (suc n) (ys ++ y ∷ []) ≡ at_number f n ys ++ y ∷ []
-at_further f n [] y = ap (λ t. cond t (with_meaning f y ∷ []) (y ∷ [])) (eq_some n)
+at_further f n [] y = ap (λ t. cond t (f y ∷ []) (y ∷ [])) (eq_some n)
 at_further f n (x ∷ xs) y =
-    ap (λ t. cond t (with_meaning f x ∷ xs ++ y ∷ []) (x ∷ at_number f (suc n) (xs ++ y ∷ [])))
+    ap (λ t. cond t (f x ∷ xs ++ y ∷ []) (x ∷ at_number f (suc n) (xs ++ y ∷ [])))
     (ap (λ k. nat_eq k (suc n)) (one_longer xs y) ∙ eq_suc (length xs) n)
     ∙ at_by (nat_eq (length xs) n) f n x xs y (at_further f n xs y)
 
--- an entry of the program with its meaning changed
-pub entries_changed : (f : Meaning → Meaning) (items : List code_entry.Entry) (n : ℕ) (x d e : code_entry.Entry)
-    → n < length items → x.name.now ≡ (get_or items n d).name.now
-    → meaning_of x.meaning ≡ f (meaning_of (get_or items n e).meaning)
+-- an entry of the program that is changed
+pub entries_changed : (f : Entry → Entry) (items : List code_entry.Entry) (n : ℕ) (x d e : code_entry.Entry)
+    → n < length items → x.name.now ≡ (f (entry_of (get_or items n d))).name
+    → meaning_of x.meaning ≡ (f (entry_of (get_or items n e))).meaning
     → entries_from (set items n x) ≡ at_number f n (entries_from items)
 entries_changed f [] n x d e less named means = absurd (omega arith)
 entries_changed f (y ∷ ys) zero x d e less named means =
@@ -113,20 +125,17 @@ entries_changed f (y ∷ ys) (suc n) x d e less named means =
     ∙ ap (λ es. es ++ entry_of y ∷ []) (entries_changed f ys n x d e (omega arith) named means)
     ∙ sym (at_further f n (entries_from ys) (entry_of y)) ∙ ap (at_number f (suc n)) (sym (entries_cons y ys))
 
-not_at : (t : Bool) (f : Meaning → Meaning) (n : ℕ) (e : Entry) (es : List Entry) → t ≡ false
-    → at_number f n es ≡ es → cond t (with_meaning f e ∷ es) (e ∷ at_number f n es) ≡ e ∷ es
-not_at true f n e es is h = absurd (cc)
-not_at false f n e es is h = ap (λ ks. e ∷ ks) h
+not_at : {A : Type 0} (t : Bool) (f : A → A) (n : ℕ) (x : A) (xs : List A) → t ≡ false → at_number f n xs ≡ xs
+    → cond t (f x ∷ xs) (x ∷ at_number f n xs) ≡ x ∷ xs
+not_at true f n x xs is h = absurd (cc)
+not_at false f n x xs is h = ap (λ ks. x ∷ ks) h
 
-below : (a n : ℕ) → a < n → nat_eq a n ≡ false
-below a n less = grind (arith, nat_tests)
-
--- there is no entry with a number as large as their count
-pub none_at : (f : Meaning → Meaning) (n : ℕ) (es : List Entry) → length es ≤ n → at_number f n es ≡ es
+-- there is no item with a number as large as their count
+pub none_at : {A : Type 0} (f : A → A) (n : ℕ) (xs : List A) → length xs ≤ n → at_number f n xs ≡ xs
 none_at f n [] least = refl
-none_at f n (e ∷ es) least =
-    not_at (nat_eq (length es) n) f n e es (below (length es) n (omega arith)) (none_at f n es (omega arith))
+none_at f n (x ∷ xs) least =
+    not_at (nat_eq (length xs) n) f n x xs (higher_number (length xs) n (omega arith)) (none_at f n xs (omega arith))
 
-pub no_entry : (f : Meaning → Meaning) (n : ℕ) (items : List code_entry.Entry) → length items ≤ n
+pub no_entry : (f : Entry → Entry) (n : ℕ) (items : List code_entry.Entry) → length items ≤ n
     → entries_from items ≡ at_number f n (entries_from items)
 no_entry f n items least = sym (none_at f n (entries_from items) (let e = as_many items in omega arith))

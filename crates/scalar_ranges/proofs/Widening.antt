@@ -5,8 +5,8 @@ use Rattle.std.proofs.lemmas.List.{take_more}
 use Rattle.std.proofs.lemmas.Bool.Decides.{nat_tests}
 use Rattle.scalar_ranges.specs.declared.scope.ScalarKind.TheVariants as kinds
 use Rattle.scalar_ranges.specs.Entries.{Meaning, Constant, Scalar, Array, Channel, Channels, Procedure, Entry}
-use Rattle.scalar_ranges.specs.Moves.{at_number, widened, is_one_of, widened_if, widen}
-use Rattle.scalar_ranges.proofs.Rows.{with_meaning, none_at}
+use Rattle.scalar_ranges.specs.Moves.{at_number, with_meaning, widened, is_one_of, widened_if, widen}
+use Rattle.scalar_ranges.proofs.Rows.{none_at}
 
 widen_long : (ns : List ℕ) (es : List Entry) → length (widen ns es) ≡ length es
 widen_long ns [] = refl
@@ -23,7 +23,7 @@ twice (Channel type) = refl
 twice (Channels type size) = refl
 twice (Procedure number) = refl
 
-last_by : (t : Bool) → cond t true false ≡ t
+pub last_by : (t : Bool) → cond t true false ≡ t
 last_by true = refl
 last_by false = refl
 
@@ -44,9 +44,10 @@ widen_here : (t : Bool) (e : Entry) → with_meaning widened (widened_if t e) �
 widen_here true e = ap (λ m. record { name = e.name; meaning = m }) (twice e.meaning)
 widen_here false e = refl
 
-widen_by : (s t : Bool) (n : ℕ) (e : Entry) (es ws us : List Entry) → (t ≡ true → at_number widened n ws ≡ ws)
-    → at_number widened n ws ≡ us
-    → cond t (with_meaning widened (widened_if s e) ∷ ws) (widened_if s e ∷ at_number widened n ws)
+widen_by : (s t : Bool) (n : ℕ) (e : Entry) (es ws us : List Entry)
+    → (t ≡ true → at_number (with_meaning widened) n ws ≡ ws)
+    → at_number (with_meaning widened) n ws ≡ us
+    → cond t (with_meaning widened (widened_if s e) ∷ ws) (widened_if s e ∷ at_number (with_meaning widened) n ws)
     ≡ widened_if (cond s true t) e ∷ us
 widen_by true true n e es ws us none h = λ i. widen_here true e i ∷ (sym (none refl) ∙ h) i
 widen_by false true n e es ws us none h = λ i. widen_here false e i ∷ (sym (none refl) ∙ h) i
@@ -54,16 +55,16 @@ widen_by true false n e es ws us none h = ap (λ ks. widened_if true e ∷ ks) h
 widen_by false false n e es ws us none h = ap (λ ks. widened_if false e ∷ ks) h
 
 pub widen_one : (ns : List ℕ) (n : ℕ) (es : List Entry)
-    → at_number widened n (widen ns es) ≡ widen (ns ++ n ∷ []) es
+    → at_number (with_meaning widened) n (widen ns es) ≡ widen (ns ++ n ∷ []) es
 widen_one ns n [] = refl
 widen_one ns n (e ∷ es) =
     let k = length es in
     let s = is_one_of ns k in
     let long = widen_long ns es in
-    let none : nat_eq n k ≡ true → at_number widened n (widen ns es) ≡ widen ns es =
-    λ h. none_at widened n (widen ns es) (grind (arith, nat_tests)) in
+    let none : nat_eq n k ≡ true → at_number (with_meaning widened) n (widen ns es) ≡ widen ns es =
+    λ h. none_at (with_meaning widened) n (widen ns es) (grind (arith, nat_tests)) in
     ap (λ t. cond t (with_meaning widened (widened_if s e) ∷ widen ns es)
-    (widened_if s e ∷ at_number widened n (widen ns es))) (ap (λ a. nat_eq a n) long ∙ same_test k n)
+    (widened_if s e ∷ at_number (with_meaning widened) n (widen ns es))) (ap (λ a. nat_eq a n) long ∙ same_test k n)
     ∙ widen_by s (nat_eq n k) n e es (widen ns es) (widen (ns ++ n ∷ []) es) none (widen_one ns n es)
     ∙ ap (λ t. widened_if t e ∷ widen (ns ++ n ∷ []) es) (sym (one_more ns n k))
 
@@ -72,8 +73,9 @@ widen_none [] = refl
 widen_none (e ∷ es) = ap (λ ks. e ∷ ks) (widen_none es)
 
 pub widen_step : (numbers : List ℕ) (i : ℕ) (es before after : List Entry) → i < length numbers
-    → before ≡ widen (take i numbers) es → after ≡ at_number widened (get_or numbers i 0) before
+    → before ≡ widen (take i numbers) es → after ≡ at_number (with_meaning widened) (get_or numbers i 0) before
     → after ≡ widen (take (i + 1) numbers) es
 widen_step numbers i es before after less b a =
-    a ∙ ap (at_number widened (get_or numbers i 0)) b ∙ widen_one (take i numbers) (get_or numbers i 0) es
+    a ∙ ap (at_number (with_meaning widened) (get_or numbers i 0)) b
+    ∙ widen_one (take i numbers) (get_or numbers i 0) es
     ∙ ap (λ ns. widen ns es) (sym (take_more numbers i 0 less))

@@ -6,8 +6,8 @@ use Rattle.occam_parser.specs.Expressions.{Expression}
 use Rattle.scalar_ranges.specs.Entries.{Meaning, Entry}
 use Rattle.scalar_ranges.specs.Environments.{Held, Environment, IsHeld, Meets}
 use Rattle.scalar_ranges.specs.Narrowing.{with_range, narrow}
-use Rattle.scalar_ranges.specs.Moves.{outermost, at_number, assign, widened, is_one_of, widen, hulls, taken}
-use Rattle.scalar_ranges.specs.Moves.{ends_with}
+use Rattle.scalar_ranges.specs.Moves.{outermost, at_number, with_meaning, assign, widened, is_one_of, widen}
+use Rattle.scalar_ranges.specs.Moves.{hulls, taken, ends_with}
 
 -- ---- names
 
@@ -24,8 +24,7 @@ LeavingHolds = (es : List Entry) (env : Environment) (count : ℕ) → Meets env
 
 -- the binding with this number, counted from the outermost one, holds something else
 abbrev pub put : ℕ → Held → Environment → Environment
-put n h [] = []
-put n h (b ∷ bs) = if nat_eq (length bs) n then record { name = b.name; held = h } ∷ bs else b ∷ put n h bs
+put n h env = at_number (λ b. record { name = b.name; held = h }) n env
 
 abbrev pub meaning_at : ℕ → List Entry → Option Meaning
 meaning_at n [] = None
@@ -34,7 +33,7 @@ meaning_at n (e ∷ es) = if nat_eq (length es) n then Some e.meaning else meani
 -- What is changed holds what its meaning says then: a number is assigned to a variable, or received.
 abbrev pub ChangingHolds : Type 0
 ChangingHolds = (es : List Entry) (env : Environment) (n : ℕ) (f : Meaning → Meaning) (m : Meaning) (h : Held)
-    → Meets env es → meaning_at n es ≡ Some m → IsHeld (f m) h → Meets (put n h env) (at_number f n es)
+    → Meets env es → meaning_at n es ≡ Some m → IsHeld (f m) h → Meets (put n h env) (at_number (with_meaning f) n es)
 
 -- The same of what a scope knows nothing more of, as an element of an array.
 abbrev pub HoldingHolds : Type 0

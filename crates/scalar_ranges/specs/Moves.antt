@@ -30,24 +30,29 @@ outermost count (x ∷ xs) = if nat_lt (length xs) count then x ∷ xs else oute
 
 -- ---- variables
 
--- the entry with this number, counted from the outermost one, with its meaning changed
-abbrev pub at_number : (Meaning → Meaning) → ℕ → List Entry → List Entry
+-- the item with this number, counted from the outermost one, is changed
+abbrev pub at_number : {A : Type 0} → (A → A) → ℕ → List A → List A
 at_number f n [] = []
-at_number f n (e ∷ es) =
-    if nat_eq (length es) n then record { name = e.name; meaning = f e.meaning } ∷ es else e ∷ at_number f n es
+at_number f n (x ∷ xs) = if nat_eq (length xs) n then f x ∷ xs else x ∷ at_number f n xs
 
--- A variable has the range of what is assigned to it. That of a parameter is always the range of its type.
+abbrev pub with_meaning : (Meaning → Meaning) → Entry → Entry
+with_meaning f e = record { name = e.name; meaning = f e.meaning }
+
+-- The range of a variable changes, to one that its type may tell. That of a parameter is always the range of its type.
+abbrev pub ranged : (ValueType → Ends) → Meaning → Meaning
+ranged range (Scalar kinds.Variable type old) = Scalar kinds.Variable type (range type)
+ranged range m = m
+
+-- a variable has the range of what is assigned to it
 abbrev pub assigned : Ends → Meaning → Meaning
-assigned range (Scalar kinds.Variable type old) = Scalar kinds.Variable type range
-assigned range m = m
+assigned range m = ranged (λ type. range) m
 
 abbrev pub assign : ℕ → Ends → List Entry → List Entry
-assign n range es = at_number (assigned range) n es
+assign n range es = at_number (with_meaning (assigned range)) n es
 
 -- a variable of which no more is known than its type
 abbrev pub widened : Meaning → Meaning
-widened (Scalar kinds.Variable type old) = Scalar kinds.Variable type (type_range type)
-widened m = m
+widened m = ranged type_range m
 
 abbrev pub is_one_of : List ℕ → ℕ → Bool
 is_one_of [] n = false
@@ -55,7 +60,7 @@ is_one_of (m ∷ ms) n = if nat_eq m n then true else is_one_of ms n
 
 abbrev pub widened_if : Bool → Entry → Entry
 widened_if false e = e
-widened_if true e = record { name = e.name; meaning = widened e.meaning }
+widened_if true e = with_meaning widened e
 
 -- The variables with these numbers were changed: by an input, an instance, or the body of a loop.
 abbrev pub widen : List ℕ → List Entry → List Entry

@@ -2,7 +2,7 @@
 
 ghost use Rattle.std.specs.Prelude.{◌≡◌};
 ghost use Rattle.word_arithmetic.specs.Range.{ends_of};
-ghost use Rattle.scalar_ranges.specs.Moves.{at_number, assigned, assign, widened, widen};
+ghost use Rattle.scalar_ranges.specs.Moves.{at_number, with_meaning, assigned, assign, widened, widen};
 ghost use Rattle.scalar_ranges.specs.Scopes.{meaning_of, entries_of, blocks_of};
 
 use crate::bounds::type_range;
@@ -22,7 +22,7 @@ impl Scope<'_> {
 
     /// The variable with this number was changed to any number of its type.
     pub fn receive(&mut self, number: usize)
-        ensures entries { entries_of self.new ≡ at_number widened number (entries_of self.old) }
+        ensures entries { entries_of self.new ≡ at_number (with_meaning widened) number (entries_of self.old) }
         ensures blocks { blocks_of self.new ≡ blocks_of self.old }
     {
         if number < self.entries.len() {
@@ -64,15 +64,7 @@ fn widened(meaning: Meaning) -> Meaning
     ensures { meaning_of result ≡ widened (meaning_of meaning) }
 {
     match meaning {
-        Meaning::Scalar {
-            kind: ScalarKind::Variable,
-            value_type,
-            ..
-        } => Meaning::Scalar {
-            kind: ScalarKind::Variable,
-            value_type,
-            range: type_range(value_type),
-        },
+        Meaning::Scalar { value_type, .. } => assigned(type_range(value_type), meaning),
         other => other,
     }
 }

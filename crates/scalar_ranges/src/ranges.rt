@@ -33,7 +33,7 @@ pub fn range_of(scope: &Scope, expr: &Expr) -> Result<Range, u8>
 }
 
 #[cycle(bound_of)]
-#[tactic(auto, unfolding(crate::proofs::Chains::bounds_after))]
+#[tactic(auto, unfolding(crate::proofs::Chains::chain_after))]
 pub(crate) fn bound_of(scope: &Scope, expr: &Expr) -> Result<Bound, u8>
     ensures { all_known result ≡ bound_of (entries_of scope.now) (expression_of expr.now) }
 {

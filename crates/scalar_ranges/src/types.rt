@@ -31,7 +31,7 @@ pub enum ExprType {
 /// The type of an expression. The error is [`UNKNOWN_NAME`] if a name in it is unknown, else [`WRONG_TYPE`] if an
 /// operand has a wrong type.
 #[cycle(type_of)]
-#[tactic(auto, unfolding(crate::proofs::Chains::types_after))]
+#[tactic(auto, unfolding(crate::proofs::Chains::chain_after))]
 pub fn type_of(scope: &Scope, expr: &Expr) -> Result<ExprType, u8>
     ensures { result ≡ type_of (entries_of scope.now) (expression_of expr.now) }
 {

@@ -1,6 +1,6 @@
 use Rattle.std.proofs.Common.{arith, refl, ap, ◌∙◌, get_or}
 use Rattle.scalar_ranges.specs.Scopes.{entries_from}
-use Rattle.scalar_ranges.proofs.Taking.{taken_none, take_step, skip_beyond, skip_unmatched}
+use Rattle.scalar_ranges.proofs.Taking.{taken_none, take_step, skip_step}
 use Rattle.scalar_ranges.proofs.branches.take_over.Goals as goal
 use Rattle.scalar_ranges.proofs.branches.take_over.Goals.{then-number-ends+then-place-end}
 use Rattle.scalar_ranges.proofs.branches.take_over.Goals.{then-number-ends+else-place-end, else-number-ends}
@@ -28,8 +28,8 @@ loop-number-preserved c =
             ∙ take_step ends end before numbers i n w.index-end-end.result c.loop-number-test.true refl same so_far
             w.if-number-ends.true w.if-place-end.true w.index-end-end.is
         | then-number-ends+else-place-end w ↦ ap entries_from w.ends-is
-            ∙ skip_unmatched ends end before numbers i n c.loop-number-test.true refl same so_far w.if-place-end.false
+            ∙ skip_step ends end before numbers i n c.loop-number-test.true refl same so_far (λ within. omega arith)
         | else-number-ends w ↦ ap entries_from w.ends-is
-            ∙ skip_beyond ends end before numbers i n c.loop-number-test.true refl same so_far w.if-number-ends.false
+            ∙ skip_step ends end before numbers i n c.loop-number-test.true refl same so_far (λ within. omega arith)
       ];
     }

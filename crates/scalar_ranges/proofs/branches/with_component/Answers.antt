@@ -1,21 +1,18 @@
-use Rattle.std.proofs.Common.{◌≡◌, length, List, arith, ap, sym, ◌∙◌, Option, Some, Vec, Global, rules}
+use Rattle.std.proofs.Common.{List, arith, ap, sym, ◌∙◌, Option, Some, Vec, Global, rules}
 use Rattle.std.proofs.lemmas.List.{with_items_is, places}
 use Rattle.std.specs.Prelude.{option_map}
 use Rattle.scalar_ranges.specs.declared.scope.Entry.{Entry}
 use Rattle.scalar_ranges.specs.Entries.{Entry as Known}
-use Rattle.scalar_ranges.specs.Moves.{outermost, end_of, taken}
+use Rattle.scalar_ranges.specs.Moves.{end_of, taken}
 use Rattle.scalar_ranges.specs.Scopes.{entries_from, block_of}
-use Rattle.scalar_ranges.proofs.Rows.{as_many, entries_cut}
+use Rattle.scalar_ranges.proofs.Rows.{entries_begun}
 use Rattle.scalar_ranges.proofs.branches.with_component.Goals as goal
 use Rattle.scalar_ranges.proofs.branches.with_component.Goals.{in-None, in-Some}
 
 pub returns-clause-ends : goal.returns-clause-ends
 returns-clause-ends c =
-    let many = as_many c.args.block.start.items in
-    let size : c.len.result ≡ length (entries_from c.args.block.start.items) = omega arith in
-    let cut : entries_from c.truncate.new.self.items ≡ end_of (block_of c.args.block) (entries_from c.args.end.items) =
-    ap entries_from c.truncate.ensures.items ∙ entries_cut c.args.end.items c.len.result
-    ∙ ap (λ n. outermost n (entries_from c.args.end.items)) size in
+    let cut = entries_begun c.args.block.start.items c.args.end.items c.truncate.new.self.items c.len.result
+    (omega arith) c.truncate.ensures.items in
     let seen : Option (Vec Entry Global) → Option (List Known) = option_map (λ ends. entries_from ends.items) in
     let after : Option (Vec Entry Global) → Option (List Known) = λ o. option_map
     (λ ds. taken c.args.numbers.now ds (end_of (block_of c.args.block) (entries_from c.args.end.items))) (seen o) in

@@ -1,34 +1,29 @@
-use Rattle.std.proofs.Common.{◌<◌, length, arith, sym, ap, ◌∙◌}
+use Rattle.std.proofs.Common.{arith, sym, ap, ◌∙◌}
 use Rattle.std.specs.Int.{w32}
 use Rattle.std.proofs.lemmas.Int.{to_z-of_z}
 use Rattle.scalar_ranges.specs.Narrowing.{left_of, with_range}
+use Rattle.scalar_ranges.specs.Moves.{with_meaning}
 use Rattle.scalar_ranges.specs.Scopes.{meaning_of, entries_of}
-use Rattle.scalar_ranges.proofs.Named.{number_below, changed_at, unchanged}
-use Rattle.scalar_ranges.proofs.Rows.{as_many, entries_changed}
+use Rattle.scalar_ranges.proofs.Named.{number_within, changed_at, unchanged}
+use Rattle.scalar_ranges.proofs.Rows.{entries_changed}
 use Rattle.scalar_ranges.proofs.scope.Scope.narrow_name.Goals as goal
 
 pub index-requires : goal.index-requires
 index-requires c =
-    let less = number_below c.args.name.now (entries_of c.args.self.now) c.in-Some.number
-    (sym c.in-Some.ensures.number) in
-    let many = as_many c.args.self.now.entries.items in
-    omega arith
+    let within = number_within c.args.name.now c.args.self.now.entries.items c.in-Some.number
+    (sym c.in-Some.ensures.number) in omega arith
 
 pub index_mut-requires : goal.index_mut-requires
 index_mut-requires c =
-    let less = number_below c.args.name.now (entries_of c.args.self.now) c.in-Some.number
-    (sym c.in-Some.ensures.number) in
-    let many = as_many c.args.self.now.entries.items in
-    omega arith
+    let within = number_within c.args.name.now c.args.self.now.entries.items c.in-Some.number
+    (sym c.in-Some.ensures.number) in omega arith
 
 pub returns-in-Some-clause-entries : goal.returns-in-Some-clause-entries
 returns-in-Some-clause-entries c =
     let f = left_of c.args.comparison c.args.constant in
-    let less = number_below c.args.name.now (entries_of c.args.self.now) c.in-Some.number
+    let within = number_within c.args.name.now c.args.self.now.entries.items c.in-Some.number
     (sym c.in-Some.ensures.number) in
-    let many = as_many c.args.self.now.entries.items in
-    let within : c.in-Some.number < length c.args.self.now.entries.items = omega arith in
-    entries_changed (with_range f) c.args.self.now.entries.items c.in-Some.number
+    entries_changed (with_meaning (with_range f)) c.args.self.now.entries.items c.in-Some.number
     (record { name = c.index_mut.result.now.name; meaning = c.narrowed.result }) c.index_mut.result.now
     c.index.result.now
     within (ap (λ k. k.name.now) c.index_mut.ensures.value)

@@ -1,5 +1,5 @@
 use Rattle.std.proofs.Common.{◌<◌, ◌≤◌, length, arith, ap, ◌∙◌}
-use Rattle.scalar_ranges.specs.Moves.{widened}
+use Rattle.scalar_ranges.specs.Moves.{with_meaning, widened}
 use Rattle.scalar_ranges.specs.Scopes.{meaning_of}
 use Rattle.scalar_ranges.proofs.Rows.{entries_changed, no_entry}
 use Rattle.scalar_ranges.proofs.scope.Scope.receive.Goals as goal
@@ -7,7 +7,7 @@ use Rattle.scalar_ranges.proofs.scope.Scope.receive.Goals as goal
 pub returns-then-number-len-clause-entries : goal.returns-then-number-len-clause-entries
 returns-then-number-len-clause-entries c =
     let within : c.args.number < length c.args.self.now.entries.items = omega arith in
-    entries_changed widened c.args.self.now.entries.items c.args.number
+    entries_changed (with_meaning widened) c.args.self.now.entries.items c.args.number
     (record { name = c.index_mut.result.now.name; meaning = c.widened.result }) c.index_mut.result.now
     c.index.result.now
     within (ap (λ k. k.name.now) c.index_mut.ensures.value)
@@ -16,4 +16,4 @@ returns-then-number-len-clause-entries c =
 pub returns-else-number-len-clause-entries : goal.returns-else-number-len-clause-entries
 returns-else-number-len-clause-entries c =
     let beyond : length c.args.self.now.entries.items ≤ c.args.number = omega arith in
-    no_entry widened c.args.number c.args.self.now.entries.items beyond
+    no_entry (with_meaning widened) c.args.number c.args.self.now.entries.items beyond
