@@ -1,12 +1,11 @@
 -- A loop that joins one entry after another, from the innermost one on, joins two ends.
-use Rattle.std.proofs.Common.{◌≡◌, ℕ, zero, suc, ◌+◌, ◌-◌, ◌<◌, ◌≤◌, cond, List, [], ◌∷◌, length, map}
+use Rattle.std.proofs.Common.{◌≡◌, ℕ, zero, suc, ◌+◌, ◌-◌, ◌<◌, ◌≤◌, cond, List, [], ◌∷◌, length}
 use Rattle.std.proofs.Common.{set, get_or, min, refl, sym, ap, arith, ◌∙◌}
-use Rattle.std.proofs.lemmas.List.{get_or-reverse, get_or-map, length-map}
 use Rattle.scalar_ranges.specs.declared.scope.Entry as code_entry
 use Rattle.scalar_ranges.specs.Entries.{Meaning, Entry}
 use Rattle.scalar_ranges.specs.Scopes.{meaning_of, entry_of, entries_from}
 use Rattle.scalar_ranges.specs.Moves.{at_number, with_meaning, hull_meaning, hulls}
-use Rattle.scalar_ranges.proofs.Rows.{as_many, same_number, lower_number, entries_changed}
+use Rattle.scalar_ranges.proofs.Rows.{as_many, entry_at_place, same_number, lower_number, entries_changed}
 
 -- the first entries joined
 abbrev pub joined : ℕ → List Entry → List Entry → List Entry
@@ -51,17 +50,6 @@ join_one (suc place) number (x ∷ ds) (e ∷ es) d at less =
     (y ∷ at_number (with_meaning f) number (joined place ds es)))
     (lower_number (length (joined place ds es)) number (omega arith))
     ∙ ap (λ ks. y ∷ ks) (join_one place number ds es d (omega arith) (omega arith))
-
--- the entry at a place, in the program's order
-pub entry_at_place : (items : List code_entry.Entry) (place : ℕ) (d : code_entry.Entry) → place < length items
-    → get_or (entries_from items) place (entry_of d) ≡ entry_of (get_or items (length items - 1 - place) d)
-entry_at_place items place d less =
-    let long = length-map items entry_of in
-    let within : place < length (map entry_of items) = omega arith in
-    let inside : length items - 1 - place < length items = omega arith in
-    get_or-reverse (map entry_of items) place (entry_of d) within
-    ∙ ap (λ n. get_or (map entry_of items) (n - 1 - place) (entry_of d)) long
-    ∙ get_or-map entry_of items (length items - 1 - place) d (entry_of d) inside
 
 pub join_step : (ends end before : List code_entry.Entry) (place : ℕ) (x d e k : code_entry.Entry)
     → entries_from before ≡ joined place (entries_from ends) (entries_from end) → length before ≡ length ends

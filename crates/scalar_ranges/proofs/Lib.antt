@@ -8,6 +8,9 @@ pub mod ConstantLaws
 pub mod NarrowingLaws
 pub mod MoveLaws
 pub mod Rows
+pub mod Found
+pub mod Nesting
+pub mod Fitting
 pub mod Widening
 pub mod Named
 pub mod Joining

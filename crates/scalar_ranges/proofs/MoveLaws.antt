@@ -9,7 +9,7 @@ use Rattle.scalar_ranges.specs.Entries.{Meaning, Constant, Scalar, Array, Channe
 use Rattle.scalar_ranges.specs.Entries.{type_range}
 use Rattle.scalar_ranges.specs.Environments.{Held, Nothing, One, Many, Binding, Environment, IsHeld, Meets}
 use Rattle.scalar_ranges.specs.Narrowing.{Tested, test_of, with_range, changed, by_test, left_of, as_holds}
-use Rattle.scalar_ranges.specs.Moves.{outermost, at_number, with_meaning, ranged, assigned, assign}
+use Rattle.scalar_ranges.specs.Moves.{outermost, at_number, with_meaning, ranged}
 use Rattle.scalar_ranges.specs.Moves.{widened, is_one_of, widened_if, widen}
 use Rattle.scalar_ranges.specs.Moves.{hull_meaning, hulls, of_both, taken, ends_with}
 use Rattle.scalar_ranges.specs.MoveLaws.{DeclaringHolds, LeavingHolds, put, meaning_at, ChangingHolds, HoldingHolds}
@@ -237,7 +237,7 @@ changed_by_shape true f name e es h =
     ap (λ k. k ∷ shape es) (same_entry e (with_range f e.meaning) (with_range_flat f e.meaning))
 changed_by_shape false f name e es h = ap (λ ks. flat_entry e ∷ ks) h
 
-changed_shape : (f : Ends → Ends) (name : List ℕ) (es : List Entry) → shape (changed f name es) ≡ shape es
+pub changed_shape : (f : Ends → Ends) (name : List ℕ) (es : List Entry) → shape (changed f name es) ≡ shape es
 changed_shape f name [] = refl
 changed_shape f name (e ∷ es) = changed_by_shape (bytes_eq e.name name) f name e es (changed_shape f name es)
 
@@ -262,11 +262,11 @@ at_number_by : (t : Bool) (f : Meaning → Meaning) (n : ℕ) (e : Entry) (es : 
 at_number_by true f n e es same h = ap (λ k. k ∷ shape es) (same_entry e (f e.meaning) same)
 at_number_by false f n e es same h = ap (λ ks. flat_entry e ∷ ks) h
 
-assign_shape : (es : List Entry) (n : ℕ) (range : Ends) → shape (assign n range es) ≡ shape es
-assign_shape [] n range = refl
-assign_shape (e ∷ es) n range =
-    at_number_by (nat_eq (length es) n) (assigned range) n e es (ranged_flat (λ type. range) e.meaning)
-    (assign_shape es n range)
+pub ranged_shape : (range : ValueType → Ends) (n : ℕ) (es : List Entry)
+    → shape (at_number (with_meaning (ranged range)) n es) ≡ shape es
+ranged_shape range n [] = refl
+ranged_shape range n (e ∷ es) =
+    at_number_by (nat_eq (length es) n) (ranged range) n e es (ranged_flat range e.meaning) (ranged_shape range n es)
 
 widened_entry : (t : Bool) (e : Entry) → flat_entry (widened_if t e) ≡ flat_entry e
 widened_entry false e = refl
@@ -309,7 +309,7 @@ taken_shape (d ∷ ds) (e ∷ es) ns same =
     let tail = tails f g (shape ds) (shape es) same in
     λ i. taken_entry (is_one_of ns (length ds)) d e head i ∷ taken_shape ds es ns tail i
 
-shape_long : (es : List Entry) → length (shape es) ≡ length es
+pub shape_long : (es : List Entry) → length (shape es) ≡ length es
 shape_long [] = refl
 shape_long (e ∷ es) = ap suc (shape_long es)
 
@@ -331,7 +331,7 @@ leaving_shape ds es count same = cut_shape ds count ∙ ap (outermost count) sam
 pub shapes_stay : ShapesStay
 shapes_stay = record {
   narrowing = λ es e holds. tested_shape es holds (test_of es e);
-  assigning = assign_shape;
+  assigning = λ es n range. ranged_shape (λ type. range) n es;
   widening = widen_shape;
   joining = hulls_shape;
   taking = taken_shape;

@@ -1,9 +1,9 @@
 -- The program has the outermost entry first, and the definitions have it last.
-use Rattle.std.proofs.Common.{◌≡◌, ℕ, zero, suc, ◌<◌, ◌≤◌, Bool, true, false, cond, List, [], ◌∷◌, ◌++◌, length, map}
-use Rattle.std.proofs.Common.{take, set}
+use Rattle.std.proofs.Common.{◌≡◌, ℕ, zero, suc, ◌-◌, ◌<◌, ◌≤◌, Bool, true, false, cond, List, [], ◌∷◌, ◌++◌, length}
+use Rattle.std.proofs.Common.{map, take, set}
 use Rattle.std.proofs.Common.{get_or, refl, sym, ap, arith, ◌∙◌, nat_eq, nat_lt}
 use Rattle.std.proofs.lemmas.Bool.Decides.{nat_tests}
-use Rattle.std.proofs.lemmas.List.{reverse-append}
+use Rattle.std.proofs.lemmas.List.{reverse-append, get_or-reverse, get_or-map, length-map}
 use Rattle.scalar_ranges.specs.declared.scope.Entry as code_entry
 use Rattle.scalar_ranges.specs.Entries.{Entry}
 use Rattle.scalar_ranges.specs.Scopes.{meaning_of, entry_of, entries_from}
@@ -69,6 +69,17 @@ entries_cut (x ∷ xs) zero = sym (cut_none (entries_from (x ∷ xs)))
 entries_cut (x ∷ xs) (suc count) = entries_cons x (take count xs)
     ∙ ap (λ ys. ys ++ entry_of x ∷ []) (entries_cut xs count)
     ∙ sym (cut_last count (entries_from xs) (entry_of x)) ∙ ap (outermost (suc count)) (sym (entries_cons x xs))
+
+-- the entry at a place, in the program's order
+pub entry_at_place : (items : List code_entry.Entry) (place : ℕ) (d : code_entry.Entry) → place < length items
+    → get_or (entries_from items) place (entry_of d) ≡ entry_of (get_or items (length items - 1 - place) d)
+entry_at_place items place d less =
+    let long = length-map items entry_of in
+    let within : place < length (map entry_of items) = omega arith in
+    let inside : length items - 1 - place < length items = omega arith in
+    get_or-reverse (map entry_of items) place (entry_of d) within
+    ∙ ap (λ n. get_or (map entry_of items) (n - 1 - place) (entry_of d)) long
+    ∙ get_or-map entry_of items (length items - 1 - place) d (entry_of d) inside
 
 -- what the end of a branch has of the entries with which it began
 pub entries_begun : (start items kept : List code_entry.Entry) (count : ℕ) → count ≡ length start

@@ -9,9 +9,8 @@ use Rattle.scalar_ranges.specs.declared.scope.Entry as code_entry
 use Rattle.scalar_ranges.specs.Entries.{Entry}
 use Rattle.scalar_ranges.specs.Scopes.{entry_of, entries_from}
 use Rattle.scalar_ranges.specs.Moves.{at_number, is_one_of, of_both, taken}
-use Rattle.scalar_ranges.proofs.Rows.{as_many, same_number, lower_number, entries_changed}
+use Rattle.scalar_ranges.proofs.Rows.{as_many, entry_at_place, same_number, lower_number, entries_changed}
 use Rattle.scalar_ranges.proofs.Widening.{last_by, one_more}
-use Rattle.scalar_ranges.proofs.Joining.{entry_at_place}
 
 -- ---- one number more
 

@@ -7,7 +7,11 @@ pub mod Bounds
 pub mod BoundViews
 pub mod Narrowing
 pub mod Moves
+pub mod EntryViews
 pub mod Scopes
+pub mod Naming
+pub mod Nesting
+pub mod Taken
 pub mod Tests
 pub mod Laws
 pub mod MoveLaws

@@ -1,6 +1,6 @@
 -- What becomes known where a program goes on: each move from what was known before it.
 use Rattle.std.specs.Prelude.{ℕ, Bool, true, false, List, [], ◌∷◌, length, nat_eq, nat_lt, if◌then◌else◌, Option, Some}
-use Rattle.std.specs.Prelude.{None, unwrap_or, option_map, ℤ, pos}
+use Rattle.std.specs.Prelude.{None, unwrap_or, option_map, ℤ, pos, max}
 use Rattle.word_arithmetic.specs.Range.{Ends, constant, hull}
 use Rattle.occam_parser.specs.declared.tree.ValueType.{ValueType}
 use Rattle.occam_parser.specs.declared.tree.ValueType.TheVariants as value_type
@@ -106,6 +106,15 @@ abbrev pub ends_with : Option (List Entry) → List Entry → List Entry
 ends_with None es = es
 ends_with (Some ds) es = hulls ds es
 
+-- with how many entries the branches of the innermost block begin
+abbrev pub begun_with : List Block → ℕ
+begun_with [] = 0
+begun_with (b ∷ bs) = length b.start
+
+-- Scopes are left until there are so many entries, but none that is around the innermost block.
+abbrev pub leave : ℕ → List Block → List Entry → List Entry
+leave count bs es = outermost (max count (begun_with bs)) es
+
 -- what an end has of the entries that the block was begun with
 abbrev pub end_of : Block → List Entry → List Entry
 end_of b es = outermost (length b.start) es
@@ -124,10 +133,6 @@ next_from es (b ∷ bs) = record {
 -- A branch has ended here. The next one begins as the first one did.
 abbrev pub next : Known → Known
 next k = next_from k.entries k.blocks
-
-abbrev pub exchanged : List Entry → List Block → Known
-exchanged es [] = record { entries = es; blocks = [] }
-exchanged es (b ∷ bs) = record { entries = b.start; blocks = record { start = es; ends = b.ends } ∷ bs }
 
 abbrev pub exclude_from : Expression → List Entry → List Block → Known
 exclude_from condition es [] = record { entries = es; blocks = [] }

@@ -1,38 +1,15 @@
--- The entries that a scope of the program has.
-use Rattle.std.specs.Prelude.{List, map, reverse, option_map}
-use Rattle.word_arithmetic.specs.Range.{ends_of}
-use Rattle.scalar_ranges.specs.declared.scope.Meaning as code_meaning
-use Rattle.scalar_ranges.specs.declared.scope.Meaning.TheVariants as meanings
-use Rattle.scalar_ranges.specs.declared.scope.Entry as code_entry
-use Rattle.scalar_ranges.specs.declared.scope.Block as code_block
+-- What a scope of the program knows.
+pub use Rattle.scalar_ranges.specs.EntryViews.{meaning_of, entry_of, entries_from, block_of, blocks_from}
+use Rattle.std.specs.Prelude.{List}
 use Rattle.scalar_ranges.specs.declared.scope.Scope as code_scope
-use Rattle.scalar_ranges.specs.Entries.{Meaning, Constant, Scalar, Array, Channel, Channels, Procedure, Entry}
+use Rattle.scalar_ranges.specs.Entries.{Entry}
 use Rattle.scalar_ranges.specs.Moves.{Block, Known}
-
-abbrev pub meaning_of : code_meaning.Meaning → Meaning
-meaning_of (meanings.Constant type value) = Constant type value
-meaning_of (meanings.Scalar kind type range) = Scalar kind type (ends_of range)
-meaning_of (meanings.Array kind type size range) = Array kind type size (ends_of range)
-meaning_of (meanings.Channel type) = Channel type
-meaning_of (meanings.Channels type size) = Channels type size
-meaning_of (meanings.Proc number) = Procedure number
-
-abbrev pub entry_of : code_entry.Entry → Entry
-entry_of e = record { name = e.name.now; meaning = meaning_of e.meaning }
-
--- the innermost one first, where the program has it last
-abbrev pub entries_from : List code_entry.Entry → List Entry
-entries_from entries = reverse (map entry_of entries)
 
 abbrev pub entries_of : code_scope.Scope → List Entry
 entries_of scope = entries_from scope.entries.items
 
-abbrev pub block_of : code_block.Block → Block
-block_of b = record { start = entries_from b.start.items; ends = option_map (λ ends. entries_from ends.items) b.ends }
-
--- the innermost one first here too
 abbrev pub blocks_of : code_scope.Scope → List Block
-blocks_of scope = reverse (map block_of scope.blocks.items)
+blocks_of scope = blocks_from scope.blocks.items
 
 abbrev pub known_of : code_scope.Scope → Known
 known_of scope = record { entries = entries_of scope; blocks = blocks_of scope }

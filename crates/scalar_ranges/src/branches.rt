@@ -1,12 +1,13 @@
 //! What is known at the beginning, in the branches, and after a block of branches.
 
-ghost use Rattle.std.specs.Prelude.{◌≡◌, Some, OnOk, OnErr, option_map};
+ghost use Rattle.std.specs.Prelude.{◌≡◌, ◌<◌, Some, IfOk, IfSome, OnOk, OnErr, option_map, vec_len, vec_capacity};
 ghost use Rattle.word_arithmetic.specs.Range.{ends_of};
 ghost use Rattle.occam_parser.specs.Views.{expression_of};
 ghost use Rattle.scalar_ranges.specs.Moves.{hull_meaning, hulls, taken, ends_with, end_of, component_end, begin};
 ghost use Rattle.scalar_ranges.specs.Moves.{begin_par};
 ghost use Rattle.scalar_ranges.specs.Moves.{begin_loop, widen, next, next_choice, next_component, end};
-ghost use Rattle.scalar_ranges.specs.Moves.{excluding, exchanged};
+ghost use Rattle.scalar_ranges.specs.Moves.{excluding};
+ghost use Rattle.scalar_ranges.specs.Taken.{IsTaken, BeginsHere};
 ghost use Rattle.scalar_ranges.specs.Scopes.{meaning_of, entries_from, block_of, entries_of, blocks_of, known_of};
 
 use crate::narrowing::narrow_by;
@@ -16,9 +17,9 @@ use std::alloc::AllocError;
 use std::mem;
 
 impl<'a> Scope<'a> {
-    /// An `IF` or an `ALT` begins, with its first branch. The end of each branch is told by [`next`](Scope::next), or for
-    /// an `IF` by [`next_choice`](Scope::next_choice), and after the last one the block's by [`end`](Scope::end). If
-    /// memory runs out, all is as it was.
+    /// An `IF` or an `ALT` begins, with its first branch. The end of each branch is told by [`next`](Scope::next), or
+    /// for an `IF` by [`next_choice`](Scope::next_choice), and after the last one the block's by [`end`](Scope::end).
+    /// If memory runs out, all is as it was.
     pub fn begin(&mut self) -> Result<(), AllocError>
         ensures ok { OnOk result (known_of self.new ≡ begin (known_of self.old)) }
         ensures err { OnErr result (known_of self.new ≡ known_of self.old) }
@@ -60,13 +61,26 @@ impl<'a> Scope<'a> {
         ensures ok { OnOk result (known_of self.new ≡ next (known_of self.old)) }
         ensures err { OnErr result (known_of self.new ≡ known_of self.old) }
     {
+        if let Some((block, end)) = self.end_branch()? {
+            self.blocks.push_reserved(with_end(block, end));
+        }
+        Ok(())
+    }
+
+    /// The innermost block is taken, with how its branch ends, and the entries are again those with which its branches
+    /// begin. If memory runs out, all is as it was.
+    fn end_branch(&mut self) -> Result<Option<(Block<'a>, Vec<Entry<'a>>)>, AllocError>
+        ensures taken { IfOk result (IsTaken (known_of self.old) (known_of self.new)) }
+        ensures room { IfOk result (λ o. IfSome o (λ t. vec_len self.new.blocks < vec_capacity self.new.blocks)) }
+        ensures err { OnErr result (known_of self.new ≡ known_of self.old) }
+    {
         match self.blocks.pop() {
-            None => Ok(()),
+            None => Ok(None),
             Some(block) => match Vec::from_slice(self.alloc, &block.start) {
                 Ok(start) => {
+                    self.names.truncate(start.len());
                     let end = mem::replace(&mut self.entries, start);
-                    self.blocks.push_reserved(with_end(block, end));
-                    Ok(())
+                    Ok(Some((block, end)))
                 }
                 Err(error) => {
                     self.blocks.push_reserved(block);
@@ -90,23 +104,16 @@ impl<'a> Scope<'a> {
 
     /// The branches from here on begin where the condition does not hold.
     fn exclude(&mut self, condition: &Expr)
+        requires { BeginsHere (entries_of self.old) (blocks_of self.old) }
         ensures { known_of self.new ≡ excluding (expression_of condition.now) (known_of self.old) }
     {
         if !self.blocks.is_empty() {
             narrow_by(self, condition, false);
-            self.exchange();
-            narrow_by(self, condition, false);
-        }
-    }
-
-    /// The entries and those with which the innermost block's branches begin change places.
-    fn exchange(&mut self)
-        ensures { known_of self.new ≡ exchanged (entries_of self.old) (blocks_of self.old) }
-    {
-        if let Some(block) = self.blocks.pop() {
-            let Block { start, ends } = block;
-            let start = mem::replace(&mut self.entries, start);
-            self.blocks.push_reserved(Block { start, ends });
+            if let Some(block) = self.blocks.pop() {
+                let Block { mut start, ends } = block;
+                start.copy_from_slice(&self.entries);
+                self.blocks.push_reserved(Block { start, ends });
+            }
         }
     }
 
@@ -116,21 +123,11 @@ impl<'a> Scope<'a> {
         ensures ok { OnOk result (known_of self.new ≡ next_component numbers.now (known_of self.old)) }
         ensures err { OnErr result (known_of self.new ≡ known_of self.old) }
     {
-        match self.blocks.pop() {
-            None => Ok(()),
-            Some(block) => match Vec::from_slice(self.alloc, &block.start) {
-                Ok(start) => {
-                    let end = mem::replace(&mut self.entries, start);
-                    self.blocks
-                        .push_reserved(with_component(block, end, numbers));
-                    Ok(())
-                }
-                Err(error) => {
-                    self.blocks.push_reserved(block);
-                    Err(error)
-                }
-            },
+        if let Some((block, end)) = self.end_branch()? {
+            self.blocks
+                .push_reserved(with_component(block, end, numbers));
         }
+        Ok(())
     }
 
     /// A block ends after its last branch, or a loop after its body. Of a block without branches, and of a loop, all is
@@ -140,7 +137,9 @@ impl<'a> Scope<'a> {
     {
         if let Some(block) = self.blocks.pop() {
             let Block { start, ends } = block;
-            self.entries = ends.unwrap_or(start);
+            let known = ends.unwrap_or(start);
+            self.names.truncate(known.len());
+            self.entries = known;
         }
     }
 }

@@ -1,7 +1,7 @@
 //! Scopes that are left.
 
 ghost use Rattle.std.specs.Prelude.{◌≡◌, length};
-ghost use Rattle.scalar_ranges.specs.Moves.{outermost};
+ghost use Rattle.scalar_ranges.specs.Moves.{begun_with, leave};
 ghost use Rattle.scalar_ranges.specs.Scopes.{entries_of, blocks_of};
 
 use crate::scope::Scope;
@@ -14,12 +14,24 @@ impl Scope<'_> {
         self.entries.len()
     }
 
-    /// Leaves the scopes that were entered since there were so many entries.
-    #[tactic(auto, using(crate::proofs::Rows::entries_cut))]
+    /// Leaves the scopes that were entered since there were so many entries. What the branches of the innermost block
+    /// begin with is not left: a lower number leaves just what this branch declared.
     pub fn leave(&mut self, count: usize)
-        ensures entries { entries_of self.new ≡ outermost count (entries_of self.old) }
+        ensures entries { entries_of self.new ≡ leave count (blocks_of self.old) (entries_of self.old) }
         ensures blocks { blocks_of self.new ≡ blocks_of self.old }
     {
+        let count = count.max(self.begun_with());
+        self.names.truncate(count);
         self.entries.truncate(count);
+    }
+
+    /// How many entries the branches of the innermost block begin with.
+    fn begun_with(&self) -> usize
+        ensures { result ≡ begun_with (blocks_of self.now) }
+    {
+        match self.blocks.last() {
+            None => 0,
+            Some(block) => block.start.len(),
+        }
     }
 }

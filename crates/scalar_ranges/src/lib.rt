@@ -7,6 +7,7 @@ mod entries;
 mod laws;
 mod leaving;
 mod moves;
+mod names;
 mod narrowing;
 mod ranges;
 mod results;

@@ -2,8 +2,11 @@
 
 ghost use Rattle.std.specs.Prelude.{◌≡◌, [], ◌∷◌, option_map, OnOk, OnErr};
 ghost use Rattle.scalar_ranges.specs.Entries.{meaning_in, number_in};
-ghost use Rattle.scalar_ranges.specs.Scopes.{meaning_of, entry_of, entries_of, blocks_of};
+ghost use Rattle.scalar_ranges.specs.EntryViews.{meaning_of, entry_of, entries_from};
+ghost use Rattle.scalar_ranges.specs.Naming.{names_from};
+ghost use Rattle.scalar_ranges.specs.Nesting.{names_of, FitTogether, FitTogether-prop};
 
+use crate::names::Names;
 use occam_parser::ValueType;
 use std::alloc::{AllocFailed, Global};
 use word_arithmetic::Range;
@@ -76,8 +79,13 @@ pub struct Entry<'a> {
 pub struct Scope<'a> {
     pub(crate) alloc: Global,
     pub(crate) entries: Vec<Entry<'a>>,
+    /// Where each name is among the entries.
+    pub(crate) names: Names<'a>,
     /// The blocks of branches around, the innermost one last.
     pub(crate) blocks: Vec<Block<'a>>,
+    ghost named: { names_from names.rows.items ≡ names_of (entries_from entries.items) },
+    /// Each block begins with the outermost of the entries in it, and each of its ends is such entries, but for ranges.
+    pub ghost nested: { FitTogether entries.items blocks.items } by { FitTogether-prop entries.items blocks.items },
 }
 
 /// A block of branches.
@@ -90,6 +98,8 @@ pub(crate) struct Block<'a> {
 }
 
 impl<'a> Scope<'a> {
+    ghost use Rattle.scalar_ranges.specs.Scopes.{entries_of, blocks_of};
+
     /// A scope without names.
     pub fn new(alloc: Global) -> Scope<'a>
         ensures entries { entries_of result ≡ [] }
@@ -98,6 +108,7 @@ impl<'a> Scope<'a> {
         Scope {
             alloc,
             entries: Vec::new(alloc),
+            names: Names::new(alloc),
             blocks: Vec::new(alloc),
         }
     }
@@ -108,35 +119,30 @@ impl<'a> Scope<'a> {
         ensures err { OnErr result (entries_of self.new ≡ entries_of self.old) }
         ensures blocks { blocks_of self.new ≡ blocks_of self.old }
     {
-        self.entries.push(entry)
+        if self.entries.reserve(1).is_err() {
+            return Err(AllocFailed { value: entry });
+        }
+        if self.names.push(entry.name).is_err() {
+            return Err(AllocFailed { value: entry });
+        }
+        self.entries.push_reserved(entry);
+        Ok(())
     }
 
     /// The number of the innermost declaration of a name.
     pub fn find(&self, name: &[u8]) -> Option<usize>
         ensures number { result ≡ number_in name.now (entries_of self.now) }
     {
-        Some(self.innermost(name)?.0)
+        self.names.find(name)
     }
 
     /// What the innermost declaration of a name says of it.
     pub fn meaning(&self, name: &[u8]) -> Option<Meaning>
         ensures { option_map meaning_of result ≡ meaning_in name.now (entries_of self.now) }
     {
-        Some(self.innermost(name)?.1)
-    }
-
-    fn innermost(&self, name: &[u8]) -> Option<(usize, Meaning)>
-        ensures number { option_map (λ x. x.0) result ≡ number_in name.now (entries_of self.now) }
-        ensures meaning { option_map (λ x. meaning_of x.1) result ≡ meaning_in name.now (entries_of self.now) }
-    {
-        let mut number = self.entries.len();
-        while number > 0 {
-            number -= 1;
-            let entry = self.entries[number];
-            if entry.name == name {
-                return Some((number, entry.meaning));
-            }
+        match self.find(name) {
+            None => None,
+            Some(number) => Some(self.entries[number].meaning),
         }
-        None
     }
 }

@@ -1,6 +1,10 @@
 use Rattle.std.proofs.Common.{◌<◌, ◌≤◌, length, arith, ap, ◌∙◌}
 use Rattle.scalar_ranges.specs.Moves.{with_meaning, widened}
-use Rattle.scalar_ranges.specs.Scopes.{meaning_of}
+use Rattle.scalar_ranges.specs.Scopes.{meaning_of, entries_of}
+use Rattle.scalar_ranges.specs.Entries.{type_range}
+use Rattle.scalar_ranges.proofs.MoveLaws.{ranged_shape}
+use Rattle.scalar_ranges.proofs.Nesting.{fit_changed}
+use Rattle.scalar_ranges.proofs.Fitting.{fit_of}
 use Rattle.scalar_ranges.proofs.Rows.{entries_changed, no_entry}
 use Rattle.scalar_ranges.proofs.scope.Scope.receive.Goals as goal
 
@@ -17,3 +21,14 @@ pub returns-else-number-len-clause-entries : goal.returns-else-number-len-clause
 returns-else-number-len-clause-entries c =
     let beyond : length c.args.self.now.entries.items ≤ c.args.number = omega arith in
     no_entry (with_meaning widened) c.args.number c.args.self.now.entries.items beyond
+
+pub invariant_of-self : goal.invariant_of-self
+invariant_of-self c =
+    let items = c.args.self.now.entries.items in
+    let within : c.args.number < length items = omega arith in
+    let fit = fit_changed (entries_changed (with_meaning widened) items c.args.number
+    (record { name = c.index_mut.result.now.name; meaning = c.widened.result })
+    c.index_mut.result.now c.index.result.now within (ap (λ k. k.name.now) c.index_mut.ensures.value)
+    (c.widened.ensures ∙ ap (λ k. widened (meaning_of k.meaning)) c.index.ensures))
+    (ranged_shape type_range c.args.number (entries_of c.args.self.now)) (fit_of c.args.self.now) in
+    record { named = fit.named; nested = fit.nested }

@@ -1,0 +1,38 @@
+-- The entries and the blocks of branches at a place belong together: each block begins with the outermost entries.
+use Rattle.std.specs.Prelude.{◌≡◌, ℕ, List, [], ◌∷◌, length, map, Option, Some, None}
+use Rattle.std.proofs.Props.{props}
+use Rattle.scalar_ranges.specs.declared.scope.Entry as code_entry
+use Rattle.scalar_ranges.specs.declared.scope.Block as code_block
+use Rattle.scalar_ranges.specs.Entries.{Entry}
+use Rattle.scalar_ranges.specs.Moves.{outermost, Block}
+use Rattle.scalar_ranges.specs.MoveLaws.{shape}
+use Rattle.scalar_ranges.specs.EntryViews.{entries_from, blocks_from}
+
+abbrev pub names_of : List Entry → List (List ℕ)
+names_of es = map (λ e. e.name) es
+
+-- The ends of the branches so far have the names and meanings of their beginning, but for the ranges of scalars.
+abbrev pub EndsFit : List Entry → Option (List Entry) → Type 0
+EndsFit start None = Unit {0}
+EndsFit start (Some ends) = shape ends ≡ shape start
+
+-- Each block begins, but for ranges, with the outermost of the entries in it, and its ends fit.
+abbrev pub AreNested : List Entry → List Block → Type 0
+AreNested es [] = Unit {0}
+AreNested es (b ∷ bs) = (shape b.start ≡ shape (outermost (length b.start) es)) × EndsFit b.start b.ends
+    × AreNested b.start bs
+
+EndsFit-prop : (start : List Entry) (ends : Option (List Entry)) → IsProp (EndsFit start ends)
+EndsFit-prop start None = hlevel props
+EndsFit-prop start (Some ends) = hlevel props
+
+pub AreNested-prop : (es : List Entry) (bs : List Block) → IsProp (AreNested es bs)
+AreNested-prop es [] = hlevel props
+AreNested-prop es (b ∷ bs) = hlevel (props, EndsFit-prop, AreNested-prop b.start bs)
+
+abbrev pub FitTogether : List code_entry.Entry → List code_block.Block → Type 0
+FitTogether entries blocks = AreNested (entries_from entries) (blocks_from blocks)
+
+pub FitTogether-prop : (entries : List code_entry.Entry) (blocks : List code_block.Block)
+    → IsProp (FitTogether entries blocks)
+FitTogether-prop entries blocks = AreNested-prop (entries_from entries) (blocks_from blocks)
