@@ -46,7 +46,15 @@ branches_more order rows i count more after d within was one is =
     let longer : take (i + 1) order ≡ take i order ++ get_or order i d ∷ [] = take_more order i d within in
     let whole = counted_in rows (take i order ++ get_or order i d ∷ []) in
     rw longer
-    (omega (arith, is, was, one, whole, counted_in rows (take i order), sum_by_push (counted rows) (take i order) (get_or order i d)))
+    (omega (
+      arith,
+      is,
+      was,
+      one,
+      whole,
+      counted_in rows (take i order),
+      sum_by_push (counted rows) (take i order) (get_or order i d),
+    ))
 
 pub sums_push : (order : List (ℕ × ℕ)) (rows : List (ParRow Label ContextName)) (i count : ℕ) (sums after : List ℕ)
     → AreSums rows order i sums
@@ -59,7 +67,9 @@ sums_push order rows i count sums after are value small is =
     ap (λ (xs : List ℕ). slice_index xs (i + 1)) is
     ∙ subst (λ (n : ℕ). slice_index (sums ++ count ∷ []) n ≡ count) are.len (get_or-append_seam sums count [] 0) in
     let front : (k : ℕ) → k < i + 1 → slice_index after k ≡ slice_index sums k =
-    λ k lt. ap (λ (xs : List ℕ). slice_index xs k) is ∙ get_or_append_left sums (count ∷ []) 0 k (omega (arith, are.len)) in
+    λ k lt.
+    ap (λ (xs : List ℕ). slice_index xs k) is
+    ∙ get_or_append_left sums (count ∷ []) 0 k (omega (arith, are.len)) in
     record {
       len = omega (arith, ap length is, length-append sums (count ∷ []), are.len);
       each = λ k le.

@@ -1,14 +1,16 @@
 -- Rows with the same keys have one order, and a row with a smaller key comes before one with a greater key.
 use Rattle.std.proofs.Common.{◌≡◌, ℕ, suc, ◌<◌, ◌≤◌, Bool, false, List, [], ◌∷◌, length, map, get_or, cond}
-use Rattle.std.proofs.Common.{Option, Some, option_map, slice_get, subst, inl, inr, refl, ap, sym, ◌∙◌, arith, zero-add, suc-add}
+use Rattle.std.proofs.Common.{Option, Some, option_map, slice_get, subst, inl, inr, refl, ap, sym, ◌∙◌}
+use Rattle.std.proofs.Common.{arith, zero-add, suc-add}
 use Rattle.std.specs.List.{sum_by, Contains}
 use Rattle.std.specs.List.Sorted.{IsSortedBy, IsNonDecreasingBy}
 use Rattle.std.specs.Ordering.{is_lt}
-use Rattle.std.specs.Cmp.{IsTotalOrder}
+use Rattle.std.specs.Cmp.{IsTotalOrder, IsStrictWeakOrder}
 use Rattle.std.proofs.lemmas.Bool.{cases_Bool, cases_lt, lt-ltb, le-ltb, eq-eqb}
 use Rattle.std.proofs.lemmas.Cmp.{nat_cmp_total, on_total, then_total}
 use Rattle.std.proofs.lemmas.List.Sums.{sum_by-cons}
-use Rattle.std.proofs.lemmas.List.Sorted.{ranks_by, sorted_far, sum_by-IsPermutation, Contains-permutation, IsPermutation-sym}
+use Rattle.std.proofs.lemmas.List.Sorted.{ranks_by, sorted_far, sum_by-IsPermutation, Contains-permutation}
+use Rattle.std.proofs.lemmas.List.Sorted.{IsPermutation-sym}
 use Rattle.std.proofs.lemmas.List.{get_or_default}
 use Rattle.std.proofs.lemmas.Option.{slice_get_within, slice_get-get_or, slice_get-map, get_or_from_slice_get}
 use Rattle.module_format.specs.declared.rows.BranchRow.{BranchRow}
@@ -29,6 +31,9 @@ less x y = is_lt (by_key x y)
 
 by_key_total : IsTotalOrder by_key
 by_key_total = then_total (on_total (λ (p : ℕ × ℕ). p.0) nat_cmp_total) (on_total (λ (p : ℕ × ℕ). p.1) nat_cmp_total)
+
+less_ranks : IsStrictWeakOrder less
+less_ranks = ranks_by by_key_total (λ (p : ℕ × ℕ). p)
 
 -- ---- what is not less
 
@@ -76,7 +81,7 @@ first_least : (x y : ℕ × ℕ) (xs ys : List (ℕ × ℕ))
     → less y x ≡ false
 first_least x y xs ys rises same =
     let none : sum_by (below x) (x ∷ xs) ≡ 0 =
-    none_below x (x ∷ xs) (λ i d lt. sorted_far less (ranks_by by_key_total (λ (p : ℕ × ℕ). p)) (x ∷ xs) rises 0 i d (omega arith) lt) in
+    none_below x (x ∷ xs) (λ i d lt. sorted_far less less_ranks (x ∷ xs) rises 0 i d (omega arith) lt) in
     elim (cases_Bool (less y x)) [
       | inl is_less ↦
           let one : below x y ≡ 1 = rw is_less refl in
@@ -98,7 +103,8 @@ same_counts_same_order [] (y ∷ b) up also same =
 same_counts_same_order (x ∷ a) [] up also same =
     absurd (omega (arith, same (λ (p : ℕ × ℕ). 1), sum_by-cons (λ (p : ℕ × ℕ). 1) x a))
 same_counts_same_order (x ∷ a) (y ∷ b) up also same =
-    let first : x ≡ y = tied x y (first_least y x b a also (sym (same (below y)))) (first_least x y a b up (same (below x))) in
+    let first : x ≡ y =
+    tied x y (first_least y x b a also (sym (same (below y)))) (first_least x y a b up (same (below x))) in
     let rest : a ≡ b =
     same_counts_same_order a b (rest_rises x a up) (rest_rises y b also)
     (λ f. omega (arith, same f, ap f first, sum_by-cons f x a, sum_by-cons f y b)) in
@@ -132,7 +138,8 @@ one_arrangement d a b h k =
     let lengths : a.lengths ≡ b.lengths = one_least d.code a.lengths b.lengths h.least k.least in
     let orders : AreInOrder d (places d.code a.lengths) b =
     subst (λ xs. AreInOrder d (places d.code xs) b) (sym lengths) k.orders in
-    same_parts a.lengths b.lengths a.procedures a.labels a.pars a.table_rows b.procedures b.labels b.pars b.table_rows lengths
+    same_parts a.lengths b.lengths a.procedures a.labels a.pars a.table_rows b.procedures b.labels b.pars b.table_rows
+    lengths
     (one_order _ a.procedures b.procedures h.orders.procedures orders.procedures)
     (one_order _ a.labels b.labels h.orders.labels orders.labels)
     (one_order _ a.pars b.pars h.orders.pars orders.pars)
@@ -174,7 +181,7 @@ smaller_first keys order first second small great is at behind lt =
     elim (cases_lt i j) [
       | inl before ↦ before
       | inr after ↦
-          let far = sorted_far less (ranks_by by_key_total (λ (p : ℕ × ℕ). p)) order is.rises j i d after within in
+          let far = sorted_far less less_ranks order is.rises j i d after within in
           absurd (omega (
             arith,
             keys_rise (get_or order i d) (get_or order j d) far,
@@ -209,7 +216,9 @@ pub outer_first : (d : Draft) (offsets : List (Option ℕ)) (a : Arrangement) (p
     → position a.pars par < position a.pars number
 outer_first d offsets a par branch number outer inner b orders at inside rises found behind =
     let keys = map (first_entry offsets) d.pars.items in
-    let first : slice_get keys par ≡ Some (first_entry offsets outer) = rw slice_get-map (ap (option_map (first_entry offsets)) at) in
-    let second : slice_get keys number ≡ Some (first_entry offsets inner) = rw slice_get-map (ap (option_map (first_entry offsets)) inside) in
-    smaller_first keys a.pars par number (first_entry offsets outer) (first_entry offsets inner) orders.pars first second
+    let small = first_entry offsets outer in
+    let great = first_entry offsets inner in
+    let first : slice_get keys par ≡ Some small = rw slice_get-map (ap (option_map (first_entry offsets)) at) in
+    let second : slice_get keys number ≡ Some great = rw slice_get-map (ap (option_map (first_entry offsets)) inside) in
+    smaller_first keys a.pars par number small great orders.pars first second
     (omega (arith, first_entry_least offsets outer branch b rises found))

@@ -114,7 +114,8 @@ pub none_fits : (code : Code) (lengths : List ℕ)
     → MAX_LONG_CODE < sum lengths
     → (others : List ℕ)
     → ¬ Fits code others
-none_fits code lengths way long others fits = absurd (omega (arith, fits.short, sum_rises lengths others (way.least others fits)))
+none_fits code lengths way long others fits =
+    absurd (omega (arith, fits.short, sum_rises lengths others (way.least others fits)))
 
 -- what cannot grow is too long, or the references are too many
 pub none_fits_plan : (code : Code)

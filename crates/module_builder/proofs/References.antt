@@ -1,6 +1,7 @@
 -- Lengths of all items from those of references.
-use Rattle.std.proofs.Common.{◌≡◌, ℕ, zero, suc, ◌+◌, ◌<◌, ◌≤◌, List, [], ◌∷◌, ◌++◌, length, take, drop, map, sum, replicate}
-use Rattle.std.proofs.Common.{get_or, refl, ap, sym, ◌∙◌, subst, arith, append_assoc, append-nil, add-suc, add-zero, suc-add, zero-add, add-one}
+use Rattle.std.proofs.Common.{◌≡◌, ℕ, zero, suc, ◌+◌, ◌<◌, ◌≤◌, List, [], ◌∷◌, ◌++◌, length, take, drop, map, sum}
+use Rattle.std.proofs.Common.{replicate, get_or, refl, ap, sym, ◌∙◌, subst, arith, append_assoc, append-nil}
+use Rattle.std.proofs.Common.{add-suc, add-zero, suc-add, zero-add, add-one}
 use Rattle.std.specs.List.{AllByRecursion}
 use Rattle.std.proofs.lemmas.List.{take_all, take_more, length-take-le, map-append}
 use Rattle.std.proofs.lemmas.List.Elements.{recursion_from_All}
@@ -12,7 +13,8 @@ use Rattle.module_builder.specs.declared.item.Item.TheVariants.{Instruction, Con
 use Rattle.module_builder.specs.declared.plan.Reference.{Reference}
 use Rattle.module_builder.specs.Drafts.{Code, IsPlaced, OfItem, IsComplete}
 use Rattle.module_builder.specs.Layouts.{offset, bytes_of, bytes_from, NowhereLonger}
-use Rattle.module_builder.specs.References.{fixed_len, reference_count, references_from, expand, expanded, reference_bytes}
+use Rattle.module_builder.specs.References.{fixed_len, reference_count, references_from, expand, expanded}
+use Rattle.module_builder.specs.References.{reference_bytes}
 use Rattle.module_builder.proofs.Lengths.{spelling_one}
 use Rattle.module_builder.proofs.RowLaws.{all_at}
 use Rattle.module_builder.proofs.Growing.{IsPositive, offset-nil, offset-cons, item_positive}
@@ -37,7 +39,7 @@ length-expand (len ∷ fixed) [] sizes same = absurd (omega arith)
 length-expand (len ∷ fixed) (count ∷ counts) sizes same =
     ap (λ (n : ℕ). suc n) (length-expand fixed counts (drop count sizes) (omega arith))
 
--- an item is behind the items that cannot grow, and the references, that are before it
+-- where an item begins: after the items before it that cannot grow, and after the references before it
 pub offset-expand : (fixed counts sizes : List ℕ) (k : ℕ)
     → length fixed ≡ length counts
     → offset (expand fixed counts sizes) k ≡ offset fixed k + offset sizes (offset counts k)
@@ -97,21 +99,26 @@ needed_expands code lengths number (Instruction fun (Number n) ∷ items) =
     cc (needed_expands code lengths (suc number) items, add-zero (fixed_len (Instruction fun (Number n))))
 needed_expands code lengths number (Instruction fun (DistanceTo label) ∷ items) =
     let item = Instruction fun (DistanceTo label) in
-    cc (needed_expands code lengths (suc number) items, alone (bytes_of code lengths (offset lengths (suc number)) item))
+    let bytes = bytes_of code lengths (offset lengths (suc number)) item in
+    cc (needed_expands code lengths (suc number) items, alone bytes)
 needed_expands code lengths number (Instruction fun (Between from to) ∷ items) =
     let item = Instruction fun (Between from to) in
-    cc (needed_expands code lengths (suc number) items, alone (bytes_of code lengths (offset lengths (suc number)) item))
+    let bytes = bytes_of code lengths (offset lengths (suc number)) item in
+    cc (needed_expands code lengths (suc number) items, alone bytes)
 needed_expands code lengths number (ConstantAddress c ∷ items) =
     let item = ConstantAddress c in
-    cc (needed_expands code lengths (suc number) items, alone (bytes_of code lengths (offset lengths (suc number)) item))
+    let bytes = bytes_of code lengths (offset lengths (suc number)) item in
+    cc (needed_expands code lengths (suc number) items, alone bytes)
 
 -- ---- the least lengths that there can be
 
 -- where references take one byte
 pub ones_below : (code : Code) (others : List ℕ) (number : ℕ) (items : List Item)
-    → NowhereLonger (expanded items (replicate (length (references_from number items)) 1)) (bytes_from code others number items)
+    → NowhereLonger (expanded items (replicate (length (references_from number items)) 1))
+    (bytes_from code others number items)
 ones_below code others number [] = tt
-ones_below code others number (Instruction fun (Number n) ∷ items) = (omega arith, ones_below code others (suc number) items)
+ones_below code others number (Instruction fun (Number n) ∷ items) =
+    (omega arith, ones_below code others (suc number) items)
 ones_below code others number (Instruction fun (DistanceTo label) ∷ items) = (
   omega (arith, alone 1, item_positive code others (offset others (suc number)) (Instruction fun (DistanceTo label))),
   ones_below code others (suc number) items,
@@ -140,7 +147,8 @@ ones_positive number (ConstantAddress c ∷ items) = (omega (arith, alone 1), on
 
 references_push : (number : ℕ) (items : List Item) (item : Item)
     → references_from number (items ++ item ∷ [])
-    ≡ references_from number items ++ take (reference_count item) (record { next = suc (number + length items); item = item } ∷ [])
+    ≡ references_from number items
+    ++ take (reference_count item) (record { next = suc (number + length items); item = item } ∷ [])
 references_push number [] item = rw (add-zero, append-nil) refl
 references_push number (first ∷ items) item =
     let front : List Reference = take (reference_count first) (record { next = suc number; item = first } ∷ []) in
@@ -151,7 +159,8 @@ references_push number (first ∷ items) item =
 pub references_more : (items : List Item) (i : ℕ) (d : Item) (before after : List Reference)
     → i < length items
     → before ≡ references_from 0 (take i items)
-    → after ≡ before ++ take (reference_count (get_or items i d)) (record { next = i + 1; item = get_or items i d } ∷ [])
+    → after
+    ≡ before ++ take (reference_count (get_or items i d)) (record { next = i + 1; item = get_or items i d } ∷ [])
     → after ≡ references_from 0 (take (i + 1) items)
 references_more items i d before after within was is =
     let item = get_or items i d in
@@ -193,8 +202,8 @@ reference_at code references i d complete are within =
     (all_among P (length code.items) 0 code.items (omega arith) each))
 
 -- what a loop over references has pushed
-pub needed_more_references : (code : Code) (lengths : List ℕ) (references : List Reference) (i end bytes : ℕ) (d : Reference)
-    (before after : List ℕ)
+pub needed_more_references : (code : Code) (lengths : List ℕ) (references : List Reference) (i end bytes : ℕ)
+    (d : Reference) (before after : List ℕ)
     → i < length references
     → end ≡ offset lengths (get_or references i d).next
     → bytes ≡ bytes_of code lengths end (get_or references i d).item

@@ -16,7 +16,8 @@ pub record ArePlaces (order : List (ℕ × ℕ)) (count : ℕ) (places : List �
   pub within : (row : ℕ) → row < count → slice_index places row ≤ length order
 
 -- by place in the order, up to this one: how many branches the rows before it have
-pub record AreSums (rows : List (ParRow Label ContextName)) (order : List (ℕ × ℕ)) (last : ℕ) (sums : List ℕ) : Type 0 where
+pub record AreSums (rows : List (ParRow Label ContextName)) (order : List (ℕ × ℕ)) (last : ℕ) (sums : List ℕ) :
+    Type 0 where
   pub len : length sums ≡ last + 1
   pub each : (k : ℕ) → k ≤ last → slice_index sums k ≡ branch_count (rows_in (take k order) rows)
   pub small : (k : ℕ) → k ≤ last → slice_index sums k ≤ MAX_CONTEXTS

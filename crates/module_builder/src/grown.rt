@@ -26,7 +26,8 @@ impl<'p> Grown<'p> {
     /// The places that follow where references have these lengths, if the code isn't too long.
     pub(crate) fn of(alloc: Global, plan: &'p Plan, sizes: Vec<u8>) -> Result<Grown<'p>, GenFault>
         requires { length sizes.items ≡ length plan.now.references.items }
-        ensures lengths { IfOk result (λ grown. planned grown.plan.now grown.sizes.lengths.items ≡ planned plan.now sizes.items) }
+        ensures lengths { IfOk result (λ grown. planned grown.plan.now grown.sizes.lengths.items
+            ≡ planned plan.now sizes.items) }
         ensures limit { result ≡ Err GenFault.Limit → MAX_LONG_CODE < sum (planned plan.now sizes.items) }
         ensures faults { result ≢ Err GenFault.Invalid }
     {

@@ -54,8 +54,8 @@ pub fn one_arrangement()
     ensures arrangement { (d : Draft) (a b : Arrangement) → IsArranged d a → IsArranged d b → a ≡ b }
 {}
 
-/// A PAR whose branches are placed in order comes before each PAR that begins behind one of its branches. So where what
-/// is in a branch is placed behind the branch's beginning, a PAR comes before the PARs in it.
+/// A PAR whose branches are placed in order comes before each PAR that begins after the beginning of one of its
+/// branches. So a PAR comes before the PARs in it, if what is in a branch is placed after the branch's beginning.
 pub fn outer_pars_come_first()
     ensures { (d : Draft) (offsets : List (Option ℕ)) (a : Arrangement) (par branch number : ℕ)
         (outer inner : ParRow Label ContextName) (b : BranchRow Label) → AreInOrder d offsets a

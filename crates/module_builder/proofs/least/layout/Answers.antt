@@ -17,8 +17,8 @@ returns-in_err-grown-clause-limit c = λ is lengths fits.
     let first : planned plan c.in_ok-sizes.sizes.items ≡ start code =
     first_is code plan c.in_ok-sizes.sizes.items c.len.result c.in_ok-plan.ensures.plan
     (c.in_ok-sizes.ensures.items_if_clones_equal (λ (y : ℕ) (e : y ≡ 1). e)) (c.len.ensures ∙ plan.references.ok.0) in
-    none_fits code (start code) (on_the_way_start code) (omega (arith, c.in_err-grown.ensures.limit limit, ap sum first))
-    lengths fits
+    none_fits code (start code) (on_the_way_start code)
+    (omega (arith, c.in_err-grown.ensures.limit limit, ap sum first)) lengths fits
 
 pub loop-grown-init : goal.loop-grown-init
 loop-grown-init c =
@@ -76,9 +76,10 @@ loop-grown-smaller c =
     c.deref.ensures.value c.in_ok-sizes-2.ensures in
     let same : sum next ≡ sum (needed code before) = ap sum (c.in_ok-next.ensures.lengths ∙ after) in
     let no_less : sum before ≤ sum (needed code before) = needed_sum code before c.loop-grown.invariant in
-    let more : sum before < sum next = omega (arith, c.if-end.false, c.end.ensures.value, c.end-in-loop-grown.ensures.value) in
+    let now = c.end-in-loop-grown.ensures in
+    let more : sum before < sum next = omega (arith, c.if-end.false, c.end.ensures.value, now.value) in
     let short : sum next ≤ MAX_LONG_CODE =
-    omega (arith, c.end.ensures.value, c.end.ensures.short, c.end-in-loop-grown.ensures.value, c.end-in-loop-grown.ensures.short) in
+    omega (arith, c.end.ensures.value, c.end.ensures.short, now.value, now.short) in
     omega (arith, more, short)
 
 pub returns-then-end-clause-least : goal.returns-then-end-clause-least
@@ -93,8 +94,9 @@ returns-then-end-clause-least c =
     omega (arith, c.if-end.true, c.end.ensures.value, c.end-in-loop-grown.ensures.value) in
     let end : before ≡ needed code before =
     end_is code before next c.loop-grown.invariant (c.in_ok-next.ensures.lengths ∙ after) same in
+    let now = c.end-in-loop-grown.ensures in
     let short : sum before ≤ MAX_LONG_CODE =
-    omega (arith, c.end.ensures.value, c.end.ensures.short, c.end-in-loop-grown.ensures.value, c.end-in-loop-grown.ensures.short) in
+    omega (arith, c.end.ensures.value, c.end.ensures.short, now.value, now.short) in
     subst (λ (xs : List ℕ). IsLeast code xs) (end ∙ sym c.in_ok-needed.ensures)
     (least_end code before c.loop-grown.invariant end short)
 

@@ -28,5 +28,5 @@ pub loop-reference-preserved : goal.loop-reference-preserved
 loop-reference-preserved g c =
     needed_more_references c.args.code.now (g.P.Offsets.lengths c.args.places.now) c.args.references.now
     c.loop-reference.reference-index c.offset-end.result c.bytes_of.result none c.loop-reference.needed.items
-    c.push.new.self.items c.loop-reference-test.true c.offset-end.ensures.value c.bytes_of.ensures c.loop-reference.invariant
-    c.in_ok-push.ensures.items
+    c.push.new.self.items c.loop-reference-test.true c.offset-end.ensures.value c.bytes_of.ensures
+    c.loop-reference.invariant c.in_ok-push.ensures.items

@@ -21,10 +21,12 @@ loop-number-preserved c =
     elim c.if-reference_count-gt0.branch [
       | then-reference_count-gt0+in_ok-push w ↦
           references_more items i none before after c.loop-number-test.true c.loop-number.invariant
-          (reference_taken (i + 1) item before after (omega (arith, w.if-reference_count-gt0.true, c.reference_count.ensures))
+          (reference_taken (i + 1) item before after
+          (omega (arith, w.if-reference_count-gt0.true, c.reference_count.ensures))
           (ap (λ v. v.items) w.references-is ∙ w.in_ok-push.ensures.items))
       | else-reference_count-gt0 w ↦
           references_more items i none before after c.loop-number-test.true c.loop-number.invariant
-          (no_reference (i + 1) item before after (omega (arith, w.if-reference_count-gt0.false, c.reference_count.ensures))
+          (no_reference (i + 1) item before after
+          (omega (arith, w.if-reference_count-gt0.false, c.reference_count.ensures))
           (ap (λ v. v.items) w.references-is))
     ]

@@ -12,7 +12,8 @@ returns-in_err-sizes-clause-limit c = λ is.
     omega (
       arith,
       c.in_err-sizes.ensures.limit limit,
-      sum-expand plan.fixed.lengths.items plan.counts.lengths.items c.args.sizes.items plan.same (c.requires ∙ plan.all),
+      sum-expand plan.fixed.lengths.items plan.counts.lengths.items c.args.sizes.items plan.same
+          (c.requires ∙ plan.all),
     )
 
 pub returns-then-end-gt-MAX_LONG_CODE-clause-limit : goal.returns-then-end-gt-MAX_LONG_CODE-clause-limit
@@ -21,5 +22,6 @@ returns-then-end-gt-MAX_LONG_CODE-clause-limit c = λ is.
     omega (
       arith,
       ap sum c.in_ok-sizes.ensures.same,
-      sum-expand plan.fixed.lengths.items plan.counts.lengths.items c.args.sizes.items plan.same (c.requires ∙ plan.all),
+      sum-expand plan.fixed.lengths.items plan.counts.lengths.items c.args.sizes.items plan.same
+          (c.requires ∙ plan.all),
     )

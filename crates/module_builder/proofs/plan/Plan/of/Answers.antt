@@ -32,7 +32,8 @@ invariant_of-result c =
     let fixed : c.in_ok-of.field-0.lengths.items ≡ map fixed_len items =
     c.in_ok-of.ensures.same ∙ c.in_ok-fixed.ensures ∙ ap (λ (xs : List Item). map fixed_len xs) c.items.ensures in
     let counts : c.in_ok-of-2.field-0.lengths.items ≡ map reference_count items =
-    c.in_ok-of-2.ensures.same ∙ c.in_ok-counts.ensures ∙ ap (λ (xs : List Item). map reference_count xs) c.items-2.ensures in
+    c.in_ok-of-2.ensures.same ∙ c.in_ok-counts.ensures
+    ∙ ap (λ (xs : List Item). map reference_count xs) c.items-2.ensures in
     let references : c.in_ok-references.references.items ≡ references_from 0 items =
     c.in_ok-references.ensures ∙ ap (λ (xs : List Item). references_from 0 xs) c.items-3.ensures in
     record {
