@@ -24,6 +24,7 @@ use Rattle.module_format.specs.Keeping.{max_code, Keeps}
 use Rattle.states.proofs.LabelRows.{label_row_at}
 use Rattle.facts.specs.Meaning.{IsWellFormed, farthest_word}
 use Rattle.states.proofs.FrameBounds.{frame-is-small}
+use Rattle.states.proofs.Procedures.{at-row}
 use Rattle.states.proofs.RowFacts.{and-parts, le-from, lt-from}
 use Rattle.certificate.specs.Rights.{has_word}
 use Rattle.module_format.specs.declared.contexts.Context.{Context}
@@ -82,14 +83,6 @@ found_keeps code_len procedures low at (row ∷ rows) t all h = elim (eqb_tells 
 ]
 
 -- ---- the procedures
-
-row_keeps : (version : Version) (code_len low : ℕ) (ps : List Procedure) (n : ℕ) (p : Procedure)
-    → InOrder (ProcedureKeeps version code_len) behind_procedure low ps → slice_get ps n ≡ Some p
-    → (before : ℕ) × ProcedureKeeps version code_len before p
-row_keeps version code_len low [] n p all h = absurd (cc)
-row_keeps version code_len low (q ∷ ps) zero p all h =
-    let same : q ≡ p = cc in (low, subst (λ (r : Procedure). ProcedureKeeps version code_len low r) same all.0)
-row_keeps version code_len low (q ∷ ps) (suc n) p all h = row_keeps version code_len q.entry ps n p all.1 h
 
 -- no procedure begins where a label row stands
 no_entry : (ps : List Procedure) (n at : ℕ) (e : Entered) → AllByRecursion (λ p. p.entry ≢ at) ps
@@ -150,7 +143,7 @@ well_formed m k = record {
       found_keeps (length m.code) m.procedures 0 at m.labels t k.rows.labels h in omega (arith, f.0, f.1);
   rows = λ at t h. label_row_at m at t k h;
   pairs = λ at t h. label_pairs m at t k h;
-  procedures = λ n p h. row_keeps m.version (length m.code) 0 m.procedures n p k.rows.procedures h;
+  procedures = λ n p h. at-row m.version (length m.code) 0 m.procedures n p k.rows.procedures h;
   entries = λ at e h. no_label m k at e h;
   eight = k.bounds.eight;
   frames = frame_words m k;
