@@ -6,9 +6,9 @@ use Rattle.scalar_ranges.specs.Entries.{Entry}
 use Rattle.scalar_ranges.specs.Moves.{outermost, Block, begun_with, taken, ends_with, end_of}
 use Rattle.scalar_ranges.specs.Moves.{component_end}
 use Rattle.scalar_ranges.specs.MoveLaws.{shape}
-use Rattle.scalar_ranges.specs.Nesting.{names_of, EndsFit, AreNested}
+use Rattle.scalar_ranges.specs.Nesting.{names_of, EndsFit, AreNested, NestedEndsHold}
 use Rattle.scalar_ranges.proofs.Found.{none_less}
-use Rattle.scalar_ranges.proofs.MoveLaws.{shapes_stay, shape_long}
+use Rattle.scalar_ranges.proofs.MoveLaws.{branches_hold, components_hold, shapes_stay, shape_long}
 
 -- ---- the outermost ones
 
@@ -196,3 +196,17 @@ ended_by names start (Some ds) bs fits fit =
 pub fit_ended : (names : List (List ℕ)) (es : List Entry) (b : Block) (bs : List Block) → Fit names es (b ∷ bs)
     → Fit (outermost (length (unwrap_or b.ends b.start)) names) (unwrap_or b.ends b.start) bs
 fit_ended names es b bs fit = ended_by names b.start b.ends bs fit.nested.1 (fit_taken names es b bs fit)
+
+-- ---- the law
+
+alike_ends : (start es : List Entry) (ends : Option (List Entry)) → EndsFit start ends → shape es ≡ shape start
+    → (ds : List Entry) → ends ≡ Some ds → shape ds ≡ shape es
+alike_ends start es None fits same ds is = absurd (cc)
+alike_ends start es (Some ks) fits same ds is = let k : ks ≡ ds = cc in ap shape (sym k) ∙ fits ∙ sym same
+
+pub nested_ends_hold : NestedEndsHold
+nested_ends_hold es b bs env nested meets =
+    branches_hold.this_one b.ends (end_of b es) env
+    (alike_ends b.start (end_of b es) b.ends nested.1 (sym nested.0)) meets
+
+pub ruleset laws_of_branches = (branches_hold, nested_ends_hold, components_hold)

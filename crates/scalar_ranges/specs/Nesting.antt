@@ -4,7 +4,8 @@ use Rattle.std.proofs.Props.{props}
 use Rattle.scalar_ranges.specs.declared.scope.Entry as code_entry
 use Rattle.scalar_ranges.specs.declared.scope.Block as code_block
 use Rattle.scalar_ranges.specs.Entries.{Entry}
-use Rattle.scalar_ranges.specs.Moves.{outermost, Block}
+use Rattle.scalar_ranges.specs.Moves.{outermost, Block, end_of, ends_with}
+use Rattle.scalar_ranges.specs.Environments.{Environment, Meets}
 use Rattle.scalar_ranges.specs.MoveLaws.{shape}
 use Rattle.scalar_ranges.specs.EntryViews.{entries_from, blocks_from}
 
@@ -36,3 +37,8 @@ FitTogether entries blocks = AreNested (entries_from entries) (blocks_from block
 pub FitTogether-prop : (entries : List code_entry.Entry) (blocks : List code_block.Block)
     → IsProp (FitTogether entries blocks)
 FitTogether-prop entries blocks = AreNested-prop (entries_from entries) (blocks_from blocks)
+
+-- In nested blocks an environment that meets the end of a branch meets what is known after it.
+abbrev pub NestedEndsHold : Type 0
+NestedEndsHold = (es : List Entry) (b : Block) (bs : List Block) (env : Environment) → AreNested es (b ∷ bs)
+    → Meets env (end_of b es) → Meets env (ends_with b.ends (end_of b es))

@@ -1,6 +1,7 @@
 //! The laws of bounds, each the contract of a function that does nothing.
 ghost use Rattle.scalar_ranges.specs.Laws.{BoundsHold, ConstantsHold, NarrowingHolds};
 ghost use Rattle.scalar_ranges.specs.MoveLaws.{DeclaringHolds, LeavingHolds, ChangingHolds, HoldingHolds};
+ghost use Rattle.scalar_ranges.specs.Nesting.{NestedEndsHold};
 ghost use Rattle.scalar_ranges.specs.MoveLaws.{WideningHolds, BranchesHold, ComponentsHold, ShapesStay};
 
 /// Where a well typed expression has a bound, it has a value as the bound says in every environment that meets the
@@ -45,11 +46,12 @@ pub fn loops_hold()
     ensures { WideningHolds }
 {}
 
-/// An environment that meets the end of a branch meets what is known after the block; and what each component of a PAR
-/// changes is as its end says, the rest as before.
-#[tactic(auto, using(crate::proofs::MoveLaws::branches_hold, crate::proofs::MoveLaws::components_hold))]
+/// An environment that meets the end of a branch meets what is known after the block, if both ends have one shape, as
+/// they have in blocks that nest; and what each component of a PAR changes is as its end says, the rest as before.
+#[tactic(auto, using(crate::proofs::Nesting::laws_of_branches))]
 pub fn branches_hold()
     ensures branches { BranchesHold }
+    ensures nested { NestedEndsHold }
     ensures components { ComponentsHold }
 {}
 
