@@ -79,7 +79,8 @@ impl<'a> Module<'a> {
 
     /// The label row at a code offset, found in logarithmic time.
     pub fn label_at(&self, offset: u32) -> Option<&LabelRow>
-        ensures { MatchOption result (label_at self.now offset ≡ None) (λ row. label_at self.now offset ≡ Some (label_of row.now)) }
+        ensures { MatchOption result (label_at self.now offset ≡ None)
+            (λ row. label_at self.now offset ≡ Some (label_of row.now)) }
     {
         let (_index, row) = row_at(&self.tables.labels, offset)?;
         Some(row)
@@ -89,7 +90,8 @@ impl<'a> Module<'a> {
     /// time.
     pub fn procedure_at(&self, offset: u32) -> Option<(u32, &ProcedureRow)>
         ensures { MatchOption result (procedure_at self.now offset ≡ None)
-            (λ found. procedure_at self.now offset ≡ Some (record { context = found.0; procedure = procedure_of found.1.now })) }
+            (λ found. procedure_at self.now offset
+            ≡ Some (record { context = found.0; procedure = procedure_of found.1.now })) }
     {
         let (index, row) = row_at(&self.tables.procedures, offset)?;
         Some((index as u32 + 1, row))
@@ -155,7 +157,8 @@ impl<'a> Module<'a> {
     /// constant time. The number may be above the greatest that a row can name.
     pub fn branch_at(&self, offset: u32) -> Option<(u32, &ParRow, &BranchRow)>
         ensures { MatchOption result (branch_at self.now offset ≡ None)
-            (λ found. branch_at self.now offset ≡ Some (record { context = found.0; par = par_of found.1.now; branch = branch_of found.2.now })) }
+            (λ found. branch_at self.now offset
+            ≡ Some (record { context = found.0; par = par_of found.1.now; branch = branch_of found.2.now })) }
     {
         let number = number_at(&self.index.numbers, offset);
         let (row, branch) = self.branch(number)?;

@@ -25,7 +25,8 @@ fn grow(numbers: &mut Vec<u32>, offset: u32) -> Result<(), AllocError>
 /// Sets the number at an offset, if there is none.
 fn note(numbers: &mut Vec<u32>, offset: u32, number: u32) -> Result<(), AllocError>
     ensures { IfOk result (λ _. (at : ℕ) → slice_index numbers.new.items at
-        ≡ (if (slice_index numbers.old.items at == 0) && (offset == at) then number else slice_index numbers.old.items at)) }
+        ≡ (if (slice_index numbers.old.items at == 0) && (offset == at) then number
+        else slice_index numbers.old.items at)) }
 {
     grow(numbers, offset)?;
     let slot = &mut numbers[offset as usize];

@@ -1,5 +1,6 @@
 -- The counts of what is enabled stay right.
-use Rattle.std.proofs.Common.{◌≡◌, ℕ, ◌+◌, ◌-◌, ◌<◌, ◌≤◌, ◌||◌, ◌^◌, nat_lt, Bool, true, false, cond, List, [], ◌∷◌, length}
+use Rattle.std.proofs.Common.{◌≡◌, ℕ, ◌+◌, ◌-◌, ◌<◌, ◌≤◌, ◌||◌, ◌^◌, nat_lt, Bool, true, false, cond, List, [], ◌∷◌}
+use Rattle.std.proofs.Common.{length}
 use Rattle.std.proofs.Common.{Option, Some, None, IfSome, get_or, slice_get, slice_set, slice_index, refl, ap, ◌∙◌, sym}
 use Rattle.std.proofs.Common.{◌==◌, zero, suc, arith, count_by, length-set, replicate, subst, ⊎_elim}
 use Rattle.std.specs.List.{list_any}
@@ -36,7 +37,8 @@ module _ {X : Type 0} (test : X → Bool) where
       ap (λ x. count_by test (slice_set xs k new) + cond (test x) 1 0) (sym is_old)
       ∙ sum_by-set (λ y. cond (test y) 1 0) xs k new old within
 
-  pub one_of_count : (xs : List X) (k : ℕ) (old : X) → slice_get xs k ≡ Some old → cond (test old) 1 0 ≤ count_by test xs
+  pub one_of_count : (xs : List X) (k : ℕ) (old : X) → slice_get xs k ≡ Some old
+      → cond (test old) 1 0 ≤ count_by test xs
   one_of_count xs k old there =
       let within : k < length xs = slice_get_within xs k old there in
       let is_old : get_or xs k old ≡ old = get_or_from_slice_get xs k old old there in

@@ -94,7 +94,8 @@ impl<S: Store> Traffic<S, ListQueue> {
             SettlesIfRoom (λ goes_on. ran) self.old.world self.new.world result turn }
         ensures goes_on { IfOk result (λ goes_on.
             goes_on ≡ is_awaited (channel_at self.old.world message.now.exchange.channel)) }
-        ensures faultless { let turn = turn_for received_by_channel (contents_of tables.now) message.now self.old.world in
+        ensures faultless { let turn = turn_for received_by_channel
+            (contents_of tables.now) message.now self.old.world in
             OnMemory result (IsOk turn.answer) }
         ensures waits { let channel = channel_at self.old.world message.now.exchange.channel in
             OnMemory result (IsTrue (is_awaited channel)) }

@@ -1,6 +1,7 @@
 //! Moves of starts and joins: those of roles, of the table of channels, and of who runs next.
 
-ghost use Rattle.std.specs.Prelude.{◌≡◌, ◌<◌, ◌∷◌, ◌++◌, [], Some, length, slice_set, vec_len, vec_capacity, MatchResult};
+ghost use Rattle.std.specs.Prelude.{◌≡◌, ◌<◌, ◌∷◌, ◌++◌, [], Some, length, slice_set, vec_len, vec_capacity};
+ghost use Rattle.std.specs.Prelude.{MatchResult};
 ghost use Rattle.std.specs.List.{All};
 ghost use Rattle.machine_state.specs.declared.process.Task.{Task as Process};
 ghost use Rattle.machine_state.specs.Joins.{on_role, with_channels, without_channels};

@@ -1,6 +1,8 @@
 -- The instruction that moves bytes: what its rule says fits its step.
-use Rattle.std.proofs.Common.{◌≡◌, ℕ, zero, suc, ◌+◌, ◌-◌, ◌≤◌, ◌<◌, ◌==◌, ℤ, pos, ◌+ℤ◌, ◌-ℤ◌, ◌≤ℤ◌, ◌<ℤ◌, nat_abs, Bool, true, false}
-use Rattle.std.proofs.Common.{not, cond, ◌&&◌, ◌||◌, length, Option, Some, None, Result, Ok, Err, refl, sym, ap, ◌∙◌, subst, arith}
+use Rattle.std.proofs.Common.{◌≡◌, ℕ, zero, suc, ◌+◌, ◌-◌, ◌≤◌, ◌<◌, ◌==◌, ℤ, pos, ◌+ℤ◌, ◌-ℤ◌, ◌≤ℤ◌, ◌<ℤ◌, nat_abs}
+use Rattle.std.proofs.Common.{Bool, true, false}
+use Rattle.std.proofs.Common.{not, cond, ◌&&◌, ◌||◌, length, Option, Some, None, Result, Ok, Err, refl, sym, ap, ◌∙◌}
+use Rattle.std.proofs.Common.{subst, arith}
 use Rattle.std.proofs.Common.{◌⊎◌, inl, inr}
 use Rattle.std.proofs.lemmas.Bool.{cases_lt, cases_eq, eq-eqb}
 use Rattle.std.proofs.lemmas.Bool.Decides.{nat_tests}
@@ -38,11 +40,14 @@ use Rattle.facts.specs.declared.pointers.Pointed.{Pointed}
 use Rattle.facts.specs.Rulings as rule
 use Rattle.facts.specs.Rulings.{Ruling}
 use Rattle.facts.specs.MemoryRules as memory
-use Rattle.facts.specs.MemoryRules.{are_near, constant_of, wanted_range, is_full, is_number_in, byte_read, number_within}
+use Rattle.facts.specs.MemoryRules.{are_near, constant_of, wanted_range, is_full, is_number_in, byte_read}
+use Rattle.facts.specs.MemoryRules.{number_within}
 use Rattle.facts.specs.MemoryRules.{stored_byte, leaves_words}
 use Rattle.facts.specs.MoveRules as move
-use Rattle.facts.specs.MoveRules.{exact_pointer, takes_any, is_movable, are_apart, word_behind, words_within, filled, become_numbers}
-use Rattle.facts.specs.Reach.{word_of_byte, words_touched, all_touched, lie_in, may_read_bytes, may_write_bytes, writable_bytes}
+use Rattle.facts.specs.MoveRules.{exact_pointer, takes_any, is_movable, are_apart, word_behind, words_within, filled}
+use Rattle.facts.specs.MoveRules.{become_numbers}
+use Rattle.facts.specs.Reach.{word_of_byte, words_touched, all_touched, lie_in, may_read_bytes, may_write_bytes}
+use Rattle.facts.specs.Reach.{writable_bytes}
 use Rattle.facts.specs.Reach.{parameter_range}
 use Rattle.facts.specs.Rules as table
 use Rattle.facts.specs.Meaning.{Layout, Means, is_number, is_pointer, owed, region_start, IsWellFormed}
@@ -52,7 +57,8 @@ use Rattle.facts.proofs.Words.{word_test, bool_cases}
 use Rattle.facts.proofs.Dues.{changed_dues}
 use Rattle.facts.proofs.Regions.{keeps_more}
 use Rattle.facts.proofs.Reaching.{region_place, natural, place_at, region_at}
-use Rattle.facts.proofs.Combining.{FitsIf, unknown_means, on_rule_test, on_step_test, uses_fits, in_bounds_fits, holds_fits}
+use Rattle.facts.proofs.Combining.{FitsIf, unknown_means, on_rule_test, on_step_test, uses_fits, in_bounds_fits}
+use Rattle.facts.proofs.Combining.{holds_fits}
 use Rattle.facts.proofs.Combining.{goes_on_fits, in_plain_rule, beside_plain_rule, in_plain_step, after_stack}
 use Rattle.facts.proofs.MemoryFits.{ok_if, constant_is, settles_fits, reads_bytes_fits}
 use Rattle.facts.proofs.WritesFit.{same_numbers, writes_bytes_fits}
@@ -66,8 +72,10 @@ pub exact_is : (fact : Fact) (p : Pointed) → exact_pointer fact ≡ Ok p
     → (fact ≡ Pointer p.region p.lo p.hi p.step) × (p.lo ≡ p.hi)
 unfolding exact_pointer
 exact_is (Pointer region lo hi steps) p e =
-    let q = ok_if (are_near lo hi && is_same lo hi) (record { region = region; lo = lo; hi = hi; step = steps }) p _ e in
-    subst (λ (r : Pointed). (◌≡◌ {A = Fact} (Pointer region lo hi steps) (Pointer r.region r.lo r.hi r.step)) × (r.lo ≡ r.hi))
+    let q = ok_if (are_near lo hi && is_same lo hi)
+    (record { region = region; lo = lo; hi = hi; step = steps }) p _ e in
+    subst (λ (r : Pointed). (◌≡◌ {A = Fact} (Pointer region lo hi steps) (Pointer r.region r.lo r.hi r.step))
+    × (r.lo ≡ r.hi))
     q.1 (refl, same_numbers lo hi (and-parts (are_near lo hi) (is_same lo hi) q.0).1)
 exact_is Unknown p e = absurd (cc)
 exact_is (Number lo hi) p e = absurd (cc)
@@ -78,7 +86,8 @@ exact_is ReturnAddress p e = absurd (cc)
 -- bytes of numbers are defined
 defined_of : {layout : Layout} (x : Here) (said : Fact) (mem : Memory) (place k : ℕ) → is_number_in full said ≡ true
     → ((i : ℕ) → i < k → Means x.m layout said (option_map pos (byte_at mem (place + i)))) → AreDefined mem place k
-defined_of {layout} x (Number lo hi) mem place k t means = λ i less. on (place + i) (byte_at mem (place + i)) refl (means i less)
+defined_of {layout} x (Number lo hi) mem place k t means = λ i less.
+    on (place + i) (byte_at mem (place + i)) refl (means i less)
   where
     on : (p : ℕ) (o : Option ℕ) → byte_at mem p ≡ o → Means x.m layout (Number lo hi) (option_map pos o)
         → (b : ℕ) × (byte_at mem p ≡ Some b)
@@ -134,7 +143,8 @@ module _ (x : Here) (wf : IsWellFormed x.m) (s : State) (l : Local) (a : After x
   -- no bytes
   none_fits : (p q : ℕ) → FitsIf x (move.clears (rule_site x) s) (copying p q 0)
   none_fits p q =
-      holds_fits x (all_places (may_read x.h) p 0 && all_places (may_write x.h) q 0 && not (step.meet p 0 q 0)) NotOwn _ _
+      holds_fits x (all_places (may_read x.h) p 0 && all_places (may_write x.h) q 0
+      && not (step.meet p 0 q 0)) NotOwn _ _
       (and-both _ _ (and-both _ _ (all_places-none (may_read x.h) p) (all_places-none (may_write x.h) q)) (beside p q))
       (subst (λ (mem : Memory). FitsIf x (move.clears (rule_site x) s)
       (step.goes_on (step_site x) (step.without_registers (record l { memory = mem }))))
@@ -170,21 +180,25 @@ module _ (x : Here) (wf : IsWellFormed x.m) (s : State) (l : Local) (a : After x
       within t = after_change (on_span (word_behind p.lo) (words_within p.lo end) (Become (number_within full))) t
 
       on : (numbers frame some : Bool)
-          → ((cond numbers (cond (frame && some) (within (cond frame (touched stored_byte) s)) (cond frame (touched stored_byte) s))
+          → ((cond numbers (cond (frame && some) (within (cond frame (touched stored_byte) s))
+          (cond frame (touched stored_byte) s))
           (cond frame (touched (Become Unknown)) s)).context ≡ s.context)
           × (owed (cond numbers
           (cond (frame && some) (within (cond frame (touched stored_byte) s)) (cond frame (touched stored_byte) s))
           (cond frame (touched (Become Unknown)) s)) x.act ≤ owed s x.act)
       on false false some = (refl, omega arith)
       on false true some =
-          let less = changed_dues (on_span (word_of_byte p.lo) (words_touched p.lo end) (Become Unknown)) s.frame x.act.turns in
+          let less = changed_dues (on_span (word_of_byte p.lo) (words_touched p.lo end) (Become Unknown))
+          s.frame x.act.turns in
           (refl, omega (arith, less))
       on true false some = (refl, omega arith)
       on true true false =
-          let less = changed_dues (on_span (word_of_byte p.lo) (words_touched p.lo end) stored_byte) s.frame x.act.turns in
+          let less = changed_dues (on_span (word_of_byte p.lo) (words_touched p.lo end) stored_byte)
+          s.frame x.act.turns in
           (refl, omega (arith, less))
       on true true true =
-          let less = changed_dues (on_span (word_of_byte p.lo) (words_touched p.lo end) stored_byte) s.frame x.act.turns in
+          let less = changed_dues (on_span (word_of_byte p.lo) (words_touched p.lo end) stored_byte)
+          s.frame x.act.turns in
           let more = changed_dues
           (on_span (word_behind p.lo) (words_within p.lo end) (Become (number_within full)))
           (changed (on_span (word_of_byte p.lo) (words_touched p.lo end) stored_byte) s.frame) x.act.turns in
@@ -216,7 +230,8 @@ module _ (x : Here) (wf : IsWellFormed x.m) (s : State) (l : Local) (a : After x
         touched : Leaving → State
         touched leaving = after_change (on_span (word_of_byte target_lo) (words_touched target_lo end) leaving) s
 
-        on : (numbers frame constants : Bool) → (numbers ≡ true → AreDefined l.memory source k) → (frame || numbers) ≡ true
+        on : (numbers frame constants : Bool) → (numbers ≡ true → AreDefined l.memory source k)
+            → (frame || numbers) ≡ true
             → is_full (cond (frame || constants) full (parameter_range x.m s.context (target_region - 2))) ≡ true
             → cond frame (all_touched (context_writes x.m s.context) target_lo end)
             (lie_in (cond constants None (writable_bytes x.m s.context (target_region - 2))) target_lo end) ≡ true
@@ -249,8 +264,10 @@ module _ (x : Here) (wf : IsWellFormed x.m) (s : State) (l : Local) (a : After x
       | inl t ↦ let tells = meet_tells p k q t in absurd (elim (cases_eq source_region target_region) [
         | inl one ↦ in_one one tells.0 tells.1
         | inr differ ↦ elim (cases_lt p q) [
-          | inl low ↦ common differ (q - p) 0 q (omega (arith, low, tells.1)) some (omega (arith, ints, p_is, low)) (omega (arith, ints, q_is))
-          | inr high ↦ common differ 0 (p - q) p some (omega (arith, high, tells.0)) (omega (arith, ints, p_is)) (omega (arith, ints, q_is, high))
+          | inl low ↦ common differ (q - p) 0 q (omega (arith, low, tells.1)) some (omega (arith, ints, p_is, low))
+              (omega (arith, ints, q_is))
+          | inr high ↦ common differ 0 (p - q) p some (omega (arith, high, tells.0)) (omega (arith, ints, p_is))
+              (omega (arith, ints, q_is, high))
         ]
       ])
     ]
@@ -265,13 +282,16 @@ module _ (x : Here) (wf : IsWellFormed x.m) (s : State) (l : Local) (a : After x
 
         in_one : source_region ≡ target_region → p < q + k → q < p + k → ⊥
         in_one one low high = elim (either _ (int_le (target_lo +ℤ pos k) source_lo) apart) [
-          | inr behind ↦ let le = le-from (target_lo +ℤ pos k) source_lo behind in omega (arith, ints, le, start, p_is, q_is, low, high)
-          | inl other ↦ elim (either (not (source_region == target_region)) (int_le (source_lo +ℤ pos k) target_lo) other) [
-            | inr before ↦
-                let le = le-from (source_lo +ℤ pos k) target_lo before in omega (arith, ints, le, start, p_is, q_is, low, high)
-            | inl differ ↦
-                let no : false ≡ true = sym (ap not (eq-eqb source_region target_region one)) ∙ differ in absurd (cc)
-          ]
+          | inr behind ↦ let le = le-from (target_lo +ℤ pos k) source_lo behind in
+              omega (arith, ints, le, start, p_is, q_is, low, high)
+          | inl other ↦ elim (either (not (source_region == target_region))
+              (int_le (source_lo +ℤ pos k) target_lo) other) [
+                | inr before ↦
+                    let le = le-from (source_lo +ℤ pos k) target_lo before in
+                    omega (arith, ints, le, start, p_is, q_is, low, high)
+                | inl differ ↦
+                    let no : false ≡ true = sym (ap not (eq-eqb source_region target_region one)) ∙ differ in absurd (cc)
+              ]
         ]
           where
             start : region_place x.m x.act.layout source_region ≡ region_place x.m x.act.layout target_region
@@ -287,7 +307,8 @@ module _ (x : Here) (wf : IsWellFormed x.m) (s : State) (l : Local) (a : After x
         reads_bytes_fits x s l a same changes n source_region source_lo (source_lo +ℤ pos k) _ _ (λ read.
         writes_bytes_fits x s l a same changes n target_region target_lo end _ _ (λ write.
         on_rule_test x (are_apart (pos k) from to && ((target_region == 0) || move.are_numbers s from (pos k))) _ _ _
-        (λ t. copies read write (and-parts (are_apart (pos k) from to) _ t).0 (and-parts (are_apart (pos k) from to) _ t).1)
+        (λ t. copies read write (and-parts (are_apart (pos k) from to) _ t).0
+        (and-parts (are_apart (pos k) from to) _ t).1)
         (λ t next. it_breaks)))
       where
         copies : may_read_bytes x.m s.context source_region source_lo (source_lo +ℤ pos k) ≡ true
@@ -298,7 +319,8 @@ module _ (x : Here) (wf : IsWellFormed x.m) (s : State) (l : Local) (a : After x
         copies read write apart allowed =
             let source = source_read wf a source_region source_lo k some read in
             let target = moved_to source.place source.held (move.are_numbers s from (pos k))
-            (λ t. defined_of x (byte_read s source_region source_lo (source_lo +ℤ pos k -ℤ pos 1)) l.memory source.place k t source.means)
+            (λ t. defined_of x (byte_read s source_region source_lo (source_lo +ℤ pos k -ℤ pos 1)) l.memory
+            source.place k t source.means)
             allowed wide write in
             let left = left_same (move.are_numbers s from (pos k)) to end in
             let own = all_held (may_write x.h) target.place k target.own in
@@ -346,8 +368,10 @@ module _ (x : Here) (wf : IsWellFormed x.m) (s : State) (l : Local) (a : After x
       (record { region = from.region; lo = from.lo; hi = from.lo; step = from.step }) q s)
       (copying (place_of (step.address w)) (place_of (step.address u)) k)) (by_offset to target_one)
       (some_fits k (some t) from.region to.region from.lo to.lo from.step to.step u w
-      (subst (λ (z : ℤ). Means x.m x.act.layout (Pointer from.region from.lo z from.step) (Some w)) (sym source_one) source_means)
-      (subst (λ (z : ℤ). Means x.m x.act.layout (Pointer to.region to.lo z to.step) (Some u)) (sym target_one) target_means)
+      (subst (λ (z : ℤ). Means x.m x.act.layout (Pointer from.region from.lo z from.step) (Some w))
+      (sym source_one) source_means)
+      (subst (λ (z : ℤ). Means x.m x.act.layout (Pointer to.region to.lo z to.step) (Some u))
+      (sym target_one) target_means)
       wide)))
     where
       some : is_same (pos k) (pos 0) ≡ false → 0 < k

@@ -1,6 +1,8 @@
 -- Bytes that are moved: where they lie, and what is left of what is known.
-use Rattle.std.proofs.Common.{◌≡◌, ℕ, zero, suc, ◌+◌, ◌-◌, ◌*◌, ◌/◌, ◌%◌, ◌≤◌, ◌<◌, ◌==◌, ℤ, pos, negsuc, ◌+ℤ◌, ◌-ℤ◌, ◌*ℤ◌, ◌≤ℤ◌, ◌<ℤ◌}
-use Rattle.std.proofs.Common.{Bool, true, false, cond, ◌&&◌, length, Option, Some, None, refl, sym, ap, ◌∙◌, subst, arith}
+use Rattle.std.proofs.Common.{◌≡◌, ℕ, zero, suc, ◌+◌, ◌-◌, ◌*◌, ◌/◌, ◌%◌, ◌≤◌, ◌<◌, ◌==◌, ℤ, pos, negsuc, ◌+ℤ◌, ◌-ℤ◌}
+use Rattle.std.proofs.Common.{◌*ℤ◌, ◌≤ℤ◌, ◌<ℤ◌}
+use Rattle.std.proofs.Common.{Bool, true, false, cond, ◌&&◌, length, Option, Some, None, refl, sym, ap, ◌∙◌, subst}
+use Rattle.std.proofs.Common.{arith}
 use Rattle.std.proofs.Common.{◌⊎◌, inl, inr}
 use Rattle.std.proofs.lemmas.Bool.{cases_lt, cases_eq, eqb-true}
 use Rattle.std.proofs.lemmas.Int.{ints}
@@ -41,11 +43,13 @@ use Rattle.facts.specs.Fitting.{After}
 use Rattle.facts.proofs.Words.{bool_cases, frame_word_is, Follows}
 use Rattle.facts.proofs.Regions.{frame_keeps, keeps_all, keeps_more, may_too, bytes_written, bytes_read}
 use Rattle.facts.proofs.ReadThrough.{readable_found, range_found}
-use Rattle.facts.proofs.Reaching.{region_place, natural, word_of_byte_low, word_of_byte_high, touched_span, touched_passes, lies_inside}
+use Rattle.facts.proofs.Reaching.{region_place, natural, word_of_byte_low, word_of_byte_high, touched_span}
+use Rattle.facts.proofs.Reaching.{touched_passes, lies_inside}
 use Rattle.facts.proofs.Through.{ByteThrough, byte_through}
 use Rattle.facts.proofs.WriteThrough.{byte_left, number_wider, FrameWord, frame_written, after_followed, after_beside}
 use Rattle.facts.proofs.WriteThrough.{Writable, writable_found, Lies, number_within}
-use Rattle.facts.proofs.WriteThrough.{AltersRegion, region_keeps, word_beside, number_byte, number_of_bytes, byte_written}
+use Rattle.facts.proofs.WriteThrough.{AltersRegion, region_keeps, word_beside, number_byte, number_of_bytes}
+use Rattle.facts.proofs.WriteThrough.{byte_written}
 use Rattle.facts.proofs.Combining.{written_readable}
 
 -- ---- blocks of bytes
@@ -83,7 +87,8 @@ copied-inside from source to (suc n) m (suc i) less inside =
     let long = length-with_byte m to (byte_at from source) in
     ap (byte_at (copied from (source + 1) (to + 1) n (with_byte m to (byte_at from source))))
     (let e : to + suc i ≡ to + 1 + i = omega arith in e)
-    ∙ (copied-inside from (source + 1) (to + 1) n (with_byte m to (byte_at from source)) i (omega arith) (omega (arith, long))
+    ∙ (copied-inside from (source + 1) (to + 1) n (with_byte m to (byte_at from source)) i (omega arith)
+    (omega (arith, long))
     ∙ ap (byte_at from) (let e : source + 1 + i ≡ source + suc i = omega arith in e))
 
 -- ---- bytes that are read
@@ -118,7 +123,8 @@ module _ {m : Contents} {h : Holding} {mode : machine.Mode} {act : Activation} {
         is = omega (arith, ints);
         small = first.small;
         held = λ i less. ap (may_read h) (sym (there i less)) ∙ (one i less).held;
-        means = λ i less. subst (λ (p : ℕ). Means m act.layout said (option_map pos (byte_at l.memory p))) (there i less)
+        means = λ i less. subst (λ (p : ℕ). Means m act.layout said (option_map pos (byte_at l.memory p)))
+            (there i less)
             (one i less).means;
       }
     where
@@ -168,9 +174,11 @@ module _ (m : Contents) (context : ℕ) (layout : Layout) (region : ℕ) (lo : �
     where
       on : (frame constants : Bool) → (region == 0) ≡ frame → (region == 1) ≡ constants
           → cond frame (all_touched (context_reads m context) lo (lo +ℤ pos n))
-          (lie_in (cond constants (Some (length m.constants)) (readable_bytes m context (region - 2))) lo (lo +ℤ pos n)) ≡ true
+          (lie_in (cond constants (Some (length m.constants)) (readable_bytes m context (region - 2))) lo (lo +ℤ pos n))
+          ≡ true
           → pos place
-          ≡ cond frame layout.origin (cond constants (pos (constants_start m)) (pos (place_of (layout.starts (region - 2)))))
+          ≡ cond frame layout.origin (cond constants (pos (constants_start m))
+          (pos (place_of (layout.starts (region - 2)))))
           +ℤ lo +ℤ pos i
           → IsReadAt m context layout region place
       on true constants e f may is =
@@ -194,7 +202,8 @@ module _ (m : Contents) (context : ℕ) (layout : Layout) (region : ℕ) (lo : �
           let to = inside.3 in
           let r = readable_found m context (region - 2) inside.0 inside.1 in
           read_in_parameter (region - 2) r.parameter (parameter_of region e f) r.found
-          (named_at r.parameter.kind inside.0 (layout.starts (region - 2)) place r.has (omega (arith, ints)) (omega (arith, ints)))
+          (named_at r.parameter.kind inside.0 (layout.starts (region - 2)) place r.has (omega (arith, ints))
+          (omega (arith, ints)))
 
   pub written_at : may_write_bytes m context region lo (lo +ℤ pos n) ≡ true → IsWrittenIn m context layout region place
   unfolding may_write_bytes
@@ -204,7 +213,8 @@ module _ (m : Contents) (context : ℕ) (layout : Layout) (region : ℕ) (lo : �
           → cond frame (all_touched (context_writes m context) lo (lo +ℤ pos n))
           (lie_in (cond constants None (writable_bytes m context (region - 2))) lo (lo +ℤ pos n)) ≡ true
           → pos place
-          ≡ cond frame layout.origin (cond constants (pos (constants_start m)) (pos (place_of (layout.starts (region - 2)))))
+          ≡ cond frame layout.origin (cond constants (pos (constants_start m))
+          (pos (place_of (layout.starts (region - 2)))))
           +ℤ lo +ℤ pos i
           → IsWrittenIn m context layout region place
       on true constants e f may is =
@@ -234,11 +244,13 @@ module _ (m : Contents) (h : Holding) (scope : Scope) (memory : Memory) (place :
   named_too (WrittenRegion size lo hi) start at = at
   named_too (Channels count len ends) start at = at
 
-  in_region : {may_use : ℕ → Bool} {start size : ℕ} {lo hi : ℤ} → IsRegion m may_use scope memory start size lo hi → (k : ℤ)
+  in_region : {may_use : ℕ → Bool} {start size : ℕ} {lo hi : ℤ}
+      → IsRegion m may_use scope memory start size lo hi → (k : ℤ)
       → scope.words.reads k ≡ true → IsByteOf scope.layout.origin k place → start ≤ place → place < start + size → ⊥
   in_region {may_use} {start} r k counts b low high =
       r.beside k (place - start) counts (omega arith)
-      (subst (λ (q : ℕ). IsByteOf scope.layout.origin k q) (let e : place ≡ start + (place - start) = omega arith in e) b)
+      (subst (λ (q : ℕ). IsByteOf scope.layout.origin k q)
+      (let e : place ≡ start + (place - start) = omega arith in e) b)
 
   -- what is named is no byte of a word of the frame that counts
   named_beside : (kind : ParameterKind) (start : ℕ) → IsNamed m h scope memory kind start → IsNamedAt kind start place
@@ -269,7 +281,8 @@ module _ {m : Contents} {h : Holding} {mode : machine.Mode} {act : Activation} {
   before_constants : may_write h place ≡ true → (i : ℕ) → place ≡ constants_start m + i → ⊥
   before_constants mine i is = let low = a.named.constants.behind place mine in omega (arith, ints)
 
-  frame_mine : (k : ℤ) → context_writes m s.context k ≡ true → IsByteOf act.layout.origin k place → may_write h place ≡ true
+  frame_mine : (k : ℤ) → context_writes m s.context k ≡ true → IsByteOf act.layout.origin k place
+      → may_write h place ≡ true
   frame_mine k may b =
       let w = a.frame.own k may in
       let is = w.is in
@@ -288,12 +301,14 @@ module _ {m : Contents} {h : Holding} {mode : machine.Mode} {act : Activation} {
       (named_too m h scope l.memory place p.kind (act.layout.starts j) at) k counts b
   regions_apart (read_in_constants i less is) (written_in_frame k y may c) = before_constants (frame_mine k may c) i is
   regions_apart (read_in_constants i less is) (written_in_parameter j p e found at) =
-      before_constants (written_mine m h scope l.memory place p.kind (act.layout.starts j) (a.named.each j p found) at) i is
+      before_constants (written_mine m h scope l.memory place p.kind (act.layout.starts j) (a.named.each j p found) at)
+      i is
   regions_apart (read_in_parameter j p is found at) (written_in_frame k y may c) =
       named_beside m h scope l.memory place p.kind (act.layout.starts j) (a.named.each j p found) at k
       (written_readable m s.context k may) c
   regions_apart (read_in_parameter j p is found at) (written_in_parameter k q e there written) =
-      a.named.apart k j q p there found (λ same. differ (is ∙ (ap (λ (x : ℕ). x + 2) (sym same) ∙ sym e))) place written at
+      a.named.apart k j q p there found
+      (λ same. differ (is ∙ (ap (λ (x : ℕ). x + 2) (sym same) ∙ sym e))) place written at
 
 -- ---- words all of whose bytes come
 
@@ -307,7 +322,8 @@ within_ends first end k low high = on (word_of_byte end -ℤ word_behind first) 
     on (negsuc n) e high = absurd (omega (arith, ints))
 
 -- each of them has some of the bytes
-pub within_touched : (first end k : ℤ) → word_behind first ≤ℤ k → k <ℤ (word_behind first +ℤ pos (words_within first end))
+pub within_touched : (first end k : ℤ) → word_behind first ≤ℤ k
+    → k <ℤ (word_behind first +ℤ pos (words_within first end))
     → (word_of_byte first ≤ℤ k) × (k <ℤ (word_of_byte first +ℤ pos (words_touched first end)))
 within_touched first end k low high =
     let less = within_ends first end k low high in
@@ -390,7 +406,8 @@ module _ {m : Contents} {h : Holding} {mode : machine.Mode} {act : Activation} {
     word_stays : (place : ℕ) → ((t : ℕ) → t < 4 → (place + t < to) ⊎ (to + n ≤ place + t))
         → word_at new place ≡ word_at l.memory place
     word_stays place out =
-        sym (word_at_same l.memory new place (same 0 (omega arith) place (omega arith)) (same 1 (omega arith) (place + 1) refl)
+        sym (word_at_same l.memory new place (same 0 (omega arith) place (omega arith))
+        (same 1 (omega arith) (place + 1) refl)
         (same 2 (omega arith) (place + 2) refl) (same 3 (omega arith) (place + 3) refl))
       where
         same : (t : ℕ) → t < 4 → (p : ℕ) → p ≡ place + t → byte_at l.memory p ≡ byte_at new p
@@ -464,10 +481,13 @@ module _ {m : Contents} {h : Holding} {mode : machine.Mode} {act : Activation} {
         let w = word k (omega arith) in
         let before = copied l.memory source to k l.memory in
         let byte = byte_at l.memory (source + k) in
-        keeps_more so_far (subst (λ (x : Memory). Keeps m h all before x) (sym (copied-more l.memory source to k l.memory))
-        (frame_keeps m h all w.word before (with_byte before (to + k) byte) w.may (written_readable m s.context w.word w.may)
+        keeps_more so_far (subst (λ (x : Memory). Keeps m h all before x)
+        (sym (copied-more l.memory source to k l.memory))
+        (frame_keeps m h all w.word before (with_byte before (to + k) byte) w.may
+        (written_readable m s.context w.word w.may)
         (subst (λ (size : ℕ). IsOwnWord h size act.layout.origin w.word) (sym so_far.size) w.own)
-        (byte_written act.layout.origin w.word before (to + k) byte (byte_in k (omega arith)) (byte_low k (omega arith)))))
+        (byte_written act.layout.origin w.word before (to + k) byte (byte_in k (omega arith))
+        (byte_low k (omega arith)))))
 
     abbrev first : ℤ
     first = word_of_byte lo
@@ -476,7 +496,8 @@ module _ {m : Contents} {h : Holding} {mode : machine.Mode} {act : Activation} {
     count = words_touched lo (lo +ℤ pos n)
 
     -- a byte of a word that is not touched
-    outside : (k : ℤ) (place : ℕ) → pos place ≡ place_in act.layout.origin k → is_in_span first count k ≡ false → (t : ℕ)
+    outside : (k : ℤ) (place : ℕ) → pos place ≡ place_in act.layout.origin k
+        → is_in_span first count k ≡ false → (t : ℕ)
         → t < 4 → (place + t < to) ⊎ (to + n ≤ place + t)
     outside k place is out t less = elim (cases_lt (place + t) to) [
       | inl low ↦ inl low
@@ -500,7 +521,8 @@ module _ {m : Contents} {h : Holding} {mode : machine.Mode} {act : Activation} {
 
     -- ---- bytes of which nothing is known
 
-    pub unknown_into_frame : Moved a source act.layout.origin lo n (after_change (on_span first count (Become Unknown)) s)
+    pub unknown_into_frame : Moved a source act.layout.origin lo n
+        (after_change (on_span first count (Become Unknown)) s)
     unknown_into_frame = record {
       place = to;
       is = target.1;
@@ -541,10 +563,12 @@ module _ {m : Contents} {h : Holding} {mode : machine.Mode} {act : Activation} {
           let within = within_ends lo (lo +ℤ pos n) k low high in
           subst (λ (v : Option ℤ). Means m act.layout (Number least_word greatest_word) v)
           (sym (frame_word_is after_it act.layout.origin k w.place w.is))
-          (word_comes to target.3 defined w.place (λ t less out. absurd (inside w.place t less is at from end low within out)))
+          (word_comes to target.3 defined w.place
+          (λ t less out. absurd (inside w.place t less is at from end low within out)))
         where
           inside : (place t : ℕ) → t < 4 → pos place ≡ place_in act.layout.origin k → pos to ≡ act.layout.origin +ℤ lo
-              → (lo +ℤ pos 3) <ℤ (pos 4 *ℤ word_behind lo +ℤ pos 4) → (pos 4 *ℤ word_of_byte (lo +ℤ pos n)) ≤ℤ (lo +ℤ pos n)
+              → (lo +ℤ pos 3) <ℤ (pos 4 *ℤ word_behind lo +ℤ pos 4)
+              → (pos 4 *ℤ word_of_byte (lo +ℤ pos n)) ≤ℤ (lo +ℤ pos n)
               → word_behind lo ≤ℤ k → k <ℤ word_of_byte (lo +ℤ pos n)
               → (place + t < to) ⊎ (to + n ≤ place + t) → ⊥
           inside place t less is at from end low high (inl before) = omega (arith, ints)
@@ -557,8 +581,10 @@ module _ {m : Contents} {h : Holding} {mode : machine.Mode} {act : Activation} {
         kept = kept;
       }
 
-      after_numbers : After m h mode act (after_change (on_span first count stored_byte) s) (record l { memory = after_it })
-      after_numbers = after_followed a (on_span first count stored_byte) after_it numbers_follow (frame_kept n (omega arith))
+      after_numbers : After m h mode act (after_change (on_span first count stored_byte) s)
+          (record l { memory = after_it })
+      after_numbers = after_followed a (on_span first count stored_byte) after_it numbers_follow
+          (frame_kept n (omega arith))
 
       moved_numbers : (left : State) → After m h mode act left (record l { memory = after_it })
           → Moved a source act.layout.origin lo n left
@@ -581,7 +607,8 @@ module _ {m : Contents} {h : Holding} {mode : machine.Mode} {act : Activation} {
       numbers_into_frame false = moved_numbers _ after_numbers
       numbers_into_frame true =
           moved_numbers _ (after_followed after_numbers
-          (on_span (word_behind lo) (words_within lo (lo +ℤ pos n)) (Become (Number least_word greatest_word))) after_it (record {
+          (on_span (word_behind lo) (words_within lo (lo +ℤ pos n)) (Become (Number least_word greatest_word))) after_it
+          (record {
             touched = λ k said counts e means.
                 let both = and-parts (int_le (word_behind lo) k)
                 (int_lt k (word_behind lo +ℤ pos (words_within lo (lo +ℤ pos n)))) e in
@@ -599,7 +626,8 @@ module _ {m : Contents} {h : Holding} {mode : machine.Mode} {act : Activation} {
     of_region size r q is fits t =
         let length_small = a.frame.small in
         let inside = in_memory in
-        let keeps = region_keeps m h all l.memory moved a.named j r.parameter r.found size r.lo r.hi r.is (start + q) n alters in
+        let keeps = region_keeps m h all l.memory moved a.named j r.parameter r.found size r.lo r.hi r.is
+        (start + q) n alters in
         record {
           place = start + q;
           is = omega (arith, ints);
@@ -608,7 +636,8 @@ module _ {m : Contents} {h : Holding} {mode : machine.Mode} {act : Activation} {
               ∙ region.held (q + i) (omega arith);
           after = after_beside a moved (λ k counts.
               let w = a.frame.readable k counts in
-              word_beside m h all l.memory moved a.named j r.parameter r.found size r.lo r.hi r.is (start + q) n alters k w.place
+              word_beside m h all l.memory moved a.named j r.parameter r.found size r.lo r.hi r.is
+              (start + q) n alters k w.place
               counts w.is) keeps;
           keeps = keeps;
         }

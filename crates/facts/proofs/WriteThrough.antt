@@ -375,14 +375,16 @@ number_of_bytes {m} {layout} memory place each =
     any v fits = is_number (omega (arith, ints, fits)) (omega (arith, ints, fits)) fits
 
 -- a word that is a number still is one, if one of its bytes is replaced
-pub number_stays : {m : Contents} {layout : Layout} {lo hi : ℤ} (h : Holding) (memory : Memory) (place n c : ℕ) → n < 4 → c < 256
+pub number_stays : {m : Contents} {layout : Layout} {lo hi : ℤ} (h : Holding) (memory : Memory)
+    (place n c : ℕ) → n < 4 → c < 256
     → ((i : ℕ) → i < 4 → may_read h (place + i) ≡ true) → HasBytes h memory
     → Means m layout (Number lo hi) (word_at memory place)
     → Means m layout (Number least_word greatest_word) (word_at (with_byte memory (place + n) (Some c)) place)
 number_stays {m} {layout} {lo} {hi} h memory place n c less small held bytes means =
     number_of_bytes (with_byte memory (place + n) (Some c)) place byte
   where
-    byte : (i : ℕ) → i < 4 → (b : ℕ) × (byte_at (with_byte memory (place + n) (Some c)) (place + i) ≡ Some b) × (b < 256)
+    byte : (i : ℕ) → i < 4 → (b : ℕ)
+        × (byte_at (with_byte memory (place + n) (Some c)) (place + i) ≡ Some b) × (b < 256)
     byte i less =
         let old = number_byte memory place i less means in
         elim (cases_eq (place + i) (place + n)) [

@@ -34,5 +34,6 @@ hidden_is base par writes reads ends e f g =
       reads = map stretch_view reads;
       ends = ends;
     } in s) (words base par.channels)
-    ∙ (ap (λ (l : List Kept). let s : Share = record (hidden base par) { reads = map stretch_view l; ends = ends } in s) f
+    ∙ (ap (λ (l : List Kept). let s : Share = record (hidden base par) { reads = map stretch_view l; ends = ends } in s)
+    f
     ∙ ap (λ (l : List End). let s : Share = record (hidden base par) { ends = l } in s) g))

@@ -19,7 +19,8 @@ use Rattle.machine_state.specs.Joins.{given_back}
 use Rattle.machine_state.specs.Roles.{members_without, without_member, without_own}
 
 -- nobody is left where all that are there leave
-pub nobody_left : (p : ℕ) (members : List ℕ) → list_all (λ q. q == p) members ≡ (length (members_without p members) == 0)
+pub nobody_left : (p : ℕ) (members : List ℕ) → list_all (λ q. q == p) members
+    ≡ (length (members_without p members) == 0)
 nobody_left p [] = refl
 nobody_left p (q ∷ members) = on (nobody_left p members) (q == p)
   where
@@ -59,7 +60,8 @@ on_opened w p join g h = on (slice_get w.roles p) h
 -- what leaves a join leaves the one that is open
 pub leaves : (w : World) (opener p : ℕ) (join : Join) → opened_by w opener ≡ Some join
     → on_role opener (without_member p) w
-    ≡ on_role opener (λ role. record role { opened = Some (record join { members = members_without p join.members }) }) w
+    ≡ on_role opener (λ role. record role { opened = Some (record join { members = members_without p join.members }) })
+    w
 leaves w opener p join h =
     on_opened w opener join (λ j. record j { members = members_without p j.members }) h
 

@@ -120,7 +120,8 @@ covers_mapped end spans seen stretches e covering = record {
       ∙ sym (list_any-map (λ s. stretches_over s p) stretch_view stretches));
 }
 
-module _ (end : ℕ) (h left : Holding) (share : Share) (writes reads w1 r1 w2 r2 : List Span) (ends taken : List End) where
+module _ (end : ℕ) (h left : Holding) (share : Share) (writes reads w1 r1 w2 r2 : List Span)
+    (ends taken : List End) where
   pub less_by : Covers end writes (writes_place share) → Covers end reads (reads_place share)
       → w1 ≡ writes → r1 ≡ reads → w2 ≡ writes → r2 ≡ reads → ends ≡ h.ends → taken ≡ share.ends
       → left.writes ≡ runs (λ p. may_write h p && not (covered w1 p) && not (covered r1 p)) 0 end

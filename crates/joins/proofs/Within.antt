@@ -109,7 +109,8 @@ module _ (n : ℕ) (test : ℕ → Bool) where
       none : (p : ℕ) (b : Bool) → over stretches p ≡ b → false ≡ (nat_lt p n && (over stretches p && not (test p)))
       none p true e =
           let passes : test p ≡ true = within_pass stretches within p e in
-          sym (ap (λ (b : Bool). nat_lt p n && (over stretches p && not b)) passes ∙ off (nat_lt p n) (over stretches p))
+          sym (ap (λ (b : Bool). nat_lt p n && (over stretches p && not b)) passes
+          ∙ off (nat_lt p n) (over stretches p))
         where
           off : (x y : Bool) → (x && (y && not true)) ≡ false
           off true true = refl

@@ -1,4 +1,5 @@
--- What an instruction asks of others is posed rightly, and once its own part is done, the rest of its turn is the whole.
+-- What an instruction asks of others is posed rightly, and once its own part is done, the rest of its turn is the
+-- whole.
 use Rattle.std.proofs.Common.{◌≡◌, ℤ, Bool, Result, Ok, Err, subst, sym, ◌∙◌}
 use Rattle.prefix_decoder.specs.declared.function.Fun.{Fun}
 use Rattle.machine_state.specs.declared.cpu.Cpu.{Cpu}

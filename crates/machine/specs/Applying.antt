@@ -14,7 +14,8 @@ use Rattle.machine_state.specs.Asking.{asked, local_for, untouched, IsGrantable}
 use Rattle.machine_state.specs.Exchanges.{bytes_at}
 use Rattle.machine_state.specs.LocalStep.{local_step, are_defined}
 use Rattle.machine_state.specs.Moves.{counted, faulty}
-use Rattle.machine_state.specs.Happens.{Effect, ran, idle, emitted, taken, kept, busy, acknowledged, ignored, Turn, Here}
+use Rattle.machine_state.specs.Happens.{Effect, ran, idle, emitted, taken, kept, busy, acknowledged, ignored, Turn}
+use Rattle.machine_state.specs.Happens.{Here}
 use Rattle.machine_state.specs.Happens.{answered, site_of}
 use Rattle.machine.specs.declared.checked.act.Act.{Act}
 use Rattle.machine.specs.declared.checked.act.Act.TheVariants.{Ran, Idle, Emitted, Taken, Kept, Busy, Acknowledged}

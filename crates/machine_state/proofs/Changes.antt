@@ -663,7 +663,8 @@ module _ (m : Contents) (w : World) (keeps : WaitsIn w) where
       let v = with_output k (record { waiting = None }) w in
       let only = wake_only p v in
       these (wake p v) _ _ (acknowledges p k output here waiting x)
-      (tasks_of_equal (on_task_is p (λ task. record task { condition = Ready }) v x.task x.here)) only.roles only.channels
+      (tasks_of_equal (on_task_is p (λ task. record task { condition = Ready }) v x.task x.here))
+      only.roles only.channels
       only.links
 
 -- what is so of the loaded parts and kept by each event is so of the parts of every world that events lead to

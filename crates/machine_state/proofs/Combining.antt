@@ -148,11 +148,13 @@ module _ (R : Outcome → Outcome → Type 0) (at_fault : (kind : FaultKind) →
     unfolding step.goes_on
     goes_on l l' h = passes (ltb s.next s.code_length) OutsideCode _ _ (λ e. h)
 
-    pub leads_to : (to : ℕ) (l l' : Local) → R (jumps to l) (jumps to l') → R (step.leads_to s to l) (step.leads_to s to l')
+    pub leads_to : (to : ℕ) (l l' : Local) → R (jumps to l) (jumps to l')
+        → R (step.leads_to s to l) (step.leads_to s to l')
     unfolding step.leads_to
     leads_to to l l' h = passes (ltb to s.code_length) OutsideCode _ _ (λ e. h)
 
-    pub lands_at : (to : ℕ) (l l' : Local) → R (lands to l) (lands to l') → R (step.lands_at s to l) (step.lands_at s to l')
+    pub lands_at : (to : ℕ) (l l' : Local) → R (lands to l) (lands to l')
+        → R (step.lands_at s to l) (step.lands_at s to l')
     unfolding step.lands_at
     lands_at to l l' h = passes (ltb to s.code_length) OutsideCode _ _ (λ e. h)
 

@@ -68,7 +68,8 @@ byte_is_own h memory to v own = record { size = length-with_byte memory to v; ot
         differs : place ≢ to
         differs same = let x : true ≡ false = sym own ∙ ap (may_write h) (sym same) ∙ e in cc
 
-pub copy_is_own : (h : Holding) (from : Memory) (source to n : ℕ) (memory : Memory) → all_places (may_write h) to n ≡ true
+pub copy_is_own : (h : Holding) (from : Memory) (source to n : ℕ) (memory : Memory)
+    → all_places (may_write h) to n ≡ true
     → ChangesOwn h memory (step.copied from source to n memory)
 unfolding step.copied all_places
 copy_is_own h from source to zero memory own = changes_nothing h memory

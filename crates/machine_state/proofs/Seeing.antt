@@ -238,7 +238,11 @@ module _ (seen : ℕ → Bool) where
 
         on_channel : input_link e.channel ≡ None → (c : Option Channel) → channel_at w e.channel ≡ c
             → SameTurn seen
-            (elim c as (λ c. Turn) [ None ↦ failed h EndNotHeld w | Some c ↦ exchange.received_inside h e c (here r m) w ])
+            (elim c as (λ c. Turn) [
+              | None ↦ failed h EndNotHeld w
+              | Some c ↦
+                  exchange.received_inside h e c (here r m) w
+            ])
             (elim c as (λ c. Turn)
             [ None ↦ failed h EndNotHeld w' | Some c ↦ exchange.received_inside h e c (here r n) w' ])
         on_channel inside None is = fails_alike EndNotHeld
@@ -353,7 +357,8 @@ module _ (seen : ℕ → Bool) where
 
     -- it goes on in some mode
     counts_alike : (move : World → World) → IsBlind move → (v : World) (n : Memory) → Agree seen v.memory n
-        → SameTurn seen (answered turn.ran (counted (move v))) (answered turn.ran (counted (move (record v { memory = n }))))
+        → SameTurn seen (answered turn.ran (counted (move v)))
+        (answered turn.ran (counted (move (record v { memory = n }))))
     counts_alike move blind v n agree = moves turn.ran (λ v. counted (move v)) (λ v n. ap counted (blind v n)) v n agree
 
     waited : (r : Registers) (m n : Memory) → Agree seen m n
@@ -605,8 +610,10 @@ module _ (seen : ℕ → Bool) where
     started : (plan : join.Plan) (found : join.Found) (workspace : ℕ) (r : Registers) (m n : Memory)
         (channels : List (Option Channel)) → Agree seen m n
         → SameTurn seen
-        (answered turn.ran (counted (join.started h plan found workspace (here r m) (record w { channels = channels }))))
-        (answered turn.ran (counted (join.started h plan found workspace (here r n) (record w' { channels = channels }))))
+        (answered turn.ran (counted (join.started h plan found workspace (here r m)
+        (record w { channels = channels }))))
+        (answered turn.ran (counted (join.started h plan found workspace (here r n)
+        (record w' { channels = channels }))))
     started plan found workspace r m n channels agree =
         let addresses = join.scheduling_addresses workspace in
         let later = join.without_words addresses n in
@@ -805,7 +812,8 @@ module _ (seen : ℕ → Bool) where
 
       opens : (plan : join.Plan) (found : join.Found) (workspace : ℕ) (r : Registers) (m n : Memory) → Agree seen m n
           → SameTurn seen (join.start_or_fail h (join.first_faults h.contents w.memory mine plan found workspace)
-          (join.started h plan found workspace (join.opened h plan (here r m) w).0 (join.opened h plan (here r m) w).1) w)
+          (join.started h plan found workspace (join.opened h plan (here r m) w).0 (join.opened h plan (here r m) w).1)
+          w)
           (join.start_or_fail h (join.first_faults h.contents n0 mine plan found workspace)
           (join.started h plan found workspace (join.opened h plan (here r n) w').0
           (join.opened h plan (here r n) w').1) w')
@@ -823,7 +831,8 @@ module _ (seen : ℕ → Bool) where
           let plan = join.first_plan h.contents h.process h.from.registers.workspace mine w.memory found in
           subst (λ (other : join.Plan). SameTurn seen
           (join.start_or_fail h (join.first_faults h.contents w.memory mine plan found workspace)
-          (join.started h plan found workspace (join.opened h plan (here r m) w).0 (join.opened h plan (here r m) w).1) w)
+          (join.started h plan found workspace (join.opened h plan (here r m) w).0 (join.opened h plan (here r m) w).1)
+          w)
           (join.start_or_fail h (join.first_faults h.contents n0 mine other found workspace)
           (join.started h other found workspace (join.opened h other (here r n) w').0
           (join.opened h other (here r n) w').1) w')) (sym (plans_alike found))

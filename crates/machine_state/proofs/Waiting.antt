@@ -838,7 +838,8 @@ module _ (h : Here) (w : World) (runs : w.queue.running ≡ Some h.process)
       goes_away = subst (λ (x : World). WaitsIn (dispatch h.pick (leave x))) (sym there_is)
           (leaves u (leave (record v { roles = slice_set roles o (less r) })) refl refl fewer)
 
-      closes : IsOver tasks o → (length (filter (λ q. not (q == h.process)) j.members) == 0) ≡ true → WaitsIn (Rattle.machine_state.specs.Joins.closed o j par (on_role o less v))
+      closes : IsOver tasks o → (length (filter (λ q. not (q == h.process)) j.members) == 0) ≡ true
+          → WaitsIn (Rattle.machine_state.specs.Joins.closed o j par (on_role o less v))
       closes x none = subst (λ (x : World). WaitsIn (Rattle.machine_state.specs.Joins.closed o j par x)) (sym there_is)
           (subst (λ (x : World). WaitsIn (finishes x)) (sym reopened) (record {
             line = record {
@@ -1022,7 +1023,8 @@ module _ (h : Here) (w : World) (runs : w.queue.running ≡ Some h.process)
       → WaitsIn (started h plan found workspace (record { registers = r; memory = m })
       (record w { channels = channels }))
   begins_branch plan found workspace r m channels member before =
-      begins (record h.from { registers = between h.next r; mode = Starting }) (new_task found.branch workspace) refl refl
+      begins (record h.from { registers = between h.next r; mode = Starting })
+      (new_task found.branch workspace) refl refl
       (holding_of h.contents (length w.memory) (share_by plan found.branch))
       (λ role. record role { opened = Some (join_after (length w.memory) plan found (length w.tasks)) })
       (λ role. refl)
@@ -1082,7 +1084,8 @@ module _ (h : Here) (w : World) (runs : w.queue.running ≡ Some h.process)
   moved_keeps o after (turns.sends_first e l c inside here nobody) says =
       let u = record h.from { registers = between h.next l.registers; condition = Sending e } in
       let v = waits_at h (Sending e) e.channel c l w in
-      dispatch_keeps h.pick (leave (rouse c.enabled v)) (subst (λ (x : World). WaitsIn x) (sym (leave_rouse c.enabled v))
+      dispatch_keeps h.pick (leave (rouse c.enabled v))
+      (subst (λ (x : World). WaitsIn x) (sym (leave_rouse c.enabled v))
       (rouse_keeps c.enabled (leave v) (record { line = others u; rest = rest u })))
   moved_keeps o after (turns.sends_to e l c other wanted inside here partner is same) says =
       meets (record h.from { registers = between h.next l.registers }) refl other (Receiving wanted) is (λ e. cc)
@@ -1237,7 +1240,10 @@ module _ (w : World) (keeps : WaitsIn w) where
       → WaitsIn (wake p (with_input k (record link { waiting = None }) (record w { memory = m })))
   fills_last p k byte link x m = wake_keeps p x.task (with_input k (record link { waiting = None })
       (record w { memory = m })) x.here (not_ready x.task x.exchange x.done x.waits) keeps.line
-      (frees p (input_word k) x (record w.links { inputs = slice_set w.links.inputs k (record link { waiting = None }) })
+      (frees p (input_word k) x (record w.links {
+        inputs =
+            slice_set w.links.inputs k (record link { waiting = None });
+      })
       keeps.rest.four
       (λ j l q a b. elim (set_either w.links.inputs k (record link { waiting = None }) j l a) [
         | inl e ↦ absurd (

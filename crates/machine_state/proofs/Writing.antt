@@ -204,7 +204,8 @@ start_is_own : (h : Holding) (n : ℕ) (plan : Plan) (workspace : ℕ) (found : 
     → ChangesOwn h m (without_words (scheduling_addresses workspace) m)
 start_is_own h n plan workspace found m own there =
     words_are_own h (scheduling_addresses workspace) m
-    (scheduling_is_own h (λ place. may_write plan.rest place && writes_place (share_by plan found.branch) place) workspace
+    (scheduling_is_own h (λ place. may_write plan.rest place
+    && writes_place (share_by plan found.branch) place) workspace
     (λ q both. own q (and_true _ _ both).0) (and_true _ _ (and_true _ _ there).0).0)
 
 -- the words that an open join keeps
@@ -281,7 +282,8 @@ delivers h d e wanted old middle new changes is sent same = rw (same, is) (recor
     others : (q : ℕ) → may_write h q ≡ false
         → is_delivered (Some (record { sent = e; wanted = wanted })) q ≡ false
         → byte_at (step.copied middle (place_of e.address) (place_of wanted.address) e.length middle) q ≡ byte_at old q
-    others q own outside = copied_others middle source to e.length middle q (apart (cases_lt q to) (cases_lt q (to + e.length)))
+    others q own outside = copied_others middle source to e.length middle q
+        (apart (cases_lt q to) (cases_lt q (to + e.length)))
         ∙ changes.others q own
       where
         apart : (q < to) ⊎ (to ≤ q) → (q < to + e.length) ⊎ (to + e.length ≤ q) → (q < to) ⊎ (to + e.length ≤ q)
@@ -363,11 +365,13 @@ module _ (h : Here) (w : World) where
       (changes_more hold w.memory l.memory _ own
       (byte_is_own hold l.memory (place_of e.address) (Some byte) (first_is_own e says.0 says.1))) refl refl
   moved_writes o after (turns.sends_first e l c inside there nobody) own says =
-      only_own hold (delivery_on w e) w.memory l.memory _ own (of_waiting_is _ w e (delivered_to e) c None inside there nobody)
+      only_own hold (delivery_on w e) w.memory l.memory _ own
+      (of_waiting_is _ w e (delivered_to e) c None inside there nobody)
       (rouse_only c.enabled (waits_at h (Sending e) e.channel c l w)).memory
   moved_writes o after (turns.sends_to e l c other wanted inside there partner is same) own says =
       delivers hold (delivery_on w e) e wanted w.memory l.memory _ own
-      (of_waiting_is _ w e (delivered_to e) c (Some other) inside there partner ∙ ap (delivered_to e) is) says.0 (wake_only other
+      (of_waiting_is _ w e (delivered_to e) c (Some other) inside there partner ∙ ap (delivered_to e) is)
+      says.0 (wake_only other
       (with_channel e.channel (record c { waiting = None }) (continued h h.next
       (record l {
         memory = step.copied l.memory (place_of e.address) (place_of wanted.address) e.length l.memory;
@@ -389,7 +393,8 @@ module _ (h : Here) (w : World) where
       only_own hold None w.memory (without_words (scheduling_addresses workspace) l.memory) _
       (changes_more hold w.memory l.memory _ own
       (start_is_own hold (length w.memory) plan workspace found l.memory
-      (λ q rest. subst (λ (g : Holding). may_write g q ≡ true) (sym (holds_rest w h.process j is_open)) rest) may.share))
+      (λ q rest. subst (λ (g : Holding). may_write g q ≡ true) (sym (holds_rest w h.process j is_open)) rest)
+      may.share))
       refl (started_memory plan found workspace l w)
   moved_writes o after (turns.joins_own block l j par is row all) own says =
       only_own hold None w.memory l.memory _ own refl (joined_quiet h h.process j par (ended h l w)).memory

@@ -1,6 +1,7 @@
 //! The running process, and what its instructions ask.
 
-ghost use Rattle.std.specs.Prelude.{◌≡◌, ◌+◌, ◌-◌, ◌%◌, ◌^◌, ◌≤◌, ◌==◌, ◌&&◌, not, nat_lt, int_le, nat_abs, pos, negsuc};
+ghost use Rattle.std.specs.Prelude.{◌≡◌, ◌+◌, ◌-◌, ◌%◌, ◌^◌, ◌≤◌, ◌==◌, ◌&&◌, not, nat_lt, int_le, nat_abs, pos};
+ghost use Rattle.std.specs.Prelude.{negsuc};
 ghost use Rattle.std.specs.Prelude.{IfOk, IsTrue, false};
 ghost use Rattle.std.specs.Option.{ok_or};
 ghost use Rattle.std.specs.Int.{w32, cast_unsigned};
@@ -8,7 +9,8 @@ ghost use Rattle.machine_state.specs.Holding.{may_write, may_read, may_write_wor
 ghost use Rattle.machine_state.specs.LocalStep.{outside_alternation, outside_starts, alone, while_enabling};
 ghost use Rattle.machine_state.specs.LocalStep.{while_disabling, target, channel};
 ghost use Rattle.machine_state.specs.LocalStep.{holds_scheduling_words, without_scheduling_words};
-ghost use Rattle.machine_state.specs.LocalStep.{may_read_bytes, may_write_bytes, are_defined, meet, is_beside_scheduling};
+ghost use Rattle.machine_state.specs.LocalStep.{may_read_bytes, may_write_bytes, are_defined, meet};
+ghost use Rattle.machine_state.specs.LocalStep.{is_beside_scheduling};
 ghost use Rattle.machine_state.specs.Memory.{place_of, local_address, word_at, byte_at};
 ghost use Rattle.machine_state.specs.Performing.{site_of, value_or_fault, Admits, Finds};
 

@@ -111,7 +111,8 @@ module _ (size : ℕ) where
   unfolding branch_counts_at counts_bytes
   branch_counts_again c rest h =
       let regrouped : counts_bytes c ++ rest ≡ u16_bytes c.writes ++ (u16_bytes c.reads
-      ++ (u16_bytes c.written_parameters ++ (u16_bytes c.read_parameters ++ (u16_bytes c.ends ++ rest)))) = simp append_assoc in
+      ++ (u16_bytes c.written_parameters ++ (u16_bytes c.read_parameters ++ (u16_bytes c.ends ++ rest)))) =
+      simp append_assoc in
       ap (branch_counts_at size) regrouped
       ∙ step _ (u16_again size c.writes _ h.writes)
       (step _ (u16_again size c.reads _ h.reads)

@@ -40,7 +40,8 @@ fn is_within(bytes: &[u8], limit: u32) -> bool
 
 /// Version 1 has neither long operations nor table rows.
 fn version_keeps(tables: &Tables) -> bool
-    ensures { IsTrue result ↔ VersionKeeps tables.now.version tables.now.has_long_operations tables.now.table_rows.items }
+    ensures { IsTrue result ↔ VersionKeeps tables.now.version tables.now.has_long_operations
+        tables.now.table_rows.items }
 {
     match tables.version {
         Version::One => !tables.has_long_operations && tables.table_rows.is_empty(),

@@ -35,7 +35,8 @@ impl AtOffset for ProcedureRow {
 /// The first row at an offset, with its index, of rows that rise. It takes logarithmic time.
 pub fn row_at<T: AtOffset>(rows: &[T], offset: u32) -> Option<(usize, &T)>
     requires { IsNonDecreasingBy T.place rows.now }
-    ensures { MatchOption result (IsNowhere T.place rows.now offset) (λ found. IsFirst T.place rows.now offset found.0 found.1.now) }
+    ensures { MatchOption result (IsNowhere T.place rows.now offset)
+        (λ found. IsFirst T.place rows.now offset found.0 found.1.now) }
 {
     let index = rows.partition_point(|row| row.place() < offset);
     let row = rows.get(index)?;

@@ -38,7 +38,8 @@ pub(crate) fn owner_of(tables: &Tables, places: &[Place], context: u32) -> u32
 pub(crate) fn places_of(alloc: Global, tables: &Tables) -> Result<Vec<Place>, AllocError>
     requires limits { LimitsKeep (contents_of tables.now) }
     requires rows { RowsKeep (contents_of tables.now) }
-    ensures { IfOk result (λ places. ArePlaces (contents_of tables.now) (branch_count (contents_of tables.now).pars) places.items) }
+    ensures { IfOk result (λ places. ArePlaces (contents_of tables.now)
+        (branch_count (contents_of tables.now).pars) places.items) }
 {
     let mut places = Vec::new(alloc);
     for par in 0..tables.pars.len() {

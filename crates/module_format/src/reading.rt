@@ -53,7 +53,8 @@ pub fn read(alloc: Global, bytes: &[u8]) -> Result<(Tables<'_>, Vec<Place>), For
     // What is read is what the bytes spell.
     ensures found { IfOk result (λ x. Format bytes.now (contents_of x.0)) }
     // What the bytes spell is read, unless memory runs out.
-    ensures only { (c : Contents) → Format bytes.now c → MatchResult result (λ x. contents_of x.0 ≡ c) (λ f. f ≡ out_of_memory) }
+    ensures only { (c : Contents) → Format bytes.now c → MatchResult result (λ x. contents_of x.0 ≡ c)
+        (λ f. f ≡ out_of_memory) }
     // Bytes that are refused spell nothing.
     ensures refused { IfErr result (λ f. f ≢ out_of_memory → (c : Contents) → Format bytes.now c → ⊥) }
     // Which fault it is, and where.

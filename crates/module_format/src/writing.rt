@@ -32,7 +32,8 @@ fn put_magic(out: &mut Writer, version: Version)
 /// The numbers of the code, the constants and the data area, and the bounds of a run.
 fn put_sizes(out: &mut Writer, tables: &Tables)
     requires { Keeps (contents_of tables.now) }
-    ensures { Writes out.old (u32_bytes (length tables.now.code.now) ++ u32_bytes (length tables.now.constants.now) ++ u32_bytes tables.now.data_words
+    ensures { Writes out.old (u32_bytes (length tables.now.code.now) ++ u32_bytes
+        (length tables.now.constants.now) ++ u32_bytes tables.now.data_words
         ++ u32_bytes tables.now.base ++ u64_bytes tables.now.budget ++ u32_bytes tables.now.finish) out.new }
 {
     out.u32(tables.code.len() as u32);
@@ -46,7 +47,8 @@ fn put_sizes(out: &mut Writer, tables: &Tables)
 /// The numbers of rows that both versions have.
 fn put_counts(out: &mut Writer, tables: &Tables)
     requires { Keeps (contents_of tables.now) }
-    ensures { Writes out.old (u32_bytes (length (contents_of tables.now).procedures) ++ u32_bytes (length (contents_of tables.now).labels)
+    ensures { Writes out.old (u32_bytes (length (contents_of tables.now).procedures) ++ u32_bytes
+        (length (contents_of tables.now).labels)
         ++ u32_bytes (length (contents_of tables.now).pars)) out.new }
 {
     out.u32(tables.procedures.len() as u32);
@@ -68,7 +70,8 @@ fn put_header(out: &mut Writer, tables: &Tables)
 /// The flag and the number of table rows, which version 1 doesn't have.
 fn put_extension(out: &mut Writer, tables: &Tables)
     requires { Keeps (contents_of tables.now) }
-    ensures { Writes out.old (flag_bytes tables.now.version tables.now.has_long_operations (length tables.now.table_rows.items)) out.new }
+    ensures { Writes out.old (flag_bytes tables.now.version tables.now.has_long_operations
+        (length tables.now.table_rows.items)) out.new }
 {
     match tables.version {
         Version::One => {}

@@ -370,18 +370,27 @@ lexeme-single c h rest = rw (h.no_number.no_letter, h.no_number.no_digit, h.no_n
 
 lexeme-double : (c : ℕ) → IsDouble c → IsQuoted 34 c
 unfolding is_lexeme
-lexeme-double c h rest = rw (h.no_number.no_letter, h.no_number.no_digit, h.no_number.no_hash, h.no_single, h.quote) refl
+lexeme-double c h rest = rw (
+  h.no_number.no_letter,
+  h.no_number.no_digit,
+  h.no_number.no_hash,
+  h.no_single,
+  h.quote,
+) refl
 
 meaning-single : (c : ℕ) (rest : List ℕ) → IsSingle c
     → meaning (c ∷ rest) ≡ option_and_then character_of (decoded 0 (body_of rest))
 unfolding meaning
-meaning-single c rest h = cond-false (is_ascii_alphabetic c) _ _ h.no_number.no_letter ∙ cond-false (is_ascii_digit c) _ _
+meaning-single c rest h = cond-false (is_ascii_alphabetic c) _ _ h.no_number.no_letter
+    ∙ cond-false (is_ascii_digit c) _ _
     h.no_number.no_digit ∙ cond-false (eqb c 35) _ _ h.no_number.no_hash ∙ cond-true (eqb c 39) _ _ h.quote
 
 meaning-double : (c : ℕ) (rest : List ℕ) → IsDouble c → meaning (c ∷ rest) ≡ option_map Text (decoded 0 (body_of rest))
 unfolding meaning
-meaning-double c rest h = cond-false (is_ascii_alphabetic c) _ _ h.no_number.no_letter ∙ cond-false (is_ascii_digit c) _ _
-    h.no_number.no_digit ∙ cond-false (eqb c 35) _ _ h.no_number.no_hash ∙ cond-false (eqb c 39) _ _ h.no_single ∙ cond-true (eqb c 34) _
+meaning-double c rest h = cond-false (is_ascii_alphabetic c) _ _ h.no_number.no_letter
+    ∙ cond-false (is_ascii_digit c) _ _
+    h.no_number.no_digit ∙ cond-false (eqb c 35) _ _ h.no_number.no_hash ∙ cond-false (eqb c 39) _ _ h.no_single
+    ∙ cond-true (eqb c 34) _
     _ h.quote
 
 found_quoted : (quote c len : ℕ) (rest : List ℕ) (kind : Kind) → IsQuoted quote c
@@ -477,13 +486,16 @@ pub record IsOther (c : ℕ) : Type 0 where
 lexeme-other : (c : ℕ) (rest : List ℕ) → IsOther c → is_lexeme (c ∷ rest) ≡ is_sign (c ∷ rest)
 unfolding is_lexeme
 lexeme-other c rest h = cond-false (is_ascii_alphabetic c) _ _ h.no_number.no_letter ∙ cond-false (is_ascii_digit c) _ _
-    h.no_number.no_digit ∙ cond-false (eqb c 35) _ _ h.no_number.no_hash ∙ cond-false (eqb c 39) _ _ h.no_single ∙ cond-false (eqb c 34)
+    h.no_number.no_digit ∙ cond-false (eqb c 35) _ _ h.no_number.no_hash ∙ cond-false (eqb c 39) _ _ h.no_single
+    ∙ cond-false (eqb c 34)
     _ _ h.no_double
 
 meaning-other : (c : ℕ) (rest : List ℕ) → IsOther c → meaning (c ∷ rest) ≡ Some (Mark (c ∷ rest))
 unfolding meaning
-meaning-other c rest h = cond-false (is_ascii_alphabetic c) _ _ h.no_number.no_letter ∙ cond-false (is_ascii_digit c) _ _
-    h.no_number.no_digit ∙ cond-false (eqb c 35) _ _ h.no_number.no_hash ∙ cond-false (eqb c 39) _ _ h.no_single ∙ cond-false (eqb c 34)
+meaning-other c rest h = cond-false (is_ascii_alphabetic c) _ _ h.no_number.no_letter
+    ∙ cond-false (is_ascii_digit c) _ _
+    h.no_number.no_digit ∙ cond-false (eqb c 35) _ _ h.no_number.no_hash ∙ cond-false (eqb c 39) _ _ h.no_single
+    ∙ cond-false (eqb c 34)
     _ _ h.no_double
 
 none_long : (text : List ℕ) (words : List (List ℕ)) → list_all (λ word. nat_lt (length word) 3) words ≡ true

@@ -116,7 +116,8 @@ row_then number offset deepest line lines (Some row) rows others few is e =
     let behind = others (number + 1) (offset + length line + 1) (row.level + 1) b.0 b.1 in
     let one = Counts number offset deepest row.level line lines row.tokens b.0 few is.0 is.1 is.2 is.3 is.4 behind in
     let two = subst (λ (r : Row). Rows number offset deepest (line ∷ lines) (r ∷ b.0)) (sym is.5) one in
-    subst (λ (all : List Row). Rows number offset deepest (line ∷ lines) all) (ok_is LayoutFault (row ∷ b.0) rows b.2) two
+    subst (λ (all : List Row). Rows number offset deepest (line ∷ lines) all)
+    (ok_is LayoutFault (row ∷ b.0) rows b.2) two
 
 told_then : (number offset deepest : ℕ) (line : List ℕ) (lines : List (List ℕ)) (read : Result (Option Row) Fault)
     (rows : List Row) → Reads lines → number ≤ MAX_LINES → IsRowIfOk number offset deepest line read
@@ -199,7 +200,8 @@ source_only source rows is = read-rows source is.small ∙ rows_only 1 0 0 (line
 
 pub one_reading : (source : List ℕ) (rows others : List Row) → IsSource source rows → IsSource source others
     → rows ≡ others
-one_reading source rows others a b = ok_is LayoutFault rows others (sym (source_only source rows a) ∙ source_only source others b)
+one_reading source rows others a b = ok_is LayoutFault rows others
+    (sym (source_only source rows a) ∙ source_only source others b)
 
 -- ---- the lines of a text
 

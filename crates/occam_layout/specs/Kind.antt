@@ -1,5 +1,6 @@
 -- What a token is, apart from where it stands in memory.
-use Rattle.std.specs.Prelude.{ℕ, ℤ, Bool, List, [], ◌∷◌, length, map, filter, ◌==◌, codes, bytes_eq, unwrap_or, Option, Some}
+use Rattle.std.specs.Prelude.{ℕ, ℤ, Bool, List, [], ◌∷◌, length, map, filter, ◌==◌, codes, bytes_eq, unwrap_or, Option}
+use Rattle.std.specs.Prelude.{Some}
 use Rattle.std.specs.Prelude.{None, if◌then◌else◌}
 use Rattle.std.specs.List.{list_any}
 use Rattle.occam_layout.specs.Characters.{decoded}

@@ -43,7 +43,8 @@ fn has_characters_alone(bytes: &[u8]) -> bool
 fn next_token(offset: u32, line: &[u8]) -> Result<Option<(Token<'_>, &[u8])>, Fault>
     requires { offset + length line.now < 2 ^ 32 }
     ensures next { Continues (tokens_at 0) offset line.now result }
-    ensures within { IfOk result (λ found. IfSome found (λ x. (length x.1.now < length line.now) × (x.0.end + length x.1.now ≤ offset + length line.now))) }
+    ensures within { IfOk result (λ found. IfSome found
+        (λ x. (length x.1.now < length line.now) × (x.0.end + length x.1.now ≤ offset + length line.now))) }
 {
     let gap = spaces_len(line);
     let (_, rest) = line.split_at(gap);

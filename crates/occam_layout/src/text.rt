@@ -41,7 +41,8 @@ pub(crate) fn digit_value(digit: u8) -> u8
 
 /// The byte that two hexadecimal digits spell.
 fn coded(high: u8, low: u8) -> Option<u8>
-    ensures { result ≡ (if is_ascii_hexdigit high && is_ascii_hexdigit low then Some (16 * digit_value high + digit_value low) else None) }
+    ensures { result ≡ (if is_ascii_hexdigit high && is_ascii_hexdigit low then Some
+        (16 * digit_value high + digit_value low) else None) }
 {
     if high.is_ascii_hexdigit() && low.is_ascii_hexdigit() {
         Some(digit_value(high) * 16 + digit_value(low))

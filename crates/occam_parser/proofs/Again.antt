@@ -19,7 +19,8 @@ use Rattle.occam_parser.specs.Expressions.{prefix_sign, type_word, truth_word, w
 use Rattle.occam_parser.specs.Expressions.{pair_mark, chain_mark, operator_mark, Fits, FitTerms, FitsTerm}
 use Rattle.occam_parser.specs.Reading.{Reads, ◌>>=◌, behind, prefix_at, operator_at, up_to}
 use Rattle.occam_parser.specs.Reading.{named_behind, named, converted, marked, term_with, chain_from, chain}
-use Rattle.occam_parser.specs.Reading.{with_operator, first_behind, after_first, one_behind, one_operator, alone, expression_with, term_at}
+use Rattle.occam_parser.specs.Reading.{with_operator, first_behind, after_first, one_behind, one_operator, alone}
+use Rattle.occam_parser.specs.Reading.{expression_with, term_at}
 use Rattle.occam_parser.specs.Reading.{inner_at, operand_within, expression_at}
 use Rattle.occam_parser.specs.Laws.{Ends}
 use Rattle.occam_parser.proofs.Marks.{behind_again, operator_again, operator_no_subscript, no_operator_mark}

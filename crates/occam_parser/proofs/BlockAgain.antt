@@ -17,7 +17,8 @@ use Rattle.occam_parser.specs.Blocks.{Guarded, declaration_line, block_row, line
 use Rattle.occam_parser.specs.Blocks.{lines_of_components, lines_of_component, FitsProcess, FitsConstruct}
 use Rattle.occam_parser.specs.Blocks.{FitComponents, FitsComponent}
 use Rattle.occam_parser.specs.BlockReading.{ReadsLines, begins_at, Beginning, begun, beginning_from}
-use Rattle.occam_parser.specs.BlockReading.{with_declarations, components_of, only_one, read_as, block_with, replicated_with}
+use Rattle.occam_parser.specs.BlockReading.{with_declarations, components_of, only_one, read_as, block_with}
+use Rattle.occam_parser.specs.BlockReading.{replicated_with}
 use Rattle.occam_parser.specs.BlockReading.{body_with, construct_behind, process_behind, process_with, head_row}
 use Rattle.occam_parser.specs.BlockReading.{headed_with, plain, process_at, component_at}
 use Rattle.occam_parser.specs.Terminals.{Terminal}
@@ -233,7 +234,8 @@ mutual
   construct_reads (Block kind cs) line m level found rest e low fits stops =
       opens_again (component_at m (level + 1)) level found line kind None (Block kind cs)
       (lines_of_components cs (level + 1) ++ rest) rest low tt
-      (block_again kind (component_at m (level + 1) (part_of kind)) cs (level + 1) rest (stops (level + 1) (omega arith))
+      (block_again kind (component_at m (level + 1) (part_of kind)) cs (level + 1) rest
+      (stops (level + 1) (omega arith))
       (components_read cs m (level + 1) rest e fits (stops_deeper level rest stops)))
   construct_reads (Replicated r (One kind c)) line m level found rest e low fits stops =
       let rows = lines_of_component c (level + 1) ++ rest in

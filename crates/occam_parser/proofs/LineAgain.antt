@@ -17,9 +17,11 @@ use Rattle.occam_parser.specs.Terminals.{Terminal, Name, Mark}
 use Rattle.occam_parser.specs.OneOrMore.{OneOrMore, as_list}
 use Rattle.occam_parser.specs.Expressions.{Expression, Alone, Prefixed, Paired, Chained, Terms, Two, Then, Term}
 use Rattle.occam_parser.specs.Expressions.{Number, Byte, Truth, MostPos, MostNeg, Named, Element, Bracketed, Converted}
-use Rattle.occam_parser.specs.Expressions.{pair_mark, chain_mark, operator_mark, prefix_sign, type_word, written, written_terms, written_term}
+use Rattle.occam_parser.specs.Expressions.{pair_mark, chain_mark, operator_mark, prefix_sign, type_word, written}
+use Rattle.occam_parser.specs.Expressions.{written_terms, written_term}
 use Rattle.occam_parser.specs.declared.tree.PrefixOperator.TheVariants as prefix
-use Rattle.occam_parser.specs.Reading.{Reads, up_to, ◌>>=◌, behind, is_mark, operator_of, marked_by, operator_at, expression_at}
+use Rattle.occam_parser.specs.Reading.{Reads, up_to, ◌>>=◌, behind, is_mark, operator_of, marked_by, operator_at}
+use Rattle.occam_parser.specs.Reading.{expression_at}
 use Rattle.occam_parser.specs.Reading.{list_of}
 use Rattle.occam_parser.specs.Laws.{Ends}
 use Rattle.occam_parser.specs.Lines.{Place, Replicator, Value, Scalar, Table, Bytes, Constant, Names, Declaration}
@@ -39,7 +41,8 @@ use Rattle.occam_parser.specs.LineReading.{value_at, constant_at, declared_as, n
 use Rattle.occam_parser.specs.LineReading.{formal_behind, formal_at, items_behind, in_parentheses, proc_head_at}
 use Rattle.occam_parser.specs.LineReading.{placed_action, instance_or_other, action_at, counted_at}
 use Rattle.occam_parser.specs.LineReading.{replicator_at, block_at, declaration_at, marked_head, head_at}
-use Rattle.occam_parser.specs.LineReading.{is_guard_sign, has_condition, input_at, skips_or_receives, conditioned_at, guard_at}
+use Rattle.occam_parser.specs.LineReading.{is_guard_sign, has_condition, input_at, skips_or_receives, conditioned_at}
+use Rattle.occam_parser.specs.LineReading.{guard_at}
 use Rattle.occam_parser.proofs.Marks.{behind_again, behind_other, operator_of_mark}
 use Rattle.occam_parser.proofs.Again.{up_to_again, begins_no_other, expression_again}
 use Rattle.occam_parser.proofs.ListLaws.{Again, list_again}

@@ -13,7 +13,8 @@ use Rattle.occam_parser.specs.declared.front.Operator.TheVariants as operator
 use Rattle.occam_parser.specs.Terminals.{Terminal, Name, Integer, Character, Text, Mark}
 use Rattle.occam_parser.specs.Expressions.{Expression, Alone, Prefixed, Paired, Chained, Terms, Two, Then, Term}
 use Rattle.occam_parser.specs.Expressions.{Number, Byte, Truth, MostPos, MostNeg, Named, Element, Bracketed, Converted}
-use Rattle.occam_parser.specs.Expressions.{prefix_sign, type_word, pair_mark, chain_mark, operator_mark, written, written_terms}
+use Rattle.occam_parser.specs.Expressions.{prefix_sign, type_word, pair_mark, chain_mark, operator_mark, written}
+use Rattle.occam_parser.specs.Expressions.{written_terms}
 use Rattle.occam_parser.specs.Expressions.{written_term, Fits}
 use Rattle.occam_parser.specs.Expressions.{FitTerms, FitsTerm}
 use Rattle.occam_parser.specs.Reading.{Reads, ◌>>=◌, behind, prefix_at, operator_at, up_to}

@@ -167,7 +167,8 @@ only_tells view level (Err e) (Err t) got only told =
 only_tells view level (Err e) (Ok x) got only told = absurd (cc only)
 only_tells {A} {Y} view level (Ok x) (Err t) got only told =
     lacks_none t (only_one level got)
-    (ap (only_one level) told ∙ ap (λ b. cond {A = Option (Y × List Row)} b None (Some (view x.0, rows_of x.1.now))) only)
+    (ap (only_one level) told ∙ ap
+    (λ b. cond {A = Option (Y × List Row)} b None (Some (view x.0, rows_of x.1.now))) only)
 only_tells {A} {Y} view level (Ok x) (Ok y) got only told =
     ap (only_one level) told
     ∙ ap (λ b. cond {A = Option (Y × List Row)} b None (Some (view x.0, rows_of x.1.now))) only.2

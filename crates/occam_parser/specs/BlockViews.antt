@@ -27,7 +27,8 @@ use Rattle.occam_parser.specs.LineViews.{declaration_of, action_of, replicator_o
 use Rattle.occam_parser.specs.LineViews.{start_of}
 use Rattle.occam_parser.specs.Told.{Lacks}
 use Rattle.occam_parser.specs.Blocks.{Row, rows_of, Process, Does, Construct, Act, Block, Replicated, Body, One, Part}
-use Rattle.occam_parser.specs.Blocks.{Processes, Choices, Branches, part_of, Components, NoComponent, Further, Component}
+use Rattle.occam_parser.specs.Blocks.{Processes, Choices, Branches, part_of, Components, NoComponent, Further}
+use Rattle.occam_parser.specs.Blocks.{Component}
 use Rattle.occam_parser.specs.Blocks.{Plain, Chosen, Guarded}
 use Rattle.occam_parser.specs.Blocks.{Procedure, ProgramItem, GlobalConstant, GlobalProcedure}
 use Rattle.occam_parser.specs.BlockReading.{Beginning, with_declarations, read_as, body_with, process_at, component_at}

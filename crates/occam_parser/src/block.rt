@@ -5,7 +5,8 @@ ghost use Rattle.occam_parser.specs.Told.{Tells, Pushes, Makes, IsOnlyOne};
 ghost use Rattle.occam_parser.specs.LineViews.{declaration_of, replicator_of};
 ghost use Rattle.occam_parser.specs.Blocks.{row_of, rows_of, part_of, Block, Replicated as Repeats};
 ghost use Rattle.occam_parser.specs.BlockReading.{first_row, head_row, beginning_from, behind_declarations, begins_at};
-ghost use Rattle.occam_parser.specs.BlockReading.{process_at, component_at, components_of, construct_behind, block_with};
+ghost use Rattle.occam_parser.specs.BlockReading.{process_at, component_at, components_of, construct_behind};
+ghost use Rattle.occam_parser.specs.BlockReading.{block_with};
 ghost use Rattle.occam_parser.specs.BlockReading.{body_with, only_one};
 ghost use Rattle.occam_parser.specs.BlockViews.{process_of, construct_of, beginning_of, body_of, components_in};
 ghost use Rattle.occam_parser.specs.BlockViews.{Adds, led, LeadsTo};
@@ -54,7 +55,8 @@ fn headed<'l, 'a, H: FromLine<'a>>(
     level: u32,
     lines: &'l [Line<'a>],
 ) -> Result<((u32, H), &'l [Line<'a>]), Refusal>
-    ensures found { Tells (λ x. ((x.0.0, H.tree x.0.1), rows_of x.1.now)) result (head_row H.reads level (rows_of lines.now)) }
+    ensures found { Tells (λ x. ((x.0.0, H.tree x.0.1), rows_of x.1.now)) result
+        (head_row H.reads level (rows_of lines.now)) }
     ensures within { IfOk result (λ x. length x.1.now < length lines.now) }
     ensures level { OnOk result (level ≤ 64) }
 {
@@ -91,7 +93,8 @@ impl<'a> Opening<'a> {
         level: u32,
         lines: &'l [Line<'a>],
     ) -> Result<(Self, &'l [Line<'a>]), Refusal>
-        ensures found { Tells (λ x. (beginning_of x.0, rows_of x.1.now)) result (beginning_from level [] (rows_of lines.now)) }
+        ensures found { Tells (λ x. (beginning_of x.0, rows_of x.1.now)) result
+            (beginning_from level [] (rows_of lines.now)) }
         ensures within { IfOk result (λ x. length x.1.now < length lines.now) }
         ensures level { OnOk result (level ≤ 64) }
     {
@@ -125,7 +128,8 @@ fn made_of<'l, 'a>(
     line: u32,
     read: Result<(Construct<'a>, &'l [Line<'a>]), Refusal>,
 ) -> Result<(Process<'a>, &'l [Line<'a>]), Refusal>
-    ensures { Makes construct_of process_of (behind_declarations (map declaration_of declarations.entry.items) line) read.entry result }
+    ensures { Makes construct_of process_of (behind_declarations (map declaration_of declarations.entry.items) line)
+        read.entry result }
 {
     let (construct, rest) = read?;
     let construct = Box::new(alloc, construct)?;
@@ -301,7 +305,8 @@ pub(crate) fn process<'l, 'a>(
     level: u32,
     lines: &'l [Line<'a>],
 ) -> Result<(Process<'a>, &'l [Line<'a>]), Refusal>
-    ensures found { Tells (λ x. (process_of x.0, rows_of x.1.now)) result (process_at (65 - level) level (rows_of lines.now)) }
+    ensures found { Tells (λ x. (process_of x.0, rows_of x.1.now)) result
+        (process_at (65 - level) level (rows_of lines.now)) }
     ensures within { IfOk result (λ x. length x.1.now < length lines.now) }
 {
     let (opening, rest) = Opening::read(alloc, owner, level, lines)?;
@@ -360,7 +365,8 @@ fn block<'l, 'a>(
     level: u32,
     lines: &'l [Line<'a>],
 ) -> Result<(Construct<'a>, &'l [Line<'a>]), Refusal>
-    ensures found { Tells (λ x. (construct_of x.0, rows_of x.1.now)) result (block_with kind (components_of (component_at (65 - level) level (part_of kind)) level (rows_of lines.now))) }
+    ensures found { Tells (λ x. (construct_of x.0, rows_of x.1.now)) result
+        (block_with kind (components_of (component_at (65 - level) level (part_of kind)) level (rows_of lines.now))) }
     ensures within { IfOk result (λ x. length x.1.now ≤ length lines.now) }
 {
     let owner = lines.len() + 1;
@@ -382,7 +388,8 @@ fn construct<'l, 'a>(
     level: u32,
     lines: &'l [Line<'a>],
 ) -> Result<(Construct<'a>, &'l [Line<'a>]), Refusal>
-    ensures found { Tells (λ x. (construct_of x.0, rows_of x.1.now)) result (construct_behind (component_at (65 - level) level) level kind (option_map replicator_of replicator.entry) (rows_of lines.now)) }
+    ensures found { Tells (λ x. (construct_of x.0, rows_of x.1.now)) result (construct_behind
+        (component_at (65 - level) level) level kind (option_map replicator_of replicator.entry) (rows_of lines.now)) }
     ensures within { IfOk result (λ x. length x.1.now ≤ length lines.now) }
 {
     match replicator {
@@ -404,7 +411,8 @@ fn body<'l, 'a>(
     level: u32,
     lines: &'l [Line<'a>],
 ) -> Result<(Body<'a>, &'l [Line<'a>]), Refusal>
-    ensures found { Tells (λ x. (body_of x.0, rows_of x.1.now)) result (body_with kind (component_at (65 - level) level (part_of kind) (rows_of lines.now))) }
+    ensures found { Tells (λ x. (body_of x.0, rows_of x.1.now)) result
+        (body_with kind (component_at (65 - level) level (part_of kind) (rows_of lines.now))) }
     ensures within { IfOk result (λ x. length x.1.now < length lines.now) }
 {
     let (lead, rest) = Lead::read(alloc, kind, owner, level, lines)?;

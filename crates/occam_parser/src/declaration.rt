@@ -46,7 +46,8 @@ fn value_type<'t, 'a>(tokens: &'t [Token<'a>]) -> Result<(ValueType, &'t [Token<
 /// `type name`, and the tokens behind it.
 #[tactic(auto, unfolding(crate::specs::LineReading::typed_name_at))]
 fn typed_name<'t, 'a>(tokens: &'t [Token<'a>]) -> Read<'t, 'a, (ValueType, &'a [u8])>
-    ensures found { Gives (λ x. ((x.0.0, x.0.1.now), terminals_of x.1.now)) result (typed_name_at (terminals_of tokens.now)) }
+    ensures found { Gives (λ x. ((x.0.0, x.0.1.now), terminals_of x.1.now)) result
+        (typed_name_at (terminals_of tokens.now)) }
     ensures within { IfOk result (λ x. length x.1.now ≤ length tokens.now) }
 {
     let (value_type, rest) = value_type(tokens)?;
@@ -71,7 +72,8 @@ fn shape<'t, 'a>(tokens: &'t [Token<'a>]) -> Result<((bool, ValueType), &'t [Tok
 /// `type name` or `CHAN OF type name`, and the tokens behind it.
 #[tactic(auto, unfolding(crate::specs::Told::shaped_name_at))]
 fn shaped_name<'t, 'a>(tokens: &'t [Token<'a>]) -> Read<'t, 'a, ((bool, ValueType), &'a [u8])>
-    ensures found { Gives (λ x. ((x.0.0, x.0.1.now), terminals_of x.1.now)) result (shaped_name_at (terminals_of tokens.now)) }
+    ensures found { Gives (λ x. ((x.0.0, x.0.1.now), terminals_of x.1.now)) result
+        (shaped_name_at (terminals_of tokens.now)) }
     ensures within { IfOk result (λ x. length x.1.now ≤ length tokens.now) }
 {
     let (shape, rest) = shape(tokens)?;
@@ -106,7 +108,8 @@ fn constant_value<'t, 'a>(
     size: Option<Expr<'a>>,
     tokens: &'t [Token<'a>],
 ) -> Read<'t, 'a, ConstantValue<'a>>
-    ensures { Gives (λ x. (value_of x.0, terminals_of x.1.now)) result (value_at (option_map expression_of size.entry) (terminals_of tokens.now)) }
+    ensures { Gives (λ x. (value_of x.0, terminals_of x.1.now)) result
+        (value_at (option_map expression_of size.entry) (terminals_of tokens.now)) }
 {
     let Some(size) = size else {
         let (value, rest) = Expr::from_tokens(alloc, tokens)?;
@@ -217,7 +220,8 @@ impl<'a> FromTokens<'a> for Formal<'a> {
 /// A formal parameter that is a value, behind its `VAL`.
 #[tactic(auto, unfolding(crate::specs::LineReading::formal_named, crate::specs::LineReading::typed_name_at))]
 fn value_formal<'t, 'a>(alloc: Global, tokens: &'t [Token<'a>]) -> Read<'t, 'a, Formal<'a>>
-    ensures found { Gives (λ x. (formal_of x.0, terminals_of x.1.now)) result (value_formal_at (terminals_of tokens.now)) }
+    ensures found { Gives (λ x. (formal_of x.0, terminals_of x.1.now)) result
+        (value_formal_at (terminals_of tokens.now)) }
     ensures within { IfOk result (λ x. length x.1.now ≤ length tokens.now) }
 {
     let (size, rest) = in_brackets(alloc, tokens)?;

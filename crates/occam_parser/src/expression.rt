@@ -81,7 +81,8 @@ impl<'a> FromTokens<'a> for Expr<'a> {
 #[cycle(expression)]
 #[tactic(auto, unfolding(crate::specs::Reading::expression_at, crate::specs::Reading::expression_with))]
 fn nested<'t, 'a>(alloc: Global, levels: u32, tokens: &'t [Token<'a>]) -> Read<'t, 'a, Expr<'a>>
-    ensures found { Gives (λ x. (expression_of x.0, terminals_of x.1.now)) result (expression_at levels (terminals_of tokens.now)) }
+    ensures found { Gives (λ x. (expression_of x.0, terminals_of x.1.now)) result
+        (expression_at levels (terminals_of tokens.now)) }
     ensures within { IfOk result (λ x. length x.1.now ≤ length tokens.now) }
 {
     let (found, rest) = one_operator(alloc, levels, tokens)?;
@@ -111,7 +112,8 @@ fn one_operator<'t, 'a>(
     levels: u32,
     tokens: &'t [Token<'a>],
 ) -> Read<'t, 'a, Expr<'a>>
-    ensures found { Gives (λ x. (expression_of x.0, terminals_of x.1.now)) result (one_operator (term_at levels) (terminals_of tokens.now)) }
+    ensures found { Gives (λ x. (expression_of x.0, terminals_of x.1.now)) result
+        (one_operator (term_at levels) (terminals_of tokens.now)) }
     ensures within { IfOk result (λ x. length x.1.now ≤ length tokens.now) }
 {
     if let Some((operator, rest)) = prefix(tokens) {
@@ -150,7 +152,8 @@ fn chain<'t, 'a>(
     first: Operand<'a>,
     tokens: &'t [Token<'a>],
 ) -> Read<'t, 'a, Expr<'a>>
-    ensures found { Gives (λ x. (expression_of x.0, terminals_of x.1.now)) result (chain (term_at levels) operator mark (term_of first.entry) (terminals_of tokens.now)) }
+    ensures found { Gives (λ x. (expression_of x.0, terminals_of x.1.now)) result
+        (chain (term_at levels) operator mark (term_of first.entry) (terminals_of tokens.now)) }
     ensures within { IfOk result (λ x. length x.1.now ≤ length tokens.now) }
 {
     let (second, mut rest) = operand(alloc, levels, tokens)?;
@@ -194,7 +197,8 @@ fn marked<'t, 'a>(
     mark: Mark,
     tokens: &'t [Token<'a>],
 ) -> Read<'t, 'a, Operand<'a>>
-    ensures found { Gives (λ x. (term_of x.0, terminals_of x.1.now)) result (marked (inner_at levels) (operand_within levels) mark (terminals_of tokens.now)) }
+    ensures found { Gives (λ x. (term_of x.0, terminals_of x.1.now)) result
+        (marked (inner_at levels) (operand_within levels) mark (terminals_of tokens.now)) }
     ensures within { IfOk result (λ x. length x.1.now ≤ length tokens.now) }
 {
     match mark {
@@ -222,7 +226,8 @@ fn named<'t, 'a>(
     name: &'a [u8],
     tokens: &'t [Token<'a>],
 ) -> Read<'t, 'a, Operand<'a>>
-    ensures found { Gives (λ x. (term_of x.0, terminals_of x.1.now)) result (named (inner_at levels) name.now (terminals_of tokens.now)) }
+    ensures found { Gives (λ x. (term_of x.0, terminals_of x.1.now)) result
+        (named (inner_at levels) name.now (terminals_of tokens.now)) }
     ensures within { IfOk result (λ x. length x.1.now ≤ length tokens.now) }
 {
     let Some(after) = behind(Mark::OpenBracket, tokens) else {
@@ -241,7 +246,8 @@ fn converted<'t, 'a>(
     to: ValueType,
     tokens: &'t [Token<'a>],
 ) -> Read<'t, 'a, Operand<'a>>
-    ensures found { Gives (λ x. (term_of x.0, terminals_of x.1.now)) result (converted (operand_within levels) to (terminals_of tokens.now)) }
+    ensures found { Gives (λ x. (term_of x.0, terminals_of x.1.now)) result
+        (converted (operand_within levels) to (terminals_of tokens.now)) }
     ensures within { IfOk result (λ x. length x.1.now ≤ length tokens.now) }
 {
     if levels == 0 {
@@ -261,7 +267,8 @@ fn deeper<'t, 'a>(
     close: Mark,
     tokens: &'t [Token<'a>],
 ) -> Read<'t, 'a, Expr<'a>>
-    ensures found { Gives (λ x. (expression_of x.0, terminals_of x.1.now)) result (up_to close (inner_at levels (terminals_of tokens.now))) }
+    ensures found { Gives (λ x. (expression_of x.0, terminals_of x.1.now)) result
+        (up_to close (inner_at levels (terminals_of tokens.now))) }
     ensures within { IfOk result (λ x. length x.1.now ≤ length tokens.now) }
 {
     if levels == 0 {
@@ -276,7 +283,8 @@ pub(crate) fn in_brackets<'t, 'a>(
     alloc: Global,
     tokens: &'t [Token<'a>],
 ) -> Read<'t, 'a, Option<Expr<'a>>>
-    ensures found { Gives (λ x. (option_map expression_of x.0, terminals_of x.1.now)) result (bracketed_at (terminals_of tokens.now)) }
+    ensures found { Gives (λ x. (option_map expression_of x.0, terminals_of x.1.now)) result
+        (bracketed_at (terminals_of tokens.now)) }
     ensures within { IfOk result (λ x. length x.1.now ≤ length tokens.now) }
 {
     let Some(after) = behind(Mark::OpenBracket, tokens) else {

@@ -54,7 +54,8 @@ pub(crate) fn operator_of(mark: Mark) -> Option<Operator>
 
 /// The first of some tokens, and the tokens behind it.
 pub(crate) fn first<'t, 'a>(tokens: &'t [Token<'a>]) -> Option<(TokenKind<'a>, &'t [Token<'a>])>
-    ensures first { MatchOption result (terminals_of tokens.now ≡ []) (λ x. terminals_of tokens.now ≡ terminal_of x.0 ∷ terminals_of x.1.now) }
+    ensures first { MatchOption result (terminals_of tokens.now ≡ [])
+        (λ x. terminals_of tokens.now ≡ terminal_of x.0 ∷ terminals_of x.1.now) }
     ensures shorter { IfSome result (λ x. length x.1.now < length tokens.now) }
 {
     let (token, rest) = tokens.split_first()?;

@@ -122,7 +122,8 @@ fn marked_head<'a>(
     mark: Mark,
     rest: &[Token<'a>],
 ) -> Result<Head<'a>, LineError>
-    ensures { Gives head_of result (marked_head line.now.number (terminals_of line.now.tokens.items) mark (terminals_of rest.now)) }
+    ensures { Gives head_of result (marked_head line.now.number (terminals_of line.now.tokens.items) mark
+        (terminals_of rest.now)) }
 {
     match mark {
         Mark::Val => Ok(Head::Declaration(Declaration::Constant(constant(
@@ -187,7 +188,8 @@ fn counted<'a>(
 /// A variable or a channel whose name was read.
 #[tactic(auto, unfolding(crate::specs::LineReading::place_at))]
 fn place<'t, 'a>(alloc: Global, name: &'a [u8], tokens: &'t [Token<'a>]) -> Read<'t, 'a, Place<'a>>
-    ensures found { Gives (λ x. (place_of x.0, terminals_of x.1.now)) result (place_at name.now (terminals_of tokens.now)) }
+    ensures found { Gives (λ x. (place_of x.0, terminals_of x.1.now)) result
+        (place_at name.now (terminals_of tokens.now)) }
     ensures within { IfOk result (λ x. length x.1.now ≤ length tokens.now) }
 {
     let (subscript, rest) = in_brackets(alloc, tokens)?;

@@ -32,7 +32,8 @@ pub(crate) fn list<'t, 'a, T: FromTokens<'a>>(
     alloc: Global,
     tokens: &'t [Token<'a>],
 ) -> Read<'t, 'a, OneOrMore<T>>
-    ensures found { Gives (λ x. (one_or_more_of T.tree x.0, terminals_of x.1.now)) result (list_of T.reads (terminals_of tokens.now)) }
+    ensures found { Gives (λ x. (one_or_more_of T.tree x.0, terminals_of x.1.now)) result
+        (list_of T.reads (terminals_of tokens.now)) }
     ensures within { IfOk result (λ x. length x.1.now ≤ length tokens.now) }
 {
     let (first, mut rest) = T::from_tokens(alloc, tokens)?;

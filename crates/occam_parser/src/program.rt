@@ -47,7 +47,8 @@ fn proc<'l, 'a>(
     tokens: &[Token<'a>],
     lines: &'l [Line<'a>],
 ) -> Result<(Item<'a>, &'l [Line<'a>]), Refusal>
-    ensures found { Tells (λ x. (item_of x.0, rows_of x.1.now)) result (as_item (procedure_at line (terminals_of tokens.now) (rows_of lines.now))) }
+    ensures found { Tells (λ x. (item_of x.0, rows_of x.1.now)) result
+        (as_item (procedure_at line (terminals_of tokens.now) (rows_of lines.now))) }
     ensures within { IfOk result (λ x. length x.1.now ≤ length lines.now) }
 {
     let owner = lines.len() + 1;
@@ -123,7 +124,8 @@ pub fn parse<'a>(alloc: Global, lines: &[Line<'a>]) -> Result<Program<'a>, Parse
     // A refusal is a lack of memory, or one of the faults at one of the lines.
     ensures refused { IfErr result (λ fault. IsRefusal (rows_of lines.now) fault) }
     // No lines are two programs.
-    ensures unique { (rows : List Row) (items others : List ProgramItem) → IsProgram rows items → IsProgram rows others → items ≡ others }
+    ensures unique { (rows : List Row) (items others : List ProgramItem) → IsProgram rows items
+        → IsProgram rows others → items ≡ others }
 {
     match items(alloc, lines) {
         Ok(items) => Ok(Program::new(items)),

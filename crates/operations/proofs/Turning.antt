@@ -1,5 +1,6 @@
 -- The step of lend, test by test.
-use Rattle.std.proofs.Common.{◌≡◌, ℕ, ◌%◌, ℤ, Bool, true, false, cond, nat_lt, Option, Some, None, Result, refl, sym, ap, ◌∙◌}
+use Rattle.std.proofs.Common.{◌≡◌, ℕ, ◌%◌, ℤ, Bool, true, false, cond, nat_lt, Option, Some, None, Result, refl, sym}
+use Rattle.std.proofs.Common.{ap, ◌∙◌}
 use Rattle.std.proofs.Common.{subst}
 use Rattle.std.specs.Prelude.{◌==◌}
 use Rattle.machine_state.specs.declared.cpu.Cpu.{Cpu}

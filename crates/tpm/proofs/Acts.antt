@@ -7,7 +7,8 @@ use Rattle.std.proofs.Common.{◌⊎◌, inl, inr}
 use Rattle.tpm.specs.declared.files.FileFault.TheVariants as file_faults
 use Rattle.tpm.specs.CommandLine.{Asked, path_of, line_of}
 use Rattle.tpm.specs.Texts.{status_of}
-use Rattle.tpm.specs.Acting.{Acts, Performs, Reads, IsJudged, IsRefusedBy, malformed, uncertified, told, refused, unread}
+use Rattle.tpm.specs.Acting.{Acts, Performs, Reads, IsJudged, IsRefusedBy, malformed, uncertified, told, refused}
+use Rattle.tpm.specs.Acting.{unread}
 use Rattle.tpm.specs.Acting.{unwritten, starved_by_file, starved_by_module}
 
 module _ {F : Type 0} (reads : F → List ℕ → Result (List ℕ) FileFault → F → Type 0) (words : List (List ℕ))

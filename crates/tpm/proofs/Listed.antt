@@ -1,6 +1,8 @@
 -- The lines of a listing, one after the other.
-use Rattle.std.proofs.Common.{◌≡◌, ℕ, zero, suc, ◌+◌, ◌-◌, ◌^◌, ◌<◌, ◌≤◌, nat_lt, true, false, List, [], ◌∷◌, ◌++◌, length}
-use Rattle.std.proofs.Common.{take, drop, replicate, cond, Option, refl, ap, sym, ◌∙◌, append_assoc, append-nil, arith, subst}
+use Rattle.std.proofs.Common.{◌≡◌, ℕ, zero, suc, ◌+◌, ◌-◌, ◌^◌, ◌<◌, ◌≤◌, nat_lt, true, false, List, [], ◌∷◌, ◌++◌}
+use Rattle.std.proofs.Common.{length}
+use Rattle.std.proofs.Common.{take, drop, replicate, cond, Option, refl, ap, sym, ◌∙◌, append_assoc, append-nil, arith}
+use Rattle.std.proofs.Common.{subst}
 use Rattle.std.proofs.lemmas.Bool.{lt-ltb, le-ltb}
 use Rattle.std.specs.Fmt.{decimal, padded_integral, format_spec, char_count}
 use native.Mathlib.Numerals.{unary_clauses}
@@ -21,7 +23,8 @@ nothing_listed m = record { more = length m.code; enough = omega arith; all = re
 line_first : (m : Contents) (more at : ℕ) → at < length m.code
     → lines_from m (suc more) at ≡ listed_line m at ++ lines_from m more (at + listed_size m at)
 line_first m more at within =
-    ap (λ b. cond b (listed_line m at ++ lines_from m more (at + listed_size m at)) []) (lt-ltb at (length m.code) within)
+    ap (λ b. cond b (listed_line m at ++ lines_from m more (at + listed_size m at)) [])
+    (lt-ltb at (length m.code) within)
 
 -- and one behind it has none
 line_last : (m : Contents) (more at : ℕ) → length m.code ≤ at → lines_from m more at ≡ []
@@ -45,7 +48,8 @@ line_listed m before after at size within some is line lists = go lists.more lis
     }
 
 -- behind the code all are written
-pub all_listed : (m : Contents) (written : Text) (at : ℕ) → length m.code ≤ at → Lists m written at → written ≡ listing m
+pub all_listed : (m : Contents) (written : Text) (at : ℕ) → length m.code ≤ at → Lists m written at
+    → written ≡ listing m
 all_listed m written at end lists =
     sym (lists.all ∙ ap (λ (t : Text). written ++ t) (line_last m lists.more at end) ∙ append-nil written)
 

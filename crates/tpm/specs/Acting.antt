@@ -124,7 +124,8 @@ module _ {F : Type 0} (reads : F → List ℕ → Result (List ℕ) FileFault �
       (path.now ≡ path_of asked) × reads before (path_of asked) (Err file_faults.Failed) after
   Answers asked before after (Err failures.Unwritten) = ⊥
   Answers asked before after (Err failures.Memory) =
-      reads before (path_of asked) (Err file_faults.Memory) after ⊎ Reads asked before after (λ bytes. IsJudged bytes asked)
+      reads before (path_of asked) (Err file_faults.Memory) after
+      ⊎ Reads asked before after (λ bytes. IsJudged bytes asked)
 
   -- What the program did by what was asked: it told what is told, or it wrote nothing and answered why, or standard
   -- output failed.
@@ -137,7 +138,8 @@ module _ {F : Type 0} (reads : F → List ℕ → Result (List ℕ) FileFault �
       Answers asked before after (Err failure) × (out_after ≡ out_before)
 
   -- What the program did by the words: with the files, with what is known of standard output, and its exit status.
-  pub data Acts (words : List Text) (before after : F) (out_before out_after : Option (List ℕ)) (status : ℕ) : Type 0 where
+  pub data Acts (words : List Text) (before after : F) (out_before out_after : Option (List ℕ))
+      (status : ℕ) : Type 0 where
     -- what is asked for is told, and nothing else
     told : (asked : Asked) (text : Text) → line_of words ≡ Some asked
         → Reads asked before after (λ bytes. IsTold bytes asked text)

@@ -1,5 +1,6 @@
 -- What a command line asks for: our own choice, told as the command of the argument parser `clap`.
-use Rattle.std.specs.Prelude.{Bool, List, [], ◌∷◌, codes, true, false, Option, Some, None, if◌then◌else◌, option_and_then}
+use Rattle.std.specs.Prelude.{Bool, List, [], ◌∷◌, codes, true, false, Option, Some, None, if◌then◌else◌}
+use Rattle.std.specs.Prelude.{option_and_then}
 use Rattle.std.specs.Str.{bytes_eq}
 use Rattle.clap.specs.Walk.{Text, Row, Rule, first_of}
 use Rattle.clap.specs.Simple.{App, Shape, new_shape, new_rule, subcommand_of}

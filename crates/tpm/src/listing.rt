@@ -2,7 +2,8 @@
 
 ghost use Rattle.std.specs.Prelude.{◌≡◌, ◌+◌, ◌<◌, ◌≤◌, ◌++◌, length, IfOk, OnOk, Some, string_bytes};
 ghost use Rattle.module_format.specs.Contents.{contents_of};
-ghost use Rattle.tpm.specs.Listing.{entry_of, entry_text, line_of, listed_entry, listed_line, listed_size, listing, operation_of};
+ghost use Rattle.tpm.specs.Listing.{entry_of, entry_text, line_of, listed_entry, listed_line, listed_size, listing};
+ghost use Rattle.tpm.specs.Listing.{operation_of};
 
 use crate::names::{function_name, operation_name};
 use certificate::{Module, Tables};

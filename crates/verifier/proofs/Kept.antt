@@ -91,7 +91,8 @@ no_entry [] n at e all h = cc
 no_entry (p ∷ ps) n at e all h = elim (eqb_tells p.entry at) [
   | inl t ↦ all.0 t.1
   | inr t ↦ no_entry ps (n + 1) at e all.1
-      (sym (ap (λ (b : Bool). cond b (Some (record { context = n; procedure = p })) (procedure_from (n + 1) ps at)) t.0) ∙ h)
+      (sym (ap (λ (b : Bool). cond b (Some (record { context = n; procedure = p })) (procedure_from (n + 1) ps at)) t.0)
+      ∙ h)
 ]
 
 found_apart : (code_len : ℕ) (procedures : List Procedure) (low at : ℕ) (rows : List Label) (t : Label)

@@ -1,6 +1,8 @@
 -- The root holds the ends of the links that have a length.
-use Rattle.std.proofs.Common.{◌≡◌, ℕ, zero, suc, ◌+◌, ◌-◌, ◌*◌, ◌%◌, ◌^◌, ◌<◌, ◌≤◌, pos, negsuc, Bool, true, false, cond}
-use Rattle.std.proofs.Common.{if◌then◌else◌, ◌&&◌, ◌||◌, List, [], ◌∷◌, length, get_or, Option, Some, None, inl, inr, refl, sym, ap}
+use Rattle.std.proofs.Common.{◌≡◌, ℕ, zero, suc, ◌+◌, ◌-◌, ◌*◌, ◌%◌, ◌^◌, ◌<◌, ◌≤◌, pos, negsuc, Bool, true, false}
+use Rattle.std.proofs.Common.{cond}
+use Rattle.std.proofs.Common.{if◌then◌else◌, ◌&&◌, ◌||◌, List, [], ◌∷◌, length, get_or, Option, Some, None, inl, inr}
+use Rattle.std.proofs.Common.{refl, sym, ap}
 use Rattle.std.proofs.Common.{◌∙◌, subst, arith, leb, is_some}
 use Rattle.std.specs.Prelude.{nat_lt, ◌==◌, slice_get}
 use Rattle.std.specs.List.{list_any}
@@ -85,7 +87,8 @@ module _ (m : Contents) (eight : length m.lengths ≡ 8) (layout : Layout) where
   address link low = omega arith
 
   link_held : (link : ℕ) (direction : Direction) → 0 < get_or m.lengths link 0 → way link ≡ direction
-      → has_end (root_holding m) (record { address = channel_address layout (kinds.Link link); direction = direction }) ≡ true
+      → has_end (root_holding m) (record { address = channel_address layout (kinds.Link link); direction = direction })
+      ≡ true
   link_held link direction some is =
       subst (λ (a : ℕ). is_there a direction (link_ends_from 0 m.lengths) ≡ true) (address link (few link some))
       (subst (λ (d : Direction). is_there (link_words + 4 * link) d (link_ends_from 0 m.lengths) ≡ true) is

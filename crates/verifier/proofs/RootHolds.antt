@@ -1,5 +1,6 @@
 -- What the root holds where a module begins: the constants, and bytes.
-use Rattle.std.proofs.Common.{◌≡◌, ℕ, zero, suc, ◌+◌, ◌-◌, ◌*◌, ◌≤◌, ◌<◌, Bool, true, false, ◌&&◌, ◌||◌, List, [], ◌∷◌, ◌++◌}
+use Rattle.std.proofs.Common.{◌≡◌, ℕ, zero, suc, ◌+◌, ◌-◌, ◌*◌, ◌≤◌, ◌<◌, Bool, true, false, ◌&&◌, ◌||◌, List, [], ◌∷◌}
+use Rattle.std.proofs.Common.{◌++◌}
 use Rattle.std.proofs.Common.{length, map, replicate, get_or, Option, Some, None, refl, sym, ap, ◌∙◌, subst, arith}
 use Rattle.std.proofs.Common.{◌⊎◌, inl, inr}
 use Rattle.std.proofs.lemmas.List.{length-append, length-map, length-replicate, get_or-append-add, get_or_append_left}
@@ -77,7 +78,8 @@ module _ (m : Contents) where
 
   written_low : (place : ℕ) → may_write (root_holding m) place ≡ true → place < 4 * m.data_words
   written_low place h = elim (or_cases (nat_le 0 place && nat_lt place (4 * m.data_words)) false h) [
-    | inl both ↦ leb-le (suc place) (4 * m.data_words) (and-parts (nat_le 0 place) (nat_lt place (4 * m.data_words)) both).1
+    | inl both ↦ leb-le (suc place) (4 * m.data_words)
+        (and-parts (nat_le 0 place) (nat_lt place (4 * m.data_words)) both).1
     | inr none ↦ let no : false ≡ true = none in absurd (cc)
   ]
 
@@ -93,9 +95,13 @@ module _ (m : Contents) where
   root_constants = record { readable = constant_read; bytes = constant_at; behind = written_low }
 
   pub root_bytes : IsBytes m.constants → HasBytes (root_holding m) (loaded_memory m)
-  root_bytes bytes = record { each = λ place b held found. on_byte place b found (or_cases (may_write (root_holding m) place) _ held) }
+  root_bytes bytes = record {
+    each = λ place b held found. on_byte place b found
+        (or_cases (may_write (root_holding m) place) _ held);
+  }
     where
-      constant_low : (i b : ℕ) → i < length m.constants → byte_at (loaded_memory m) (constants_start m + i) ≡ Some b → b < 256
+      constant_low : (i b : ℕ) → i < length m.constants → byte_at (loaded_memory m)
+          (constants_start m + i) ≡ Some b → b < 256
       constant_low i b low found =
           let there : Some (get_or m.constants i 0) ≡ Some b = sym (constant_at i low) ∙ found in
           let is : get_or m.constants i 0 ≡ b = cc in
@@ -105,7 +111,8 @@ module _ (m : Contents) where
       on_read : (place b : ℕ) → byte_at (loaded_memory m) place ≡ Some b
           → (nat_le (constants_start m) place && nat_lt place (constants_start m + length m.constants)) ≡ true → b < 256
       on_read place b found t =
-          let both = and-parts (nat_le (constants_start m) place) (nat_lt place (constants_start m + length m.constants)) t in
+          let both = and-parts (nat_le (constants_start m) place)
+          (nat_lt place (constants_start m + length m.constants)) t in
           let from = leb-le (constants_start m) place both.0 in
           let to = leb-le (suc place) (constants_start m + length m.constants) both.1 in
           let is : place ≡ constants_start m + (place - constants_start m) = omega (arith, from) in
@@ -114,12 +121,14 @@ module _ (m : Contents) where
 
       on_byte : (place b : ℕ) → byte_at (loaded_memory m) place ≡ Some b
           → (may_write (root_holding m) place ≡ true)
-          ⊎ (((nat_le (constants_start m) place && nat_lt place (constants_start m + length m.constants)) || false) ≡ true)
+          ⊎ (((nat_le (constants_start m) place && nat_lt place (constants_start m + length m.constants)) || false)
+          ≡ true)
           → b < 256
       on_byte place b found (inl mine) =
           let none : None ≡ Some b = sym (data_undefined place (written_low place mine)) ∙ found in absurd (cc)
       on_byte place b found (inr held) =
-          elim (or_cases (nat_le (constants_start m) place && nat_lt place (constants_start m + length m.constants)) false held) [
+          elim (or_cases (nat_le (constants_start m) place && nat_lt place (constants_start m + length m.constants))
+          false held) [
             | inl both ↦ on_read place b found both
             | inr none ↦ let no : false ≡ true = none in absurd (cc)
           ]

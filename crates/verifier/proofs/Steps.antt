@@ -53,7 +53,8 @@ use Rattle.facts.specs.Regions.{Scope, scope_of, IsRegion, IsNamed, Keeps}
 use Rattle.module_format.specs.declared.fact.Fact.TheVariants.{Number}
 use Rattle.module_format.specs.declared.rows.ParameterKind.{ParameterKind}
 use Rattle.module_format.specs.declared.rows.ParameterKind.TheVariants.{Value, ReadRegion, WrittenRegion, Channels}
-use Rattle.verifier.proofs.Given.{nothing_given, is_given, given_label, given_none, label_is_start, given_procedure, procedure_is_start}
+use Rattle.verifier.proofs.Given.{nothing_given, is_given, given_label, given_none, label_is_start, given_procedure}
+use Rattle.verifier.proofs.Given.{procedure_is_start}
 use Rattle.std.proofs.Common.{◌+ℤ◌}
 use Rattle.std.proofs.lemmas.Int.{ints}
 use Rattle.module_format.specs.Stack.{of_empty, AreRelated}
@@ -547,7 +548,8 @@ module _ (m : Contents) (d : Decodes m) (wf : IsWellFormed m) (c : IsCertified m
       (omega (arith, p.reading.at_is)) changes.own
       (lives_at h t.mode (with_turns turns p.act) to r.0 (label_state label) l p.callers r.1 low st after behind)
       (omega (arith, p.paid, pay))
-  comes h memory t due p r o e last (it_calls {to = to} {s = s'} {l = l} {e = f} act workspace found low after back waits
+  comes h memory t due p r o e last
+      (it_calls {to = to} {s = s'} {l = l} {e = f} act workspace found low after back waits
       same changes pay) =
       let next : Reaches m (t.registers.began + p.instr.len) (Some s') =
       follows p.reached p.stands p.reading.spelled refl (ap falling e) in
@@ -577,7 +579,8 @@ module _ (m : Contents) (d : Decodes m) (wf : IsWellFormed m) (c : IsCertified m
   -- the last byte of an instruction
   pub comes_last : (h : Holding) (memory : Memory) (t : Task) (due byte : ℕ) (f : Fun) → Stands m h memory t due
       → slice_get m.code t.registers.at ≡ Some byte → fun_of (function_code byte) ≡ Some f
-      → Comes h memory t due (local_step (site_in (t.registers.at + 1) t.mode h) f (with_nibble t.registers.operand (nibble byte))
+      → Comes h memory t due (local_step (site_in (t.registers.at + 1) t.mode h) f
+      (with_nibble t.registers.operand (nibble byte))
       (record { registers = t.registers; memory = memory }))
   comes_last h memory t due byte f p here some =
       let b = byte_here m t.registers p.instr p.taken p.reading in
@@ -588,7 +591,8 @@ module _ (m : Contents) (d : Decodes m) (wf : IsWellFormed m) (c : IsCertified m
       ≡ Ok p.instr) same b.rest in
       let is = after_some (fun_of (function_code byte)) f _ _ _ p.instr some rest in
       let at : t.registers.began + p.instr.len ≡ t.registers.at + 1 = omega (arith, p.reading.at_is, is.2) in
-      subst (λ n. Comes h memory t due (local_step (site_in n t.mode h) f (with_nibble t.registers.operand (nibble byte))
+      subst (λ n. Comes h memory t due
+      (local_step (site_in n t.mode h) f (with_nibble t.registers.operand (nibble byte))
       (record { registers = t.registers; memory = memory }))) at
       (subst (λ g. Comes h memory t due (local_step (step_site (here_of h p.act memory t p.state p.instr)) g
       (with_nibble t.registers.operand (nibble byte)) (record { registers = t.registers; memory = memory })))

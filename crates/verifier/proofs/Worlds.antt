@@ -30,7 +30,8 @@ use Rattle.machine_state.specs.LocalStep.{local_step}
 use Rattle.machine_state.specs.Moves.{counted, finished_where, put, leave, enqueue, wake, dispatch, link_index}
 use Rattle.machine_state.specs.Moves.{with_input, with_output, fill, fill_condition, rouse, rouse_task, rouse_enabling}
 use Rattle.machine_state.specs.Moves.{with_condition}
-use Rattle.machine_state.specs.Happens.{Here, Turn, answered, turn, idle, ran, most_executed, failed, between, settled, prefix_turn}
+use Rattle.machine_state.specs.Happens.{Here, Turn, answered, turn, idle, ran, most_executed, failed, between, settled}
+use Rattle.machine_state.specs.Happens.{prefix_turn}
 use Rattle.machine_state.specs.Happens.{site_of, byte_turn, task_turn, step_turn, arrive_at, arrive_turn}
 use Rattle.machine_state.specs.Happens.{acknowledge_turn, event_turn, happens, run_from, ignored, acknowledged}
 use Rattle.machine_state.specs.Happens.{busy, kept, taken}
@@ -339,7 +340,8 @@ module _ (m : Contents) (d : Decodes m) (wf : IsWellFormed m) (c : IsCertified m
 
       on_test : (b : Bool) → ltb (r.task.registers.at + 1) (length m.code) ≡ b → r.task.registers.at + 1 < length m.code
           → Holds m (counted (put p u w.memory w))
-          → Holds m (if b then answered ran (counted (put p u w.memory w)) else failed (at_here m p r.task pick) OutsideCode w).world
+          → Holds m (if b then answered ran (counted (put p u w.memory w))
+          else failed (at_here m p r.task pick) OutsideCode w).world
       on_test true e low holds = holds
       on_test false e low holds = elim (leb_tells (suc (r.task.registers.at + 1)) (length m.code)) [
         | inl t ↦ let no' : true ≡ false = sym t.0 ∙ e in
@@ -390,7 +392,8 @@ module _ (m : Contents) (d : Decodes m) (wf : IsWellFormed m) (c : IsCertified m
           ]).world
       on_function None e = prefix_holds pick w h p r byte here e
       on_function (Some f) e =
-          settled_holds m w h p r d wf c slice pick (local_step (site_of (at_here m p r.task pick) w) f operand local) running
+          settled_holds m w h p r d wf c slice pick
+          (local_step (site_of (at_here m p r.task pick) w) f operand local) running
           (subst (λ g. Comes m d wf c (held r.row.role) w.memory r.task r.row.due
           (local_step (site_in m d wf c (r.task.registers.at + 1) r.task.mode g) f operand local)) (sym held_here)
           (comes_last m d wf c (held r.row.role) w.memory r.task r.row.due byte f (stands_now w h p r) here e))
@@ -490,7 +493,8 @@ module _ (m : Contents) (w : World) (h : Holds m w) (p : ℕ) (t : Task) (r : Wa
   absent = absent_by_condition w.tasks p t (line w.queue) r.here r.waits h.line.ready
 
   -- it goes on waiting, for something else
-  waits_on : (u : Task) (new : Memory) (links : Links) → length links.outputs ≤ 4 → ChangesOwn (held r.row.role) w.memory new
+  waits_on : (u : Task) (new : Memory) (links : Links) → length links.outputs ≤ 4
+      → ChangesOwn (held r.row.role) w.memory new
       → Lives m (held r.row.role) new u r.row.due → Waiters (slice_set w.tasks p u) links
       → Holds m (record w { memory = new; tasks = slice_set w.tasks p u; links = links })
   waits_on u new links few changes lives waiters = record {
@@ -751,7 +755,10 @@ module _ (m : Contents) where
       record {
         dues = h.dues;
         table = record { each = λ i v e. each i v e };
-        line = record { ready = all_ready_again w.tasks p t u (line w.queue) here refl h.line.ready; once = h.line.once };
+        line = record {
+          ready = all_ready_again w.tasks p t u (line w.queue) here refl h.line.ready;
+          once = h.line.once;
+        };
         few = h.few;
         waiters = record {
           inputs = λ k l i a b. waits_again w.tasks p i (input_word k) t u here refl (h.waiters.inputs k l i a b);

@@ -44,8 +44,10 @@ impl<'a> Rows<'a> {
 
     /// The label at an offset, if it has one: the first of those that are left.
     fn take_label(&mut self, at: usize) -> Option<&'a LabelRow>
-        ensures left { (m : Contents) → LabelsLeft m at self.old.labels.now → LabelsLeft m (at + 1) self.new.labels.now }
-        ensures found { (m : Contents) → LabelsLeft m at self.old.labels.now → MatchOption result (label_at m at ≡ None) (λ row. IsLabelRow m at row.now) }
+        ensures left { (m : Contents) → LabelsLeft m at self.old.labels.now
+            → LabelsLeft m (at + 1) self.new.labels.now }
+        ensures found { (m : Contents) → LabelsLeft m at self.old.labels.now
+            → MatchOption result (label_at m at ≡ None) (λ row. IsLabelRow m at row.now) }
         ensures procedures { self.new.procedures.now ≡ self.old.procedures.now }
         ensures context { self.new.context ≡ self.old.context }
     {
@@ -59,8 +61,10 @@ impl<'a> Rows<'a> {
 
     /// The procedure that begins at an offset, if one does, with its context.
     fn take_procedure(&mut self, at: usize) -> Option<(u32, &'a ProcedureRow)>
-        ensures left { (m : Contents) → ProceduresLeft m at self.old.context self.old.procedures.now → ProceduresLeft m (at + 1) self.new.context self.new.procedures.now }
-        ensures found { (m : Contents) → ProceduresLeft m at self.old.context self.old.procedures.now → MatchOption result (procedure_at m at ≡ None) (λ begun. Begins m at begun.0 begun.1.now) }
+        ensures left { (m : Contents) → ProceduresLeft m at self.old.context self.old.procedures.now
+            → ProceduresLeft m (at + 1) self.new.context self.new.procedures.now }
+        ensures found { (m : Contents) → ProceduresLeft m at self.old.context self.old.procedures.now
+            → MatchOption result (procedure_at m at ≡ None) (λ begun. Begins m at begun.0 begun.1.now) }
         ensures labels { self.new.labels.now ≡ self.old.labels.now }
     {
         let (row, later) = self.procedures.split_first()?;

@@ -22,7 +22,8 @@ pub(crate) struct Cursor<'a> {
 }
 
 impl<'a> Cursor<'a> {
-    ghost use Rattle.std.specs.Prelude.{◌≡◌, ◌≤◌, ◌+◌, ◌^◌, ◌<◌, ◌==◌, nat_eq, length, drop, min, IfSome, is_some, None};
+    ghost use Rattle.std.specs.Prelude.{◌≡◌, ◌≤◌, ◌+◌, ◌^◌, ◌<◌, ◌==◌, nat_eq, length, drop, min, IfSome, is_some};
+    ghost use Rattle.std.specs.Prelude.{None};
     ghost use Rattle.std.specs.Prelude.{true, false};
     ghost use Rattle.std.specs.List.{starts_with};
     ghost use Rattle.module_format.specs.declared.fault.FormatFaultKind.TheVariants.{Truncated};

@@ -132,7 +132,8 @@ impl Late<Contexts<'_, '_>> for LabelRow {
 /// Each label row and then each PAR row in turn, the first label row at offset `start`.
 #[tactic(auto, unfolding(crate::specs::Late::late_at, crate::specs::Reading::and_then))]
 pub fn late_rows(contexts: &Contexts, start: usize) -> Result<(), FormatFault>
-    requires { start + length (flat_map label_bytes contexts.now.labels) + length (flat_map par_bytes contexts.now.pars) < 2 ^ 64 }
+    requires { start + length (flat_map label_bytes contexts.now.labels) + length
+        (flat_map par_bytes contexts.now.pars) < 2 ^ 64 }
     ensures { Tells result (late_at start contexts.now) }
 {
     let tables = contexts.tables();

@@ -28,7 +28,8 @@ returns c = λ join opened same.
     ap (λ (v : World). opened_by v c.args.opener) given
     ∙ (still_open c.end.new.traffic.world p c.args.opener
     ∙ (ap (λ (v : World). opened_by v c.args.opener) (c.end.ensures m) ∙ opened)) in
-    branch_done h w join c.args.block (untouched c.args.registers w) c.args.opener par c.leave.new.traffic.world row test
+    branch_done h w join c.args.block (untouched c.args.registers w) c.args.opener par
+    c.leave.new.traffic.world row test
     (c.leave.ensures m join par there same refl
     ∙ (ap (λ (v : World). joined h c.args.opener join par v) given
     ∙ ap (λ (v : World). joined h c.args.opener join par (on_role p without_own v)) (c.end.ensures m)))

@@ -21,7 +21,8 @@ returns-in_err-row g c =
     let place = g.T.AtOffset.place in
     let point = IsPartitionPoint-from_clause (λ r. ltb (place r) c.args.offset) _ _
     c.partition_point-index.ensures.partitioned (IsPartitionedBy-ltb place _ _ c.requires) (λ a r f' k. search rules) in
-    let past : length c.args.rows.now ≤ c.partition_point-index.result = ltb-false _ _ (sym c.in_err-row.ensures.lookup.0) in
+    let past : length c.args.rows.now ≤ c.partition_point-index.result =
+    ltb-false _ _ (sym c.in_err-row.ensures.lookup.0) in
     rw c.from_residual.ensures (none_past place _ _ _ point past)
 
 pub returns-then-place-offset : goal.returns-then-place-offset
@@ -29,6 +30,7 @@ returns-then-place-offset g c =
     let place = g.T.AtOffset.place in
     let point = IsPartitionPoint-from_clause (λ r. ltb (place r) c.args.offset) _ _
     c.partition_point-index.ensures.partitioned (IsPartitionedBy-ltb place _ _ c.requires) (λ a r f' k. search rules) in
-    let inside : c.partition_point-index.result < length c.args.rows.now = ltb-true _ _ (sym c.in_ok-row.ensures.lookup.0) in
+    let inside : c.partition_point-index.result < length c.args.rows.now =
+    ltb-true _ _ (sym c.in_ok-row.ensures.lookup.0) in
     none_here place _ _ _ point c.in_ok-row.row.now c.requires inside (sym c.in_ok-row.ensures.lookup.1)
     (λ e. c.if-place-offset.true (c.place.ensures ∙ e))

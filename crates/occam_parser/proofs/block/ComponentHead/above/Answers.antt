@@ -7,7 +7,8 @@ use Rattle.occam_parser.proofs.block.ComponentHead.above.Goals as goal
 
 pub returns-in-If : goal.returns-in-If
 returns-in-If c =
-    let choice = roll-Choice (record { line = c.in-If.line; condition = c.in-If.condition; process = c.args.process }) in
+    let choice = roll-Choice
+    (record { line = c.in-If.line; condition = c.in-If.condition; process = c.args.process }) in
     rw c.in-If.is
     (view-Body-If choice ∙ ap (One block.If) (view-Choice c.in-If.line c.in-If.condition c.args.process))
 

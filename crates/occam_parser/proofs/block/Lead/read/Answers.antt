@@ -32,10 +32,12 @@ pub returns-in_ok-line-in-If-clause-leads : goal.returns-in_ok-line-in-If-clause
 returns-in_ok-line-in-If-clause-leads c =
     let head = c.in_ok-line-in-If in
     rw c.in-If.is
-    (headed_leads whole_at Chosen (One block.If) c.args.level _ _ head.line _ choice_is head.ensures.level head.ensures.found)
+    (headed_leads whole_at Chosen (One block.If) c.args.level _ _ head.line _ choice_is head.ensures.level
+    head.ensures.found)
 
 pub returns-in_ok-line-in-Alt-clause-leads : goal.returns-in_ok-line-in-Alt-clause-leads
 returns-in_ok-line-in-Alt-clause-leads c =
     let head = c.in_ok-line-in-Alt in
     rw c.in-Alt.is
-    (headed_leads guard_at Guarded (One block.Alt) c.args.level _ _ head.line _ branch_is head.ensures.level head.ensures.found)
+    (headed_leads guard_at Guarded (One block.Alt) c.args.level _ _ head.line _ branch_is head.ensures.level
+    head.ensures.found)

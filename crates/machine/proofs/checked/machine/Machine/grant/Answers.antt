@@ -18,7 +18,8 @@ use Rattle.machine.specs.declared.checked.act.Act.TheVariants.{Ran}
 use Rattle.machine.proofs.Granting.{granted_kept, settled_kept, in_place}
 use Rattle.machine.proofs.checked.machine.Machine.grant.Goals as goal
 use Rattle.machine.proofs.checked.machine.Machine.grant.Goals.{in-Receive, in-Send, in-Begin, in-EnableChannel}
-use Rattle.machine.proofs.checked.machine.Machine.grant.Goals.{in-EnableSkip, in-Wait, in-DisableChannel, in-DisableSkip}
+use Rattle.machine.proofs.checked.machine.Machine.grant.Goals.{in-EnableSkip, in-Wait, in-DisableChannel}
+use Rattle.machine.proofs.checked.machine.Machine.grant.Goals.{in-DisableSkip}
 use Rattle.machine.proofs.checked.machine.Machine.grant.Goals.{in-End, in-Start, in-Join}
 
 pub returns : goal.returns
@@ -107,13 +108,15 @@ returns c =
           (to_z-of_z w32 distance (search rules)) (w.disable_skip.ensures.turn theirs) in
           rw (w.in-DisableSkip.is) (placed (λ (h : Here) (m : Memory). skip_disabled h guard distance (local m))
           (granted_kept (skip_disabled here guard distance (local memory))
-          (disabling.skips here guard distance (local memory)) counters inside.fault before after (Ok Ran) (runs, tt) _ _
+          (disabling.skips here guard distance (local memory)) counters inside.fault before after
+          (Ok Ran) (runs, tt) _ _
           (c.keep.ensures.result ∙ w.granted-is) (rw (w.granted-is, w.self-inside-is) at c.keep.ensures.world)))
       | in-Start w ↦
           let to = w.in-Start.to in
           let workspace = w.in-Start.workspace in
           let there = here_in mine instance in
-          rw (w.in-Start.is) (in_place (λ (h : Here) (m : Memory). start_turn h to workspace (plain m)) instance mine mine
+          rw (w.in-Start.is) (in_place
+          (λ (h : Here) (m : Memory). start_turn h to workspace (plain m)) instance mine mine
           c.args.self.now.world (beside counters inside.fault before) c.keep.new.self.world c.keep.result refl view
           (granted_kept (start_turn there to workspace (plain memory))
           (c.starts_read_no_counters.ensures there to workspace (plain memory)) counters inside.fault before
@@ -122,7 +125,8 @@ returns c =
       | in-Join w ↦
           let block = w.in-Join.block in
           rw (w.in-Join.is) (placed (λ (h : Here) (m : Memory). join_turn h block (plain m))
-          (settled_kept (join_turn here block (plain memory)) (c.joins_read_no_counters.ensures here block (plain memory))
+          (settled_kept (join_turn here block (plain memory))
+          (c.joins_read_no_counters.ensures here block (plain memory))
           counters inside.fault before w.join.new.traffic.world w.join.result w.join.ensures _ _
           (c.keep.ensures.result ∙ (w.granted-is ∙ w.ran-granted-in-Join.ensures))
           (rw (w.granted-is, w.ran-granted-in-Join.ensures, w.self-inside-is) at c.keep.ensures.world)))

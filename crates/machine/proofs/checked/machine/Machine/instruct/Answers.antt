@@ -16,7 +16,8 @@ returns-in-Ok c =
     let w = c.args.self.now.world in
     let later = c.settle.new.self.world in
     let turn = λ (m : Contents) (operand : ℤ).
-    settled (here_in mine c.args.here.now) c.args.slice (outcome_at (here_in m c.args.here.now) c.args.fun operand w) w in
+    settled (here_in mine c.args.here.now) c.args.slice
+    (outcome_at (here_in m c.args.here.now) c.args.fun operand w) w in
     subst (λ (m : Contents). Applies w later c.settle.result (turn m c.args.operand)) c.tables.ensures.contents
     (subst (λ (operand : ℤ). Applies w later c.settle.result (turn theirs operand))
     (to_z-of_z w32 c.args.operand (search rules))
