@@ -9,7 +9,7 @@ use Rattle.scalar_ranges.specs.declared.scope.Scope as code_scope
 use Rattle.scalar_ranges.specs.Entries.{Entry}
 use Rattle.scalar_ranges.specs.Moves.{Block, Known, next_from}
 use Rattle.scalar_ranges.specs.MoveLaws.{shape}
-use Rattle.scalar_ranges.specs.Scopes.{entry_of, entries_from, block_of, blocks_from, entries_of, blocks_of}
+use Rattle.scalar_ranges.specs.Scopes.{entry_of, entries_from, block_of, blocks_from, entries_of, blocks_of, known_of}
 use Rattle.scalar_ranges.specs.Naming.{names_from}
 use Rattle.scalar_ranges.specs.Nesting.{EndsFit, AreNested}
 use Rattle.scalar_ranges.specs.Taken.{IsTakenFrom, BeginsHere}
@@ -63,6 +63,17 @@ fit_again names old new b end after taken nested start fits fit =
     let ends = subst (λ es. EndsFit es after.ends) (sym taken.start) (fits here) in
     fit_along refl refl (λ i. record { start = (start ∙ sym taken.start) i; ends = after.ends } ∷ new.blocks)
     (fit_begun names new.entries after.ends new.blocks ends fit)
+
+-- the same of the program's scope, from which the block was taken and to which it comes back
+pub fit_next : (old new : code_scope.Scope) (b after : code_block.Block) (end : List code_entry.Entry)
+    (blocks : List code_block.Block) → blocks ≡ new.blocks.items ++ after ∷ []
+    → IsTakenFrom (known_of old) (known_of new) b end → (block_of after).start ≡ (block_of b).start
+    → (AreNested (entries_from end) (block_of b ∷ blocks_of new) → EndsFit (block_of b).start (block_of after).ends)
+    → Fit (names_from new.names.rows.items) (entries_of new) (blocks_from blocks)
+fit_next old new b after end blocks is taken start fits =
+    fit_along refl refl (ap blocks_from is ∙ blocks_more new.blocks.items after)
+    (fit_again (names_from new.names.rows.items) (known_of old) (known_of new) b end (block_of after) taken old.nested
+    start fits (fit_of new))
 
 pub begins_next : (es : List Entry) (bs : List Block) → BeginsHere (next_from es bs).entries (next_from es bs).blocks
 begins_next es [] = tt

@@ -1,5 +1,6 @@
 pub mod Parts
 pub mod Words
+pub mod Comparisons
 pub mod Chains
 pub mod Lookups
 pub mod Operators

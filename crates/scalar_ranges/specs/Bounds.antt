@@ -1,7 +1,7 @@
 -- The ranges of expressions in a scope, flow by flow the rules by which the compiler bounds numbers.
 use Rattle.std.specs.Prelude.{ℕ, ℤ, pos, Bool, ◌&&◌, List, if◌then◌else◌, Option, Some, None, option_map}
 use Rattle.std.specs.Prelude.{int_lt, int_le, Result, Ok, Err}
-use Rattle.word_arithmetic.specs.Word.{least_word, greatest_word, word_not, shifted_left, shifted_right}
+use Rattle.word_arithmetic.specs.Word.{word_not, shifted_left, shifted_right}
 use Rattle.word_arithmetic.specs.Range.{Ends, is_within, range_between, constant, full, truths, not_range}
 use Rattle.word_arithmetic.specs.Range.{shift_left_range}
 use Rattle.word_arithmetic.specs.Range.{shift_right_range}
@@ -17,13 +17,13 @@ use Rattle.occam_parser.specs.declared.tree.ArithmeticPair.{ArithmeticPair}
 use Rattle.occam_parser.specs.declared.tree.ArithmeticPair.TheVariants as arithmetic
 use Rattle.occam_parser.specs.declared.tree.ChainOperator.{ChainOperator}
 use Rattle.occam_parser.specs.declared.tree.ChainOperator.TheVariants as chain
-use Rattle.occam_parser.specs.Expressions.{Expression, Alone, Prefixed, Paired, Chained, Terms, Two, Then, Term}
-use Rattle.occam_parser.specs.Expressions.{Number, Byte, Truth, MostPos, MostNeg, Named, Element, Bracketed, Converted}
+use Rattle.occam_parser.specs.Expressions.{Expression, Terms, Term}
 use Rattle.scalar_ranges.specs.Entries.{Meaning, Constant, Scalar, Array, Entry, meaning_in}
 use Rattle.scalar_ranges.specs.Entries.{type_range}
 use Rattle.scalar_ranges.specs.Values.{operation_of, counts, shifted}
 use Rattle.scalar_ranges.specs.declared.bounds.TheConstants.{OUT_OF_RANGE, OUTSIDE}
-use Rattle.scalar_ranges.specs.Steps.{both_some, and_then, both, ok_or}
+use Rattle.scalar_ranges.specs.Steps.{both_some, and_then, ok_or}
+use Rattle.scalar_ranges.specs.Reading.{Reader, of_expression, of_terms, of_term}
 
 -- the value of a constant expression, or the range of another
 pub data Bound : Type 0 where
@@ -104,27 +104,28 @@ element_bound m b = Ok (Within full)
 abbrev pub converted_bound : ValueType → Bound → Result Bound ℕ
 converted_bound to b = if is_within (ends b) (type_range to) then Ok b else Err OUT_OF_RANGE
 
-abbrev mutual
-  pub bound_of : List Entry → Expression → Result Bound ℕ
-  bound_of es (Alone t) = bound_of_term es t
-  bound_of es (Prefixed op t) = and_then (bound_of_term es t) (prefix_bound op)
-  bound_of es (Paired op a b) = both (bound_of_term es a) (bound_of_term es b) (pair_bound op)
-  bound_of es (Chained op ts) = bound_of_terms es op ts
+-- the bounds of the parts of an expression
+abbrev pub bounds_in : List Entry → Reader Bound
+bounds_in es = record {
+  number = λ value. Exactly value;
+  byte = λ byte. Exactly (pos byte);
+  truth = λ holds. Within truths;
+  named = λ name. named_bound (meaning_in name es);
+  element = λ name subscript. and_then subscript (element_bound (meaning_in name es));
+  converted = converted_bound;
+  prefixed = prefix_bound;
+  paired = pair_bound;
+  chained = chain_bound;
+}
 
-  pub bound_of_terms : List Entry → ChainOperator → Terms → Result Bound ℕ
-  bound_of_terms es op (Two a b) = both (bound_of_term es a) (bound_of_term es b) (chain_bound op)
-  bound_of_terms es op (Then ts t) = both (bound_of_terms es op ts) (bound_of_term es t) (chain_bound op)
+abbrev pub bound_of : List Entry → Expression → Result Bound ℕ
+bound_of es e = of_expression (bounds_in es) e
 
-  pub bound_of_term : List Entry → Term → Result Bound ℕ
-  bound_of_term es (Number value) = Ok (Exactly value)
-  bound_of_term es (Byte byte) = Ok (Exactly (pos byte))
-  bound_of_term es (Truth holds) = Ok (Within truths)
-  bound_of_term es MostPos = Ok (Exactly greatest_word)
-  bound_of_term es MostNeg = Ok (Exactly least_word)
-  bound_of_term es (Named name) = named_bound (meaning_in name es)
-  bound_of_term es (Element name e) = and_then (bound_of es e) (element_bound (meaning_in name es))
-  bound_of_term es (Bracketed e) = bound_of es e
-  bound_of_term es (Converted to t) = and_then (bound_of_term es t) (converted_bound to)
+abbrev pub bound_of_terms : List Entry → ChainOperator → Terms → Result Bound ℕ
+bound_of_terms es op ts = of_terms (bounds_in es) op ts
+
+abbrev pub bound_of_term : List Entry → Term → Result Bound ℕ
+bound_of_term es t = of_term (bounds_in es) t
 
 -- the value of a constant expression
 abbrev pub exact_value : Result Bound ℕ → Option ℤ

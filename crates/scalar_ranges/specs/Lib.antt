@@ -1,10 +1,12 @@
 pub mod Entries
 pub mod Environments
 pub mod Steps
+pub mod Reading
 pub mod Types
 pub mod Values
 pub mod Bounds
 pub mod BoundViews
+pub mod Shifts
 pub mod Narrowing
 pub mod Moves
 pub mod EntryViews

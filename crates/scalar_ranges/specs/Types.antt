@@ -8,13 +8,13 @@ use Rattle.occam_parser.specs.declared.tree.PairOperator.{PairOperator}
 use Rattle.occam_parser.specs.declared.tree.PairOperator.TheVariants as pair
 use Rattle.occam_parser.specs.declared.tree.ChainOperator.{ChainOperator}
 use Rattle.occam_parser.specs.declared.tree.ChainOperator.TheVariants as chain
-use Rattle.occam_parser.specs.Expressions.{Expression, Alone, Prefixed, Paired, Chained, Terms, Two, Then, Term}
-use Rattle.occam_parser.specs.Expressions.{Number, Byte, Truth, MostPos, MostNeg, Named, Element, Bracketed, Converted}
+use Rattle.occam_parser.specs.Expressions.{Expression, Terms, Term}
 use Rattle.scalar_ranges.specs.Entries.{Meaning, Constant, Scalar, Array, Entry, meaning_in}
 use Rattle.scalar_ranges.specs.declared.types.ExprType.{ExprType}
 use Rattle.scalar_ranges.specs.declared.types.ExprType.TheVariants as types
 use Rattle.scalar_ranges.specs.declared.types.TheConstants.{UNKNOWN_NAME, WRONG_TYPE}
-use Rattle.scalar_ranges.specs.Steps.{and_then, both}
+use Rattle.scalar_ranges.specs.Steps.{both}
+use Rattle.scalar_ranges.specs.Reading.{Reader, of_expression, of_terms, of_term}
 
 abbrev pub type_of_values : ValueType → ExprType
 type_of_values value_type.Int = types.Int
@@ -58,24 +58,25 @@ abbrev pub converted_type : ValueType → ExprType → Result ExprType ℕ
 converted_type to types.Condition = Err WRONG_TYPE
 converted_type to t = Ok (type_of_values to)
 
-abbrev mutual
-  pub type_of : List Entry → Expression → Result ExprType ℕ
-  type_of es (Alone t) = type_of_term es t
-  type_of es (Prefixed op t) = and_then (type_of_term es t) (prefix_type op)
-  type_of es (Paired op a b) = both (type_of_term es a) (type_of_term es b) (pair_type op)
-  type_of es (Chained op ts) = type_of_terms es op ts
+-- the types of the parts of an expression
+abbrev pub types_in : List Entry → Reader ExprType
+types_in es = record {
+  number = λ value. types.Int;
+  byte = λ byte. types.Byte;
+  truth = λ holds. types.Condition;
+  named = λ name. named_type (meaning_in name es);
+  element = λ name subscript. both (element_type (meaning_in name es)) subscript subscripted;
+  converted = converted_type;
+  prefixed = prefix_type;
+  paired = pair_type;
+  chained = chain_type;
+}
 
-  pub type_of_terms : List Entry → ChainOperator → Terms → Result ExprType ℕ
-  type_of_terms es op (Two a b) = both (type_of_term es a) (type_of_term es b) (chain_type op)
-  type_of_terms es op (Then ts t) = both (type_of_terms es op ts) (type_of_term es t) (chain_type op)
+abbrev pub type_of : List Entry → Expression → Result ExprType ℕ
+type_of es e = of_expression (types_in es) e
 
-  pub type_of_term : List Entry → Term → Result ExprType ℕ
-  type_of_term es (Number value) = Ok types.Int
-  type_of_term es (Byte byte) = Ok types.Byte
-  type_of_term es (Truth holds) = Ok types.Condition
-  type_of_term es MostPos = Ok types.Int
-  type_of_term es MostNeg = Ok types.Int
-  type_of_term es (Named name) = named_type (meaning_in name es)
-  type_of_term es (Element name e) = both (element_type (meaning_in name es)) (type_of es e) subscripted
-  type_of_term es (Bracketed e) = type_of es e
-  type_of_term es (Converted to t) = and_then (type_of_term es t) (converted_type to)
+abbrev pub type_of_terms : List Entry → ChainOperator → Terms → Result ExprType ℕ
+type_of_terms es op ts = of_terms (types_in es) op ts
+
+abbrev pub type_of_term : List Entry → Term → Result ExprType ℕ
+type_of_term es t = of_term (types_in es) t

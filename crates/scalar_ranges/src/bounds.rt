@@ -7,7 +7,7 @@ ghost use Rattle.scalar_ranges.specs.Bounds.{Exactly, Within, ends, range_of_bou
 ghost use Rattle.scalar_ranges.specs.Bounds.{is_subscript, converted_bound};
 ghost use Rattle.scalar_ranges.specs.BoundViews.{known, all_known};
 ghost use Rattle.scalar_ranges.specs.Scopes.{meaning_of};
-ghost use Rattle.scalar_ranges.specs.Steps.{ok_or};
+ghost use Rattle.scalar_ranges.specs.Steps.{and_then, ok_or};
 
 use crate::scope::Meaning;
 use occam_parser::ValueType;
@@ -103,9 +103,13 @@ fn is_subscript(size: u32, subscripts: Range) -> bool
 }
 
 /// What is known of an element of an array.
-pub(crate) fn element_bound(meaning: Option<Meaning>, subscript: Bound) -> Result<Bound, u8>
-    ensures { all_known result ≡ element_bound (option_map meaning_of meaning) (known subscript) }
+pub(crate) fn element_bound(
+    meaning: Option<Meaning>,
+    subscript: Result<Bound, u8>,
+) -> Result<Bound, u8>
+    ensures { all_known result ≡ and_then (all_known subscript) (element_bound (option_map meaning_of meaning)) }
 {
+    let subscript = subscript?;
     match meaning {
         Some(
             Meaning::Array {
@@ -132,9 +136,10 @@ pub(crate) fn element_bound(meaning: Option<Meaning>, subscript: Bound) -> Resul
 }
 
 /// What is known of a number that is converted to a type.
-pub(crate) fn converted_bound(to: ValueType, operand: Bound) -> Result<Bound, u8>
-    ensures { all_known result ≡ converted_bound to (known operand) }
+pub(crate) fn converted_bound(to: ValueType, operand: Result<Bound, u8>) -> Result<Bound, u8>
+    ensures { all_known result ≡ and_then (all_known operand) (converted_bound to) }
 {
+    let operand = operand?;
     if operand.range().fits_within(type_range(to)) {
         Ok(operand)
     } else {

@@ -10,6 +10,7 @@ mod moves;
 mod names;
 mod narrowing;
 mod ranges;
+mod reading;
 mod results;
 mod scope;
 mod steps;

@@ -3,13 +3,13 @@
 ghost use Rattle.std.specs.Prelude.{◌≡◌, option_map};
 ghost use Rattle.word_arithmetic.specs.Range.{ends_of};
 ghost use Rattle.occam_parser.specs.Views.{expression_of, term_of};
-ghost use Rattle.scalar_ranges.specs.Narrowing.{is_narrowed, constant_in, tested, turned, opposite, as_holds, test_of};
+ghost use Rattle.scalar_ranges.specs.Narrowing.{is_narrowed, constant_in, tested, turned, as_holds, test_of};
 ghost use Rattle.scalar_ranges.specs.Narrowing.{left_of, with_range, changed, narrow};
 ghost use Rattle.scalar_ranges.specs.Scopes.{meaning_of, entries_of, blocks_of};
 ghost use Rattle.scalar_ranges.specs.Tests.{tested_of};
 
 use crate::bounds::Bound;
-use crate::ranges::bound_of_operand;
+use crate::reading::read_operand;
 use crate::scope::{Meaning, ScalarKind, Scope};
 use occam_parser::{Comparison, Expr, Operand, Operation, PairOperator};
 use word_arithmetic::Range;
@@ -103,7 +103,7 @@ fn tested<'e>(
 fn constant_in(scope: &Scope, operand: &Operand) -> Option<i32>
     ensures { result ≡ constant_in (entries_of scope.now) (term_of operand.now) }
 {
-    match bound_of_operand(scope, operand) {
+    match read_operand(scope, operand).bound {
         Ok(Bound::Exactly(value)) => Some(value),
         _ => None,
     }
@@ -126,28 +126,7 @@ fn is_narrowed(meaning: Option<Meaning>) -> bool
 fn turned(comparison: Comparison) -> Comparison
     ensures { result ≡ turned comparison }
 {
-    match comparison {
-        Comparison::Equal => Comparison::Equal,
-        Comparison::NotEqual => Comparison::NotEqual,
-        Comparison::Less => Comparison::Greater,
-        Comparison::LessOrEqual => Comparison::GreaterOrEqual,
-        Comparison::Greater => Comparison::Less,
-        Comparison::GreaterOrEqual => Comparison::LessOrEqual,
-    }
-}
-
-/// The comparison that holds where this one does not.
-fn opposite(comparison: Comparison) -> Comparison
-    ensures { result ≡ opposite comparison }
-{
-    match comparison {
-        Comparison::Equal => Comparison::NotEqual,
-        Comparison::NotEqual => Comparison::Equal,
-        Comparison::Less => Comparison::GreaterOrEqual,
-        Comparison::LessOrEqual => Comparison::Greater,
-        Comparison::Greater => Comparison::LessOrEqual,
-        Comparison::GreaterOrEqual => Comparison::Less,
-    }
+    comparison.mirrored()
 }
 
 /// The comparison that holds where one has this truth.
@@ -157,7 +136,7 @@ fn as_holds(holds: bool, comparison: Comparison) -> Comparison
     if holds {
         comparison
     } else {
-        opposite(comparison)
+        comparison.negated()
     }
 }
 

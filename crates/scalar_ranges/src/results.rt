@@ -1,13 +1,13 @@
 //! What is known of the results of operators.
 
-ghost use Rattle.std.specs.Prelude.{◌≡◌, option_map};
-ghost use Rattle.word_arithmetic.specs.Word.{shifted_left, shifted_right};
-ghost use Rattle.word_arithmetic.specs.Range.{ends_of, shift_left_range};
+ghost use Rattle.std.specs.Prelude.{◌≡◌, pos, ◌≤ℤ◌, ◌<◌, option_map};
+ghost use Rattle.word_arithmetic.specs.Range.{ends_of};
 ghost use Rattle.scalar_ranges.specs.Values.{operation_of, counts, shifted};
-ghost use Rattle.scalar_ranges.specs.Bounds.{gives, by_counts, right_range, binary_bound, arithmetic_bound, pair_bound};
+ghost use Rattle.scalar_ranges.specs.Bounds.{gives, by_counts, binary_bound, arithmetic_bound, pair_bound};
 ghost use Rattle.scalar_ranges.specs.Bounds.{chain_bound, not_bound, prefix_bound};
 ghost use Rattle.scalar_ranges.specs.BoundViews.{known, all_known};
-ghost use Rattle.scalar_ranges.specs.Steps.{both};
+ghost use Rattle.scalar_ranges.specs.Shifts.{shifted_word, shift_range};
+ghost use Rattle.scalar_ranges.specs.Steps.{and_then, both};
 
 use crate::bounds::{Bound, exactly, truth_bound, within};
 use crate::steps::paired;
@@ -15,9 +15,13 @@ use occam_parser::{ArithmeticChain, ArithmeticPair, ChainOperator, PairOperator,
 use word_arithmetic::{Binary, Range, not, shift_left, shift_right};
 
 /// What is known of the result of an operator before one operand.
-pub(crate) fn prefix_bound(operator: PrefixOperator, operand: Bound) -> Result<Bound, u8>
-    ensures { all_known result ≡ prefix_bound operator (known operand) }
+pub(crate) fn prefix_bound(
+    operator: PrefixOperator,
+    operand: Result<Bound, u8>,
+) -> Result<Bound, u8>
+    ensures { all_known result ≡ and_then (all_known operand) (prefix_bound operator) }
 {
+    let operand = operand?;
     match operator {
         PrefixOperator::Negate => binary_bound(Binary::Subtract, Bound::Exactly(0), operand),
         PrefixOperator::BitNot => not_bound(operand),
@@ -26,9 +30,14 @@ pub(crate) fn prefix_bound(operator: PrefixOperator, operand: Bound) -> Result<B
 }
 
 /// What is known of the result of an operator between two operands.
-pub(crate) fn pair_bound(operator: PairOperator, left: Bound, right: Bound) -> Result<Bound, u8>
-    ensures { all_known result ≡ pair_bound operator (known left) (known right) }
+pub(crate) fn pair_bound(
+    operator: PairOperator,
+    left: Result<Bound, u8>,
+    right: Result<Bound, u8>,
+) -> Result<Bound, u8>
+    ensures { all_known result ≡ both (all_known left) (all_known right) (pair_bound operator) }
 {
+    let (left, right) = paired(left, right)?;
     match operator {
         PairOperator::Arithmetic(operator) => arithmetic_bound(operator, left, right),
         PairOperator::Comparison(_) => Ok(truth_bound()),
@@ -36,7 +45,7 @@ pub(crate) fn pair_bound(operator: PairOperator, left: Bound, right: Bound) -> R
 }
 
 /// What is known of a chain that has one operand more.
-pub(crate) fn next_bound(
+pub(crate) fn chain_bound(
     operator: ChainOperator,
     found: Result<Bound, u8>,
     next: Result<Bound, u8>,
@@ -44,14 +53,8 @@ pub(crate) fn next_bound(
     ensures { all_known result ≡ both (all_known found) (all_known next) (chain_bound operator) }
 {
     let (found, next) = paired(found, next)?;
-    chain_bound(operator, found, next)
-}
-
-fn chain_bound(operator: ChainOperator, left: Bound, right: Bound) -> Result<Bound, u8>
-    ensures { all_known result ≡ chain_bound operator (known left) (known right) }
-{
     match operator {
-        ChainOperator::Arithmetic(operator) => binary_bound(operation_of(operator), left, right),
+        ChainOperator::Arithmetic(operator) => binary_bound(operation_of(operator), found, next),
         ChainOperator::Logic(_) => Ok(truth_bound()),
     }
 }
@@ -79,8 +82,8 @@ fn arithmetic_bound(operator: ArithmeticPair, left: Bound, right: Bound) -> Resu
         ArithmeticPair::Divide => binary_bound(Binary::Divide, left, right),
         ArithmeticPair::Remainder => binary_bound(Binary::Remainder, left, right),
         ArithmeticPair::Minus => binary_bound(Binary::Difference, left, right),
-        ArithmeticPair::ShiftLeft => left_bound(left, right),
-        ArithmeticPair::ShiftRight => right_bound(left, right),
+        ArithmeticPair::ShiftLeft => shift_bound(Shift::Left, left, right),
+        ArithmeticPair::ShiftRight => shift_bound(Shift::Right, left, right),
     }
 }
 
@@ -102,21 +105,45 @@ fn not_bound(operand: Bound) -> Result<Bound, u8>
     }
 }
 
-fn left_bound(words: Bound, bits: Bound) -> Result<Bound, u8>
-    ensures { all_known result ≡ gives (shifted shifted_left) (by_counts shift_left_range) (known words) (known bits) }
-{
-    match (words, bits) {
-        (Bound::Exactly(word), Bound::Exactly(bits)) => exactly(shifted_left(word, bits)),
-        _ => within(left_range(words.range(), bits.range())),
+/// A shift of a word by a count of bits.
+#[derive(Clone, Copy)]
+pub(crate) enum Shift {
+    Left,
+    Right,
+}
+
+impl Shift {
+    /// A word that is shifted.
+    fn word(self, word: i32, count: u32) -> i32
+        requires { count < 32 }
+        ensures { result ≡ shifted_word self word count }
+    {
+        match self {
+            Shift::Left => shift_left(word, count),
+            Shift::Right => shift_right(word, count),
+        }
+    }
+
+    /// Where the words of a range lie that are shifted.
+    fn range(self, words: Range, bits: Range) -> Range
+        requires from_zero { pos 0 ≤ℤ bits.lo }
+        requires below_32 { bits.hi ≤ℤ pos 31 }
+        ensures { ends_of result ≡ shift_range self (ends_of words) (ends_of bits) }
+    {
+        match self {
+            Shift::Left => words.shift_left(bits),
+            Shift::Right => words.shift_right(bits),
+        }
     }
 }
 
-fn right_bound(words: Bound, bits: Bound) -> Result<Bound, u8>
-    ensures { all_known result ≡ gives (shifted shifted_right) (by_counts right_range) (known words) (known bits) }
+fn shift_bound(shift: Shift, words: Bound, bits: Bound) -> Result<Bound, u8>
+    ensures { all_known result
+        ≡ gives (shifted (shifted_word shift)) (by_counts (shift_range shift)) (known words) (known bits) }
 {
     match (words, bits) {
-        (Bound::Exactly(word), Bound::Exactly(bits)) => exactly(shifted_right(word, bits)),
-        _ => within(right_range(words.range(), bits.range())),
+        (Bound::Exactly(word), Bound::Exactly(bits)) => exactly(shifted(shift, word, bits)),
+        _ => within(shifted_range(shift, words.range(), bits.range())),
     }
 }
 
@@ -127,41 +154,21 @@ fn counts() -> Range
     Range::new(0, 31)
 }
 
-fn shifted_left(word: i32, bits: i32) -> Option<i32>
-    ensures { result ≡ shifted shifted_left word bits }
+fn shifted(shift: Shift, word: i32, bits: i32) -> Option<i32>
+    ensures { result ≡ shifted (shifted_word shift) word bits }
 {
     if counts().contains(bits) {
-        Some(shift_left(word, bits.unsigned_abs()))
+        Some(shift.word(word, bits.unsigned_abs()))
     } else {
         None
     }
 }
 
-fn shifted_right(word: i32, bits: i32) -> Option<i32>
-    ensures { result ≡ shifted shifted_right word bits }
-{
-    if counts().contains(bits) {
-        Some(shift_right(word, bits.unsigned_abs()))
-    } else {
-        None
-    }
-}
-
-fn left_range(words: Range, bits: Range) -> Option<Range>
-    ensures { option_map ends_of result ≡ by_counts shift_left_range (ends_of words) (ends_of bits) }
+fn shifted_range(shift: Shift, words: Range, bits: Range) -> Option<Range>
+    ensures { option_map ends_of result ≡ by_counts (shift_range shift) (ends_of words) (ends_of bits) }
 {
     if bits.fits_within(counts()) {
-        Some(words.shift_left(bits))
-    } else {
-        None
-    }
-}
-
-fn right_range(words: Range, bits: Range) -> Option<Range>
-    ensures { option_map ends_of result ≡ by_counts right_range (ends_of words) (ends_of bits) }
-{
-    if bits.fits_within(counts()) {
-        Some(words.shift_right(bits))
+        Some(shift.range(words, bits))
     } else {
         None
     }

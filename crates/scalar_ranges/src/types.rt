@@ -1,18 +1,17 @@
 //! The types of expressions.
 
 ghost use Rattle.std.specs.Prelude.{◌≡◌, option_map};
-ghost use Rattle.occam_parser.specs.Views.{expression_of, term_of};
+ghost use Rattle.occam_parser.specs.Views.{expression_of};
 ghost use Rattle.scalar_ranges.specs.Scopes.{entries_of, meaning_of};
-ghost use Rattle.scalar_ranges.specs.Steps.{both};
-ghost use Rattle.scalar_ranges.specs.Types.{type_of, type_of_term, type_of_values, named_type, element_type};
+ghost use Rattle.scalar_ranges.specs.Steps.{and_then, both};
+ghost use Rattle.scalar_ranges.specs.Types.{type_of, type_of_values, named_type, element_type};
 ghost use Rattle.scalar_ranges.specs.Types.{subscripted};
 ghost use Rattle.scalar_ranges.specs.Types.{prefix_type, pair_type, chain_type, converted_type};
 
+use crate::reading::read;
 use crate::scope::{Meaning, Scope};
 use crate::steps::paired;
-use occam_parser::{
-    ChainOperator, Expr, Operand, Operation, PairOperator, PrefixOperator, ValueType,
-};
+use occam_parser::{ChainOperator, Expr, PairOperator, PrefixOperator, ValueType};
 
 /// The number of the fault that a name is unknown.
 pub const UNKNOWN_NAME: u8 = 9;
@@ -30,60 +29,10 @@ pub enum ExprType {
 
 /// The type of an expression. The error is [`UNKNOWN_NAME`] if a name in it is unknown, else [`WRONG_TYPE`] if an
 /// operand has a wrong type.
-#[cycle(type_of)]
-#[tactic(auto, unfolding(crate::proofs::Chains::chain_after))]
 pub fn type_of(scope: &Scope, expr: &Expr) -> Result<ExprType, u8>
     ensures { result ≡ type_of (entries_of scope.now) (expression_of expr.now) }
 {
-    match &*expr.operation {
-        Operation::Operand(operand) => type_of_operand(scope, operand),
-        Operation::Prefix { operator, operand } => {
-            prefix_type(*operator, type_of_operand(scope, operand)?)
-        }
-        Operation::Pair {
-            operator,
-            left,
-            right,
-        } => {
-            let (left, right) = paired(
-                type_of_operand(scope, left),
-                type_of_operand(scope, right),
-            )?;
-            pair_type(*operator, left, right)
-        }
-        Operation::Chain {
-            operator,
-            first,
-            second,
-            others,
-        } => {
-            let first = type_of_operand(scope, first);
-            let mut found = next_type(*operator, first, type_of_operand(scope, second));
-            for other in others {
-                found = next_type(*operator, found, type_of_operand(scope, other));
-            }
-            found
-        }
-    }
-}
-
-#[cycle(type_of)]
-fn type_of_operand(scope: &Scope, operand: &Operand) -> Result<ExprType, u8>
-    ensures { result ≡ type_of_term (entries_of scope.now) (term_of operand.now) }
-{
-    match operand {
-        Operand::Integer(_) | Operand::MostPos | Operand::MostNeg => Ok(ExprType::Int),
-        Operand::Character(_) => Ok(ExprType::Byte),
-        Operand::Truth(_) => Ok(ExprType::Condition),
-        Operand::Name(name) => named_type(scope.meaning(name)),
-        Operand::Element { name, subscript } => {
-            let array = element_type(scope.meaning(name));
-            let (array, subscript) = paired(array, type_of(scope, subscript))?;
-            subscripted(array, subscript)
-        }
-        Operand::Bracketed(inner) => type_of(scope, inner),
-        Operand::Converted { to, operand } => converted_type(*to, type_of_operand(scope, operand)?),
-    }
+    read(scope, expr).expr_type
 }
 
 /// The type of the values of a declaration.
@@ -97,7 +46,7 @@ fn type_of_values(value_type: ValueType) -> ExprType
 }
 
 /// The type of a name without a subscript.
-fn named_type(meaning: Option<Meaning>) -> Result<ExprType, u8>
+pub(crate) fn named_type(meaning: Option<Meaning>) -> Result<ExprType, u8>
     ensures { result ≡ named_type (option_map meaning_of meaning) }
 {
     match meaning {
@@ -121,28 +70,42 @@ fn element_type(meaning: Option<Meaning>) -> Result<ExprType, u8>
 }
 
 /// The type of an element, by the type of the subscript.
-fn subscripted(array: ExprType, subscript: ExprType) -> Result<ExprType, u8>
-    ensures { result ≡ subscripted array subscript }
+pub(crate) fn subscripted_type(
+    array: Option<Meaning>,
+    subscript: Result<ExprType, u8>,
+) -> Result<ExprType, u8>
+    ensures { result ≡ both (element_type (option_map meaning_of array)) subscript subscripted }
 {
+    let (element, subscript) = paired(element_type(array), subscript)?;
     match subscript {
-        ExprType::Int => Ok(array),
+        ExprType::Int => Ok(element),
         _ => Err(WRONG_TYPE),
     }
 }
 
-fn prefix_type(operator: PrefixOperator, operand: ExprType) -> Result<ExprType, u8>
-    ensures { result ≡ prefix_type operator operand }
+/// The type of an operator before one operand.
+pub(crate) fn prefix_type(
+    operator: PrefixOperator,
+    operand: Result<ExprType, u8>,
+) -> Result<ExprType, u8>
+    ensures { result ≡ and_then operand (prefix_type operator) }
 {
-    match (operator, operand) {
+    match (operator, operand?) {
         (PrefixOperator::Negate | PrefixOperator::BitNot, ExprType::Int) => Ok(ExprType::Int),
         (PrefixOperator::Not, ExprType::Condition) => Ok(ExprType::Condition),
         _ => Err(WRONG_TYPE),
     }
 }
 
-fn pair_type(operator: PairOperator, left: ExprType, right: ExprType) -> Result<ExprType, u8>
-    ensures { result ≡ pair_type operator left right }
+/// The type of an operator between two operands.
+pub(crate) fn pair_type(
+    operator: PairOperator,
+    left: Result<ExprType, u8>,
+    right: Result<ExprType, u8>,
+) -> Result<ExprType, u8>
+    ensures { result ≡ both left right (pair_type operator) }
 {
+    let (left, right) = paired(left, right)?;
     match (operator, left, right) {
         (PairOperator::Arithmetic(_), ExprType::Int, ExprType::Int) => Ok(ExprType::Int),
         (PairOperator::Comparison(_), ExprType::Int, ExprType::Int) => Ok(ExprType::Condition),
@@ -151,10 +114,16 @@ fn pair_type(operator: PairOperator, left: ExprType, right: ExprType) -> Result<
     }
 }
 
-fn chain_type(operator: ChainOperator, left: ExprType, right: ExprType) -> Result<ExprType, u8>
-    ensures { result ≡ chain_type operator left right }
+/// The type of a chain that has one operand more.
+pub(crate) fn chain_type(
+    operator: ChainOperator,
+    found: Result<ExprType, u8>,
+    next: Result<ExprType, u8>,
+) -> Result<ExprType, u8>
+    ensures { result ≡ both found next (chain_type operator) }
 {
-    match (operator, left, right) {
+    let (found, next) = paired(found, next)?;
+    match (operator, found, next) {
         (ChainOperator::Arithmetic(_), ExprType::Int, ExprType::Int) => Ok(ExprType::Int),
         (ChainOperator::Logic(_), ExprType::Condition, ExprType::Condition) => {
             Ok(ExprType::Condition)
@@ -163,22 +132,11 @@ fn chain_type(operator: ChainOperator, left: ExprType, right: ExprType) -> Resul
     }
 }
 
-/// The type of a chain that has one operand more.
-fn next_type(
-    operator: ChainOperator,
-    found: Result<ExprType, u8>,
-    next: Result<ExprType, u8>,
-) -> Result<ExprType, u8>
-    ensures { result ≡ both found next (chain_type operator) }
+/// The type of an operand that is converted to a type.
+pub(crate) fn converted_type(to: ValueType, operand: Result<ExprType, u8>) -> Result<ExprType, u8>
+    ensures { result ≡ and_then operand (converted_type to) }
 {
-    let (found, next) = paired(found, next)?;
-    chain_type(operator, found, next)
-}
-
-fn converted_type(to: ValueType, operand: ExprType) -> Result<ExprType, u8>
-    ensures { result ≡ converted_type to operand }
-{
-    match operand {
+    match operand? {
         ExprType::Condition => Err(WRONG_TYPE),
         _ => Ok(type_of_values(to)),
     }
