@@ -16,3 +16,9 @@ pub mod Widening
 pub mod Named
 pub mod Joining
 pub mod Taking
+pub mod Numbered
+pub mod Tracking
+pub mod Following
+pub mod Ending
+pub mod Components
+pub mod Cutting

@@ -43,7 +43,7 @@ eq_suc a b = grind (arith, nat_tests)
 
 -- ---- the outermost ones
 
-cut_none : {A : Type 0} (ys : List A) → outermost 0 ys ≡ []
+pub cut_none : {A : Type 0} (ys : List A) → outermost 0 ys ≡ []
 cut_none [] = refl
 cut_none (y ∷ ys) = ap (λ t. cond t (y ∷ ys) (outermost 0 ys)) (lt_none (length ys)) ∙ cut_none ys
 
@@ -53,7 +53,7 @@ cut_by : {A : Type 0} (t : Bool) (count : ℕ) (x : A) (xs : List A) (y : A)
 cut_by true count x xs y h = refl
 cut_by false count x xs y h = h
 
-cut_last : {A : Type 0} (count : ℕ) (ys : List A) (y : A)
+pub cut_last : {A : Type 0} (count : ℕ) (ys : List A) (y : A)
     → outermost (suc count) (ys ++ y ∷ []) ≡ outermost count ys ++ y ∷ []
 cut_last count [] y = ap (λ t. cond t (y ∷ []) []) (lt_some count)
 cut_last count (x ∷ xs) y =
@@ -99,7 +99,7 @@ lower_number a b h = grind (arith, nat_tests)
 higher_number : (a b : ℕ) → a < b → nat_eq a b ≡ false
 higher_number a b h = grind (arith, nat_tests)
 
-at_last : {A : Type 0} (f : A → A) (ys : List A) (y : A) → at_number f 0 (ys ++ y ∷ []) ≡ ys ++ f y ∷ []
+pub at_last : {A : Type 0} (f : A → A) (ys : List A) (y : A) → at_number f 0 (ys ++ y ∷ []) ≡ ys ++ f y ∷ []
 at_last f [] y = refl
 at_last f (x ∷ xs) y =
     ap (λ t. cond t (f x ∷ xs ++ y ∷ []) (x ∷ at_number f 0 (xs ++ y ∷ [])))
@@ -113,7 +113,7 @@ at_by : {A : Type 0} (t : Bool) (f : A → A) (n : ℕ) (x : A) (xs : List A) (y
 at_by true f n x xs y h = refl
 at_by false f n x xs y h = ap (λ zs. x ∷ zs) h
 
-at_further : {A : Type 0} (f : A → A) (n : ℕ) (ys : List A) (y : A)
+pub at_further : {A : Type 0} (f : A → A) (n : ℕ) (ys : List A) (y : A)
     → at_number f (suc n) (ys ++ y ∷ []) ≡ at_number f n ys ++ y ∷ []
 at_further f n [] y = ap (λ t. cond t (f y ∷ []) (y ∷ [])) (eq_some n)
 at_further f n (x ∷ xs) y =

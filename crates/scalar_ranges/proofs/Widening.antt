@@ -37,7 +37,7 @@ pub one_more : (ns : List ℕ) (n k : ℕ) → is_one_of (ns ++ n ∷ []) k ≡ 
 one_more [] n k = last_by (nat_eq n k)
 one_more (m ∷ ms) n k = more_by (nat_eq m k) ms n k (one_more ms n k)
 
-same_test : (a b : ℕ) → nat_eq a b ≡ nat_eq b a
+pub same_test : (a b : ℕ) → nat_eq a b ≡ nat_eq b a
 same_test a b = grind (arith, nat_tests)
 
 widen_here : (t : Bool) (e : Entry) → with_meaning widened (widened_if t e) ≡ widened_if true e

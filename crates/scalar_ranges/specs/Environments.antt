@@ -27,7 +27,7 @@ one_of Nothing = None
 one_of (One value) = Some value
 one_of (Many values) = None
 
-abbrev pub item_at : ℕ → List ℤ → Option ℤ
+abbrev pub item_at : {A : Type 0} → ℕ → List A → Option A
 item_at i [] = None
 item_at zero (v ∷ vs) = Some v
 item_at (suc i) (v ∷ vs) = item_at i vs

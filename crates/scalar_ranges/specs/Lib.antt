@@ -9,6 +9,7 @@ pub mod BoundViews
 pub mod Shifts
 pub mod Narrowing
 pub mod Moves
+pub mod Changes
 pub mod EntryViews
 pub mod Scopes
 pub mod Naming

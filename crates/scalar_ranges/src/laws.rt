@@ -2,6 +2,7 @@
 ghost use Rattle.scalar_ranges.specs.Laws.{BoundsHold, ConstantsHold, NarrowingHolds};
 ghost use Rattle.scalar_ranges.specs.MoveLaws.{DeclaringHolds, LeavingHolds, ChangingHolds, HoldingHolds};
 ghost use Rattle.scalar_ranges.specs.Nesting.{NestedEndsHold};
+ghost use Rattle.scalar_ranges.specs.Changes.{ListsHold};
 ghost use Rattle.scalar_ranges.specs.MoveLaws.{WideningHolds, BranchesHold, ComponentsHold, ShapesStay};
 
 /// Where a well typed expression has a bound, it has a value as the bound says in every environment that meets the
@@ -60,4 +61,11 @@ pub fn branches_hold()
 #[tactic(auto, using(crate::proofs::MoveLaws::shapes_stay))]
 pub fn shapes_stay()
     ensures { ShapesStay }
+{}
+
+/// A program can have blocks of branches by lists of what changed in them: each move of such lists is the move of what
+/// is known, and a list has each entry once at most.
+#[tactic(auto, using(crate::proofs::Cutting::lists_hold))]
+pub fn lists_hold()
+    ensures { ListsHold }
 {}

@@ -18,7 +18,7 @@ mod types;
 
 pub use bounds::{OUT_OF_RANGE, OUTSIDE};
 pub use laws::{
-    bounds_hold, branches_hold, changes_hold, constants_hold, loops_hold, names_hold,
+    bounds_hold, branches_hold, changes_hold, constants_hold, lists_hold, loops_hold, names_hold,
     narrowing_holds, shapes_stay,
 };
 pub use narrowing::narrow_by;

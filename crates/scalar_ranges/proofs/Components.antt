@@ -1,0 +1,310 @@
+-- A component that ends, and a condition that is excluded, by the lists of changes.
+use Rattle.std.proofs.Common.{◌≡◌, ℕ, suc, ◌<◌, ◌≤◌, Bool, true, false, cond, List, [], ◌∷◌, length, map}
+use Rattle.std.proofs.Common.{reverse, take, refl, sym, ap, subst, arith, ◌∙◌, nat_eq, option_map}
+use Rattle.std.proofs.lemmas.Bool.Decides.{nat_tests}
+use Rattle.std.proofs.lemmas.List.{take_all, take-take, length-take, length-map}
+use Rattle.scalar_ranges.specs.Entries.{Meaning, Entry}
+use Rattle.scalar_ranges.specs.Moves.{at_number, with_meaning, is_one_of, of_both, taken, Block, end_of}
+use Rattle.scalar_ranges.specs.Moves.{next_component}
+use Rattle.scalar_ranges.specs.Changes.{Slot, Branching, Tracked, modify, entry_in, start_in, end_in, before, seen}
+use Rattle.scalar_ranges.specs.Changes.{ends_seen, block_in, blocks_in, known_in, numbers_of, AreListed, AreTracked}
+use Rattle.scalar_ranges.specs.Changes.{note, with_start, put_start, restarted, each, took, component_slots}
+use Rattle.scalar_ranges.specs.Changes.{component_in, undone, Follows, changed_start}
+use Rattle.scalar_ranges.proofs.Rows.{same_number}
+use Rattle.scalar_ranges.proofs.Taking.{taken_none}
+use Rattle.scalar_ranges.proofs.Numbered.{modify_long, take_modify, map_modify, map_unmodified, reverse_modify}
+use Rattle.scalar_ranges.proofs.Numbered.{each_maps, map_again, numbers_alike}
+use Rattle.scalar_ranges.proofs.Widening.{same_test}
+use Rattle.scalar_ranges.proofs.Tracking.{IsWithin, IsNoted, IsInside, notes_well, before_same, tracked_kept}
+use Rattle.scalar_ranges.proofs.Tracking.{before_each, tracked_each, either}
+use Rattle.scalar_ranges.proofs.Following.{restarted_by, start_by, end_by, with_end, left_tracked, restarted_mark}
+use Rattle.scalar_ranges.proofs.Following.{restarted_not, restarted_again, inside_restarted, end_is, map_reversed}
+
+-- ---- a condition is excluded
+
+start_within : (m : Meaning) → IsWithin (with_start m)
+start_within m = record { names = λ s. refl; marks = λ s. refl }
+
+other_start : (d : ℕ) (m : Meaning) (s : Slot)
+    → start_in d (with_start m s) ≡ with_meaning (λ k. m) (start_in d s)
+other_start d m s = λ i. record { name = s.name; meaning = either (nat_eq s.mark d) m i }
+
+same_end : (d : ℕ) (m : Meaning) (s : Slot) → nat_eq s.mark d ≡ true → end_in d (with_start m s) ≡ end_in d s
+same_end d m s noted =
+    (λ i. record { name = s.name; meaning = cond (noted i) s.ends m })
+    ∙ (λ i. record { name = s.name; meaning = cond (sym noted i) s.ends s.meaning })
+
+-- the blocks where the innermost one begins otherwise
+abbrev blocks_after : ℕ → Meaning → List Block → List Block
+blocks_after n m [] = []
+blocks_after n m (b ∷ bs) = record { start = at_number (with_meaning (λ k. m)) n b.start; ends = b.ends } ∷ bs
+
+start_blocks : (m : Meaning) (n : ℕ) (ss : List Slot) (bs : List Branching) → IsNoted n ss bs → AreTracked ss bs
+    → blocks_in (modify (with_start m) n ss) bs ≡ blocks_after n m (blocks_in ss bs)
+start_blocks m n ss [] noted tracked = refl
+start_blocks m n ss (b ∷ bs) noted tracked =
+    let d = suc (length bs) in
+    let at = take_modify (with_start m) b.count n ss in
+    let starts = ap (map (start_in d)) at
+    ∙ map_modify (start_in d) (with_start m) (with_meaning (λ k. m)) n (take b.count ss)
+    (λ s is. other_start d m s) in
+    let start = ap reverse starts ∙ reverse_modify (with_meaning (λ k. m)) n (map (start_in d) (take b.count ss)) in
+    let ends = ap (map (end_in d)) at
+    ∙ map_unmodified (end_in d) (with_start m) n (take b.count ss) (λ s is. same_end d m s (noted s is)) in
+    let behind = before_same (with_start m) n ss b bs (start_within m) noted tracked in
+    λ i. record { start = start i; ends = ends_seen b.ended (reverse (ends i)) } ∷ blocks_in (behind i) bs
+
+start_known : (m : Meaning) (n : ℕ) (es : List Entry) (bs : List Block)
+    → changed_start m n es bs
+    ≡ record { entries = at_number (with_meaning (λ k. m)) n es; blocks = blocks_after n m bs }
+start_known m n es [] = refl
+start_known m n es (b ∷ bs) = refl
+
+pub start_follows : (n : ℕ) (m : Meaning) (t : Tracked) → AreTracked t.slots t.blocks
+    → Follows (put_start n m t) (changed_start m n (known_in t).entries (known_in t).blocks)
+start_follows n m t tracked =
+    let noted = note n t.slots t.blocks in
+    let well = notes_well n t.slots t.blocks tracked in
+    subst (Follows (put_start n m t)) (sym (start_known m n (known_in t).entries (known_in t).blocks)) (record {
+      entries = ap reverse (map_modify entry_in (with_start m) (with_meaning (λ k. m)) n noted.slots (λ s is. refl))
+          ∙ reverse_modify (with_meaning (λ k. m)) n (map entry_in noted.slots)
+          ∙ ap (λ es. at_number (with_meaning (λ k. m)) n (reverse es)) well.entries;
+      blocks = start_blocks m n noted.slots noted.blocks well.noted well.tracked ∙ ap (blocks_after n m) well.blocks;
+      tracked = tracked_kept (with_start m) n noted.slots noted.blocks (start_within m) well.noted well.tracked;
+    })
+
+-- ---- a component ends
+
+abbrev took_by : Bool → Slot → Slot
+took_by t s = cond t (with_end s.meaning s) s
+
+took_name : (t : Bool) (s : Slot) → (took_by t s).name ≡ s.name
+took_name true s = refl
+took_name false s = refl
+
+took_mark : (t : Bool) (s : Slot) → (took_by t s).mark ≡ s.mark
+took_mark true s = refl
+took_mark false s = refl
+
+inside_took : (d : ℕ) → IsInside d (took d)
+inside_took d = record {
+  within = record { names = λ s. took_name (nat_eq s.mark d) s; marks = λ s. took_mark (nat_eq s.mark d) s };
+  others = λ s test. ap (λ t. took_by t s) test;
+}
+
+took_entry : (t : Bool) (s : Slot) → entry_in (took_by t s) ≡ entry_in s
+took_entry true s = refl
+took_entry false s = refl
+
+took_start : (t : Bool) (s : Slot) → start_by t (took_by t s) ≡ start_by t s
+took_start true s = refl
+took_start false s = refl
+
+took_end : (t : Bool) (s : Slot) → end_by t (took_by t s) ≡ entry_in s
+took_end true s = refl
+took_end false s = refl
+
+start_taken : (d : ℕ) (s : Slot) → start_in d (took d s) ≡ start_in d s
+start_taken d s =
+    ap (λ m. start_by (nat_eq m d) (took d s)) (took_mark (nat_eq s.mark d) s) ∙ took_start (nat_eq s.mark d) s
+
+end_taken : (d : ℕ) (s : Slot) → end_in d (took d s) ≡ entry_in s
+end_taken d s =
+    ap (λ m. end_by (nat_eq m d) (took d s)) (took_mark (nat_eq s.mark d) s) ∙ took_end (nat_eq s.mark d) s
+
+each_unseen : {A B : Type 0} (g : A → B) (f : A → A) (ns : List ℕ) (xs : List A) → ((x : A) → g (f x) ≡ g x)
+    → map g (each f ns xs) ≡ map g xs
+each_unseen g f [] xs same = refl
+each_unseen g f (n ∷ ns) xs same =
+    each_unseen g f ns (modify f n xs) same ∙ map_unmodified g f n xs (λ x is. same x)
+
+pub each_long : {A : Type 0} (f : A → A) (ns : List ℕ) (xs : List A) → length (each f ns xs) ≡ length xs
+each_long f [] xs = refl
+each_long f (n ∷ ns) xs = each_long f ns (modify f n xs) ∙ modify_long f n xs
+
+-- of the ends, with the innermost entry first
+higher_by : (t : Bool) (ns : List ℕ) (k : ℕ) → t ≡ false → cond t true (is_one_of ns k) ≡ is_one_of ns k
+higher_by true ns k h = absurd (cc)
+higher_by false ns k h = refl
+
+not_that : (n k : ℕ) → k < n → nat_eq n k ≡ false
+not_that n k h = grind (arith, nat_tests)
+
+-- a number that no item has
+taken_high : {A : Type 0} (ns : List ℕ) (n : ℕ) (xs ys : List A) → length xs ≤ n
+    → taken ns xs ys ≡ taken (n ∷ ns) xs ys
+taken_high ns n [] ys h = refl
+taken_high ns n (x ∷ xs) [] h = refl
+taken_high ns n (x ∷ xs) (y ∷ ys) h =
+    λ i. of_both (sym (higher_by (nat_eq n (length xs)) ns (length xs) (not_that n (length xs) (omega arith))) i) x y
+    ∷ taken_high ns n xs ys (omega arith) i
+
+long_by : {A : Type 0} (t : Bool) (f : A → A) (n : ℕ) (x : A) (xs : List A) → length (at_number f n xs) ≡ length xs
+    → length (cond t (f x ∷ xs) (x ∷ at_number f n xs)) ≡ suc (length xs)
+long_by true f n x xs h = refl
+long_by false f n x xs h = ap suc h
+
+changed_long : {A : Type 0} (f : A → A) (n : ℕ) (xs : List A) → length (at_number f n xs) ≡ length xs
+changed_long f n [] = refl
+changed_long f n (x ∷ xs) = long_by (nat_eq (length xs) n) f n x xs (changed_long f n xs)
+
+both_same : {A : Type 0} (t : Bool) (x : A) → of_both t x x ≡ x
+both_same true x = refl
+both_same false x = refl
+
+module _ (d : ℕ) (ns : List ℕ) (n : ℕ) where
+  abbrev ends : List Slot → List Entry
+  ends ss = map (end_in d) ss
+
+  abbrev entries : List Slot → List Entry
+  entries ss = map entry_in ss
+
+  ends_by : (t : Bool) (s : Slot) (ss : List Slot) → nat_eq (length ss) n ≡ t
+      → taken ns (ends (at_number (took d) n ss)) (entries ss) ≡ taken (n ∷ ns) (ends ss) (entries ss)
+      → taken ns (ends (cond t (took d s ∷ ss) (s ∷ at_number (took d) n ss))) (entries (s ∷ ss))
+      ≡ taken (n ∷ ns) (ends (s ∷ ss)) (entries (s ∷ ss))
+  ends_by true s ss test further =
+      let long = length-map ss (end_in d) in
+      let is = numbers_alike (length ss) n test in
+      let here = same_number n (length (ends ss)) (omega arith) in
+      let low : length (ends ss) ≤ n = omega arith in
+      (λ i. of_both (is_one_of ns (length (ends ss))) (end_taken d s i) (entry_in s) ∷ taken ns (ends ss) (entries ss))
+      ∙ (λ i. both_same (is_one_of ns (length (ends ss))) (entry_in s) i ∷ taken_high ns n (ends ss) (entries ss) low i)
+      ∙ (λ i. of_both (cond (sym here i) true (is_one_of ns (length (ends ss)))) (end_in d s) (entry_in s)
+      ∷ taken (n ∷ ns) (ends ss) (entries ss))
+  ends_by false s ss test further =
+      let long = length-map ss (end_in d) in
+      let changed = length-map (at_number (took d) n ss) (end_in d) in
+      let same = changed_long (took d) n ss in
+      let alike : length (ends (at_number (took d) n ss)) ≡ length (ends ss) = omega arith in
+      let apart = ap (nat_eq n) long ∙ same_test n (length ss) ∙ test in
+      (λ i. of_both (is_one_of ns (alike i)) (end_in d s) (entry_in s) ∷ further i)
+      ∙ (λ i. of_both (sym (higher_by (nat_eq n (length (ends ss))) ns (length (ends ss)) apart) i) (end_in d s)
+      (entry_in s) ∷ taken (n ∷ ns) (ends ss) (entries ss))
+
+  ends_one : (ss : List Slot) → taken ns (ends (at_number (took d) n ss)) (entries ss)
+      ≡ taken (n ∷ ns) (ends ss) (entries ss)
+  ends_one [] = refl
+  ends_one (s ∷ ss) = ends_by (nat_eq (length ss) n) s ss refl (ends_one ss)
+
+took_ends : (d : ℕ) (ns : List ℕ) (ss : List Slot)
+    → seen (end_in d) (each (took d) ns ss) ≡ taken ns (seen (end_in d) ss) (seen entry_in ss)
+took_ends d [] ss = taken_none (seen (end_in d) ss) (seen entry_in ss)
+took_ends d (n ∷ ns) ss =
+    let ks = modify (took d) n ss in
+    took_ends d ns ks
+    ∙ (λ i. taken ns (map_reversed (end_in d) ks i) (reverse (map_unmodified entry_in (took d) n ss
+    (λ s is. took_entry (nat_eq s.mark d) s) i)))
+    ∙ (λ i. taken ns (map (end_in d) (reverse_modify (took d) n ss i)) (map_reversed entry_in ss i))
+    ∙ ends_one d ns n (reverse ss)
+    ∙ (λ i. taken (n ∷ ns) (sym (map_reversed (end_in d) ss) i) (sym (map_reversed entry_in ss) i))
+
+restarted_entry : (t : Bool) (s : Slot) → entry_in (restarted_by t s) ≡ start_by t s
+restarted_entry true s = refl
+restarted_entry false s = refl
+
+restarted_start : (t : Bool) (s : Slot) → start_by t (restarted_by t s) ≡ start_by t s
+restarted_start true s = refl
+restarted_start false s = refl
+
+restarted_end : (t : Bool) (s : Slot) → end_by t (restarted_by t s) ≡ end_by t s
+restarted_end true s = refl
+restarted_end false s = refl
+
+start_again : (d : ℕ) (s : Slot) → start_in d (restarted d s) ≡ start_in d s
+start_again d s =
+    ap (λ m. start_by (nat_eq m d) (restarted d s)) (restarted_mark (nat_eq s.mark d) s)
+    ∙ restarted_start (nat_eq s.mark d) s
+
+end_again : (d : ℕ) (s : Slot) → end_in d (restarted d s) ≡ end_in d s
+end_again d s =
+    ap (λ m. end_by (nat_eq m d) (restarted d s)) (restarted_mark (nat_eq s.mark d) s)
+    ∙ restarted_end (nat_eq s.mark d) s
+
+component_ends : (ended : Bool) (ns : List ℕ) (ds es : List Entry)
+    → ends_seen ended (taken ns ds es) ≡ option_map (λ k. taken ns k es) (ends_seen ended ds)
+component_ends true ns ds es = refl
+component_ends false ns ds es = refl
+
+module _ (ns : List ℕ) (ss : List Slot) (b : Branching) (bs : List Branching) (tracked : AreTracked ss (b ∷ bs)) where
+  abbrev depth : ℕ
+  depth = suc (length bs)
+
+  abbrev base : List Slot
+  base = take b.count ss
+
+  abbrev tooks : List Slot
+  tooks = each (took depth) ns base
+
+  abbrev slots : List Slot
+  slots = component_slots ns depth b ss
+
+  based : AreTracked base (b ∷ bs)
+  based = left_tracked b.count ss b bs (omega arith) tracked
+
+  tooks_tracked : AreTracked tooks (b ∷ bs)
+  tooks_tracked = tracked_each (took depth) ns base b bs (inside_took depth) based
+
+  slots_tracked : AreTracked slots (b ∷ bs)
+  slots_tracked =
+      tracked_each (restarted depth) (numbers_of b.changes) tooks b bs (inside_restarted depth) tooks_tracked
+
+  behind : before b slots ≡ before b ss
+  behind =
+      before_each (restarted depth) (numbers_of b.changes) tooks b bs (inside_restarted depth) tooks_tracked
+      ∙ before_each (took depth) ns base b bs (inside_took depth) based
+      ∙ ap (undone b.changes) (take-take b.count b.count ss (omega arith))
+
+  tooks_taken : take b.count tooks ≡ tooks
+  tooks_taken =
+      let long = each_long (took depth) ns base in
+      let cut = length-take b.count ss in
+      take_all b.count tooks (omega arith)
+
+  slots_are : slots ≡ map (restarted depth) tooks
+  slots_are =
+      let listed = subst (AreListed depth (numbers_of b.changes)) tooks_taken tooks_tracked.2 in
+      each_maps (restarted depth) (numbers_of b.changes) tooks (restarted_again depth)
+      (λ i s is others. restarted_not depth s (listed i s is others))
+
+  slots_taken : take b.count slots ≡ slots
+  slots_taken =
+      let long = ap length slots_are ∙ length-map tooks (restarted depth) ∙ each_long (took depth) ns base in
+      let cut = length-take b.count ss in
+      take_all b.count slots (omega arith)
+
+  starts_are : (g : Slot → Entry) → ((s : Slot) → g (restarted depth s) ≡ start_in depth s)
+      → map g slots ≡ map (start_in depth) base
+  starts_are g same =
+      ap (map g) slots_are ∙ map_again g (restarted depth) (start_in depth) tooks same
+      ∙ each_unseen (start_in depth) (took depth) ns base (start_taken depth)
+
+  ends_are : seen (end_in depth) slots
+      ≡ taken ns (seen (end_in depth) base) (end_of (block_in depth b ss) (seen entry_in ss))
+  ends_are =
+      ap (seen (end_in depth)) slots_are
+      ∙ ap reverse (map_again (end_in depth) (restarted depth) (end_in depth) tooks (end_again depth))
+      ∙ took_ends depth ns base
+      ∙ ap (taken ns (seen (end_in depth) base)) (sym (end_is depth b ss tracked.0))
+
+  component : Follows (component_in ns ss (b ∷ bs))
+      (next_component ns (record { entries = seen entry_in ss; blocks = blocks_in ss (b ∷ bs) }))
+  component =
+      let starts = ap reverse (starts_are (start_in depth) (start_again depth)) in
+      let ends = ap (ends_seen b.ended) ends_are ∙ component_ends b.ended ns (seen (end_in depth) base)
+      (end_of (block_in depth b ss) (seen entry_in ss)) in
+      record {
+        entries = ap reverse (starts_are entry_in (λ s. restarted_entry (nat_eq s.mark depth) s));
+        blocks = (λ i. record {
+          start = seen (start_in depth) (slots_taken i);
+          ends = ends_seen b.ended (seen (end_in depth) (slots_taken i));
+        } ∷ blocks_in (behind i) bs)
+            ∙ (λ i. record { start = starts i; ends = ends i } ∷ blocks_in (before b ss) bs);
+        tracked = slots_tracked;
+      }
+
+pub component_follows : (ns : List ℕ) (ss : List Slot) (bs : List Branching) → AreTracked ss bs
+    → Follows (component_in ns ss bs)
+    (next_component ns (record { entries = seen entry_in ss; blocks = blocks_in ss bs }))
+component_follows ns ss [] tracked = record { entries = refl; blocks = refl; tracked = tracked }
+component_follows ns ss (b ∷ bs) tracked = component ns ss b bs tracked
