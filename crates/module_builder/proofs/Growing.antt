@@ -1,6 +1,7 @@
 -- Lengths that grow nowhere shorten a distance, and so no item.
 use Rattle.std.proofs.Common.{◌≡◌, ℕ, zero, suc, ◌+◌, ◌-◌, ◌<◌, ◌≤◌, ◌⊎◌, List, [], ◌∷◌, ◌++◌, length, take, sum, pos}
-use Rattle.std.proofs.Common.{◌-ℤ◌, refl, ap, sym, ◌∙◌, arith, inl, inr, unwrap_or, add-suc, add-zero, suc-add, zero-add, add-one, get_or}
+use Rattle.std.proofs.Common.{◌-ℤ◌, refl, ap, sym, ◌∙◌, arith, inl, inr, unwrap_or, add-suc, add-zero, suc-add}
+use Rattle.std.proofs.Common.{zero-add, add-one, get_or}
 use Rattle.std.specs.Prelude.{⊤}
 use Rattle.std.proofs.lemmas.Bool.{cases_lt}
 use Rattle.std.proofs.lemmas.List.{take_all, take_more, length-take-le}
@@ -40,7 +41,8 @@ offset_rises (x ∷ xs) (suc s) (suc t) h =
     omega (arith, offset-cons x xs s, offset-cons x xs t, offset_rises xs s t (omega arith))
 
 -- from one item to a later one it is no less far
-pub gap_rises : (a b : List ℕ) → NowhereLonger a b → (s t : ℕ) → s ≤ t → offset a t + offset b s ≤ offset b t + offset a s
+pub gap_rises : (a b : List ℕ) → NowhereLonger a b → (s t : ℕ) → s ≤ t
+    → offset a t + offset b s ≤ offset b t + offset a s
 gap_rises [] [] h s t le = omega (arith, offset-nil s, offset-nil t)
 gap_rises [] (y ∷ b) h s t le = absurd h
 gap_rises (x ∷ a) [] h s t le = absurd h
@@ -168,7 +170,8 @@ length-bytes_from code lengths number (item ∷ items) =
 -- one more item
 pub bytes_push : (code : Code) (lengths : List ℕ) (number : ℕ) (items : List Item) (item : Item)
     → bytes_from code lengths number (items ++ item ∷ [])
-    ≡ bytes_from code lengths number items ++ bytes_of code lengths (offset lengths (suc (number + length items))) item ∷ []
+    ≡ bytes_from code lengths number items
+    ++ bytes_of code lengths (offset lengths (suc (number + length items))) item ∷ []
 bytes_push code lengths number [] item = rw add-zero refl
 bytes_push code lengths number (first ∷ items) item =
     rw add-suc
@@ -176,7 +179,8 @@ bytes_push code lengths number (first ∷ items) item =
     (rw suc-add at (bytes_push code lengths (suc number) items item)))
 
 -- what a loop over the items has pushed
-pub needed_more : (code : Code) (lengths : List ℕ) (items : List Item) (i end bytes : ℕ) (d : Item) (before after : List ℕ)
+pub needed_more : (code : Code) (lengths : List ℕ) (items : List Item) (i end bytes : ℕ) (d : Item)
+    (before after : List ℕ)
     → i < length items
     → end ≡ offset lengths (i + 1)
     → bytes ≡ bytes_of code lengths end (get_or items i d)

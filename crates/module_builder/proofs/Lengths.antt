@@ -1,6 +1,7 @@
 -- How long the spellings of operands are, and that a longer distance has no shorter spelling.
 use Rattle.std.proofs.Common.{◌≡◌, ℕ, zero, suc, ◌+◌, ◌-◌, ◌*◌, ◌/◌, ◌^◌, ◌<◌, ◌≤◌, [], ◌∷◌, length}
-use Rattle.std.proofs.Common.{ℤ, pos, negsuc, ◌-ℤ◌, FitsSigned, w32, of_z, int_le, false, refl, ap, sym, ◌∙◌, arith, inl, inr}
+use Rattle.std.proofs.Common.{ℤ, pos, negsuc, ◌-ℤ◌, FitsSigned, w32, of_z, int_le, false, refl, ap, sym, ◌∙◌, arith}
+use Rattle.std.proofs.Common.{inl, inr}
 use Rattle.std.proofs.Common.{length-append}
 use Rattle.std.proofs.lemmas.Bool.{cases_lt, lt-ltb, le-ltb, leb-false}
 use Rattle.std.proofs.lemmas.Int.{ints}

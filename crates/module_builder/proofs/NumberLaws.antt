@@ -1,12 +1,14 @@
 -- Contexts that are there have numbers that a file can name.
-use Rattle.std.proofs.Common.{◌≡◌, ℕ, zero, suc, ◌+◌, ◌<◌, ◌≤◌, ◌==◌, not, Bool, true, false, List, [], ◌∷◌, ◌++◌, length, take, map}
+use Rattle.std.proofs.Common.{◌≡◌, ℕ, zero, suc, ◌+◌, ◌<◌, ◌≤◌, ◌==◌, not, Bool, true, false, List, [], ◌∷◌, ◌++◌}
+use Rattle.std.proofs.Common.{length, take, map}
 use Rattle.std.proofs.Common.{get_or, Option, Some, None, slice_get, inl, inr, refl, ap, sym, ◌∙◌, arith}
 use Rattle.std.proofs.Common.{append_assoc, length-append, add-suc, suc-add, add-zero, zero-add}
 use Rattle.std.specs.List.{sum_by, cons_option, Contains}
 use Rattle.std.specs.List.Sorted.{IsPermutation}
 use Rattle.std.specs.Option.{option_to_list}
 use Rattle.std.proofs.lemmas.Bool.{cases_lt, lt-ltb, eq-eqb, eqb-true}
-use Rattle.std.proofs.lemmas.List.Sums.{sum_by-cons, sum_by_more_le, prefix_len_passes, prefix_len_stops, prefix_len-le-length}
+use Rattle.std.proofs.lemmas.List.Sums.{sum_by-cons, sum_by_more_le, prefix_len_passes, prefix_len_stops}
+use Rattle.std.proofs.lemmas.List.Sums.{prefix_len-le-length}
 use Rattle.std.proofs.lemmas.List.Sorted.{sum_by-IsPermutation, Contains-permutation, length_permutation}
 use Rattle.std.proofs.lemmas.List.{length-map}
 use Rattle.std.proofs.lemmas.Option.{slice_get_within}
@@ -20,7 +22,8 @@ use Rattle.module_builder.specs.declared.draft.Draft.{Draft}
 use Rattle.module_builder.specs.Placing.{label_offset}
 use Rattle.module_builder.specs.Limits.{branch_count, IsWithin}
 use Rattle.module_builder.specs.Ordering.{numbered, rows_in, position}
-use Rattle.module_builder.specs.Assembled.{Arrangement, AreInOrder, first_entry, nameable, context_number, first_context}
+use Rattle.module_builder.specs.Assembled.{Arrangement, AreInOrder, first_entry, nameable, context_number}
+use Rattle.module_builder.specs.Assembled.{first_context}
 use Rattle.module_builder.proofs.RowLaws.{true_is_not_false, length-numbered}
 
 -- the branches of the row with a number
@@ -131,7 +134,8 @@ branches_below keys order rows par row count same found =
 nameable_below : (number : ℕ) → number < MAX_CONTEXTS → nameable number ≡ Some number
 nameable_below number h = rw (lt-ltb number MAX_CONTEXTS h) refl
 
-length_order : (keys : List ℕ) (order : List (ℕ × ℕ)) → IsPermutation (numbered 0 keys) order → length order ≡ length keys
+length_order : (keys : List ℕ) (order : List (ℕ × ℕ)) → IsPermutation (numbered 0 keys) order
+    → length order ≡ length keys
 length_order keys order same = length_permutation (numbered 0 keys) order same ∙ length-numbered 0 keys
 
 pub procedure_has_number : (d : Draft) (offsets : List (Option ℕ)) (a : Arrangement) (row : ℕ)

@@ -11,8 +11,10 @@ use Rattle.prefix_decoder.specs.Spelling.{natural_spelling, spelling}
 use Rattle.module_builder.specs.declared.item.Item.{Item}
 use Rattle.module_builder.specs.declared.item.Item.TheVariants.{Instruction, ConstantAddress}
 use Rattle.module_builder.specs.Drafts.{Code}
-use Rattle.module_builder.specs.Layouts.{offset, load_len, bytes_of, bytes_from, Fits, IsBoundary, IsLeast, NowhereLonger}
-use Rattle.module_builder.specs.Spelling.{constants_start, filled, address, spelled_item, spelled_from, spelled, IsSpelledAt}
+use Rattle.module_builder.specs.Layouts.{offset, load_len, bytes_of, bytes_from, Fits, IsBoundary, IsLeast}
+use Rattle.module_builder.specs.Layouts.{NowhereLonger}
+use Rattle.module_builder.specs.Spelling.{constants_start, filled, address, spelled_item, spelled_from, spelled}
+use Rattle.module_builder.specs.Spelling.{IsSpelledAt}
 use Rattle.module_builder.proofs.Lengths.{natural_alone, natural_above, natural_rises}
 use Rattle.module_builder.proofs.Growing.{offset-le-sum}
 

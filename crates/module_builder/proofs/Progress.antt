@@ -87,7 +87,8 @@ start_sum code =
 pub on_the_way_more : (code : Code) (lengths : List ℕ) → IsOnTheWay code lengths → IsOnTheWay code (needed code lengths)
 on_the_way_more code lengths way = record {
   growing =
-      bytes_rise code lengths (needed code lengths) way.growing way.positive (bytes_positive code lengths 0 code.items) 0
+      bytes_rise code lengths (needed code lengths) way.growing way.positive
+      (bytes_positive code lengths 0 code.items) 0
       code.items;
   positive = bytes_positive code lengths 0 code.items;
   least = λ (others : List ℕ) (fits : Fits code others).

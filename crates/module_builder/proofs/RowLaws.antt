@@ -1,5 +1,6 @@
 -- Rows in an order, and what holds of each row.
-use Rattle.std.proofs.Common.{◌≡◌, ℕ, zero, suc, ◌+◌, ◌<◌, List, [], ◌∷◌, ◌++◌, length, take, get_or, refl, ap, sym, arith}
+use Rattle.std.proofs.Common.{◌≡◌, ℕ, zero, suc, ◌+◌, ◌<◌, List, [], ◌∷◌, ◌++◌, length, take, get_or, refl, ap, sym}
+use Rattle.std.proofs.Common.{arith}
 use Rattle.std.proofs.Common.{add-suc, suc-add, add-zero, append-nil, Some, None, slice_get, subst}
 use Rattle.std.proofs.lemmas.List.{take_more, length-take-le}
 use Rattle.std.proofs.lemmas.List.Elements.{filter_map-append}
@@ -15,7 +16,8 @@ pub numbered_push : (number : ℕ) (keys : List ℕ) (key : ℕ)
     → numbered number (keys ++ key ∷ []) ≡ numbered number keys ++ (key, number + length keys) ∷ []
 numbered_push number [] key = rw add-zero refl
 numbered_push number (first ∷ keys) key =
-    rw add-suc (ap (λ (rest : List (ℕ × ℕ)). (first, number) ∷ rest) (rw suc-add at (numbered_push (suc number) keys key)))
+    rw add-suc
+    (ap (λ (rest : List (ℕ × ℕ)). (first, number) ∷ rest) (rw suc-add at (numbered_push (suc number) keys key)))
 
 pub length-numbered : (number : ℕ) (keys : List ℕ) → length (numbered number keys) ≡ length keys
 length-numbered number [] = refl
@@ -45,7 +47,8 @@ pub numbered_more : (keys : List ℕ) (i d : ℕ) (before after : List (ℕ × �
     → after ≡ numbered 0 (take (i + 1) keys)
 numbered_more keys i d before after within was is =
     let front : length (take i keys) ≡ i = length-take-le i keys (omega arith) in
-    let pushed : numbered 0 (take i keys ++ get_or keys i d ∷ []) ≡ numbered 0 (take i keys) ++ (get_or keys i d, i) ∷ [] =
+    let pushed : numbered 0 (take i keys ++ get_or keys i d ∷ [])
+    ≡ numbered 0 (take i keys) ++ (get_or keys i d, i) ∷ [] =
     rw (front, zero-add) at (numbered_push 0 (take i keys) (get_or keys i d)) in
     rw (is, was, take_more keys i d within) (sym pushed)
 
@@ -93,7 +96,8 @@ missing_row rows number past =
 
 -- ---- what a loop over an order has pushed
 
-pub placed_more : {Row Out Value : Type 0} (view : Out → Value) (place : Row → Value) (order : List (ℕ × ℕ)) (rows : List Row)
+pub placed_more : {Row Out Value : Type 0} (view : Out → Value) (place : Row → Value)
+    (order : List (ℕ × ℕ)) (rows : List Row)
     (i : ℕ) (d : ℕ × ℕ) (row : Row) (before after : List Out) (out : Out)
     → i < length order
     → slice_get rows (get_or order i d).1 ≡ Some row
@@ -104,7 +108,8 @@ pub placed_more : {Row Out Value : Type 0} (view : Out → Value) (place : Row �
 placed_more view place order rows i d row before after out within found was is pushed =
     rw (rows_in_more order rows i d row within found, pushed, map-append, map-append, was, is) refl
 
-pub placed_same : {Row Out Value : Type 0} (view : Out → Value) (place : Row → Value) (order : List (ℕ × ℕ)) (rows : List Row)
+pub placed_same : {Row Out Value : Type 0} (view : Out → Value) (place : Row → Value)
+    (order : List (ℕ × ℕ)) (rows : List Row)
     (i : ℕ) (d : ℕ × ℕ) (before after : List Out)
     → i < length order
     → slice_get rows (get_or order i d).1 ≡ None

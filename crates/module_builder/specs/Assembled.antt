@@ -44,8 +44,10 @@ first_entry offsets row = entry_of offsets (slice_get row.branches.items 0)
 -- Procedure rows stand by their entries, label rows by their offsets, PAR rows by the entries of their first branches,
 -- and table rows by their starts, where labels have these offsets.
 pub record AreInOrder (d : Draft) (offsets : List (Option ℕ)) (a : Arrangement) : Type 0 where
-  pub procedures : IsOrder (map (λ (row : ProcedureRow Label). label_offset offsets row.entry) d.procedures.items) a.procedures
-  pub labels : IsOrder (map (λ (row : LabelRow Label ContextName). label_offset offsets row.offset) d.labels.items) a.labels
+  pub procedures :
+      IsOrder (map (λ (row : ProcedureRow Label). label_offset offsets row.entry) d.procedures.items) a.procedures
+  pub labels :
+      IsOrder (map (λ (row : LabelRow Label ContextName). label_offset offsets row.offset) d.labels.items) a.labels
   pub pars : IsOrder (map (first_entry offsets) d.pars.items) a.pars
   pub table_rows : IsOrder (map (λ (row : TableRow). row.start) d.table_rows.items) a.table_rows
 
@@ -98,7 +100,8 @@ number_in d a context = unwrap_or (context_number d a.procedures a.pars context)
 
 -- the contexts that rows name are there
 pub record ContextsAreThere (d : Draft) (a : Arrangement) : Type 0 where
-  pub labels : AllByRecursion (λ (row : LabelRow Label ContextName). IsThere d a.procedures a.pars row.context) d.labels.items
+  pub labels :
+      AllByRecursion (λ (row : LabelRow Label ContextName). IsThere d a.procedures a.pars row.context) d.labels.items
   pub pars : AllByRecursion (λ (row : ParRow Label ContextName). IsThere d a.procedures a.pars row.context) d.pars.items
 
 -- ---- the tables

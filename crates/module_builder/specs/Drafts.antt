@@ -1,5 +1,6 @@
 -- The instructions of a draft, and the labels that they refer to.
-use Rattle.std.specs.Prelude.{◌<◌, ℕ, List, length, Option, None, slice_index_or, IsSome, ⊤, All}
+use Rattle.std.specs.Prelude.{◌<◌, nat_lt, if◌then◌else◌, ℕ, List, length, Option, None, Some, slice_index_or, IsSome}
+use Rattle.std.specs.Prelude.{⊤, All}
 use Rattle.module_builder.specs.declared.item.Label.{Label}
 use Rattle.module_builder.specs.declared.item.Operand.{Operand}
 use Rattle.module_builder.specs.declared.item.Operand.TheVariants.{Number, DistanceTo, Between}
@@ -18,6 +19,10 @@ target code label = slice_index_or code.labels label.index None
 -- the label is one of the draft's
 abbrev pub IsMade : Code → Label → Type 0
 IsMade code label = label.index < length code.labels
+
+-- the label that was made after so many others
+abbrev pub nth_label : Code → ℕ → Option Label
+nth_label code number = if nat_lt number (length code.labels) then Some (record { index = number }) else None
 
 -- the label is placed
 abbrev pub IsPlaced : Code → Label → Type 0

@@ -8,5 +8,6 @@ pub mod Placing
 pub mod Ordering
 pub mod Limits
 pub mod Assembled
+pub mod Kinds
 pub mod Numbered
 pub mod Whole

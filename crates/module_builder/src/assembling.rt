@@ -1,75 +1,35 @@
 //! From a draft to the bytes of its module.
 
 ghost use Rattle.std.specs.Prelude.{◌≡◌, ◌↔◌, IfOk, IsTrue};
-ghost use Rattle.std.specs.List.{AllByRecursion};
 ghost use Rattle.module_format.specs.Contents.{contents_of};
 ghost use Rattle.module_builder.specs.Layouts.{places, IsLeast};
 ghost use Rattle.module_builder.specs.Spelling.{spelled};
 ghost use Rattle.module_builder.specs.Limits.{IsWithin};
-ghost use Rattle.module_builder.specs.Assembled.{arrangement_of, IsThere, ContextsAreThere, tables_with, IsWithinLimits};
+ghost use Rattle.module_builder.specs.Assembled.{arrangement_of, ContextsAreThere, tables_with, IsWithinLimits};
 ghost use Rattle.module_builder.specs.Assembled.{Assembles};
 ghost use Rattle.module_builder.specs.Numbered.{IsNumbered};
 ghost use Rattle.module_builder.specs.Whole.{IsWhole};
 
-use crate::draft::{ContextName, Draft};
+use crate::draft::Draft;
 use crate::fault::GenFault;
 use crate::layouts::Layout;
 use crate::least::layout;
 use crate::limits::{is_within, max_code};
-use crate::numbers::context_number;
 use crate::orders::Orders;
 use crate::placing::finish_offset;
-use crate::rows::{label_rows, par_rows, procedure_rows, table_rows};
+use crate::rows::{contexts_are_there, rows_in};
 use crate::spelling::spell;
 use module_format::{Tables, write};
 use std::alloc::{AllocError, Global};
 
-/// Whether there is a context.
-fn is_there(draft: &Draft, orders: &Orders, context: ContextName) -> bool
-    requires numbered { IsNumbered draft.now orders.now }
-    requires within { IsWithin draft.now }
-    ensures { IsTrue result ↔ IsThere draft.now orders.now.procedures.items orders.now.pars.items context }
-{
-    context_number(draft, orders, context).is_some()
-}
-
-/// Whether the contexts that label rows name are there.
-fn label_contexts_are_there(draft: &Draft, orders: &Orders) -> bool
-    requires numbered { IsNumbered draft.now orders.now }
-    requires within { IsWithin draft.now }
-    ensures { IsTrue result
-        ↔ AllByRecursion (λ row. IsThere draft.now orders.now.procedures.items orders.now.pars.items row.context) draft.now.labels.items }
-{
-    for row in &draft.labels {
-        if !is_there(draft, orders, row.context) {
-            return false;
-        }
-    }
-    true
-}
-
-/// Whether the contexts that PAR rows name are there.
-fn par_contexts_are_there(draft: &Draft, orders: &Orders) -> bool
-    requires numbered { IsNumbered draft.now orders.now }
-    requires within { IsWithin draft.now }
-    ensures { IsTrue result
-        ↔ AllByRecursion (λ row. IsThere draft.now orders.now.procedures.items orders.now.pars.items row.context) draft.now.pars.items }
-{
-    for row in &draft.pars {
-        if !is_there(draft, orders, row.context) {
-            return false;
-        }
-    }
-    true
-}
-
-/// Whether the contexts that rows name are there.
-fn contexts_are_there(draft: &Draft, layout: &Layout, orders: &Orders) -> bool
+/// Whether the contexts that the rows of a draft name are there.
+fn all_contexts_are_there(draft: &Draft, layout: &Layout, orders: &Orders) -> bool
     requires numbered { IsNumbered draft.now orders.now }
     requires within { IsWithin draft.now }
     ensures { IsTrue result ↔ ContextsAreThere draft.now (arrangement_of layout.now orders.now) }
 {
-    label_contexts_are_there(draft, orders) && par_contexts_are_there(draft, orders)
+    contexts_are_there(draft, orders, &draft.labels)
+        && contexts_are_there(draft, orders, &draft.pars)
 }
 
 /// The tables of a draft.
@@ -96,10 +56,24 @@ fn tables<'c>(
         finish: finish_offset(layout, draft.finish),
         lengths: draft.lengths,
         has_long_operations: draft.has_long_operations,
-        procedures: procedure_rows(alloc, layout, &draft.procedures, &orders.procedures)?,
-        labels: label_rows(alloc, draft, layout, orders)?,
-        pars: par_rows(alloc, draft, layout, orders)?,
-        table_rows: table_rows(alloc, &draft.table_rows, &orders.table_rows)?,
+        procedures: rows_in(
+            alloc,
+            draft,
+            layout,
+            orders,
+            &draft.procedures,
+            &orders.procedures,
+        )?,
+        labels: rows_in(alloc, draft, layout, orders, &draft.labels, &orders.labels)?,
+        pars: rows_in(alloc, draft, layout, orders, &draft.pars, &orders.pars)?,
+        table_rows: rows_in(
+            alloc,
+            draft,
+            layout,
+            orders,
+            &draft.table_rows,
+            &orders.table_rows,
+        )?,
     })
 }
 
@@ -113,7 +87,7 @@ fn file(alloc: Global, draft: &Draft, layout: &Layout, code: &[u8]) -> Result<Ve
 {
     let orders = Orders::of(alloc, draft, layout)?;
     let tables = tables(alloc, draft, layout, &orders, code)?;
-    if !contexts_are_there(draft, layout, &orders) || !tables.keeps() {
+    if !all_contexts_are_there(draft, layout, &orders) || !tables.keeps() {
         return Err(GenFault::Invalid);
     }
     Ok(write(alloc, &tables)?)

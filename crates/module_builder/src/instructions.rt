@@ -1,8 +1,9 @@
 //! The code of a draft: instructions over labels.
 
-ghost use Rattle.std.specs.Prelude.{◌≡◌, ◌≤◌, ◌++◌, ◌∷◌, [], ◌↔◌, ℕ, None, Some, IfOk, IfSome, OnErr, IsTrue, length, slice_set};
+ghost use Rattle.std.specs.Prelude.{◌≡◌, ◌≤◌, ◌++◌, ◌∷◌, [], ◌↔◌, ℕ, None, Some, IfOk, IfSome, OnErr, IsTrue, length};
+ghost use Rattle.std.specs.Prelude.{slice_set};
 ghost use Rattle.std.specs.Prelude.{slice_index_or};
-ghost use Rattle.module_builder.specs.Drafts.{target, IsMade, IsPlaced, OfItem, IsComplete};
+ghost use Rattle.module_builder.specs.Drafts.{target, nth_label, IsMade, IsPlaced, OfItem, IsComplete};
 
 use crate::item::{Item, Label, Operand};
 use std::alloc::{AllocError, Global};
@@ -40,12 +41,25 @@ impl Instructions {
 
     /// Makes a label, which is not placed.
     pub fn label(&mut self) -> Result<Label, AllocError>
-        ensures made { IfOk result (λ label. (label.index ≡ length self.old.labels) × (self.new ≡ record self.old { labels = self.old.labels ++ None ∷ [] })) }
+        ensures made { IfOk result (λ label. (label.index ≡ length self.old.labels)
+            × (self.new ≡ record self.old { labels = self.old.labels ++ None ∷ [] })) }
         ensures err { OnErr result (self.new ≡ self.old) }
     {
         let index = self.labels.len();
         self.labels.push(None)?;
         Ok(Label { index })
+    }
+
+    /// The label that was made after so many others, if it was made.
+    pub fn nth_label(&self, number: usize) -> Option<Label>
+        ensures value { result ≡ nth_label self.now number }
+        ensures made { IfSome result (IsMade self.now) }
+    {
+        if number < self.labels.len() {
+            Some(Label { index: number })
+        } else {
+            None
+        }
     }
 
     /// Whether a label is placed.
@@ -59,7 +73,8 @@ impl Instructions {
     pub fn place(&mut self, label: Label)
         requires made { IsMade self.old label }
         requires once { target self.old label ≡ None }
-        ensures { self.new ≡ record self.old { labels = slice_set self.old.labels label.index (Some (length self.old.items)) } }
+        ensures { self.new
+            ≡ record self.old { labels = slice_set self.old.labels label.index (Some (length self.old.items)) } }
     {
         self.labels[label.index] = Some(self.items.len());
     }

@@ -8,6 +8,7 @@ mod fault;
 mod grown;
 mod instructions;
 mod item;
+mod kinds;
 mod laws;
 mod layouts;
 mod least;

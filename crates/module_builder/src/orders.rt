@@ -1,16 +1,10 @@
 //! The orders of a draft's rows.
 
-ghost use Rattle.std.specs.Prelude.{◌≡◌, IfOk, map, length};
-ghost use Rattle.module_builder.specs.Placing.{label_offset};
-ghost use Rattle.module_builder.specs.Assembled.{first_entry};
-
 use crate::branches::branches_before;
-use crate::draft::{ContextName, Draft};
-use crate::item::Label;
+use crate::draft::Draft;
 use crate::layouts::Layout;
-use crate::ordering::{order_of, places_in};
-use crate::placing::label_offset;
-use module_format::{LabelRow, ParRow, ProcedureRow, TableRow};
+use crate::ordering::places_in;
+use crate::rows::order_of_rows;
 use std::alloc::{AllocError, Global};
 
 /// In which order the rows of each kind stand in a file: each row by its key and its number in the draft.
@@ -28,72 +22,6 @@ pub(crate) struct Orders {
     pub(crate) branches_before: Vec<usize>,
 }
 
-/// Where procedures begin.
-fn procedure_keys(
-    alloc: Global,
-    layout: &Layout,
-    rows: &[ProcedureRow<Label>],
-) -> Result<Vec<u32>, AllocError>
-    ensures { IfOk result (λ v. v.items ≡ map (λ row. label_offset layout.now.places.items row.entry) rows.now) }
-{
-    let mut keys = Vec::with_capacity(alloc, rows.len())?;
-    for row in rows {
-        keys.push(label_offset(layout, row.entry))?;
-    }
-    Ok(keys)
-}
-
-/// Where label rows are.
-fn label_keys(
-    alloc: Global,
-    layout: &Layout,
-    rows: &[LabelRow<Label, ContextName>],
-) -> Result<Vec<u32>, AllocError>
-    ensures { IfOk result (λ v. v.items ≡ map (λ row. label_offset layout.now.places.items row.offset) rows.now) }
-{
-    let mut keys = Vec::with_capacity(alloc, rows.len())?;
-    for row in rows {
-        keys.push(label_offset(layout, row.offset))?;
-    }
-    Ok(keys)
-}
-
-/// Where the constants of table rows begin.
-fn table_keys(alloc: Global, rows: &[TableRow]) -> Result<Vec<u32>, AllocError>
-    ensures { IfOk result (λ v. v.items ≡ map (λ row. row.start) rows.now) }
-{
-    let mut keys = Vec::with_capacity(alloc, rows.len())?;
-    for row in rows {
-        keys.push(row.start)?;
-    }
-    Ok(keys)
-}
-
-/// Where a PAR's first branch begins; 0 if it has none.
-fn first_entry(layout: &Layout, row: &ParRow<Label, ContextName>) -> u32
-    ensures { result ≡ first_entry layout.now.places.items row.now }
-{
-    match row.branches.first() {
-        Some(branch) => label_offset(layout, branch.entry),
-        None => 0,
-    }
-}
-
-/// Where the first branches of PARs begin.
-fn par_keys(
-    alloc: Global,
-    layout: &Layout,
-    rows: &[ParRow<Label, ContextName>],
-) -> Result<Vec<u32>, AllocError>
-    ensures { IfOk result (λ v. v.items ≡ map (first_entry layout.now.places.items) rows.now) }
-{
-    let mut keys = Vec::with_capacity(alloc, rows.len())?;
-    for row in rows {
-        keys.push(first_entry(layout, row))?;
-    }
-    Ok(keys)
-}
-
 impl Orders {
     ghost use Rattle.std.specs.Prelude.{IfOk};
     ghost use Rattle.module_builder.specs.Limits.{IsWithin};
@@ -106,20 +34,16 @@ impl Orders {
         ensures order { IfOk result (λ o. AreInOrder draft.now layout.now.places.items (arrangement_of layout.now o)) }
         ensures numbered { IfOk result (λ o. IsNumbered draft.now o) }
     {
-        let procedures = procedure_keys(alloc, layout, &draft.procedures)?;
-        let labels = label_keys(alloc, layout, &draft.labels)?;
-        let pars = par_keys(alloc, layout, &draft.pars)?;
-        let table_rows = table_keys(alloc, &draft.table_rows)?;
-        let procedure_order = order_of(alloc, &procedures)?;
-        let par_order = order_of(alloc, &pars)?;
+        let procedures = order_of_rows(alloc, layout, &draft.procedures)?;
+        let pars = order_of_rows(alloc, layout, &draft.pars)?;
         Ok(Orders {
-            procedure_places: places_in(alloc, &procedure_order, draft.procedures.len())?,
-            par_places: places_in(alloc, &par_order, draft.pars.len())?,
-            branches_before: branches_before(alloc, &draft.pars, &par_order)?,
-            procedures: procedure_order,
-            labels: order_of(alloc, &labels)?,
-            pars: par_order,
-            table_rows: order_of(alloc, &table_rows)?,
+            procedure_places: places_in(alloc, &procedures, draft.procedures.len())?,
+            par_places: places_in(alloc, &pars, draft.pars.len())?,
+            branches_before: branches_before(alloc, &draft.pars, &pars)?,
+            procedures,
+            labels: order_of_rows(alloc, layout, &draft.labels)?,
+            pars,
+            table_rows: order_of_rows(alloc, layout, &draft.table_rows)?,
         })
     }
 }

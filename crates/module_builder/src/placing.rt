@@ -1,15 +1,13 @@
-//! Rows with offsets in place of labels.
+//! What rows have, with offsets in place of labels.
 
 ghost use Rattle.std.specs.Prelude.{◌≡◌, IfOk, map};
-ghost use Rattle.module_format.specs.Contents.{procedure_of, label_of, branch_of, par_of};
+ghost use Rattle.module_format.specs.Contents.{branch_of};
 ghost use Rattle.module_format.specs.Stack.{mapped};
-ghost use Rattle.module_builder.specs.Placing.{label_offset, placed_fact, placed_entry, placed_procedure, placed_label};
-ghost use Rattle.module_builder.specs.Placing.{placed_branch, placed_par, finish_offset};
+ghost use Rattle.module_builder.specs.Placing.{label_offset, finish_offset, placed_fact, placed_entry, placed_branch};
 
-use crate::draft::ContextName;
 use crate::item::Label;
 use crate::layouts::Layout;
-use module_format::{BranchRow, Entry, Fact, LabelRow, ParRow, ProcedureRow, Stack};
+use module_format::{BranchRow, Entry, Fact, Stack};
 use smallvec::SmallVec;
 use std::alloc::{AllocError, Global};
 
@@ -63,7 +61,7 @@ fn placed_fact(layout: &Layout, fact: Fact<Label>) -> Fact
     }
 }
 
-fn placed_stack(layout: &Layout, stack: &Stack<Fact<Label>>) -> Stack<Fact>
+pub(crate) fn placed_stack(layout: &Layout, stack: &Stack<Fact<Label>>) -> Stack<Fact>
     ensures { result ≡ mapped (placed_fact layout.now.places.items) stack.now }
 {
     Stack {
@@ -73,57 +71,21 @@ fn placed_stack(layout: &Layout, stack: &Stack<Fact<Label>>) -> Stack<Fact>
     }
 }
 
-fn placed_entries(
+pub(crate) fn placed_entries(
     alloc: Global,
     layout: &Layout,
     entries: &[Entry<Label>],
 ) -> Result<Vec<Entry>, AllocError>
     ensures { IfOk result (λ v. v.items ≡ map (placed_entry layout.now.places.items) entries.now) }
 {
-    let mut placed = Vec::with_capacity(alloc, entries.len())?;
-    for entry in entries {
-        placed.push(Entry {
+    entries
+        .iter()
+        .map(|entry| Entry {
             word: entry.word,
             span: entry.span,
             fact: placed_fact(layout, entry.fact),
-        })?;
-    }
-    Ok(placed)
-}
-
-pub(crate) fn placed_procedure(
-    alloc: Global,
-    layout: &Layout,
-    row: &ProcedureRow<Label>,
-) -> Result<ProcedureRow, AllocError>
-    ensures { IfOk result (λ r. procedure_of r ≡ placed_procedure layout.now.places.items row.now) }
-{
-    Ok(ProcedureRow {
-        entry: label_offset(layout, row.entry),
-        lo: row.lo,
-        hi: row.hi,
-        number: row.number,
-        parameters: Vec::from_slice(alloc, &row.parameters)?,
-    })
-}
-
-/// A label row, in the context with this number.
-pub(crate) fn placed_label(
-    alloc: Global,
-    layout: &Layout,
-    context: u16,
-    row: &LabelRow<Label, ContextName>,
-) -> Result<LabelRow, AllocError>
-    ensures { IfOk result (λ r. label_of r ≡ placed_label layout.now.places.items context row.now) }
-{
-    Ok(LabelRow {
-        offset: label_offset(layout, row.offset),
-        context,
-        depth: row.depth,
-        number: row.number,
-        stack: placed_stack(layout, &row.stack),
-        entries: placed_entries(alloc, layout, &row.entries)?,
-    })
+        })
+        .collect(alloc)
 }
 
 fn placed_branch(
@@ -144,7 +106,7 @@ fn placed_branch(
     })
 }
 
-fn placed_branches(
+pub(crate) fn placed_branches(
     alloc: Global,
     layout: &Layout,
     rows: &[BranchRow<Label>],
@@ -156,23 +118,4 @@ fn placed_branches(
         placed.push(placed_branch(alloc, layout, row)?)?;
     }
     Ok(placed)
-}
-
-/// A PAR row, in the context with this number.
-pub(crate) fn placed_par(
-    alloc: Global,
-    layout: &Layout,
-    context: u16,
-    row: &ParRow<Label, ContextName>,
-) -> Result<ParRow, AllocError>
-    ensures { IfOk result (λ r. par_of r ≡ placed_par layout.now.places.items context row.now) }
-{
-    Ok(ParRow {
-        context,
-        depth: row.depth,
-        block: row.block,
-        successor: label_offset(layout, row.successor),
-        channels: Vec::from_slice(alloc, &row.channels)?,
-        branches: placed_branches(alloc, layout, &row.branches)?,
-    })
 }

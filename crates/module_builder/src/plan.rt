@@ -56,21 +56,16 @@ fn reference_count(item: Item) -> u8
 fn fixed_lengths(alloc: Global, items: &[Item]) -> Result<Vec<u8>, AllocError>
     ensures { IfOk result (λ v. v.items ≡ map fixed_len items.now) }
 {
-    let mut lengths = Vec::with_capacity(alloc, items.len())?;
-    for item in items {
-        lengths.push(fixed_len(*item))?;
-    }
-    Ok(lengths)
+    items.iter().map(|item| fixed_len(*item)).collect(alloc)
 }
 
 fn reference_counts(alloc: Global, items: &[Item]) -> Result<Vec<u8>, AllocError>
     ensures { IfOk result (λ v. v.items ≡ map reference_count items.now) }
 {
-    let mut counts = Vec::with_capacity(alloc, items.len())?;
-    for item in items {
-        counts.push(reference_count(*item))?;
-    }
-    Ok(counts)
+    items
+        .iter()
+        .map(|item| reference_count(*item))
+        .collect(alloc)
 }
 
 fn references(alloc: Global, items: &[Item]) -> Result<Vec<Reference>, AllocError>

@@ -1,95 +1,76 @@
 //! The rows of a file, in their order.
 
-ghost use Rattle.std.specs.Prelude.{◌≡◌, IfOk, map};
-ghost use Rattle.module_format.specs.Contents.{procedure_of, label_of, par_of};
+ghost use Rattle.std.specs.Prelude.{◌≡◌, ◌↔◌, IfOk, IsTrue, length, map};
+ghost use Rattle.std.specs.List.{AllByRecursion};
 ghost use Rattle.module_builder.specs.Limits.{IsWithin};
-ghost use Rattle.module_builder.specs.Placing.{placed_procedure, placed_label, placed_par};
-ghost use Rattle.module_builder.specs.Ordering.{rows_in};
-ghost use Rattle.module_builder.specs.Assembled.{number_in, arrangement_of};
+ghost use Rattle.module_builder.specs.Ordering.{IsOrder, rows_in};
+ghost use Rattle.module_builder.specs.Assembled.{IsThere, number_in, arrangement_of};
 ghost use Rattle.module_builder.specs.Numbered.{IsNumbered};
 
 use crate::draft::Draft;
-use crate::item::Label;
+use crate::kinds::Row;
 use crate::layouts::Layout;
 use crate::numbers::context_number;
+use crate::ordering::order_of;
 use crate::orders::Orders;
-use crate::placing::{placed_label, placed_par, placed_procedure};
-use module_format::{LabelRow, ParRow, ProcedureRow, TableRow};
 use std::alloc::{AllocError, Global};
 
-pub(crate) fn table_rows(
-    alloc: Global,
-    rows: &[TableRow],
-    order: &[(u32, usize)],
-) -> Result<Vec<TableRow>, AllocError>
-    ensures { IfOk result (λ v. v.items ≡ rows_in order.now rows.now) }
+/// The numbers by which rows stand in a file.
+fn keys<R: Row>(alloc: Global, layout: &Layout, rows: &[R]) -> Result<Vec<u32>, AllocError>
+    ensures { IfOk result (λ v. v.items ≡ map (R.kind.key layout.now.places.items) rows.now) }
 {
-    let mut sorted = Vec::with_capacity(alloc, rows.len())?;
-    for pair in order {
-        if let Some(row) = rows.get(pair.1) {
-            sorted.push(*row)?;
-        }
-    }
-    Ok(sorted)
+    rows.iter().map(|row| row.key(layout)).collect(alloc)
 }
 
-pub(crate) fn procedure_rows(
+/// In which order rows stand in a file: each by its key and its number in the draft.
+pub(crate) fn order_of_rows<R: Row>(
     alloc: Global,
     layout: &Layout,
-    rows: &[ProcedureRow<Label>],
-    order: &[(u32, usize)],
-) -> Result<Vec<ProcedureRow>, AllocError>
-    ensures { IfOk result (λ v. map procedure_of v.items
-        ≡ map (placed_procedure layout.now.places.items) (rows_in order.now rows.now)) }
+    rows: &[R],
+) -> Result<Vec<(u32, usize)>, AllocError>
+    ensures order { IfOk result (λ v. IsOrder (map (R.kind.key layout.now.places.items) rows.now) v.items) }
+    ensures len { IfOk result (λ v. length v.items ≡ length rows.now) }
 {
-    let mut sorted = Vec::with_capacity(alloc, rows.len())?;
-    for pair in order {
-        if let Some(row) = rows.get(pair.1) {
-            sorted.push(placed_procedure(alloc, layout, row)?)?;
-        }
-    }
-    Ok(sorted)
+    order_of(alloc, &keys(alloc, layout, rows)?)
 }
 
-pub(crate) fn label_rows(
+/// Whether the contexts that rows name are there.
+pub(crate) fn contexts_are_there<R: Row>(draft: &Draft, orders: &Orders, rows: &[R]) -> bool
+    requires numbered { IsNumbered draft.now orders.now }
+    requires within { IsWithin draft.now }
+    ensures { IsTrue result
+        ↔ AllByRecursion
+        (λ row. IsThere draft.now orders.now.procedures.items orders.now.pars.items (R.kind.context row)) rows.now }
+{
+    for row in rows {
+        if context_number(draft, orders, row.context()).is_none() {
+            return false;
+        }
+    }
+    true
+}
+
+/// The rows of a file, from those of a draft in an order.
+pub(crate) fn rows_in<R: Row>(
     alloc: Global,
     draft: &Draft,
     layout: &Layout,
     orders: &Orders,
-) -> Result<Vec<LabelRow>, AllocError>
+    rows: &[R],
+    order: &[(u32, usize)],
+) -> Result<Vec<R::Placed>, AllocError>
     requires numbered { IsNumbered draft.now orders.now }
     requires within { IsWithin draft.now }
-    ensures { IfOk result (λ v. map label_of v.items
-        ≡ map (λ row. placed_label layout.now.places.items (number_in draft.now (arrangement_of layout.now orders.now) row.context) row)
-        (rows_in orders.now.labels.items draft.now.labels.items)) }
+    ensures { IfOk result (λ v. map R.kind.view v.items
+        ≡ map (λ row. R.kind.placed layout.now.places.items
+        (number_in draft.now (arrangement_of layout.now orders.now) (R.kind.context row)) row)
+        (rows_in order.now rows.now)) }
 {
-    let mut sorted = Vec::with_capacity(alloc, draft.labels.len())?;
-    for pair in &orders.labels {
-        if let Some(row) = draft.labels.get(pair.1) {
-            let context = context_number(draft, orders, row.context).unwrap_or(0);
-            sorted.push(placed_label(alloc, layout, context, row)?)?;
-        }
-    }
-    Ok(sorted)
-}
-
-pub(crate) fn par_rows(
-    alloc: Global,
-    draft: &Draft,
-    layout: &Layout,
-    orders: &Orders,
-) -> Result<Vec<ParRow>, AllocError>
-    requires numbered { IsNumbered draft.now orders.now }
-    requires within { IsWithin draft.now }
-    ensures { IfOk result (λ v. map par_of v.items
-        ≡ map (λ row. placed_par layout.now.places.items (number_in draft.now (arrangement_of layout.now orders.now) row.context) row)
-        (rows_in orders.now.pars.items draft.now.pars.items)) }
-{
-    let mut sorted = Vec::with_capacity(alloc, draft.pars.len())?;
-    for pair in &orders.pars {
-        if let Some(row) = draft.pars.get(pair.1) {
-            let context = context_number(draft, orders, row.context).unwrap_or(0);
-            sorted.push(placed_par(alloc, layout, context, row)?)?;
+    let mut sorted = Vec::with_capacity(alloc, order.len())?;
+    for pair in order {
+        if let Some(row) = rows.get(pair.1) {
+            let context = context_number(draft, orders, row.context()).unwrap_or(0);
+            sorted.push(row.placed(alloc, layout, context)?)?;
         }
     }
     Ok(sorted)

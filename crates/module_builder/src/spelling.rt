@@ -65,7 +65,8 @@ fn push_item(
     requires placed { OfItem (IsPlaced code.now) item }
     requires count { length spacing.now.lengths.items ≡ length code.now.items }
     requires within { end ≤ sum spacing.now.lengths.items }
-    ensures { IfOk result (λ _. bytes.new.items ≡ bytes.old.items ++ spelled_item code.now spacing.now.lengths.items end item) }
+    ensures { IfOk result (λ _. bytes.new.items
+        ≡ bytes.old.items ++ spelled_item code.now spacing.now.lengths.items end item) }
 {
     match item {
         Item::Instruction { fun, operand } => {

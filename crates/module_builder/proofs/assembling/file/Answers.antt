@@ -5,10 +5,11 @@ use Rattle.module_builder.specs.Layouts.{places}
 use Rattle.module_builder.specs.Assembled.{arrangement_of, AreInOrder, tables_with, tables_of}
 use Rattle.module_builder.proofs.RowLaws.{true_is_not_false}
 use Rattle.module_builder.proofs.assembling.file.Goals as goal
-use Rattle.module_builder.proofs.assembling.file.Goals.{then-not-contexts_are_there-via-then-not-contexts_are_there, then-not-contexts_are_there-via-else-not-contexts_are_there+then-not-keeps}
+use Rattle.module_builder.proofs.assembling.file.Goals.{then-not-all_contexts_are_there-via-then-not-all_contexts_are_there}
+use Rattle.module_builder.proofs.assembling.file.Goals.{then-not-all_contexts_are_there-via-else-not-all_contexts_are_there+then-not-keeps}
 
-pub returns-then-not-contexts_are_there : goal.returns-then-not-contexts_are_there
-returns-then-not-contexts_are_there c =
+pub returns-then-not-all_contexts_are_there : goal.returns-then-not-all_contexts_are_there
+returns-then-not-all_contexts_are_there c =
     let d = c.args.draft.now in
     let a = arrangement_of c.args.layout.now c.in_ok-orders.orders in
     let same : contents_of c.in_ok-tables.tables ≡ tables_of d a =
@@ -20,10 +21,10 @@ returns-then-not-contexts_are_there c =
       arranged = record { least = c.requires.least; orders = orders };
       within = c.requires.within;
       invalid = λ valid.
-          elim c.then-not-contexts_are_there.branch [
-            | then-not-contexts_are_there-via-then-not-contexts_are_there w ↦
-                true_is_not_false (sym (w.if-not-contexts_are_there.ensures.1 valid.contexts))
-            | then-not-contexts_are_there-via-else-not-contexts_are_there+then-not-keeps w ↦
+          elim c.then-not-all_contexts_are_there.branch [
+            | then-not-all_contexts_are_there-via-then-not-all_contexts_are_there w ↦
+                true_is_not_false (sym (w.if-not-all_contexts_are_there.ensures.1 valid.contexts))
+            | then-not-all_contexts_are_there-via-else-not-all_contexts_are_there+then-not-keeps w ↦
                 true_is_not_false (sym (w.if-not-keeps.ensures.1 (subst Keeps (sym same) valid.tables)))
           ];
     }

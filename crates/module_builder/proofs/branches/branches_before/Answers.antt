@@ -17,7 +17,8 @@ loop-pair-preserved c =
     record {
       sums =
           sums_push order rows i count c.loop-pair.sums.items c.push-in-loop-pair.new.self.items
-          c.loop-pair.invariant.sums value (omega (arith, small, c.requires.few, c.loop-pair-test.true)) c.in_ok-push-2.ensures.items;
+          c.loop-pair.invariant.sums value (omega (arith, small, c.requires.few, c.loop-pair-test.true))
+          c.in_ok-push-2.ensures.items;
       value = value;
       small = small;
     }

@@ -8,7 +8,8 @@ use Rattle.module_builder.proofs.spelling.spell.Goals as goal
 
 pub loop-number-preserved : goal.loop-number-preserved
 loop-number-preserved c =
-    spelled_more c.args.draft.now.code c.in_ok-spacing.spacing.lengths.items c.items-item-items.result.now c.loop-number.number
+    spelled_more c.args.draft.now.code c.in_ok-spacing.spacing.lengths.items c.items-item-items.result.now
+    c.loop-number.number
     c.offset.result (Instruction Jump (Number (pos 0))) c.loop-number.bytes.items c.push_item.new.bytes.items
     c.loop-number-test.true c.offset.ensures.value c.loop-number.invariant c.in_ok-push_item.ensures
 

@@ -11,7 +11,8 @@ returns-clause-within c =
     let follow = c.args.self.now.follow in
     let within : c.args.number < length offsets = omega (arith, follow.count) in
     let here : c.index.result.now ≡ offset lengths c.args.number =
-    get_or_read offsets c.args.number c.index.result.now within c.index.ensures 0 ∙ follow.each c.args.number c.requires in
+    get_or_read offsets c.args.number c.index.result.now within c.index.ensures 0
+    ∙ follow.each c.args.number c.requires in
     omega (arith, offset-le-sum lengths c.args.number)
 
 pub returns-clause-short : goal.returns-clause-short
