@@ -87,7 +87,10 @@ fn file(alloc: Global, draft: &Draft, layout: &Layout, code: &[u8]) -> Result<Ve
 {
     let orders = Orders::of(alloc, draft, layout)?;
     let tables = tables(alloc, draft, layout, &orders, code)?;
-    if !all_contexts_are_there(draft, layout, &orders) || !tables.keeps() {
+    if !all_contexts_are_there(draft, layout, &orders) {
+        return Err(GenFault::Invalid);
+    }
+    if !tables.keeps() {
         return Err(GenFault::Invalid);
     }
     Ok(write(alloc, &tables)?)

@@ -25,7 +25,7 @@ impl Model for Instructions {
 
     ghost view = { λ d. record { items = d.items.items; labels = d.labels.items } };
 
-    ghost invariant = { λ d. (k : ℕ) → IfSome (slice_index_or d.labels.items k None) (λ at. at ≤ length d.items.items) };
+    ghost invariant = { λ d. (k : ℕ) → IfSome (slice_index_or d.labels.items k None) (λ n. n ≤ length d.items.items) };
 }
 
 impl Instructions {
