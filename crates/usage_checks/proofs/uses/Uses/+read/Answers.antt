@@ -1,0 +1,51 @@
+use Rattle.std.proofs.Common.{◌≡◌, ◌≤◌, ◌++◌, length, arith, ap, sym, ◌∙◌, rules}
+use Rattle.occam_parser.specs.declared.tree.Operand.TheFolds.{the_lemmas}
+use Rattle.occam_parser.specs.declared.tree.Operation.{Chain}
+use Rattle.occam_parser.specs.Expressions.{Two}
+use Rattle.occam_parser.specs.Views.{expression_of, operation_of, term_of}
+use Rattle.occam_parser.proofs.Seen.{view-Chain}
+use Rattle.scalar_ranges.specs.Scopes.{entries_of}
+use Rattle.usage_checks.specs.Mentions.{name_reads, reads_of, reads_of_terms, reads_of_term}
+use Rattle.usage_checks.proofs.Adding.{gathered, adds_both, adds_as, gathers_none, gathers_next, gathers_all}
+use Rattle.usage_checks.proofs.Gathering.{operand_reads, operands_gathered}
+use Rattle.usage_checks.proofs.uses.Uses.+read.Goals as goal
+
+pub read-returns-in-Pair : goal.read-returns-in-Pair
+read-returns-in-Pair t c =
+    let es = entries_of c.args.scope.now in
+    let both : reads_of_term es (term_of c.in-Pair.left) ++ reads_of_term es (term_of c.in-Pair.right)
+    ≡ reads_of es (expression_of c.args.expr.now) = search (rules, the_lemmas) in
+    adds_as both (adds_both c.read_operand-in-Pair.ensures c.read_operand-in-Pair-2.ensures)
+
+pub read-loop-other-init : goal.read-loop-other-init
+read-loop-other-init t c = gathers_none (operand_reads (entries_of c.args.scope.now)) c.read_operand-in-Chain-2.new.self
+
+pub read-loop-other-preserved : goal.read-loop-other-preserved
+read-loop-other-preserved t c =
+    gathers_next (operand_reads (entries_of c.args.scope.now)) c.deref-other-items.result.now c.loop-other.other-index
+    c.other-item.result _ _ _ (omega arith) c.other-item.is c.loop-other.invariant
+    c.read_operand-in-loop-other.ensures
+
+pub read-returns-after-loop-other : goal.read-returns-after-loop-other
+read-returns-after-loop-other t c =
+    let es = entries_of c.args.scope.now in
+    let chain = c.in-Chain in
+    let items = c.deref-other-items.result.now in
+    let done : length items ≤ c.loop-other.other-index = omega arith in
+    let view : expression_of c.args.expr.now
+    ≡ operation_of (Chain chain.operator chain.first chain.second chain.others) = search (rules, the_lemmas) in
+    let whole = sym (view-Chain chain.operator chain.first chain.second chain.others) ∙ sym view in
+    let two = Two (term_of chain.first) (term_of chain.second) in
+    let all : reads_of_terms es two ++ gathered (operand_reads es) 0 items ≡ reads_of es (expression_of c.args.expr.now) =
+    ap (λ xs. reads_of_terms es two ++ gathered (operand_reads es) 0 xs) c.deref-other-items.ensures.value
+    ∙ sym (operands_gathered es two chain.others.items) ∙ ap (reads_of es) whole in
+    adds_as all
+    (adds_both (adds_both c.read_operand-in-Chain.ensures c.read_operand-in-Chain-2.ensures)
+    (gathers_all (operand_reads es) items c.loop-other.other-index _ _ done c.loop-other.invariant))
+
+pub read_operand-returns-in-Element : goal.read_operand-returns-in-Element
+read_operand-returns-in-Element t c =
+    let es = entries_of c.args.scope.now in
+    let both : name_reads es c.in-Element.name.now ++ reads_of es (expression_of c.in-Element.subscript)
+    ≡ reads_of_term es (term_of c.args.operand.now) = search (rules, the_lemmas) in
+    adds_as both (adds_both c.read_name-in-Element.ensures c.read.ensures)
