@@ -36,8 +36,8 @@ pub fn events_keep_the_invariant()
         → Holds m (happens m w e) }
 {}
 
-/// For every list of events a certified module runs without a fault, all regions and channel ends stay
-/// apart, and at most the budget of instruction bytes is executed.
+/// For every list of events a certified module runs without a fault, all holdings stay apart, and at most the
+/// budget of instruction bytes is executed.
 pub fn certified_modules_run_well()
     ensures { (m : Contents) → Keeps m → IsCertified m → RunsWell m }
 {}

@@ -45,8 +45,8 @@ ghost use Rattle.std.specs.Prelude.{◌≡◌, OnOk, IfOk, IfErr};
 ghost use Rattle.verifier.specs.Certified.{IsCertified, Reports};
 ghost use Rattle.verifier.specs.Headline.{RunsWell};
 
-/// Whether a module is certified, or else the first rule that is broken and where. Running out of memory is
-/// reported as `states::MEMORY` at offset 0.
+/// Whether a module is certified, or else a rule that is broken at the lowest offset where one is. Running out of
+/// memory is reported as `states::MEMORY` at offset 0.
 // A body that always reports that memory ran out meets these clauses too, since no clause can say that memory
 // is left: tests show that modules are accepted.
 pub fn verify<'a>(alloc: Global, module: &'a Module<'a>) -> Result<Verified<'a>, Refusal>
