@@ -10,3 +10,4 @@ pub mod Comparisons
 pub mod States
 pub mod OwnWords
 pub mod FrameBounds
+pub mod IntervalWords

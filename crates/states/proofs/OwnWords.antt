@@ -1,19 +1,21 @@
 -- The words that a context may use are words of its frame.
-use Rattle.std.proofs.Common.{◌≡◌, ℕ, ℤ, Bool, true, Option, Some, None, sym, ap, ◌∙◌, subst, inl, inr}
+use Rattle.std.proofs.Common.{◌≡◌, ℕ, ℤ, pos, ◌+ℤ◌, ◌≤ℤ◌, ◌<ℤ◌, Bool, true, false, ◌&&◌, ◌||◌, Option, Some, None}
+use Rattle.std.proofs.Common.{refl, sym, ap, ◌∙◌, subst, inl, inr}
 use Rattle.std.proofs.Common.{to_z, of_z}
 use Rattle.std.proofs.lemmas.Bool.{cases_Bool}
 use Rattle.std.proofs.lemmas.Int.{to_z-of_z}
-use Rattle.std.specs.Prelude.{FitsSigned, IsTrue, SomeIff}
+use Rattle.std.specs.Prelude.{FitsSigned, IsTrue, SomeIff, int_lt}
 use Rattle.std.specs.Int.{w32, w64}
-use Rattle.module_format.specs.Contents.{Contents}
+use Rattle.module_format.specs.Contents.{Contents, Par, Branch}
 use Rattle.module_format.specs.Contexts.{context_at}
-use Rattle.certificate.specs.Rights.{has_word, may_write_word, may_read_word}
+use Rattle.module_format.specs.declared.contexts.Context.{Context}
+use Rattle.certificate.specs.Rights.{has_word, is_among, may_write_word, may_read_word}
+use Rattle.certificate.specs.Branches.{numbered_branch}
 use Rattle.states.specs.declared.state.State.{State as InMemory}
-use Rattle.states.specs.Spans.{all_words}
 use Rattle.states.specs.Views.{BelongsTo, CanWrite, IsUsable, AreUsable}
-use Rattle.states.proofs.RowFacts.{and-parts}
+use Rattle.states.proofs.RowFacts.{and-parts, le-no, lt-no}
 use Rattle.states.proofs.States.{room-fits}
-use Rattle.states.proofs.SpanFacts.{all-there}
+use Rattle.states.proofs.SpanFacts.{and-no, all-from-each, all-fail-at}
 
 pub written-own : (m : Contents) (n : ℕ) (k : ℤ) → may_write_word m n k ≡ true → has_word (context_at m n) k ≡ true
 written-own m n k h = (and-parts _ _ h).0
@@ -55,19 +57,90 @@ module _ {may_use : Contents → ℕ → ℤ → Bool}
       let same = to_z-of_z w64 word fits in
       handed-out may o (rw same at asked) (rw same at h)
 
+-- the words of a span are those from its first up to its end
+abbrev Spanned : ℤ → ℕ → (ℤ → Type 0) → Type 0
+Spanned first count Holds = (k : ℤ) → first ≤ℤ k → k <ℤ (first +ℤ pos count) → Holds k
+
 module _ {may_use : Contents → ℕ → ℤ → Bool}
     (own : (m : Contents) (n : ℕ) (k : ℤ) → may_use m n k ≡ true → has_word (context_at m n) k ≡ true)
     (s : InMemory) (first : ℤ) (count : ℕ) where
-  -- a span is one that the state's context may use exactly where the module lets it use each word
-  pub all-usable : (w : ℤ) (usable : Bool) → w ≡ first
-      → usable ≡ all_words (may_use s.module.now s.context) w count → AreUsable may_use s first count usable
-  all-usable w usable w_is asked = record {
-    allowed = λ m b. asked ∙ (ap (λ (z : ℤ). all_words (may_use s.module.now s.context) z count) w_is
-        ∙ ap (λ (m : Contents). all_words (may_use m s.context) first count) b.is);
+  -- a span is one that the state's context may use where the module lets it use each word
+  pub each-usable : Spanned first count (λ k. may_use s.module.now s.context k ≡ true)
+      → AreUsable may_use s first count true
+  each-usable each = record {
+    allowed = λ m b. sym (all-from-each (may_use m s.context) first count (λ k low high.
+        ap (λ (m : Contents). may_use m s.context k) (sym b.is) ∙ each k low high));
     room = λ m b yes. record {
-      each = λ k low high. b.room s.context k (own m s.context k (all-there (may_use m s.context) first count k
-          (ap (λ (m : Contents). all_words (may_use m s.context) first count) (sym b.is)
-          ∙ (ap (λ (z : ℤ). all_words (may_use s.module.now s.context) z count) (sym w_is) ∙ (sym asked ∙ yes)))
-          low high));
+      each = λ k low high. b.room s.context k
+          (own m s.context k (ap (λ (m : Contents). may_use m s.context k) (sym b.is) ∙ each k low high));
     };
   }
+
+  -- it is not where there is a word that the module does not let it use
+  pub one-unusable : (k : ℤ) → first ≤ℤ k → k <ℤ (first +ℤ pos count) → may_use s.module.now s.context k ≡ false
+      → AreUsable may_use s first count false
+  one-unusable k low high fails = record {
+    allowed = λ m b. sym (all-fail-at (may_use m s.context) first count k low high
+        (ap (λ (m : Contents). may_use m s.context k) (sym b.is) ∙ fails));
+    room = λ m b yes. absurd (cc);
+  }
+
+  pub usable-if : (usable : Bool)
+      → (usable ≡ true → Spanned first count (λ k. may_use s.module.now s.context k ≡ true))
+      → (usable ≡ false → (k : ℤ) × (first ≤ℤ k) × (k <ℤ (first +ℤ pos count))
+      × (may_use s.module.now s.context k ≡ false))
+      → AreUsable may_use s first count usable
+  usable-if true each one = each-usable (each refl)
+  usable-if false each one = let at = one refl in one-unusable at.0 at.1 at.2 at.3
+
+-- ---- what may be used of a context's frame
+
+-- no word that it does not have
+pub unwritten : (m : Contents) (n : ℕ) (k : ℤ) → has_word (context_at m n) k ≡ false → may_write_word m n k ≡ false
+unwritten m n k h = ap (λ (b : Bool). b && elim (numbered_branch m n) [
+  | None ↦ true
+  | Some found ↦ is_among found.1.writes k
+]) h
+
+pub unread : (m : Contents) (n : ℕ) (k : ℤ) → has_word (context_at m n) k ≡ false → may_read_word m n k ≡ false
+unread m n k h = ap (λ (b : Bool). b && elim (numbered_branch m n) [
+  | None ↦ true
+  | Some found ↦ is_among found.1.writes k || is_among found.1.reads k
+]) h
+
+-- those that it has as its branch says
+pub written-as : (m : Contents) (n : ℕ) (k : ℤ) (o : Option (Par × Branch)) → numbered_branch m n ≡ o
+    → has_word (context_at m n) k ≡ true
+    → may_write_word m n k ≡ elim o [ None ↦ true | Some found ↦ is_among found.1.writes k ]
+written-as m n k o is h =
+    ap (λ (b : Bool). b && elim (numbered_branch m n) [
+      | None ↦ true
+      | Some found ↦ is_among found.1.writes k
+    ]) h
+    ∙ ap (λ (o : Option (Par × Branch)). elim o [ None ↦ true | Some found ↦ is_among found.1.writes k ]) is
+
+pub read-as : (m : Contents) (n : ℕ) (k : ℤ) (o : Option (Par × Branch)) → numbered_branch m n ≡ o
+    → has_word (context_at m n) k ≡ true
+    → may_read_word m n k
+    ≡ elim o [ None ↦ true | Some found ↦ is_among found.1.writes k || is_among found.1.reads k ]
+read-as m n k o is h =
+    ap (λ (b : Bool). b && elim (numbered_branch m n) [
+      | None ↦ true
+      | Some found ↦ is_among found.1.writes k || is_among found.1.reads k
+    ]) h
+    ∙ ap (λ (o : Option (Par × Branch)). elim o [
+      | None ↦ true
+      | Some found ↦ is_among found.1.writes k || is_among found.1.reads k
+    ]) is
+
+-- ---- the ends of a frame
+
+pub not-before : (context : Context) (k : ℤ) → k <ℤ context.lo → has_word (Some context) k ≡ false
+not-before context k less = ap (λ (b : Bool). b && int_lt k context.hi) (le-no context.lo k less)
+
+pub not-behind : (context : Context) (k : ℤ) → context.hi ≤ℤ k → has_word (Some context) k ≡ false
+not-behind context k more = and-no _ _ (lt-no k context.hi more)
+
+pub or-none : (b : Bool) → b || false ≡ b
+or-none true = refl
+or-none false = refl

@@ -1,8 +1,8 @@
 -- Spans of words, written over a label's row.
-use Rattle.std.proofs.Common.{◌≡◌, ℕ, zero, suc, ◌+◌, ◌-◌, ◌<◌, ◌≤◌, vec_len, ℤ, pos, ◌+ℤ◌, ◌-ℤ◌, ◌≤ℤ◌, ◌<ℤ◌, Bool, true, false, ◌&&◌, ◌==◌, cond}
-use Rattle.std.proofs.Common.{refl, sym, ap, ◌∙◌, subst, arith, ◌⊎◌, inl, inr}
+use Rattle.std.proofs.Common.{◌≡◌, ℕ, zero, suc, ◌+◌, ◌-◌, ◌<◌, ◌≤◌, vec_len, ℤ, pos, ◌+ℤ◌, ◌-ℤ◌, ◌≤ℤ◌}
+use Rattle.std.proofs.Common.{◌<ℤ◌, Bool, true, false, ◌&&◌, ◌==◌, cond}
+use Rattle.std.proofs.Common.{refl, sym, ap, ◌∙◌, arith, inl, inr, nat_abs}
 use std.Path.{fun_ext}
-use Rattle.std.specs.Prelude.{int_le, int_lt}
 use Rattle.std.proofs.lemmas.Bool.{cases_lt}
 use Rattle.std.proofs.lemmas.Bool.Decides.{nat_tests}
 use Rattle.std.proofs.lemmas.Int.{ints, by_lt_z}
@@ -25,7 +25,7 @@ use Rattle.states.specs.Frames.{frame_facts, with_alone, with_span, is_loop_word
 use Rattle.states.specs.Spans.{is_in_span, all_words, left_of, on_span, of_none, with_one, with_silent, together, after_change}
 use Rattle.states.proofs.RowFacts.{le-yes, le-no, lt-yes, lt-no, and-both, and-parts}
 use Rattle.states.proofs.Loops.{room-known}
-use Rattle.states.proofs.FrameFacts.{is_word-same, is_word-below, is_word-above}
+use Rattle.states.proofs.FrameFacts.{is_word-same, is_word-below, is_word-above, distance}
 
 -- ---- where a word lies
 
@@ -34,7 +34,7 @@ pub data LiesBy (first : ℤ) (count : ℕ) (k : ℤ) : Type 0 where
   within : first ≤ℤ k → k <ℤ (first +ℤ pos count) → is_in_span first count k ≡ true → LiesBy first count k
   above : (first +ℤ pos count) ≤ℤ k → is_in_span first count k ≡ false → LiesBy first count k
 
-and-no : (x y : Bool) → y ≡ false → x && y ≡ false
+pub and-no : (x y : Bool) → y ≡ false → x && y ≡ false
 and-no true y q = q
 and-no false y q = refl
 
@@ -298,12 +298,6 @@ span-of-room s first w count w_is room = record {
 
 -- ---- words that a context may use
 
-pub all-more : (test : ℤ → Bool) (first word : ℤ) (n m : ℕ) → word ≡ first +ℤ pos n → m ≡ n + 1
-    → all_words test first n ≡ true → test word ≡ true → all_words test first m ≡ true
-all-more test first word n m word_is m_is before here =
-    ap (all_words test first) (let e : m ≡ suc n = omega arith in e)
-    ∙ and-both _ _ (ap test (sym word_is) ∙ here) before
-
 pub all-fail : (test : ℤ → Bool) (first word : ℤ) (n count : ℕ) → word ≡ first +ℤ pos n → n < count
     → test word ≡ false → all_words test first count ≡ false
 all-fail test first word n zero word_is less fails = absurd (omega arith)
@@ -323,3 +317,18 @@ all-there test first (suc count) k all low high =
     let both = and-parts _ _ all in
     by_lt_z k (first +ℤ pos count) (λ before. all-there test first count k both.1 low before)
     (λ here. ap test (let e : k ≡ first +ℤ pos count = omega (arith, ints) in e) ∙ both.0)
+
+-- all of them pass where each does
+pub all-from-each : (test : ℤ → Bool) (first : ℤ) (count : ℕ)
+    → ((k : ℤ) → first ≤ℤ k → k <ℤ (first +ℤ pos count) → test k ≡ true) → all_words test first count ≡ true
+all-from-each test first zero each = refl
+all-from-each test first (suc count) each =
+    and-both _ _ (each (first +ℤ pos count) (omega (arith, ints)) (omega (arith, ints)))
+    (all-from-each test first count (λ k low high. each k low (omega (arith, ints))))
+
+-- they do not where one of them does not
+pub all-fail-at : (test : ℤ → Bool) (first : ℤ) (count : ℕ) (k : ℤ) → first ≤ℤ k → k <ℤ (first +ℤ pos count)
+    → test k ≡ false → all_words test first count ≡ false
+all-fail-at test first count k low high fails =
+    let here = distance k first (nat_abs (k -ℤ first)) low refl in
+    all-fail test first k (nat_abs (k -ℤ first)) count here (omega (arith, ints)) fails

@@ -4,6 +4,7 @@
 mod comparison;
 mod frame;
 mod implication;
+mod intervals;
 mod known;
 mod overlay;
 mod row;

@@ -1,10 +1,11 @@
 //! What is known of a process at a place of its code.
 
-ghost use Rattle.std.specs.Prelude.{◌≡◌, ◌≤◌, ◌<◌, ◌-◌, ◌≤ℤ◌, ℤ, false, IfOk, Some, SomeIff, IsTrue, FitsSigned};
-ghost use Rattle.std.specs.Prelude.{slice_get};
+ghost use Rattle.std.specs.Prelude.{◌≡◌, ◌≤◌, ◌<◌, ◌-◌, ◌≤ℤ◌, ◌<ℤ◌, ℤ, true, false, IfOk, Some, SomeIff, IsTrue};
+ghost use Rattle.std.specs.Prelude.{slice_get, IsFalse, FitsSigned};
 ghost use Rattle.std.specs.Int.{w32};
 ghost use Rattle.module_format.specs.Contents.{Contents, contents_of, procedure_of, label_of};
-ghost use Rattle.certificate.specs.Rights.{may_write_word, may_read_word};
+ghost use Rattle.module_format.specs.Contexts.{context_at};
+ghost use Rattle.certificate.specs.Rights.{has_word, may_write_word, may_read_word};
 ghost use Rattle.module_format.specs.Keeping.{Keeps};
 ghost use Rattle.module_format.specs.Stack.{pushed, popped, reversed};
 ghost use Rattle.states.specs.State.{unknown, known, is_at, without_source, forgets, written, begun, root_state};
@@ -16,6 +17,7 @@ ghost use Rattle.states.specs.Room.{Covers};
 ghost use Rattle.states.specs.Spans.{is_in_span, all_words, together, on_span, after_change};
 
 use crate::frame::Frame;
+use crate::intervals::have_words;
 use crate::known::{Guard, Known, Mode, Source, WordFact};
 use crate::span::{Leaving, Together};
 use certificate::{Fact, LabelRow, Module, ProcedureRow, Stack, Tables};
@@ -213,34 +215,52 @@ impl<'a> State<'a> {
         self.frame.place(i64::from(word), fact);
     }
 
-    /// Whether the state's context may write each of so many words from `first` on.
+    /// Whether the frame of the state's context has each of the words from the first up to `end` (not included).
+    fn has_words(&self, first: i64, end: i64) -> bool
+        ensures yes { IsTrue result → (k : ℤ) → first ≤ℤ k → k <ℤ end
+            → has_word (context_at self.now.module.now self.now.context) k ≡ true }
+        ensures no { IsFalse result → (k : ℤ) × (first ≤ℤ k) × (k <ℤ end)
+            × (has_word (context_at self.now.module.now self.now.context) k ≡ false) }
+    {
+        if end <= first {
+            return true;
+        }
+        match self.module.context(self.context) {
+            Some(frame) => frame.lo <= first && end <= frame.hi,
+            None => false,
+        }
+    }
+
+    /// Whether the state's context may write each of so many words from `first` on. The time goes with the
+    /// intervals of a branch's row.
     pub fn writes_words(&self, first: i32, count: u32) -> bool
         ensures { AreUsable may_write_word self.now first count result }
     {
-        for i in 0..count {
-            if !self
-                .module
-                .may_write_word(self.context, i64::from(first) + i64::from(i))
-            {
-                return false;
-            }
+        let start = i64::from(first);
+        let end = start + i64::from(count);
+        if !self.has_words(start, end) {
+            return false;
         }
-        true
+        match self.module.branch(self.context) {
+            Some((_row, branch)) => have_words(&branch.writes, &[], start, end),
+            None => true,
+        }
     }
 
-    /// Whether the state's context may read each of so many words from `first` on.
+    /// Whether the state's context may read each of so many words from `first` on. The time goes with the
+    /// intervals of a branch's row.
     pub fn reads_words(&self, first: i32, count: u32) -> bool
         ensures { AreUsable may_read_word self.now first count result }
     {
-        for i in 0..count {
-            if !self
-                .module
-                .may_read_word(self.context, i64::from(first) + i64::from(i))
-            {
-                return false;
-            }
+        let start = i64::from(first);
+        let end = start + i64::from(count);
+        if !self.has_words(start, end) {
+            return false;
         }
-        true
+        match self.module.branch(self.context) {
+            Some((_row, branch)) => have_words(&branch.writes, &branch.reads, start, end),
+            None => true,
+        }
     }
 
     /// What is known of so many words of the frame from `first` on together. The time goes with their number.
