@@ -8,7 +8,7 @@ use Rattle.scalar_ranges.specs.Environments.{item_at}
 use Rattle.scalar_ranges.specs.Moves.{outermost, begun_with}
 use Rattle.scalar_ranges.specs.Changes.{Slot, Branching, Tracked, entry_in, start_in, end_in, undone, seen, ends_seen}
 use Rattle.scalar_ranges.specs.Changes.{blocks_in, known_in, numbers_of, AreListed, unmarked, AreTracked}
-use Rattle.scalar_ranges.specs.Changes.{declared, cut, Follows, ListsHold}
+use Rattle.scalar_ranges.specs.Changes.{fresh, declared, cut, Follows, ListsHold}
 use Rattle.scalar_ranges.proofs.Numbered.{reverse_take, item_taken}
 use Rattle.scalar_ranges.proofs.Tracking.{fewer}
 use Rattle.scalar_ranges.proofs.Following.{put_follows, begun_follows, next_follows, left_tracked}
@@ -36,34 +36,31 @@ items_more P [] x all new (suc i) y is = absurd (cc)
 items_more P (z ∷ xs) x all new zero y is = all 0 y is
 items_more P (z ∷ xs) x all new (suc i) y is = items_more P xs x (λ k w there. all (suc k) w there) new i y is
 
-abbrev slot_of_entry : Entry → Slot
-slot_of_entry e = record { name = e.name; meaning = e.meaning; mark = 0; start = e.meaning; ends = e.meaning }
-
-declared_tracked : (e : Entry) (ss : List Slot) (bs : List Branching) → AreTracked ss bs
-    → AreTracked (ss ++ slot_of_entry e ∷ []) bs
+pub declared_tracked : (e : Entry) (ss : List Slot) (bs : List Branching) → AreTracked ss bs
+    → AreTracked (ss ++ fresh e ∷ []) bs
 declared_tracked e ss [] tracked =
-    items_more (λ (s : Slot). s.mark ≤ 0) ss (slot_of_entry e) tracked (omega arith)
+    items_more (λ (s : Slot). s.mark ≤ 0) ss (fresh e) tracked (omega arith)
 declared_tracked e ss (b ∷ bs) tracked =
-    let same = take-append-le b.count ss (slot_of_entry e ∷ []) tracked.0 in
-    let long = one_longer ss (slot_of_entry e) in
+    let same = take-append-le b.count ss (fresh e ∷ []) tracked.0 in
+    let long = one_longer ss (fresh e) in
     let enough = tracked.0 in (
       omega arith,
-      items_more (λ (s : Slot). s.mark ≤ suc (length bs)) ss (slot_of_entry e) tracked.1 (omega arith),
+      items_more (λ (s : Slot). s.mark ≤ suc (length bs)) ss (fresh e) tracked.1 (omega arith),
       subst (AreListed (suc (length bs)) (numbers_of b.changes)) (sym same) tracked.2,
       subst (λ js. unmarked (suc (length bs)) js + length b.changes ≤ b.count) (sym same) tracked.3,
       subst (λ js. AreTracked (undone b.changes js) bs) (sym same) tracked.4,
     )
 
 declared_blocks : (e : Entry) (ss : List Slot) (bs : List Branching) → AreTracked ss bs
-    → blocks_in (ss ++ slot_of_entry e ∷ []) bs ≡ blocks_in ss bs
+    → blocks_in (ss ++ fresh e ∷ []) bs ≡ blocks_in ss bs
 declared_blocks e ss [] tracked = refl
 declared_blocks e ss (b ∷ bs) tracked =
-    same_blocks (ss ++ slot_of_entry e ∷ []) ss b bs (take-append-le b.count ss (slot_of_entry e ∷ []) tracked.0)
+    same_blocks (ss ++ fresh e ∷ []) ss b bs (take-append-le b.count ss (fresh e ∷ []) tracked.0)
 
 pub declared_follows : (e : Entry) (t : Tracked) → AreTracked t.slots t.blocks
     → Follows (declared e t) (record { entries = e ∷ (known_in t).entries; blocks = (known_in t).blocks })
 declared_follows e t tracked = record {
-  entries = ap reverse (map-append entry_in t.slots (slot_of_entry e ∷ []))
+  entries = ap reverse (map-append entry_in t.slots (fresh e ∷ []))
       ∙ reverse-append (map entry_in t.slots) (e ∷ []);
   blocks = declared_blocks e t.slots t.blocks tracked;
   tracked = declared_tracked e t.slots t.blocks tracked;
@@ -90,7 +87,7 @@ cut_follows count t tracked least =
       tracked = both.1;
     }
 
-list_room : (n : ℕ) (s : Slot) (ss : List Slot) (b : Branching) (bs : List Branching) → AreTracked ss (b ∷ bs)
+pub list_room : (n : ℕ) (s : Slot) (ss : List Slot) (b : Branching) (bs : List Branching) → AreTracked ss (b ∷ bs)
     → item_at n (take b.count ss) ≡ Some s → nat_eq s.mark (suc (length bs)) ≡ false → length b.changes < b.count
 list_room n s ss b bs tracked is test =
     let less = fewer (suc (length bs)) n (take b.count ss) s is test in

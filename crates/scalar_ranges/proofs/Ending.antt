@@ -8,18 +8,13 @@ use Rattle.scalar_ranges.specs.Environments.{item_at}
 use Rattle.scalar_ranges.specs.Moves.{is_one_of, end}
 use Rattle.scalar_ranges.specs.Changes.{Slot, Change, Branching, Tracked, modify, entry_in, start_in, end_in, restored}
 use Rattle.scalar_ranges.specs.Changes.{undone, before, seen, ends_seen, blocks_in, numbers_of}
-use Rattle.scalar_ranges.specs.Changes.{AreTracked, note, with_new, final, put_if, puts, ended_in, Follows}
+use Rattle.scalar_ranges.specs.Changes.{AreTracked, note, with_new, meaning_after, put_if, puts, ended_in, Follows}
 use Rattle.scalar_ranges.proofs.Numbered.{modify_long, map_modify, map_unmodified}
-use Rattle.scalar_ranges.proofs.Numbered.{other_item, same_items, numbers_alike, map_again}
+use Rattle.scalar_ranges.proofs.Numbered.{other_item, same_items, numbers_alike, map_again, item_mapped}
 use Rattle.scalar_ranges.proofs.Tracking.{notes_well}
 use Rattle.scalar_ranges.proofs.Following.{put_follows}
 
 -- ---- a block ends
-
-item_mapped : {A B : Type 0} (f : A → B) (i : ℕ) (xs : List A) → item_at i (map f xs) ≡ option_map f (item_at i xs)
-item_mapped f i [] = refl
-item_mapped f zero (x ∷ xs) = refl
-item_mapped f (suc i) (x ∷ xs) = item_mapped f i xs
 
 apart_by : (t u : Bool) → cond t true u ≡ false → t ≡ false
 apart_by true u h = h
@@ -174,10 +169,10 @@ entries_alike (x ∷ xs) (y ∷ ys) names meanings =
     λ i. record { name = name i; meaning = meaning i } ∷ entries_alike xs ys more further i
 
 abbrev final_entry : ℕ → Bool → Slot → Entry
-final_entry d ended s = record { name = s.name; meaning = final d ended s }
+final_entry d ended s = record { name = s.name; meaning = meaning_after d ended s }
 
 final_by : (d : ℕ) (ended : Bool) (o : Option Slot) → ((s : Slot) → o ≡ Some s → nat_eq s.mark d ≡ false)
-    → option_map (λ (s : Slot). s.meaning) o ≡ option_map (final d ended) o
+    → option_map (λ (s : Slot). s.meaning) o ≡ option_map (meaning_after d ended) o
 final_by d ended None unmarked = refl
 final_by d ended (Some s) unmarked =
     λ i. Some (cond (sym (unmarked s refl) i) (cond ended s.ends s.start) s.meaning)
@@ -198,7 +193,7 @@ module _ (ss : List Slot) (b : Branching) (bs : List Branching) (tracked : AreTr
   begins = record { slots = before b ss; blocks = bs }
 
   abbrev finals : List Meaning
-  finals = map (final depth b.ended) base
+  finals = map (meaning_after depth b.ended) base
 
   well : PutsWell (numbers_of b.changes) finals begins (ended_in ss (b ∷ bs))
   well = puts_well (numbers_of b.changes) finals begins tracked.4
@@ -207,11 +202,11 @@ module _ (ss : List Slot) (b : Branching) (bs : List Branching) (tracked : AreTr
   meanings_are =
       well.meanings ∙ settles (numbers_of b.changes) finals (map (λ (s : Slot). s.meaning) (before b ss))
       (length-map (before b ss) (λ (s : Slot). s.meaning) ∙ undone_long b.changes base
-      ∙ sym (length-map base (final depth b.ended)))
+      ∙ sym (length-map base (meaning_after depth b.ended)))
       (λ i others. item_mapped (λ (s : Slot). s.meaning) i (before b ss)
       ∙ ap (option_map (λ (s : Slot). s.meaning)) (undone_other b.changes i base others)
       ∙ final_by depth b.ended (item_at i base) (λ s is. tracked.2 i s is others)
-      ∙ sym (item_mapped (final depth b.ended) i base))
+      ∙ sym (item_mapped (meaning_after depth b.ended) i base))
 
   entries_are : map entry_in (ended_in ss (b ∷ bs)).slots ≡ map (final_entry depth b.ended) base
   entries_are =
@@ -220,7 +215,8 @@ module _ (ss : List Slot) (b : Branching) (bs : List Branching) (tracked : AreTr
       (sym (names_seen after) ∙ well.names ∙ undone_names b.changes base
       ∙ sym (map_again (λ (e : Entry). e.name) (final_entry depth b.ended) (λ (s : Slot). s.name) base (λ s. refl)))
       (sym (meanings_seen after) ∙ meanings_are
-      ∙ sym (map_again (λ (e : Entry). e.meaning) (final_entry depth b.ended) (final depth b.ended) base (λ s. refl)))
+      ∙ sym (map_again (λ (e : Entry). e.meaning) (final_entry depth b.ended) (meaning_after depth b.ended) base
+      (λ s. refl)))
 
   block_ends : Follows (ended_in ss (b ∷ bs))
       (end (record { entries = seen entry_in ss; blocks = blocks_in ss (b ∷ bs) }))

@@ -22,3 +22,6 @@ pub mod Following
 pub mod Ending
 pub mod Components
 pub mod Cutting
+pub mod SlotLoops
+pub mod Noting
+pub mod Turning

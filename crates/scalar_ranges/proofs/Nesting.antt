@@ -22,7 +22,7 @@ outermost_short count [] = omega arith
 outermost_short count (x ∷ xs) =
     shorter_by (nat_lt (length xs) count) x xs (outermost count xs) (outermost_short count xs)
 
-beyond : (n count : ℕ) → count ≤ n → nat_lt n count ≡ false
+pub beyond : (n count : ℕ) → count ≤ n → nat_lt n count ≡ false
 beyond n count h = grind (arith, nat_tests)
 
 further_out : {A : Type 0} (count : ℕ) (x : A) (xs : List A) → count ≤ length xs

@@ -1,12 +1,14 @@
 -- Items that are changed by their number, counted from the first one.
 use Rattle.std.proofs.Common.{◌≡◌, ℕ, zero, suc, Bool, true, false, cond, List, [], ◌∷◌, ◌++◌, length, map, reverse}
-use Rattle.std.proofs.Common.{take, Option, Some, None, refl, sym, ap, subst, arith, ◌∙◌, nat_eq}
+use Rattle.std.proofs.Common.{take, Option, Some, None, option_map, refl, sym, ap, subst, arith, ◌∙◌, nat_eq}
 use Rattle.std.proofs.lemmas.Bool.Decides.{nat_tests}
 use Rattle.std.proofs.lemmas.List.{reverse-append}
 use Rattle.scalar_ranges.specs.Environments.{item_at}
 use Rattle.scalar_ranges.specs.Moves.{outermost, at_number, is_one_of}
+use Rattle.scalar_ranges.specs.MoveLaws.{meaning_at}
+use Rattle.scalar_ranges.specs.Entries.{Entry}
 use Rattle.scalar_ranges.specs.Changes.{modify, each}
-use Rattle.scalar_ranges.proofs.Rows.{eq_suc, at_last, at_further, cut_none, cut_last}
+use Rattle.scalar_ranges.proofs.Rows.{eq_suc, at_last, at_further, cut_none, cut_last, meaning_last, meaning_further}
 
 pub modify_long : {A : Type 0} (f : A → A) (n : ℕ) (xs : List A) → length (modify f n xs) ≡ length xs
 modify_long f n [] = refl
@@ -56,6 +58,13 @@ reverse_take (suc k) [] = refl
 reverse_take (suc k) (x ∷ xs) =
     reverse_cons x (take k xs) ∙ ap (λ ys. ys ++ x ∷ []) (reverse_take k xs)
     ∙ sym (cut_last k (reverse xs) x) ∙ ap (outermost (suc k)) (sym (reverse_cons x xs))
+
+pub reverse_meaning : (n : ℕ) (es : List Entry)
+    → meaning_at n (reverse es) ≡ option_map (λ (e : Entry). e.meaning) (item_at n es)
+reverse_meaning n [] = refl
+reverse_meaning zero (e ∷ es) = ap (meaning_at 0) (reverse_cons e es) ∙ meaning_last (reverse es) e
+reverse_meaning (suc n) (e ∷ es) =
+    ap (meaning_at (suc n)) (reverse_cons e es) ∙ meaning_further n (reverse es) e ∙ reverse_meaning n es
 
 -- a change after which one before it is not seen
 pub modify_over : {A : Type 0} (f g : A → A) (n : ℕ) (xs : List A) → ((x : A) → g (f x) ≡ g x)
@@ -159,3 +168,8 @@ pub map_again : {A B C : Type 0} (g : B → C) (f : A → B) (h : A → C) (xs :
     → map g (map f xs) ≡ map h xs
 map_again g f h [] same = refl
 map_again g f h (x ∷ xs) same = λ i. same x i ∷ map_again g f h xs same i
+
+pub item_mapped : {A B : Type 0} (f : A → B) (i : ℕ) (xs : List A) → item_at i (map f xs) ≡ option_map f (item_at i xs)
+item_mapped f i [] = refl
+item_mapped f zero (x ∷ xs) = refl
+item_mapped f (suc i) (x ∷ xs) = item_mapped f i xs

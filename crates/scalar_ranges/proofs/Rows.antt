@@ -1,6 +1,6 @@
 -- The program has the outermost entry first, and the definitions have it last.
 use Rattle.std.proofs.Common.{◌≡◌, ℕ, zero, suc, ◌-◌, ◌<◌, ◌≤◌, Bool, true, false, cond, List, [], ◌∷◌, ◌++◌, length}
-use Rattle.std.proofs.Common.{map, take, set}
+use Rattle.std.proofs.Common.{map, take, set, Some, None}
 use Rattle.std.proofs.Common.{get_or, refl, sym, ap, arith, ◌∙◌, nat_eq, nat_lt}
 use Rattle.std.proofs.lemmas.Bool.Decides.{nat_tests}
 use Rattle.std.proofs.lemmas.List.{reverse-append, get_or-reverse, get_or-map, length-map}
@@ -8,6 +8,7 @@ use Rattle.scalar_ranges.specs.declared.scope.Entry as code_entry
 use Rattle.scalar_ranges.specs.Entries.{Entry}
 use Rattle.scalar_ranges.specs.Scopes.{meaning_of, entry_of, entries_from}
 use Rattle.scalar_ranges.specs.Moves.{outermost, at_number}
+use Rattle.scalar_ranges.specs.MoveLaws.{meaning_at}
 
 pub entries_cons : (x : code_entry.Entry) (xs : List code_entry.Entry)
     → entries_from (x ∷ xs) ≡ entries_from xs ++ entry_of x ∷ []
@@ -150,3 +151,17 @@ none_at f n (x ∷ xs) least =
 pub no_entry : (f : Entry → Entry) (n : ℕ) (items : List code_entry.Entry) → length items ≤ n
     → entries_from items ≡ at_number f n (entries_from items)
 no_entry f n items least = sym (none_at f n (entries_from items) (let e = as_many items in omega arith))
+
+-- what an item means
+pub meaning_last : (ys : List Entry) (y : Entry) → meaning_at 0 (ys ++ y ∷ []) ≡ Some y.meaning
+meaning_last [] y = refl
+meaning_last (x ∷ xs) y =
+    ap (λ t. cond t (Some x.meaning) (meaning_at 0 (xs ++ y ∷ [])))
+    (ap (λ n. nat_eq n 0) (one_longer xs y) ∙ eq_none (length xs))
+    ∙ meaning_last xs y
+
+pub meaning_further : (n : ℕ) (ys : List Entry) (y : Entry) → meaning_at (suc n) (ys ++ y ∷ []) ≡ meaning_at n ys
+meaning_further n [] y = ap (λ t. cond t (Some y.meaning) None) (eq_some n)
+meaning_further n (x ∷ xs) y =
+    λ i. cond ((ap (λ k. nat_eq k (suc n)) (one_longer xs y) ∙ eq_suc (length xs) n) i) (Some x.meaning)
+    (meaning_further n xs y i)

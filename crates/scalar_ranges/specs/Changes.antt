@@ -87,8 +87,7 @@ known_in t = record { entries = seen entry_in t.slots; blocks = blocks_in t.slot
 -- ---- what belongs together
 
 abbrev pub numbers_of : List Change → List ℕ
-numbers_of [] = []
-numbers_of (c ∷ cs) = c.number ∷ numbers_of cs
+numbers_of cs = map (λ c. c.number) cs
 
 -- each entry with this mark is in a list
 abbrev pub AreListed : ℕ → List ℕ → List Slot → Type 0
@@ -114,6 +113,15 @@ AreTracked ss (b ∷ bs) =
 
 abbrev pub marked : ℕ → Slot → Slot
 marked d s = record { name = s.name; meaning = s.meaning; mark = d; start = s.meaning; ends = s.meaning }
+
+-- whether the innermost block began with an entry that it does not have in its list
+abbrev pub is_new_in : ℕ → Option Slot → Bool
+is_new_in d None = false
+is_new_in d (Some s) = if nat_eq s.mark d then false else true
+
+abbrev pub is_new : ℕ → List Slot → List Branching → Bool
+is_new n ss [] = false
+is_new n ss (b ∷ bs) = is_new_in (suc (length bs)) (item_at n (take b.count ss))
 
 -- The innermost block has an entry in its list before it changes, if the block began with it.
 abbrev pub note_if : ℕ → ℕ → List Slot → Branching → List Branching → Option Slot → Tracked
@@ -213,8 +221,8 @@ component_in ns ss [] = record { slots = ss; blocks = [] }
 component_in ns ss (b ∷ bs) = record { slots = component_slots ns (suc (length bs)) b ss; blocks = b ∷ bs }
 
 -- what an entry means after a block
-abbrev pub final : ℕ → Bool → Slot → Meaning
-final d ended s = if nat_eq s.mark d then (if ended then s.ends else s.start) else s.meaning
+abbrev pub meaning_after : ℕ → Bool → Slot → Meaning
+meaning_after d ended s = if nat_eq s.mark d then (if ended then s.ends else s.start) else s.meaning
 
 abbrev pub put_if : Option Meaning → ℕ → Tracked → Tracked
 put_if None n t = t
@@ -229,16 +237,16 @@ puts (n ∷ ns) ms t = puts ns ms (put_if (item_at n ms) n t)
 abbrev pub ended_in : List Slot → List Branching → Tracked
 ended_in ss [] = record { slots = ss; blocks = [] }
 ended_in ss (b ∷ bs) =
-    puts (numbers_of b.changes) (map (final (suc (length bs)) b.ended) (take b.count ss))
+    puts (numbers_of b.changes) (map (meaning_after (suc (length bs)) b.ended) (take b.count ss))
     (record { slots = before b ss; blocks = bs })
+
+-- an entry that no block has in its list
+abbrev pub fresh : Entry → Slot
+fresh e = record { name = e.name; meaning = e.meaning; mark = 0; start = e.meaning; ends = e.meaning }
 
 -- One declaration more. No block has it in its list.
 abbrev pub declared : Entry → Tracked → Tracked
-declared e t = record {
-  slots = t.slots
-      ++ record { name = e.name; meaning = e.meaning; mark = 0; start = e.meaning; ends = e.meaning } ∷ [];
-  blocks = t.blocks;
-}
+declared e t = record { slots = t.slots ++ fresh e ∷ []; blocks = t.blocks }
 
 -- Only so many entries are left.
 abbrev pub cut : ℕ → Tracked → Tracked

@@ -11,6 +11,8 @@ pub mod Narrowing
 pub mod Moves
 pub mod Changes
 pub mod EntryViews
+pub mod ChangeViews
+pub mod TrackedViews
 pub mod Scopes
 pub mod Naming
 pub mod Nesting

@@ -210,7 +210,7 @@ fn take_over<'a>(ends: &mut [Entry<'a>], end: &[Entry<'a>], numbers: &[usize])
 }
 
 /// The hull of both ranges of a scalar.
-fn hull_meaning(first: Meaning, second: Meaning) -> Meaning
+pub(crate) fn hull_meaning(first: Meaning, second: Meaning) -> Meaning
     ensures { meaning_of result ≡ hull_meaning (meaning_of first) (meaning_of second) }
 {
     match (first, second) {

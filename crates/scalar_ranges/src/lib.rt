@@ -3,6 +3,7 @@
 
 mod bounds;
 mod branches;
+mod changes;
 mod entries;
 mod laws;
 mod leaving;
@@ -13,6 +14,7 @@ mod ranges;
 mod reading;
 mod results;
 mod scope;
+mod slots;
 mod steps;
 mod types;
 

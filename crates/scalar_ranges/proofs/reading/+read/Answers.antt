@@ -23,7 +23,8 @@ read-loop-other-preserved t c =
       bounds = chain_step (bounds_in es) op (all_known c.chained-found.result.bound)
           (all_known c.loop-other.found.bound) (all_known c.chained-found-in-loop-other.result.bound)
           (all_known next.result.bound) c.deref-other-items.result.now c.loop-other.other-index c.other-item.result
-          (omega arith) c.other-item.is c.loop-other.invariant.bounds next.ensures.bounds c.chained-found-in-loop-other.ensures.bounds;
+          (omega arith) c.other-item.is c.loop-other.invariant.bounds next.ensures.bounds
+          c.chained-found-in-loop-other.ensures.bounds;
     }
 
 pub read-returns-after-loop-other : goal.read-returns-after-loop-other

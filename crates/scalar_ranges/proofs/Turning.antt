@@ -1,0 +1,146 @@
+-- What the program makes of its slots and blocks is the move that the definitions make of them.
+use Rattle.std.proofs.Common.{◌≡◌, ℕ, suc, Bool, true, false, cond, List, [], ◌∷◌, ◌++◌, length, map, take, sym, ap}
+use Rattle.std.proofs.Common.{subst, ◌∙◌}
+use Rattle.std.proofs.lemmas.List.{take-map, map-append}
+use Rattle.scalar_ranges.specs.declared.changes.Tracked as code_tracked
+use Rattle.scalar_ranges.specs.Entries.{Entry}
+use Rattle.scalar_ranges.specs.declared.slots.Slot as code_slot
+use Rattle.scalar_ranges.specs.declared.slots.Change as code_change
+use Rattle.scalar_ranges.specs.declared.slots.Branching as code_branching
+use Rattle.scalar_ranges.specs.Changes.{Slot, Branching, Tracked, modify, undone, before, numbers_of, AreTracked}
+use Rattle.scalar_ranges.specs.Changes.{joined, restarted}
+use Rattle.scalar_ranges.specs.Changes.{each, next_in, took, component_in, meaning_after, puts, ended_in, fresh, cut}
+use Rattle.scalar_ranges.specs.ChangeViews.{slot_of, slots_from, changes_from, branching_of, branchings_from}
+use Rattle.scalar_ranges.specs.ChangeViews.{put_afters, AfterBlock, BelongTogether}
+use Rattle.scalar_ranges.specs.TrackedViews.{tracked_of}
+use Rattle.scalar_ranges.proofs.Following.{begun_follows}
+use Rattle.scalar_ranges.proofs.Cutting.{declared_tracked}
+use Rattle.scalar_ranges.proofs.SlotLoops.{puts_are}
+use Rattle.scalar_ranges.proofs.Noting.{Innermost, branchings_more}
+
+slots_cut : (slots cut : List code_slot.Slot) (count : ℕ) → cut ≡ take count slots
+    → slots_from cut ≡ take count (slots_from slots)
+slots_cut slots cut count is = ap slots_from is ∙ sym (take-map slot_of count slots)
+
+-- what belongs together after a move
+pub kept : {t u : Tracked} → t ≡ u → AreTracked u.slots u.blocks → AreTracked t.slots t.blocks
+kept is tracked = subst (λ t. AreTracked t.slots t.blocks) (sym is) tracked
+
+-- one entry more, if there was memory for it
+pub declared_is : (t : Bool) (e : Entry) (slots now : List code_slot.Slot) (blocks : List code_branching.Branching)
+    (x : code_slot.Slot) → now ≡ cond t (slots ++ x ∷ []) slots → slot_of x ≡ fresh e → BelongTogether slots blocks
+    → BelongTogether now blocks
+declared_is true e slots now blocks x is seen tracked =
+    let more = ap slots_from is ∙ map-append slot_of slots (x ∷ []) ∙ ap (λ s. slots_from slots ++ s ∷ []) seen in
+    subst (λ ss. AreTracked ss (branchings_from blocks)) (sym more)
+    (declared_tracked e (slots_from slots) (branchings_from blocks) tracked)
+declared_is false e slots now blocks x is seen tracked = subst (λ ks. BelongTogether ks blocks) (sym is) tracked
+
+pub cut_is : (count : ℕ) (slots now : List code_slot.Slot) (blocks : List Branching) → now ≡ take count slots
+    → record { slots = slots_from now; blocks = blocks }
+    ≡ cut count (record { slots = slots_from slots; blocks = blocks })
+cut_is count slots now blocks is = λ i. record { slots = slots_cut slots now count is i; blocks = blocks }
+
+-- an entry means something else, once the innermost block has it in its list
+pub put_is : (f : Slot → Slot) (n : ℕ) (noted : code_tracked.Tracked) (t : Tracked) (lent now all : List code_slot.Slot)
+    → tracked_of noted ≡ t → lent ≡ noted.slots.items → slots_from now ≡ modify f n (slots_from lent) → all ≡ now
+    → ◌≡◌ {A = Tracked} (record { slots = slots_from all; blocks = branchings_from noted.blocks.items })
+    (record { slots = modify f n t.slots; blocks = t.blocks })
+put_is f n noted t lent now all is same changes whole =
+    let changed = ap slots_from whole ∙ changes ∙ ap (λ ks. modify f n (slots_from ks)) same in
+    (λ i. record { slots = changed i; blocks = branchings_from noted.blocks.items })
+    ∙ ap (λ (k : Tracked). record { slots = modify f n k.slots; blocks = k.blocks }) is
+
+-- a block more, if there was memory for it
+pub begun_is : (t ended : Bool) (slots : List code_slot.Slot) (blocks now : List code_branching.Branching)
+    (b : code_branching.Branching) → now ≡ cond t (blocks ++ b ∷ []) blocks
+    → branching_of b ≡ record { count = length (slots_from slots); ended = ended; changes = [] }
+    → BelongTogether slots blocks → BelongTogether slots now
+begun_is true ended slots blocks now b is seen tracked =
+    let more = ap branchings_from is ∙ branchings_more blocks b ∙ ap (λ k. k ∷ branchings_from blocks) seen in
+    subst (AreTracked (slots_from slots)) (sym more)
+    (begun_follows ended (record { slots = slots_from slots; blocks = branchings_from blocks }) tracked).tracked
+begun_is false ended slots blocks now b is seen tracked = subst (BelongTogether slots) (sym is) tracked
+
+-- ---- a branch ends
+
+pub next_is : (depth : ℕ) (slots cut lent now whole : List code_slot.Slot) (changes : List code_change.Change)
+    (blocks rest all : List code_branching.Branching) (b after : code_branching.Branching)
+    → Innermost blocks rest b depth → cut ≡ take b.count slots → lent ≡ cut → changes ≡ b.changes.items
+    → slots_from now ≡ each (restarted depth) (numbers_of (changes_from changes))
+    (each (joined depth b.ended) (numbers_of (changes_from changes)) (slots_from lent))
+    → whole ≡ now → all ≡ rest ++ after ∷ []
+    → branching_of after ≡ record { count = b.count; ended = true; changes = changes_from b.changes.items }
+    → record { slots = slots_from whole; blocks = branchings_from all }
+    ≡ next_in (slots_from slots) (branchings_from blocks)
+next_is depth slots cut lent now whole changes blocks rest all b after inner taken same listed turning is pushed
+    goes_on =
+    let f : ℕ → List code_change.Change → List Slot → List Slot = λ d cs ss. each (restarted d)
+    (numbers_of (changes_from cs)) (each (joined d b.ended) (numbers_of (changes_from cs)) ss) in
+    let last = ap branchings_from pushed ∙ branchings_more rest after ∙ ap (λ k. k ∷ branchings_from rest) goes_on in
+    let changed = ap slots_from is ∙ turning
+    ∙ (λ i. f (inner.deep i) (listed i) ((ap slots_from same ∙ slots_cut slots cut b.count taken) i)) in
+    (λ i. record { slots = changed i; blocks = last i }) ∙ ap (next_in (slots_from slots)) (sym inner.seen)
+
+pub component_is : (numbers : List ℕ) (depth : ℕ) (slots cut lent now whole : List code_slot.Slot)
+    (changes : List code_change.Change) (blocks rest all : List code_branching.Branching) (b : code_branching.Branching)
+    → Innermost blocks rest b depth → cut ≡ take b.count slots → lent ≡ cut → changes ≡ b.changes.items
+    → slots_from now ≡ each (restarted depth) (numbers_of (changes_from changes))
+    (each (took depth) numbers (slots_from lent))
+    → whole ≡ now → all ≡ rest ++ b ∷ []
+    → record { slots = slots_from whole; blocks = branchings_from all }
+    ≡ component_in numbers (slots_from slots) (branchings_from blocks)
+component_is numbers depth slots cut lent now whole changes blocks rest all b inner taken same listed turning is
+    pushed =
+    let last = ap branchings_from pushed ∙ branchings_more rest b in
+    let changed = ap slots_from is ∙ turning
+    ∙ (λ i. each (restarted (inner.deep i)) (numbers_of (changes_from (listed i)))
+    (each (took (inner.deep i)) numbers ((ap slots_from same ∙ slots_cut slots cut b.count taken) i))) in
+    (λ i. record { slots = changed i; blocks = last i }) ∙ ap (component_in numbers (slots_from slots)) (sym inner.seen)
+
+-- ---- a block ends
+
+-- the slots where it began, with what each entry means after it
+pub record TakenBack (slots back : List code_slot.Slot) (changes : List code_change.Change) (depth : ℕ)
+    (b : code_branching.Branching) : Type 0 where
+  pub same : changes_from changes ≡ changes_from b.changes.items
+  pub after : AfterBlock (map (meaning_after depth b.ended) (take b.count (slots_from slots))) changes
+  pub begins : slots_from back ≡ before (branching_of b) (slots_from slots)
+
+pub taken_back : (slots cut lent now back : List code_slot.Slot) (listed changes kept : List code_change.Change)
+    (depth : ℕ) (b : code_branching.Branching) → cut ≡ take b.count slots → lent ≡ cut → listed ≡ b.changes.items
+    → changes_from changes ≡ changes_from listed
+    → AfterBlock (map (meaning_after depth b.ended) (slots_from lent)) changes
+    → slots_from now ≡ undone (changes_from listed) (slots_from lent) → back ≡ now → kept ≡ changes
+    → TakenBack slots back kept depth b
+taken_back slots cut lent now back listed changes kept depth b taken same is all concluding undoing whole held =
+    let seen = ap slots_from same ∙ slots_cut slots cut b.count taken in
+    let after = subst (λ ss. AfterBlock (map (meaning_after depth b.ended) ss) changes) seen concluding in
+    record {
+      same = ap changes_from held ∙ all ∙ ap changes_from is;
+      after = subst (AfterBlock (map (meaning_after depth b.ended) (take b.count (slots_from slots)))) (sym held) after;
+      begins = ap slots_from whole ∙ undoing ∙ (λ i. undone (changes_from (is i)) (seen i));
+    }
+
+-- what is around the block belongs together
+pub around : (depth : ℕ) (slots back : List code_slot.Slot) (blocks rest : List code_branching.Branching)
+    (b : code_branching.Branching) → Innermost blocks rest b depth
+    → slots_from back ≡ before (branching_of b) (slots_from slots) → BelongTogether slots blocks
+    → BelongTogether back rest
+around depth slots back blocks rest b inner is tracked =
+    let here = subst (AreTracked (slots_from slots)) inner.seen tracked in
+    subst (λ ss. AreTracked ss (branchings_from rest)) (sym is) here.4
+
+pub end_is : (depth : ℕ) (slots back : List code_slot.Slot) (blocks rest : List code_branching.Branching)
+    (b : code_branching.Branching) (changes : List code_change.Change) (after : Tracked)
+    → Innermost blocks rest b depth → TakenBack slots back changes depth b
+    → after ≡ put_afters changes (record { slots = slots_from back; blocks = branchings_from rest })
+    → after ≡ ended_in (slots_from slots) (branchings_from blocks)
+end_is depth slots back blocks rest b changes after inner begins putting =
+    let bs = branchings_from rest in
+    let ms = map (meaning_after depth b.ended) (take b.count (slots_from slots)) in
+    putting ∙ puts_are ms changes (record { slots = slots_from back; blocks = bs }) begins.after
+    ∙ (λ i. puts (numbers_of (begins.same i))
+    (map (meaning_after (inner.deep i) b.ended) (take b.count (slots_from slots)))
+    (record { slots = begins.begins i; blocks = bs }))
+    ∙ ap (ended_in (slots_from slots)) (sym inner.seen)

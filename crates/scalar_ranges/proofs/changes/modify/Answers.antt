@@ -1,0 +1,12 @@
+use Rattle.scalar_ranges.specs.ChangeViews.{updated}
+use Rattle.scalar_ranges.proofs.SlotLoops.{slots_changed, slots_same}
+use Rattle.scalar_ranges.proofs.changes.modify.Goals as goal
+
+pub returns-then-number-slots : goal.returns-then-number-slots
+returns-then-number-slots c =
+    slots_changed (updated c.args.update) c.args.slots.now c.args.number c.updated.result c.index-slots-number.result
+    c.if-number-slots.true c.index-slots-number.is c.updated.ensures
+
+pub returns-else-number-slots : goal.returns-else-number-slots
+returns-else-number-slots c =
+    slots_same (updated c.args.update) c.args.slots.now c.args.number c.if-number-slots.false

@@ -1,0 +1,76 @@
+-- The slots, changes and blocks that the program has.
+pub use Rattle.scalar_ranges.specs.EntryViews.{meaning_of, entry_of}
+use Rattle.std.specs.Prelude.{◌≡◌, List, [], ◌∷◌, map, reverse, option_map, Option}
+use Rattle.std.proofs.Props.{props}
+use Rattle.scalar_ranges.specs.declared.slots.Slot as code_slot
+use Rattle.scalar_ranges.specs.declared.slots.Update as code_update
+use Rattle.scalar_ranges.specs.declared.slots.Update.TheVariants as updates
+use Rattle.scalar_ranges.specs.declared.slots.Change as code_change
+use Rattle.scalar_ranges.specs.declared.slots.Branching as code_branching
+use Rattle.scalar_ranges.specs.Entries.{Meaning}
+use Rattle.scalar_ranges.specs.Environments.{item_at}
+use Rattle.scalar_ranges.specs.Changes.{Slot, Change, Branching, Tracked, before, AreTracked, numbers_of, put_if}
+use Rattle.scalar_ranges.specs.Changes.{marked}
+use Rattle.scalar_ranges.specs.Changes.{with_new, with_start, joined, took, restarted, restored}
+
+abbrev pub slot_of : code_slot.Slot → Slot
+slot_of s = record {
+  name = s.name.now;
+  meaning = meaning_of s.meaning;
+  mark = s.mark;
+  start = meaning_of s.start;
+  ends = meaning_of s.ends;
+}
+
+-- a slot after what the program makes of it
+abbrev pub updated : code_update.Update → Slot → Slot
+updated (updates.Mark depth) = marked depth
+updated (updates.Mean m) = with_new (meaning_of m)
+updated (updates.Begin m) = with_start (meaning_of m)
+updated (updates.Join depth ended) = joined depth ended
+updated (updates.Take depth) = took depth
+updated (updates.Restart depth) = restarted depth
+updated (updates.Restore before) = restored (slot_of before)
+
+-- the outermost one first
+abbrev pub slots_from : List code_slot.Slot → List Slot
+slots_from slots = map slot_of slots
+
+abbrev pub change_of : code_change.Change → Change
+change_of c = record { number = c.number; before = slot_of c.before }
+
+abbrev pub changes_from : List code_change.Change → List Change
+changes_from changes = map change_of changes
+
+abbrev pub branching_of : code_branching.Branching → Branching
+branching_of b = record { count = b.count; ended = b.ended; changes = changes_from b.changes.items }
+
+-- the innermost one first, where the program has it last
+abbrev pub branchings_from : List code_branching.Branching → List Branching
+branchings_from blocks = reverse (map branching_of blocks)
+
+-- what the changed entries mean after a block
+abbrev pub afters_from : List code_change.Change → List (Option Meaning)
+afters_from changes = map (λ c. option_map meaning_of c.after) changes
+
+-- each change has what a list says of its entry
+abbrev pub AfterBlock : List Meaning → List code_change.Change → Type 0
+AfterBlock ms changes = afters_from changes ≡ map (λ n. item_at n ms) (numbers_of (changes_from changes))
+
+-- the entries mean what the changes say of the end of a block
+abbrev pub put_afters : List code_change.Change → Tracked → Tracked
+put_afters [] t = t
+put_afters (c ∷ cs) t = put_afters cs (put_if (option_map meaning_of c.after) c.number t)
+
+-- ---- what belongs together
+
+pub AreTracked-prop : (ss : List Slot) (bs : List Branching) → IsProp (AreTracked ss bs)
+AreTracked-prop ss [] = hlevel props
+AreTracked-prop ss (b ∷ bs) = hlevel (props, AreTracked-prop (before b ss) bs)
+
+abbrev pub BelongTogether : List code_slot.Slot → List code_branching.Branching → Type 0
+BelongTogether slots blocks = AreTracked (slots_from slots) (branchings_from blocks)
+
+pub BelongTogether-prop : (slots : List code_slot.Slot) (blocks : List code_branching.Branching)
+    → IsProp (BelongTogether slots blocks)
+BelongTogether-prop slots blocks = AreTracked-prop (slots_from slots) (branchings_from blocks)

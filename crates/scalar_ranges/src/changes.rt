@@ -1,0 +1,310 @@
+//! The blocks of branches around a place, by lists of what changed in them.
+
+ghost use Rattle.std.specs.Prelude.{◌≡◌, ◌≤◌, [], OnOk, OnErr, map, length, option_map};
+ghost use Rattle.scalar_ranges.specs.Environments.{item_at};
+ghost use Rattle.scalar_ranges.specs.Changes.{modify, numbers_of, each, joined, took, restarted, undone, meaning_after};
+ghost use Rattle.scalar_ranges.specs.ChangeViews.{meaning_of, entry_of, updated, slots_from, changes_from, put_afters};
+ghost use Rattle.scalar_ranges.specs.ChangeViews.{AfterBlock, BelongTogether, BelongTogether-prop};
+
+use crate::scope::{Entry, Meaning};
+use crate::slots::{Branching, Change, Slot, Update};
+use std::alloc::{AllocError, Global};
+
+/// The entries at a place, numbered from the outermost one on, and the blocks of branches around it. Once a block has
+/// begun, changes in it take no memory.
+#[derive(Drop)]
+pub(crate) struct Tracked<'a> {
+    pub(crate) slots: Vec<Slot<'a>>,
+    /// The innermost block last.
+    pub(crate) blocks: Vec<Branching<'a>>,
+    ghost tracked: { BelongTogether slots.items blocks.items } by { BelongTogether-prop slots.items blocks.items },
+}
+
+impl<'a> Tracked<'a> {
+    ghost use Rattle.scalar_ranges.specs.Moves.{begun_with};
+    ghost use Rattle.scalar_ranges.specs.MoveLaws.{meaning_at};
+    ghost use Rattle.scalar_ranges.specs.Changes.{is_new, note, put, put_start, begun, next_in, component_in};
+    ghost use Rattle.scalar_ranges.specs.Changes.{ended_in, declared, cut};
+    ghost use Rattle.scalar_ranges.specs.TrackedViews.{tracked_of, known_by};
+
+    /// No entries, and no blocks.
+    pub(crate) fn new(alloc: Global) -> Tracked<'a>
+        ensures { tracked_of result ≡ record { slots = []; blocks = [] } }
+    {
+        Tracked {
+            slots: Vec::new(alloc),
+            blocks: Vec::new(alloc),
+        }
+    }
+
+    /// How many entries there are.
+    pub(crate) fn len(&self) -> usize
+        ensures { result ≡ length (known_by self.now).entries }
+    {
+        self.slots.len()
+    }
+
+    /// What the entry with this number means.
+    pub(crate) fn meaning(&self, number: usize) -> Option<Meaning>
+        ensures { option_map meaning_of result ≡ meaning_at number (known_by self.now).entries }
+    {
+        if number < self.slots.len() {
+            Some(self.slots[number].meaning)
+        } else {
+            None
+        }
+    }
+
+    /// How many entries the innermost block began with.
+    pub(crate) fn begun_with(&self) -> usize
+        ensures { result ≡ begun_with (known_by self.now).blocks }
+    {
+        match self.blocks.last() {
+            None => 0,
+            Some(block) => block.count,
+        }
+    }
+
+    /// One entry more, the innermost one. If memory runs out, all is as it was.
+    pub(crate) fn declare(&mut self, entry: Entry<'a>) -> Result<(), AllocError>
+        ensures ok { OnOk result (tracked_of self.new ≡ declared (entry_of entry.entry) (tracked_of self.old)) }
+        ensures err { OnErr result (tracked_of self.new ≡ tracked_of self.old) }
+    {
+        self.slots.push(Slot::fresh(entry))?;
+        Ok(())
+    }
+
+    /// Only so many entries are left.
+    pub(crate) fn cut(&mut self, count: usize)
+        requires { begun_with (known_by self.old).blocks ≤ count }
+        ensures { tracked_of self.new ≡ cut count (tracked_of self.old) }
+    {
+        self.slots.truncate(count);
+    }
+
+    /// Whether the innermost block began with this entry and does not have it in its list.
+    fn is_new(&self, number: usize) -> bool
+        ensures { result ≡ is_new number (tracked_of self.now).slots (tracked_of self.now).blocks }
+    {
+        match self.blocks.last() {
+            None => false,
+            Some(block) => { number < block.count && self.slots[number].mark != self.blocks.len() }
+        }
+    }
+
+    /// The innermost block has this entry in its list, if it began with it.
+    fn note(&mut self, number: usize)
+        ensures { tracked_of self.new ≡ note number (tracked_of self.old).slots (tracked_of self.old).blocks }
+    {
+        if !self.is_new(number) {
+            return;
+        }
+        let depth = self.blocks.len();
+        if let Some(block) = self.blocks.pop() {
+            let Branching {
+                count,
+                ended,
+                mut changes,
+            } = block;
+            let before = self.slots[number];
+            changes.push_reserved(Change {
+                number,
+                before,
+                after: None,
+            });
+            self.slots[number] = before.updated(Update::Mark { depth });
+            self.blocks.push_reserved(Branching {
+                count,
+                ended,
+                changes,
+            });
+        }
+    }
+
+    /// An entry means something else.
+    pub(crate) fn put(&mut self, number: usize, meaning: Meaning)
+        ensures { tracked_of self.new ≡ put number (meaning_of meaning) (tracked_of self.old) }
+    {
+        self.note(number);
+        modify(&mut self.slots, number, Update::Mean(meaning));
+    }
+
+    /// An entry means something else, and the branches of the innermost block begin so from here on.
+    pub(crate) fn put_start(&mut self, number: usize, meaning: Meaning)
+        ensures { tracked_of self.new ≡ put_start number (meaning_of meaning) (tracked_of self.old) }
+    {
+        self.note(number);
+        modify(&mut self.slots, number, Update::Begin(meaning));
+    }
+
+    /// A block begins, which has ends if it is a `PAR`. It gets room for all entries to change. If memory runs out, all
+    /// is as it was.
+    pub(crate) fn begin(&mut self, alloc: Global, ended: bool) -> Result<(), AllocError>
+        ensures ok { OnOk result (tracked_of self.new ≡ begun ended (tracked_of self.old)) }
+        ensures err { OnErr result (tracked_of self.new ≡ tracked_of self.old) }
+    {
+        let count = self.slots.len();
+        let changes = Vec::with_capacity(alloc, count)?;
+        self.blocks.push(Branching {
+            count,
+            ended,
+            changes,
+        })?;
+        Ok(())
+    }
+
+    /// A branch ends, and the next one begins.
+    pub(crate) fn next(&mut self)
+        ensures { tracked_of self.new ≡ next_in (tracked_of self.old).slots (tracked_of self.old).blocks }
+    {
+        let depth = self.blocks.len();
+        if let Some(block) = self.blocks.pop() {
+            let Branching {
+                count,
+                ended,
+                changes,
+            } = block;
+            self.slots.truncate(count);
+            next_slots(&mut self.slots, &changes, depth, ended);
+            self.blocks.push_reserved(Branching {
+                count,
+                ended: true,
+                changes,
+            });
+        }
+    }
+
+    /// A component ends, which changed the variables with these numbers, and the next one begins.
+    pub(crate) fn next_component(&mut self, numbers: &[usize])
+        ensures { tracked_of self.new
+            ≡ component_in numbers.now (tracked_of self.old).slots (tracked_of self.old).blocks }
+    {
+        let depth = self.blocks.len();
+        if let Some(block) = self.blocks.pop() {
+            self.slots.truncate(block.count);
+            component_slots(&mut self.slots, numbers, &block.changes, depth);
+            self.blocks.push_reserved(block);
+        }
+    }
+
+    /// A block ends: its changes are taken back, and what is known after it changes what is around it.
+    pub(crate) fn end(&mut self)
+        ensures { tracked_of self.new ≡ ended_in (tracked_of self.old).slots (tracked_of self.old).blocks }
+    {
+        let depth = self.blocks.len();
+        if let Some(block) = self.blocks.pop() {
+            let Branching {
+                count,
+                ended,
+                mut changes,
+            } = block;
+            self.slots.truncate(count);
+            take_back(&mut self.slots, &mut changes, depth, ended);
+            self.put_afters(&changes);
+        }
+    }
+
+    /// The entries mean what the changes say of the end of a block.
+    fn put_afters(&mut self, changes: &[Change])
+        ensures { tracked_of self.new ≡ put_afters changes.now (tracked_of self.old) }
+    {
+        for change in changes {
+            if let Some(meaning) = change.after {
+                self.put(change.number, meaning);
+            }
+        }
+    }
+}
+
+/// The slots where the next branch begins.
+fn next_slots<'a>(slots: &mut [Slot<'a>], changes: &[Change<'a>], depth: usize, ended: bool)
+    ensures { let numbers = numbers_of (changes_from changes.now) in slots_from slots.new
+        ≡ each (restarted depth) numbers (each (joined depth ended) numbers (slots_from slots.old)) }
+{
+    each_listed(slots, changes, Update::Join { depth, ended });
+    each_listed(slots, changes, Update::Restart { depth });
+}
+
+/// The slots where the next component begins, after one that changed the variables with these numbers.
+fn component_slots<'a>(
+    slots: &mut [Slot<'a>],
+    numbers: &[usize],
+    changes: &[Change<'a>],
+    depth: usize,
+)
+    ensures { slots_from slots.new ≡ each (restarted depth) (numbers_of (changes_from changes.now))
+        (each (took depth) numbers.now (slots_from slots.old)) }
+{
+    each_numbered(slots, numbers, Update::Take { depth });
+    each_listed(slots, changes, Update::Restart { depth });
+}
+
+/// The slots where a block began, each of whose changes says what its entry means after the block.
+fn take_back<'a>(slots: &mut [Slot<'a>], changes: &mut [Change<'a>], depth: usize, ended: bool)
+    ensures same { changes_from changes.new ≡ changes_from changes.old }
+    ensures after { AfterBlock (map (meaning_after depth ended) (slots_from slots.old)) changes.new }
+    ensures slots { slots_from slots.new ≡ undone (changes_from changes.old) (slots_from slots.old) }
+{
+    conclude(changes, slots, depth, ended);
+    undo(slots, changes);
+}
+
+/// The slot with this number is updated, if there is one.
+fn modify<'a>(slots: &mut [Slot<'a>], number: usize, update: Update<'a>)
+    ensures { slots_from slots.new ≡ modify (updated update.entry) number (slots_from slots.old) }
+{
+    if number < slots.len() {
+        slots[number] = slots[number].updated(update);
+    }
+}
+
+/// The slots with these numbers are updated, one after another.
+fn each_numbered<'a>(slots: &mut [Slot<'a>], numbers: &[usize], update: Update<'a>)
+    ensures { slots_from slots.new ≡ each (updated update.entry) numbers.now (slots_from slots.old) }
+{
+    for number in numbers {
+        modify(slots, *number, update);
+    }
+}
+
+/// The slots in a list are updated, one after another.
+fn each_listed<'a>(slots: &mut [Slot<'a>], changes: &[Change<'a>], update: Update<'a>)
+    ensures { slots_from slots.new
+        ≡ each (updated update.entry) (numbers_of (changes_from changes.now)) (slots_from slots.old) }
+{
+    for change in changes {
+        modify(slots, change.number, update);
+    }
+}
+
+/// Each change says what its entry means after the block.
+fn conclude(changes: &mut [Change], slots: &[Slot], depth: usize, ended: bool)
+    ensures same { changes_from changes.new ≡ changes_from changes.old }
+    ensures after { AfterBlock (map (meaning_after depth ended) (slots_from slots.now)) changes.new }
+{
+    for place in 0..changes.len() {
+        let number = changes[place].number;
+        changes[place].after = meaning_after(slots, number, depth, ended);
+    }
+}
+
+/// What the entry with this number means after the block, if there is one.
+fn meaning_after(slots: &[Slot], number: usize, depth: usize, ended: bool) -> Option<Meaning>
+    ensures { option_map meaning_of result ≡ item_at number (map (meaning_after depth ended) (slots_from slots.now)) }
+{
+    if number < slots.len() {
+        Some(slots[number].meaning_after(depth, ended))
+    } else {
+        None
+    }
+}
+
+/// The changes are taken back, the last one first.
+fn undo<'a>(slots: &mut [Slot<'a>], changes: &[Change<'a>])
+    ensures { slots_from slots.new ≡ undone (changes_from changes.now) (slots_from slots.old) }
+{
+    for place in 0..changes.len() {
+        let change = changes[changes.len() - 1 - place];
+        modify(slots, change.number, Update::Restore(change.before));
+    }
+}
