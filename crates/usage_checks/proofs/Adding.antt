@@ -91,30 +91,30 @@ gathered_last f n (y ∷ xs) x =
     ∙ sym (append_assoc (f n y) (gathered f (suc n) xs) (f (suc n + length xs) x))
     ∙ ap (λ k. (f n y ++ gathered f (suc n) xs) ++ f k x) (omega arith)
 
-taken_one : {A : Type 0} (xs : List A) (i : ℕ) (x : A) → i < length xs → x ≡ get_or xs i x
+taken_one : {A : Type 0} (xs : List A) (i : ℕ) (x d : A) → i < length xs → x ≡ get_or xs i d
     → take (i + 1) xs ≡ take i xs ++ x ∷ []
-taken_one xs i x h is = take_more xs i x h ∙ ap (λ y. take i xs ++ y ∷ []) (sym is)
+taken_one xs i x d h is = take_more xs i d h ∙ ap (λ y. take i xs ++ y ∷ []) (sym is)
 
-gathered_next : {A : Type 0} (f : ℕ → A → List Use) (xs : List A) (i : ℕ) (x : A) → i < length xs
-    → x ≡ get_or xs i x → gathered f 0 (take i xs) ++ f i x ≡ gathered f 0 (take (i + 1) xs)
-gathered_next f xs i x h is =
+gathered_next : {A : Type 0} (f : ℕ → A → List Use) (xs : List A) (i : ℕ) (x d : A) → i < length xs
+    → x ≡ get_or xs i d → gathered f 0 (take i xs) ++ f i x ≡ gathered f 0 (take (i + 1) xs)
+gathered_next f xs i x d h is =
     let many : 0 + length (take i xs) ≡ i = simp length-take (omega arith) in
     ap (λ k. gathered f 0 (take i xs) ++ f k x) (sym many) ∙ sym (gathered_last f 0 (take i xs) x)
-    ∙ ap (gathered f 0) (sym (taken_one xs i x h is))
+    ∙ ap (gathered f 0) (sym (taken_one xs i x d h is))
 
 pub gathers_none : {A : Type 0} (f : ℕ → A → List Use) (s : Uses) → Adds s s (gathered f 0 [])
 unfolding gathered
 gathers_none f s = adds_none s
 
-pub gathers_next : {A : Type 0} (f : ℕ → A → List Use) (xs : List A) (i : ℕ) (x : A) (s t w : Uses) → i < length xs
-    → x ≡ get_or xs i x → Adds s t (gathered f 0 (take i xs)) → Adds t w (f i x)
+-- x is the item with the number i, whatever is told where there is none
+pub gathers_next : {A : Type 0} (f : ℕ → A → List Use) (xs : List A) (i : ℕ) (x d : A) {s t w : Uses} → i < length xs
+    → x ≡ get_or xs i d → Adds s t (gathered f 0 (take i xs)) → Adds t w (f i x)
     → Adds s w (gathered f 0 (take (i + 1) xs))
-gathers_next f xs i x s t w h is a b =
-    adds_as (gathered_next f xs i x h is) (adds_both a b)
+gathers_next f xs i x d h is a b = adds_as (gathered_next f xs i x d h is) (adds_both a b)
 
-pub gathers_all : {A : Type 0} (f : ℕ → A → List Use) (xs : List A) (i : ℕ) (s t : Uses) → length xs ≤ i
+pub gathers_all : {A : Type 0} (f : ℕ → A → List Use) (xs : List A) (i : ℕ) {s t : Uses} → length xs ≤ i
     → Adds s t (gathered f 0 (take i xs)) → Adds s t (gathered f 0 xs)
-gathers_all f xs i s t h a = adds_as (ap (gathered f 0) (take_all i xs h)) a
+gathers_all f xs i h a = adds_as (ap (gathered f 0) (take_all i xs h)) a
 
 pub gathered_same : {A : Type 0} (f : ℕ → A → List Use) (n : ℕ) (xs : List A)
     → gathered f (suc n) xs ≡ gathered (λ k x. f (suc k) x) n xs

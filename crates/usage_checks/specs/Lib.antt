@@ -1,2 +1,9 @@
 pub mod Sets
+pub mod Constants
 pub mod Mentions
+pub mod Places
+pub mod PlaceViews
+pub mod Signatures
+pub mod Instances
+pub mod Actions
+pub mod ActionViews

@@ -1,7 +1,14 @@
 //! What a program uses, and the rules that it has to keep.
 #![tactic(auto)]
 
+mod actions;
+mod constants;
+mod instances;
 mod mentions;
+mod places;
+mod signature;
 mod uses;
 
+pub use actions::Around;
+pub use signature::{Parameter, Signature};
 pub use uses::{Direction, End, Use, Uses};

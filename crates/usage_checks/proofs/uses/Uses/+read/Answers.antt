@@ -23,7 +23,7 @@ read-loop-other-init t c = gathers_none (operand_reads (entries_of c.args.scope.
 pub read-loop-other-preserved : goal.read-loop-other-preserved
 read-loop-other-preserved t c =
     gathers_next (operand_reads (entries_of c.args.scope.now)) c.deref-other-items.result.now c.loop-other.other-index
-    c.other-item.result _ _ _ (omega arith) c.other-item.is c.loop-other.invariant
+    c.other-item.result c.other-item.result (omega arith) c.other-item.is c.loop-other.invariant
     c.read_operand-in-loop-other.ensures
 
 pub read-returns-after-loop-other : goal.read-returns-after-loop-other
@@ -36,12 +36,13 @@ read-returns-after-loop-other t c =
     ≡ operation_of (Chain chain.operator chain.first chain.second chain.others) = search (rules, the_lemmas) in
     let whole = sym (view-Chain chain.operator chain.first chain.second chain.others) ∙ sym view in
     let two = Two (term_of chain.first) (term_of chain.second) in
-    let all : reads_of_terms es two ++ gathered (operand_reads es) 0 items ≡ reads_of es (expression_of c.args.expr.now) =
+    let all : reads_of_terms es two ++ gathered (operand_reads es) 0 items
+    ≡ reads_of es (expression_of c.args.expr.now) =
     ap (λ xs. reads_of_terms es two ++ gathered (operand_reads es) 0 xs) c.deref-other-items.ensures.value
     ∙ sym (operands_gathered es two chain.others.items) ∙ ap (reads_of es) whole in
     adds_as all
     (adds_both (adds_both c.read_operand-in-Chain.ensures c.read_operand-in-Chain-2.ensures)
-    (gathers_all (operand_reads es) items c.loop-other.other-index _ _ done c.loop-other.invariant))
+    (gathers_all (operand_reads es) items c.loop-other.other-index done c.loop-other.invariant))
 
 pub read_operand-returns-in-Element : goal.read_operand-returns-in-Element
 read_operand-returns-in-Element t c =
