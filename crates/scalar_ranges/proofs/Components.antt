@@ -11,7 +11,6 @@ use Rattle.scalar_ranges.specs.Changes.{ends_seen, block_in, blocks_in, known_in
 use Rattle.scalar_ranges.specs.Changes.{note, with_start, put_start, restarted, each, took, component_slots}
 use Rattle.scalar_ranges.specs.Changes.{component_in, undone, Follows, changed_start}
 use Rattle.scalar_ranges.proofs.Rows.{same_number}
-use Rattle.scalar_ranges.proofs.Taking.{taken_none}
 use Rattle.scalar_ranges.proofs.Numbered.{modify_long, take_modify, map_modify, map_unmodified, reverse_modify}
 use Rattle.scalar_ranges.proofs.Numbered.{each_maps, map_again, numbers_alike}
 use Rattle.scalar_ranges.proofs.Widening.{same_test}
@@ -186,6 +185,11 @@ module _ (d : ℕ) (ns : List ℕ) (n : ℕ) where
       ≡ taken (n ∷ ns) (ends ss) (entries ss)
   ends_one [] = refl
   ends_one (s ∷ ss) = ends_by (nat_eq (length ss) n) s ss refl (ends_one ss)
+
+taken_none : {A : Type 0} (xs ys : List A) → xs ≡ taken [] xs ys
+taken_none [] ys = refl
+taken_none (x ∷ xs) [] = refl
+taken_none (x ∷ xs) (y ∷ ys) = ap (λ ks. x ∷ ks) (taken_none xs ys)
 
 took_ends : (d : ℕ) (ns : List ℕ) (ss : List Slot)
     → seen (end_in d) (each (took d) ns ss) ≡ taken ns (seen (end_in d) ss) (seen entry_in ss)

@@ -1,89 +1,141 @@
 -- What the program's scope keeps: its names, entries and blocks belong together.
-use Rattle.std.proofs.Common.{◌≡◌, ℕ, Bool, true, false, cond, List, [], ◌∷◌, ◌++◌, map, reverse, refl, sym, ap}
-use Rattle.std.proofs.Common.{Option, Some, None, Result, Ok, Err, OnOk, Vec, Global, subst, ◌∙◌, unwrap_or, option_map}
-use Rattle.std.proofs.Common.{is_err}
-use Rattle.std.proofs.lemmas.List.{reverse-append, map-append}
-use Rattle.scalar_ranges.specs.declared.scope.Entry as code_entry
-use Rattle.scalar_ranges.specs.declared.scope.Block as code_block
+use Rattle.std.proofs.Common.{◌≡◌, ℕ, suc, ◌<◌, ◌≤◌, Bool, false, List, [], ◌∷◌, length, refl, sym, ap, subst}
+use Rattle.std.proofs.Common.{Result, Ok, Err, OnOk, OnErr, is_err, nat_eq, arith, ◌∙◌}
+use Rattle.std.proofs.lemmas.Bool.Decides.{nat_tests}
+use Rattle.scalar_ranges.specs.declared.changes.Tracked as code_tracked
 use Rattle.scalar_ranges.specs.declared.scope.Scope as code_scope
-use Rattle.scalar_ranges.specs.Entries.{Entry}
-use Rattle.scalar_ranges.specs.Moves.{Block, Known, next_from}
-use Rattle.scalar_ranges.specs.MoveLaws.{shape}
-use Rattle.scalar_ranges.specs.Scopes.{entry_of, entries_from, block_of, blocks_from, entries_of, blocks_of, known_of}
+use Rattle.scalar_ranges.specs.Entries.{Meaning, Entry}
+use Rattle.scalar_ranges.specs.Moves.{outermost, Block, Known, begun_with, next, next_component, end}
+use Rattle.scalar_ranges.specs.Moves.{next_from, exclude_from, excluding}
+use Rattle.occam_parser.specs.Expressions.{Expression}
+use Rattle.scalar_ranges.specs.Narrowing.{narrow}
+use Rattle.scalar_ranges.specs.Changes.{Slot, Branching, before, blocks_in, begin_with}
+use Rattle.scalar_ranges.proofs.Noting.{branchings_long}
+use Rattle.scalar_ranges.specs.Changes.{Tracked, known_in, put, put_start, begun, next_in, component_in, ended_in}
+use Rattle.scalar_ranges.specs.Changes.{declared}
+use Rattle.scalar_ranges.specs.Changes.{cut, Follows, changed_to, changed_start}
+use Rattle.scalar_ranges.specs.TrackedViews.{tracked_of, known_by}
+use Rattle.scalar_ranges.specs.Scopes.{entries_of, blocks_of, BeginsHere}
 use Rattle.scalar_ranges.specs.Naming.{names_from}
-use Rattle.scalar_ranges.specs.Nesting.{EndsFit, AreNested}
-use Rattle.scalar_ranges.specs.Taken.{IsTakenFrom, BeginsHere}
-use Rattle.scalar_ranges.proofs.Nesting.{Fit, fit_along, fit_begun}
+use Rattle.scalar_ranges.proofs.Nesting.{Fit}
+use Rattle.scalar_ranges.proofs.Following.{put_follows, begun_follows, next_follows}
+use Rattle.scalar_ranges.proofs.Ending.{end_follows}
+use Rattle.scalar_ranges.proofs.Components.{start_follows, component_follows}
+use Rattle.scalar_ranges.proofs.Cutting.{declared_follows, cut_follows}
 
 pub fit_of : (s : code_scope.Scope) → Fit (names_from s.names.rows.items) (entries_of s) (blocks_of s)
 fit_of s = record { named = s.named; nested = s.nested }
 
--- ---- one more
+-- what belongs together after a move
+pub fit_at : {k new : Known} {names kept : List (List ℕ)} → new ≡ k → kept ≡ names → Fit names k.entries k.blocks
+    → Fit kept new.entries new.blocks
+fit_at {k} {new} {names} {kept} is same fit =
+    subst (λ w. Fit kept w.entries w.blocks) (sym is) (subst (λ ns. Fit ns k.entries k.blocks) (sym same) fit)
 
-pub entries_more : (items : List code_entry.Entry) (x : code_entry.Entry)
-    → entries_from (items ++ x ∷ []) ≡ entry_of x ∷ entries_from items
-entries_more items x =
-    ap reverse (map-append entry_of items (x ∷ [])) ∙ reverse-append (map entry_of items) (entry_of x ∷ [])
+-- the same where the names are cut to as many as there are entries
+pub fit_cut : (names : List (List ℕ)) (size : ℕ) {k new : Known} {kept : List (List ℕ)} → new ≡ k
+    → kept ≡ outermost size names → size ≡ length new.entries
+    → Fit (outermost (length k.entries) names) k.entries k.blocks → Fit kept new.entries new.blocks
+fit_cut names size {k} {new} {kept} is cut long fit =
+    fit_at {k = k} {new = new} {kept = kept} is
+    (cut ∙ ap (λ n. outermost n names) (long ∙ ap (λ w. length w.entries) is)) fit
 
-pub blocks_more : (blocks : List code_block.Block) (b : code_block.Block)
-    → blocks_from (blocks ++ b ∷ []) ≡ block_of b ∷ blocks_from blocks
-blocks_more blocks b =
-    ap reverse (map-append block_of blocks (b ∷ [])) ∙ reverse-append (map block_of blocks) (block_of b ∷ [])
-
--- a block that begins, if there is memory for it
-pub fit_pushed : (t : Bool) (names : List (List ℕ)) (es : List Entry) (ends : Option (List Entry))
-    (old new : List code_block.Block) (b : code_block.Block) → new ≡ cond t (old ++ b ∷ []) old
-    → block_of b ≡ record { start = es; ends = ends } → EndsFit es ends → Fit names es (blocks_from old)
-    → Fit names es (blocks_from new)
-fit_pushed true names es ends old new b is begins fits fit =
-    fit_along refl refl (ap blocks_from is ∙ blocks_more old b ∙ ap (λ k. k ∷ blocks_from old) begins)
-    (fit_begun names es ends (blocks_from old) fits fit)
-fit_pushed false names es ends old new b is begins fits fit = fit_along refl refl (ap blocks_from is) fit
+-- ---- what comes of a call
 
 pub on_ok : {A E : Type 0} {P : Type 0} (r : Result A E) → is_err r ≡ false → OnOk r P → P
 on_ok (Ok x) is p = p
 on_ok (Err e) is p = absurd (cc)
 
--- what is known after a block
-pub unwrapped : (ends : Option (Vec code_entry.Entry Global)) (start : Vec code_entry.Entry Global)
-    → entries_from (unwrap_or ends start).items
-    ≡ unwrap_or (option_map (λ (v : Vec code_entry.Entry Global). entries_from v.items) ends) (entries_from start.items)
-unwrapped None start = refl
-unwrapped (Some v) start = refl
+pub in_both : {A E : Type 0} {P Q R : Type 0} (r : Result A E) → OnOk r P → OnErr r Q → (P → R) → (Q → R) → R
+in_both (Ok x) ok err f g = f ok
+in_both (Err e) ok err f g = g err
 
--- a block goes on whose branch has ended
-pub fit_again : (names : List (List ℕ)) (old new : Known) (b : code_block.Block) (end : List code_entry.Entry)
-    (after : Block) → IsTakenFrom old new b end → AreNested old.entries old.blocks
-    → after.start ≡ (block_of b).start
-    → (AreNested (entries_from end) (block_of b ∷ new.blocks) → EndsFit (block_of b).start after.ends)
-    → Fit names new.entries new.blocks → Fit names new.entries (after ∷ new.blocks)
-fit_again names old new b end after taken nested start fits fit =
-    let here = subst (λ es. AreNested es (block_of b ∷ new.blocks)) (sym taken.ends)
-    (subst (AreNested old.entries) taken.blocks nested) in
-    let ends = subst (λ es. EndsFit es after.ends) (sym taken.start) (fits here) in
-    fit_along refl refl (λ i. record { start = (start ∙ sym taken.start) i; ends = after.ends } ∷ new.blocks)
-    (fit_begun names new.entries after.ends new.blocks ends fit)
+pub if_ok : {A E : Type 0} {P Q : Type 0} (r : Result A E) → OnOk r P → (P → Q) → OnOk r Q
+if_ok (Ok x) ok f = f ok
+if_ok (Err e) ok f = ok
 
--- the same of the program's scope, from which the block was taken and to which it comes back
-pub fit_next : (old new : code_scope.Scope) (b after : code_block.Block) (end : List code_entry.Entry)
-    (blocks : List code_block.Block) → blocks ≡ new.blocks.items ++ after ∷ []
-    → IsTakenFrom (known_of old) (known_of new) b end → (block_of after).start ≡ (block_of b).start
-    → (AreNested (entries_from end) (block_of b ∷ blocks_of new) → EndsFit (block_of b).start (block_of after).ends)
-    → Fit (names_from new.names.rows.items) (entries_of new) (blocks_from blocks)
-fit_next old new b after end blocks is taken start fits =
-    fit_along refl refl (ap blocks_from is ∙ blocks_more new.blocks.items after)
-    (fit_again (names_from new.names.rows.items) (known_of old) (known_of new) b end (block_of after) taken old.nested
-    start fits (fit_of new))
+pub some_of : {n : ℕ} → nat_eq n 0 ≡ false → 0 < n
+some_of {n} is = grind (arith, nat_tests)
 
+-- ---- what is known after a move of what the program tracks
+
+known_after : (new : code_tracked.Tracked) (t : Tracked) (k : Known) → tracked_of new ≡ t → Follows t k
+    → known_by new ≡ k
+known_after new t k is follows =
+    ap known_in is ∙ (λ i. record { entries = follows.entries i; blocks = follows.blocks i })
+
+module _ (old new : code_tracked.Tracked) where
+  abbrev was : Tracked
+  was = tracked_of old
+
+  pub put_known : (n : ℕ) (m : Meaning) → tracked_of new ≡ put n m was
+      → known_by new ≡ record { entries = changed_to m n (known_by old).entries; blocks = (known_by old).blocks }
+  put_known n m is = known_after new (put n m was)
+      (record { entries = changed_to m n (known_by old).entries; blocks = (known_by old).blocks }) is
+      (put_follows n m was old.tracked)
+
+  pub start_known : (n : ℕ) (m : Meaning) → tracked_of new ≡ put_start n m was
+      → known_by new ≡ changed_start m n (known_by old).entries (known_by old).blocks
+  start_known n m is = known_after new (put_start n m was)
+      (changed_start m n (known_by old).entries (known_by old).blocks) is (start_follows n m was old.tracked)
+
+  pub begun_known : (ended : Bool) → tracked_of new ≡ begun ended was
+      → known_by new ≡ begin_with ended (known_by old)
+  begun_known ended is =
+      known_after new (begun ended was) (begin_with ended (known_by old)) is (begun_follows ended was old.tracked)
+
+  pub next_known : tracked_of new ≡ next_in was.slots was.blocks → known_by new ≡ next (known_by old)
+  next_known is = known_after new (next_in was.slots was.blocks) (next (known_by old)) is
+      (next_follows was.slots was.blocks old.tracked)
+
+  pub component_known : (numbers : List ℕ) → tracked_of new ≡ component_in numbers was.slots was.blocks
+      → known_by new ≡ next_component numbers (known_by old)
+  component_known numbers is = known_after new (component_in numbers was.slots was.blocks)
+      (next_component numbers (known_by old)) is (component_follows numbers was.slots was.blocks old.tracked)
+
+  pub end_known : tracked_of new ≡ ended_in was.slots was.blocks → known_by new ≡ end (known_by old)
+  end_known is = known_after new (ended_in was.slots was.blocks) (end (known_by old)) is
+      (end_follows was.slots was.blocks old.tracked)
+
+  pub declared_known : (e : Entry) → tracked_of new ≡ declared e was
+      → known_by new ≡ record { entries = e ∷ (known_by old).entries; blocks = (known_by old).blocks }
+  declared_known e is = known_after new (declared e was)
+      (record { entries = e ∷ (known_by old).entries; blocks = (known_by old).blocks }) is
+      (declared_follows e was old.tracked)
+
+  pub cut_known : (count : ℕ) → begun_with (known_by old).blocks ≤ count → tracked_of new ≡ cut count was
+      → known_by new
+      ≡ record { entries = outermost count (known_by old).entries; blocks = (known_by old).blocks }
+  cut_known count least is = known_after new (cut count was)
+      (record { entries = outermost count (known_by old).entries; blocks = (known_by old).blocks }) is
+      (cut_follows count was old.tracked least)
+
+excluded_by : (condition : Expression) (n : ℕ) (m : Meaning) (es : List Entry) (bs : List Block) → 0 < length bs
+    → BeginsHere es bs → narrow es condition false ≡ changed_to m n es
+    → changed_start m n es bs ≡ exclude_from condition es bs
+excluded_by condition n m es [] some begins is = absurd (omega arith)
+excluded_by condition n m es (b ∷ bs) some begins is = λ i. record {
+  entries = (sym is ∙ ap (λ ks. narrow ks condition false) (sym begins)) i;
+  blocks = record { start = (ap (changed_to m n) begins ∙ sym is) i; ends = b.ends } ∷ bs;
+}
+
+blocks_long : (ss : List Slot) (bs : List Branching) → length (blocks_in ss bs) ≡ length bs
+blocks_long ss [] = refl
+blocks_long ss (b ∷ bs) = ap suc (blocks_long (before b ss) bs)
+
+-- where a condition narrows a scalar, it is excluded for the further branches too
+pub excluded_known : (old new : code_tracked.Tracked) (condition : Expression) (n : ℕ) (m : Meaning)
+    → 0 < length old.blocks.items → BeginsHere (known_by old).entries (known_by old).blocks
+    → narrow (known_by old).entries condition false ≡ changed_to m n (known_by old).entries
+    → tracked_of new ≡ put_start n m (tracked_of old) → known_by new ≡ excluding condition (known_by old)
+excluded_known old new condition n m some begins is moved =
+    let t = tracked_of old in
+    let long = blocks_long t.slots t.blocks in
+    let same = branchings_long old.blocks.items in
+    start_known old new n m moved
+    ∙ excluded_by condition n m (known_by old).entries (known_by old).blocks (omega arith) begins is
+
+-- the branch that begins after another
 pub begins_next : (es : List Entry) (bs : List Block) → BeginsHere (next_from es bs).entries (next_from es bs).blocks
 begins_next es [] = tt
 begins_next es (b ∷ bs) = refl
-
--- The innermost block is the one that is taken, and its branches began with the entries before a change of ranges.
-pub start_alike : (es ds : List Entry) (b : code_block.Block) (bs : List Block) (all rest : List code_block.Block)
-    → BeginsHere es bs → blocks_from all ≡ bs → all ≡ rest ++ b ∷ [] → shape ds ≡ shape es
-    → shape (block_of b).start ≡ shape ds
-start_alike es ds b bs all rest begins same is alike =
-    let start : (block_of b).start ≡ es =
-    subst (BeginsHere es) (sym same ∙ ap blocks_from is ∙ blocks_more rest b) begins in
-    ap shape start ∙ sym alike

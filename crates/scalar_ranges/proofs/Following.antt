@@ -11,7 +11,8 @@ use Rattle.scalar_ranges.specs.Environments.{item_at}
 use Rattle.scalar_ranges.specs.Moves.{outermost, at_number, with_meaning, hull_meaning, hulls}
 use Rattle.scalar_ranges.specs.Moves.{ends_with, end_of, next}
 use Rattle.scalar_ranges.specs.Changes.{Slot, Branching, Tracked, entry_in, start_in, end_in, undone}
-use Rattle.scalar_ranges.specs.Changes.{before, seen, ends_seen, block_in, blocks_in, numbers_of, AreListed}
+use Rattle.scalar_ranges.specs.Changes.{before, seen, ends_seen, begin_with, known_in, block_in, blocks_in, numbers_of}
+use Rattle.scalar_ranges.specs.Changes.{AreListed}
 use Rattle.scalar_ranges.specs.Changes.{AreUpTo, unmarked, AreTracked, note, with_new, put, begun, joined, restarted}
 use Rattle.scalar_ranges.specs.Changes.{each, next_slots, next_in, Follows}
 use Rattle.scalar_ranges.proofs.Numbered.{map_modify, reverse_modify, reverse_take}
@@ -61,11 +62,8 @@ all_unmarked d (s ∷ ss) = at_most (nat_eq s.mark d) (unmarked d ss) (length ss
 whole : (ss : List Slot) → take (length ss) ss ≡ ss
 whole ss = take_all (length ss) ss (omega arith)
 
-pub begun_follows : (ended : Bool) (t : Tracked) → AreTracked t.slots t.blocks → Follows (begun ended t) (record {
-  entries = seen entry_in t.slots;
-  blocks = record { start = seen entry_in t.slots; ends = ends_seen ended (seen entry_in t.slots) }
-      ∷ blocks_in t.slots t.blocks;
-})
+pub begun_follows : (ended : Bool) (t : Tracked) → AreTracked t.slots t.blocks
+    → Follows (begun ended t) (begin_with ended (known_in t))
 begun_follows ended t tracked =
     let d = length t.blocks in
     let all = whole t.slots in

@@ -14,8 +14,6 @@ pub mod Nesting
 pub mod Fitting
 pub mod Widening
 pub mod Named
-pub mod Joining
-pub mod Taking
 pub mod Numbered
 pub mod Tracking
 pub mod Following

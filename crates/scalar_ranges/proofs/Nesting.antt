@@ -2,9 +2,13 @@
 use Rattle.std.proofs.Common.{◌≡◌, ℕ, suc, ◌≤◌, Bool, true, false, cond, List, [], ◌∷◌, length, refl, sym, ap}
 use Rattle.std.proofs.Common.{Option, Some, None, subst, arith, ◌∙◌, nat_lt, unwrap_or, option_map}
 use Rattle.std.proofs.lemmas.Bool.Decides.{nat_tests}
+use Rattle.occam_parser.specs.Expressions.{Expression}
 use Rattle.scalar_ranges.specs.Entries.{Entry}
 use Rattle.scalar_ranges.specs.Moves.{outermost, Block, begun_with, taken, ends_with, end_of}
-use Rattle.scalar_ranges.specs.Moves.{component_end}
+use Rattle.scalar_ranges.specs.Moves.{component_end, next_from, component_from, after_block, exclude_from}
+use Rattle.scalar_ranges.specs.Narrowing.{narrow}
+use Rattle.scalar_ranges.specs.Changes.{ends_seen}
+use Rattle.scalar_ranges.specs.Scopes.{BeginsHere}
 use Rattle.scalar_ranges.specs.MoveLaws.{shape}
 use Rattle.scalar_ranges.specs.Nesting.{names_of, EndsFit, AreNested, NestedEndsHold}
 use Rattle.scalar_ranges.proofs.Found.{none_less}
@@ -139,6 +143,15 @@ fit_begun names es ends bs fits fit = record {
   nested = (ap shape (sym (none_less (length es) es (omega arith))), fits, fit.nested);
 }
 
+seen_fit : (ended : Bool) (es : List Entry) → EndsFit es (ends_seen ended es)
+seen_fit true es = refl
+seen_fit false es = tt
+
+-- a block begins
+pub fit_entered : (ended : Bool) (names : List (List ℕ)) (es : List Entry) (bs : List Block) → Fit names es bs
+    → Fit names es (record { start = es; ends = ends_seen ended es } ∷ bs)
+fit_entered ended names es bs fit = fit_begun names es (ends_seen ended es) bs (seen_fit ended es) fit
+
 -- the innermost block is taken
 pub fit_taken : (names : List (List ℕ)) (es : List Entry) (b : Block) (bs : List Block) → Fit names es (b ∷ bs)
     → Fit (outermost (length b.start) names) b.start bs
@@ -184,6 +197,44 @@ component_fit ns es b bs nested = taken_fit ns b.start (end_of b es) b.ends nest
 pub long_alike : (ds es : List Entry) → shape ds ≡ shape es → length ds ≡ length es
 long_alike ds es same = sym (shape_long ds) ∙ ap length same ∙ shape_long es
 
+-- where there is no block, all names are left
+whole_fit : (names : List (List ℕ)) (es : List Entry) → Fit names es [] → Fit (outermost (length es) names) es []
+whole_fit names es fit =
+    let long = names_long es in
+    let same = ap length fit.named in
+    fit_along (none_less (length es) names (omega arith)) refl refl fit
+
+-- a branch ends, and the next one begins
+turned_fit : (names : List (List ℕ)) (es : List Entry) (ends : Option (List Entry)) (b : Block) (bs : List Block)
+    → EndsFit b.start ends → Fit names es (b ∷ bs)
+    → Fit (outermost (length b.start) names) b.start (record { start = b.start; ends = ends } ∷ bs)
+turned_fit names es ends b bs fits fit =
+    fit_begun (outermost (length b.start) names) b.start ends bs fits (fit_taken names es b bs fit)
+
+pub fit_next : (names : List (List ℕ)) (es : List Entry) (bs : List Block) → Fit names es bs
+    → Fit (outermost (length (next_from es bs).entries) names) (next_from es bs).entries (next_from es bs).blocks
+fit_next names es [] fit = whole_fit names es fit
+fit_next names es (b ∷ bs) fit =
+    turned_fit names es (Some (ends_with b.ends (end_of b es))) b bs (ends_fit es b bs fit.nested) fit
+
+pub fit_component : (ns : List ℕ) (names : List (List ℕ)) (es : List Entry) (bs : List Block) → Fit names es bs
+    → Fit (outermost (length (component_from ns es bs).entries) names) (component_from ns es bs).entries
+    (component_from ns es bs).blocks
+fit_component ns names es [] fit = whole_fit names es fit
+fit_component ns names es (b ∷ bs) fit =
+    turned_fit names es (component_end ns b es) b bs (component_fit ns es b bs fit.nested) fit
+
+-- the branches from here on begin where a condition does not hold
+pub fit_excluded : (condition : Expression) (names : List (List ℕ)) (es : List Entry) (bs : List Block)
+    → BeginsHere es bs → Fit names es bs
+    → Fit names (exclude_from condition es bs).entries (exclude_from condition es bs).blocks
+fit_excluded condition names es [] begins fit = fit
+fit_excluded condition names es (b ∷ bs) begins fit =
+    let here = narrow es condition false in
+    let alike = shapes_stay.narrowing es condition false in
+    fit_along refl (ap (λ ks. narrow ks condition false) begins) refl
+    (fit_restarted names here b bs (ap shape begins ∙ sym alike) (fit_alike names here es (b ∷ bs) alike fit))
+
 ended_by : (names : List (List ℕ)) (start : List Entry) (ends : Option (List Entry)) (bs : List Block)
     → EndsFit start ends → Fit (outermost (length start) names) start bs
     → Fit (outermost (length (unwrap_or ends start)) names) (unwrap_or ends start) bs
@@ -193,9 +244,10 @@ ended_by names start (Some ds) bs fits fit =
     (fit_alike (outermost (length start) names) ds start bs fits fit)
 
 -- the innermost block ends
-pub fit_ended : (names : List (List ℕ)) (es : List Entry) (b : Block) (bs : List Block) → Fit names es (b ∷ bs)
-    → Fit (outermost (length (unwrap_or b.ends b.start)) names) (unwrap_or b.ends b.start) bs
-fit_ended names es b bs fit = ended_by names b.start b.ends bs fit.nested.1 (fit_taken names es b bs fit)
+pub fit_ended : (names : List (List ℕ)) (es : List Entry) (bs : List Block) → Fit names es bs
+    → Fit (outermost (length (after_block es bs).entries) names) (after_block es bs).entries (after_block es bs).blocks
+fit_ended names es [] fit = whole_fit names es fit
+fit_ended names es (b ∷ bs) fit = ended_by names b.start b.ends bs fit.nested.1 (fit_taken names es b bs fit)
 
 -- ---- the law
 

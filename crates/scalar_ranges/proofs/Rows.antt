@@ -1,26 +1,14 @@
 -- The program has the outermost entry first, and the definitions have it last.
-use Rattle.std.proofs.Common.{◌≡◌, ℕ, zero, suc, ◌-◌, ◌<◌, ◌≤◌, Bool, true, false, cond, List, [], ◌∷◌, ◌++◌, length}
-use Rattle.std.proofs.Common.{map, take, set, Some, None}
-use Rattle.std.proofs.Common.{get_or, refl, sym, ap, arith, ◌∙◌, nat_eq, nat_lt}
+use Rattle.std.proofs.Common.{◌≡◌, ℕ, suc, ◌<◌, ◌≤◌, Bool, true, false, cond, List, [], ◌∷◌, ◌++◌, length}
+use Rattle.std.proofs.Common.{Some, None, refl, ap, arith, ◌∙◌, nat_eq, nat_lt}
 use Rattle.std.proofs.lemmas.Bool.Decides.{nat_tests}
-use Rattle.std.proofs.lemmas.List.{reverse-append, get_or-reverse, get_or-map, length-map}
-use Rattle.scalar_ranges.specs.declared.scope.Entry as code_entry
 use Rattle.scalar_ranges.specs.Entries.{Entry}
-use Rattle.scalar_ranges.specs.Scopes.{meaning_of, entry_of, entries_from}
 use Rattle.scalar_ranges.specs.Moves.{outermost, at_number}
 use Rattle.scalar_ranges.specs.MoveLaws.{meaning_at}
-
-pub entries_cons : (x : code_entry.Entry) (xs : List code_entry.Entry)
-    → entries_from (x ∷ xs) ≡ entries_from xs ++ entry_of x ∷ []
-entries_cons x xs = reverse-append (entry_of x ∷ []) (map entry_of xs)
 
 pub one_longer : {A : Type 0} (ys : List A) (y : A) → length (ys ++ y ∷ []) ≡ suc (length ys)
 one_longer [] y = refl
 one_longer (x ∷ xs) y = ap suc (one_longer xs y)
-
-pub as_many : (xs : List code_entry.Entry) → length (entries_from xs) ≡ length xs
-as_many [] = refl
-as_many (x ∷ xs) = ap length (entries_cons x xs) ∙ one_longer (entries_from xs) (entry_of x) ∙ ap suc (as_many xs)
 
 -- ---- tests
 
@@ -62,33 +50,6 @@ cut_last count (x ∷ xs) y =
     (ap (λ n. nat_lt n (suc count)) (one_longer xs y) ∙ lt_suc (length xs) count)
     ∙ cut_by (nat_lt (length xs) count) count x xs y (cut_last count xs y)
 
-pub entries_cut : (items : List code_entry.Entry) (count : ℕ)
-    → entries_from (take count items) ≡ outermost count (entries_from items)
-entries_cut [] zero = refl
-entries_cut [] (suc count) = refl
-entries_cut (x ∷ xs) zero = sym (cut_none (entries_from (x ∷ xs)))
-entries_cut (x ∷ xs) (suc count) = entries_cons x (take count xs)
-    ∙ ap (λ ys. ys ++ entry_of x ∷ []) (entries_cut xs count)
-    ∙ sym (cut_last count (entries_from xs) (entry_of x)) ∙ ap (outermost (suc count)) (sym (entries_cons x xs))
-
--- the entry at a place, in the program's order
-pub entry_at_place : (items : List code_entry.Entry) (place : ℕ) (d : code_entry.Entry) → place < length items
-    → get_or (entries_from items) place (entry_of d) ≡ entry_of (get_or items (length items - 1 - place) d)
-entry_at_place items place d less =
-    let long = length-map items entry_of in
-    let within : place < length (map entry_of items) = omega arith in
-    let inside : length items - 1 - place < length items = omega arith in
-    get_or-reverse (map entry_of items) place (entry_of d) within
-    ∙ ap (λ n. get_or (map entry_of items) (n - 1 - place) (entry_of d)) long
-    ∙ get_or-map entry_of items (length items - 1 - place) d (entry_of d) inside
-
--- what the end of a branch has of the entries with which it began
-pub entries_begun : (start items kept : List code_entry.Entry) (count : ℕ) → count ≡ length start
-    → kept ≡ take count items → entries_from kept ≡ outermost (length (entries_from start)) (entries_from items)
-entries_begun start items kept count size is =
-    ap entries_from is ∙ entries_cut items count
-    ∙ ap (λ n. outermost n (entries_from items)) (size ∙ sym (as_many start))
-
 -- ---- one of them
 
 pub same_number : (a b : ℕ) → a ≡ b → nat_eq a b ≡ true
@@ -122,21 +83,6 @@ at_further f n (x ∷ xs) y =
     (ap (λ k. nat_eq k (suc n)) (one_longer xs y) ∙ eq_suc (length xs) n)
     ∙ at_by (nat_eq (length xs) n) f n x xs y (at_further f n xs y)
 
--- an entry of the program that is changed
-pub entries_changed : (f : Entry → Entry) (items : List code_entry.Entry) (n : ℕ) (x d e : code_entry.Entry)
-    → n < length items → x.name.now ≡ (f (entry_of (get_or items n d))).name
-    → meaning_of x.meaning ≡ (f (entry_of (get_or items n e))).meaning
-    → entries_from (set items n x) ≡ at_number f n (entries_from items)
-entries_changed f [] n x d e less named means = absurd (omega arith)
-entries_changed f (y ∷ ys) zero x d e less named means =
-    entries_cons x ys
-    ∙ (λ i. entries_from ys ++ record { name = named i; meaning = means i } ∷ [])
-    ∙ sym (at_last f (entries_from ys) (entry_of y)) ∙ ap (at_number f 0) (sym (entries_cons y ys))
-entries_changed f (y ∷ ys) (suc n) x d e less named means =
-    entries_cons y (set ys n x)
-    ∙ ap (λ es. es ++ entry_of y ∷ []) (entries_changed f ys n x d e (omega arith) named means)
-    ∙ sym (at_further f n (entries_from ys) (entry_of y)) ∙ ap (at_number f (suc n)) (sym (entries_cons y ys))
-
 not_at : {A : Type 0} (t : Bool) (f : A → A) (n : ℕ) (x : A) (xs : List A) → t ≡ false → at_number f n xs ≡ xs
     → cond t (f x ∷ xs) (x ∷ at_number f n xs) ≡ x ∷ xs
 not_at true f n x xs is h = absurd (cc)
@@ -147,10 +93,6 @@ pub none_at : {A : Type 0} (f : A → A) (n : ℕ) (xs : List A) → length xs �
 none_at f n [] least = refl
 none_at f n (x ∷ xs) least =
     not_at (nat_eq (length xs) n) f n x xs (higher_number (length xs) n (omega arith)) (none_at f n xs (omega arith))
-
-pub no_entry : (f : Entry → Entry) (n : ℕ) (items : List code_entry.Entry) → length items ≤ n
-    → entries_from items ≡ at_number f n (entries_from items)
-no_entry f n items least = sym (none_at f n (entries_from items) (let e = as_many items in omega arith))
 
 -- what an item means
 pub meaning_last : (ys : List Entry) (y : Entry) → meaning_at 0 (ys ++ y ∷ []) ≡ Some y.meaning

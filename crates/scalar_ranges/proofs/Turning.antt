@@ -1,5 +1,5 @@
 -- What the program makes of its slots and blocks is the move that the definitions make of them.
-use Rattle.std.proofs.Common.{◌≡◌, ℕ, suc, Bool, true, false, cond, List, [], ◌∷◌, ◌++◌, length, map, take, sym, ap}
+use Rattle.std.proofs.Common.{◌≡◌, ℕ, Bool, true, false, cond, List, [], ◌∷◌, ◌++◌, length, map, take, sym, ap}
 use Rattle.std.proofs.Common.{subst, ◌∙◌}
 use Rattle.std.proofs.lemmas.List.{take-map, map-append}
 use Rattle.scalar_ranges.specs.declared.changes.Tracked as code_tracked

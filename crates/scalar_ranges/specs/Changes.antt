@@ -71,6 +71,13 @@ abbrev pub ends_seen : Bool → List Entry → Option (List Entry)
 ends_seen false es = None
 ends_seen true es = Some es
 
+-- a block begins, and has ends if it is a PAR
+abbrev pub begin_with : Bool → Known → Known
+begin_with ended k = record {
+  entries = k.entries;
+  blocks = record { start = k.entries; ends = ends_seen ended k.entries } ∷ k.blocks;
+}
+
 abbrev pub block_in : ℕ → Branching → List Slot → Block
 block_in d b ss = record {
   start = seen (start_in d) (take b.count ss);

@@ -16,7 +16,6 @@ pub mod TrackedViews
 pub mod Scopes
 pub mod Naming
 pub mod Nesting
-pub mod Taken
 pub mod Tests
 pub mod Laws
 pub mod MoveLaws

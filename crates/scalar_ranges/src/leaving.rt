@@ -1,7 +1,7 @@
 //! Scopes that are left.
 
 ghost use Rattle.std.specs.Prelude.{◌≡◌, length};
-ghost use Rattle.scalar_ranges.specs.Moves.{begun_with, leave};
+ghost use Rattle.scalar_ranges.specs.Moves.{leave};
 ghost use Rattle.scalar_ranges.specs.Scopes.{entries_of, blocks_of};
 
 use crate::scope::Scope;
@@ -11,7 +11,7 @@ impl Scope<'_> {
     pub fn len(&self) -> usize
         ensures { result ≡ length (entries_of self.now) }
     {
-        self.entries.len()
+        self.known.len()
     }
 
     /// Leaves the scopes that were entered since there were so many entries. What the branches of the innermost block
@@ -20,18 +20,8 @@ impl Scope<'_> {
         ensures entries { entries_of self.new ≡ leave count (blocks_of self.old) (entries_of self.old) }
         ensures blocks { blocks_of self.new ≡ blocks_of self.old }
     {
-        let count = count.max(self.begun_with());
+        let count = count.max(self.known.begun_with());
         self.names.truncate(count);
-        self.entries.truncate(count);
-    }
-
-    /// How many entries the branches of the innermost block begin with.
-    fn begun_with(&self) -> usize
-        ensures { result ≡ begun_with (blocks_of self.now) }
-    {
-        match self.blocks.last() {
-            None => 0,
-            Some(block) => block.start.len(),
-        }
+        self.known.cut(count);
     }
 }

@@ -3,6 +3,9 @@
 ghost use Rattle.std.specs.Prelude.{◌≡◌};
 ghost use Rattle.word_arithmetic.specs.Range.{ends_of};
 ghost use Rattle.scalar_ranges.specs.Moves.{at_number, with_meaning, assigned, assign, widened, widen};
+ghost use Rattle.scalar_ranges.specs.Moves.{hull_meaning};
+ghost use Rattle.scalar_ranges.specs.MoveLaws.{shape};
+ghost use Rattle.scalar_ranges.specs.Changes.{changed_to};
 ghost use Rattle.scalar_ranges.specs.Scopes.{meaning_of, entries_of, blocks_of};
 
 use crate::bounds::type_range;
@@ -15,8 +18,8 @@ impl Scope<'_> {
         ensures entries { entries_of self.new ≡ assign number (ends_of range) (entries_of self.old) }
         ensures blocks { blocks_of self.new ≡ blocks_of self.old }
     {
-        if number < self.entries.len() {
-            self.entries[number].meaning = assigned(range, self.entries[number].meaning);
+        if let Some(meaning) = self.known.meaning(number) {
+            self.put(number, assigned(range, meaning));
         }
     }
 
@@ -25,9 +28,18 @@ impl Scope<'_> {
         ensures entries { entries_of self.new ≡ at_number (with_meaning widened) number (entries_of self.old) }
         ensures blocks { blocks_of self.new ≡ blocks_of self.old }
     {
-        if number < self.entries.len() {
-            self.entries[number].meaning = widened(self.entries[number].meaning);
+        if let Some(meaning) = self.known.meaning(number) {
+            self.put(number, widened(meaning));
         }
+    }
+
+    /// The entry with this number means something else, but for ranges the same.
+    pub(crate) fn put(&mut self, number: usize, meaning: Meaning)
+        requires { shape (changed_to (meaning_of meaning) number (entries_of self.old)) ≡ shape (entries_of self.old) }
+        ensures entries { entries_of self.new ≡ changed_to (meaning_of meaning) number (entries_of self.old) }
+        ensures blocks { blocks_of self.new ≡ blocks_of self.old }
+    {
+        self.known.put(number, meaning);
     }
 
     /// Each of the variables with these numbers was changed to any number of its type.
@@ -66,5 +78,26 @@ fn widened(meaning: Meaning) -> Meaning
     match meaning {
         Meaning::Scalar { value_type, .. } => assigned(type_range(value_type), meaning),
         other => other,
+    }
+}
+
+/// The hull of both ranges of a scalar.
+pub(crate) fn hull_meaning(first: Meaning, second: Meaning) -> Meaning
+    ensures { meaning_of result ≡ hull_meaning (meaning_of first) (meaning_of second) }
+{
+    match (first, second) {
+        (
+            Meaning::Scalar {
+                kind,
+                value_type,
+                range,
+            },
+            Meaning::Scalar { range: other, .. },
+        ) => Meaning::Scalar {
+            kind,
+            value_type,
+            range: range.hull(other),
+        },
+        _ => first,
     }
 }

@@ -49,7 +49,7 @@ impl<'a> Names<'a> {
     }
 
     /// The innermost declaration is left, if there is one.
-    fn pop(&mut self)
+    pub(crate) fn pop(&mut self)
         ensures { names_from self.new.rows.items ≡ without_first (names_from self.old.rows.items) }
     {
         if let Some(row) = self.rows.pop() {

@@ -4,9 +4,9 @@ ghost use Rattle.std.specs.Prelude.{◌≡◌, option_map};
 ghost use Rattle.word_arithmetic.specs.Range.{ends_of};
 ghost use Rattle.occam_parser.specs.Views.{expression_of, term_of};
 ghost use Rattle.scalar_ranges.specs.Narrowing.{is_narrowed, constant_in, tested, turned, as_holds, test_of};
-ghost use Rattle.scalar_ranges.specs.Narrowing.{left_of, with_range, changed, narrow};
+ghost use Rattle.scalar_ranges.specs.Narrowing.{left_of, with_range, narrow};
 ghost use Rattle.scalar_ranges.specs.Scopes.{meaning_of, entries_of, blocks_of};
-ghost use Rattle.scalar_ranges.specs.Tests.{tested_of};
+ghost use Rattle.scalar_ranges.specs.Tests.{tested_of, changed_by};
 
 use crate::bounds::Bound;
 use crate::reading::read_operand;
@@ -28,26 +28,21 @@ pub fn narrow_by(scope: &mut Scope, condition: &Expr, holds: bool)
     ensures entries { entries_of scope.new ≡ narrow (entries_of scope.old) (expression_of condition.now) holds }
     ensures blocks { blocks_of scope.new ≡ blocks_of scope.old }
 {
-    if let Some(test) = test_of(scope, condition) {
-        let comparison = as_holds(holds, test.comparison);
-        scope.narrow_name(test.name, comparison, test.constant);
+    if let Some((number, meaning)) = narrowed_by(scope, condition, holds) {
+        scope.put(number, meaning);
     }
 }
 
-impl Scope<'_> {
-    /// The innermost scalar of this name compares so with a constant.
-    fn narrow_name(&mut self, name: &[u8], comparison: Comparison, constant: i32)
-        ensures entries { entries_of self.new ≡ changed (left_of comparison constant) name.now (entries_of self.old) }
-        ensures blocks { blocks_of self.new ≡ blocks_of self.old }
-    {
-        if let Some(number) = self.find(name) {
-            self.entries[number].meaning = narrowed(
-                self.entries[number].meaning,
-                comparison,
-                constant,
-            );
-        }
-    }
+/// The number of the scalar that a condition with this truth narrows, and what it means then.
+pub(crate) fn narrowed_by(scope: &Scope, condition: &Expr, holds: bool) -> Option<(usize, Meaning)>
+    ensures { narrow (entries_of scope.now) (expression_of condition.now) holds
+        ≡ changed_by result (entries_of scope.now) }
+{
+    let test = test_of(scope, condition)?;
+    let number = scope.find(test.name)?;
+    let meaning = scope.known.meaning(number)?;
+    let comparison = as_holds(holds, test.comparison);
+    Some((number, narrowed(meaning, comparison, test.constant)))
 }
 
 /// What a condition says, if it is exactly a scalar and a constant with a comparison between them.

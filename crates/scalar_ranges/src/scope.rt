@@ -2,10 +2,12 @@
 
 ghost use Rattle.std.specs.Prelude.{◌≡◌, [], ◌∷◌, option_map, OnOk, OnErr};
 ghost use Rattle.scalar_ranges.specs.Entries.{meaning_in, number_in};
-ghost use Rattle.scalar_ranges.specs.EntryViews.{meaning_of, entry_of, entries_from};
+ghost use Rattle.scalar_ranges.specs.EntryViews.{meaning_of, entry_of};
 ghost use Rattle.scalar_ranges.specs.Naming.{names_from};
+ghost use Rattle.scalar_ranges.specs.TrackedViews.{known_by};
 ghost use Rattle.scalar_ranges.specs.Nesting.{names_of, FitTogether, FitTogether-prop};
 
+use crate::changes::Tracked;
 use crate::names::Names;
 use occam_parser::ValueType;
 use std::alloc::{AllocFailed, Global};
@@ -78,23 +80,13 @@ pub struct Entry<'a> {
 #[derive(Drop)]
 pub struct Scope<'a> {
     pub(crate) alloc: Global,
-    pub(crate) entries: Vec<Entry<'a>>,
+    /// The entries, and the blocks of branches around.
+    pub(crate) known: Tracked<'a>,
     /// Where each name is among the entries.
     pub(crate) names: Names<'a>,
-    /// The blocks of branches around, the innermost one last.
-    pub(crate) blocks: Vec<Block<'a>>,
-    ghost named: { names_from names.rows.items ≡ names_of (entries_from entries.items) },
+    ghost named: { names_from names.rows.items ≡ names_of (known_by known).entries },
     /// Each block begins with the outermost of the entries in it, and each of its ends is such entries, but for ranges.
-    pub ghost nested: { FitTogether entries.items blocks.items } by { FitTogether-prop entries.items blocks.items },
-}
-
-/// A block of branches.
-#[derive(Drop)]
-pub(crate) struct Block<'a> {
-    /// What is known where each branch begins.
-    pub(crate) start: Vec<Entry<'a>>,
-    /// What is known after the branches that have ended, if one has.
-    pub(crate) ends: Option<Vec<Entry<'a>>>,
+    pub ghost nested: { FitTogether known } by { FitTogether-prop known },
 }
 
 impl<'a> Scope<'a> {
@@ -107,9 +99,8 @@ impl<'a> Scope<'a> {
     {
         Scope {
             alloc,
-            entries: Vec::new(alloc),
+            known: Tracked::new(alloc),
             names: Names::new(alloc),
-            blocks: Vec::new(alloc),
         }
     }
 
@@ -119,13 +110,13 @@ impl<'a> Scope<'a> {
         ensures err { OnErr result (entries_of self.new ≡ entries_of self.old) }
         ensures blocks { blocks_of self.new ≡ blocks_of self.old }
     {
-        if self.entries.reserve(1).is_err() {
-            return Err(AllocFailed { value: entry });
-        }
         if self.names.push(entry.name).is_err() {
             return Err(AllocFailed { value: entry });
         }
-        self.entries.push_reserved(entry);
+        if self.known.declare(entry).is_err() {
+            self.names.pop();
+            return Err(AllocFailed { value: entry });
+        }
         Ok(())
     }
 
@@ -142,7 +133,7 @@ impl<'a> Scope<'a> {
     {
         match self.find(name) {
             None => None,
-            Some(number) => Some(self.entries[number].meaning),
+            Some(number) => self.known.meaning(number),
         }
     }
 }

@@ -2,7 +2,7 @@
 
 ghost use Rattle.std.specs.Prelude.{◌≤◌, vec_capacity};
 
-use crate::branches::hull_meaning;
+use crate::moves::hull_meaning;
 use crate::scope::{Entry, Meaning};
 
 /// An entry, and what the innermost block has of it that has it in its list.

@@ -1,4 +1,3 @@
-use Rattle.std.proofs.Common.{arith}
 use Rattle.scalar_ranges.specs.ChangeViews.{slots_from}
 use Rattle.scalar_ranges.proofs.SlotLoops.{undo_begins, undo_turn, undo_done}
 use Rattle.scalar_ranges.proofs.changes.undo.Goals as goal

@@ -1,4 +1,4 @@
-use Rattle.std.proofs.Common.{◌≡◌, is_ok, ap, length, ◌∙◌, sym, arith}
+use Rattle.std.proofs.Common.{◌≡◌, is_ok, ap, length, arith}
 use Rattle.std.proofs.lemmas.List.{length-map}
 use Rattle.scalar_ranges.specs.ChangeViews.{slot_of, slots_from, changes_from}
 use Rattle.scalar_ranges.proofs.Turning.{begun_is}

@@ -1,4 +1,4 @@
-use Rattle.std.proofs.Common.{Some, ap, sym, arith, length, ◌≤◌, ◌<◌, ◌∙◌, option_map}
+use Rattle.std.proofs.Common.{ap, sym, arith, length, ◌≤◌, ◌<◌, ◌∙◌, option_map}
 use Rattle.std.proofs.lemmas.List.{length-map}
 use Rattle.scalar_ranges.specs.Changes.{Slot}
 use Rattle.scalar_ranges.specs.ChangeViews.{slot_of, slots_from}

@@ -1,4 +1,4 @@
-use Rattle.std.proofs.Common.{◌≡◌, length, refl, arith, rules}
+use Rattle.std.proofs.Common.{◌≡◌, length, arith, rules}
 use Rattle.std.proofs.lemmas.List.{with_items_is, places}
 use Rattle.scalar_ranges.specs.TrackedViews.{tracked_of}
 use Rattle.scalar_ranges.proofs.Components.{component_follows}

@@ -1,6 +1,5 @@
 use Rattle.std.proofs.Common.{◌≡◌, [], ◌∷◌, length, arith, sym, ap, ◌∙◌, refl}
 use Rattle.std.proofs.lemmas.List.{length-map, map-append}
-use Rattle.scalar_ranges.specs.declared.slots.Change.{Change}
 use Rattle.scalar_ranges.specs.ChangeViews.{slot_of, change_of, changes_from, slots_from, branchings_from}
 use Rattle.scalar_ranges.proofs.Noting.{innermost, new_here, noted}
 use Rattle.scalar_ranges.proofs.Tracking.{notes_well}

@@ -1,7 +1,7 @@
 use Rattle.std.proofs.Common.{rules}
 use Rattle.std.proofs.lemmas.List.{with_items_is, places}
 use Rattle.scalar_ranges.specs.Changes.{with_new, note}
-use Rattle.scalar_ranges.specs.ChangeViews.{meaning_of, slots_from, branchings_from}
+use Rattle.scalar_ranges.specs.ChangeViews.{meaning_of}
 use Rattle.scalar_ranges.specs.TrackedViews.{tracked_of}
 use Rattle.scalar_ranges.proofs.Following.{put_follows}
 use Rattle.scalar_ranges.proofs.Turning.{kept, put_is}

@@ -1,22 +1,16 @@
-use Rattle.std.proofs.Common.{◌≡◌, length, refl, sym, ap, arith, ◌∙◌}
-use Rattle.scalar_ranges.specs.Moves.{outermost}
-use Rattle.scalar_ranges.specs.Scopes.{block_of, entries_from, blocks_from, entries_of}
+use Rattle.scalar_ranges.specs.Scopes.{entries_of, blocks_of}
 use Rattle.scalar_ranges.specs.Naming.{names_from}
-use Rattle.scalar_ranges.proofs.Rows.{as_many}
-use Rattle.scalar_ranges.proofs.Nesting.{fit_along, fit_ended}
-use Rattle.scalar_ranges.proofs.Fitting.{fit_of, blocks_more, unwrapped}
+use Rattle.scalar_ranges.proofs.Nesting.{fit_ended}
+use Rattle.scalar_ranges.proofs.Fitting.{fit_of, fit_cut, end_known}
 use Rattle.scalar_ranges.proofs.scope.Scope.end.Goals as goal
 
 pub invariant_of-self : goal.invariant_of-self
 invariant_of-self c =
     let old = c.args.self.now in
-    let block = c.in-Some.block in
-    let rest = c.pop.new.self.items in
     let names = names_from old.names.rows.items in
-    let blocks = sym (ap blocks_from c.in-Some.ensures.items ∙ blocks_more rest block) in
-    let known = ap (λ v. entries_from v.items) c.unwrap_or-known.ensures ∙ unwrapped block.ends block.start in
-    let many = as_many c.unwrap_or-known.result.items in
-    let size : c.len.result ≡ length (entries_from c.unwrap_or-known.result.items) = omega arith in
-    let fit = fit_along (c.truncate.ensures ∙ ap (λ n. outermost n names) (size ∙ ap length known)) known refl
-    (fit_ended names (entries_of old) (block_of block) (blocks_from rest) (fit_along refl refl blocks (fit_of old))) in
+    let fit = fit_cut names c.len.result (end_known old.known c.end.new.self c.end.ensures) c.truncate.ensures
+    c.len.ensures (fit_ended names (entries_of old) (blocks_of old) (fit_of old)) in
     record { named = fit.named; nested = fit.nested }
+
+pub returns : goal.returns
+returns c = end_known c.args.self.now.known c.end.new.self c.end.ensures

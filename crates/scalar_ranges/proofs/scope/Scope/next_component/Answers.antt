@@ -1,19 +1,19 @@
-use Rattle.std.proofs.Common.{subst, sym}
-use Rattle.scalar_ranges.specs.Scopes.{block_of, entries_from, blocks_of, known_of}
-use Rattle.scalar_ranges.specs.Nesting.{EndsFit}
-use Rattle.scalar_ranges.specs.Taken.{IsTaken}
-use Rattle.scalar_ranges.proofs.Nesting.{component_fit}
-use Rattle.scalar_ranges.proofs.Fitting.{fit_next}
+use Rattle.scalar_ranges.specs.Scopes.{entries_of, blocks_of}
+use Rattle.scalar_ranges.specs.Naming.{names_from}
+use Rattle.scalar_ranges.proofs.Nesting.{fit_component}
+use Rattle.scalar_ranges.proofs.Fitting.{fit_of, fit_cut, component_known}
 use Rattle.scalar_ranges.proofs.scope.Scope.next_component.Goals as goal
 
 pub invariant_of-self : goal.invariant_of-self
 invariant_of-self c =
     let old = c.args.self.now in
-    let new = c.end_branch.new.self in
-    let block = block_of c.in-Some.block in
-    let taken = subst (IsTaken (known_of old) (known_of new)) c.in-Some.is c.in_ok-block.ensures.taken in
-    let fit = fit_next old new c.in-Some.block c.with_component.result c.in-Some.end.items
-    c.push_reserved.new.self.items c.push_reserved.ensures.items taken c.with_component.ensures.start
-    (λ nested. subst (EndsFit block.start) (sym c.with_component.ensures.ends)
-    (component_fit c.args.numbers.now (entries_from c.in-Some.end.items) block (blocks_of new) nested)) in
+    let names = names_from old.names.rows.items in
+    let numbers = c.args.numbers.now in
+    let fit = fit_cut names c.len.result
+    (component_known old.known c.next_component.new.self numbers c.next_component.ensures) c.truncate.ensures
+    c.len.ensures (fit_component numbers names (entries_of old) (blocks_of old) (fit_of old)) in
     record { named = fit.named; nested = fit.nested }
+
+pub returns : goal.returns
+returns c =
+    component_known c.args.self.now.known c.next_component.new.self c.args.numbers.now c.next_component.ensures

@@ -1,34 +1,26 @@
-use Rattle.std.proofs.Common.{◌<◌, ◌≤◌, length, arith, ap, ◌∙◌}
-use Rattle.scalar_ranges.specs.Moves.{with_meaning, widened}
-use Rattle.scalar_ranges.specs.Scopes.{meaning_of, entries_of}
+use Rattle.std.proofs.Common.{ap, sym, ◌∙◌}
 use Rattle.scalar_ranges.specs.Entries.{type_range}
+use Rattle.scalar_ranges.specs.Moves.{with_meaning, widened}
+use Rattle.scalar_ranges.specs.MoveLaws.{shape}
+use Rattle.scalar_ranges.specs.Scopes.{meaning_of, entries_of}
 use Rattle.scalar_ranges.proofs.MoveLaws.{ranged_shape}
-use Rattle.scalar_ranges.proofs.Nesting.{fit_changed}
-use Rattle.scalar_ranges.proofs.Fitting.{fit_of}
-use Rattle.scalar_ranges.proofs.Rows.{entries_changed, no_entry}
+use Rattle.scalar_ranges.proofs.Named.{changed_by_meaning, none_changed}
 use Rattle.scalar_ranges.proofs.scope.Scope.receive.Goals as goal
 
-pub returns-then-number-len-clause-entries : goal.returns-then-number-len-clause-entries
-returns-then-number-len-clause-entries c =
-    let within : c.args.number < length c.args.self.now.entries.items = omega arith in
-    entries_changed (with_meaning widened) c.args.self.now.entries.items c.args.number
-    (record { name = c.index_mut.result.now.name; meaning = c.widened.result }) c.index_mut.result.now
-    c.index.result.now
-    within (ap (λ k. k.name.now) c.index_mut.ensures.value)
-    (c.widened.ensures ∙ ap (λ k. widened (meaning_of k.meaning)) c.index.ensures)
+pub put-requires : goal.put-requires
+put-requires c =
+    let es = entries_of c.args.self.now in
+    ap shape (changed_by_meaning widened c.args.number (meaning_of c.widened.result)
+    (meaning_of c.in-Some.meaning) es (sym c.in-Some.ensures) c.widened.ensures)
+    ∙ ranged_shape type_range c.args.number es
 
-pub returns-else-number-len-clause-entries : goal.returns-else-number-len-clause-entries
-returns-else-number-len-clause-entries c =
-    let beyond : length c.args.self.now.entries.items ≤ c.args.number = omega arith in
-    no_entry (with_meaning widened) c.args.number c.args.self.now.entries.items beyond
+pub returns-in-Some-clause-entries : goal.returns-in-Some-clause-entries
+returns-in-Some-clause-entries c =
+    c.put.ensures.entries
+    ∙ changed_by_meaning widened c.args.number (meaning_of c.widened.result)
+    (meaning_of c.in-Some.meaning) (entries_of c.args.self.now) (sym c.in-Some.ensures) c.widened.ensures
 
-pub invariant_of-self : goal.invariant_of-self
-invariant_of-self c =
-    let items = c.args.self.now.entries.items in
-    let within : c.args.number < length items = omega arith in
-    let fit = fit_changed (entries_changed (with_meaning widened) items c.args.number
-    (record { name = c.index_mut.result.now.name; meaning = c.widened.result })
-    c.index_mut.result.now c.index.result.now within (ap (λ k. k.name.now) c.index_mut.ensures.value)
-    (c.widened.ensures ∙ ap (λ k. widened (meaning_of k.meaning)) c.index.ensures))
-    (ranged_shape type_range c.args.number (entries_of c.args.self.now)) (fit_of c.args.self.now) in
-    record { named = fit.named; nested = fit.nested }
+pub returns-in_default-clause-entries : goal.returns-in_default-clause-entries
+returns-in_default-clause-entries c =
+    sym (none_changed (with_meaning widened) c.args.number (entries_of c.args.self.now)
+    (sym c.in_default.ensures))
