@@ -91,7 +91,7 @@ gathered_last f n (y ∷ xs) x =
     ∙ sym (append_assoc (f n y) (gathered f (suc n) xs) (f (suc n + length xs) x))
     ∙ ap (λ k. (f n y ++ gathered f (suc n) xs) ++ f k x) (omega arith)
 
-taken_one : {A : Type 0} (xs : List A) (i : ℕ) (x d : A) → i < length xs → x ≡ get_or xs i d
+pub taken_one : {A : Type 0} (xs : List A) (i : ℕ) (x d : A) → i < length xs → x ≡ get_or xs i d
     → take (i + 1) xs ≡ take i xs ++ x ∷ []
 taken_one xs i x d h is = take_more xs i d h ∙ ap (λ y. take i xs ++ y ∷ []) (sym is)
 

@@ -1,3 +1,4 @@
 pub mod Same
 pub mod Adding
 pub mod Gathering
+pub mod NamesEntered

@@ -7,3 +7,6 @@ pub mod Signatures
 pub mod Instances
 pub mod Actions
 pub mod ActionViews
+pub mod Declaring
+pub mod Indices
+pub mod Entering

@@ -25,7 +25,7 @@ pub struct Around<'s> {
 }
 
 /// Whether a line is before one, if there is that one.
-fn is_before(line: u32, end: Option<u32>) -> bool
+pub(crate) fn is_before(line: u32, end: Option<u32>) -> bool
     ensures { result ≡ is_before line end }
 {
     match end {

@@ -3,6 +3,9 @@
 
 mod actions;
 mod constants;
+mod declaring;
+mod entering;
+mod indices;
 mod instances;
 mod mentions;
 mod places;

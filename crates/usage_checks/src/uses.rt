@@ -64,6 +64,14 @@ impl Uses {
         }
     }
 
+    /// Memory ran out, so that something is missing.
+    pub(crate) fn fail(&mut self)
+        ensures same { self.new.set ≡ self.old.set }
+        ensures complete { self.new.complete ≡ false }
+    {
+        self.complete = false;
+    }
+
     /// Whether memory was enough for all that was added.
     pub fn is_complete(&self) -> bool
         ensures { result ≡ self.now.complete }

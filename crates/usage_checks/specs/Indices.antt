@@ -1,0 +1,56 @@
+-- The turns in which the body of a replicator is gone over.
+use Rattle.std.specs.Prelude.{ℕ, zero, suc, ℤ, pos, ◌+ℤ◌, int_le, unsigned_abs, Bool, true, false, List, [], ◌++◌, ◌&&◌}
+use Rattle.std.specs.Prelude.{if◌then◌else◌, Option, Some, None, option_and_then}
+use Rattle.word_arithmetic.specs.Word.{greatest_word, checked}
+use Rattle.word_arithmetic.specs.Range.{full}
+use Rattle.occam_layout.specs.declared.mark.Mark.TheVariants as mark
+use Rattle.occam_parser.specs.declared.tree.ValueType.TheVariants as value_type
+use Rattle.occam_parser.specs.Terminals.{Terminal, Mark}
+use Rattle.occam_parser.specs.Lines.{Replicator, block_word}
+use Rattle.occam_parser.specs.Blocks.{Body, One}
+use Rattle.scalar_ranges.specs.declared.scope.ScalarKind.TheVariants as scalar
+use Rattle.scalar_ranges.specs.declared.types.ExprType.TheVariants as types
+use Rattle.scalar_ranges.specs.Entries.{Meaning, Constant, Scalar, Entry}
+use Rattle.usage_checks.specs.declared.indices.Turns.{Turns}
+use Rattle.usage_checks.specs.Constants.{value_as}
+
+abbrev pub is_seq : Terminal → Bool
+is_seq (Mark mark.Seq) = true
+is_seq t = false
+
+-- whether a body stands under a SEQ
+abbrev pub is_sequence : Body → Bool
+is_sequence (One kind c) = is_seq (block_word kind)
+
+-- a count from 1 on with which the last index is a word
+abbrev pub is_count : ℤ → ℤ → Bool
+is_count base count = int_le (pos 1) count && int_le (base +ℤ count) (greatest_word +ℤ pos 1)
+
+-- how often a body is gone over: once if the count is 0 or breaks a rule
+abbrev pub count_of : ℤ → Option ℤ → ℕ
+count_of base (Some count) = if is_count base count then unsigned_abs count else 1
+count_of base None = 1
+
+abbrev pub turns_from : Bool → Option ℤ → Option ℤ → Turns
+turns_from counted (Some base) count =
+    record { first = Some base; count = if counted then count_of base count else 1 }
+turns_from counted None count = record { first = None; count = 1 }
+
+-- The body of a replicated SEQ is gone over once, of another block once for each index, from the base on.
+abbrev pub turns_of : Bool → List Entry → Bool → Replicator → Turns
+turns_of counted es true r = record { first = None; count = 1 }
+turns_of counted es false r = turns_from counted (value_as es types.Int r.base) (value_as es types.Int r.count)
+
+-- the index of a turn
+abbrev pub index_at : Option ℤ → ℕ → Option ℤ
+index_at first n = option_and_then (λ v. checked (v +ℤ pos n)) first
+
+-- The index of a SEQ is a number of which nothing is known here, and that of another block is a constant.
+abbrev pub index_meaning : Bool → Option ℤ → Meaning
+index_meaning true value = Scalar scalar.Index value_type.Int full
+index_meaning false value = Constant value_type.Int value
+
+-- what is gathered in so many turns
+abbrev pub in_turns : {A : Type 0} → (ℕ → List A) → ℕ → List A
+in_turns f zero = []
+in_turns f (suc n) = in_turns f n ++ f n

@@ -1,0 +1,109 @@
+//! The turns in which the body of a replicator is gone over.
+
+ghost use Rattle.std.specs.Prelude.{◌≡◌};
+ghost use Rattle.occam_parser.specs.LineViews.{replicator_of};
+ghost use Rattle.occam_parser.specs.BlockViews.{body_of};
+ghost use Rattle.scalar_ranges.specs.Scopes.{entries_of, meaning_of};
+ghost use Rattle.usage_checks.specs.Indices.{is_sequence, is_count, count_of, turns_from, turns_of, index_at};
+ghost use Rattle.usage_checks.specs.Indices.{index_meaning};
+
+use crate::constants::value_as;
+use occam_parser::{Body, Replicator, ValueType};
+use scalar_ranges::{ExprType, Meaning, ScalarKind, Scope};
+use word_arithmetic::Range;
+
+/// The turns in which a body is gone over: the first index, if it is known, and how many there are.
+#[derive(Clone, Copy)]
+pub(crate) struct Turns {
+    pub(crate) first: Option<i32>,
+    pub(crate) count: u32,
+}
+
+/// Whether a count is from 1 on, and the last index is a word.
+fn is_count(base: i32, count: i32) -> bool
+    ensures { result ≡ is_count base count }
+{
+    1 <= count && i64::from(base) + i64::from(count) <= i64::from(i32::MAX) + 1
+}
+
+/// How often a body is gone over: once if the count is 0 or breaks a rule.
+fn count_of(base: i32, count: Option<i32>) -> u32
+    ensures { result ≡ count_of base count }
+{
+    match count {
+        Some(count) if is_count(base, count) => count.unsigned_abs(),
+        _ => 1,
+    }
+}
+
+fn turns_from(counted: bool, base: Option<i32>, count: Option<i32>) -> Turns
+    ensures { result ≡ turns_from counted base count }
+{
+    match base {
+        None => Turns {
+            first: None,
+            count: 1,
+        },
+        Some(first) => Turns {
+            first: Some(first),
+            count: if counted { count_of(first, count) } else { 1 },
+        },
+    }
+}
+
+/// Whether a body stands under a `SEQ`.
+pub(crate) fn is_sequence(body: &Body) -> bool
+    ensures { result ≡ is_sequence (body_of body.now) }
+{
+    match body {
+        Body::Seq(_) => true,
+        Body::Par(_) | Body::If(_) | Body::Alt(_) => false,
+    }
+}
+
+/// The turns in which the body of a replicator is gone over: one for a `SEQ`, and where nothing is counted.
+pub(crate) fn turns_of(
+    counted: bool,
+    scope: &Scope,
+    sequential: bool,
+    replicator: &Replicator,
+) -> Turns
+    ensures { result ≡ turns_of counted (entries_of scope.now) sequential (replicator_of replicator.now) }
+{
+    if sequential {
+        return Turns {
+            first: None,
+            count: 1,
+        };
+    }
+    let base = value_as(scope, ExprType::Int, &replicator.base);
+    let count = value_as(scope, ExprType::Int, &replicator.count);
+    turns_from(counted, base, count)
+}
+
+impl Turns {
+    /// The index of a turn.
+    pub(crate) fn index_at(self, turn: u32) -> Option<i32>
+        ensures { result ≡ index_at self.first turn }
+    {
+        i32::try_from(i64::from(self.first?) + i64::from(turn)).ok()
+    }
+}
+
+/// What a replicator stands for, at this index.
+pub(crate) fn index_meaning(sequential: bool, index: Option<i32>) -> Meaning
+    ensures { meaning_of result ≡ index_meaning sequential index }
+{
+    if sequential {
+        Meaning::Scalar {
+            kind: ScalarKind::Index,
+            value_type: ValueType::Int,
+            range: Range::full(),
+        }
+    } else {
+        Meaning::Constant {
+            value_type: ValueType::Int,
+            value: index,
+        }
+    }
+}
