@@ -2,3 +2,4 @@ pub mod Same
 pub mod Adding
 pub mod Gathering
 pub mod NamesEntered
+pub mod UsesOfProcesses

@@ -7,13 +7,12 @@ use Rattle.occam_parser.specs.declared.tree.ValueType.TheVariants as value_type
 use Rattle.occam_parser.specs.declared.tree.FormalKind.TheVariants as formal_kind
 use Rattle.occam_parser.specs.Expressions.{Expression}
 use Rattle.occam_parser.specs.OneOrMore.{OneOrMore, as_list}
-use Rattle.occam_parser.specs.Lines.{Value, Scalar, Table, Bytes, Names, Declaration, Constants, Variables, Channels}
+use Rattle.occam_parser.specs.Lines.{Value, Scalar, Table, Bytes, Declaration, Constants, Variables, Channels}
 use Rattle.occam_parser.specs.Lines.{Formal}
 use Rattle.scalar_ranges.specs.declared.scope.ScalarKind.{ScalarKind}
 use Rattle.scalar_ranges.specs.declared.scope.ScalarKind.TheVariants as scalar
 use Rattle.scalar_ranges.specs.declared.scope.ArrayKind.{ArrayKind}
 use Rattle.scalar_ranges.specs.declared.scope.ArrayKind.TheVariants as array
-use Rattle.scalar_ranges.specs.declared.types.ExprType.{ExprType}
 use Rattle.scalar_ranges.specs.Entries as entries
 use Rattle.scalar_ranges.specs.Entries.{Meaning, Entry, type_range}
 use Rattle.scalar_ranges.specs.Types.{type_of_values}

@@ -10,3 +10,4 @@ pub mod ActionViews
 pub mod Declaring
 pub mod Indices
 pub mod Entering
+pub mod Processes

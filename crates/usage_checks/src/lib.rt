@@ -9,6 +9,7 @@ mod indices;
 mod instances;
 mod mentions;
 mod places;
+mod processes;
 mod signature;
 mod uses;
 

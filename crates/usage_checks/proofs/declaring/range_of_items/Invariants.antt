@@ -10,5 +10,6 @@ use Rattle.usage_checks.proofs.declaring.range_of_items.Given as goal
 abbrev pub invariant-loop-item : goal.invariant-loop-item
 invariant-loop-item l =
     option_map ends_of l.range
-    ≡ fold (λ range e. with_value range (value_as (entries_of l.scope) (type_of_values l.fn.value_type) e)) (option_map ends_of l.initial.range)
+    ≡ fold (λ range e. with_value range (value_as (entries_of l.scope) (type_of_values l.fn.value_type) e))
+    (option_map ends_of l.initial.range)
     (map expression_of (take l.item-index l.item-items))

@@ -4,7 +4,8 @@ use Rattle.scalar_ranges.specs.Scopes.{entries_of}
 use Rattle.usage_checks.specs.Actions.{uses_of_declaration}
 use Rattle.usage_checks.specs.Declaring.{add_declaration}
 use Rattle.usage_checks.proofs.Adding.{adds_both, adds_as}
-use Rattle.usage_checks.proofs.NamesEntered.{adds_if, enters_next, enters_as, declarations_use_next, declarations_add_next}
+use Rattle.usage_checks.proofs.NamesEntered.{adds_if, enters_next, enters_as, declarations_use_next}
+use Rattle.usage_checks.proofs.NamesEntered.{declarations_add_next}
 use Rattle.usage_checks.proofs.uses.Uses.enter_all.Goals as goal
 
 pub loop-declaration-preserved : goal.loop-declaration-preserved

@@ -1,0 +1,116 @@
+-- What is collected of a process step by step is what it uses, and its scope is left as it was.
+use Rattle.std.proofs.Common.{◌≡◌, ℕ, suc, ℤ, ◌+◌, ◌<◌, ◌≤◌, Bool, true, false, cond, List, [], ◌∷◌, ◌++◌, length, map}
+use Rattle.std.proofs.Common.{take, get_or, max, nat_lt, Option, refl, sym, ap, arith, ◌∙◌, append_assoc, add-one}
+use Rattle.std.proofs.lemmas.Bool.Decides.{nat_tests}
+use Rattle.std.proofs.lemmas.List.{length-append}
+use Rattle.occam_parser.specs.Lines.{Declaration, Replicator}
+use Rattle.occam_parser.specs.Blocks.{Does, Construct, Body, One, Part, Component}
+use Rattle.occam_parser.specs.BlockReading.{with_declarations}
+use Rattle.occam_parser.specs.BlockViews.{all_of}
+use Rattle.occam_parser.proofs.SeenBlocks.{all_push}
+use Rattle.scalar_ranges.specs.Entries.{Entry}
+use Rattle.scalar_ranges.specs.MoveLaws.{shape}
+use Rattle.scalar_ranges.specs.Moves.{outermost, begun_with, leave, Block, Known}
+use Rattle.scalar_ranges.specs.Nesting.{AreNested}
+use Rattle.usage_checks.specs.declared.uses.Use.{Use}
+use Rattle.usage_checks.specs.declared.uses.Uses.{Uses}
+use Rattle.usage_checks.specs.Sets.{Adds}
+use Rattle.usage_checks.specs.Actions.{Around, is_before, uses_of_declaration}
+use Rattle.usage_checks.specs.Declaring.{add_declaration}
+use Rattle.usage_checks.specs.Entering.{Enters, uses_of_declarations, add_declarations}
+use Rattle.usage_checks.specs.Indices.{is_sequence, turns_of, in_turns}
+use Rattle.usage_checks.specs.Processes.{in_turn, uses_of, uses_of_construct, uses_of_body, uses_of_components}
+use Rattle.usage_checks.specs.Processes.{uses_of_component, uses_of_one}
+use Rattle.usage_checks.proofs.Adding.{taken_one, adds_both, adds_as}
+
+-- ---- declarations, and then a construct
+
+pub uses_behind : (a : Around) (es : List Entry) (ds : List Declaration) (line : ℕ) (k : Construct)
+    → uses_of_declarations es ds ++ uses_of_construct a (add_declarations ds es) line k
+    ≡ uses_of a es (with_declarations ds (Does line k))
+uses_behind a es [] line k = refl
+uses_behind a es (d ∷ ds) line k =
+    append_assoc (uses_of_declaration es d) (uses_of_declarations (add_declaration d es) ds)
+    (uses_of_construct a (add_declarations ds (add_declaration d es)) line k)
+    ∙ ap (λ us. uses_of_declaration es d ++ us) (uses_behind a (add_declaration d es) ds line k)
+
+-- ---- components
+
+pub components_use_next : {part : Part} {A : Type 0} (a : Around) (es : List Entry) (f : A → Component part)
+    (xs : List A) (i : ℕ) (x d : A) → i < length xs → x ≡ get_or xs i d
+    → uses_of_components a es (all_of (map f (take i xs))) ++ uses_of_component a es (f x)
+    ≡ uses_of_components a es (all_of (map f (take (i + 1) xs)))
+components_use_next a es f xs i x d h is =
+    sym (ap (uses_of_components a es) (all_push f (take i xs) (take (i + 1) xs) x (taken_one xs i x d h is)))
+
+pub adds_component : {part : Part} {A : Type 0} (a : Around) (k l : Known) (f : A → Component part) (xs : List A)
+    (i : ℕ) (x d : A) {s t w : Uses} → l ≡ k → i < length xs → x ≡ get_or xs i d
+    → Adds s t (uses_of_components a k.entries (all_of (map f (take i xs))))
+    → Adds t w (uses_of_component a l.entries (f x))
+    → Adds s w (uses_of_components a k.entries (all_of (map f (take (i + 1) xs))))
+adds_component a k l f xs i x d same h is before next =
+    adds_as (components_use_next a k.entries f xs i x d h is)
+    (adds_both before (adds_as (ap (λ j. uses_of_component a j.entries (f x)) same) next))
+
+-- ---- turns
+
+abbrev pub uses_in_turns : Around → List Entry → Replicator → Body → Bool → Option ℤ → ℕ → List Use
+uses_in_turns a es r b sequential first n = in_turns (λ n. uses_of_one a (in_turn r sequential first n es) b) n
+
+pub turns_use_next : (a : Around) (es : List Entry) (r : Replicator) (b : Body) (sequential : Bool) (first : Option ℤ)
+    (n : ℕ) → uses_in_turns a es r b sequential first n ++ uses_of_one a (in_turn r sequential first n es) b
+    ≡ uses_in_turns a es r b sequential first (n + 1)
+turns_use_next a es r b sequential first n = ap (uses_in_turns a es r b sequential first) (sym (add-one n))
+
+pub body_in_turns : (a : Around) (es : List Entry) (line : ℕ) (r : Replicator) (b : Body)
+    → let turns = turns_of (is_before line a.uncounted) es (is_sequence b) r in
+    uses_in_turns a es r b (is_sequence b) turns.first turns.count ≡ uses_of_body a es line r b
+body_in_turns a es line r (One kind c) = refl
+
+-- ---- the scope that is left
+
+shape_long : (es : List Entry) → length (shape es) ≡ length es
+shape_long [] = refl
+shape_long (e ∷ es) = ap suc (shape_long es)
+
+cut_by : (t : Bool) (count : ℕ) (e : Entry) (es : List Entry) → length (outermost count es) ≤ length es
+    → length (cond t (e ∷ es) (outermost count es)) ≤ suc (length es)
+cut_by true count e es h = omega arith
+cut_by false count e es h = omega arith
+
+cut_long : (count : ℕ) (es : List Entry) → length (outermost count es) ≤ length es
+cut_long count [] = omega arith
+cut_long count (e ∷ es) = cut_by (nat_lt (length es) count) count e es (cut_long count es)
+
+begun_within : (es : List Entry) (bs : List Block) → AreNested es bs → begun_with bs ≤ length es
+begun_within es [] nested = omega arith
+begun_within es (b ∷ bs) nested =
+    let same = sym (shape_long b.start) ∙ ap length nested.0 ∙ shape_long (outermost (length b.start) es) in
+    omega (arith, same, cut_long (length b.start) es)
+
+all_outermost : (es : List Entry) → outermost (length es) es ≡ es
+all_outermost [] = refl
+all_outermost (e ∷ es) =
+    let t : nat_lt (length es) (suc (length es)) ≡ true = grind (arith, nat_tests) in
+    ap (λ t. cond t (e ∷ es) (outermost (suc (length es)) es)) t
+
+inner_cut : (inner es : List Entry) → outermost (length es) (inner ++ es) ≡ es
+inner_cut [] es = all_outermost es
+inner_cut (e ∷ inner) es =
+    let long = length-append inner es in
+    let t : nat_lt (length (inner ++ es)) (length es) ≡ false = grind (arith, nat_tests) in
+    ap (λ t. cond t (e ∷ inner ++ es) (outermost (length es) (inner ++ es))) t ∙ inner_cut inner es
+
+-- what was entered since the scope was so long is left
+pub left_as_before : {s : Uses} {wanted : List Entry} (old entered before after : Known) (count : ℕ)
+    → AreNested old.entries old.blocks → count ≡ length old.entries → Enters s old.entries entered.entries wanted
+    → entered.blocks ≡ old.blocks → before ≡ entered
+    → after.entries ≡ leave count before.blocks before.entries → after.blocks ≡ before.blocks → after ≡ old
+left_as_before old entered before after count nested is enters blocks same left kept =
+    let most : max count (begun_with old.blocks) ≡ length old.entries =
+    omega (arith, begun_within old.entries old.blocks nested) in
+    let entries = left ∙ (λ i. leave count (same i).blocks (same i).entries)
+    ∙ (λ i. leave count (blocks i) (enters.kept i)) ∙ ap (λ n. outermost n (enters.inner ++ old.entries)) most
+    ∙ inner_cut enters.inner old.entries in
+    let outer = kept ∙ ap (λ k. k.blocks) same ∙ blocks in
+    λ i. record { entries = entries i; blocks = outer i }
