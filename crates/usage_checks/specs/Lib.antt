@@ -11,3 +11,5 @@ pub mod Declaring
 pub mod Indices
 pub mod Entering
 pub mod Processes
+pub mod Lowest
+pub mod Wanting
