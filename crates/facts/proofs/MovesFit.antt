@@ -290,7 +290,8 @@ module _ (x : Here) (wf : IsWellFormed x.m) (s : State) (l : Local) (a : After x
                     let le = le-from (source_lo +ℤ pos k) target_lo before in
                     omega (arith, ints, le, start, p_is, q_is, low, high)
                 | inl differ ↦
-                    let no : false ≡ true = sym (ap not (eq-eqb source_region target_region one)) ∙ differ in absurd (cc)
+                    let same = eq-eqb source_region target_region one in
+                    let no : false ≡ true = sym (ap not same) ∙ differ in absurd (cc)
               ]
         ]
           where

@@ -41,7 +41,7 @@ use Rattle.facts.specs.MemoryRules.{byte_read, stored_byte, is_full}
 use Rattle.facts.specs.MoveRules.{word_behind, words_within}
 use Rattle.facts.specs.Fitting.{After}
 use Rattle.facts.proofs.Words.{bool_cases, frame_word_is, Follows}
-use Rattle.facts.proofs.Regions.{frame_keeps, keeps_all, keeps_more, may_too, bytes_written, bytes_read}
+use Rattle.facts.proofs.Regions.{frame_keeps, keeps_all, keeps_more, may_too, byte_of_own, bytes_read}
 use Rattle.facts.proofs.ReadThrough.{readable_found, range_found}
 use Rattle.facts.proofs.Reaching.{region_place, natural, word_of_byte_low, word_of_byte_high, touched_span}
 use Rattle.facts.proofs.Reaching.{touched_passes, lies_inside}
@@ -283,15 +283,7 @@ module _ {m : Contents} {h : Holding} {mode : machine.Mode} {act : Activation} {
 
   frame_mine : (k : ℤ) → context_writes m s.context k ≡ true → IsByteOf act.layout.origin k place
       → may_write h place ≡ true
-  frame_mine k may b =
-      let w = a.frame.own k may in
-      let is = w.is in
-      let low = b.low in
-      let high = b.high in
-      let from : w.place ≤ place = omega (arith, ints) in
-      let to : place < w.place + 4 = omega (arith, ints) in
-      ap (may_write h) (let e : place ≡ w.place + (place - w.place) = omega arith in e)
-      ∙ bytes_written h w.place w.mine (place - w.place) (omega arith)
+  frame_mine k may b = byte_of_own h (length l.memory) act.layout.origin k place (a.frame.own k may) b
 
   -- a byte of one region is none of another that is written
   pub regions_apart : IsReadAt m s.context act.layout from place → IsWrittenIn m s.context act.layout to place → ⊥
@@ -461,16 +453,7 @@ module _ {m : Contents} {h : Holding} {mode : machine.Mode} {act : Activation} {
 
     frame_own : (i : ℕ) → i < n → may_write h (to + i) ≡ true
     frame_own i less =
-        let w = word i less in
-        let own = w.own in
-        let is = own.is in
-        let b = byte_in i less in
-        let low = b.low in
-        let high = b.high in
-        let from : own.place ≤ to + i = omega (arith, ints) in
-        let behind : to + i < own.place + 4 = omega (arith, ints) in
-        ap (may_write h) (let e : to + i ≡ own.place + (to + i - own.place) = omega arith in e)
-        ∙ bytes_written h own.place own.mine (to + i - own.place) (omega arith)
+        byte_of_own h (length l.memory) act.layout.origin (word i less).word (to + i) (word i less).own (byte_in i less)
 
     -- one byte after another is written
     frame_kept : (k : ℕ) → k ≤ n → Keeps m h all l.memory (copied l.memory source to k l.memory)

@@ -212,6 +212,18 @@ module _ (m : Contents) (h : Holding) (scope : Scope) (old new : Memory) (change
 -- ---- a write to a word of the frame
 
 -- Memory has changed in one word of the frame alone, and what is there now are bytes, or was there.
+-- the bytes of a word that the process may write are its own
+pub byte_of_own : (h : Holding) (size : ℕ) (origin k : ℤ) (place : ℕ) → IsOwnWord h size origin k
+    → IsByteOf origin k place → may_write h place ≡ true
+byte_of_own h size origin k place w b =
+    let is = w.is in
+    let low = b.low in
+    let high = b.high in
+    let from : w.place ≤ place = omega (arith, ints) in
+    let to : place < w.place + 4 = omega (arith, ints) in
+    ap (may_write h) (let e : place ≡ w.place + (place - w.place) = omega arith in e)
+    ∙ bytes_written h w.place w.mine (place - w.place) (omega arith)
+
 pub record AltersWord (origin k : ℤ) (old new : Memory) : Type 0 where
   pub size : length new ≡ length old
   pub kept : (place : ℕ) → (byte_at new place ≡ byte_at old place) ⊎ IsByteOf origin k place
@@ -221,20 +233,10 @@ module _ (m : Contents) (h : Holding) (scope : Scope) (k : ℤ) (memory new : Me
     (inside : scope.words.writes k ≡ true) (counts : scope.words.reads k ≡ true)
     (w : IsOwnWord h (length memory) scope.layout.origin k)
     (alters : AltersWord scope.layout.origin k memory new) where
-  byte_is_own : (place : ℕ) → IsByteOf scope.layout.origin k place → may_write h place ≡ true
-  byte_is_own place b =
-      let is = w.is in
-      let low = b.low in
-      let high = b.high in
-      let from : w.place ≤ place = omega (arith, ints) in
-      let to : place < w.place + 4 = omega (arith, ints) in
-      ap (may_write h) (let e : place ≡ w.place + (place - w.place) = omega arith in e)
-      ∙ bytes_written h w.place w.mine (place - w.place) (omega arith)
-
   word_alters : Alters h memory new (IsByteOf scope.layout.origin k)
   word_alters = record {
     bytes = λ place held. alters.kept place;
-    own = byte_is_own;
+    own = λ place b. byte_of_own h (length memory) scope.layout.origin k place w b;
     small = λ place b held found. alters.small place b found;
   }
 

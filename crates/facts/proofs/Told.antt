@@ -175,15 +175,14 @@ pub order_told : (a b first second : ℤ) → a ≡ first → b ≡ second → i
 order_told a b first second a_is b_is = ap (λ (z : ℤ). int_le z b) a_is ∙ ap (int_le first) b_is
 
 -- bytes are moved, where each test passes
-pub moves_told : (r : Result Continuation Rule) (after : State) (site : Site) (count d e end : ℤ)
+pub moves_told : (r : Result Continuation Rule) (after : State) (site : Site) (count d end : ℤ)
     (from to : Pointed) (s : State)
     → d ≡ count → ((k : Ruling) → reads_bytes site s from.region from.lo (from.hi +ℤ d) k ≡ k) → end ≡ to.hi +ℤ count
-    → ((k : Ruling) → writes_bytes site s to.region to.lo end k ≡ k) → e ≡ count
-    → Advances r after (come site e from to s) → Advances r after (moves_some site count from to s)
+    → ((k : Ruling) → writes_bytes site s to.region to.lo end k ≡ k)
+    → Advances r after (come site count from to s) → Advances r after (moves_some site count from to s)
 unfolding moves_some
-moves_told r after site count d e end from to s d_is reads end_is writes e_is told =
-    subst (λ (t : Ruling). Advances r after t) (sym is)
-    (subst (λ (z : ℤ). Advances r after (come site z from to s)) e_is told)
+moves_told r after site count d end from to s d_is reads end_is writes told =
+    subst (λ (t : Ruling). Advances r after t) (sym is) told
   where
     is : moves_some site count from to s ≡ come site count from to s
     is = subst (λ (z : ℤ). reads_bytes site s from.region from.lo (from.hi +ℤ z)

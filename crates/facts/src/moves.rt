@@ -21,6 +21,19 @@ use states::{Known, Leaving, Rule, State};
 /// How many bytes may be moved at once.
 const MOST_BYTES: i32 = 65_536;
 
+/// So many bytes that go from one place to another, each of which is known.
+#[derive(Clone, Copy)]
+struct Block {
+    count: i32,
+    from: Pointed,
+    to: Pointed,
+    ghost counted: { pos 0 ≤ℤ count },
+    ghost few: { count ≤ℤ pos 65536 },
+    ghost source: { are_near from.lo from.hi ≡ true },
+    ghost target: { are_near to.lo to.hi ≡ true },
+    ghost exact: { to.lo ≡ to.hi },
+}
+
 impl Place<'_, '_> {
     ghost use Rattle.std.specs.Prelude.{◌≡◌, ◌≤ℤ◌, ◌<ℤ◌, ◌+ℤ◌, pos, true, IfOk};
     ghost use Rattle.module_format.specs.Contents.{Contents};
@@ -66,82 +79,51 @@ impl Place<'_, '_> {
         self.goes_on(state)
     }
 
-    /// So many bytes that may be read, at least one, come to where they may be written.
+    /// The bytes of a block, at least one, which may be read, come to where they may be written.
     #[tactic(auto, unfolding(crate::specs::MoveRules::come))]
-    fn come(
-        &self,
-        state: &mut State,
-        count: i32,
-        from: Pointed,
-        to: Pointed,
-    ) -> Result<Continuation, Rule>
+    fn come(&self, state: &mut State, block: Block) -> Result<Continuation, Rule>
         requires belongs { BelongsTo self.now.module.now state.old }
-        requires some { pos 0 <ℤ count }
-        requires few { count ≤ℤ pos 65536 }
-        requires source { are_near from.lo from.hi ≡ true }
-        requires target { are_near to.lo to.hi ≡ true }
-        requires exact { to.lo ≡ to.hi }
-        requires room { to.region ≡ 0
-            → CanWriteSpan state.old (word_of_byte to.lo) (words_touched to.lo (to.hi +ℤ count)) }
-        ensures ruling { let ruling = come (site_of self.now) count from to (state_of state.old) in
+        requires some { pos 0 <ℤ block.count }
+        requires room { let touched = words_touched block.to.lo (block.to.hi +ℤ block.count) in
+            block.to.region ≡ 0 → CanWriteSpan state.old (word_of_byte block.to.lo) touched }
+        ensures ruling { let ruling = come (site_of self.now) block.count block.from block.to (state_of state.old) in
             Advances result (state_of state.new) ruling }
         ensures belongs { BelongsTo self.now.module.now state.new }
     {
-        let numbers = are_numbers(state, from, count);
-        if !may_come(count, from, to, numbers) {
+        let numbers = are_numbers(state, block.from, block.count);
+        if !may_come(block.count, block.from, block.to, numbers) {
             return Err(Rule::Pointer);
         }
-        fill(state, numbers, to, to.end(count));
+        fill(state, numbers, block.to, block.to.end(block.count));
         self.clears(state)
     }
 
-    /// So many bytes, at least one, go from one place to another.
+    /// The bytes of a block, at least one, are moved.
     #[tactic(auto, unfolding(crate::specs::MoveRules::moves_some))]
-    fn moves_some(
-        &self,
-        state: &mut State,
-        count: i32,
-        from: Pointed,
-        to: Pointed,
-    ) -> Result<Continuation, Rule>
+    fn moves_some(&self, state: &mut State, block: Block) -> Result<Continuation, Rule>
         requires belongs { BelongsTo self.now.module.now state.old }
-        requires some { pos 0 <ℤ count }
-        requires few { count ≤ℤ pos 65536 }
-        requires source { are_near from.lo from.hi ≡ true }
-        requires target { are_near to.lo to.hi ≡ true }
-        requires exact { to.lo ≡ to.hi }
-        ensures ruling { let ruling = moves_some (site_of self.now) count from to (state_of state.old) in
-            Advances result (state_of state.new) ruling }
+        requires some { pos 0 <ℤ block.count }
+        ensures ruling { let after = moves_some (site_of self.now) block.count block.from block.to in
+            Advances result (state_of state.new) (after (state_of state.old)) }
         ensures belongs { BelongsTo self.now.module.now state.new }
     {
-        self.reads_bytes(state, from, count)?;
-        self.writes_bytes(state, to, to.end(count))?;
-        self.come(state, count, from, to)
+        self.reads_bytes(state, block.from, block.count)?;
+        self.writes_bytes(state, block.to, block.to.end(block.count))?;
+        self.come(state, block)
     }
 
-    /// So many bytes go from one place to another; where there are none, nothing is read or written.
+    /// The bytes of a block are moved; where there are none, nothing is read or written.
     #[tactic(auto, unfolding(crate::specs::MoveRules::moves_bytes))]
-    fn moves_bytes(
-        &self,
-        state: &mut State,
-        count: i32,
-        from: Pointed,
-        to: Pointed,
-    ) -> Result<Continuation, Rule>
-        requires belongs { BelongsTo self.now.module.now state.old }
-        requires some { pos 0 ≤ℤ count }
-        requires few { count ≤ℤ pos 65536 }
-        requires source { are_near from.lo from.hi ≡ true }
-        requires target { are_near to.lo to.hi ≡ true }
-        requires exact { to.lo ≡ to.hi }
-        ensures ruling { let ruling = moves_bytes (site_of self.now) count from to (state_of state.old) in
-            Advances result (state_of state.new) ruling }
+    fn moves_bytes(&self, state: &mut State, block: Block) -> Result<Continuation, Rule>
+        requires { BelongsTo self.now.module.now state.old }
+        ensures ruling { let after = moves_bytes (site_of self.now) block.count block.from block.to in
+            Advances result (state_of state.new) (after (state_of state.old)) }
         ensures belongs { BelongsTo self.now.module.now state.new }
     {
-        if count == 0 {
+        if block.count == 0 {
             return self.clears(state);
         }
-        self.moves_some(state, count, from, to)
+        self.moves_some(state, block)
     }
 
     /// `move`: A bytes go from C to B.
@@ -156,7 +138,7 @@ impl Place<'_, '_> {
         let count = self.amount(state, a, b)?;
         let to = exact_pointer(b)?;
         let from = exact_pointer(c)?;
-        self.moves_bytes(state, count, from, to)
+        self.moves_bytes(state, Block { count, from, to })
     }
 }
 

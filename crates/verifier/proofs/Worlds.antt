@@ -11,6 +11,7 @@ use Rattle.prefix_decoder.specs.Functions.{fun_of, function_code, nibble}
 use Rattle.prefix_decoder.specs.Operand.{with_nibble, after_prefix}
 use Rattle.module_format.specs.Contents.{Contents}
 use Rattle.machine_state.specs.declared.process.Task.{Task}
+use Rattle.machine_state.specs.declared.process.Registers.{Registers}
 use Rattle.machine_state.specs.declared.process.Exchange.{Exchange}
 use Rattle.machine_state.specs.declared.process.Condition.{Condition}
 use Rattle.machine_state.specs.declared.process.Condition.TheVariants.{Ready, Sending, Receiving, OnLink, Alternating}
@@ -269,6 +270,16 @@ module _ (m : Contents) (w : World) (h : Holds m w) (p : ℕ) (r : Runs m w h.du
         well = h.well;
       }
 
+  -- the process that runs is ready, and is so with other registers
+  as_ready : (registers : Registers) (memory : Memory) (later : ℕ)
+      → Lives m (held r.row.role) memory (record { registers = registers; mode = r.task.mode; condition = Ready }) later
+      → Lives m (held r.row.role) memory (record r.task { registers = registers }) later
+  as_ready registers memory later = subst (λ c. Lives m (held r.row.role) memory (record {
+    registers = registers;
+    mode = r.task.mode;
+    condition = c;
+  }) later) (sym r.ready)
+
   -- what an outcome comes to
   settled_holds : (d : Decodes m) (wf : IsWellFormed m) (c : IsCertified m) (slice : Bool) (pick : ℕ) (o : Outcome)
       → w.queue.running ≡ Some p → Comes m d wf c (held r.row.role) w.memory r.task r.row.due o
@@ -278,32 +289,16 @@ module _ (m : Contents) (w : World) (h : Holds m w) (p : ℕ) (r : Runs m w h.du
         registers = between
             (r.task.registers.at + 1) l.registers;
       }) l.memory later r.ready changes
-      (subst (λ c. Lives m (held r.row.role) l.memory (record {
-        registers = between (r.task.registers.at + 1) l.registers;
-        mode = r.task.mode;
-        condition = c;
-      }) later) (sym r.ready) lives) less
+      (as_ready (between (r.task.registers.at + 1) l.registers) l.memory later lives) less
   settled_holds d wf c true pick o running (comes_to {to = to} {l = l} later changes lives less) =
       was_sliced (record r.task { registers = between to l.registers }) l.memory later pick running r.ready changes
-      (subst (λ c. Lives m (held r.row.role) l.memory (record {
-        registers = between to l.registers;
-        mode = r.task.mode;
-        condition = c;
-      }) later) (sym r.ready) lives) less
+      (as_ready (between to l.registers) l.memory later lives) less
   settled_holds d wf c false pick o running (comes_to {to = to} {l = l} later changes lives less) =
       went_on (record r.task { registers = between to l.registers }) l.memory later r.ready changes
-      (subst (λ c. Lives m (held r.row.role) l.memory (record {
-        registers = between to l.registers;
-        mode = r.task.mode;
-        condition = c;
-      }) later) (sym r.ready) lives) less
+      (as_ready (between to l.registers) l.memory later lives) less
   settled_holds d wf c slice pick o running (comes_straight {to = to} {l = l} later changes lives less) =
       went_on (record r.task { registers = between to l.registers }) l.memory later r.ready changes
-      (subst (λ c. Lives m (held r.row.role) l.memory (record {
-        registers = between to l.registers;
-        mode = r.task.mode;
-        condition = c;
-      }) later) (sym r.ready) lives) less
+      (as_ready (between to l.registers) l.memory later lives) less
   settled_holds d wf c slice pick o running (comes_down {l = l} changes less) =
       has_stopped (record r.task {
         registers = between (r.task.registers.at + 1) l.registers;

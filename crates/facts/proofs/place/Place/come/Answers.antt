@@ -8,16 +8,16 @@ use Rattle.facts.proofs.place.Place.come.Goals as goal
 
 pub fill-requires-clause-near : goal.fill-requires-clause-near
 fill-requires-clause-near c =
-    let near = near_end c.args.to.lo c.args.to.hi c.requires.target in
+    let near = near_end c.args.block.to.lo c.args.block.to.hi c.args.block.target in
     let high = near.1 in
-    let one = c.requires.exact in
+    let one = c.args.block.exact in
     omega (arith, ints)
 
 pub fill-requires-clause-room : goal.fill-requires-clause-room
 fill-requires-clause-room c = λ zero.
-    subst (λ (z : ℤ). CanWriteSpan c.args.state.now (word_of_byte c.args.to.lo) (words_touched c.args.to.lo z))
+    subst (λ (z : ℤ). CanWriteSpan c.args.state.now (word_of_byte c.args.block.to.lo) (words_touched c.args.block.to.lo z))
     (let value = c.end.ensures.value in
-    let e : c.args.to.hi +ℤ c.args.count ≡ to_z w32 (of_z w32 c.end.result) = omega (arith, ints) in e)
+    let e : c.args.block.to.hi +ℤ c.args.block.count ≡ to_z w32 (of_z w32 c.end.result) = omega (arith, ints) in e)
     (c.requires.room zero)
 
 pub returns-clause-belongs : goal.returns-clause-belongs

@@ -8,8 +8,7 @@ use Rattle.facts.proofs.place.Place.moves_some.Goals as goal
 
 pub returns-clause-ruling : goal.returns-clause-ruling
 returns-clause-ruling c =
-    moves_told c.come.result (state_of c.come.new.state) (site_of c.args.self.now) c.args.count
-    (to_z w32 (of_z w32 c.args.count)) (to_z w32 (of_z w32 c.args.count)) (to_z w32 (of_z w32 c.end.result)) c.args.from
-    c.args.to (state_of c.args.state.now) (omega (arith, ints)) c.in_ok-reads_bytes.ensures
-    (let value = c.end.ensures.value in omega (arith, ints)) c.in_ok-writes_bytes.ensures.test (omega (arith, ints))
-    c.come.ensures.ruling
+    moves_told c.come.result (state_of c.come.new.state) (site_of c.args.self.now) c.args.block.count
+    (to_z w32 (of_z w32 c.args.block.count)) (to_z w32 (of_z w32 c.end.result)) c.args.block.from c.args.block.to
+    (state_of c.args.state.now) (omega (arith, ints)) c.in_ok-reads_bytes.ensures
+    (let value = c.end.ensures.value in omega (arith, ints)) c.in_ok-writes_bytes.ensures.test c.come.ensures.ruling
