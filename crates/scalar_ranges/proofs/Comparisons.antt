@@ -11,35 +11,37 @@ known_by equal lower higher =
     cond equal (cond lower comparison.LessOrEqual (cond higher comparison.GreaterOrEqual comparison.Equal))
     (cond lower (cond higher comparison.NotEqual comparison.Less) comparison.Greater)
 
+-- what holds of each comparison
+each : (P : Comparison → Type 0) → P comparison.Equal → P comparison.NotEqual → P comparison.Less
+    → P comparison.LessOrEqual → P comparison.Greater → P comparison.GreaterOrEqual → (c : Comparison) → P c
+each P a b c d e f comparison.Equal = a
+each P a b c d e f comparison.NotEqual = b
+each P a b c d e f comparison.Less = c
+each P a b c d e f comparison.LessOrEqual = d
+each P a b c d e f comparison.Greater = e
+each P a b c d e f comparison.GreaterOrEqual = f
+
 is_known : (c : Comparison)
     → c ≡ known_by (compares c (pos 0) (pos 0)) (compares c (pos 0) (pos 1)) (compares c (pos 1) (pos 0))
 unfolding known_by
-is_known comparison.Equal = refl
-is_known comparison.NotEqual = refl
-is_known comparison.Less = refl
-is_known comparison.LessOrEqual = refl
-is_known comparison.Greater = refl
-is_known comparison.GreaterOrEqual = refl
+is_known c =
+    each (λ (k : Comparison). k
+    ≡ known_by (compares k (pos 0) (pos 0)) (compares k (pos 0) (pos 1)) (compares k (pos 1) (pos 0)))
+    refl refl refl refl refl refl c
 
 opposite_known : (c : Comparison) → known_by (not (compares c (pos 0) (pos 0))) (not (compares c (pos 0) (pos 1)))
     (not (compares c (pos 1) (pos 0))) ≡ opposite c
 unfolding known_by
-opposite_known comparison.Equal = refl
-opposite_known comparison.NotEqual = refl
-opposite_known comparison.Less = refl
-opposite_known comparison.LessOrEqual = refl
-opposite_known comparison.Greater = refl
-opposite_known comparison.GreaterOrEqual = refl
+opposite_known c =
+    each (λ (k : Comparison). known_by (not (compares k (pos 0) (pos 0))) (not (compares k (pos 0) (pos 1)))
+    (not (compares k (pos 1) (pos 0))) ≡ opposite k) refl refl refl refl refl refl c
 
 turned_known : (c : Comparison)
     → known_by (compares c (pos 0) (pos 0)) (compares c (pos 1) (pos 0)) (compares c (pos 0) (pos 1)) ≡ turned c
 unfolding known_by
-turned_known comparison.Equal = refl
-turned_known comparison.NotEqual = refl
-turned_known comparison.Less = refl
-turned_known comparison.LessOrEqual = refl
-turned_known comparison.Greater = refl
-turned_known comparison.GreaterOrEqual = refl
+turned_known c =
+    each (λ (k : Comparison). known_by (compares k (pos 0) (pos 0)) (compares k (pos 1) (pos 0))
+    (compares k (pos 0) (pos 1)) ≡ turned k) refl refl refl refl refl refl c
 
 pub is_opposite : (c d : Comparison) → ((x y : ℤ) → compares d x y ≡ not (compares c x y)) → d ≡ opposite c
 unfolding known_by

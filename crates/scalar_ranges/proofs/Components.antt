@@ -2,26 +2,26 @@
 use Rattle.std.proofs.Common.{◌≡◌, ℕ, suc, ◌<◌, ◌≤◌, Bool, true, false, cond, List, [], ◌∷◌, length, map}
 use Rattle.std.proofs.Common.{reverse, take, refl, sym, ap, subst, arith, ◌∙◌, nat_eq, option_map}
 use Rattle.std.proofs.lemmas.Bool.Decides.{nat_tests}
-use Rattle.std.proofs.lemmas.List.{take_all, take-take, length-take, length-map}
+use Rattle.std.proofs.lemmas.List.{take_all, length-take, length-map}
 use Rattle.scalar_ranges.specs.Entries.{Meaning, Entry}
 use Rattle.scalar_ranges.specs.Moves.{at_number, with_meaning, is_one_of, of_both, taken, Block, end_of}
 use Rattle.scalar_ranges.specs.Moves.{next_component}
 use Rattle.scalar_ranges.specs.Changes.{Slot, Branching, Tracked, modify, entry_in, start_in, end_in, before, seen}
 use Rattle.scalar_ranges.specs.Changes.{ends_seen, block_in, blocks_in, known_in, numbers_of, AreListed, AreTracked}
-use Rattle.scalar_ranges.specs.Changes.{note, with_start, put_start, restarted, each, took, component_slots}
-use Rattle.scalar_ranges.specs.Changes.{component_in, undone, Follows, changed_start}
+use Rattle.scalar_ranges.specs.Changes.{IsWithin, note, with_start, with_end, put_start, restarted, each, took}
+use Rattle.scalar_ranges.specs.Changes.{component_slots, component_in, Follows, changed_start}
 use Rattle.scalar_ranges.proofs.Rows.{same_number}
 use Rattle.scalar_ranges.proofs.Numbered.{modify_long, take_modify, map_modify, map_unmodified, reverse_modify}
 use Rattle.scalar_ranges.proofs.Numbered.{each_maps, map_again, numbers_alike}
 use Rattle.scalar_ranges.proofs.Widening.{same_test}
-use Rattle.scalar_ranges.proofs.Tracking.{IsWithin, IsNoted, IsInside, notes_well, before_same, tracked_kept}
-use Rattle.scalar_ranges.proofs.Tracking.{before_each, tracked_each, either}
-use Rattle.scalar_ranges.proofs.Following.{restarted_by, start_by, end_by, with_end, left_tracked, restarted_mark}
-use Rattle.scalar_ranges.proofs.Following.{restarted_not, restarted_again, inside_restarted, end_is, map_reversed}
+use Rattle.scalar_ranges.proofs.Tracking.{IsNoted, IsInside, notes_well, before_same, put_tracked, put_entries, either}
+use Rattle.scalar_ranges.proofs.Following.{restarted_by, start_by, end_by, restarted_mark, restarted_not}
+use Rattle.scalar_ranges.proofs.Following.{restarted_again, inside_restarted, end_is, map_reversed, once_tracked}
+use Rattle.scalar_ranges.proofs.Following.{twice_tracked, twice_behind}
 
 -- ---- a condition is excluded
 
-start_within : (m : Meaning) → IsWithin (with_start m)
+pub start_within : (m : Meaning) → IsWithin (with_start m)
 start_within m = record { names = λ s. refl; marks = λ s. refl }
 
 other_start : (d : ℕ) (m : Meaning) (s : Slot)
@@ -65,11 +65,9 @@ start_follows n m t tracked =
     let noted = note n t.slots t.blocks in
     let well = notes_well n t.slots t.blocks tracked in
     subst (Follows (put_start n m t)) (sym (start_known m n (known_in t).entries (known_in t).blocks)) (record {
-      entries = ap reverse (map_modify entry_in (with_start m) (with_meaning (λ k. m)) n noted.slots (λ s is. refl))
-          ∙ reverse_modify (with_meaning (λ k. m)) n (map entry_in noted.slots)
-          ∙ ap (λ es. at_number (with_meaning (λ k. m)) n (reverse es)) well.entries;
+      entries = put_entries (with_start m) m n t (λ s. refl) tracked;
       blocks = start_blocks m n noted.slots noted.blocks well.noted well.tracked ∙ ap (blocks_after n m) well.blocks;
-      tracked = tracked_kept (with_start m) n noted.slots noted.blocks (start_within m) well.noted well.tracked;
+      tracked = put_tracked (with_start m) n t (start_within m) tracked;
     })
 
 -- ---- a component ends
@@ -243,21 +241,20 @@ module _ (ns : List ℕ) (ss : List Slot) (b : Branching) (bs : List Branching) 
   abbrev slots : List Slot
   slots = component_slots ns depth b ss
 
-  based : AreTracked base (b ∷ bs)
-  based = left_tracked b.count ss b bs (omega arith) tracked
-
   tooks_tracked : AreTracked tooks (b ∷ bs)
-  tooks_tracked = tracked_each (took depth) ns base b bs (inside_took depth) based
+  tooks_tracked =
+      once_tracked (took depth) (restarted depth) ns (numbers_of b.changes) ss b bs (inside_took depth)
+      (inside_restarted depth) tracked
 
   slots_tracked : AreTracked slots (b ∷ bs)
   slots_tracked =
-      tracked_each (restarted depth) (numbers_of b.changes) tooks b bs (inside_restarted depth) tooks_tracked
+      twice_tracked (took depth) (restarted depth) ns (numbers_of b.changes) ss b bs (inside_took depth)
+      (inside_restarted depth) tracked
 
   behind : before b slots ≡ before b ss
   behind =
-      before_each (restarted depth) (numbers_of b.changes) tooks b bs (inside_restarted depth) tooks_tracked
-      ∙ before_each (took depth) ns base b bs (inside_took depth) based
-      ∙ ap (undone b.changes) (take-take b.count b.count ss (omega arith))
+      twice_behind (took depth) (restarted depth) ns (numbers_of b.changes) ss b bs (inside_took depth)
+      (inside_restarted depth) tracked
 
   tooks_taken : take b.count tooks ≡ tooks
   tooks_taken =

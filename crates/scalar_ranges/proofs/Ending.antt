@@ -11,26 +11,18 @@ use Rattle.scalar_ranges.specs.Changes.{undone, before, seen, ends_seen, blocks_
 use Rattle.scalar_ranges.specs.Changes.{AreTracked, note, with_new, meaning_after, put_if, puts, ended_in, Follows}
 use Rattle.scalar_ranges.proofs.Numbered.{modify_long, map_modify, map_unmodified}
 use Rattle.scalar_ranges.proofs.Numbered.{other_item, same_items, numbers_alike, map_again, item_mapped}
-use Rattle.scalar_ranges.proofs.Tracking.{notes_well}
+use Rattle.scalar_ranges.proofs.Tracking.{notes_well, first_not, second_not}
 use Rattle.scalar_ranges.proofs.Following.{put_follows}
 
 -- ---- a block ends
-
-apart_by : (t u : Bool) → cond t true u ≡ false → t ≡ false
-apart_by true u h = h
-apart_by false u h = refl
-
-others_by : (t u : Bool) → cond t true u ≡ false → u ≡ false
-others_by true u h = absurd (cc)
-others_by false u h = h
 
 undone_other : (cs : List Change) (i : ℕ) (ss : List Slot) → is_one_of (numbers_of cs) i ≡ false
     → item_at i (undone cs ss) ≡ item_at i ss
 undone_other [] i ss others = refl
 undone_other (c ∷ cs) i ss others =
     let listed = is_one_of (numbers_of cs) i in
-    other_item (restored c.before) c.number i (undone cs ss) (apart_by (nat_eq c.number i) listed others)
-    ∙ undone_other cs i ss (others_by (nat_eq c.number i) listed others)
+    other_item (restored c.before) c.number i (undone cs ss) (first_not (nat_eq c.number i) listed others)
+    ∙ undone_other cs i ss (second_not (nat_eq c.number i) listed others)
 
 undone_names : (cs : List Change) (ss : List Slot)
     → map (λ (s : Slot). s.name) (undone cs ss) ≡ map (λ (s : Slot). s.name) ss
@@ -183,14 +175,14 @@ final_seen d true ss = refl
 final_seen d false ss = refl
 
 module _ (ss : List Slot) (b : Branching) (bs : List Branching) (tracked : AreTracked ss (b ∷ bs)) where
+  abbrev begins : Tracked
+  begins = record { slots = before b ss; blocks = bs }
+
   abbrev depth : ℕ
   depth = suc (length bs)
 
   abbrev base : List Slot
   base = take b.count ss
-
-  abbrev begins : Tracked
-  begins = record { slots = before b ss; blocks = bs }
 
   abbrev finals : List Meaning
   finals = map (meaning_after depth b.ended) base

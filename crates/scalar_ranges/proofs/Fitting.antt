@@ -5,23 +5,21 @@ use Rattle.std.proofs.lemmas.Bool.Decides.{nat_tests}
 use Rattle.scalar_ranges.specs.declared.changes.Tracked as code_tracked
 use Rattle.scalar_ranges.specs.declared.scope.Scope as code_scope
 use Rattle.scalar_ranges.specs.Entries.{Meaning, Entry}
-use Rattle.scalar_ranges.specs.Moves.{outermost, Block, Known, begun_with, next, next_component, end}
-use Rattle.scalar_ranges.specs.Moves.{next_from, exclude_from, excluding}
+use Rattle.scalar_ranges.specs.Moves.{outermost, Block, Known, begun_with, next_from, exclude_from, excluding}
 use Rattle.occam_parser.specs.Expressions.{Expression}
 use Rattle.scalar_ranges.specs.Narrowing.{narrow}
 use Rattle.scalar_ranges.specs.Changes.{Slot, Branching, before, blocks_in, begin_with}
 use Rattle.scalar_ranges.proofs.Noting.{branchings_long}
-use Rattle.scalar_ranges.specs.Changes.{Tracked, known_in, put, put_start, begun, next_in, component_in, ended_in}
-use Rattle.scalar_ranges.specs.Changes.{declared}
-use Rattle.scalar_ranges.specs.Changes.{cut, Follows, changed_to, changed_start}
+use Rattle.scalar_ranges.specs.Changes.{Tracked, put, put_start, begun, declared, cut, Follows, changed_to}
+use Rattle.scalar_ranges.specs.Changes.{changed_start}
 use Rattle.scalar_ranges.specs.TrackedViews.{tracked_of, known_by}
 use Rattle.scalar_ranges.specs.Scopes.{entries_of, blocks_of, BeginsHere}
 use Rattle.scalar_ranges.specs.Naming.{names_from}
 use Rattle.scalar_ranges.proofs.Nesting.{Fit}
-use Rattle.scalar_ranges.proofs.Following.{put_follows, begun_follows, next_follows}
-use Rattle.scalar_ranges.proofs.Ending.{end_follows}
-use Rattle.scalar_ranges.proofs.Components.{start_follows, component_follows}
+use Rattle.scalar_ranges.proofs.Following.{put_follows, begun_follows}
+use Rattle.scalar_ranges.proofs.Components.{start_follows}
 use Rattle.scalar_ranges.proofs.Cutting.{declared_follows, cut_follows}
+use Rattle.scalar_ranges.proofs.Turning.{followed, known_is}
 
 pub fit_of : (s : code_scope.Scope) → Fit (names_from s.names.rows.items) (entries_of s) (blocks_of s)
 fit_of s = record { named = s.named; nested = s.nested }
@@ -32,13 +30,18 @@ pub fit_at : {k new : Known} {names kept : List (List ℕ)} → new ≡ k → ke
 fit_at {k} {new} {names} {kept} is same fit =
     subst (λ w. Fit kept w.entries w.blocks) (sym is) (subst (λ ns. Fit ns k.entries k.blocks) (sym same) fit)
 
--- the same where the names are cut to as many as there are entries
-pub fit_cut : (names : List (List ℕ)) (size : ℕ) {k new : Known} {kept : List (List ℕ)} → new ≡ k
-    → kept ≡ outermost size names → size ≡ length new.entries
-    → Fit (outermost (length k.entries) names) k.entries k.blocks → Fit kept new.entries new.blocks
-fit_cut names size {k} {new} {kept} is cut long fit =
-    fit_at {k = k} {new = new} {kept = kept} is
-    (cut ∙ ap (λ n. outermost n names) (long ∙ ap (λ w. length w.entries) is)) fit
+-- the same after a move that fits where the names are cut to as many as there are entries
+pub fit_cut : (old : code_scope.Scope) (move : List Entry → List Block → Known)
+    → ((names : List (List ℕ)) (es : List Entry) (bs : List Block) → Fit names es bs
+    → Fit (outermost (length (move es bs).entries) names) (move es bs).entries (move es bs).blocks)
+    → (size : ℕ) {new : Known} {kept : List (List ℕ)} → new ≡ move (entries_of old) (blocks_of old)
+    → kept ≡ outermost size (names_from old.names.rows.items) → size ≡ length new.entries
+    → Fit kept new.entries new.blocks
+fit_cut old move fits size {new} {kept} is cut long =
+    let names = names_from old.names.rows.items in
+    fit_at {k = move (entries_of old) (blocks_of old)} {new = new} {kept = kept} is
+    (cut ∙ ap (λ n. outermost n names) (long ∙ ap (λ (w : Known). length w.entries) is))
+    (fits names (entries_of old) (blocks_of old) (fit_of old))
 
 -- ---- what comes of a call
 
@@ -61,8 +64,7 @@ some_of {n} is = grind (arith, nat_tests)
 
 known_after : (new : code_tracked.Tracked) (t : Tracked) (k : Known) → tracked_of new ≡ t → Follows t k
     → known_by new ≡ k
-known_after new t k is follows =
-    ap known_in is ∙ (λ i. record { entries = follows.entries i; blocks = follows.blocks i })
+known_after new t k is follows = known_is (followed k is follows)
 
 module _ (old new : code_tracked.Tracked) where
   abbrev was : Tracked
@@ -83,19 +85,6 @@ module _ (old new : code_tracked.Tracked) where
       → known_by new ≡ begin_with ended (known_by old)
   begun_known ended is =
       known_after new (begun ended was) (begin_with ended (known_by old)) is (begun_follows ended was old.tracked)
-
-  pub next_known : tracked_of new ≡ next_in was.slots was.blocks → known_by new ≡ next (known_by old)
-  next_known is = known_after new (next_in was.slots was.blocks) (next (known_by old)) is
-      (next_follows was.slots was.blocks old.tracked)
-
-  pub component_known : (numbers : List ℕ) → tracked_of new ≡ component_in numbers was.slots was.blocks
-      → known_by new ≡ next_component numbers (known_by old)
-  component_known numbers is = known_after new (component_in numbers was.slots was.blocks)
-      (next_component numbers (known_by old)) is (component_follows numbers was.slots was.blocks old.tracked)
-
-  pub end_known : tracked_of new ≡ ended_in was.slots was.blocks → known_by new ≡ end (known_by old)
-  end_known is = known_after new (ended_in was.slots was.blocks) (end (known_by old)) is
-      (end_follows was.slots was.blocks old.tracked)
 
   pub declared_known : (e : Entry) → tracked_of new ≡ declared e was
       → known_by new ≡ record { entries = e ∷ (known_by old).entries; blocks = (known_by old).blocks }

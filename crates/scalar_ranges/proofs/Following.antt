@@ -13,12 +13,12 @@ use Rattle.scalar_ranges.specs.Moves.{ends_with, end_of, next}
 use Rattle.scalar_ranges.specs.Changes.{Slot, Branching, Tracked, entry_in, start_in, end_in, undone}
 use Rattle.scalar_ranges.specs.Changes.{before, seen, ends_seen, begin_with, known_in, block_in, blocks_in, numbers_of}
 use Rattle.scalar_ranges.specs.Changes.{AreListed}
-use Rattle.scalar_ranges.specs.Changes.{AreUpTo, unmarked, AreTracked, note, with_new, put, begun, joined, restarted}
-use Rattle.scalar_ranges.specs.Changes.{each, next_slots, next_in, Follows}
-use Rattle.scalar_ranges.proofs.Numbered.{map_modify, reverse_modify, reverse_take}
-use Rattle.scalar_ranges.proofs.Numbered.{item_taken, each_maps, map_again, reverse_cons}
+use Rattle.scalar_ranges.specs.Changes.{AreUpTo, unmarked, AreTracked, note, with_new, with_end, put, begun}
+use Rattle.scalar_ranges.specs.Changes.{joined, restarted, each, next_slots, next_in, Follows}
+use Rattle.scalar_ranges.proofs.MoveLaws.{hull_cases}
+use Rattle.scalar_ranges.proofs.Numbered.{reverse_take, item_taken, each_maps, map_again, reverse_cons}
 use Rattle.scalar_ranges.proofs.Tracking.{IsInside, notes_well, new_blocks, new_within}
-use Rattle.scalar_ranges.proofs.Tracking.{tracked_kept, before_each, tracked_each}
+use Rattle.scalar_ranges.proofs.Tracking.{put_tracked, put_entries, before_each, tracked_each}
 
 -- ---- an entry means something else
 
@@ -30,11 +30,9 @@ put_follows n m t tracked =
     let noted = note n t.slots t.blocks in
     let well = notes_well n t.slots t.blocks tracked in
     record {
-      entries = ap reverse (map_modify entry_in (with_new m) (with_meaning (λ k. m)) n noted.slots (λ s is. refl))
-          ∙ reverse_modify (with_meaning (λ k. m)) n (map entry_in noted.slots)
-          ∙ ap (λ es. at_number (with_meaning (λ k. m)) n (reverse es)) well.entries;
+      entries = put_entries (with_new m) m n t (λ s. refl) tracked;
       blocks = new_blocks m n noted.slots noted.blocks well.noted well.tracked ∙ well.blocks;
-      tracked = tracked_kept (with_new m) n noted.slots noted.blocks (new_within m) well.noted well.tracked;
+      tracked = put_tracked (with_new m) n t (new_within m) tracked;
     }
 
 -- ---- a block begins
@@ -108,17 +106,9 @@ hull_itself r = λ i. record {
 }
 
 meaning_again : (m n : Meaning) → hull_meaning (hull_meaning m n) n ≡ hull_meaning m n
-meaning_again (Scalar kind type r) (Scalar k t s) = ap (Scalar kind type) (hull_again r s)
-meaning_again (Scalar kind type r) (Constant t v) = refl
-meaning_again (Scalar kind type r) (Array k t size s) = refl
-meaning_again (Scalar kind type r) (Channel t) = refl
-meaning_again (Scalar kind type r) (Channels t size) = refl
-meaning_again (Scalar kind type r) (Procedure number) = refl
-meaning_again (Constant type value) n = refl
-meaning_again (Array kind type size r) n = refl
-meaning_again (Channel type) n = refl
-meaning_again (Channels type size) n = refl
-meaning_again (Procedure number) n = refl
+meaning_again m n =
+    hull_cases (λ (a b h : Meaning). hull_meaning h b ≡ h)
+    (λ kind k type t r s. ap (Scalar kind type) (hull_again r s)) (λ a b is. is) m n
 
 meaning_itself : (m : Meaning) → hull_meaning m m ≡ m
 meaning_itself (Scalar kind type r) = ap (Scalar kind type) (hull_itself r)
@@ -127,9 +117,6 @@ meaning_itself (Array kind type size r) = refl
 meaning_itself (Channel type) = refl
 meaning_itself (Channels type size) = refl
 meaning_itself (Procedure number) = refl
-
-abbrev pub with_end : Meaning → Slot → Slot
-with_end m s = record { name = s.name; meaning = s.meaning; mark = s.mark; start = s.start; ends = m }
 
 -- what a branch's end makes of a slot, by whether it is marked
 abbrev joined_by : Bool → Bool → Slot → Slot
@@ -306,6 +293,25 @@ inside_restarted d = record {
   others = restarted_not d;
 }
 
+-- two changes of the entries of one block, each of one after another
+module _ (f g : Slot → Slot) (ns ms : List ℕ) (ss : List Slot) (b : Branching) (bs : List Branching)
+    (first : IsInside (suc (length bs)) f) (second : IsInside (suc (length bs)) g)
+    (tracked : AreTracked ss (b ∷ bs)) where
+  based : AreTracked (take b.count ss) (b ∷ bs)
+  based = left_tracked b.count ss b bs (omega arith) tracked
+
+  pub once_tracked : AreTracked (each f ns (take b.count ss)) (b ∷ bs)
+  once_tracked = tracked_each f ns (take b.count ss) b bs first based
+
+  pub twice_tracked : AreTracked (each g ms (each f ns (take b.count ss))) (b ∷ bs)
+  twice_tracked = tracked_each g ms (each f ns (take b.count ss)) b bs second once_tracked
+
+  pub twice_behind : before b (each g ms (each f ns (take b.count ss))) ≡ before b ss
+  twice_behind =
+      before_each g ms (each f ns (take b.count ss)) b bs second once_tracked
+      ∙ before_each f ns (take b.count ss) b bs first based
+      ∙ ap (undone b.changes) (take-take b.count b.count ss (omega arith))
+
 module _ (ss : List Slot) (b : Branching) (bs : List Branching) (tracked : AreTracked ss (b ∷ bs)) where
   abbrev depth : ℕ
   depth = suc (length bs)
@@ -313,31 +319,18 @@ module _ (ss : List Slot) (b : Branching) (bs : List Branching) (tracked : AreTr
   abbrev base : List Slot
   base = take b.count ss
 
-  abbrev after : Branching
-  after = record { count = b.count; ended = true; changes = b.changes }
-
   abbrev slots : List Slot
   slots = next_slots depth b ss
 
-  based : AreTracked base (b ∷ bs)
-  based = left_tracked b.count ss b bs (omega arith) tracked
-
-  abbrev joins : List Slot
-  joins = each (joined depth b.ended) (numbers_of b.changes) base
-
-  joins_tracked : AreTracked joins (b ∷ bs)
-  joins_tracked =
-      tracked_each (joined depth b.ended) (numbers_of b.changes) base b bs (inside_joined depth b.ended) based
-
   slots_tracked : AreTracked slots (b ∷ bs)
   slots_tracked =
-      tracked_each (restarted depth) (numbers_of b.changes) joins b bs (inside_restarted depth) joins_tracked
+      twice_tracked (joined depth b.ended) (restarted depth) (numbers_of b.changes) (numbers_of b.changes) ss b bs
+      (inside_joined depth b.ended) (inside_restarted depth) tracked
 
   behind : before b slots ≡ before b ss
   behind =
-      before_each (restarted depth) (numbers_of b.changes) joins b bs (inside_restarted depth) joins_tracked
-      ∙ before_each (joined depth b.ended) (numbers_of b.changes) base b bs (inside_joined depth b.ended) based
-      ∙ ap (undone b.changes) (take-take b.count b.count ss (omega arith))
+      twice_behind (joined depth b.ended) (restarted depth) (numbers_of b.changes) (numbers_of b.changes) ss b bs
+      (inside_joined depth b.ended) (inside_restarted depth) tracked
 
   slots_are : slots ≡ map (λ s. after_by (nat_eq s.mark depth) b.ended s) base
   slots_are =

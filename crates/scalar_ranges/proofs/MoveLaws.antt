@@ -4,6 +4,7 @@ use Rattle.std.proofs.Common.{refl, sym, ap, subst, arith, ◌∙◌, nat_eq, na
 use Rattle.std.proofs.lemmas.Int.{ints, clamps}
 use Rattle.occam_parser.specs.declared.tree.ValueType.{ValueType}
 use Rattle.word_arithmetic.specs.Range.{Ends, InRange, hull, full}
+use Rattle.scalar_ranges.specs.declared.scope.ScalarKind.{ScalarKind}
 use Rattle.scalar_ranges.specs.declared.scope.ScalarKind.TheVariants as kinds
 use Rattle.scalar_ranges.specs.Entries.{Meaning, Constant, Scalar, Array, Channel, Channels, Procedure, Entry}
 use Rattle.scalar_ranges.specs.Entries.{type_range}
@@ -109,20 +110,34 @@ in_right r s v m =
     let b = m.to_hi in
     record { from_lo = omega (arith, ints, clamps); to_hi = omega (arith, ints, clamps) }
 
+-- the hull of two meanings is that of two scalars, or else the first of them
+pub hull_cases : (P : Meaning → Meaning → Meaning → Type 0)
+    → ((kind k : ScalarKind) (type t : ValueType) (r s : Ends)
+    → P (Scalar kind type r) (Scalar k t s) (Scalar kind type (hull r s)))
+    → ((m n : Meaning) → hull_meaning m n ≡ m → P m n m) → (m n : Meaning) → P m n (hull_meaning m n)
+hull_cases P both other (Scalar kind type r) (Scalar k t s) = both kind k type t r s
+hull_cases P both other (Scalar kind type r) (Constant t v) = other (Scalar kind type r) (Constant t v) refl
+hull_cases P both other (Scalar kind type r) (Array k t size s) = other (Scalar kind type r) (Array k t size s) refl
+hull_cases P both other (Scalar kind type r) (Channel t) = other (Scalar kind type r) (Channel t) refl
+hull_cases P both other (Scalar kind type r) (Channels t size) = other (Scalar kind type r) (Channels t size) refl
+hull_cases P both other (Scalar kind type r) (Procedure number) = other (Scalar kind type r) (Procedure number) refl
+hull_cases P both other (Constant type value) n = other (Constant type value) n refl
+hull_cases P both other (Array kind type size range) n = other (Array kind type size range) n refl
+hull_cases P both other (Channel type) n = other (Channel type) n refl
+hull_cases P both other (Channels type size) n = other (Channels type size) n refl
+hull_cases P both other (Procedure number) n = other (Procedure number) n refl
+
+-- a scalar whose range has the numbers of another's
+wider_held : (kind k : ScalarKind) (type t : ValueType) (r s : Ends) (h : Held)
+    → ((v : ℤ) → InRange r v → InRange s v) → IsHeld (Scalar kind type r) h → IsHeld (Scalar k t s) h
+wider_held kind k type t r s (One v) within is = within v is
+wider_held kind k type t r s Nothing within is = is
+wider_held kind k type t r s (Many vs) within is = is
+
 held_left : (m n : Meaning) (h : Held) → IsHeld m h → IsHeld (hull_meaning m n) h
-held_left (Scalar kind type r) (Scalar k t s) (One v) is = in_left r s v is
-held_left (Scalar kind type r) (Scalar k t s) Nothing is = is
-held_left (Scalar kind type r) (Scalar k t s) (Many vs) is = is
-held_left (Scalar kind type r) (Constant t v) h is = is
-held_left (Scalar kind type r) (Array k t size s) h is = is
-held_left (Scalar kind type r) (Channel t) h is = is
-held_left (Scalar kind type r) (Channels t size) h is = is
-held_left (Scalar kind type r) (Procedure number) h is = is
-held_left (Constant type value) n h is = is
-held_left (Array kind type size range) n h is = is
-held_left (Channel type) n h is = is
-held_left (Channels type size) n h is = is
-held_left (Procedure number) n h is = is
+held_left m n h =
+    hull_cases (λ (a b c : Meaning). IsHeld a h → IsHeld c h)
+    (λ kind k type t r s. wider_held kind kind type type r (hull r s) h (in_left r s)) (λ a b same is. is) m n
 
 pub earlier_hold : (ds es : List Entry) (env : Environment) → Meets env ds → Meets env (hulls ds es)
 earlier_hold [] es env m = m
@@ -147,9 +162,8 @@ other_held m (Channels t size) h same other is = subst (λ k. IsHeld k h) (sym s
 other_held m (Procedure number) h same other is = subst (λ k. IsHeld k h) (sym same) is
 
 held_right : (m n : Meaning) (h : Held) → flat m ≡ flat n → IsHeld n h → IsHeld (hull_meaning m n) h
-held_right (Scalar kind type r) (Scalar k t s) (One v) same is = in_right r s v is
-held_right (Scalar kind type r) (Scalar k t s) Nothing same is = is
-held_right (Scalar kind type r) (Scalar k t s) (Many vs) same is = is
+held_right (Scalar kind type r) (Scalar k t s) h same is =
+    wider_held k kind t type s (hull r s) h (in_right r s) is
 held_right (Scalar kind type r) (Constant t v) h same is = absurd (cc)
 held_right (Scalar kind type r) (Array k t size s) h same is = absurd (cc)
 held_right (Scalar kind type r) (Channel t) h same is = absurd (cc)
@@ -277,17 +291,8 @@ widen_shape [] ns = refl
 widen_shape (e ∷ es) ns = λ i. widened_entry (is_one_of ns (length es)) e i ∷ widen_shape es ns i
 
 hull_flat : (m n : Meaning) → flat (hull_meaning m n) ≡ flat m
-hull_flat (Scalar kind type r) (Scalar k t s) = refl
-hull_flat (Scalar kind type r) (Constant t v) = refl
-hull_flat (Scalar kind type r) (Array k t size s) = refl
-hull_flat (Scalar kind type r) (Channel t) = refl
-hull_flat (Scalar kind type r) (Channels t size) = refl
-hull_flat (Scalar kind type r) (Procedure number) = refl
-hull_flat (Constant type value) n = refl
-hull_flat (Array kind type size r) n = refl
-hull_flat (Channel type) n = refl
-hull_flat (Channels type size) n = refl
-hull_flat (Procedure number) n = refl
+hull_flat m n =
+    hull_cases (λ (a b h : Meaning). flat h ≡ flat a) (λ kind k type t r s. refl) (λ a b same. refl) m n
 
 hulls_shape : (ds es : List Entry) → shape (hulls ds es) ≡ shape ds
 hulls_shape [] es = refl

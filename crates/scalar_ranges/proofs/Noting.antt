@@ -8,9 +8,8 @@ use Rattle.scalar_ranges.specs.declared.slots.Slot as code_slot
 use Rattle.scalar_ranges.specs.declared.slots.Branching as code_branching
 use Rattle.scalar_ranges.specs.Environments.{item_at}
 use Rattle.scalar_ranges.specs.Changes.{Slot, Branching, Tracked, modify, AreTracked, marked, is_new_in, is_new}
-use Rattle.scalar_ranges.specs.Changes.{note_if}
-use Rattle.scalar_ranges.specs.Changes.{note}
-use Rattle.scalar_ranges.specs.ChangeViews.{slot_of, slots_from, changes_from, branching_of, branchings_from}
+use Rattle.scalar_ranges.specs.Changes.{listing, note_if, note}
+use Rattle.scalar_ranges.specs.ChangeViews.{slot_of, slots_from, branching_of, branchings_from, tracked_from}
 use Rattle.scalar_ranges.specs.ChangeViews.{BelongTogether}
 use Rattle.scalar_ranges.proofs.Numbered.{item_taken}
 use Rattle.scalar_ranges.proofs.Rows.{one_longer}
@@ -42,7 +41,7 @@ innermost blocks rest b depth is deep = record {
   deep = deep ∙ ap length is ∙ one_longer rest b ∙ ap suc (sym (branchings_long rest));
 }
 
-pub last_apart : (blocks lent : List code_branching.Branching) (b : code_branching.Branching) → lent ≡ blocks
+last_apart : (blocks lent : List code_branching.Branching) (b : code_branching.Branching) → lent ≡ blocks
     → 0 < length lent → b ≡ get_or lent (length lent - 1) b → blocks ≡ take (length blocks - 1) blocks ++ b ∷ []
 last_apart blocks lent b same some found =
     let long = ap length same in
@@ -52,6 +51,13 @@ last_apart blocks lent b same some found =
     sym (take_all (length blocks) blocks (omega arith)) ∙ ap (λ k. take k blocks) (sym last)
     ∙ take_more blocks (length blocks - 1) b (omega arith)
     ∙ ap (λ k. take (length blocks - 1) blocks ++ k ∷ []) (sym is)
+
+-- the same of the block that is seen as the last one
+pub innermost_seen : (blocks lent : List code_branching.Branching) (b : code_branching.Branching) (depth : ℕ)
+    → lent ≡ blocks → 0 < length lent → b ≡ get_or lent (length lent - 1) b → depth ≡ length blocks
+    → Innermost blocks (take (length blocks - 1) blocks) b depth
+innermost_seen blocks lent b depth same some found deep =
+    innermost blocks (take (length blocks - 1) blocks) b depth (last_apart blocks lent b same some found) deep
 
 -- ---- whether an entry is new
 
@@ -93,14 +99,8 @@ old_in : (d n : ℕ) (ss : List Slot) (b : Branching) (bs : List Branching) (o :
     → record { slots = ss; blocks = b ∷ bs } ≡ note_if d n ss b bs o
 old_in d n ss b bs None is = refl
 old_in d n ss b bs (Some s) is =
-    old_by (nat_eq s.mark d) (record { slots = ss; blocks = b ∷ bs }) (record {
-      slots = modify (marked d) n ss;
-      blocks = record {
-        count = b.count;
-        ended = b.ended;
-        changes = b.changes ++ record { number = n; before = s } ∷ [];
-      } ∷ bs;
-    }) is
+    old_by (nat_eq s.mark d) (record { slots = ss; blocks = b ∷ bs })
+    (record { slots = modify (marked d) n ss; blocks = listing n s b ∷ bs }) is
 
 pub note_old : (n : ℕ) (ss : List Slot) (bs : List Branching) → is_new n ss bs ≡ false
     → record { slots = ss; blocks = bs } ≡ note n ss bs
@@ -151,13 +151,8 @@ pub noted : (n depth : ℕ) (slots now : List code_slot.Slot) (blocks rest all :
     (b after : code_branching.Branching) (x d : code_slot.Slot) → Innermost blocks rest b depth
     → IsNew n (slots_from slots) (branching_of b) (branchings_from rest)
     → d ≡ get_or slots n d → now ≡ set slots n x → slot_of x ≡ marked depth (slot_of d)
-    → all ≡ rest ++ after ∷ [] → branching_of after ≡ record {
-      count = b.count;
-      ended = b.ended;
-      changes = changes_from b.changes.items ++ record { number = n; before = slot_of d } ∷ [];
-    }
-    → record { slots = slots_from now; blocks = branchings_from all }
-    ≡ note n (slots_from slots) (branchings_from blocks)
+    → all ≡ rest ++ after ∷ [] → branching_of after ≡ listing n (slot_of d) (branching_of b)
+    → tracked_from now all ≡ note n (slots_from slots) (branchings_from blocks)
 noted n depth slots now blocks rest all b after x d inner new found slot_set marks pushed listed =
     let bs = branchings_from rest in
     let here = branching_of b in
@@ -170,19 +165,10 @@ noted n depth slots now blocks rest all b after x d inner new found slot_set mar
     let changed = ap slots_from slot_set ∙ slots_changed (marked depth) slots n x d inside found marks
     ∙ ap (λ k. modify (marked k) n (slots_from slots)) deep in
     let last = ap branchings_from pushed ∙ branchings_more rest after ∙ ap (λ k. k ∷ bs) listed
-    ∙ ap (λ (s : Slot). record {
-      count = b.count;
-      ended = b.ended;
-      changes = changes_from b.changes.items ++ record { number = n; before = s } ∷ [];
-    } ∷ bs) same in
+    ∙ ap (λ (s : Slot). listing n s here ∷ bs) same in
     (λ i. record { slots = changed i; blocks = last i })
-    ∙ ap (λ t. cond t (record { slots = slots_from slots; blocks = here ∷ bs }) (record {
-      slots = modify (marked (suc (length bs))) n (slots_from slots);
-      blocks = record {
-        count = b.count;
-        ended = b.ended;
-        changes = here.changes ++ record { number = n; before = new.slot } ∷ [];
-      } ∷ bs;
-    })) (sym new.test)
+    ∙ ap (λ t. cond t (record { slots = slots_from slots; blocks = here ∷ bs })
+    (record { slots = modify (marked (suc (length bs))) n (slots_from slots); blocks = listing n new.slot here ∷ bs }))
+    (sym new.test)
     ∙ ap (note_if (suc (length bs)) n (slots_from slots) here bs) (sym new.is)
     ∙ ap (note n (slots_from slots)) (sym inner.seen)

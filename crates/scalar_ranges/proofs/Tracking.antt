@@ -3,13 +3,15 @@ use Rattle.std.proofs.Common.{◌≡◌, ℕ, zero, suc, ◌+◌, ◌≤◌, Boo
 use Rattle.std.proofs.Common.{reverse, take, Option, Some, None, refl, sym, ap, subst, arith, ◌∙◌, nat_eq}
 use Rattle.scalar_ranges.specs.Entries.{Meaning}
 use Rattle.scalar_ranges.specs.Environments.{item_at}
-use Rattle.scalar_ranges.specs.Moves.{is_one_of}
+use Rattle.scalar_ranges.specs.Moves.{is_one_of, at_number, with_meaning}
 use Rattle.scalar_ranges.specs.Changes.{Slot, Change, Branching, Tracked, modify, entry_in, start_in, end_in, restored}
-use Rattle.scalar_ranges.specs.Changes.{undone, before, ends_seen, blocks_in, numbers_of, AreListed}
-use Rattle.scalar_ranges.specs.Changes.{AreUpTo, unmarked, AreTracked, marked, note_if, note, with_new, each}
+use Rattle.scalar_ranges.specs.Changes.{undone, before, seen, ends_seen, blocks_in, numbers_of, AreListed}
+use Rattle.scalar_ranges.specs.Changes.{AreUpTo, unmarked, AreTracked, IsWithin, marked, listing, note_if, note}
+use Rattle.scalar_ranges.specs.Changes.{with_new, put_by, each}
 use Rattle.scalar_ranges.proofs.Rows.{same_number}
 use Rattle.scalar_ranges.proofs.Widening.{one_more}
-use Rattle.scalar_ranges.proofs.Numbered.{modify_long, take_modify, map_unmodified, unmodified, modify_over}
+use Rattle.scalar_ranges.proofs.Numbered.{modify_long, take_modify, map_modify, map_unmodified, unmodified}
+use Rattle.scalar_ranges.proofs.Numbered.{modify_over, reverse_modify}
 use Rattle.scalar_ranges.proofs.Numbered.{modify_swap, items_modified, numbers_alike}
 
 -- ---- what is taken back
@@ -71,11 +73,6 @@ abbrev pub IsNoted : ℕ → List Slot → List Branching → Type 0
 IsNoted n ss [] = Unit {0}
 IsNoted n ss (b ∷ bs) =
     (s : Slot) → item_at n (take b.count ss) ≡ Some s → nat_eq s.mark (suc (length bs)) ≡ true
-
--- a change of a slot that leaves its name and its mark
-pub record IsWithin (f : Slot → Slot) : Type 0 where
-  pub names : (s : Slot) → (f s).name ≡ s.name
-  pub marks : (s : Slot) → (f s).mark ≡ s.mark
 
 undone_by : (t : Bool) (d : ℕ) (cs : List Change) (f : Slot → Slot) (n : ℕ) (ss : List Slot)
     → is_one_of (numbers_of cs) n ≡ t → IsWithin f → AreListed d (numbers_of cs) ss
@@ -228,11 +225,11 @@ changes_more : (cs : List Change) (c : Change) → length (cs ++ c ∷ []) ≡ s
 changes_more [] c = refl
 changes_more (k ∷ cs) c = ap suc (changes_more cs c)
 
-first_not : (t u : Bool) → cond t true u ≡ false → t ≡ false
+pub first_not : (t u : Bool) → cond t true u ≡ false → t ≡ false
 first_not true u h = h
 first_not false u h = refl
 
-second_not : (t u : Bool) → cond t true u ≡ false → u ≡ false
+pub second_not : (t u : Bool) → cond t true u ≡ false → u ≡ false
 second_not true u h = absurd (cc)
 second_not false u h = h
 
@@ -262,7 +259,7 @@ module _ (n : ℕ) (ss : List Slot) (b : Branching) (bs : List Branching) (s : S
   change = record { number = n; before = s }
 
   abbrev after : Branching
-  after = record { count = b.count; ended = b.ended; changes = b.changes ++ change ∷ [] }
+  after = listing n s b
 
   abbrev base : List Slot
   base = take b.count ss
@@ -328,14 +325,8 @@ module _ (n : ℕ) (ss : List Slot) (b : Branching) (bs : List Branching) (s : S
 
 note_by : (t : Bool) (n : ℕ) (ss : List Slot) (b : Branching) (bs : List Branching) (s : Slot)
     → AreTracked ss (b ∷ bs) → item_at n (take b.count ss) ≡ Some s → nat_eq s.mark (suc (length bs)) ≡ t
-    → NotesWell n ss (b ∷ bs) (cond t (record { slots = ss; blocks = b ∷ bs }) (record {
-      slots = modify (marked (suc (length bs))) n ss;
-      blocks = record {
-        count = b.count;
-        ended = b.ended;
-        changes = b.changes ++ record { number = n; before = s } ∷ [];
-      } ∷ bs;
-    }))
+    → NotesWell n ss (b ∷ bs) (cond t (record { slots = ss; blocks = b ∷ bs })
+    (record { slots = modify (marked (suc (length bs))) n ss; blocks = listing n s b ∷ bs }))
 note_by true n ss b bs s tracked is test = record {
   entries = refl;
   blocks = refl;
@@ -364,3 +355,21 @@ pub notes_well : (n : ℕ) (ss : List Slot) (bs : List Branching) → AreTracked
     → NotesWell n ss bs (note n ss bs)
 notes_well n ss [] tracked = record { entries = refl; blocks = refl; tracked = tracked; noted = tt }
 notes_well n ss (b ∷ bs) tracked = noted_if n ss b bs (item_at n (take b.count ss)) tracked refl
+
+-- an entry that changes once it is noted
+pub put_tracked : (f : Slot → Slot) (n : ℕ) (t : Tracked) → IsWithin f → AreTracked t.slots t.blocks
+    → AreTracked (put_by f n t).slots (put_by f n t).blocks
+put_tracked f n t within tracked =
+    let well = notes_well n t.slots t.blocks tracked in
+    tracked_kept f n (note n t.slots t.blocks).slots (note n t.slots t.blocks).blocks within well.noted well.tracked
+
+-- what is seen of it
+pub put_entries : (f : Slot → Slot) (m : Meaning) (n : ℕ) (t : Tracked)
+    → ((s : Slot) → entry_in (f s) ≡ with_meaning (λ k. m) (entry_in s)) → AreTracked t.slots t.blocks
+    → seen entry_in (put_by f n t).slots ≡ at_number (with_meaning (λ k. m)) n (seen entry_in t.slots)
+put_entries f m n t means tracked =
+    let noted = note n t.slots t.blocks in
+    let well = notes_well n t.slots t.blocks tracked in
+    ap reverse (map_modify entry_in f (with_meaning (λ k. m)) n noted.slots (λ s is. means s))
+    ∙ reverse_modify (with_meaning (λ k. m)) n (map entry_in noted.slots)
+    ∙ ap (λ es. at_number (with_meaning (λ k. m)) n (reverse es)) well.entries

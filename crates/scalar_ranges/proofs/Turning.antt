@@ -10,8 +10,10 @@ use Rattle.scalar_ranges.specs.declared.slots.Branching as code_branching
 use Rattle.scalar_ranges.specs.Changes.{Slot, Branching, Tracked, modify, undone, before, numbers_of, AreTracked}
 use Rattle.scalar_ranges.specs.Changes.{joined, restarted}
 use Rattle.scalar_ranges.specs.Changes.{each, next_in, took, component_in, meaning_after, puts, ended_in, fresh, cut}
+use Rattle.scalar_ranges.specs.Changes.{note, put_by, known_in, Follows}
+use Rattle.scalar_ranges.specs.Moves.{Known}
 use Rattle.scalar_ranges.specs.ChangeViews.{slot_of, slots_from, changes_from, branching_of, branchings_from}
-use Rattle.scalar_ranges.specs.ChangeViews.{put_afters, AfterBlock, BelongTogether}
+use Rattle.scalar_ranges.specs.ChangeViews.{tracked_from, put_afters, AfterBlock, BelongTogether}
 use Rattle.scalar_ranges.specs.TrackedViews.{tracked_of}
 use Rattle.scalar_ranges.proofs.Following.{begun_follows}
 use Rattle.scalar_ranges.proofs.Cutting.{declared_tracked}
@@ -25,6 +27,13 @@ slots_cut slots cut count is = ap slots_from is ∙ sym (take-map slot_of count 
 -- what belongs together after a move
 pub kept : {t u : Tracked} → t ≡ u → AreTracked u.slots u.blocks → AreTracked t.slots t.blocks
 kept is tracked = subst (λ t. AreTracked t.slots t.blocks) (sym is) tracked
+
+-- what is known after a move
+pub followed : {t u : Tracked} (k : Known) → t ≡ u → Follows u k → Follows t k
+followed k is follows = subst (λ t. Follows t k) (sym is) follows
+
+pub known_is : {t : Tracked} {k : Known} → Follows t k → known_in t ≡ k
+known_is follows = λ i. record { entries = follows.entries i; blocks = follows.blocks i }
 
 -- one entry more, if there was memory for it
 pub declared_is : (t : Bool) (e : Entry) (slots now : List code_slot.Slot) (blocks : List code_branching.Branching)
@@ -42,11 +51,11 @@ pub cut_is : (count : ℕ) (slots now : List code_slot.Slot) (blocks : List Bran
 cut_is count slots now blocks is = λ i. record { slots = slots_cut slots now count is i; blocks = blocks }
 
 -- an entry means something else, once the innermost block has it in its list
-pub put_is : (f : Slot → Slot) (n : ℕ) (noted : code_tracked.Tracked) (t : Tracked) (lent now all : List code_slot.Slot)
-    → tracked_of noted ≡ t → lent ≡ noted.slots.items → slots_from now ≡ modify f n (slots_from lent) → all ≡ now
-    → ◌≡◌ {A = Tracked} (record { slots = slots_from all; blocks = branchings_from noted.blocks.items })
-    (record { slots = modify f n t.slots; blocks = t.blocks })
-put_is f n noted t lent now all is same changes whole =
+pub put_is : (f : Slot → Slot) (n : ℕ) (old noted : code_tracked.Tracked) (lent now all : List code_slot.Slot)
+    → tracked_of noted ≡ note n (tracked_of old).slots (tracked_of old).blocks → lent ≡ noted.slots.items
+    → slots_from now ≡ modify f n (slots_from lent) → all ≡ now
+    → tracked_from all noted.blocks.items ≡ put_by f n (tracked_of old)
+put_is f n old noted lent now all is same changes whole =
     let changed = ap slots_from whole ∙ changes ∙ ap (λ ks. modify f n (slots_from ks)) same in
     (λ i. record { slots = changed i; blocks = branchings_from noted.blocks.items })
     ∙ ap (λ (k : Tracked). record { slots = modify f n k.slots; blocks = k.blocks }) is
@@ -71,8 +80,7 @@ pub next_is : (depth : ℕ) (slots cut lent now whole : List code_slot.Slot) (ch
     (each (joined depth b.ended) (numbers_of (changes_from changes)) (slots_from lent))
     → whole ≡ now → all ≡ rest ++ after ∷ []
     → branching_of after ≡ record { count = b.count; ended = true; changes = changes_from b.changes.items }
-    → record { slots = slots_from whole; blocks = branchings_from all }
-    ≡ next_in (slots_from slots) (branchings_from blocks)
+    → tracked_from whole all ≡ next_in (slots_from slots) (branchings_from blocks)
 next_is depth slots cut lent now whole changes blocks rest all b after inner taken same listed turning is pushed
     goes_on =
     let f : ℕ → List code_change.Change → List Slot → List Slot = λ d cs ss. each (restarted d)
@@ -88,8 +96,7 @@ pub component_is : (numbers : List ℕ) (depth : ℕ) (slots cut lent now whole 
     → slots_from now ≡ each (restarted depth) (numbers_of (changes_from changes))
     (each (took depth) numbers (slots_from lent))
     → whole ≡ now → all ≡ rest ++ b ∷ []
-    → record { slots = slots_from whole; blocks = branchings_from all }
-    ≡ component_in numbers (slots_from slots) (branchings_from blocks)
+    → tracked_from whole all ≡ component_in numbers (slots_from slots) (branchings_from blocks)
 component_is numbers depth slots cut lent now whole changes blocks rest all b inner taken same listed turning is
     pushed =
     let last = ap branchings_from pushed ∙ branchings_more rest b in
@@ -107,18 +114,17 @@ pub record TakenBack (slots back : List code_slot.Slot) (changes : List code_cha
   pub after : AfterBlock (map (meaning_after depth b.ended) (take b.count (slots_from slots))) changes
   pub begins : slots_from back ≡ before (branching_of b) (slots_from slots)
 
-pub taken_back : (slots cut lent now back : List code_slot.Slot) (listed changes kept : List code_change.Change)
+pub taken_back : (slots cut lent now back : List code_slot.Slot) (listed changes : List code_change.Change)
     (depth : ℕ) (b : code_branching.Branching) → cut ≡ take b.count slots → lent ≡ cut → listed ≡ b.changes.items
     → changes_from changes ≡ changes_from listed
     → AfterBlock (map (meaning_after depth b.ended) (slots_from lent)) changes
-    → slots_from now ≡ undone (changes_from listed) (slots_from lent) → back ≡ now → kept ≡ changes
-    → TakenBack slots back kept depth b
-taken_back slots cut lent now back listed changes kept depth b taken same is all concluding undoing whole held =
+    → slots_from now ≡ undone (changes_from listed) (slots_from lent) → back ≡ now
+    → TakenBack slots back changes depth b
+taken_back slots cut lent now back listed changes depth b taken same is all concluding undoing whole =
     let seen = ap slots_from same ∙ slots_cut slots cut b.count taken in
-    let after = subst (λ ss. AfterBlock (map (meaning_after depth b.ended) ss) changes) seen concluding in
     record {
-      same = ap changes_from held ∙ all ∙ ap changes_from is;
-      after = subst (AfterBlock (map (meaning_after depth b.ended) (take b.count (slots_from slots)))) (sym held) after;
+      same = all ∙ ap changes_from is;
+      after = subst (λ ss. AfterBlock (map (meaning_after depth b.ended) ss) changes) seen concluding;
       begins = ap slots_from whole ∙ undoing ∙ (λ i. undone (changes_from (is i)) (seen i));
     }
 
@@ -132,14 +138,14 @@ around depth slots back blocks rest b inner is tracked =
     subst (λ ss. AreTracked ss (branchings_from rest)) (sym is) here.4
 
 pub end_is : (depth : ℕ) (slots back : List code_slot.Slot) (blocks rest : List code_branching.Branching)
-    (b : code_branching.Branching) (changes : List code_change.Change) (after : Tracked)
-    → Innermost blocks rest b depth → TakenBack slots back changes depth b
-    → after ≡ put_afters changes (record { slots = slots_from back; blocks = branchings_from rest })
-    → after ≡ ended_in (slots_from slots) (branchings_from blocks)
-end_is depth slots back blocks rest b changes after inner begins putting =
+    (b : code_branching.Branching) (changes lent : List code_change.Change) (after : Tracked)
+    → Innermost blocks rest b depth → TakenBack slots back changes depth b → lent ≡ changes
+    → after ≡ put_afters lent (tracked_from back rest) → after ≡ ended_in (slots_from slots) (branchings_from blocks)
+end_is depth slots back blocks rest b changes lent after inner begins same putting =
     let bs = branchings_from rest in
     let ms = map (meaning_after depth b.ended) (take b.count (slots_from slots)) in
-    putting ∙ puts_are ms changes (record { slots = slots_from back; blocks = bs }) begins.after
+    putting ∙ ap (λ cs. put_afters cs (tracked_from back rest)) same
+    ∙ puts_are ms changes (tracked_from back rest) begins.after
     ∙ (λ i. puts (numbers_of (begins.same i))
     (map (meaning_after (inner.deep i) b.ended) (take b.count (slots_from slots)))
     (record { slots = begins.begins i; blocks = bs }))

@@ -1,8 +1,10 @@
 -- The slots, changes and blocks that the program has.
 pub use Rattle.scalar_ranges.specs.EntryViews.{meaning_of, entry_of}
-use Rattle.std.specs.Prelude.{◌≡◌, List, [], ◌∷◌, map, reverse, option_map, Option}
+use Rattle.std.specs.Prelude.{◌≡◌, ℕ, List, [], ◌∷◌, map, reverse, nat_eq, if◌then◌else◌, option_map, Option}
 use Rattle.std.proofs.Props.{props}
 use Rattle.scalar_ranges.specs.declared.slots.Slot as code_slot
+use Rattle.scalar_ranges.specs.declared.slots.Turn as code_turn
+use Rattle.scalar_ranges.specs.declared.slots.Turn.TheVariants as turns
 use Rattle.scalar_ranges.specs.declared.slots.Update as code_update
 use Rattle.scalar_ranges.specs.declared.slots.Update.TheVariants as updates
 use Rattle.scalar_ranges.specs.declared.slots.Change as code_change
@@ -10,8 +12,8 @@ use Rattle.scalar_ranges.specs.declared.slots.Branching as code_branching
 use Rattle.scalar_ranges.specs.Entries.{Meaning}
 use Rattle.scalar_ranges.specs.Environments.{item_at}
 use Rattle.scalar_ranges.specs.Changes.{Slot, Change, Branching, Tracked, before, AreTracked, numbers_of, put_if}
-use Rattle.scalar_ranges.specs.Changes.{marked}
-use Rattle.scalar_ranges.specs.Changes.{with_new, with_start, joined, took, restarted, restored}
+use Rattle.scalar_ranges.specs.Changes.{with_new, with_start, with_end, marked, restored}
+use Rattle.scalar_ranges.specs.Moves.{hull_meaning}
 
 abbrev pub slot_of : code_slot.Slot → Slot
 slot_of s = record {
@@ -22,14 +24,21 @@ slot_of s = record {
   ends = meaning_of s.ends;
 }
 
+-- a slot that the innermost block has in its list, where a branch ends
+abbrev pub turned_to : code_turn.Turn → Slot → Slot
+turned_to (turns.Join ended) s = with_end (if ended then hull_meaning s.ends s.meaning else s.meaning) s
+turned_to turns.Take s = with_end s.meaning s
+turned_to turns.Restart s = with_new s.start s
+
+abbrev pub turned : ℕ → code_turn.Turn → Slot → Slot
+turned d turn s = if nat_eq s.mark d then turned_to turn s else s
+
 -- a slot after what the program makes of it
 abbrev pub updated : code_update.Update → Slot → Slot
 updated (updates.Mark depth) = marked depth
 updated (updates.Mean m) = with_new (meaning_of m)
 updated (updates.Begin m) = with_start (meaning_of m)
-updated (updates.Join depth ended) = joined depth ended
-updated (updates.Take depth) = took depth
-updated (updates.Restart depth) = restarted depth
+updated (updates.End depth turn) = turned depth turn
 updated (updates.Restore before) = restored (slot_of before)
 
 -- the outermost one first
@@ -48,6 +57,9 @@ branching_of b = record { count = b.count; ended = b.ended; changes = changes_fr
 -- the innermost one first, where the program has it last
 abbrev pub branchings_from : List code_branching.Branching → List Branching
 branchings_from blocks = reverse (map branching_of blocks)
+
+abbrev pub tracked_from : List code_slot.Slot → List code_branching.Branching → Tracked
+tracked_from slots blocks = record { slots = slots_from slots; blocks = branchings_from blocks }
 
 -- what the changed entries mean after a block
 abbrev pub afters_from : List code_change.Change → List (Option Meaning)

@@ -118,6 +118,21 @@ AreTracked ss (b ∷ bs) =
 
 -- ---- moves
 
+-- a change of a slot that leaves its name and its mark
+pub record IsWithin (f : Slot → Slot) : Type 0 where
+  pub names : (s : Slot) → (f s).name ≡ s.name
+  pub marks : (s : Slot) → (f s).mark ≡ s.mark
+
+abbrev pub with_new : Meaning → Slot → Slot
+with_new m s = record { name = s.name; meaning = m; mark = s.mark; start = s.start; ends = s.ends }
+
+-- the same where the branches from here on begin with it
+abbrev pub with_start : Meaning → Slot → Slot
+with_start m s = record { name = s.name; meaning = m; mark = s.mark; start = m; ends = s.ends }
+
+abbrev pub with_end : Meaning → Slot → Slot
+with_end m s = record { name = s.name; meaning = s.meaning; mark = s.mark; start = s.start; ends = m }
+
 abbrev pub marked : ℕ → Slot → Slot
 marked d s = record { name = s.name; meaning = s.meaning; mark = d; start = s.meaning; ends = s.meaning }
 
@@ -130,32 +145,33 @@ abbrev pub is_new : ℕ → List Slot → List Branching → Bool
 is_new n ss [] = false
 is_new n ss (b ∷ bs) = is_new_in (suc (length bs)) (item_at n (take b.count ss))
 
+-- an entry comes to the innermost block's list
+abbrev pub listing : ℕ → Slot → Branching → Branching
+listing n s b = record {
+  count = b.count;
+  ended = b.ended;
+  changes = b.changes ++ record { number = n; before = s } ∷ [];
+}
+
 -- The innermost block has an entry in its list before it changes, if the block began with it.
 abbrev pub note_if : ℕ → ℕ → List Slot → Branching → List Branching → Option Slot → Tracked
 note_if d n ss b bs None = record { slots = ss; blocks = b ∷ bs }
 note_if d n ss b bs (Some s) =
     if nat_eq s.mark d then record { slots = ss; blocks = b ∷ bs }
-    else record {
-      slots = modify (marked d) n ss;
-      blocks = record {
-        count = b.count;
-        ended = b.ended;
-        changes = b.changes ++ record { number = n; before = s } ∷ [];
-      } ∷ bs;
-    }
+    else record { slots = modify (marked d) n ss; blocks = listing n s b ∷ bs }
 
 abbrev pub note : ℕ → List Slot → List Branching → Tracked
 note n ss [] = record { slots = ss; blocks = [] }
 note n ss (b ∷ bs) = note_if (suc (length bs)) n ss b bs (item_at n (take b.count ss))
 
-abbrev pub with_new : Meaning → Slot → Slot
-with_new m s = record { name = s.name; meaning = m; mark = s.mark; start = s.start; ends = s.ends }
+-- An entry changes so, once the innermost block has it in its list.
+abbrev pub put_by : (Slot → Slot) → ℕ → Tracked → Tracked
+put_by f n t =
+    let noted = note n t.slots t.blocks in record { slots = modify f n noted.slots; blocks = noted.blocks }
 
 -- an entry means something else
 abbrev pub put : ℕ → Meaning → Tracked → Tracked
-put n m t =
-    let noted = note n t.slots t.blocks in
-    record { slots = modify (with_new m) n noted.slots; blocks = noted.blocks }
+put n m t = put_by (with_new m) n t
 
 -- A block begins, and has ends if it is a PAR.
 abbrev pub begun : Bool → Tracked → Tracked
@@ -167,22 +183,11 @@ begun ended t = record {
 -- the ends of a branch come to those before it
 abbrev pub joined : ℕ → Bool → Slot → Slot
 joined d ended s =
-    if nat_eq s.mark d
-    then record {
-      name = s.name;
-      meaning = s.meaning;
-      mark = s.mark;
-      start = s.start;
-      ends = if ended then hull_meaning s.ends s.meaning else s.meaning;
-    }
-    else s
+    if nat_eq s.mark d then with_end (if ended then hull_meaning s.ends s.meaning else s.meaning) s else s
 
 -- an entry where the next branch begins
 abbrev pub restarted : ℕ → Slot → Slot
-restarted d s =
-    if nat_eq s.mark d
-    then record { name = s.name; meaning = s.start; mark = s.mark; start = s.start; ends = s.ends }
-    else s
+restarted d s = if nat_eq s.mark d then with_new s.start s else s
 
 -- items with these numbers are changed, one after another
 abbrev pub each : {A : Type 0} → (A → A) → List ℕ → List A → List A
@@ -204,20 +209,12 @@ next_in ss (b ∷ bs) = record {
 -- ---- other moves
 
 -- The branches from here on begin with an entry that means something else.
-abbrev pub with_start : Meaning → Slot → Slot
-with_start m s = record { name = s.name; meaning = m; mark = s.mark; start = m; ends = s.ends }
-
 abbrev pub put_start : ℕ → Meaning → Tracked → Tracked
-put_start n m t =
-    let noted = note n t.slots t.blocks in
-    record { slots = modify (with_start m) n noted.slots; blocks = noted.blocks }
+put_start n m t = put_by (with_start m) n t
 
 -- what a component changed is as its end says
 abbrev pub took : ℕ → Slot → Slot
-took d s =
-    if nat_eq s.mark d
-    then record { name = s.name; meaning = s.meaning; mark = s.mark; start = s.start; ends = s.meaning }
-    else s
+took d s = if nat_eq s.mark d then with_end s.meaning s else s
 
 abbrev pub component_slots : List ℕ → ℕ → Branching → List Slot → List Slot
 component_slots ns d b ss = each (restarted d) (numbers_of b.changes) (each (took d) ns (take b.count ss))

@@ -6,6 +6,7 @@ pub mod Types
 pub mod Values
 pub mod Bounds
 pub mod BoundViews
+pub mod OperandViews
 pub mod Shifts
 pub mod Narrowing
 pub mod Moves

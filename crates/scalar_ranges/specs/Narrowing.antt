@@ -38,23 +38,20 @@ tested es c (Named name) t =
     then option_map (λ v. record { name = name; comparison = c; constant = v }) (constant_in es t) else None
 tested es c other t = None
 
--- the comparison that holds with the operands exchanged
-abbrev pub turned : Comparison → Comparison
-turned comparison.Equal = comparison.Equal
-turned comparison.NotEqual = comparison.NotEqual
-turned comparison.Less = comparison.Greater
-turned comparison.LessOrEqual = comparison.GreaterOrEqual
-turned comparison.Greater = comparison.Less
-turned comparison.GreaterOrEqual = comparison.LessOrEqual
+-- the comparison that holds with the operands exchanged, and the one that holds where this one doesn't
+abbrev pub related : Comparison → Comparison × Comparison
+related comparison.Equal = (comparison.Equal, comparison.NotEqual)
+related comparison.NotEqual = (comparison.NotEqual, comparison.Equal)
+related comparison.Less = (comparison.Greater, comparison.GreaterOrEqual)
+related comparison.LessOrEqual = (comparison.GreaterOrEqual, comparison.Greater)
+related comparison.Greater = (comparison.Less, comparison.LessOrEqual)
+related comparison.GreaterOrEqual = (comparison.LessOrEqual, comparison.Less)
 
--- the comparison that holds where this one doesn't
+abbrev pub turned : Comparison → Comparison
+turned c = (related c).0
+
 abbrev pub opposite : Comparison → Comparison
-opposite comparison.Equal = comparison.NotEqual
-opposite comparison.NotEqual = comparison.Equal
-opposite comparison.Less = comparison.GreaterOrEqual
-opposite comparison.LessOrEqual = comparison.Greater
-opposite comparison.Greater = comparison.LessOrEqual
-opposite comparison.GreaterOrEqual = comparison.Less
+opposite c = (related c).1
 
 abbrev pub first_of : {A : Type 0} → Option A → Option A → Option A
 first_of None second = second

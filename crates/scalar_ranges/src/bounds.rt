@@ -136,10 +136,9 @@ pub(crate) fn element_bound(
 }
 
 /// What is known of a number that is converted to a type.
-pub(crate) fn converted_bound(to: ValueType, operand: Result<Bound, u8>) -> Result<Bound, u8>
-    ensures { all_known result ≡ and_then (all_known operand) (converted_bound to) }
+pub(crate) fn converted_bound(to: ValueType, operand: Bound) -> Result<Bound, u8>
+    ensures { all_known result ≡ converted_bound to (known operand) }
 {
-    let operand = operand?;
     if operand.range().fits_within(type_range(to)) {
         Ok(operand)
     } else {

@@ -3,11 +3,12 @@
 ghost use Rattle.std.specs.Prelude.{◌≡◌, ◌≤◌, [], OnOk, OnErr, map, length, option_map};
 ghost use Rattle.scalar_ranges.specs.Environments.{item_at};
 ghost use Rattle.scalar_ranges.specs.Changes.{modify, numbers_of, each, joined, took, restarted, undone, meaning_after};
+ghost use Rattle.scalar_ranges.specs.Changes.{IsWithin};
 ghost use Rattle.scalar_ranges.specs.ChangeViews.{meaning_of, entry_of, updated, slots_from, changes_from, put_afters};
 ghost use Rattle.scalar_ranges.specs.ChangeViews.{AfterBlock, BelongTogether, BelongTogether-prop};
 
 use crate::scope::{Entry, Meaning};
-use crate::slots::{Branching, Change, Slot, Update};
+use crate::slots::{Branching, Change, Slot, Turn, Update};
 use std::alloc::{AllocError, Global};
 
 /// The entries at a place, numbered from the outermost one on, and the blocks of branches around it. Once a block has
@@ -21,10 +22,9 @@ pub(crate) struct Tracked<'a> {
 }
 
 impl<'a> Tracked<'a> {
-    ghost use Rattle.scalar_ranges.specs.Moves.{begun_with};
+    ghost use Rattle.scalar_ranges.specs.Moves.{begun_with, next, next_component, end};
     ghost use Rattle.scalar_ranges.specs.MoveLaws.{meaning_at};
-    ghost use Rattle.scalar_ranges.specs.Changes.{is_new, note, put, put_start, begun, next_in, component_in};
-    ghost use Rattle.scalar_ranges.specs.Changes.{ended_in, declared, cut};
+    ghost use Rattle.scalar_ranges.specs.Changes.{is_new, note, put_by, put, put_start, begun, declared, cut};
     ghost use Rattle.scalar_ranges.specs.TrackedViews.{tracked_of, known_by};
 
     /// No entries, and no blocks.
@@ -100,41 +100,39 @@ impl<'a> Tracked<'a> {
             return;
         }
         let depth = self.blocks.len();
-        if let Some(block) = self.blocks.pop() {
-            let Branching {
-                count,
-                ended,
-                mut changes,
-            } = block;
+        if let Some(mut block) = self.blocks.pop() {
             let before = self.slots[number];
-            changes.push_reserved(Change {
+            block.changes.push_reserved(Change {
                 number,
                 before,
                 after: None,
             });
             self.slots[number] = before.updated(Update::Mark { depth });
-            self.blocks.push_reserved(Branching {
-                count,
-                ended,
-                changes,
-            });
+            self.blocks.push_reserved(block);
         }
+    }
+
+    /// An entry is updated, once the innermost block has it in its list.
+    fn update(&mut self, number: usize, update: Update<'a>)
+        requires { IsWithin (updated update) }
+        ensures { tracked_of self.new ≡ put_by (updated update.entry) number (tracked_of self.old) }
+    {
+        self.note(number);
+        modify(&mut self.slots, number, update);
     }
 
     /// An entry means something else.
     pub(crate) fn put(&mut self, number: usize, meaning: Meaning)
         ensures { tracked_of self.new ≡ put number (meaning_of meaning) (tracked_of self.old) }
     {
-        self.note(number);
-        modify(&mut self.slots, number, Update::Mean(meaning));
+        self.update(number, Update::Mean(meaning));
     }
 
     /// An entry means something else, and the branches of the innermost block begin so from here on.
     pub(crate) fn put_start(&mut self, number: usize, meaning: Meaning)
         ensures { tracked_of self.new ≡ put_start number (meaning_of meaning) (tracked_of self.old) }
     {
-        self.note(number);
-        modify(&mut self.slots, number, Update::Begin(meaning));
+        self.update(number, Update::Begin(meaning));
     }
 
     /// A block begins, which has ends if it is a `PAR`. It gets room for all entries to change. If memory runs out, all
@@ -155,29 +153,20 @@ impl<'a> Tracked<'a> {
 
     /// A branch ends, and the next one begins.
     pub(crate) fn next(&mut self)
-        ensures { tracked_of self.new ≡ next_in (tracked_of self.old).slots (tracked_of self.old).blocks }
+        ensures { known_by self.new ≡ next (known_by self.old) }
     {
         let depth = self.blocks.len();
-        if let Some(block) = self.blocks.pop() {
-            let Branching {
-                count,
-                ended,
-                changes,
-            } = block;
-            self.slots.truncate(count);
-            next_slots(&mut self.slots, &changes, depth, ended);
-            self.blocks.push_reserved(Branching {
-                count,
-                ended: true,
-                changes,
-            });
+        if let Some(mut block) = self.blocks.pop() {
+            self.slots.truncate(block.count);
+            next_slots(&mut self.slots, &block.changes, depth, block.ended);
+            block.ended = true;
+            self.blocks.push_reserved(block);
         }
     }
 
     /// A component ends, which changed the variables with these numbers, and the next one begins.
     pub(crate) fn next_component(&mut self, numbers: &[usize])
-        ensures { tracked_of self.new
-            ≡ component_in numbers.now (tracked_of self.old).slots (tracked_of self.old).blocks }
+        ensures { known_by self.new ≡ next_component numbers.now (known_by self.old) }
     {
         let depth = self.blocks.len();
         if let Some(block) = self.blocks.pop() {
@@ -189,7 +178,7 @@ impl<'a> Tracked<'a> {
 
     /// A block ends: its changes are taken back, and what is known after it changes what is around it.
     pub(crate) fn end(&mut self)
-        ensures { tracked_of self.new ≡ ended_in (tracked_of self.old).slots (tracked_of self.old).blocks }
+        ensures { known_by self.new ≡ end (known_by self.old) }
     {
         let depth = self.blocks.len();
         if let Some(block) = self.blocks.pop() {
@@ -221,8 +210,8 @@ fn next_slots<'a>(slots: &mut [Slot<'a>], changes: &[Change<'a>], depth: usize, 
     ensures { let numbers = numbers_of (changes_from changes.now) in slots_from slots.new
         ≡ each (restarted depth) numbers (each (joined depth ended) numbers (slots_from slots.old)) }
 {
-    each_listed(slots, changes, Update::Join { depth, ended });
-    each_listed(slots, changes, Update::Restart { depth });
+    each_listed(slots, changes, Update::End(depth, Turn::Join { ended }));
+    each_listed(slots, changes, Update::End(depth, Turn::Restart));
 }
 
 /// The slots where the next component begins, after one that changed the variables with these numbers.
@@ -235,8 +224,8 @@ fn component_slots<'a>(
     ensures { slots_from slots.new ≡ each (restarted depth) (numbers_of (changes_from changes.now))
         (each (took depth) numbers.now (slots_from slots.old)) }
 {
-    each_numbered(slots, numbers, Update::Take { depth });
-    each_listed(slots, changes, Update::Restart { depth });
+    each_numbered(slots, numbers, Update::End(depth, Turn::Take));
+    each_listed(slots, changes, Update::End(depth, Turn::Restart));
 }
 
 /// The slots where a block began, each of whose changes says what its entry means after the block.

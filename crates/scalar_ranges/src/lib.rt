@@ -10,6 +10,7 @@ mod leaving;
 mod moves;
 mod names;
 mod narrowing;
+mod operands;
 mod ranges;
 mod reading;
 mod results;

@@ -2,8 +2,7 @@
 
 ghost use Rattle.std.specs.Prelude.{◌≡◌};
 ghost use Rattle.word_arithmetic.specs.Range.{ends_of};
-ghost use Rattle.scalar_ranges.specs.Moves.{at_number, with_meaning, assigned, assign, widened, widen};
-ghost use Rattle.scalar_ranges.specs.Moves.{hull_meaning};
+ghost use Rattle.scalar_ranges.specs.Moves.{at_number, with_meaning, assigned, assign, widened, widen, hull_meaning};
 ghost use Rattle.scalar_ranges.specs.MoveLaws.{shape};
 ghost use Rattle.scalar_ranges.specs.Changes.{changed_to};
 ghost use Rattle.scalar_ranges.specs.Scopes.{meaning_of, entries_of, blocks_of};

@@ -5,20 +5,16 @@ ghost use Rattle.occam_parser.specs.Views.{expression_of, term_of};
 ghost use Rattle.scalar_ranges.specs.Scopes.{entries_of, meaning_of};
 ghost use Rattle.scalar_ranges.specs.Steps.{and_then, both};
 ghost use Rattle.scalar_ranges.specs.Types.{type_of, type_of_term, named_type, element_type, subscripted};
-ghost use Rattle.scalar_ranges.specs.Types.{prefix_type, pair_type, chain_type, converted_type};
 ghost use Rattle.scalar_ranges.specs.Bounds.{Exactly, bound_of, bound_of_term, named_bound, element_bound};
-ghost use Rattle.scalar_ranges.specs.Bounds.{prefix_bound, pair_bound, chain_bound, converted_bound};
+ghost use Rattle.scalar_ranges.specs.OperandViews.{before_type, between_type, before_bound, between_bound};
 ghost use Rattle.scalar_ranges.specs.BoundViews.{all_known};
 
-use crate::bounds::{Bound, converted_bound, element_bound, named_bound, truth_bound};
-use crate::results::{chain_bound, pair_bound, prefix_bound};
+use crate::bounds::{Bound, element_bound, named_bound, truth_bound};
+use crate::operands::{Before, Between};
+use crate::results::{before_bound, between_bound};
 use crate::scope::{Meaning, Scope};
-use crate::types::{
-    ExprType, chain_type, converted_type, named_type, pair_type, prefix_type, subscripted_type,
-};
-use occam_parser::{
-    ChainOperator, Expr, Operand, Operation, PairOperator, PrefixOperator, ValueType,
-};
+use crate::types::{ExprType, before_type, between_type, named_type, subscripted_type};
+use occam_parser::{Expr, Operand, Operation};
 
 /// What is read of an expression or of a part of it. An error is the number of a fault.
 #[derive(Clone, Copy)]
@@ -36,14 +32,16 @@ pub(crate) fn read(scope: &Scope, expr: &Expr) -> Reading
 {
     match &*expr.operation {
         Operation::Operand(operand) => read_operand(scope, operand),
-        Operation::Prefix { operator, operand } => read_operand(scope, operand).prefixed(*operator),
+        Operation::Prefix { operator, operand } => {
+            read_operand(scope, operand).prefixed(Before::Operator(*operator))
+        }
         Operation::Pair {
             operator,
             left,
             right,
         } => {
             let left = read_operand(scope, left);
-            left.paired(*operator, read_operand(scope, right))
+            left.combined(Between::Pair(*operator), read_operand(scope, right))
         }
         Operation::Chain {
             operator,
@@ -52,9 +50,9 @@ pub(crate) fn read(scope: &Scope, expr: &Expr) -> Reading
             others,
         } => {
             let first = read_operand(scope, first);
-            let mut found = first.chained(*operator, read_operand(scope, second));
+            let mut found = first.combined(Between::Chain(*operator), read_operand(scope, second));
             for other in others {
-                found = found.chained(*operator, read_operand(scope, other));
+                found = found.combined(Between::Chain(*operator), read_operand(scope, other));
             }
             found
         }
@@ -81,7 +79,9 @@ pub(crate) fn read_operand(scope: &Scope, operand: &Operand) -> Reading
             name,
         )),
         Operand::Bracketed(inner) => read(scope, inner),
-        Operand::Converted { to, operand } => read_operand(scope, operand).converted(*to),
+        Operand::Converted { to, operand } => {
+            read_operand(scope, operand).prefixed(Before::Conversion(*to))
+        }
     }
 }
 
@@ -121,49 +121,26 @@ impl Reading {
         }
     }
 
-    /// An operand that is converted to a type.
-    fn converted(self, to: ValueType) -> Reading
-        ensures types { result.expr_type ≡ and_then self.expr_type (converted_type to) }
-        ensures bounds { all_known result.bound ≡ and_then (all_known self.bound) (converted_bound to) }
+    /// An operand after what stands before it.
+    fn prefixed(self, before: Before) -> Reading
+        ensures types { result.expr_type ≡ and_then self.expr_type (before_type before) }
+        ensures bounds { all_known result.bound ≡ and_then (all_known self.bound) (before_bound before) }
     {
         Reading {
-            expr_type: converted_type(to, self.expr_type),
-            bound: converted_bound(to, self.bound),
+            expr_type: before_type(before, self.expr_type),
+            bound: before_bound(before, self.bound),
         }
     }
 
-    /// An operator before an operand.
-    fn prefixed(self, operator: PrefixOperator) -> Reading
-        ensures types { result.expr_type ≡ and_then self.expr_type (prefix_type operator) }
-        ensures bounds { all_known result.bound ≡ and_then (all_known self.bound) (prefix_bound operator) }
-    {
-        Reading {
-            expr_type: prefix_type(operator, self.expr_type),
-            bound: prefix_bound(operator, self.bound),
-        }
-    }
-
-    /// An operator between two operands.
-    fn paired(self, operator: PairOperator, right: Reading) -> Reading
-        ensures types { result.expr_type ≡ both self.expr_type right.expr_type (pair_type operator) }
+    /// Two operands with what stands between them.
+    fn combined(self, between: Between, right: Reading) -> Reading
+        ensures types { result.expr_type ≡ both self.expr_type right.expr_type (between_type between) }
         ensures bounds { all_known result.bound
-            ≡ both (all_known self.bound) (all_known right.bound) (pair_bound operator) }
+            ≡ both (all_known self.bound) (all_known right.bound) (between_bound between) }
     {
         Reading {
-            expr_type: pair_type(operator, self.expr_type, right.expr_type),
-            bound: pair_bound(operator, self.bound, right.bound),
-        }
-    }
-
-    /// A chain that has one operand more.
-    fn chained(self, operator: ChainOperator, next: Reading) -> Reading
-        ensures types { result.expr_type ≡ both self.expr_type next.expr_type (chain_type operator) }
-        ensures bounds { all_known result.bound
-            ≡ both (all_known self.bound) (all_known next.bound) (chain_bound operator) }
-    {
-        Reading {
-            expr_type: chain_type(operator, self.expr_type, next.expr_type),
-            bound: chain_bound(operator, self.bound, next.bound),
+            expr_type: between_type(between, self.expr_type, right.expr_type),
+            bound: between_bound(between, self.bound, right.bound),
         }
     }
 }

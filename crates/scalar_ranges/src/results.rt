@@ -3,25 +3,33 @@
 ghost use Rattle.std.specs.Prelude.{◌≡◌, pos, ◌≤ℤ◌, ◌<◌, option_map};
 ghost use Rattle.word_arithmetic.specs.Range.{ends_of};
 ghost use Rattle.scalar_ranges.specs.Values.{operation_of, counts, shifted};
-ghost use Rattle.scalar_ranges.specs.Bounds.{gives, by_counts, binary_bound, arithmetic_bound, pair_bound};
-ghost use Rattle.scalar_ranges.specs.Bounds.{chain_bound, not_bound, prefix_bound};
+ghost use Rattle.scalar_ranges.specs.Bounds.{gives, by_counts, binary_bound, arithmetic_bound};
+ghost use Rattle.scalar_ranges.specs.Bounds.{not_bound, prefix_bound};
+ghost use Rattle.scalar_ranges.specs.OperandViews.{before_bound, between_bound};
 ghost use Rattle.scalar_ranges.specs.BoundViews.{known, all_known};
 ghost use Rattle.scalar_ranges.specs.Shifts.{shifted_word, shift_range};
 ghost use Rattle.scalar_ranges.specs.Steps.{and_then, both};
 
-use crate::bounds::{Bound, exactly, truth_bound, within};
+use crate::bounds::{Bound, converted_bound, exactly, truth_bound, within};
+use crate::operands::{Before, Between};
 use crate::steps::paired;
 use occam_parser::{ArithmeticChain, ArithmeticPair, ChainOperator, PairOperator, PrefixOperator};
 use word_arithmetic::{Binary, Range, not, shift_left, shift_right};
 
-/// What is known of the result of an operator before one operand.
-pub(crate) fn prefix_bound(
-    operator: PrefixOperator,
-    operand: Result<Bound, u8>,
-) -> Result<Bound, u8>
-    ensures { all_known result ≡ and_then (all_known operand) (prefix_bound operator) }
+/// What is known of one operand with what stands before it.
+pub(crate) fn before_bound(before: Before, operand: Result<Bound, u8>) -> Result<Bound, u8>
+    ensures { all_known result ≡ and_then (all_known operand) (before_bound before) }
 {
     let operand = operand?;
+    match before {
+        Before::Operator(operator) => prefix_bound(operator, operand),
+        Before::Conversion(to) => converted_bound(to, operand),
+    }
+}
+
+fn prefix_bound(operator: PrefixOperator, operand: Bound) -> Result<Bound, u8>
+    ensures { all_known result ≡ prefix_bound operator (known operand) }
+{
     match operator {
         PrefixOperator::Negate => binary_bound(Binary::Subtract, Bound::Exactly(0), operand),
         PrefixOperator::BitNot => not_bound(operand),
@@ -29,33 +37,25 @@ pub(crate) fn prefix_bound(
     }
 }
 
-/// What is known of the result of an operator between two operands.
-pub(crate) fn pair_bound(
-    operator: PairOperator,
+/// What is known of two operands with what stands between them.
+pub(crate) fn between_bound(
+    between: Between,
     left: Result<Bound, u8>,
     right: Result<Bound, u8>,
 ) -> Result<Bound, u8>
-    ensures { all_known result ≡ both (all_known left) (all_known right) (pair_bound operator) }
+    ensures { all_known result ≡ both (all_known left) (all_known right) (between_bound between) }
 {
     let (left, right) = paired(left, right)?;
-    match operator {
-        PairOperator::Arithmetic(operator) => arithmetic_bound(operator, left, right),
-        PairOperator::Comparison(_) => Ok(truth_bound()),
-    }
-}
-
-/// What is known of a chain that has one operand more.
-pub(crate) fn chain_bound(
-    operator: ChainOperator,
-    found: Result<Bound, u8>,
-    next: Result<Bound, u8>,
-) -> Result<Bound, u8>
-    ensures { all_known result ≡ both (all_known found) (all_known next) (chain_bound operator) }
-{
-    let (found, next) = paired(found, next)?;
-    match operator {
-        ChainOperator::Arithmetic(operator) => binary_bound(operation_of(operator), found, next),
-        ChainOperator::Logic(_) => Ok(truth_bound()),
+    match between {
+        Between::Pair(PairOperator::Arithmetic(operator)) => arithmetic_bound(
+            operator, left, right,
+        ),
+        Between::Chain(ChainOperator::Arithmetic(operator)) => {
+            binary_bound(operation_of(operator), left, right)
+        }
+        Between::Pair(PairOperator::Comparison(_)) | Between::Chain(ChainOperator::Logic(_)) => {
+            Ok(truth_bound())
+        }
     }
 }
 

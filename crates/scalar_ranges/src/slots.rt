@@ -39,29 +39,36 @@ pub(crate) struct Branching<'a> {
     ghost room: { count ≤ vec_capacity changes },
 }
 
-/// What becomes of an entry, and of what a block of this depth has of it.
+/// What becomes of an entry, and of what a block has of it.
 #[derive(Clone, Copy)]
 pub(crate) enum Update<'a> {
-    /// The block has it in its list from now on.
+    /// The block of this depth has it in its list from now on.
     Mark { depth: usize },
     /// It means something else.
     Mean(Meaning),
     /// It means something else, and so it does where the further branches begin.
     Begin(Meaning),
-    /// The end of a branch comes to those before it, if there are any.
-    Join { depth: usize, ended: bool },
-    /// What a component changed is as its end says.
-    Take { depth: usize },
-    /// The next branch begins.
-    Restart { depth: usize },
+    /// A branch of the block of this depth ends, which matters if the block has it in its list.
+    End(usize, Turn),
     /// It is again as it was.
     Restore(Slot<'a>),
 }
 
+/// What becomes of an entry that changed in a branch, where the branch ends.
+#[derive(Clone, Copy)]
+pub(crate) enum Turn {
+    /// The end comes to those before it, if there are any.
+    Join { ended: bool },
+    /// A component changed it: it is as this end says.
+    Take,
+    /// The next branch begins.
+    Restart,
+}
+
 impl<'a> Slot<'a> {
     ghost use Rattle.std.specs.Prelude.{◌≡◌};
-    ghost use Rattle.scalar_ranges.specs.Changes.{fresh, joined, took, restarted, meaning_after};
-    ghost use Rattle.scalar_ranges.specs.ChangeViews.{meaning_of, entry_of, slot_of, updated};
+    ghost use Rattle.scalar_ranges.specs.Changes.{fresh, meaning_after};
+    ghost use Rattle.scalar_ranges.specs.ChangeViews.{meaning_of, entry_of, slot_of, updated, turned, turned_to};
 
     /// An entry that no block has in its list.
     pub(crate) fn fresh(entry: Entry<'a>) -> Slot<'a>
@@ -93,9 +100,7 @@ impl<'a> Slot<'a> {
                 start: meaning,
                 ..self
             },
-            Update::Join { depth, ended } => self.joined(depth, ended),
-            Update::Take { depth } => self.took(depth),
-            Update::Restart { depth } => self.restarted(depth),
+            Update::End(depth, turn) => self.turned(depth, turn),
             Update::Restore(before) => Slot {
                 name: self.name,
                 ..before
@@ -103,41 +108,34 @@ impl<'a> Slot<'a> {
         }
     }
 
-    fn joined(self, depth: usize, ended: bool) -> Slot<'a>
-        ensures { slot_of result ≡ joined depth ended (slot_of self.entry) }
+    /// The slot after the end of a branch of the block of this depth.
+    fn turned(self, depth: usize, turn: Turn) -> Slot<'a>
+        ensures { slot_of result ≡ turned depth turn (slot_of self.entry) }
     {
-        if self.mark != depth {
-            return self;
-        }
-        let ends = if ended {
-            hull_meaning(self.ends, self.meaning)
+        if self.mark == depth {
+            self.turned_to(turn)
         } else {
-            self.meaning
-        };
-        Slot { ends, ..self }
-    }
-
-    fn took(self, depth: usize) -> Slot<'a>
-        ensures { slot_of result ≡ took depth (slot_of self.entry) }
-    {
-        if self.mark != depth {
-            return self;
-        }
-        Slot {
-            ends: self.meaning,
-            ..self
+            self
         }
     }
 
-    fn restarted(self, depth: usize) -> Slot<'a>
-        ensures { slot_of result ≡ restarted depth (slot_of self.entry) }
+    /// The same of an entry that the block has in its list.
+    fn turned_to(self, turn: Turn) -> Slot<'a>
+        ensures { slot_of result ≡ turned_to turn (slot_of self.entry) }
     {
-        if self.mark != depth {
-            return self;
-        }
-        Slot {
-            meaning: self.start,
-            ..self
+        match turn {
+            Turn::Join { ended: true } => Slot {
+                ends: hull_meaning(self.ends, self.meaning),
+                ..self
+            },
+            Turn::Join { ended: false } | Turn::Take => Slot {
+                ends: self.meaning,
+                ..self
+            },
+            Turn::Restart => Slot {
+                meaning: self.start,
+                ..self
+            },
         }
     }
 

@@ -7,7 +7,9 @@ ghost use Rattle.scalar_ranges.specs.Steps.{and_then, both};
 ghost use Rattle.scalar_ranges.specs.Types.{type_of, type_of_values, named_type, element_type};
 ghost use Rattle.scalar_ranges.specs.Types.{subscripted};
 ghost use Rattle.scalar_ranges.specs.Types.{prefix_type, pair_type, chain_type, converted_type};
+ghost use Rattle.scalar_ranges.specs.OperandViews.{before_type, between_type};
 
+use crate::operands::{Before, Between};
 use crate::reading::read;
 use crate::scope::{Meaning, Scope};
 use crate::steps::paired;
@@ -83,29 +85,54 @@ pub(crate) fn subscripted_type(
     }
 }
 
-/// The type of an operator before one operand.
-pub(crate) fn prefix_type(
-    operator: PrefixOperator,
-    operand: Result<ExprType, u8>,
-) -> Result<ExprType, u8>
-    ensures { result ≡ and_then operand (prefix_type operator) }
+/// The type of one operand with what stands before it.
+pub(crate) fn before_type(before: Before, operand: Result<ExprType, u8>) -> Result<ExprType, u8>
+    ensures { result ≡ and_then operand (before_type before) }
 {
-    match (operator, operand?) {
+    let operand = operand?;
+    match before {
+        Before::Operator(operator) => prefix_type(operator, operand),
+        Before::Conversion(to) => converted_type(to, operand),
+    }
+}
+
+fn prefix_type(operator: PrefixOperator, operand: ExprType) -> Result<ExprType, u8>
+    ensures { result ≡ prefix_type operator operand }
+{
+    match (operator, operand) {
         (PrefixOperator::Negate | PrefixOperator::BitNot, ExprType::Int) => Ok(ExprType::Int),
         (PrefixOperator::Not, ExprType::Condition) => Ok(ExprType::Condition),
         _ => Err(WRONG_TYPE),
     }
 }
 
-/// The type of an operator between two operands.
-pub(crate) fn pair_type(
-    operator: PairOperator,
+fn converted_type(to: ValueType, operand: ExprType) -> Result<ExprType, u8>
+    ensures { result ≡ converted_type to operand }
+{
+    match operand {
+        ExprType::Condition => Err(WRONG_TYPE),
+        _ => Ok(type_of_values(to)),
+    }
+}
+
+/// The type of two operands with what stands between them.
+pub(crate) fn between_type(
+    between: Between,
     left: Result<ExprType, u8>,
     right: Result<ExprType, u8>,
 ) -> Result<ExprType, u8>
-    ensures { result ≡ both left right (pair_type operator) }
+    ensures { result ≡ both left right (between_type between) }
 {
     let (left, right) = paired(left, right)?;
+    match between {
+        Between::Pair(operator) => pair_type(operator, left, right),
+        Between::Chain(operator) => chain_type(operator, left, right),
+    }
+}
+
+fn pair_type(operator: PairOperator, left: ExprType, right: ExprType) -> Result<ExprType, u8>
+    ensures { result ≡ pair_type operator left right }
+{
     match (operator, left, right) {
         (PairOperator::Arithmetic(_), ExprType::Int, ExprType::Int) => Ok(ExprType::Int),
         (PairOperator::Comparison(_), ExprType::Int, ExprType::Int) => Ok(ExprType::Condition),
@@ -114,30 +141,14 @@ pub(crate) fn pair_type(
     }
 }
 
-/// The type of a chain that has one operand more.
-pub(crate) fn chain_type(
-    operator: ChainOperator,
-    found: Result<ExprType, u8>,
-    next: Result<ExprType, u8>,
-) -> Result<ExprType, u8>
-    ensures { result ≡ both found next (chain_type operator) }
+fn chain_type(operator: ChainOperator, found: ExprType, next: ExprType) -> Result<ExprType, u8>
+    ensures { result ≡ chain_type operator found next }
 {
-    let (found, next) = paired(found, next)?;
     match (operator, found, next) {
         (ChainOperator::Arithmetic(_), ExprType::Int, ExprType::Int) => Ok(ExprType::Int),
         (ChainOperator::Logic(_), ExprType::Condition, ExprType::Condition) => {
             Ok(ExprType::Condition)
         }
         _ => Err(WRONG_TYPE),
-    }
-}
-
-/// The type of an operand that is converted to a type.
-pub(crate) fn converted_type(to: ValueType, operand: Result<ExprType, u8>) -> Result<ExprType, u8>
-    ensures { result ≡ and_then operand (converted_type to) }
-{
-    match operand? {
-        ExprType::Condition => Err(WRONG_TYPE),
-        _ => Ok(type_of_values(to)),
     }
 }

@@ -16,15 +16,15 @@ read-loop-other-preserved t c =
     let op = c.in-Chain.operator in
     let next = c.read_operand-in-loop-other in
     record {
-      types = chain_step (types_in es) op c.chained-found.result.expr_type c.loop-other.found.expr_type
-          c.chained-found-in-loop-other.result.expr_type next.result.expr_type c.deref-other-items.result.now
+      types = chain_step (types_in es) op c.combined-found.result.expr_type c.loop-other.found.expr_type
+          c.combined-found-in-loop-other.result.expr_type next.result.expr_type c.deref-other-items.result.now
           c.loop-other.other-index c.other-item.result (omega arith) c.other-item.is c.loop-other.invariant.types
-          next.ensures.types c.chained-found-in-loop-other.ensures.types;
-      bounds = chain_step (bounds_in es) op (all_known c.chained-found.result.bound)
-          (all_known c.loop-other.found.bound) (all_known c.chained-found-in-loop-other.result.bound)
+          next.ensures.types c.combined-found-in-loop-other.ensures.types;
+      bounds = chain_step (bounds_in es) op (all_known c.combined-found.result.bound)
+          (all_known c.loop-other.found.bound) (all_known c.combined-found-in-loop-other.result.bound)
           (all_known next.result.bound) c.deref-other-items.result.now c.loop-other.other-index c.other-item.result
           (omega arith) c.other-item.is c.loop-other.invariant.bounds next.ensures.bounds
-          c.chained-found-in-loop-other.ensures.bounds;
+          c.combined-found-in-loop-other.ensures.bounds;
     }
 
 pub read-returns-after-loop-other : goal.read-returns-after-loop-other
@@ -41,14 +41,14 @@ read-returns-after-loop-other t c =
     record {
       types = chain_end (types_in es) chain.operator chain.first chain.second chain.others.items
           c.deref-other-items.result.now first.result.expr_type second.result.expr_type
-          c.chained-found.result.expr_type c.loop-other.found.expr_type c.loop-other.other-index done
-          c.deref-other-items.ensures.value first.ensures.types second.ensures.types c.chained-found.ensures.types
+          c.combined-found.result.expr_type c.loop-other.found.expr_type c.loop-other.other-index done
+          c.deref-other-items.ensures.value first.ensures.types second.ensures.types c.combined-found.ensures.types
           c.loop-other.invariant.types
           ∙ ap (type_of es) whole;
       bounds = chain_end (bounds_in es) chain.operator chain.first chain.second chain.others.items
           c.deref-other-items.result.now (all_known first.result.bound) (all_known second.result.bound)
-          (all_known c.chained-found.result.bound) (all_known c.loop-other.found.bound) c.loop-other.other-index done
-          c.deref-other-items.ensures.value first.ensures.bounds second.ensures.bounds c.chained-found.ensures.bounds
+          (all_known c.combined-found.result.bound) (all_known c.loop-other.found.bound) c.loop-other.other-index done
+          c.deref-other-items.ensures.value first.ensures.bounds second.ensures.bounds c.combined-found.ensures.bounds
           c.loop-other.invariant.bounds
           ∙ ap (bound_of es) whole;
     }

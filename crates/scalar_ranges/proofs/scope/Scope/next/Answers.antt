@@ -1,16 +1,9 @@
-use Rattle.scalar_ranges.specs.Scopes.{entries_of, blocks_of}
-use Rattle.scalar_ranges.specs.Naming.{names_from}
+use Rattle.scalar_ranges.specs.Moves.{next_from}
 use Rattle.scalar_ranges.proofs.Nesting.{fit_next}
-use Rattle.scalar_ranges.proofs.Fitting.{fit_of, fit_cut, next_known}
+use Rattle.scalar_ranges.proofs.Fitting.{fit_cut}
 use Rattle.scalar_ranges.proofs.scope.Scope.next.Goals as goal
 
 pub invariant_of-self : goal.invariant_of-self
 invariant_of-self c =
-    let old = c.args.self.now in
-    let names = names_from old.names.rows.items in
-    let fit = fit_cut names c.len.result (next_known old.known c.next.new.self c.next.ensures) c.truncate.ensures
-    c.len.ensures (fit_next names (entries_of old) (blocks_of old) (fit_of old)) in
+    let fit = fit_cut c.args.self.now next_from fit_next c.len.result c.next.ensures c.truncate.ensures c.len.ensures in
     record { named = fit.named; nested = fit.nested }
-
-pub returns : goal.returns
-returns c = next_known c.args.self.now.known c.next.new.self c.next.ensures
