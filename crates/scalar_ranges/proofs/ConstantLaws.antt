@@ -138,9 +138,6 @@ converted_exact to b v n h is =
 ok_is : (r : Result Bound ℕ) (b : Bound) (x : ℤ) → r ≡ Ok b → b ≡ Exactly x → r ≡ Ok (Exactly x)
 ok_is r b x e f = e ∙ ap Ok f
 
-within_is : (r : Ends) (v : ℤ) → ◌≡◌ {A = Result Bound ℕ} (Ok (Within r)) (Ok (Exactly v)) → ⊥
-within_is r v h = absurd (cc h)
-
 -- ---- whole expressions
 
 module _ (es : List Entry) where

@@ -90,11 +90,6 @@ fit_alike names ds es bs same fit = record {
   nested = nested_alike ds es bs same fit.nested;
 }
 
--- the same after a change
-pub fit_changed : {names : List (List ℕ)} {ds es ks : List Entry} {bs : List Block} → ds ≡ ks → shape ks ≡ shape es
-    → Fit names es bs → Fit names ds bs
-fit_changed {names} {ds} {es} {ks} {bs} is same fit = fit_alike names ds es bs (ap shape is ∙ same) fit
-
 pub fit_along : {ns ks : List (List ℕ)} {ds es : List Entry} {cs bs : List Block} → ns ≡ ks → ds ≡ es → cs ≡ bs
     → Fit ks es bs → Fit ns ds cs
 fit_along {ns} {ks} {ds} {es} {cs} {bs} n e b fit =

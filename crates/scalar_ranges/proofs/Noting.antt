@@ -7,7 +7,7 @@ use Rattle.std.proofs.lemmas.List.{reverse-append}
 use Rattle.scalar_ranges.specs.declared.slots.Slot as code_slot
 use Rattle.scalar_ranges.specs.declared.slots.Branching as code_branching
 use Rattle.scalar_ranges.specs.Environments.{item_at}
-use Rattle.scalar_ranges.specs.Changes.{Slot, Branching, Tracked, modify, AreTracked, marked, is_new_in, is_new}
+use Rattle.scalar_ranges.specs.Changes.{Slot, Branching, modify, AreTracked, marked, is_new_in, is_new}
 use Rattle.scalar_ranges.specs.Changes.{listing, note_if, note}
 use Rattle.scalar_ranges.specs.ChangeViews.{slot_of, slots_from, branching_of, branchings_from, tracked_from}
 use Rattle.scalar_ranges.specs.ChangeViews.{BelongTogether}
@@ -88,24 +88,6 @@ new_beyond n depth slots blocks rest b inner least =
     beyond n b.count least
     ∙ ap (is_new_in (suc (length (branchings_from rest)))) (sym (item_beyond n (take b.count ss) (omega arith)))
     ∙ ap (is_new n ss) (sym inner.seen)
-
--- ---- an entry that is in the list, or that the block did not begin with
-
-old_by : (t : Bool) (x y : Tracked) → cond t false true ≡ false → x ≡ cond t x y
-old_by true x y is = refl
-old_by false x y is = absurd (cc)
-
-old_in : (d n : ℕ) (ss : List Slot) (b : Branching) (bs : List Branching) (o : Option Slot) → is_new_in d o ≡ false
-    → record { slots = ss; blocks = b ∷ bs } ≡ note_if d n ss b bs o
-old_in d n ss b bs None is = refl
-old_in d n ss b bs (Some s) is =
-    old_by (nat_eq s.mark d) (record { slots = ss; blocks = b ∷ bs })
-    (record { slots = modify (marked d) n ss; blocks = listing n s b ∷ bs }) is
-
-pub note_old : (n : ℕ) (ss : List Slot) (bs : List Branching) → is_new n ss bs ≡ false
-    → record { slots = ss; blocks = bs } ≡ note n ss bs
-note_old n ss [] is = refl
-note_old n ss (b ∷ bs) is = old_in (suc (length bs)) n ss b bs (item_at n (take b.count ss)) is
 
 -- ---- an entry that comes to the list
 
