@@ -1,12 +1,15 @@
 -- A chain of operands, taken one by one, is constant if the whole chain is.
 use Rattle.std.proofs.Common.{◌≡◌, ℕ, ◌+◌, ◌<◌, ◌≤◌, Bool, ◌&&◌, List, [], ◌∷◌, ◌++◌, length, map, take}
-use Rattle.std.proofs.Common.{get_or, refl, sym, ap, ◌∙◌}
+use Rattle.std.proofs.Common.{get_or, refl, sym, ap, ◌∙◌, Vec, Global}
 use Rattle.std.proofs.lemmas.List.{take_all}
 use Rattle.occam_parser.specs.declared.tree.Operand.{Operand}
-use Rattle.occam_parser.specs.Expressions.{Terms, Then}
-use Rattle.occam_parser.specs.Views.{term_of, with_others}
+use Rattle.occam_parser.specs.declared.tree.ChainOperator.{ChainOperator}
+use Rattle.occam_parser.specs.declared.tree.Operation.{Chain}
+use Rattle.occam_parser.specs.Expressions.{Expression, Terms, Two, Then}
+use Rattle.occam_parser.specs.Views.{term_of, with_others, operation_of}
+use Rattle.occam_parser.proofs.Seen.{view-Chain}
 use Rattle.scalar_ranges.specs.Entries.{Entry}
-use Rattle.usage_checks.specs.Wanting.{are_constant, is_constant_term}
+use Rattle.usage_checks.specs.Wanting.{is_constant, are_constant, is_constant_term}
 use Rattle.usage_checks.proofs.Adding.{taken_one}
 
 unfoldable pub constant_after : List Entry → Bool → List Operand → Bool
@@ -36,8 +39,12 @@ unfolding constant_after
 all_operands es terms [] = refl
 all_operands es terms (x ∷ xs) = all_operands es (Then terms (term_of x)) xs
 
-pub constant_all : (es : List Entry) (terms : Terms) (begun found : Bool) (xs others : List Operand) (i : ℕ)
-    → length xs ≤ i → xs ≡ others → begun ≡ are_constant es terms → found ≡ constant_after es begun (take i xs)
-    → found ≡ are_constant es (with_others terms (map term_of others))
-constant_all es terms begun found xs others i h same b f =
-    f ∙ (λ j. constant_after es (b j) ((take_all i xs h ∙ same) j)) ∙ all_operands es terms others
+pub chain_constant : (es : List Entry) (op : ChainOperator) (first second : Operand) (others : Vec Operand Global)
+    (items : List Operand) (i : ℕ) (e : Expression) (begun found : Bool) → length items ≤ i → items ≡ others.items
+    → e ≡ operation_of (Chain op first second others)
+    → begun ≡ (is_constant_term es (term_of first) && is_constant_term es (term_of second))
+    → found ≡ constant_after es begun (take i items) → found ≡ is_constant es e
+chain_constant es op first second others items i e begun found done same is b f =
+    f ∙ (λ j. constant_after es (b j) ((take_all i items done ∙ same) j))
+    ∙ all_operands es (Two (term_of first) (term_of second)) others.items
+    ∙ ap (is_constant es) (sym (view-Chain op first second others) ∙ sym is)

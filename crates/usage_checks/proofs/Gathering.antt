@@ -1,21 +1,26 @@
 -- What loops gather is what the definitions say by recursion.
 use Rattle.std.proofs.Common.{◌≡◌, ℕ, suc, Bool, List, [], ◌∷◌, ◌++◌, map, refl, sym, ap, ◌∙◌, append_assoc, Option}
-use Rattle.std.proofs.Common.{Some, None, unwrap_or}
+use Rattle.std.proofs.Common.{Some, None, unwrap_or, ◌≤◌, length, take, Vec, Global}
 use Rattle.std.proofs.lemmas.List.{append-nil}
 use Rattle.occam_parser.specs.declared.tree.Operand.{Operand}
 use Rattle.occam_parser.specs.declared.tree.Expr.{Expr}
-use Rattle.occam_parser.specs.Expressions.{Terms, Then}
-use Rattle.occam_parser.specs.Views.{term_of, with_others, expression_of}
+use Rattle.occam_parser.specs.declared.tree.ChainOperator.{ChainOperator}
+use Rattle.occam_parser.specs.declared.tree.Operation.{Chain}
+use Rattle.occam_parser.specs.Expressions.{Expression, Terms, Two, Then}
+use Rattle.occam_parser.specs.Views.{term_of, with_others, expression_of, operation_of}
+use Rattle.occam_parser.proofs.Seen.{view-Chain}
 use Rattle.scalar_ranges.specs.Entries.{Entry}
 use Rattle.scalar_ranges.specs.Environments.{item_at}
 use Rattle.usage_checks.specs.declared.uses.End.{End}
 use Rattle.usage_checks.specs.declared.uses.Use.{Use}
 use Rattle.usage_checks.specs.declared.uses.Use.TheVariants as used
+use Rattle.usage_checks.specs.declared.uses.Uses.{Uses}
+use Rattle.usage_checks.specs.Sets.{Adds}
 use Rattle.usage_checks.specs.Mentions.{reads_of, reads_of_terms, reads_of_term}
 use Rattle.usage_checks.specs.Signatures.{Parameter}
 use Rattle.usage_checks.specs.Instances.{uses_ends, uses_of_actual, uses_of_actuals}
 use Rattle.usage_checks.specs.Actions.{reads_of_all}
-use Rattle.usage_checks.proofs.Adding.{gathered, gathered_same}
+use Rattle.usage_checks.proofs.Adding.{gathered, gathered_same, gathers_all, adds_both, adds_as}
 
 -- ---- the further operands of a chain
 
@@ -31,10 +36,18 @@ further_operands es terms n (x ∷ xs) =
     further_operands es (Then terms (term_of x)) (suc n) xs
     ∙ append_assoc (reads_of_terms es terms) (reads_of_term es (term_of x)) (gathered (operand_reads es) (suc n) xs)
 
-pub operands_gathered : (es : List Entry) (terms : Terms) (xs : List Operand)
-    → reads_of_terms es (with_others terms (map term_of xs))
-    ≡ reads_of_terms es terms ++ gathered (operand_reads es) 0 xs
-operands_gathered es terms xs = further_operands es terms 0 xs
+-- the first two operands of a chain, and then the others
+pub chain_reads : (es : List Entry) (op : ChainOperator) (first second : Operand) (others : Vec Operand Global)
+    (items : List Operand) (i : ℕ) (e : Expression) {s t u w : Uses} → length items ≤ i → items ≡ others.items
+    → e ≡ operation_of (Chain op first second others) → Adds s t (reads_of_term es (term_of first))
+    → Adds t u (reads_of_term es (term_of second)) → Adds u w (gathered (operand_reads es) 0 (take i items))
+    → Adds s w (reads_of es e)
+chain_reads es op first second others items i e done same is a b c =
+    let terms = Two (term_of first) (term_of second) in
+    let all = ap (λ xs. reads_of_terms es terms ++ gathered (operand_reads es) 0 xs) same
+    ∙ sym (further_operands es terms 0 others.items)
+    ∙ ap (reads_of es) (sym (view-Chain op first second others) ∙ sym is) in
+    adds_as all (adds_both (adds_both a b) (gathers_all (operand_reads es) items i done c))
 
 -- ---- the ends that a procedure uses
 

@@ -2,7 +2,7 @@
 use Rattle.std.proofs.Common.{◌≡◌, ℕ, suc, ℤ, ◌+◌, ◌<◌, ◌≤◌, Bool, true, false, cond, List, [], ◌∷◌, ◌++◌, length, map}
 use Rattle.std.proofs.Common.{take, get_or, max, nat_lt, Option, refl, sym, ap, arith, ◌∙◌, append_assoc, add-one}
 use Rattle.std.proofs.lemmas.Bool.Decides.{nat_tests}
-use Rattle.std.proofs.lemmas.List.{length-append}
+use Rattle.std.proofs.lemmas.List.{length-append, take_all}
 use Rattle.occam_parser.specs.Lines.{Declaration, Replicator}
 use Rattle.occam_parser.specs.Blocks.{Does, Construct, Body, One, Part, Component}
 use Rattle.occam_parser.specs.BlockReading.{with_declarations}
@@ -19,8 +19,8 @@ use Rattle.usage_checks.specs.Actions.{Around, is_before, uses_of_declaration}
 use Rattle.usage_checks.specs.Declaring.{add_declaration}
 use Rattle.usage_checks.specs.Entering.{Enters, uses_of_declarations, add_declarations}
 use Rattle.usage_checks.specs.Indices.{is_sequence, turns_of, in_turns}
-use Rattle.usage_checks.specs.Processes.{in_turn, uses_of, uses_of_construct, uses_of_body, uses_of_components}
-use Rattle.usage_checks.specs.Processes.{uses_of_component, uses_of_one}
+use Rattle.usage_checks.specs.Processes.{Collects, in_turn, uses_of, uses_of_construct, uses_of_body}
+use Rattle.usage_checks.specs.Processes.{uses_of_components, uses_of_component, uses_of_one}
 use Rattle.usage_checks.proofs.Adding.{taken_one, adds_both, adds_as}
 
 -- ---- declarations, and then a construct
@@ -43,14 +43,30 @@ pub components_use_next : {part : Part} {A : Type 0} (a : Around) (es : List Ent
 components_use_next a es f xs i x d h is =
     sym (ap (uses_of_components a es) (all_push f (take i xs) (take (i + 1) xs) x (taken_one xs i x d h is)))
 
-pub adds_component : {part : Part} {A : Type 0} (a : Around) (k l : Known) (f : A → Component part) (xs : List A)
-    (i : ℕ) (x d : A) {s t w : Uses} → l ≡ k → i < length xs → x ≡ get_or xs i d
-    → Adds s t (uses_of_components a k.entries (all_of (map f (take i xs))))
-    → Adds t w (uses_of_component a l.entries (f x))
-    → Adds s w (uses_of_components a k.entries (all_of (map f (take (i + 1) xs))))
-adds_component a k l f xs i x d same h is before next =
-    adds_as (components_use_next a k.entries f xs i x d h is)
-    (adds_both before (adds_as (ap (λ j. uses_of_component a j.entries (f x)) same) next))
+pub collects_then : {s t w : Uses} {k l : Known} {us vs : List Use} → Adds s t us → Collects t w k l vs
+    → Collects s w k l (us ++ vs)
+collects_then a b = record { uses = adds_both a b.uses; scope = b.scope }
+
+pub collects_as : {s t : Uses} {k l : Known} {us vs : List Use} → us ≡ vs → Collects s t k l us → Collects s t k l vs
+collects_as e a = record { uses = adds_as e a.uses; scope = a.scope }
+
+pub collects_next : {part : Part} {A : Type 0} (a : Around) (f : A → Component part) (xs : List A) (i : ℕ) (x : A)
+    {s t w : Uses} {k l m : Known} → i < length xs → x ≡ get_or xs i x
+    → Collects s t k l (uses_of_components a k.entries (all_of (map f (take i xs))))
+    → Collects t w l m (uses_of_component a l.entries (f x))
+    → Collects s w k m (uses_of_components a k.entries (all_of (map f (take (i + 1) xs))))
+collects_next a f xs i x {k = k} h is before next = record {
+  uses = adds_as (components_use_next a k.entries f xs i x x h is)
+      (adds_both before.uses (adds_as (ap (λ j. uses_of_component a j.entries (f x)) before.scope) next.uses));
+  scope = next.scope ∙ before.scope;
+}
+
+pub collects_all : {part : Part} {A : Type 0} (a : Around) (es : List Entry) (f : A → Component part)
+    (items others : List A) (i : ℕ) {us : List Use} {s t : Uses} {k l : Known} → length items ≤ i → items ≡ others
+    → uses_of_components a es (all_of (map f others)) ≡ us
+    → Collects s t k l (uses_of_components a es (all_of (map f (take i items)))) → Collects s t k l us
+collects_all a es f items others i done same seen x =
+    collects_as (ap (λ xs. uses_of_components a es (all_of (map f xs))) (take_all i items done ∙ same) ∙ seen) x
 
 -- ---- turns
 

@@ -1,10 +1,13 @@
 -- What processes use.
-use Rattle.std.specs.Prelude.{ℕ, ℤ, Bool, List, [], ◌++◌, Option}
+use Rattle.std.specs.Prelude.{◌≡◌, ℕ, ℤ, Bool, List, [], ◌++◌, Option}
 use Rattle.occam_parser.specs.Lines.{Replicator, block_word}
 use Rattle.occam_parser.specs.Blocks.{Process, Declared, Does, Construct, Act, Block, Replicated, Body, One, Part}
 use Rattle.occam_parser.specs.Blocks.{Components, NoComponent, Further, Component, Plain, Chosen, Guarded}
 use Rattle.scalar_ranges.specs.Entries.{Entry}
+use Rattle.scalar_ranges.specs.Moves.{Known}
 use Rattle.usage_checks.specs.declared.uses.Use.{Use}
+use Rattle.usage_checks.specs.declared.uses.Uses.{Uses}
+use Rattle.usage_checks.specs.Sets.{Adds}
 use Rattle.usage_checks.specs.Mentions.{reads_of}
 use Rattle.usage_checks.specs.Actions.{Around, is_before, uses_of_action, uses_of_guard, uses_of_declaration}
 use Rattle.usage_checks.specs.Declaring.{add, add_declaration}
@@ -45,3 +48,8 @@ abbrev mutual
 -- the one component under a replicator, in one turn
 abbrev pub uses_of_one : Around → List Entry → Body → List Use
 uses_of_one a es (One kind c) = uses_of_component a es c
+
+-- What is used was added, and the scope is as it was.
+pub record Collects (old new : Uses) (before after : Known) (us : List Use) : Type 0 where
+  pub uses : Adds old new us
+  pub scope : after ≡ before

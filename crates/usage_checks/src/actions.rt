@@ -72,6 +72,7 @@ impl Uses {
         ensures { Adds self.old self.new (uses_of_guard (entries_of scope.now) (guard_of guard.now)) }
     {
         match guard {
+            Guard::Skip { condition } => self.read(scope, condition),
             Guard::Input {
                 condition,
                 channel,
@@ -81,7 +82,6 @@ impl Uses {
                 self.use_end(scope, Direction::Input, channel);
                 self.change(scope, target);
             }
-            Guard::Skip { condition } => self.read(scope, condition),
         }
     }
 

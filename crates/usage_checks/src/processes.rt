@@ -1,27 +1,24 @@
 //! What processes use.
 
-ghost use Rattle.std.specs.Prelude.{◌≡◌};
 ghost use Rattle.occam_parser.specs.LineViews.{replicator_of};
-ghost use Rattle.occam_parser.specs.BlockViews.{process_of, construct_of, body_of, choice_of, branch_of};
+ghost use Rattle.occam_parser.specs.BlockViews.{process_of, construct_of, body_of, branch_of};
 ghost use Rattle.scalar_ranges.specs.Scopes.{entries_of, known_of};
-ghost use Rattle.usage_checks.specs.Sets.{Adds};
 ghost use Rattle.usage_checks.specs.ActionViews.{around_of};
-ghost use Rattle.usage_checks.specs.Processes.{uses_of, uses_of_construct, uses_of_body, uses_of_component};
+ghost use Rattle.usage_checks.specs.Processes.{Collects, uses_of, uses_of_construct, uses_of_body, uses_of_component};
 ghost use Rattle.usage_checks.specs.Processes.{uses_of_one};
 
 use crate::actions::{Around, is_before};
 use crate::indices::{index_meaning, is_sequence, turns_of};
 use crate::uses::Uses;
-use occam_parser::{Body, Branch, Choice, Construct, Process, Replicator};
+use occam_parser::{Body, Branch, Construct, Process, Replicator};
 use scalar_ranges::Scope;
 
 impl Uses {
     /// What a process uses. The scope is afterwards as it was.
     #[cycle(collect)]
     pub fn collect<'a>(&mut self, around: Around, scope: &mut Scope<'a>, process: &Process<'a>)
-        ensures uses { Adds self.old self.new
+        ensures { Collects self.old self.new (known_of scope.old) (known_of scope.new)
             (uses_of (around_of around.entry) (entries_of scope.old) (process_of process.now)) }
-        ensures scope { known_of scope.new ≡ known_of scope.old }
     {
         let count = scope.len();
         self.enter_all(scope, &process.declarations);
@@ -38,9 +35,8 @@ impl Uses {
         line: u32,
         construct: &Construct<'a>,
     )
-        ensures uses { Adds self.old self.new
+        ensures { Collects self.old self.new (known_of scope.old) (known_of scope.new)
             (uses_of_construct (around_of around.entry) (entries_of scope.old) line (construct_of construct.now)) }
-        ensures scope { known_of scope.new ≡ known_of scope.old }
     {
         match construct {
             Construct::Action(action) => self.act(around, scope, line, action),
@@ -51,7 +47,8 @@ impl Uses {
             }
             Construct::If(choices) => {
                 for choice in choices {
-                    self.collect_choice(around, scope, choice);
+                    self.read(scope, &choice.condition);
+                    self.collect(around, scope, &choice.process);
                 }
             }
             Construct::Alt(branches) => {
@@ -77,10 +74,9 @@ impl Uses {
         replicator: &Replicator<'a>,
         body: &Body<'a>,
     )
-        ensures uses { Adds self.old self.new
+        ensures { Collects self.old self.new (known_of scope.old) (known_of scope.new)
             (uses_of_body (around_of around.entry) (entries_of scope.old) line (replicator_of replicator.now)
             (body_of body.now)) }
-        ensures scope { known_of scope.new ≡ known_of scope.old }
     {
         let sequential = is_sequence(body);
         let turns = turns_of(
@@ -104,34 +100,24 @@ impl Uses {
     /// What a body uses in one turn.
     #[cycle(collect)]
     fn collect_body<'a>(&mut self, around: Around, scope: &mut Scope<'a>, body: &Body<'a>)
-        ensures uses { Adds self.old self.new
+        ensures { Collects self.old self.new (known_of scope.old) (known_of scope.new)
             (uses_of_one (around_of around.entry) (entries_of scope.old) (body_of body.now)) }
-        ensures scope { known_of scope.new ≡ known_of scope.old }
     {
         match body {
             Body::Seq(process) | Body::Par(process) => self.collect(around, scope, process),
-            Body::If(choice) => self.collect_choice(around, scope, choice),
+            Body::If(choice) => {
+                self.read(scope, &choice.condition);
+                self.collect(around, scope, &choice.process);
+            }
             Body::Alt(branch) => self.collect_branch(around, scope, branch),
         }
-    }
-
-    /// What a choice uses.
-    #[cycle(collect)]
-    fn collect_choice<'a>(&mut self, around: Around, scope: &mut Scope<'a>, choice: &Choice<'a>)
-        ensures uses { Adds self.old self.new
-            (uses_of_component (around_of around.entry) (entries_of scope.old) (choice_of choice.now)) }
-        ensures scope { known_of scope.new ≡ known_of scope.old }
-    {
-        self.read(scope, &choice.condition);
-        self.collect(around, scope, &choice.process);
     }
 
     /// What a branch of an `ALT` uses.
     #[cycle(collect)]
     fn collect_branch<'a>(&mut self, around: Around, scope: &mut Scope<'a>, branch: &Branch<'a>)
-        ensures uses { Adds self.old self.new
+        ensures { Collects self.old self.new (known_of scope.old) (known_of scope.new)
             (uses_of_component (around_of around.entry) (entries_of scope.old) (branch_of branch.now)) }
-        ensures scope { known_of scope.new ≡ known_of scope.old }
     {
         self.guard(scope, &branch.guard);
         self.collect(around, scope, &branch.process);

@@ -1,13 +1,10 @@
-use Rattle.std.proofs.Common.{◌≡◌, ◌≤◌, ◌++◌, length, arith, ap, sym, ◌∙◌, rules}
+use Rattle.std.proofs.Common.{◌≡◌, ◌++◌, arith, rules}
 use Rattle.occam_parser.specs.declared.tree.Operand.TheFolds.{the_lemmas}
-use Rattle.occam_parser.specs.declared.tree.Operation.{Chain}
-use Rattle.occam_parser.specs.Expressions.{Two}
-use Rattle.occam_parser.specs.Views.{expression_of, operation_of, term_of}
-use Rattle.occam_parser.proofs.Seen.{view-Chain}
+use Rattle.occam_parser.specs.Views.{expression_of, term_of}
 use Rattle.scalar_ranges.specs.Scopes.{entries_of}
-use Rattle.usage_checks.specs.Mentions.{name_reads, reads_of, reads_of_terms, reads_of_term}
-use Rattle.usage_checks.proofs.Adding.{gathered, adds_both, adds_as, gathers_none, gathers_next, gathers_all}
-use Rattle.usage_checks.proofs.Gathering.{operand_reads, operands_gathered}
+use Rattle.usage_checks.specs.Mentions.{name_reads, reads_of, reads_of_term}
+use Rattle.usage_checks.proofs.Adding.{adds_both, adds_as, gathers_none, gathers_next}
+use Rattle.usage_checks.proofs.Gathering.{operand_reads, chain_reads}
 use Rattle.usage_checks.proofs.uses.Uses.+read.Goals as goal
 
 pub read-returns-in-Pair : goal.read-returns-in-Pair
@@ -28,21 +25,11 @@ read-loop-other-preserved t c =
 
 pub read-returns-after-loop-other : goal.read-returns-after-loop-other
 read-returns-after-loop-other t c =
-    let es = entries_of c.args.scope.now in
     let chain = c.in-Chain in
-    let items = c.deref-other-items.result.now in
-    let done : length items ≤ c.loop-other.other-index = omega arith in
-    let view : expression_of c.args.expr.now
-    ≡ operation_of (Chain chain.operator chain.first chain.second chain.others) = search (rules, the_lemmas) in
-    let whole = sym (view-Chain chain.operator chain.first chain.second chain.others) ∙ sym view in
-    let two = Two (term_of chain.first) (term_of chain.second) in
-    let all : reads_of_terms es two ++ gathered (operand_reads es) 0 items
-    ≡ reads_of es (expression_of c.args.expr.now) =
-    ap (λ xs. reads_of_terms es two ++ gathered (operand_reads es) 0 xs) c.deref-other-items.ensures.value
-    ∙ sym (operands_gathered es two chain.others.items) ∙ ap (reads_of es) whole in
-    adds_as all
-    (adds_both (adds_both c.read_operand-in-Chain.ensures c.read_operand-in-Chain-2.ensures)
-    (gathers_all (operand_reads es) items c.loop-other.other-index done c.loop-other.invariant))
+    chain_reads (entries_of c.args.scope.now) chain.operator chain.first chain.second chain.others
+    c.deref-other-items.result.now c.loop-other.other-index (expression_of c.args.expr.now) (omega arith)
+    c.deref-other-items.ensures.value (search (rules, the_lemmas)) c.read_operand-in-Chain.ensures
+    c.read_operand-in-Chain-2.ensures c.loop-other.invariant
 
 pub read_operand-returns-in-Element : goal.read_operand-returns-in-Element
 read_operand-returns-in-Element t c =
