@@ -5,3 +5,8 @@ pub mod NamesEntered
 pub mod UsesOfProcesses
 pub mod LowestOfBoth
 pub mod ConstantOperands
+pub mod FaultsInOrder
+pub mod OneAfterAnother
+pub mod LowestOfMany
+pub mod ActualsFollowed
+pub mod DeclarationsWalked

@@ -1,6 +1,6 @@
 -- The lowest number of rules that are asked one by one.
 use Rattle.std.proofs.Common.{◌≡◌, ℕ, min, Bool, true, false, Option, Some, None, inl, inr, refl}
-use Rattle.std.proofs.Common.{arith, subst, ◌⊎◌}
+use Rattle.std.proofs.Common.{arith, subst, sym, ◌⊎◌}
 use Rattle.std.proofs.lemmas.Bool.{cases_lt}
 use Rattle.usage_checks.specs.Lowest.{IsLowest, lower, told_unless}
 
@@ -41,3 +41,18 @@ lowest_as {told = Some m} there back x = record { broken = there m x.broken; lea
 
 pub told_as : {P : ℕ → Type 0} {a b : Option ℕ} → a ≡ b → IsLowest P a → IsLowest P b
 told_as {P = P} e x = subst (IsLowest P) e x
+
+-- what is told of two rules that are asked one after the other
+pub lowest_of : {P Q : ℕ → Type 0} {a b told : Option ℕ} → told ≡ lower a b → IsLowest P a → IsLowest Q b
+    → IsLowest (λ n. P n ⊎ Q n) told
+lowest_of {a = a} {b = b} e x y = told_as (sym e) (lowest_both a b x y)
+
+-- the same rule of the same thing
+pub lowest_at : {A : Type 0} (Breaks : A → ℕ → Type 0) {a b : A} {told : Option ℕ} → a ≡ b → IsLowest (Breaks a) told
+    → IsLowest (Breaks b) told
+lowest_at Breaks {told = told} e x = subst (λ a. IsLowest (Breaks a) told) e x
+
+-- of two things
+pub lowest_at2 : {A B : Type 0} (Breaks : A → B → ℕ → Type 0) {a b : A} {c d : B} {told : Option ℕ} → a ≡ b → c ≡ d
+    → IsLowest (Breaks a c) told → IsLowest (Breaks b d) told
+lowest_at2 Breaks {a = a} {d = d} e f x = lowest_at (λ y. Breaks y d) e (lowest_at (Breaks a) f x)

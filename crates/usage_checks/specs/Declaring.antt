@@ -18,6 +18,7 @@ use Rattle.scalar_ranges.specs.Entries.{Meaning, Entry, type_range}
 use Rattle.scalar_ranges.specs.Types.{type_of_values}
 use Rattle.scalar_ranges.specs.Steps.{both_some}
 use Rattle.usage_checks.specs.Constants.{value_as, size_in}
+use Rattle.usage_checks.specs.InTurn.{in_turn}
 
 abbrev pub add : List ℕ → Meaning → List Entry → List Entry
 add name m es = record { name = name; meaning = m } ∷ es
@@ -64,8 +65,7 @@ channel_meaning es type None = entries.Channel type
 channel_meaning es type (Some size) = entries.Channels type (size_in es size)
 
 abbrev pub add_all : List (List ℕ) → Meaning → List Entry → List Entry
-add_all [] m es = es
-add_all (name ∷ names) m es = add_all names m (add name m es)
+add_all names m es = in_turn (λ name. add name m) names es
 
 abbrev pub add_declaration : Declaration → List Entry → List Entry
 add_declaration (Constants c) es = add c.name (constant_meaning es c.value_type c.value) es

@@ -6,6 +6,7 @@ use Rattle.usage_checks.specs.declared.uses.Use.{Use}
 use Rattle.usage_checks.specs.declared.uses.Uses.{Uses}
 use Rattle.usage_checks.specs.Actions.{uses_of_declaration}
 use Rattle.usage_checks.specs.Declaring.{add_declaration}
+use Rattle.usage_checks.specs.InTurn.{in_turn}
 
 -- A scope has some entries more: those that are wanted, if memory was enough.
 pub record Enters (s : Uses) (before after wanted : List Entry) : Type 0 where
@@ -18,5 +19,4 @@ uses_of_declarations es [] = []
 uses_of_declarations es (d ∷ ds) = uses_of_declaration es d ++ uses_of_declarations (add_declaration d es) ds
 
 abbrev pub add_declarations : List Declaration → List Entry → List Entry
-add_declarations [] es = es
-add_declarations (d ∷ ds) es = add_declarations ds (add_declaration d es)
+add_declarations ds es = in_turn add_declaration ds es

@@ -13,3 +13,14 @@ pub mod Entering
 pub mod Processes
 pub mod Lowest
 pub mod Wanting
+pub mod PlaceRules
+pub mod ChannelRules
+pub mod LineRules
+pub mod EachBroken
+pub mod DeclarationRules
+pub mod InstanceRules
+pub mod Telling
+pub mod InTurn
+pub mod NameRules
+pub mod ActionRules
+pub mod Following

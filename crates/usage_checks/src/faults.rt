@@ -3,8 +3,18 @@
 ghost use Rattle.std.specs.Prelude.{◌≡◌};
 ghost use Rattle.usage_checks.specs.Lowest.{lower, told_unless};
 
+/// The number of the fault that a name is declared twice in one scope.
+pub const DECLARED_TWICE: u8 = 10;
 /// The number of the fault that a constant is wanted.
 pub const CONSTANT_WANTED: u8 = 12;
+/// The number of the fault that a procedure is called with other actuals than it has formals.
+pub const OTHER_ACTUAL: u8 = 13;
+/// The number of the fault that components of a `PAR` share a variable that one of them changes.
+pub const SHARED_VARIABLE: u8 = 14;
+/// The number of the fault that a channel may not be used so.
+pub const CHANNEL_USE: u8 = 15;
+/// The number of the fault that the last item is no `main` with links.
+pub const NO_MAIN: u8 = 19;
 
 /// The lower one of two numbers, if there are any.
 pub(crate) fn lower(first: Option<u8>, second: Option<u8>) -> Option<u8>

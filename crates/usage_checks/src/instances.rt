@@ -50,7 +50,7 @@ fn place_of_operand<'e, 'a>(operand: &'e Operand<'a>) -> Option<PlaceRef<'e, 'a>
 }
 
 /// The variable that a place is, if it has no subscript.
-fn variable_at(scope: &Scope, place: PlaceRef) -> Option<usize>
+pub(crate) fn variable_at(scope: &Scope, place: PlaceRef) -> Option<usize>
     ensures { result ≡ variable_at (entries_of scope.now) (place_at place.entry) }
 {
     match place.subscript {

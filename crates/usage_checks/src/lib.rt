@@ -1,22 +1,37 @@
 //! What a program uses, and the rules that it has to keep.
 #![tactic(auto)]
 
+mod action_rules;
 mod actions;
+mod channel_rules;
 mod constants;
+mod declaration_rules;
 mod declaring;
 mod entering;
 mod faults;
+mod following;
 mod indices;
+mod instance_rules;
 mod instances;
+mod line_rules;
 mod mentions;
+mod name_rules;
+mod place_rules;
 mod places;
 mod processes;
 mod signature;
+mod taking;
+mod telling;
 mod uses;
+mod walking;
 mod wanting;
 
 pub use actions::Around;
-pub use faults::CONSTANT_WANTED;
+pub use channel_rules::Position;
+pub use faults::{
+    CHANNEL_USE, CONSTANT_WANTED, DECLARED_TWICE, NO_MAIN, OTHER_ACTUAL, SHARED_VARIABLE,
+};
 pub use signature::{Parameter, Signature};
+pub use telling::UsageFault;
 pub use uses::{Direction, End, Use, Uses};
 pub use wanting::{Wanted, fault_of};

@@ -8,6 +8,7 @@ ghost use Rattle.usage_checks.specs.Sets.{Adds};
 ghost use Rattle.usage_checks.specs.Places.{reads_if_any, changes_of, element_in, element_of, spot_of, uses_spot};
 ghost use Rattle.usage_checks.specs.Places.{ends_of};
 ghost use Rattle.usage_checks.specs.PlaceViews.{place_at};
+ghost use Rattle.usage_checks.specs.PlaceRules.{is_subscripted};
 
 use crate::constants::value_as;
 use crate::uses::{Direction, Use, Uses};
@@ -26,6 +27,15 @@ pub(crate) struct Spot {
 pub(crate) struct PlaceRef<'e, 'a> {
     pub(crate) name: &'e [u8],
     pub(crate) subscript: Option<&'e Expr<'a>>,
+}
+
+impl PlaceRef<'_, '_> {
+    /// Whether a subscript follows the name.
+    pub(crate) fn is_subscripted(self) -> bool
+        ensures { result ≡ is_subscripted (place_at self.entry).subscript }
+    {
+        self.subscript.is_some()
+    }
 }
 
 /// The element with this subscript, if an array of this size has it.

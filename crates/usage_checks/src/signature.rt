@@ -1,6 +1,6 @@
 //! What is known of procedures by those that call them.
 
-ghost use Rattle.std.specs.Prelude.{◌≡◌, [], option_map, unwrap_or};
+ghost use Rattle.std.specs.Prelude.{◌≡◌, [], length, option_map, unwrap_or};
 ghost use Rattle.scalar_ranges.specs.Environments.{item_at};
 ghost use Rattle.scalar_ranges.specs.Scopes.{meaning_of};
 ghost use Rattle.usage_checks.specs.Signatures.{parameter_of, parameters_of, signatures_of, passing_of};
@@ -71,5 +71,18 @@ pub(crate) fn parameter_at(
             signature.parameters.get(place)
         }
         _ => None,
+    }
+}
+
+/// How many parameters what has this meaning has, if that is a procedure.
+pub(crate) fn count_of_parameters(signatures: &[Signature], procedure: Option<Meaning>) -> usize
+    ensures { result ≡ length (parameters_in (signatures_of signatures.now) (option_map meaning_of procedure)) }
+{
+    match procedure {
+        Some(Meaning::Proc(number)) => match signatures.get(number as usize) {
+            Some(signature) => signature.parameters.len(),
+            None => 0,
+        },
+        _ => 0,
     }
 }

@@ -32,7 +32,8 @@ fn is_constant_meaning(meaning: Option<Meaning>) -> bool
     }
 }
 
-fn both(first: bool, second: bool) -> bool
+/// Whether both hold.
+pub(crate) fn both(first: bool, second: bool) -> bool
     ensures { result ≡ (first && second) }
 {
     first && second

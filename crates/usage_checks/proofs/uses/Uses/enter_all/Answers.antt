@@ -5,7 +5,7 @@ use Rattle.usage_checks.specs.Actions.{uses_of_declaration}
 use Rattle.usage_checks.specs.Declaring.{add_declaration}
 use Rattle.usage_checks.proofs.Adding.{adds_both, adds_as}
 use Rattle.usage_checks.proofs.NamesEntered.{adds_if, enters_next, enters_as, declarations_use_next}
-use Rattle.usage_checks.proofs.NamesEntered.{declarations_add_next}
+use Rattle.usage_checks.proofs.OneAfterAnother.{next_in_turn}
 use Rattle.usage_checks.proofs.uses.Uses.enter_all.Goals as goal
 
 pub loop-declaration-preserved : goal.loop-declaration-preserved
@@ -20,7 +20,8 @@ loop-declaration-preserved c =
           (adds_both before.uses
           (adds_if (λ e. ap (λ k. uses_of_declaration k (declaration_of x))
           (before.entries.entries (c.enter.ensures.uses.complete e))) c.enter.ensures.uses));
-      entries = enters_as (declarations_add_next es xs i x x (omega arith) c.declaration-item.is)
+      entries = enters_as (next_in_turn add_declaration declaration_of xs i x x es (omega arith)
+          c.declaration-item.is)
           (enters_next (add_declaration (declaration_of x)) before.entries c.enter.ensures.uses.complete
           c.enter.ensures.entries);
       blocks = c.enter.ensures.blocks ∙ before.blocks;

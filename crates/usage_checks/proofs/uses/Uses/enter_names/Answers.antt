@@ -4,7 +4,8 @@ use Rattle.occam_parser.specs.LineViews.{spelling_of}
 use Rattle.scalar_ranges.specs.Scopes.{entries_of, meaning_of}
 use Rattle.usage_checks.specs.Declaring.{add, add_all}
 use Rattle.usage_checks.proofs.Adding.{adds_both}
-use Rattle.usage_checks.proofs.NamesEntered.{enters_next, enters_as, names_next}
+use Rattle.usage_checks.proofs.NamesEntered.{enters_next, enters_as}
+use Rattle.usage_checks.proofs.OneAfterAnother.{next_in_turn}
 use Rattle.usage_checks.proofs.uses.Uses.enter_names.Goals as goal
 
 pub loop-name-preserved : goal.loop-name-preserved
@@ -18,7 +19,8 @@ loop-name-preserved c =
     let before = c.loop-name.invariant in
     record {
       uses = adds_both before.uses next.uses;
-      entries = enters_as (names_next m (entries_of c.enter_name.new.scope) items i name none (omega arith) refl)
+      entries = enters_as (next_in_turn (λ n. add n m) spelling_of items i name none (entries_of c.enter_name.new.scope) (omega arith)
+          refl)
           (enters_next (add name.now m) before.entries next.uses.complete next.entries);
       blocks = next.blocks ∙ before.blocks;
     }

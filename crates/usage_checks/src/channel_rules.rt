@@ -1,0 +1,139 @@
+//! The rules of channels: what is received from and sent to, and where.
+
+ghost use Rattle.std.specs.Prelude.{◌≡◌, ◌&&◌};
+ghost use Rattle.occam_parser.specs.LineViews.{place_of};
+ghost use Rattle.scalar_ranges.specs.Scopes.{entries_of};
+ghost use Rattle.usage_checks.specs.Lowest.{IsLowest};
+ghost use Rattle.usage_checks.specs.ChannelRules.{is_link, is_in, is_out, link_way, is_way, is_formal_of_main};
+ghost use Rattle.usage_checks.specs.ChannelRules.{is_inside, is_right_way};
+ghost use Rattle.usage_checks.specs.ChannelRules.{IsMisused, BreaksEnd};
+
+use crate::faults::{CHANNEL_USE, lower, told_unless};
+use crate::place_rules::{channel_at, fault_of_channel};
+use crate::places::place_ref;
+use crate::uses::Direction;
+use occam_parser::Place;
+use scalar_ranges::{ExprType, Scope};
+
+/// Where a process stands, by the numbers of declarations.
+#[derive(Clone, Copy)]
+pub struct Position {
+    /// The first formal of its procedure.
+    pub formals: usize,
+    /// The first name that is declared in the body of the procedure.
+    pub declared: usize,
+    /// How many names there were where the innermost `PAR` around began; 0 if there is none.
+    pub parallel: usize,
+    /// Whether the procedure is `main`.
+    pub is_main: bool,
+}
+
+/// Whether a digit is that of a link.
+fn is_link(digit: u8) -> bool
+    ensures { result ≡ is_link digit }
+{
+    b'0' <= digit && digit <= b'3'
+}
+
+/// Whether this is `in` and the digit of a link.
+fn is_in(first: u8, second: u8, digit: u8) -> bool
+    ensures { result ≡ is_in first second digit }
+{
+    first == b'i' && second == b'n' && is_link(digit)
+}
+
+/// Whether this is `out` and the digit of a link.
+fn is_out(first: u8, second: u8, third: u8, digit: u8) -> bool
+    ensures { result ≡ is_out first second third digit }
+{
+    first == b'o' && second == b'u' && third == b't' && is_link(digit)
+}
+
+/// The direction in which `main` uses a link of this name.
+pub(crate) fn link_way(name: &[u8]) -> Option<Direction>
+    ensures { result ≡ link_way name.now }
+{
+    match name {
+        [first, second, digit] if is_in(*first, *second, *digit) => Some(Direction::Input),
+        [first, second, third, digit] if is_out(*first, *second, *third, *digit) => {
+            Some(Direction::Output)
+        }
+        _ => None,
+    }
+}
+
+fn is_way(way: Option<Direction>, direction: Direction) -> bool
+    ensures { result ≡ is_way way direction }
+{
+    match way {
+        None => true,
+        Some(way) => way == direction,
+    }
+}
+
+impl Position {
+    fn is_formal_of_main(self, number: usize) -> bool
+        ensures { result ≡ is_formal_of_main self number }
+    {
+        self.is_main && self.formals <= number && number < self.declared
+    }
+
+    /// Whether a channel is used inside a `PAR` in its scope, if a line declares it.
+    pub(crate) fn is_inside(self, number: usize) -> bool
+        ensures { result ≡ is_inside self number }
+    {
+        number < self.declared || number < self.parallel
+    }
+
+    /// Whether a channel may be used in this direction, if it is a link.
+    pub(crate) fn is_right_way(self, name: &[u8], number: usize, direction: Direction) -> bool
+        ensures { result ≡ is_right_way self name.now number direction }
+    {
+        if self.is_formal_of_main(number) {
+            is_way(link_way(name), direction)
+        } else {
+            true
+        }
+    }
+
+    /// The number of what is a channel and may not be used so here.
+    fn misused(
+        self,
+        name: &[u8],
+        direction: Direction,
+        number: Option<usize>,
+        carried: Result<ExprType, u8>,
+    ) -> Option<u8>
+        ensures { IsLowest (IsMisused self name.now direction number carried) result }
+    {
+        match (number, carried) {
+            (Some(number), Ok(_)) => {
+                let inside = self.is_inside(number);
+                let right = self.is_right_way(name, number, direction);
+                told_unless(inside && right, CHANNEL_USE)
+            }
+            _ => None,
+        }
+    }
+}
+
+/// The lowest number of the rules that what is received from, or sent to, breaks.
+pub(crate) fn fault_of_end(
+    position: Position,
+    scope: &Scope,
+    direction: Direction,
+    channel: &Place,
+) -> Option<u8>
+    ensures { IsLowest (BreaksEnd position (entries_of scope.now) direction (place_of channel.now)) result }
+{
+    let place = place_ref(channel);
+    lower(
+        fault_of_channel(scope, place),
+        position.misused(
+            channel.name,
+            direction,
+            scope.find(channel.name),
+            channel_at(scope, place),
+        ),
+    )
+}
