@@ -10,3 +10,4 @@ pub mod OneAfterAnother
 pub mod LowestOfMany
 pub mod ActualsFollowed
 pub mod DeclarationsWalked
+pub mod Sharing

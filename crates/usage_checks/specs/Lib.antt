@@ -24,3 +24,4 @@ pub mod InTurn
 pub mod NameRules
 pub mod ActionRules
 pub mod Following
+pub mod ParRules

@@ -16,6 +16,7 @@ mod instances;
 mod line_rules;
 mod mentions;
 mod name_rules;
+mod par_rules;
 mod place_rules;
 mod places;
 mod processes;

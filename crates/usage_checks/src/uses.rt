@@ -4,6 +4,7 @@ ghost use Rattle.std.specs.Prelude.{◌≡◌, [], ◌∷◌, false};
 
 use std::alloc::Global;
 use std::collections::HashSet;
+use std::collections::hash_set::Iter;
 
 /// Which end of a channel is used.
 #[derive(Clone, Copy, PartialEq, Eq, Hash)]
@@ -84,5 +85,11 @@ impl Uses {
         ensures { result ≡ has self.now item }
     {
         self.set.contains(&item)
+    }
+    /// Each use that it has.
+    pub(crate) fn iter(&self) -> Iter<'_, Use>
+        ensures { result ≡ self.now.set.keys }
+    {
+        self.set.iter()
     }
 }
