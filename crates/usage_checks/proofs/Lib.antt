@@ -11,3 +11,4 @@ pub mod LowestOfMany
 pub mod ActualsFollowed
 pub mod DeclarationsWalked
 pub mod Sharing
+pub mod Links

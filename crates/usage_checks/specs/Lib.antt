@@ -25,3 +25,4 @@ pub mod NameRules
 pub mod ActionRules
 pub mod Following
 pub mod ParRules
+pub mod MainRules

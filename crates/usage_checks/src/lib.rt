@@ -14,6 +14,7 @@ mod indices;
 mod instance_rules;
 mod instances;
 mod line_rules;
+mod main_rules;
 mod mentions;
 mod name_rules;
 mod par_rules;

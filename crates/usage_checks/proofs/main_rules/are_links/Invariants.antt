@@ -1,0 +1,8 @@
+use Rattle.std.proofs.Common.{◌≡◌, map, drop}
+use Rattle.occam_parser.specs.LineViews.{formal_of}
+use Rattle.usage_checks.specs.MainRules.{are_links}
+use Rattle.usage_checks.proofs.main_rules.are_links.Given as goal
+
+abbrev pub invariant-loop-formal : goal.invariant-loop-formal
+invariant-loop-formal l =
+    are_links (map formal_of (drop l.formal-index l.formals)) ≡ are_links (map formal_of l.formals)
