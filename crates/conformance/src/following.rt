@@ -10,7 +10,7 @@ use crate::outcome::{Outcome, judged};
 use crate::stepping::function;
 use crate::words::{Words, question};
 use certificate::{Fact, LabelRow, Module};
-use facts::{Successors, advance, has_rule, transfer};
+use facts::{Successor, Successors, advance, has_rule, transfer};
 use prefix_decoder::{Fun, Instr};
 use states::{Known, Loop, Source, State, WordFact};
 use std::alloc::Global;
@@ -163,30 +163,23 @@ fn put_state(state: &State, out: &mut Answer) {
     out.great(state.number);
 }
 
+/// A state that follows: its offset, and the state.
+fn put_successor(successor: &Successor, out: &mut Answer) {
+    out.number(i64::from(successor.at));
+    out.put(":");
+    put_state(&successor.state, out);
+}
+
+/// The states that follow.
 fn put_successors(successors: &Successors, out: &mut Answer) {
-    match successors {
-        Successors::Falls(state) => {
-            out.put("falls");
-            put_state(state, out);
+    match (&successors.behind, &successors.at_label) {
+        (Some(behind), Some(label)) => {
+            put_successor(behind, out);
+            out.put(" or ");
+            put_successor(label, out);
         }
-        Successors::Leads(to) => {
-            out.put("leads ");
-            out.number(i64::from(*to));
-        }
-        Successors::FallsOrLeads(state, to) => {
-            out.put("falls");
-            put_state(state, out);
-            out.put(" or leads ");
-            out.number(i64::from(*to));
-        }
-        Successors::Calls(state, to) => {
-            out.put("calls ");
-            out.number(i64::from(*to));
-            out.put(" then falls");
-            put_state(state, out);
-        }
-        Successors::Returns => out.put("returns"),
-        Successors::Ends => out.put("ends"),
+        (Some(only), None) | (None, Some(only)) => put_successor(only, out),
+        (None, None) => out.put("nothing"),
     }
 }
 
@@ -204,10 +197,10 @@ fn instruction(words: &mut Words) -> Instr {
 }
 
 /// What follows an instruction, after `no rule` where it has none.
-fn put_following(
+fn put_following<'a>(
     alloc: Global,
-    module: &Module,
-    state: &State,
+    module: &'a Module<'a>,
+    state: &State<'a>,
     at: usize,
     instr: Instr,
     out: &mut Answer,
@@ -227,7 +220,13 @@ fn put_following(
 }
 
 /// Takes an offset and one instruction or two, and writes what follows the last.
-fn answer(alloc: Global, module: &Module, state: &mut State, words: &mut Words, out: &mut Answer)
+fn answer<'a>(
+    alloc: Global,
+    module: &'a Module<'a>,
+    state: &mut State<'a>,
+    words: &mut Words,
+    out: &mut Answer,
+)
     requires { BelongsTo «module».now state.old }
 {
     let at = words.number() as usize;

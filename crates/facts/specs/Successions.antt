@@ -1,33 +1,50 @@
 -- What follows an instruction, in terms of its ruling.
-use Rattle.std.specs.Prelude.{◌≡◌, ◌⊎◌, ⊤, Result, Ok, Err}
-use Rattle.module_format.specs.Contents.{Contents}
+use Rattle.std.specs.Prelude.{◌≡◌, ◌⊎◌, ℕ, ◌+◌, ◌%◌, ◌^◌, Bool, true, false, IfSome, Result, Ok, Err}
+use Rattle.std.specs.Prelude.{Option, option_map, option_and_then}
+use Rattle.module_format.specs.Contents.{Contents, label_at}
 use Rattle.states.specs.declared.rule.Rule.{Rule}
 use Rattle.states.specs.declared.rule.RuleFault.{RuleFault}
 use Rattle.states.specs.Numbers.{fault_of, out_of_memory}
+use Rattle.states.specs.State.{State, label_state}
 use Rattle.states.specs.Views.{state_of, BelongsTo}
+use Rattle.facts.specs.declared.following.Successor.{Successor}
 use Rattle.facts.specs.declared.following.Successors.{Successors}
-use Rattle.facts.specs.declared.following.Successors.TheVariants.{Falls, Leads, FallsOrLeads, Calls, Returns, Ends}
-use Rattle.facts.specs.Rulings.{Ruling, falls, leads, falls_or_leads, calls, returns, ends, breaks}
+use Rattle.facts.specs.Rulings.{Ruling, breaks, falling, leading}
 
 -- the fault is that of the rule that is broken
 abbrev pub Reports : RuleFault → Ruling → Type 0
 Reports fault ruling = (broken : Rule) × (ruling ≡ breaks broken) × (fault ≡ fault_of broken)
 
+-- whether a ruling breaks no rule
+abbrev pub obeys : Ruling → Bool
+obeys (breaks broken) = false
+obeys ruling = true
+
+-- the offset behind an instruction; offsets of code have 32 bits
+abbrev pub offset_behind : ℕ → ℕ → ℕ
+offset_behind at length = (at + length) % 2 ^ 32
+
+-- the offset of a successor, and its state
+abbrev pub placed : Option Successor → Option (ℕ × State)
+placed = option_map (λ s. (s.at, state_of s.state))
+
+-- the state of the label at an offset, and that offset
+abbrev pub state_at_label : Contents → ℕ → Option (ℕ × State)
+state_at_label m to = option_map (λ t. (to, label_state t)) (label_at m to)
+
+-- The states that follow are those of a ruling that breaks no rule: the one that falls through, at this offset, and
+-- that of the label to which it leads.
+pub record AreOf (m : Contents) (next : ℕ) (successors : Successors) (ruling : Ruling) : Type 0 where
+  pub obeyed : obeys ruling ≡ true
+  pub behind : placed successors.behind ≡ option_map (λ s. (next, s)) (falling ruling)
+  pub at_label : placed successors.at_label ≡ option_and_then (state_at_label m) (leading ruling)
+
 -- the states that follow are those of the ruling, unless memory ran out
-abbrev pub Succeeds : Result Successors RuleFault → Ruling → Type 0
-Succeeds (Ok (Falls s)) ruling = ruling ≡ falls (state_of s)
-Succeeds (Ok (Leads to)) ruling = ruling ≡ leads to
-Succeeds (Ok (FallsOrLeads s to)) ruling = ruling ≡ falls_or_leads (state_of s) to
-Succeeds (Ok (Calls s to)) ruling = ruling ≡ calls to (state_of s)
-Succeeds (Ok Returns) ruling = ruling ≡ returns
-Succeeds (Ok Ends) ruling = ruling ≡ ends
-Succeeds (Err fault) ruling = (fault ≡ out_of_memory) ⊎ Reports fault ruling
+abbrev pub Succeeds : Contents → ℕ → Result Successors RuleFault → Ruling → Type 0
+Succeeds m next (Ok successors) ruling = AreOf m next successors ruling
+Succeeds m next (Err fault) ruling = (fault ≡ out_of_memory) ⊎ Reports fault ruling
 
 -- a state that follows is one of the module
-abbrev pub Follow : Contents → Successors → Type 0
-Follow m (Falls s) = BelongsTo m s
-Follow m (Leads to) = ⊤
-Follow m (FallsOrLeads s to) = BelongsTo m s
-Follow m (Calls s to) = BelongsTo m s
-Follow m Returns = ⊤
-Follow m Ends = ⊤
+pub record Follow (m : Contents) (successors : Successors) : Type 0 where
+  pub behind : IfSome successors.behind (λ s. BelongsTo m s.state)
+  pub at_label : IfSome successors.at_label (λ s. BelongsTo m s.state)

@@ -1,9 +1,10 @@
 //! The states that follow an instruction.
 
-ghost use Rattle.std.specs.Prelude.{IfOk};
+ghost use Rattle.std.specs.Prelude.{◌≡◌, ◌+◌, IfSome, IfOk};
+ghost use Rattle.module_format.specs.Contents.{Contents};
 ghost use Rattle.states.specs.Views.{state_of, BelongsTo};
 ghost use Rattle.facts.specs.Rules.{rule_at};
-ghost use Rattle.facts.specs.Successions.{Succeeds, Follow};
+ghost use Rattle.facts.specs.Successions.{placed, offset_behind, state_at_label, Succeeds, Follow};
 
 use crate::advancing::advance;
 use crate::continuation::Continuation;
@@ -12,45 +13,75 @@ use prefix_decoder::Instr;
 use states::{RuleFault, State};
 use std::alloc::Global;
 
-/// The states that follow an instruction, and where.
+/// A state that follows an instruction, and the code offset where it holds.
 #[derive(Drop)]
-pub enum Successors<'a> {
-    /// Behind the instruction.
-    Falls(State<'a>),
-    /// The state of the label at this code offset.
-    Leads(u32),
-    /// Behind the instruction, and the state of the label at this code offset.
-    FallsOrLeads(State<'a>, u32),
-    /// Behind the instruction, once the procedure has returned that begins at this code offset.
-    Calls(State<'a>, u32),
-    /// That of who called the procedure.
-    Returns,
-    /// None: the process stops.
-    Ends,
+pub struct Successor<'a> {
+    pub at: u32,
+    pub state: State<'a>,
 }
 
-/// The states that follow the instruction at a code offset, by the rule of that instruction. Running out of
-/// memory is reported as `states::MEMORY`.
+/// The states that follow an instruction. None follows where the process stops, or returns to its caller.
+#[derive(Drop)]
+pub struct Successors<'a> {
+    /// The state that falls through, behind the instruction; of a call, once the procedure has returned.
+    pub behind: Option<Successor<'a>>,
+    /// The state of the label at which the process may go on.
+    pub at_label: Option<Successor<'a>>,
+}
+
+/// The offset behind an instruction. Code offsets have 32 bits.
+fn offset_behind(at: usize, len: usize) -> u32
+    ensures { result ≡ offset_behind at len }
+{
+    ((at as u128 + len as u128) % (1 << 32)) as u32
+}
+
+/// The state of the label at a code offset, made in place of another one.
+fn at_label<'a>(mut state: State<'a>, module: &'a Module<'a>, to: u32) -> Option<Successor<'a>>
+    requires { BelongsTo «module».now state }
+    ensures state { placed result ≡ state_at_label «module».now to }
+    ensures belongs { IfSome result (λ s. BelongsTo «module».now s.state) }
+{
+    let row = module.label_at(to)?;
+    state.become_label(module, row);
+    Some(Successor { at: to, state })
+}
+
+/// The states that follow the instruction at a code offset, by the rule of that instruction, each with its
+/// offset. Running out of memory is reported as `states::MEMORY`.
 // A body that always answers want of memory meets these clauses too, since no clause can say that memory
 // is left: tests show the states that follow.
 pub fn transfer<'a>(
     alloc: Global,
-    module: &Module,
+    module: &'a Module<'a>,
     state: &State<'a>,
     at: usize,
     instr: Instr,
 ) -> Result<Successors<'a>, RuleFault>
     requires { BelongsTo «module».now state.now }
-    ensures ruling { Succeeds result (rule_at «module».now at instr (state_of state.now)) }
+    ensures ruling { let ruling = rule_at «module».now at instr (state_of state.now) in
+        Succeeds «module».now (offset_behind at instr.len) result ruling }
     ensures belongs { IfOk result (Follow «module».now) }
 {
-    let mut next = state.copy(alloc)?;
-    match advance(&mut next, module, at, instr)? {
-        Continuation::Falls => Ok(Successors::Falls(next)),
-        Continuation::Leads { to } => Ok(Successors::Leads(to)),
-        Continuation::FallsOrLeads { to } => Ok(Successors::FallsOrLeads(next, to)),
-        Continuation::Calls { to } => Ok(Successors::Calls(next, to)),
-        Continuation::Returns => Ok(Successors::Returns),
-        Continuation::Ends => Ok(Successors::Ends),
+    let mut state = state.copy(alloc)?;
+    let continuation = advance(&mut state, module, at, instr)?;
+    let next = offset_behind(at, instr.len);
+    match continuation {
+        Continuation::Falls | Continuation::Calls { .. } => Ok(Successors {
+            behind: Some(Successor { at: next, state }),
+            at_label: None,
+        }),
+        Continuation::Leads { to } => Ok(Successors {
+            behind: None,
+            at_label: at_label(state, module, to),
+        }),
+        Continuation::FallsOrLeads { to } => Ok(Successors {
+            at_label: at_label(state.copy(alloc)?, module, to),
+            behind: Some(Successor { at: next, state }),
+        }),
+        Continuation::Returns | Continuation::Ends => Ok(Successors {
+            behind: None,
+            at_label: None,
+        }),
     }
 }

@@ -23,5 +23,5 @@ mod word_rules;
 
 pub use advancing::{advance, has_rule};
 pub use continuation::Continuation;
-pub use following::{Successors, transfer};
+pub use following::{Successor, Successors, transfer};
 pub use laws::rules_fit_steps;
