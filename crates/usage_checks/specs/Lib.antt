@@ -26,3 +26,4 @@ pub mod ActionRules
 pub mod Following
 pub mod ParRules
 pub mod MainRules
+pub mod FormalRules

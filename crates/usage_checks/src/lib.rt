@@ -10,6 +10,7 @@ mod declaring;
 mod entering;
 mod faults;
 mod following;
+mod formal_rules;
 mod indices;
 mod instance_rules;
 mod instances;

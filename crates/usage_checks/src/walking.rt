@@ -4,12 +4,12 @@ ghost use Rattle.std.specs.Prelude.{Some};
 ghost use Rattle.occam_parser.specs.Views.{expression_of};
 ghost use Rattle.occam_parser.specs.LineViews.{any_of, action_of, guard_of};
 ghost use Rattle.scalar_ranges.specs.Scopes.{entries_of, known_of};
-ghost use Rattle.usage_checks.specs.Signatures.{signatures_of};
 ghost use Rattle.usage_checks.specs.LineRules.{BreaksCondition, BreaksConditionIfAny};
 ghost use Rattle.usage_checks.specs.ActionRules.{BreaksAction, BreaksGuard};
 ghost use Rattle.usage_checks.specs.Following.{where_holds, after_action, after_guard};
 ghost use Rattle.usage_checks.specs.NameRules.{with_entries};
 ghost use Rattle.usage_checks.specs.Telling.{At, Walks};
+ghost use Rattle.usage_checks.specs.Signatures.{signatures_of};
 
 use crate::action_rules::fault_of_action;
 use crate::channel_rules::Position;

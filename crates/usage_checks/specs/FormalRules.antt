@@ -1,0 +1,16 @@
+-- The rules of formals, and what is known of them by their head.
+use Rattle.std.specs.Prelude.{ℕ, List, []}
+use Rattle.occam_parser.specs.Lines.{Formal}
+use Rattle.scalar_ranges.specs.Entries.{Entry}
+use Rattle.usage_checks.specs.DeclarationRules.{BreaksSizeIfAny}
+use Rattle.usage_checks.specs.Declaring.{formal_meaning}
+use Rattle.usage_checks.specs.EachBroken.{BreaksEach}
+use Rattle.usage_checks.specs.Signatures.{Parameter}
+
+-- No size of a formal sees another formal.
+abbrev pub BreakSizes : List Entry → List Formal → ℕ → Type 0
+BreakSizes es fs = BreaksEach (λ i f. BreaksSizeIfAny es f.size) 0 fs
+
+-- what is known of a formal by its head
+abbrev pub parameter_for : List Entry → Formal → Parameter
+parameter_for es f = record { meaning = formal_meaning es f; ends = [] }
