@@ -12,7 +12,7 @@ use Rattle.module_format.specs.declared.fact.Fact.TheVariants.{Unknown, Number, 
 use Rattle.module_format.specs.declared.fact.Fact.TheVariants.{ReturnAddress}
 use Rattle.module_format.specs.Rows.{Entry}
 use Rattle.states.specs.declared.overlay.Written.{Written}
-use Rattle.states.specs.Lookup.{lookup, ArePlaced}
+use Rattle.states.specs.Lookup.{lookup, ArePlaced, fact_of_index, facts_over}
 use Rattle.states.specs.declared.known.WordFact.{WordFact}
 use Rattle.states.specs.declared.known.WordFact.TheVariants.{Alone}
 use Rattle.states.specs.State.{Facts, by_itself, is_word, is_about, said_of, entry_fact}
@@ -20,7 +20,6 @@ use Rattle.states.specs.Below.{implies, says, words_say, entries_hold}
 use Rattle.module_format.specs.Order.{least_word}
 use Rattle.module_format.specs.Facts.{end_of}
 use Rattle.states.specs.Rows.{rise_from, AreApart}
-use Rattle.states.specs.Frames.{fact_of_index, facts_over}
 use Rattle.states.specs.Comparing.{SaysAll, SaysLess, OneSaysAll, WrittenSaysAll}
 use Rattle.states.proofs.RowFacts.{and-parts, and-both, before, within, behind, lies, about-before, about-behind}
 use Rattle.states.proofs.RowFacts.{rise-parts, unknown-below, entry_fact-within}

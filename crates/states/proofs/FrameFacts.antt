@@ -9,7 +9,7 @@ use Rattle.std.proofs.lemmas.Int.{ints, by_lt_z}
 use Rattle.module_format.specs.Rows.{Fact}
 use Rattle.module_format.specs.Rows.{Entry}
 use Rattle.states.specs.declared.overlay.Written.{Written}
-use Rattle.states.specs.Lookup.{lookup}
+use Rattle.states.specs.Lookup.{lookup, fact_of_index, facts_over}
 use Rattle.states.specs.State.{Facts, by_itself, is_word, is_at, is_parted, with_fact, entry_fact}
 use Rattle.states.specs.declared.known.Loop.{Loop}
 use Rattle.states.specs.declared.known.LoopWord.{LoopWord}
@@ -17,7 +17,7 @@ use Rattle.states.specs.declared.known.LoopWord.TheVariants as words
 use Rattle.states.specs.declared.known.WordFact.{WordFact}
 use Rattle.states.specs.declared.known.WordFact.TheVariants.{Alone, Index, Count}
 use Rattle.states.specs.Below.{says}
-use Rattle.states.specs.Frames.{fact_of_index, facts_over, with_alone, is_loop_word, parted}
+use Rattle.states.specs.Frames.{with_alone, is_loop_word, parted}
 use Rattle.states.proofs.RowFacts.{le-yes, le-no, and-both}
 
 pub is_word-same : (j k : ℤ) → j ≡ k → is_word j k ≡ true

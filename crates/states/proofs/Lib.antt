@@ -6,6 +6,7 @@ pub mod Procedures
 pub mod RowFacts
 pub mod FrameFacts
 pub mod SpanFacts
+pub mod BlockSums
 pub mod Comparisons
 pub mod States
 pub mod OwnWords

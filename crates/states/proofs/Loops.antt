@@ -13,11 +13,11 @@ use Rattle.states.specs.declared.known.LoopWord.TheVariants as words
 use Rattle.states.specs.declared.known.WordFact.{WordFact}
 use Rattle.states.specs.declared.known.WordFact.TheVariants.{Alone, Index, Count}
 use Rattle.states.specs.State.{Facts, is_alone, is_silent, entry_fact}
-use Rattle.states.specs.Lookup.{lookup, indices, ArePlaced}
+use Rattle.states.specs.Lookup.{lookup, indices, ArePlaced, fact_of_index}
 use Rattle.states.specs.declared.overlay.Written.{Written}
 use Rattle.states.specs.Rows.{LoopFits}
 use Rattle.states.specs.declared.frame.Frame.{Frame}
-use Rattle.states.specs.Frames.{fact_of_index, frame_facts, is_loop_word, HasRoom}
+use Rattle.states.specs.Frames.{frame_facts, is_loop_word, HasRoom}
 
 pub loop_fits_prop : (fact : WordFact) → IsProp (LoopFits fact)
 loop_fits_prop (Alone fact) = Unit-prop

@@ -176,19 +176,9 @@ pub span-steps : (first before behind : ℤ) (count : ℕ) (leaving : Leaving) (
 span-steps first before behind count leaving facts one two new some before_is behind_is one_is two_is new_is =
     new_is ∙ (rw (two_is, behind_is, one_is, before_is) (parts-leave first count leaving facts some))
 
--- ---- what is known of a span together
+-- ---- what is known of a span together: words of which nothing is known
 
-pub together-more : (facts : Facts) (first word : ℤ) (n m : ℕ) (here : WordFact) (before new : Together)
-    → word ≡ first +ℤ pos n → m ≡ n + 1 → here ≡ facts word → before ≡ together facts first n
-    → new ≡ with_one here before → new ≡ together facts first m
-together-more facts first word n m here before new word_is m_is here_is before_is new_is =
-    new_is ∙ (ap (with_one here) before_is
-    ∙ (ap (λ (f : WordFact). with_one f (together facts first n)) (here_is ∙ ap facts word_is)
-    ∙ (ap (together facts first) (let e : suc n ≡ m = omega arith in e))))
-
--- ---- words of which nothing is known
-
-and-yes : (b : Bool) → b && true ≡ b
+pub and-yes : (b : Bool) → b && true ≡ b
 and-yes true = refl
 and-yes false = refl
 

@@ -5,7 +5,7 @@ use Rattle.states.specs.declared.overlay.Written.{Written}
 use Rattle.states.specs.State.{Facts}
 use Rattle.states.specs.declared.known.WordFact.TheVariants.{Alone}
 use Rattle.states.specs.Below.{says}
-use Rattle.states.specs.Frames.{fact_of_index}
+use Rattle.states.specs.Lookup.{fact_of_index}
 
 -- the one says of each word at least what the other says
 abbrev pub SaysAll : Facts → Facts → Type 0

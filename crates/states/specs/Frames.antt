@@ -1,28 +1,17 @@
 -- What is known of the words of a frame: what was written since the last label, over what the label's row says.
-use Rattle.std.specs.Prelude.{◌≡◌, ◌&&◌, Bool, true, false, if◌then◌else◌, ℕ, ℤ, pos, negsuc, ◌+ℤ◌, ◌-ℤ◌, ◌≤ℤ◌, ◌<ℤ◌}
-use Rattle.std.specs.Prelude.{◌<◌, List, length, get_or, Option, None, option_map, unwrap_or, vec_len}
+use Rattle.std.specs.Prelude.{◌≡◌, ◌&&◌, Bool, true, false, if◌then◌else◌, ℕ, ℤ, pos, ◌+ℤ◌, ◌≤ℤ◌, ◌<ℤ◌}
+use Rattle.std.specs.Prelude.{◌<◌, List, length, get_or, vec_len}
 use Rattle.module_format.specs.Rows.{Fact}
-use Rattle.module_format.specs.Rows.{Entry}
 use Rattle.module_format.specs.declared.rows.Parameter.{Parameter}
-use Rattle.states.specs.declared.overlay.Written.{Written}
 use Rattle.states.specs.declared.frame.Frame.{Frame}
 use Rattle.states.specs.declared.known.LoopWord.{LoopWord}
 use Rattle.states.specs.declared.known.LoopWord.TheVariants as words
 use Rattle.states.specs.declared.known.WordFact.{WordFact}
 use Rattle.states.specs.declared.known.WordFact.TheVariants.{Alone, Index, Count}
-use Rattle.states.specs.Lookup.{lookup}
-use Rattle.states.specs.State.{Facts, is_word, by_itself, entry_fact}
+use Rattle.states.specs.Lookup.{facts_over}
+use Rattle.states.specs.State.{Facts, is_word, by_itself}
 use Rattle.states.specs.declared.span.Leaving.{Leaving}
 use Rattle.states.specs.Spans.{is_in_span, left_of}
-
--- the fact of an index, which none below 0 has
-abbrev pub fact_of_index : List Written → ℤ → Option Fact
-fact_of_index written (pos index) = lookup written index
-fact_of_index written (negsuc n) = None
-
--- what was written to a word, where the word `lo` has index 0, and is its fact alone, else what the row says
-abbrev pub facts_over : ℤ → List Entry → List Written → Facts
-facts_over lo row written = λ k. unwrap_or (option_map Alone (fact_of_index written (k -ℤ lo))) (entry_fact row k)
 
 abbrev pub frame_facts : Frame → Facts
 frame_facts frame = facts_over frame.lo frame.row.now frame.overlay.written.items

@@ -4,6 +4,7 @@ pub mod Spans
 pub mod Below
 pub mod Lookup
 pub mod Rows
+pub mod Blocks
 pub mod Frames
 pub mod Comparing
 pub mod Views

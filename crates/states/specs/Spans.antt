@@ -43,6 +43,15 @@ together facts first (suc more) = with_one (facts (first +ℤ pos more)) (togeth
 abbrev pub with_silent : ℕ → Together → Together
 with_silent count t = record t { are_numbers = t.are_numbers && (count == 0) }
 
+-- the same of the words of two spans
+abbrev pub joined : Together → Together → Together
+joined t u = record {
+  lo = int_min t.lo u.lo;
+  hi = int_max t.hi u.hi;
+  are_numbers = t.are_numbers && u.are_numbers;
+  are_alone = t.are_alone && u.are_alone;
+}
+
 -- ---- changes of spans
 
 -- what a number says that may have been replaced by one from lo to hi; of anything else nothing is left

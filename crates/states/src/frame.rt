@@ -5,14 +5,16 @@ ghost use Rattle.std.specs.Prelude.{IsFalse, true, false, SomeIff, sum_by, lengt
 ghost use Rattle.std.specs.List.{list_all};
 ghost use Rattle.module_format.specs.Contents.{procedure_of};
 ghost use Rattle.module_format.specs.Order.{least_word};
+ghost use Rattle.states.specs.Blocks.{AreSummed};
+ghost use Rattle.states.specs.Lookup.{facts_over};
 ghost use Rattle.states.specs.Rows.{AreApart, LoopFits, IsRow};
 ghost use Rattle.states.specs.State.{is_silent, entry_fact, parameter_fact};
 
+use crate::blocks::{Blocks, block_words};
 use crate::implication::{holds_constant, says};
 use crate::known::{LoopWord, WordFact};
 use crate::overlay::Overlay;
 use crate::row::{row_fact, segment_from};
-use crate::span::{Leaving, Together};
 use certificate::{Entry, Fact, ParameterKind, ProcedureRow, Step};
 use std::alloc::{AllocError, Global};
 
@@ -23,21 +25,22 @@ pub(crate) struct Frame<'a> {
     pub(crate) lo: i32,
     pub(crate) row: &'a [Entry],
     pub(crate) overlay: Overlay,
+    /// The sums of blocks of words, so that a span is not asked word by word.
+    pub(crate) by_block: Blocks,
     ghost apart: { AreApart row.now },
     ghost loops: { ∥ ((k : ℤ) → LoopFits (entry_fact row.now k)) ∥₁ },
     ghost inside: { (k : ℤ) → is_silent (entry_fact row.now k) ≡ false → (lo ≤ℤ k) × (k <ℤ (lo +ℤ pos (vec_len overlay.places))) },
     ghost low: { least_word ≤ℤ lo },
     ghost high: { (lo +ℤ pos (vec_len overlay.places)) ≤ℤ pos (2 ^ 31) },
+    ghost summed: { AreSummed (facts_over lo row.now overlay.written.items) lo by_block.kept.items },
 }
 
 impl<'a> Frame<'a> {
     ghost use Rattle.states.specs.State.{no_facts, with_fact, procedure_facts};
     ghost use Rattle.states.specs.Below.{says, entries_hold, is_whole, price};
-    ghost use Rattle.states.specs.Frames.{fact_of_index, frame_facts, with_alone, parted, HasRoom};
+    ghost use Rattle.states.specs.Lookup.{fact_of_index};
+    ghost use Rattle.states.specs.Frames.{frame_facts, with_alone, parted, HasRoom};
     ghost use Rattle.states.specs.Frames.{HasRoomForAll, SameRoom};
-    ghost use Rattle.states.specs.Frames.{with_span, HasRoomForSpan};
-    ghost use Rattle.states.specs.State.{changed};
-    ghost use Rattle.states.specs.Spans.{together, on_span};
     ghost use Rattle.states.specs.Comparing.{SaysLess, OneSaysAll, WrittenSaysAll};
 
     /// The frame of so many words from `lo` on, of which nothing is known.
@@ -50,6 +53,7 @@ impl<'a> Frame<'a> {
             lo,
             row: &[],
             overlay: Overlay::new(alloc, room)?,
+            by_block: Blocks::new(alloc, room / block_words())?,
         })
     }
 
@@ -61,6 +65,7 @@ impl<'a> Frame<'a> {
             lo: self.lo,
             row: self.row,
             overlay: self.overlay.copy(alloc)?,
+            by_block: self.by_block.copy(alloc)?,
         })
     }
 
@@ -103,10 +108,11 @@ impl<'a> Frame<'a> {
     {
         let index = word.abs_diff(i64::from(self.lo)) as usize;
         self.overlay.set(index, fact);
+        self.by_block.forget(index / block_words());
     }
 
     /// If the word is this one of a loop, it is what it says by itself from now on.
-    fn part(&mut self, word: i64, which: LoopWord)
+    pub(crate) fn part(&mut self, word: i64, which: LoopWord)
         ensures facts { frame_facts self.new ≡ parted which word (frame_facts self.old) }
         ensures room { SameRoom self.old self.new }
     {
@@ -129,51 +135,10 @@ impl<'a> Frame<'a> {
     }
 
     /// The first word behind those that can be written.
-    fn end(&self) -> i64
+    pub(crate) fn end(&self) -> i64
         ensures value { result ≡ self.now.lo +ℤ pos (vec_len self.now.overlay.places) }
     {
         i64::from(self.lo) + self.overlay.places.len() as i64
-    }
-
-    /// What is known of so many words from `first` on together. Words that cannot be written are not looked at:
-    /// nothing is known of them.
-    pub(crate) fn together(&self, first: i32, count: u32) -> Together
-        ensures { result ≡ together (frame_facts self.now) first count }
-    {
-        let before = words_before(first, count, i64::from(self.lo));
-        let end = words_before(first, count, self.end());
-        let mut all = Together::of_none().with_silent(before);
-        for i in before..end {
-            all = all.with(self.fact_at(i64::from(first) + i64::from(i)));
-        }
-        all.with_silent(count - end)
-    }
-
-    /// Each of so many words from `first` on is left so, and the others what they are.
-    fn leave(&mut self, first: i32, count: u32, leaving: Leaving)
-        requires { HasRoomForSpan self.old first count }
-        ensures facts { frame_facts self.new ≡ with_span first count leaving (frame_facts self.old) }
-        ensures room { SameRoom self.old self.new }
-    {
-        for i in 0..count {
-            let word = i64::from(first) + i64::from(i);
-            let said = self.fact_at(word).by_itself();
-            self.place(word, leaving.left_of(said));
-        }
-    }
-
-    /// Each of so many words from `first` on, at least one, is left so from now on. A loop that loses one of
-    /// its words leaves what the other says by itself.
-    pub(crate) fn change_span(&mut self, first: i32, count: u32, leaving: Leaving)
-        requires room { HasRoomForSpan self.old first count }
-        requires some { 0 < count }
-        ensures facts { frame_facts self.new ≡ changed (on_span first count leaving) (frame_facts self.old) }
-        ensures room { SameRoom self.old self.new }
-    {
-        let start = i64::from(first);
-        self.part(start - 1, LoopWord::Index);
-        self.part(start + i64::from(count), LoopWord::Count);
-        self.leave(first, count, leaving);
     }
 
     /// What a label's row says is known from now on, and nothing else.
@@ -183,6 +148,7 @@ impl<'a> Frame<'a> {
         ensures room { SameRoom self.old self.new }
     {
         self.overlay.clear();
+        self.by_block.clear();
         self.row = row;
     }
 
@@ -344,19 +310,6 @@ impl<'a> Frame<'a> {
         }
         Some(left)
     }
-}
-
-/// How many of so many words from `first` on come before a word.
-fn words_before(first: i32, count: u32, word: i64) -> u32
-    ensures few { result ≤ count }
-    ensures before { (j : ℕ) → j < result → (first +ℤ pos j) <ℤ word }
-    ensures behind { (j : ℕ) → result ≤ j → j < count → word ≤ℤ (first +ℤ pos j) }
-{
-    let start = i64::from(first);
-    if word <= start {
-        return 0;
-    }
-    word.abs_diff(start).min(u64::from(count)) as u32
 }
 
 /// What a parameter's word holds where the procedure begins.

@@ -1,8 +1,10 @@
 //! What is known of a process at a place of its code.
 #![tactic(auto)]
 
+mod blocks;
 mod comparison;
 mod frame;
+mod frame_spans;
 mod implication;
 mod intervals;
 mod known;

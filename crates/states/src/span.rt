@@ -2,7 +2,7 @@
 
 ghost use Rattle.std.specs.Prelude.{◌≡◌};
 ghost use Rattle.states.specs.Rows.{LoopFits};
-ghost use Rattle.states.specs.Spans.{of_none, with_plain, with_one, with_silent, widened, left_of};
+ghost use Rattle.states.specs.Spans.{of_none, with_plain, with_one, with_silent, joined, widened, left_of};
 
 use crate::known::WordFact;
 use certificate::Fact;
@@ -60,6 +60,18 @@ impl Together {
             ..self
         };
         all.with_plain(fact.plain())
+    }
+
+    /// The same of these words and of others.
+    pub(crate) fn joined(self, other: Self) -> Self
+        ensures { result ≡ joined self other }
+    {
+        Together {
+            lo: self.lo.min(other.lo),
+            hi: self.hi.max(other.hi),
+            are_numbers: self.are_numbers && other.are_numbers,
+            are_alone: self.are_alone && other.are_alone,
+        }
     }
 
     /// The same of so many more, of which nothing is known.

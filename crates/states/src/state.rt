@@ -263,7 +263,19 @@ impl<'a> State<'a> {
         }
     }
 
-    /// What is known of so many words of the frame from `first` on together. The time goes with their number.
+    /// The words of the frame from `first` on, so many, are summed in blocks of 64 from now on, each block until one of
+    /// its words is written or a label comes. What is known stays what it is. The time goes with the number of words
+    /// in blocks that are not summed, and with the number of blocks.
+    pub fn sum_words(&mut self, first: i32, count: u32)
+        ensures state { state_of self.new ≡ state_of self.old }
+        ensures belongs { (m : Contents) → BelongsTo m self.old → BelongsTo m self.new }
+        ensures room { (k : ℤ) → CanWrite self.old k → CanWrite self.new k }
+    {
+        self.frame.sum(first, count);
+    }
+
+    /// What is known of so many words of the frame from `first` on together. The time goes with the number of blocks
+    /// that are summed, and with the number of the other words.
     pub fn together(&self, first: i32, count: u32) -> Together
         ensures { result ≡ together (state_of self.now).frame first count }
     {

@@ -1,14 +1,15 @@
-use Rattle.std.proofs.Common.{◌≤◌, arith, refl, ap, ◌+◌, ◌∙◌, inl, inr}
+use Rattle.std.proofs.Common.{arith, refl, ap, ◌∙◌, inl, inr}
 use Rattle.std.proofs.lemmas.Bool.{cases_lt}
 use Rattle.std.proofs.lemmas.Int.{ints, to_z-of_z}
 use Rattle.std.specs.Int.{w32}
 use Rattle.states.specs.Frames.{frame_facts}
 use Rattle.states.specs.Spans.{together, with_silent}
-use Rattle.states.proofs.SpanFacts.{together-more, silent-before, silent-behind}
+use Rattle.states.proofs.SpanFacts.{silent-before, silent-behind}
+use Rattle.states.proofs.BlockSums.{together-further}
 use Rattle.states.proofs.frame.Frame.together.Goals as goal
 
-pub loop-i-init : goal.loop-i-init
-loop-i-init c = (
+pub loop-done-init : goal.loop-done-init
+loop-done-init c = (
   elim (cases_lt c.words_before-end.result c.words_before-before.result) [
     | inr rises ↦ rises
     | inl falls ↦
@@ -24,21 +25,22 @@ loop-i-init c = (
       (λ j less. let before = c.words_before-before.ensures.before j less in omega (arith, ints))),
 )
 
-pub loop-i-preserved : goal.loop-i-preserved
-loop-i-preserved c = (
+pub loop-done-preserved : goal.loop-done-preserved
+loop-done-preserved c = (
   omega (arith, ints),
-  together-more (frame_facts c.args.self.now) _ _ c.loop-i.i (c.loop-i.i + 1) c.fact_at.result c.loop-i.all _
-      (omega (arith, ints)) refl c.fact_at.ensures.value c.loop-i.invariant.1 c.with-all.ensures,
+  together-further (frame_facts c.args.self.now) _ _ c.loop-done.done c.piece-piece.result.count _
+      c.loop-done.all c.piece-piece.result.all _ (omega (arith, ints)) refl c.loop-done.invariant.1
+      c.piece-piece.ensures.all c.joined-all.ensures,
 )
 
 pub returns : goal.returns
 returns c =
     c.with_silent.ensures
-    ∙ silent-behind c.args.self.now c.args.first _ c.words_before-end.result c.args.count c.loop-i.all
+    ∙ silent-behind c.args.self.now c.args.first _ c.words_before-end.result c.args.count c.loop-done.all
     c.words_before-end.ensures.few refl
     (λ j low high.
     let behind = c.words_before-end.ensures.behind j low high in
     let end = c.end.ensures.value in
     omega (arith, ints))
-    ((rw (to_z-of_z w32 c.args.first c.ranges.first) at c.loop-i.invariant.1)
-    ∙ ap (together (frame_facts c.args.self.now) c.args.first) (omega (arith, c.loop-i.invariant.0)))
+    ((rw (to_z-of_z w32 c.args.first c.ranges.first) at c.loop-done.invariant.1)
+    ∙ ap (together (frame_facts c.args.self.now) c.args.first) (omega (arith, c.loop-done.invariant.0)))
