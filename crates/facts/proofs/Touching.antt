@@ -3,7 +3,7 @@ use Rattle.std.proofs.Common.{◌≡◌, ℕ, ◌+◌, ◌/◌, ◌≤◌, ℤ, 
 use Rattle.std.proofs.Common.{false, cond, ◌&&◌, List, [], ◌∷◌, length, map, Option, Some, None, refl, sym, ap, ◌∙◌}
 use Rattle.std.proofs.Common.{subst, arith, is_some}
 use Rattle.std.proofs.lemmas.Bool.{eq-eqb}
-use Rattle.std.specs.Prelude.{slice_get, ◌||◌, int_le}
+use Rattle.std.specs.Prelude.{slice_get, ◌||◌, int_le, IfSome}
 use Rattle.std.specs.List.{list_all, AllByRecursion}
 use Rattle.std.proofs.lemmas.Int.{ints}
 use Rattle.module_format.specs.declared.rows.Parameter.{Parameter}
@@ -27,7 +27,7 @@ use Rattle.states.specs.declared.span.Leaving.{Leaving}
 use Rattle.states.specs.declared.span.Leaving.TheVariants.{Become}
 use Rattle.states.specs.declared.rule.Rule.TheVariants as rules
 use Rattle.states.specs.State.{State, Facts, Change, written, changed, unknown}
-use Rattle.states.specs.Spans.{on_span, after_change}
+use Rattle.states.specs.Spans.{all_words, on_span, after_change}
 use Rattle.states.specs.declared.state.State.{State as InMemory}
 use Rattle.states.specs.Views.{BelongsTo, CanWriteSpan}
 use Rattle.states.proofs.RowFacts.{and-parts, and-both}
@@ -161,6 +161,22 @@ passing_rest m s =
     (passes_rest m (negsuc 0) _ s s (record { context = refl; depth = refl; mode = refl }))))
 
 -- ---- the callee's frame
+
+-- each word of the callee's frame may be written
+pub is_own : (c : Calling) (first : ℤ) (n : ℕ) (usable : Bool) → first ≡ callee_word c.state c.callee.lo
+    → n ≡ frame_size c.callee → usable ≡ all_words (rights.may_write_word c.contents c.state.context) first n
+    → usable ≡ true → true ≡ frame_is_own c
+unfolding frame_is_own
+is_own c first n usable first_is n_is usable_is holds =
+    sym holds
+    ∙ (usable_is
+    ∙ (ap (λ (k : ℤ). all_words (rights.may_write_word c.contents c.state.context) k n) first_is
+    ∙ ap (all_words (rights.may_write_word c.contents c.state.context) (callee_word c.state c.callee.lo)) n_is))
+
+-- the word that is handed out
+pub handed_word : (usable : Option ℤ) (first w : ℤ) → usable ≡ Some first → IfSome usable (λ k. k ≡ w) → first ≡ w
+handed_word None first w is h = absurd (cc)
+handed_word (Some k) first w is h = let same : k ≡ first = cc in sym same ∙ h
 
 pub not_own : (c : Calling) (w : ℤ) → w ≡ callee_word c.state c.callee.lo → 1 ≤ frame_size c.callee
     → rights.may_write_word c.contents c.state.context w ≡ false → false ≡ frame_is_own c

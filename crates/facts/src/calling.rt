@@ -114,7 +114,7 @@ impl Calling<'_, '_, '_, '_> {
     }
 
     /// What a parameter is lent.
-    fn lent(&self, parameter: &Parameter) -> Option<Lent>
+    pub fn lent(&self, parameter: &Parameter) -> Option<Lent>
         ensures { result ≡ lent (calling_of self.now) parameter.now }
     {
         lent_to(parameter.kind, self.given(parameter))

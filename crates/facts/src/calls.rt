@@ -5,7 +5,7 @@ use crate::combinators::alone;
 use crate::continuation::Continuation;
 use crate::lent::Lent;
 use crate::place::Place;
-use certificate::{Fact, ProcedureRow, Stack};
+use certificate::{Fact, Parameter, ProcedureRow, Stack};
 use states::{Known, Leaving, Rule, State, WordFact};
 
 impl Place<'_, '_> {
@@ -154,6 +154,52 @@ impl Place<'_, '_> {
         Ok(Continuation::Calls { to })
     }
 
+    /// The words of the frame that a parameter is lent are summed from now on.
+    fn sums_lent(&self, state: &mut State, callee: &ProcedureRow, parameter: &Parameter)
+        ensures state { state_of state.new ≡ state_of state.old }
+        ensures belongs { (m : Contents) → BelongsTo m state.old → BelongsTo m state.new }
+    {
+        let calling = Calling {
+            place: *self,
+            state,
+            callee,
+        };
+        if let Some(lent) = calling.lent(parameter) {
+            if lent.region == 0 {
+                state.sum_words(lent.first_word(), lent.word_count());
+            }
+        }
+    }
+
+    /// The words of the frame that a call lends are summed from now on.
+    fn sums_all_lent(&self, state: &mut State, callee: &ProcedureRow)
+        ensures state { state_of state.new ≡ state_of state.old }
+        ensures belongs { (m : Contents) → BelongsTo m state.old → BelongsTo m state.new }
+    {
+        for parameter in &callee.parameters {
+            self.sums_lent(state, callee, parameter);
+        }
+    }
+
+    /// The call of the procedure that begins at an offset, which has this number as a context. The words that it lends
+    /// are summed before.
+    fn calls_summed(
+        &self,
+        state: &mut State,
+        to: u32,
+        context: u32,
+        callee: &ProcedureRow,
+    ) -> Result<Continuation, Rule>
+        requires belongs { BelongsTo self.now.module.now state.old }
+        requires found { procedure_at self.now.module.now to ≡ Some (entered context callee.now) }
+        ensures ruling { let found = entered context callee.now in
+            Advances result (state_of state.new) (calls_procedure (site_of self.now) to (state_of state.old) found) }
+        ensures belongs { BelongsTo self.now.module.now state.new }
+    {
+        self.sums_all_lent(state, callee);
+        self.calls_procedure(state, to, context, callee)
+    }
+
     /// What the call of a procedure, which has this number as a context, may change, once what is passed is in the
     /// words below the workspace.
     fn touched(&self, state: &State, context: u32, callee: &ProcedureRow) -> Result<Touched, Rule>
@@ -183,7 +229,7 @@ impl Place<'_, '_> {
     {
         let to = self.target(distance);
         match self.module.procedure_at(to) {
-            Some((context, callee)) => self.calls_procedure(state, to, context, callee),
+            Some((context, callee)) => self.calls_summed(state, to, context, callee),
             None => {
                 alone(state.mode)?;
                 Err(Rule::Call)

@@ -3,7 +3,8 @@
 ghost use Rattle.std.specs.Prelude.{◌≡◌, ◌≤ℤ◌, ◌+ℤ◌, pos, negsuc, true};
 ghost use Rattle.states.specs.Spans.{together};
 ghost use Rattle.facts.specs.Reach.{word_of_byte, words_touched};
-ghost use Rattle.states.specs.Views.{state_of};
+ghost use Rattle.module_format.specs.Contents.{Contents};
+ghost use Rattle.states.specs.Views.{state_of, BelongsTo};
 ghost use Rattle.facts.specs.MemoryRules.{are_near, ends_in, number_within, any_of, frame_read, byte_read};
 
 use crate::combinators::{alone, outside_starts, uses};
@@ -254,8 +255,8 @@ impl Place<'_, '_> {
         number_within(self.region_range(state.context, region, lo, hi + 4))
     }
 
-    /// `ldnl`: the word so many words behind A.
-    pub(crate) fn load_non_local(&self, state: &mut State, words: i32) -> Result<Continuation, Rule>
+    /// The word so many words behind A is read.
+    fn loads_word(&self, state: &mut State, words: i32) -> Result<Continuation, Rule>
         requires { BelongsTo self.now.module.now state.old }
         ensures ruling { Advances result (state_of state.new)
             (loads_word (site_of self.now) words (state_of state.old)) }
@@ -268,8 +269,19 @@ impl Place<'_, '_> {
         self.with_fact_a(state, fact)
     }
 
-    /// `lb`: the byte at A.
-    pub(crate) fn load_byte(&self, state: &mut State) -> Result<Continuation, Rule>
+    /// `ldnl`: the word so many words behind A. The words to which A may lead are summed before.
+    pub(crate) fn load_non_local(&self, state: &mut State, words: i32) -> Result<Continuation, Rule>
+        requires { BelongsTo self.now.module.now state.old }
+        ensures ruling { Advances result (state_of state.new)
+            (loads_word (site_of self.now) words (state_of state.old)) }
+        ensures belongs { BelongsTo self.now.module.now state.new }
+    {
+        sum_reached(state, words);
+        self.loads_word(state, words)
+    }
+
+    /// The byte at A is read.
+    fn loads_byte(&self, state: &mut State) -> Result<Continuation, Rule>
         requires { BelongsTo self.now.module.now state.old }
         ensures ruling { Advances result (state_of state.new) (loads_byte (site_of self.now) (state_of state.old)) }
         ensures belongs { BelongsTo self.now.module.now state.new }
@@ -279,6 +291,35 @@ impl Place<'_, '_> {
         self.reads_bytes(state, pointer, 1)?;
         let fact = byte_read(state, pointer);
         self.with_fact_a(state, fact)
+    }
+
+    /// `lb`: the byte at A. The words to which A may lead are summed before.
+    pub(crate) fn load_byte(&self, state: &mut State) -> Result<Continuation, Rule>
+        requires { BelongsTo self.now.module.now state.old }
+        ensures ruling { Advances result (state_of state.new) (loads_byte (site_of self.now) (state_of state.old)) }
+        ensures belongs { BelongsTo self.now.module.now state.new }
+    {
+        sum_reached(state, 0);
+        self.loads_byte(state)
+    }
+}
+
+/// The words of the frame are summed from now on to which A may lead, so many words further.
+pub(crate) fn sum_reached(state: &mut State, words: i32)
+    ensures state { state_of state.new ≡ state_of state.old }
+    ensures belongs { (m : Contents) → BelongsTo m state.old → BelongsTo m state.new }
+{
+    if let Fact::Pointer {
+        region: 0,
+        lo,
+        hi,
+        ..
+    } = state.stack.a.fact
+    {
+        let distance = words.saturating_mul(4);
+        let first = word_of_byte(lo.saturating_add(distance));
+        let last = word_of_byte(hi.saturating_add(distance));
+        state.sum_words(first, last.abs_diff(first).saturating_add(1));
     }
 }
 
