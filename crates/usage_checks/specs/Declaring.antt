@@ -1,5 +1,5 @@
 -- What declarations, formals and replicators add to a scope.
-use Rattle.std.specs.Prelude.{ℕ, ℤ, pos, nat_eq, List, [], ◌∷◌, fold, length, if◌then◌else◌, Option, Some, None}
+use Rattle.std.specs.Prelude.{ℕ, ℤ, pos, nat_eq, List, ◌∷◌, fold, length, if◌then◌else◌, Option, Some, None}
 use Rattle.std.specs.Prelude.{option_map}
 use Rattle.word_arithmetic.specs.Range.{Ends, constant, hull}
 use Rattle.occam_parser.specs.declared.tree.ValueType.{ValueType}
@@ -88,5 +88,4 @@ formal_meaning es f = elim f.kind [
 
 -- The size of a formal does not see the formals before it.
 abbrev pub add_formals : List Entry → List Formal → List Entry → List Entry
-add_formals outer [] es = es
-add_formals outer (f ∷ fs) es = add_formals outer fs (add f.name (formal_meaning outer f) es)
+add_formals outer fs es = in_turn (λ f. add f.name (formal_meaning outer f)) fs es

@@ -2,9 +2,12 @@
 use Rattle.std.specs.Prelude.{ℕ, List, []}
 use Rattle.occam_parser.specs.Lines.{Formal}
 use Rattle.scalar_ranges.specs.Entries.{Entry}
+use Rattle.usage_checks.specs.declared.telling.UsageFault.{UsageFault}
 use Rattle.usage_checks.specs.DeclarationRules.{BreaksSizeIfAny}
-use Rattle.usage_checks.specs.Declaring.{formal_meaning}
+use Rattle.usage_checks.specs.Declaring.{add, formal_meaning}
 use Rattle.usage_checks.specs.EachBroken.{BreaksEach}
+use Rattle.usage_checks.specs.InTurn.{BreaksInTurn}
+use Rattle.usage_checks.specs.NameRules.{BreaksName}
 use Rattle.usage_checks.specs.Signatures.{Parameter}
 
 -- No size of a formal sees another formal.
@@ -14,3 +17,8 @@ BreakSizes es fs = BreaksEach (λ i f. BreaksSizeIfAny es f.size) 0 fs
 -- what is known of a formal by its head
 abbrev pub parameter_for : List Entry → Formal → Parameter
 parameter_for es f = record { meaning = formal_meaning es f; ends = [] }
+
+-- each name is asked after those before it
+abbrev pub BreakFormals : (first line : ℕ) → List Entry → List Formal → List Entry → UsageFault → Type 0
+BreakFormals first line outer =
+    BreaksInTurn (λ f. add f.name (formal_meaning outer f)) (λ f. BreaksName first line f.name)

@@ -1,16 +1,20 @@
 //! The rules of formals, and what is known of them by their head.
 
-ghost use Rattle.std.specs.Prelude.{◌≡◌, IfOk, map};
+ghost use Rattle.std.specs.Prelude.{◌≡◌, IfOk, length, map};
 ghost use Rattle.occam_parser.specs.LineViews.{formal_of};
-ghost use Rattle.scalar_ranges.specs.Scopes.{entries_of};
+ghost use Rattle.scalar_ranges.specs.Scopes.{entries_of, known_of};
 ghost use Rattle.usage_checks.specs.Lowest.{IsLowest};
 ghost use Rattle.usage_checks.specs.Signatures.{parameter_of};
-ghost use Rattle.usage_checks.specs.FormalRules.{BreakSizes, parameter_for};
+ghost use Rattle.usage_checks.specs.Declaring.{add_formals};
+ghost use Rattle.usage_checks.specs.FormalRules.{BreakSizes, parameter_for, BreakFormals};
+ghost use Rattle.usage_checks.specs.NameRules.{with_entries};
+ghost use Rattle.usage_checks.specs.Telling.{Walks};
 
 use crate::declaration_rules::fault_of_any_size;
 use crate::declaring::formal_meaning;
 use crate::faults::lower;
 use crate::signature::Parameter;
+use crate::telling::Findings;
 use occam_parser::Formal;
 use scalar_ranges::Scope;
 use std::alloc::{AllocError, Global};
@@ -42,4 +46,26 @@ pub(crate) fn parameters_for(
         parameters.push(Parameter { meaning, ends })?;
     }
     Ok(parameters)
+}
+
+impl Findings {
+    /// The names of formals in the scope, with what is known of them.
+    pub(crate) fn walk_formals<'a>(
+        &mut self,
+        scope: &mut Scope<'a>,
+        line: u32,
+        formals: &[Formal<'a>],
+        parameters: &[Parameter],
+    )
+        requires { map parameter_of parameters.now ≡ map (parameter_for (entries_of scope.old)) (map formal_of formals.now) }
+        ensures { Walks self.old self.new (known_of scope.new)
+            (with_entries (add_formals (entries_of scope.old) (map formal_of formals.now)) (known_of scope.old))
+            (BreakFormals (length (entries_of scope.old)) line (entries_of scope.old) (map formal_of formals.now)
+            (entries_of scope.old)) }
+    {
+        let first = scope.len();
+        for (place, formal) in formals.iter().enumerate() {
+            self.walk_name(scope, first, line, formal.name, parameters[place].meaning);
+        }
+    }
 }
