@@ -1,6 +1,6 @@
 -- The lowest number of a rule that is asked of one item after another.
-use Rattle.std.proofs.Common.{◌≡◌, ℕ, suc, ◌+◌, ◌<◌, List, [], ◌∷◌, ◌++◌, length, map, take, get_or, Option, None, inl, inr}
-use Rattle.std.proofs.Common.{sym, subst, ◌⊎◌, arith, add-zero}
+use Rattle.std.proofs.Common.{◌≡◌, ℕ, suc, ◌+◌, ◌<◌, List, [], ◌∷◌, ◌++◌, length, map, take, get_or, Option, None}
+use Rattle.std.proofs.Common.{inl, inr, sym, subst, ◌⊎◌, arith, add-zero}
 use Rattle.std.proofs.lemmas.List.{length-take, length-map}
 use Rattle.usage_checks.specs.Lowest.{IsLowest, lower}
 use Rattle.usage_checks.specs.EachBroken.{BreaksEach}

@@ -44,7 +44,8 @@ abbrev pub BreaksValue : List Entry → ValueType → Value → ℕ → Type 0
 BreaksValue es type (Scalar e) n = BreaksItem es type e n
 BreaksValue es type (Table size items) n =
     BreaksSize es size n
-    ⊎ (BreaksEach (λ i. BreaksItem es type) 0 (as_list items) n ⊎ HasOtherSize (size_in es size) (length (as_list items)) n)
+    ⊎ (BreaksEach (λ i. BreaksItem es type) 0 (as_list items) n
+    ⊎ HasOtherSize (size_in es size) (length (as_list items)) n)
 BreaksValue es type (Bytes size bytes) n =
     BreaksSize es size n ⊎ (IsNoText type n ⊎ HasOtherSize (size_in es size) (length bytes) n)
 

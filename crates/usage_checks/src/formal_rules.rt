@@ -57,7 +57,8 @@ impl Findings {
         formals: &[Formal<'a>],
         parameters: &[Parameter],
     )
-        requires { map parameter_of parameters.now ≡ map (parameter_for (entries_of scope.old)) (map formal_of formals.now) }
+        requires { map parameter_of parameters.now
+            ≡ map (parameter_for (entries_of scope.old)) (map formal_of formals.now) }
         ensures { Walks self.old self.new (known_of scope.new)
             (with_entries (add_formals (entries_of scope.old) (map formal_of formals.now)) (known_of scope.old))
             (BreakFormals (length (entries_of scope.old)) line (entries_of scope.old) (map formal_of formals.now)

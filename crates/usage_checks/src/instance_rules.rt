@@ -7,8 +7,9 @@ ghost use Rattle.usage_checks.specs.Lowest.{IsLowest};
 ghost use Rattle.usage_checks.specs.PlaceViews.{place_at, any_place};
 ghost use Rattle.usage_checks.specs.Signatures.{parameter_of, signatures_of, parameters_in};
 ghost use Rattle.usage_checks.specs.InstanceRules.{IsNotTaken, subscript_for, BreaksWhole, IsNoValue, BreaksExpression};
-ghost use Rattle.usage_checks.specs.InstanceRules.{BreaksActual, is_channel, are_right_ways, IsMispassed, BreaksPassing};
-ghost use Rattle.usage_checks.specs.InstanceRules.{BreaksOne, BreaksActuals, IsNotCalled, BreaksInstance};
+ghost use Rattle.usage_checks.specs.InstanceRules.{BreaksActual, is_channel, are_right_ways, IsMispassed};
+ghost use Rattle.usage_checks.specs.InstanceRules.{BreaksPassing, BreaksOne, BreaksActuals, IsNotCalled};
+ghost use Rattle.usage_checks.specs.InstanceRules.{BreaksInstance};
 
 use crate::channel_rules::Position;
 use crate::faults::{CHANNEL_USE, OTHER_ACTUAL, lower, told_unless};
@@ -45,7 +46,8 @@ fn subscript_for(formal: Option<Meaning>) -> Wanted
 
 /// The lowest number of the rules that an actual breaks that is exactly a place.
 fn fault_of_whole(scope: &Scope, formal: Option<Meaning>, place: PlaceRef) -> Option<u8>
-    ensures { IsLowest (BreaksWhole (entries_of scope.now) (option_map meaning_of formal) (place_at place.entry)) result }
+    ensures { IsLowest (BreaksWhole (entries_of scope.now) (option_map meaning_of formal) (place_at place.entry))
+        result }
 {
     let found = scope.meaning(place.name);
     let size = elements_in(found);
@@ -67,8 +69,8 @@ fn no_value(formal: Option<Meaning>, found: Result<ExprType, u8>) -> Option<u8>
 
 /// The lowest number of the rules that an actual breaks that is no place.
 fn fault_of_expression(scope: &Scope, formal: Option<Meaning>, actual: &Expr) -> Option<u8>
-    ensures { IsLowest (BreaksExpression (entries_of scope.now) (option_map meaning_of formal) (expression_of actual.now))
-        result }
+    ensures { IsLowest (BreaksExpression (entries_of scope.now) (option_map meaning_of formal)
+        (expression_of actual.now)) result }
 {
     lower(
         fault_of(scope, Wanted::Anything, actual),

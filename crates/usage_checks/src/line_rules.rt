@@ -20,7 +20,8 @@ use scalar_ranges::{ExprType, OUT_OF_RANGE, Scope, type_of};
 
 /// The lowest number of the rules that an assignment breaks.
 pub(crate) fn fault_of_assignment(scope: &Scope, target: &Place, value: &Expr) -> Option<u8>
-    ensures { IsLowest (BreaksAssignment (entries_of scope.now) (place_of target.now) (expression_of value.now)) result }
+    ensures { IsLowest (BreaksAssignment (entries_of scope.now) (place_of target.now) (expression_of value.now))
+        result }
 {
     let place = place_ref(target);
     let typed = differ(target_at(scope, place), type_of(scope, value));
@@ -37,7 +38,8 @@ pub(crate) fn fault_of_input(
     channel: &Place,
     target: &Place,
 ) -> Option<u8>
-    ensures { IsLowest (BreaksInput position (entries_of scope.now) (place_of channel.now) (place_of target.now)) result }
+    ensures { IsLowest (BreaksInput position (entries_of scope.now) (place_of channel.now) (place_of target.now))
+        result }
 {
     let place = place_ref(target);
     let typed = differ(

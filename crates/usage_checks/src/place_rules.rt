@@ -9,8 +9,9 @@ ghost use Rattle.scalar_ranges.specs.BoundViews.{all_ends};
 ghost use Rattle.scalar_ranges.specs.Scopes.{entries_of, meaning_of};
 ghost use Rattle.usage_checks.specs.Lowest.{IsLowest};
 ghost use Rattle.usage_checks.specs.PlaceViews.{place_at};
-ghost use Rattle.usage_checks.specs.PlaceRules.{target_type, channel_type, elements_in, target_at, channel_at, IsOutside};
-ghost use Rattle.usage_checks.specs.PlaceRules.{BreaksSubscript, BreaksPlace, BreaksTarget, BreaksChannel, Differ};
+ghost use Rattle.usage_checks.specs.PlaceRules.{target_type, channel_type, elements_in, target_at, channel_at};
+ghost use Rattle.usage_checks.specs.PlaceRules.{IsOutside, BreaksSubscript, BreaksPlace, BreaksTarget};
+ghost use Rattle.usage_checks.specs.PlaceRules.{BreaksChannel, Differ};
 
 use crate::declaring::type_of_values;
 use crate::faults::{lower, told_unless};

@@ -15,7 +15,8 @@ returns-in-Constant c =
 
 pub returns-in-Variables : goal.returns-in-Variables
 returns-in-Variables c =
-    let walked : Declaration → Type 0 = λ d. WalksNames c.args.first (meaning_of c.args.meaning) c.args.self.now c.walk_names.new.self
+    let walked : Declaration → Type 0 =
+    λ d. WalksNames c.args.first (meaning_of c.args.meaning) c.args.self.now c.walk_names.new.self
     (known_of c.args.scope.now) (known_of c.walk_names.new.scope) (declaration_of d) in
     elim (c.in-Variables.is) [
       | inl e ↦ subst walked (sym e) c.walk_names.ensures

@@ -24,6 +24,6 @@ pub returns : goal.returns
 returns c =
     let xs = c.args.declarations.now in
     let done : length xs ≤ c.loop-declaration.declaration-index = omega arith in
-    subst (λ (x : ℕ × List Declaration). WalksOver add_declaration (BreaksDeclared x.0) (map declaration_of x.1) c.args.self.now
-    c.loop-declaration.self (known_of c.args.scope.now) (known_of c.loop-declaration.scope))
+    subst (λ (x : ℕ × List Declaration). WalksOver add_declaration (BreaksDeclared x.0) (map declaration_of x.1)
+    c.args.self.now c.loop-declaration.self (known_of c.args.scope.now) (known_of c.loop-declaration.scope))
     (λ i. (c.len-first.ensures i, take_all c.loop-declaration.declaration-index xs done i)) c.loop-declaration.invariant

@@ -19,8 +19,8 @@ loop-name-preserved c =
     let before = c.loop-name.invariant in
     record {
       uses = adds_both before.uses next.uses;
-      entries = enters_as (next_in_turn (λ n. add n m) spelling_of items i name none (entries_of c.enter_name.new.scope) (omega arith)
-          refl)
+      entries = enters_as (next_in_turn (λ n. add n m) spelling_of items i name none
+          (entries_of c.enter_name.new.scope) (omega arith) refl)
           (enters_next (add name.now m) before.entries next.uses.complete next.entries);
       blocks = next.blocks ∙ before.blocks;
     }
