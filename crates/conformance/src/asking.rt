@@ -3,6 +3,7 @@
 use crate::alterations::{Ways, altered_sums, cuts};
 use crate::altered_runs::altered_runs;
 use crate::answer::Answer;
+use crate::assembling::ask_draft;
 use crate::following::follow;
 use crate::lookups::look_up;
 use crate::modules::{put_fault, read, verdict};
@@ -77,6 +78,7 @@ fn ask(alloc: Global, setting: &mut Setting, statement: Statement, out: &mut Ans
         "run_bits" => return altered_runs(alloc, setting, Ways::Bits, statement.rest, out),
         "bytes" | "run_bytes" => return ask_bytes(alloc, setting, statement, out),
         "lines" | "parse" => return ask_source(alloc, &setting.source, statement, out),
+        "assemble" | "spell" => return ask_draft(alloc, &setting.file, statement, out),
         _ => return ask_file(alloc, setting, statement, out),
     }
     judged(out, statement.rest)

@@ -34,7 +34,7 @@ fn direction(words: &mut Words) -> Direction {
 }
 
 /// An end, and then its direction.
-fn end(words: &mut Words) -> EndRow {
+pub(crate) fn end(words: &mut Words) -> EndRow {
     EndRow {
         kind: end_kind(words),
         direction: direction(words),

@@ -7,15 +7,22 @@ pub(crate) struct Words<'t> {
     rest: &'t str,
     repeated: &'t str,
     times: u64,
+    copy: i64,
     is_wrong: bool,
 }
 
 impl<'t> Words<'t> {
     pub(crate) fn of(rest: &'t str) -> Self {
+        Words::of_copy(rest, 0)
+    }
+
+    /// The words of a line that is there several times, of which this is the copy with this number, from 0 on.
+    pub(crate) fn of_copy(rest: &'t str, copy: i64) -> Self {
         Words {
             rest,
             repeated: "",
             times: 0,
+            copy,
             is_wrong: false,
         }
     }
@@ -64,11 +71,17 @@ impl<'t> Words<'t> {
         next.unwrap_or("")
     }
 
-    /// A text of this line as a number.
-    pub(crate) fn parsed(&mut self, text: &str) -> i64 {
+    fn plain(&mut self, text: &str) -> i64 {
         let number = text.parse::<i64>().ok();
-        self.is_wrong |= number.is_none();
+        self.require(number.is_some());
         number.unwrap_or(0)
+    }
+
+    /// A text of this line as a number. `7+2` is 7, and rises by 2 from each copy of the line to the next.
+    pub(crate) fn parsed(&mut self, text: &str) -> i64 {
+        let (first, step) = text.split_once('+').unwrap_or((text, "0"));
+        let rise = self.plain(step).wrapping_mul(self.copy);
+        self.plain(first).wrapping_add(rise)
     }
 
     /// The next word as a number that may be negative.
@@ -85,7 +98,7 @@ impl<'t> Words<'t> {
     }
 
     /// A text of this line as a word of the machine.
-    fn integer_of(&mut self, text: &str) -> i32 {
+    pub(crate) fn integer_of(&mut self, text: &str) -> i32 {
         let number = i32::try_from(self.parsed(text)).ok();
         self.is_wrong |= number.is_none();
         number.unwrap_or(0)
@@ -95,6 +108,18 @@ impl<'t> Words<'t> {
     pub(crate) fn integer(&mut self) -> i32 {
         let word = self.word();
         self.integer_of(word)
+    }
+
+    /// The next word as a number of 16 bits.
+    pub(crate) fn short(&mut self) -> u16 {
+        let number = self.number();
+        self.require(number <= u32::from(u16::MAX));
+        u16::try_from(number).unwrap_or(0)
+    }
+
+    /// The next word as a number of 64 bits, -1 for the greatest.
+    pub(crate) fn great(&mut self) -> u64 {
+        self.signed().cast_unsigned()
     }
 
     /// The next word as a word of the machine, `-` where it is undefined.
@@ -117,6 +142,11 @@ impl<'t> Words<'t> {
     /// A word was not what it should be.
     pub(crate) fn fail(&mut self) {
         self.is_wrong = true;
+    }
+
+    /// A word was what it should be only if this holds.
+    pub(crate) fn require(&mut self, holds: bool) {
+        self.is_wrong |= !holds;
     }
 
     /// Whether each word that was asked for was there.
