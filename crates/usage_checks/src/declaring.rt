@@ -3,15 +3,15 @@
 ghost use Rattle.std.specs.Prelude.{◌≡◌, option_map};
 ghost use Rattle.word_arithmetic.specs.Range.{ends_of};
 ghost use Rattle.occam_layout.specs.Kind.{bytes_of};
+ghost use Rattle.occam_parser.specs.LineViews.{any_of, value_of, formal_of};
 ghost use Rattle.occam_parser.specs.OneOrMore.{one_or_more_of};
 ghost use Rattle.occam_parser.specs.Views.{expression_of};
-ghost use Rattle.occam_parser.specs.LineViews.{any_of, value_of, formal_of};
 ghost use Rattle.scalar_ranges.specs.Entries.{Array, type_range};
 ghost use Rattle.scalar_ranges.specs.Types.{type_of_values};
 ghost use Rattle.scalar_ranges.specs.Scopes.{entries_of, meaning_of};
+ghost use Rattle.usage_checks.specs.Declaring.{constant_meaning, variable_meaning, channel_meaning, formal_meaning};
 ghost use Rattle.usage_checks.specs.Constants.{size_in};
 ghost use Rattle.usage_checks.specs.Declaring.{passed_meaning, with_value, range_of_items, range_of_bytes, table_of};
-ghost use Rattle.usage_checks.specs.Declaring.{constant_meaning, variable_meaning, channel_meaning, formal_meaning};
 
 use crate::constants::{size_in, value_as};
 use occam_layout::Text;

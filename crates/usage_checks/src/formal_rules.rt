@@ -3,12 +3,12 @@
 ghost use Rattle.std.specs.Prelude.{◌≡◌, IfOk, length, map};
 ghost use Rattle.occam_parser.specs.LineViews.{formal_of};
 ghost use Rattle.scalar_ranges.specs.Scopes.{entries_of, known_of};
+ghost use Rattle.usage_checks.specs.Telling.{Walks};
 ghost use Rattle.usage_checks.specs.Lowest.{IsLowest};
 ghost use Rattle.usage_checks.specs.Signatures.{parameter_of};
-ghost use Rattle.usage_checks.specs.Declaring.{add_formals};
 ghost use Rattle.usage_checks.specs.FormalRules.{BreakSizes, parameter_for, BreakFormals};
+ghost use Rattle.usage_checks.specs.Declaring.{add_formals};
 ghost use Rattle.usage_checks.specs.NameRules.{with_entries};
-ghost use Rattle.usage_checks.specs.Telling.{Walks};
 
 use crate::declaration_rules::fault_of_any_size;
 use crate::declaring::formal_meaning;

@@ -3,15 +3,15 @@
 ghost use Rattle.std.specs.Prelude.{◌≡◌, Err, option_map};
 ghost use Rattle.word_arithmetic.specs.Range.{ends_of};
 ghost use Rattle.occam_parser.specs.Views.{expression_of};
-ghost use Rattle.scalar_ranges.specs.Types.{type_of};
+ghost use Rattle.scalar_ranges.specs.Scopes.{entries_of, meaning_of};
 ghost use Rattle.scalar_ranges.specs.Bounds.{bound_of, range_found, is_subscript};
 ghost use Rattle.scalar_ranges.specs.BoundViews.{all_ends};
-ghost use Rattle.scalar_ranges.specs.Scopes.{entries_of, meaning_of};
-ghost use Rattle.usage_checks.specs.Lowest.{IsLowest};
-ghost use Rattle.usage_checks.specs.PlaceViews.{place_at};
+ghost use Rattle.scalar_ranges.specs.Types.{type_of};
 ghost use Rattle.usage_checks.specs.PlaceRules.{target_type, channel_type, elements_in, target_at, channel_at};
-ghost use Rattle.usage_checks.specs.PlaceRules.{IsOutside, BreaksSubscript, BreaksPlace, BreaksTarget};
+ghost use Rattle.usage_checks.specs.PlaceViews.{place_at};
 ghost use Rattle.usage_checks.specs.PlaceRules.{BreaksChannel, Differ};
+ghost use Rattle.usage_checks.specs.Lowest.{IsLowest};
+ghost use Rattle.usage_checks.specs.PlaceRules.{IsOutside, BreaksSubscript, BreaksPlace, BreaksTarget};
 
 use crate::declaring::type_of_values;
 use crate::faults::{lower, told_unless};

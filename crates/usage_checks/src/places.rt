@@ -1,14 +1,14 @@
 //! What places use: variables that are changed, and ends of channels.
 
 ghost use Rattle.std.specs.Prelude.{◌≡◌, option_map};
-ghost use Rattle.occam_parser.specs.Views.{expression_of};
 ghost use Rattle.occam_parser.specs.LineViews.{any_of, place_of};
+ghost use Rattle.occam_parser.specs.Views.{expression_of};
 ghost use Rattle.scalar_ranges.specs.Scopes.{entries_of, meaning_of};
-ghost use Rattle.usage_checks.specs.Sets.{Adds};
 ghost use Rattle.usage_checks.specs.Places.{reads_if_any, changes_of, element_in, element_of, spot_of, uses_spot};
 ghost use Rattle.usage_checks.specs.Places.{ends_of};
 ghost use Rattle.usage_checks.specs.PlaceViews.{place_at};
 ghost use Rattle.usage_checks.specs.PlaceRules.{is_subscripted};
+ghost use Rattle.usage_checks.specs.Sets.{Adds};
 
 use crate::constants::value_as;
 use crate::uses::{Direction, Use, Uses};
