@@ -3,7 +3,7 @@
 import os
 import struct
 
-from modules import BASE, LINK, OUT, branch_row, module, par_row
+from modules import BASE, FUNCTIONS, LINK, OUT, branch_row, code, module, par_row, spelled
 
 SOURCES = os.path.join(os.path.dirname(os.path.abspath(__file__)), "sources")
 
@@ -13,7 +13,10 @@ MAX_PARS, MAX_BRANCHES, MAX_TABLES = 1_024, 64, 1_024
 
 LOAD_CONSTANT = b"\x40"  # ldc 0
 STOP_PROCESS = b"\x21\xf5"  # stopp
-UNKNOWN, NUMBER, READ_REGION = 0, 1, 1
+UNKNOWN, NUMBER, POINTER, READ_REGION = 0, 1, 2, 1
+MAX_CODE_2 = 262_143  # in version 2
+FRAME_LO, FRAME_HI = -16_384, 16_384  # the largest frame of a procedure
+LEAST, GREATEST = -(2**31), 2**31 - 1
 
 
 def straight(loads):
@@ -35,6 +38,99 @@ def labelled(has_entries):
     ]
     code = STOP_PROCESS + LOAD_CONSTANT * (MAX_CODE - 4) + STOP_PROCESS
     return module(code, MAX_DATA_WORDS, labels=labels)
+
+
+def number_entry(word, span, low, high):
+    """An entry that says of words that they are numbers."""
+    return struct.pack("<iIBii", word, span, NUMBER, low, high)
+
+
+def pointer_entry(word, low, high, step):
+    """An entry that says of a word that it is the address of a byte of the frame."""
+    return struct.pack("<iIBHiiB", word, 1, POINTER, 0, low, high, step)
+
+
+def label_row(offset, context, number, entries):
+    """The row of a label at the depth 0, which says nothing of the registers."""
+    registers = (UNKNOWN, UNKNOWN, UNKNOWN)
+    head = struct.pack("<IHiQBBBH", offset, context, 0, number, *registers, len(entries))
+    return head + b"".join(entries)
+
+
+def each_word(first, end):
+    """An entry for each word: each has a range of its own."""
+    return [number_entry(word, 1, -1 - word % 7, 7 + word % 5) for word in range(first, end)]
+
+
+def filled(text, start=STOP_PROCESS):
+    """Instructions over and over, as long as code may be, between `stopp`: nothing comes to the first of them."""
+    body = code(text)
+    times = (MAX_CODE_2 - len(start) - len(STOP_PROCESS)) // len(body)
+    return start + body * times + STOP_PROCESS
+
+
+def through_wide_pointer(text, step):
+    """Instructions over and over that go through the pointer in word 1, which may be anywhere in the frame's words from
+    word 2 on. Each of these is a number with a range of its own."""
+    end = MAX_DATA_WORDS - BASE
+    entries = [pointer_entry(1, 8, 4 * end - step, step), *each_word(2, end)]
+    body = filled(text)
+    label = label_row(len(STOP_PROCESS), 0, len(body), entries)
+    return module(body, MAX_DATA_WORDS, version=2, labels=[label])
+
+
+def with_moves():
+    """Moves of 65,504 bytes, from one half of the largest frame to the other, over and over."""
+    pointers = [pointer_entry(1, 4 * FRAME_LO, 4 * FRAME_LO, 4), pointer_entry(2, 32, 32, 4)]
+    size = 4 * (FRAME_HI - 8)
+    entries = [number_entry(FRAME_LO, -FRAME_LO, LEAST, GREATEST), *pointers, number_entry(3, 1, size, size)]
+    entries.append(number_entry(8, FRAME_HI - 8, 0, 0))
+    body = filled("ldl 1, ldl 2, ldl 3, move", 2 * STOP_PROCESS)
+    procedure = struct.pack("<IiiQH", 2, FRAME_LO, FRAME_HI, 2, 0)
+    label = label_row(2 * len(STOP_PROCESS), 1, len(body), entries)
+    return module(body, version=2, procedures=[procedure], labels=[label])
+
+
+def with_wide_calls():
+    """Calls of a procedure that is lent three regions to read, each all of the frame but its first words."""
+    size = 4 * (MAX_DATA_WORDS - BASE - 4)
+    parameters = [struct.pack("<HBIii", word, READ_REGION, size, LEAST, GREATEST) for word in (1, 2, 3)]
+    entry = len(STOP_PROCESS)
+    procedure = struct.pack("<IiiQH", entry, 0, 4, 2, len(parameters)) + b"".join(parameters)
+    body = STOP_PROCESS + code("ret")
+    while len(body) < MAX_CODE_2 - 12:
+        body += code("ldl 1, ldl 2, ldl 3")
+        body += backwards("call", len(body), entry)
+    body += STOP_PROCESS
+    entries = [pointer_entry(word, 16, 16, 4) for word in (1, 2, 3)] + each_word(4, MAX_DATA_WORDS - BASE)
+    label = label_row(entry + 2, 0, 2 * len(body), entries)
+    return module(body, MAX_DATA_WORDS, version=2, procedures=[procedure], labels=[label])
+
+
+def backwards(name, at, to):
+    """A function at an offset whose operand is the distance back to another one."""
+    function, size = FUNCTIONS.index(name), 2
+    while len(spelled(function, to - at - size)) > size:
+        size += 1
+    return spelled(function, to - at - size)
+
+
+def with_branches():
+    """Conditional jumps to one label. Of each of the frame's words that label says another range, as does the one
+    before all jumps."""
+    rows = each_word(-BASE, MAX_DATA_WORDS - BASE)
+    function = FUNCTIONS.index("cj")
+    end, pieces = MAX_CODE_2 - len(STOP_PROCESS), []
+    at = end
+    while at > 16:
+        jump = spelled(function, end - at)
+        pieces.append(code("ldl 1") + jump)
+        at -= len(pieces[-1])
+    start = len(STOP_PROCESS)
+    jumps = b"".join(reversed(pieces))
+    body = STOP_PROCESS + jumps + STOP_PROCESS
+    labels = [label_row(start, 0, len(body), rows), label_row(start + len(jumps), 0, 2, rows)]
+    return module(body, MAX_DATA_WORDS, version=2, labels=labels)
 
 
 def with_procedures():

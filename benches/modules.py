@@ -9,6 +9,7 @@ IN, OUT = 1, 2
 FUNCTIONS = "j ldlp pfix ldnl ldc ldnlp nfix ldl adc call cj ajw eqc stl stnl opr".split()
 OPERATIONS = {"in": 0x07, "out": 0x0B, "ret": 0x20, "mint": 0x42, "alt": 0x43, "altwt": 0x44, "altend": 0x45}
 OPERATIONS |= {"enbs": 0x49, "diss": 0x30, "startp": 0x0D, "endp": 0x03, "ldpi": 0x1B, "stopp": 0x15}
+OPERATIONS |= {"lb": 0x01, "sb": 0x3B, "move": 0x4A}
 
 # A branch of a PAR: the block of its code, its workspace, and what it is given. That are the frame words from a first
 # one up to another, which is not included, and ends, each a kind, a number, an element and a direction.
