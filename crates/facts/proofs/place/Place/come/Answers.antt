@@ -15,7 +15,8 @@ fill-requires-clause-near c =
 
 pub fill-requires-clause-room : goal.fill-requires-clause-room
 fill-requires-clause-room c = λ zero.
-    subst (λ (z : ℤ). CanWriteSpan c.args.state.now (word_of_byte c.args.block.to.lo) (words_touched c.args.block.to.lo z))
+    let lo = c.args.block.to.lo in
+    subst (λ (z : ℤ). CanWriteSpan c.args.state.now (word_of_byte lo) (words_touched lo z))
     (let value = c.end.ensures.value in
     let e : c.args.block.to.hi +ℤ c.args.block.count ≡ to_z w32 (of_z w32 c.end.result) = omega (arith, ints) in e)
     (c.requires.room zero)
