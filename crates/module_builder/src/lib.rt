@@ -39,6 +39,3 @@ pub use least::layout;
 pub use limits::MAX_CONTEXTS;
 pub use spelling::spell;
 pub use whole::is_whole;
-
-#[cfg(test)]
-mod tests;
