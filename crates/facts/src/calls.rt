@@ -181,25 +181,6 @@ impl Place<'_, '_> {
         }
     }
 
-    /// The call of the procedure that begins at an offset, which has this number as a context. The words that it lends
-    /// are summed before.
-    fn calls_summed(
-        &self,
-        state: &mut State,
-        to: u32,
-        context: u32,
-        callee: &ProcedureRow,
-    ) -> Result<Continuation, Rule>
-        requires belongs { BelongsTo self.now.module.now state.old }
-        requires found { procedure_at self.now.module.now to ≡ Some (entered context callee.now) }
-        ensures ruling { let found = entered context callee.now in
-            Advances result (state_of state.new) (calls_procedure (site_of self.now) to (state_of state.old) found) }
-        ensures belongs { BelongsTo self.now.module.now state.new }
-    {
-        self.sums_all_lent(state, callee);
-        self.calls_procedure(state, to, context, callee)
-    }
-
     /// What the call of a procedure, which has this number as a context, may change, once what is passed is in the
     /// words below the workspace.
     fn touched(&self, state: &State, context: u32, callee: &ProcedureRow) -> Result<Touched, Rule>
@@ -229,7 +210,10 @@ impl Place<'_, '_> {
     {
         let to = self.target(distance);
         match self.module.procedure_at(to) {
-            Some((context, callee)) => self.calls_summed(state, to, context, callee),
+            Some((context, callee)) => {
+                self.sums_all_lent(state, callee);
+                self.calls_procedure(state, to, context, callee)
+            }
             None => {
                 alone(state.mode)?;
                 Err(Rule::Call)

@@ -255,8 +255,8 @@ impl Place<'_, '_> {
         number_within(self.region_range(state.context, region, lo, hi + 4))
     }
 
-    /// The word so many words behind A is read.
-    fn loads_word(&self, state: &mut State, words: i32) -> Result<Continuation, Rule>
+    /// `ldnl`: the word so many words behind A.
+    pub(crate) fn load_non_local(&self, state: &mut State, words: i32) -> Result<Continuation, Rule>
         requires { BelongsTo self.now.module.now state.old }
         ensures ruling { Advances result (state_of state.new)
             (loads_word (site_of self.now) words (state_of state.old)) }
@@ -265,23 +265,13 @@ impl Place<'_, '_> {
         let fact = uses(state.stack.a)?;
         let pointer = words_behind(words, pointer_of(fact)?)?;
         self.reads_bytes(state, pointer, 4)?;
+        sum_reached(state, pointer, 4);
         let fact = self.word_read(state, pointer);
         self.with_fact_a(state, fact)
     }
 
-    /// `ldnl`: the word so many words behind A. The words to which A may lead are summed before.
-    pub(crate) fn load_non_local(&self, state: &mut State, words: i32) -> Result<Continuation, Rule>
-        requires { BelongsTo self.now.module.now state.old }
-        ensures ruling { Advances result (state_of state.new)
-            (loads_word (site_of self.now) words (state_of state.old)) }
-        ensures belongs { BelongsTo self.now.module.now state.new }
-    {
-        sum_reached(state, words);
-        self.loads_word(state, words)
-    }
-
-    /// The byte at A is read.
-    fn loads_byte(&self, state: &mut State) -> Result<Continuation, Rule>
+    /// `lb`: the byte at A.
+    pub(crate) fn load_byte(&self, state: &mut State) -> Result<Continuation, Rule>
         requires { BelongsTo self.now.module.now state.old }
         ensures ruling { Advances result (state_of state.new) (loads_byte (site_of self.now) (state_of state.old)) }
         ensures belongs { BelongsTo self.now.module.now state.new }
@@ -289,37 +279,22 @@ impl Place<'_, '_> {
         let fact = uses(state.stack.a)?;
         let pointer = pointer_of(fact)?;
         self.reads_bytes(state, pointer, 1)?;
+        sum_reached(state, pointer, 1);
         let fact = byte_read(state, pointer);
         self.with_fact_a(state, fact)
     }
-
-    /// `lb`: the byte at A. The words to which A may lead are summed before.
-    pub(crate) fn load_byte(&self, state: &mut State) -> Result<Continuation, Rule>
-        requires { BelongsTo self.now.module.now state.old }
-        ensures ruling { Advances result (state_of state.new) (loads_byte (site_of self.now) (state_of state.old)) }
-        ensures belongs { BelongsTo self.now.module.now state.new }
-    {
-        sum_reached(state, 0);
-        self.loads_byte(state)
-    }
 }
 
-/// The words of the frame are summed from now on to which A may lead, so many words further.
-pub(crate) fn sum_reached(state: &mut State, words: i32)
+/// The words of the frame are summed from now on that have one of so many bytes wherever a pointer points.
+pub(crate) fn sum_reached(state: &mut State, pointer: Pointed, size: i32)
+    requires near { are_near pointer.lo pointer.hi ≡ true }
+    requires small { (pos 0 ≤ℤ size) × (size ≤ℤ pos 65536) }
     ensures state { state_of state.new ≡ state_of state.old }
     ensures belongs { (m : Contents) → BelongsTo m state.old → BelongsTo m state.new }
 {
-    if let Fact::Pointer {
-        region: 0,
-        lo,
-        hi,
-        ..
-    } = state.stack.a.fact
-    {
-        let distance = words.saturating_mul(4);
-        let first = word_of_byte(lo.saturating_add(distance));
-        let last = word_of_byte(hi.saturating_add(distance));
-        state.sum_words(first, last.abs_diff(first).saturating_add(1));
+    if pointer.region == 0 {
+        let end = pointer.hi + size;
+        state.sum_words(word_of_byte(pointer.lo), words_touched(pointer.lo, end));
     }
 }
 

@@ -10,7 +10,7 @@ ghost use Rattle.facts.specs.MoveRules.{become_numbers, filled};
 
 use crate::combinators::{alone, uses};
 use crate::continuation::Continuation;
-use crate::memory::byte_read;
+use crate::memory::{byte_read, sum_reached};
 use crate::place::Place;
 use crate::pointers::{Pointed, constant_of, exact_pointer};
 use crate::reach::{full, word_of_byte};
@@ -123,6 +123,7 @@ impl Place<'_, '_> {
         if block.count == 0 {
             return self.clears(state);
         }
+        sum_reached(state, block.from, block.count);
         self.moves_some(state, block)
     }
 
