@@ -39,7 +39,8 @@ loop-len-preserved c =
     let xs = c.deref-len-items.result.now in
     let len = c.from-end.ensures in
     let before = c.loop-len.invariant.end in
-    let end : (c.loop-len.end + c.from-end.result) ≡ sum (take (c.loop-len.len-index + 1) xs) = grind (arith, common_steps) in
+    let end : (c.loop-len.end + c.from-end.result) ≡ sum (take (c.loop-len.len-index + 1) xs) =
+    grind (arith, common_steps) in
     record {
       follow = rw (c.in_ok-push-2.ensures.items) (offsets_further xs c.loop-len.offsets.items c.loop-len.len-index
           (c.loop-len.end + c.from-end.result) c.loop-len-test.true c.loop-len.invariant.follow end
