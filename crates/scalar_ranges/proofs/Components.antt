@@ -4,7 +4,7 @@ use Rattle.std.proofs.Common.{reverse, take, refl, sym, ap, subst, arith, ◌∙
 use Rattle.std.proofs.lemmas.Bool.Decides.{nat_tests}
 use Rattle.std.proofs.lemmas.List.{take_all, length-take, length-map}
 use Rattle.scalar_ranges.specs.Entries.{Meaning, Entry}
-use Rattle.scalar_ranges.specs.Moves.{at_number, with_meaning, is_one_of, of_both, taken, Block, end_of}
+use Rattle.scalar_ranges.specs.Moves.{at_number, with_meaning, is_one_of, of_both, taken, end_of}
 use Rattle.scalar_ranges.specs.Moves.{next_component}
 use Rattle.scalar_ranges.specs.Changes.{Slot, Branching, Tracked, modify, entry_in, start_in, end_in, before, seen}
 use Rattle.scalar_ranges.specs.Changes.{ends_seen, block_in, blocks_in, known_in, numbers_of, AreListed, AreTracked}
@@ -14,61 +14,49 @@ use Rattle.scalar_ranges.proofs.Rows.{same_number}
 use Rattle.scalar_ranges.proofs.Numbered.{modify_long, take_modify, map_modify, map_unmodified, reverse_modify}
 use Rattle.scalar_ranges.proofs.Numbered.{each_maps, map_again, numbers_alike}
 use Rattle.scalar_ranges.proofs.Widening.{same_test}
-use Rattle.scalar_ranges.proofs.Tracking.{IsNoted, IsInside, notes_well, before_same, put_tracked, put_entries, either}
+use Rattle.scalar_ranges.proofs.Tracking.{IsNoted, IsInside, notes_well, before_same, put_tracked}
 use Rattle.scalar_ranges.proofs.Following.{restarted_by, start_by, end_by, restarted_mark, restarted_not}
 use Rattle.scalar_ranges.proofs.Following.{restarted_again, inside_restarted, end_is, map_reversed, once_tracked}
 use Rattle.scalar_ranges.proofs.Following.{twice_tracked, twice_behind}
 
 -- ---- a condition is excluded
 
-pub start_within : (m : Meaning) → IsWithin (with_start m)
-start_within m = record { names = λ s. refl; marks = λ s. refl }
+pub start_within : (f : Meaning → Meaning) → IsWithin (with_start f)
+start_within f = record { names = λ s. refl; marks = λ s. refl }
 
-other_start : (d : ℕ) (m : Meaning) (s : Slot)
-    → start_in d (with_start m s) ≡ with_meaning (λ k. m) (start_in d s)
-other_start d m s = λ i. record { name = s.name; meaning = either (nat_eq s.mark d) m i }
+other_start : (d : ℕ) (f : Meaning → Meaning) (s : Slot) → nat_eq s.mark d ≡ true
+    → start_in d (with_start f s) ≡ with_meaning f (start_in d s)
+other_start d f s noted =
+    (λ i. record { name = s.name; meaning = cond (noted i) (f s.start) s.meaning })
+    ∙ (λ i. record { name = s.name; meaning = f (cond (sym noted i) s.start s.meaning) })
 
-same_end : (d : ℕ) (m : Meaning) (s : Slot) → nat_eq s.mark d ≡ true → end_in d (with_start m s) ≡ end_in d s
-same_end d m s noted =
-    (λ i. record { name = s.name; meaning = cond (noted i) s.ends m })
-    ∙ (λ i. record { name = s.name; meaning = cond (sym noted i) s.ends s.meaning })
-
--- the blocks where the innermost one begins otherwise
-abbrev blocks_after : ℕ → Meaning → List Block → List Block
-blocks_after n m [] = []
-blocks_after n m (b ∷ bs) = record { start = at_number (with_meaning (λ k. m)) n b.start; ends = b.ends } ∷ bs
-
-start_blocks : (m : Meaning) (n : ℕ) (ss : List Slot) (bs : List Branching) → IsNoted n ss bs → AreTracked ss bs
-    → blocks_in (modify (with_start m) n ss) bs ≡ blocks_after n m (blocks_in ss bs)
-start_blocks m n ss [] noted tracked = refl
-start_blocks m n ss (b ∷ bs) noted tracked =
+start_blocks : (f : Meaning → Meaning) (n : ℕ) (ss : List Slot) (bs : List Branching) → IsNoted n ss bs
+    → AreTracked ss bs → blocks_in (modify (with_start f) n ss) bs ≡ changed_start f n (blocks_in ss bs)
+start_blocks f n ss [] noted tracked = refl
+start_blocks f n ss (b ∷ bs) noted tracked =
     let d = suc (length bs) in
-    let at = take_modify (with_start m) b.count n ss in
+    let at = take_modify (with_start f) b.count n ss in
     let starts = ap (map (start_in d)) at
-    ∙ map_modify (start_in d) (with_start m) (with_meaning (λ k. m)) n (take b.count ss)
-    (λ s is. other_start d m s) in
-    let start = ap reverse starts ∙ reverse_modify (with_meaning (λ k. m)) n (map (start_in d) (take b.count ss)) in
+    ∙ map_modify (start_in d) (with_start f) (with_meaning f) n (take b.count ss)
+    (λ s is. other_start d f s (noted s is)) in
+    let start = ap reverse starts ∙ reverse_modify (with_meaning f) n (map (start_in d) (take b.count ss)) in
     let ends = ap (map (end_in d)) at
-    ∙ map_unmodified (end_in d) (with_start m) n (take b.count ss) (λ s is. same_end d m s (noted s is)) in
-    let behind = before_same (with_start m) n ss b bs (start_within m) noted tracked in
+    ∙ map_unmodified (end_in d) (with_start f) n (take b.count ss) (λ s is. refl) in
+    let behind = before_same (with_start f) n ss b bs (start_within f) noted tracked in
     λ i. record { start = start i; ends = ends_seen b.ended (reverse (ends i)) } ∷ blocks_in (behind i) bs
 
-start_known : (m : Meaning) (n : ℕ) (es : List Entry) (bs : List Block)
-    → changed_start m n es bs
-    ≡ record { entries = at_number (with_meaning (λ k. m)) n es; blocks = blocks_after n m bs }
-start_known m n es [] = refl
-start_known m n es (b ∷ bs) = refl
-
-pub start_follows : (n : ℕ) (m : Meaning) (t : Tracked) → AreTracked t.slots t.blocks
-    → Follows (put_start n m t) (changed_start m n (known_in t).entries (known_in t).blocks)
-start_follows n m t tracked =
+pub start_follows : (n : ℕ) (f : Meaning → Meaning) (t : Tracked) → AreTracked t.slots t.blocks
+    → Follows (put_start n f t)
+    (record { entries = (known_in t).entries; blocks = changed_start f n (known_in t).blocks })
+start_follows n f t tracked =
     let noted = note n t.slots t.blocks in
     let well = notes_well n t.slots t.blocks tracked in
-    subst (Follows (put_start n m t)) (sym (start_known m n (known_in t).entries (known_in t).blocks)) (record {
-      entries = put_entries (with_start m) m n t (λ s. refl) tracked;
-      blocks = start_blocks m n noted.slots noted.blocks well.noted well.tracked ∙ ap (blocks_after n m) well.blocks;
-      tracked = put_tracked (with_start m) n t (start_within m) tracked;
-    })
+    record {
+      entries = ap reverse (map_unmodified entry_in (with_start f) n noted.slots (λ s is. refl) ∙ well.entries);
+      blocks = start_blocks f n noted.slots noted.blocks well.noted well.tracked
+          ∙ ap (changed_start f n) well.blocks;
+      tracked = put_tracked (with_start f) n t (start_within f) tracked;
+    }
 
 -- ---- a component ends
 

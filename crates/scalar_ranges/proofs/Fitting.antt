@@ -1,19 +1,19 @@
 -- What the program's scope keeps: its names, entries and blocks belong together.
-use Rattle.std.proofs.Common.{◌≡◌, ℕ, suc, ◌<◌, ◌≤◌, Bool, false, List, [], ◌∷◌, length, refl, sym, ap, subst}
-use Rattle.std.proofs.Common.{Result, Ok, Err, OnOk, OnErr, is_err, nat_eq, arith, ◌∙◌}
+use Rattle.std.proofs.Common.{◌≡◌, ℕ, ◌<◌, ◌≤◌, Bool, false, List, [], ◌∷◌, length, refl, sym, ap, subst}
+use Rattle.std.proofs.Common.{Result, Ok, Err, OnOk, OnErr, is_err, nat_eq, arith, ◌∙◌, Option, Some}
 use Rattle.std.proofs.lemmas.Bool.Decides.{nat_tests}
 use Rattle.scalar_ranges.specs.declared.changes.Tracked as code_tracked
 use Rattle.scalar_ranges.specs.declared.scope.Scope as code_scope
-use Rattle.scalar_ranges.specs.Entries.{Meaning, Entry}
-use Rattle.scalar_ranges.specs.Moves.{outermost, Block, Known, begun_with, next_from, exclude_from, excluding}
+use Rattle.scalar_ranges.specs.Entries.{Meaning, Entry, number_in}
+use Rattle.scalar_ranges.specs.Moves.{outermost, Block, Known, begun_with, not_so, excluded_at, excluded_by}
+use Rattle.scalar_ranges.specs.Moves.{excluded, exclude_from, exclude}
 use Rattle.occam_parser.specs.Expressions.{Expression}
-use Rattle.scalar_ranges.specs.Narrowing.{narrow}
-use Rattle.scalar_ranges.specs.Changes.{Slot, Branching, before, blocks_in, begin_with}
-use Rattle.scalar_ranges.proofs.Noting.{branchings_long}
+use Rattle.scalar_ranges.specs.Narrowing.{Tested, test_of}
+use Rattle.scalar_ranges.specs.Changes.{begin_with}
 use Rattle.scalar_ranges.specs.Changes.{Tracked, put, put_start, begun, declared, cut, Follows, changed_to}
 use Rattle.scalar_ranges.specs.Changes.{changed_start}
 use Rattle.scalar_ranges.specs.TrackedViews.{tracked_of, known_by}
-use Rattle.scalar_ranges.specs.Scopes.{entries_of, blocks_of, BeginsHere}
+use Rattle.scalar_ranges.specs.Scopes.{entries_of, blocks_of}
 use Rattle.scalar_ranges.specs.Naming.{names_from}
 use Rattle.scalar_ranges.proofs.Nesting.{Fit}
 use Rattle.scalar_ranges.proofs.Following.{put_follows, begun_follows}
@@ -76,10 +76,11 @@ module _ (old new : code_tracked.Tracked) where
       (record { entries = changed_to m n (known_by old).entries; blocks = (known_by old).blocks }) is
       (put_follows n m was old.tracked)
 
-  pub start_known : (n : ℕ) (m : Meaning) → tracked_of new ≡ put_start n m was
-      → known_by new ≡ changed_start m n (known_by old).entries (known_by old).blocks
-  start_known n m is = known_after new (put_start n m was)
-      (changed_start m n (known_by old).entries (known_by old).blocks) is (start_follows n m was old.tracked)
+  start_known : (n : ℕ) (f : Meaning → Meaning) → tracked_of new ≡ put_start n f was → known_by new
+      ≡ record { entries = (known_by old).entries; blocks = changed_start f n (known_by old).blocks }
+  start_known n f is = known_after new (put_start n f was)
+      (record { entries = (known_by old).entries; blocks = changed_start f n (known_by old).blocks }) is
+      (start_follows n f was old.tracked)
 
   pub begun_known : (ended : Bool) → tracked_of new ≡ begun ended was
       → known_by new ≡ begin_with ended (known_by old)
@@ -99,32 +100,27 @@ module _ (old new : code_tracked.Tracked) where
       (record { entries = outermost count (known_by old).entries; blocks = (known_by old).blocks }) is
       (cut_follows count was old.tracked least)
 
-excluded_by : (condition : Expression) (n : ℕ) (m : Meaning) (es : List Entry) (bs : List Block) → 0 < length bs
-    → BeginsHere es bs → narrow es condition false ≡ changed_to m n es
-    → changed_start m n es bs ≡ exclude_from condition es bs
-excluded_by condition n m es [] some begins is = absurd (omega arith)
-excluded_by condition n m es (b ∷ bs) some begins is = λ i. record {
-  entries = (sym is ∙ ap (λ ks. narrow ks condition false) (sym begins)) i;
-  blocks = record { start = (ap (changed_to m n) begins ∙ sym is) i; ends = b.ends } ∷ bs;
-}
+-- the entries where the further choices begin, by what the condition compares
+excluded_to : (condition : Expression) (es ds : List Entry) (t : Tested) (o : Option ℕ)
+    → test_of es condition ≡ Some t → number_in t.name es ≡ o → excluded condition es ds ≡ excluded_at o t ds
+excluded_to condition es ds t o test number =
+    ap (λ k. excluded_by k es ds) test ∙ ap (λ k. excluded_at k t ds) number
 
-blocks_long : (ss : List Slot) (bs : List Branching) → length (blocks_in ss bs) ≡ length bs
-blocks_long ss [] = refl
-blocks_long ss (b ∷ bs) = ap suc (blocks_long (before b ss) bs)
+all_excluded : (condition : Expression) (n : ℕ) (t : Tested) (es : List Entry) (bs : List Block)
+    → test_of es condition ≡ Some t → number_in t.name es ≡ Some n
+    → changed_start (not_so t) n bs ≡ exclude_from condition es bs
+all_excluded condition n t es [] test number = refl
+all_excluded condition n t es (b ∷ bs) test number =
+    ap (λ ds. record { start = ds; ends = b.ends } ∷ bs)
+    (sym (excluded_to condition es b.start t (Some n) test number))
 
--- where a condition narrows a scalar, it is excluded for the further branches too
-pub excluded_known : (old new : code_tracked.Tracked) (condition : Expression) (n : ℕ) (m : Meaning)
-    → 0 < length old.blocks.items → BeginsHere (known_by old).entries (known_by old).blocks
-    → narrow (known_by old).entries condition false ≡ changed_to m n (known_by old).entries
-    → tracked_of new ≡ put_start n m (tracked_of old) → known_by new ≡ excluding condition (known_by old)
-excluded_known old new condition n m some begins is moved =
-    let t = tracked_of old in
-    let long = blocks_long t.slots t.blocks in
-    let same = branchings_long old.blocks.items in
-    start_known old new n m moved
-    ∙ excluded_by condition n m (known_by old).entries (known_by old).blocks (omega arith) begins is
-
--- the branch that begins after another
-pub begins_next : (es : List Entry) (bs : List Block) → BeginsHere (next_from es bs).entries (next_from es bs).blocks
-begins_next es [] = tt
-begins_next es (b ∷ bs) = refl
+-- a condition that compares a scalar with a constant is excluded
+pub excluded_known : (old new : code_tracked.Tracked) (condition : Expression) (n : ℕ) (t : Tested)
+    → test_of (known_by old).entries condition ≡ Some t → number_in t.name (known_by old).entries ≡ Some n
+    → tracked_of new ≡ put_start n (not_so t) (tracked_of old) → known_by new ≡ exclude condition (known_by old)
+excluded_known old new condition n t test number moved =
+    start_known old new n (not_so t) moved
+    ∙ (λ i. record {
+      entries = (known_by old).entries;
+      blocks = all_excluded condition n t (known_by old).entries (known_by old).blocks test number i;
+    })

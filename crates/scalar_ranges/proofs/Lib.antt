@@ -7,6 +7,7 @@ pub mod Operators
 pub mod BoundLaws
 pub mod ConstantLaws
 pub mod NarrowingLaws
+pub mod Excluding
 pub mod MoveLaws
 pub mod Rows
 pub mod Found

@@ -7,12 +7,13 @@ use Rattle.word_arithmetic.specs.Range.{Ends, InRange, hull, full}
 use Rattle.scalar_ranges.specs.declared.scope.ScalarKind.{ScalarKind}
 use Rattle.scalar_ranges.specs.declared.scope.ScalarKind.TheVariants as kinds
 use Rattle.scalar_ranges.specs.Entries.{Meaning, Constant, Scalar, Array, Channel, Channels, Procedure, Entry}
-use Rattle.scalar_ranges.specs.Entries.{type_range}
+use Rattle.scalar_ranges.specs.Entries.{type_range, number_in}
 use Rattle.scalar_ranges.specs.Environments.{Held, Nothing, One, Many, Binding, Environment, IsHeld, Meets}
-use Rattle.scalar_ranges.specs.Narrowing.{Tested, test_of, with_range, changed, by_test, left_of, as_holds}
+use Rattle.scalar_ranges.specs.Narrowing.{Tested, test_of, with_range, changed, by_test, left_of, as_holds, opposite}
 use Rattle.scalar_ranges.specs.Moves.{outermost, at_number, with_meaning, ranged}
 use Rattle.scalar_ranges.specs.Moves.{widened, is_one_of, widened_if, widen}
 use Rattle.scalar_ranges.specs.Moves.{hull_meaning, hulls, of_both, taken, ends_with}
+use Rattle.scalar_ranges.specs.Moves.{not_so, excluded_at, excluded_by}
 use Rattle.scalar_ranges.specs.MoveLaws.{DeclaringHolds, LeavingHolds, put, meaning_at, ChangingHolds, HoldingHolds}
 use Rattle.scalar_ranges.specs.MoveLaws.{IsHeldAfter}
 use Rattle.scalar_ranges.specs.MoveLaws.{WideningHolds, shape, BranchesHold, ComponentsHold, ShapesStay}
@@ -276,11 +277,24 @@ at_number_by : (t : Bool) (f : Meaning → Meaning) (n : ℕ) (e : Entry) (es : 
 at_number_by true f n e es same h = ap (λ k. k ∷ shape es) (same_entry e (f e.meaning) same)
 at_number_by false f n e es same h = ap (λ ks. flat_entry e ∷ ks) h
 
+at_shape : (f : Meaning → Meaning) (n : ℕ) (es : List Entry) → ((m : Meaning) → flat (f m) ≡ flat m)
+    → shape (at_number (with_meaning f) n es) ≡ shape es
+at_shape f n [] same = refl
+at_shape f n (e ∷ es) same =
+    at_number_by (nat_eq (length es) n) f n e es (same e.meaning) (at_shape f n es same)
+
 pub ranged_shape : (range : ValueType → Ends) (n : ℕ) (es : List Entry)
     → shape (at_number (with_meaning (ranged range)) n es) ≡ shape es
-ranged_shape range n [] = refl
-ranged_shape range n (e ∷ es) =
-    at_number_by (nat_eq (length es) n) (ranged range) n e es (ranged_flat range e.meaning) (ranged_shape range n es)
+ranged_shape range n es = at_shape (ranged range) n es (ranged_flat range)
+
+numbered_shape : (o : Option ℕ) (t : Tested) (ds : List Entry) → shape (excluded_at o t ds) ≡ shape ds
+numbered_shape None t ds = refl
+numbered_shape (Some n) t ds =
+    at_shape (not_so t) n ds (with_range_flat (left_of (opposite t.comparison) t.constant))
+
+excluded_shape : (o : Option Tested) (es ds : List Entry) → shape (excluded_by o es ds) ≡ shape ds
+excluded_shape None es ds = refl
+excluded_shape (Some t) es ds = numbered_shape (number_in t.name es) t ds
 
 widened_entry : (t : Bool) (e : Entry) → flat_entry (widened_if t e) ≡ flat_entry e
 widened_entry false e = refl
@@ -336,6 +350,7 @@ leaving_shape ds es count same = cut_shape ds count ∙ ap (outermost count) sam
 pub shapes_stay : ShapesStay
 shapes_stay = record {
   narrowing = λ es e holds. tested_shape es holds (test_of es e);
+  excluding = λ es ds e. excluded_shape (test_of es e) es ds;
   assigning = λ es n range. ranged_shape (λ type. range) n es;
   widening = widen_shape;
   joining = hulls_shape;

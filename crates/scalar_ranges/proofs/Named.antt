@@ -23,7 +23,7 @@ number_below name [] n is = absurd (cc)
 number_below name (e ∷ es) n is = below_by (bytes_eq e.name name) name es n is (number_below name es n)
 
 -- where a name has a number, the test of the name is the test of the number
-by_number : {A : Type 0} (t : Bool) (name : List ℕ) (es : List Entry) (n : ℕ) (x y z : A)
+pub by_number : {A : Type 0} (t : Bool) (name : List ℕ) (es : List Entry) (n : ℕ) (x y z : A)
     → cond t (Some (length es)) (number_in name es) ≡ Some n → (number_in name es ≡ Some n → y ≡ z)
     → cond t x y ≡ cond (nat_eq (length es) n) x z
 by_number true name es n x y z is further =

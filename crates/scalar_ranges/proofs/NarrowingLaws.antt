@@ -45,7 +45,7 @@ left_holds c value v r m is = left_by c value v r (range_between r.lo r.hi) refl
 
 -- ---- entries
 
-with_range_held : (f : Ends → Ends) (m : Meaning) (h : Held)
+pub with_range_held : (f : Ends → Ends) (m : Meaning) (h : Held)
     → ((v : ℤ) (r : Ends) → h ≡ One v → InRange r v → InRange (f r) v) → IsHeld m h → IsHeld (with_range f m) h
 with_range_held f (Scalar kind type range) (One v) keeps is = keeps v range refl is
 with_range_held f (Scalar kind type range) Nothing keeps is = is
@@ -203,7 +203,7 @@ module _ (es : List Entry) (env : Environment) (meets : Meets env es) where
   first_holds c a b None k holds x y s t e f p q is are alike like h =
       tested_holds (turned c) b a k holds y x s f q p is alike (turned_compares c y x ∙ h)
 
-  test_holds : (e : Expression) (k : Tested) (holds : Bool) (u : ExprType) → type_of es e ≡ Ok u
+  pub test_holds : (e : Expression) (k : Tested) (holds : Bool) (u : ExprType) → type_of es e ≡ Ok u
       → test_of es e ≡ Some k → truth_of env e ≡ Some holds → IsTrueOf env holds k
   test_holds (Paired (pair.Comparison c) a b) k holds u is test truth =
       let s = both_ok (type_of_term es a) (type_of_term es b) (pair_type (pair.Comparison c)) u is in

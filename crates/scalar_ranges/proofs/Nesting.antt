@@ -5,10 +5,9 @@ use Rattle.std.proofs.lemmas.Bool.Decides.{nat_tests}
 use Rattle.occam_parser.specs.Expressions.{Expression}
 use Rattle.scalar_ranges.specs.Entries.{Entry}
 use Rattle.scalar_ranges.specs.Moves.{outermost, Block, begun_with, taken, ends_with, end_of}
-use Rattle.scalar_ranges.specs.Moves.{component_end, next_from, component_from, after_block, exclude_from}
-use Rattle.scalar_ranges.specs.Narrowing.{narrow}
+use Rattle.scalar_ranges.specs.Moves.{component_end, next_from, component_from, after_block, excluded}
+use Rattle.scalar_ranges.specs.Moves.{exclude_from}
 use Rattle.scalar_ranges.specs.Changes.{ends_seen}
-use Rattle.scalar_ranges.specs.Scopes.{BeginsHere}
 use Rattle.scalar_ranges.specs.MoveLaws.{shape}
 use Rattle.scalar_ranges.specs.Nesting.{names_of, EndsFit, AreNested, NestedEndsHold}
 use Rattle.scalar_ranges.proofs.Found.{none_less}
@@ -161,13 +160,17 @@ ends_alike : (start es : List Entry) (ends : Option (List Entry)) → shape star
 ends_alike start es None same fits = fits
 ends_alike start es (Some ds) same fits = fits ∙ same
 
+pub long_alike : (ds es : List Entry) → shape ds ≡ shape es → length ds ≡ length es
+long_alike ds es same = sym (shape_long ds) ∙ ap length same ∙ shape_long es
+
 -- the branches from here on begin with other ranges
-pub fit_restarted : (names : List (List ℕ)) (es : List Entry) (b : Block) (bs : List Block) → shape b.start ≡ shape es
-    → Fit names es (b ∷ bs) → Fit names es (record { start = es; ends = b.ends } ∷ bs)
-fit_restarted names es b bs same fit =
-    let further : Fit names es bs =
-    record { named = fit.named; nested = nested_alike es b.start bs (sym same) fit.nested.2 } in
-    fit_begun names es b.ends bs (ends_alike b.start es b.ends same fit.nested.1) further
+nested_restarted : (es start : List Entry) (b : Block) (bs : List Block) → shape start ≡ shape b.start
+    → AreNested es (b ∷ bs) → AreNested es (record { start = start; ends = b.ends } ∷ bs)
+nested_restarted es start b bs same nested = (
+  same ∙ nested.0 ∙ ap (λ n. shape (outermost n es)) (sym (long_alike start b.start same)),
+  ends_alike b.start start b.ends (sym same) nested.1,
+  nested_alike start b.start bs same nested.2,
+)
 
 joined_fit : (start es : List Entry) (ends : Option (List Entry)) → EndsFit start ends → shape es ≡ shape start
     → shape (ends_with ends es) ≡ shape start
@@ -188,9 +191,6 @@ taken_fit ns start es (Some ds) fits same = shapes_stay.taking ds es ns (fits �
 pub component_fit : (ns : List ℕ) (es : List Entry) (b : Block) (bs : List Block) → AreNested es (b ∷ bs)
     → EndsFit b.start (component_end ns b es)
 component_fit ns es b bs nested = taken_fit ns b.start (end_of b es) b.ends nested.1 (sym nested.0)
-
-pub long_alike : (ds es : List Entry) → shape ds ≡ shape es → length ds ≡ length es
-long_alike ds es same = sym (shape_long ds) ∙ ap length same ∙ shape_long es
 
 -- where there is no block, all names are left
 whole_fit : (names : List (List ℕ)) (es : List Entry) → Fit names es [] → Fit (outermost (length es) names) es []
@@ -221,14 +221,13 @@ fit_component ns names es (b ∷ bs) fit =
 
 -- the branches from here on begin where a condition does not hold
 pub fit_excluded : (condition : Expression) (names : List (List ℕ)) (es : List Entry) (bs : List Block)
-    → BeginsHere es bs → Fit names es bs
-    → Fit names (exclude_from condition es bs).entries (exclude_from condition es bs).blocks
-fit_excluded condition names es [] begins fit = fit
-fit_excluded condition names es (b ∷ bs) begins fit =
-    let here = narrow es condition false in
-    let alike = shapes_stay.narrowing es condition false in
-    fit_along refl (ap (λ ks. narrow ks condition false) begins) refl
-    (fit_restarted names here b bs (ap shape begins ∙ sym alike) (fit_alike names here es (b ∷ bs) alike fit))
+    → Fit names es bs → Fit names es (exclude_from condition es bs)
+fit_excluded condition names es [] fit = fit
+fit_excluded condition names es (b ∷ bs) fit = record {
+  named = fit.named;
+  nested = nested_restarted es (excluded condition es b.start) b bs (shapes_stay.excluding es b.start condition)
+      fit.nested;
+}
 
 ended_by : (names : List (List ℕ)) (start : List Entry) (ends : Option (List Entry)) (bs : List Block)
     → EndsFit start ends → Fit (outermost (length start) names) start bs

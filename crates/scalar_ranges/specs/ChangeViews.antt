@@ -13,6 +13,7 @@ use Rattle.scalar_ranges.specs.Entries.{Meaning}
 use Rattle.scalar_ranges.specs.Environments.{item_at}
 use Rattle.scalar_ranges.specs.Changes.{Slot, Change, Branching, Tracked, before, AreTracked, numbers_of, put_if}
 use Rattle.scalar_ranges.specs.Changes.{with_new, with_start, with_end, marked, restored}
+use Rattle.scalar_ranges.specs.Narrowing.{left_of, with_range}
 use Rattle.scalar_ranges.specs.Moves.{hull_meaning}
 
 abbrev pub slot_of : code_slot.Slot → Slot
@@ -37,7 +38,7 @@ turned d turn s = if nat_eq s.mark d then turned_to turn s else s
 abbrev pub updated : code_update.Update → Slot → Slot
 updated (updates.Mark depth) = marked depth
 updated (updates.Mean m) = with_new (meaning_of m)
-updated (updates.Begin m) = with_start (meaning_of m)
+updated (updates.Begin comparison constant) = with_start (with_range (left_of comparison constant))
 updated (updates.End depth turn) = turned depth turn
 updated (updates.Restore before) = restored (slot_of before)
 

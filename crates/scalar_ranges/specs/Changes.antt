@@ -126,9 +126,9 @@ pub record IsWithin (f : Slot → Slot) : Type 0 where
 abbrev pub with_new : Meaning → Slot → Slot
 with_new m s = record { name = s.name; meaning = m; mark = s.mark; start = s.start; ends = s.ends }
 
--- the same where the branches from here on begin with it
-abbrev pub with_start : Meaning → Slot → Slot
-with_start m s = record { name = s.name; meaning = m; mark = s.mark; start = m; ends = s.ends }
+-- the branches from here on begin with what a change makes of it
+abbrev pub with_start : (Meaning → Meaning) → Slot → Slot
+with_start f s = record { name = s.name; meaning = s.meaning; mark = s.mark; start = f s.start; ends = s.ends }
 
 abbrev pub with_end : Meaning → Slot → Slot
 with_end m s = record { name = s.name; meaning = s.meaning; mark = s.mark; start = s.start; ends = m }
@@ -209,8 +209,8 @@ next_in ss (b ∷ bs) = record {
 -- ---- other moves
 
 -- The branches from here on begin with an entry that means something else.
-abbrev pub put_start : ℕ → Meaning → Tracked → Tracked
-put_start n m t = put_by (with_start m) n t
+abbrev pub put_start : ℕ → (Meaning → Meaning) → Tracked → Tracked
+put_start n f t = put_by (with_start f) n t
 
 -- what a component changed is as its end says
 abbrev pub took : ℕ → Slot → Slot
@@ -268,20 +268,19 @@ pub record Follows (t : Tracked) (k : Known) : Type 0 where
 abbrev pub changed_to : Meaning → ℕ → List Entry → List Entry
 changed_to m n es = at_number (with_meaning (λ k. m)) n es
 
-abbrev pub changed_start : Meaning → ℕ → List Entry → List Block → Known
-changed_start m n es [] = record { entries = changed_to m n es; blocks = [] }
-changed_start m n es (b ∷ bs) = record {
-  entries = changed_to m n es;
-  blocks = record { start = changed_to m n b.start; ends = b.ends } ∷ bs;
-}
+-- an entry that means something else where the branches of the innermost block begin
+abbrev pub changed_start : (Meaning → Meaning) → ℕ → List Block → List Block
+changed_start f n [] = []
+changed_start f n (b ∷ bs) = record { start = at_number (with_meaning f) n b.start; ends = b.ends } ∷ bs
 
 -- Each move of the lists is the move of what is known; and where a block began with an entry that is not in its list,
 -- the list is shorter than the entries that the block began with.
 pub record ListsHold : Type 0 where
   pub changing : (n : ℕ) (m : Meaning) (t : Tracked) → AreTracked t.slots t.blocks
       → Follows (put n m t) (record { entries = changed_to m n (known_in t).entries; blocks = (known_in t).blocks })
-  pub excluding : (n : ℕ) (m : Meaning) (t : Tracked) → AreTracked t.slots t.blocks
-      → Follows (put_start n m t) (changed_start m n (known_in t).entries (known_in t).blocks)
+  pub excluding : (n : ℕ) (f : Meaning → Meaning) (t : Tracked) → AreTracked t.slots t.blocks
+      → Follows (put_start n f t)
+      (record { entries = (known_in t).entries; blocks = changed_start f n (known_in t).blocks })
   pub beginning : (t : Tracked) → AreTracked t.slots t.blocks → Follows (begun false t) (begin (known_in t))
   pub beginning_par : (t : Tracked) → AreTracked t.slots t.blocks → Follows (begun true t) (begin_par (known_in t))
   pub going_on : (t : Tracked) → AreTracked t.slots t.blocks → Follows (next_in t.slots t.blocks) (next (known_in t))

@@ -1,13 +1,16 @@
 -- What each move keeps: where an environment meets the scope and does what the move says, it meets the scope after it.
 use Rattle.std.specs.Prelude.{◌≡◌, ℕ, Bool, true, false, List, [], ◌∷◌, length, nat_eq, if◌then◌else◌, Option, Some}
-use Rattle.std.specs.Prelude.{None}
+use Rattle.std.specs.Prelude.{None, Ok}
 use Rattle.word_arithmetic.specs.Range.{Ends, full}
 use Rattle.occam_parser.specs.Expressions.{Expression}
 use Rattle.scalar_ranges.specs.Entries.{Meaning, Entry}
 use Rattle.scalar_ranges.specs.Environments.{Held, Environment, IsHeld, Meets}
+use Rattle.scalar_ranges.specs.declared.types.ExprType.{ExprType}
+use Rattle.scalar_ranges.specs.Types.{type_of}
+use Rattle.scalar_ranges.specs.Values.{truth_of}
 use Rattle.scalar_ranges.specs.Narrowing.{with_range, narrow}
 use Rattle.scalar_ranges.specs.Moves.{outermost, at_number, with_meaning, assign, widened, is_one_of, widen}
-use Rattle.scalar_ranges.specs.Moves.{hulls, taken, ends_with}
+use Rattle.scalar_ranges.specs.Moves.{hulls, taken, ends_with, excluded}
 
 -- ---- names
 
@@ -69,6 +72,14 @@ pub record BranchesHold : Type 0 where
       → ((ds : List Entry) → ends ≡ Some ds → shape ds ≡ shape es) → Meets env es → Meets env (ends_with ends es)
   pub earlier_ones : (ds es : List Entry) (env : Environment) → Meets env ds → Meets env (ends_with (Some ds) es)
 
+-- Where a choice begins whose condition does not hold, the environment around the block meets what is known where the
+-- further choices begin. Of the entries there, a condition tells what it tells where it does not hold.
+pub record ExcludingHolds : Type 0 where
+  pub further : (es ds : List Entry) (env : Environment) (e : Expression) (t : ExprType) → Meets env es
+      → Meets (outermost (length ds) env) ds → type_of es e ≡ Ok t → truth_of env e ≡ Some false
+      → Meets (outermost (length ds) env) (excluded e es ds)
+  pub here : (es : List Entry) (e : Expression) → excluded e es es ≡ narrow es e false
+
 -- A component of a PAR changes some variables, which hold then what they hold at its end, and leaves the others.
 abbrev pub ComponentsHold : Type 0
 ComponentsHold = (ds es : List Entry) (env new : Environment) (ns : List ℕ) → Meets env ds → Meets new es
@@ -79,6 +90,7 @@ ComponentsHold = (ds es : List Entry) (env new : Environment) (ns : List ℕ) �
 -- Moves within a scope change no names and no meanings but the ranges of scalars.
 pub record ShapesStay : Type 0 where
   pub narrowing : (es : List Entry) (e : Expression) (holds : Bool) → shape (narrow es e holds) ≡ shape es
+  pub excluding : (es ds : List Entry) (e : Expression) → shape (excluded e es ds) ≡ shape ds
   pub assigning : (es : List Entry) (n : ℕ) (range : Ends) → shape (assign n range es) ≡ shape es
   pub widening : (es : List Entry) (ns : List ℕ) → shape (widen ns es) ≡ shape es
   pub joining : (ds es : List Entry) → shape (hulls ds es) ≡ shape ds

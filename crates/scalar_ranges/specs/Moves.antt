@@ -6,8 +6,8 @@ use Rattle.occam_parser.specs.declared.tree.ValueType.{ValueType}
 use Rattle.occam_parser.specs.declared.tree.ValueType.TheVariants as value_type
 use Rattle.occam_parser.specs.Expressions.{Expression}
 use Rattle.scalar_ranges.specs.declared.scope.ScalarKind.TheVariants as kinds
-use Rattle.scalar_ranges.specs.Entries.{Meaning, Constant, Scalar, Entry, type_range}
-use Rattle.scalar_ranges.specs.Narrowing.{narrow}
+use Rattle.scalar_ranges.specs.Entries.{Meaning, Constant, Scalar, Entry, type_range, number_in}
+use Rattle.scalar_ranges.specs.Narrowing.{Tested, test_of, opposite, left_of, with_range}
 
 -- ---- names
 
@@ -134,20 +134,29 @@ next_from es (b ∷ bs) = record {
 abbrev pub next : Known → Known
 next k = next_from k.entries k.blocks
 
-abbrev pub exclude_from : Expression → List Entry → List Block → Known
-exclude_from condition es [] = record { entries = es; blocks = [] }
-exclude_from condition es (b ∷ bs) = record {
-  entries = narrow b.start condition false;
-  blocks = record { start = narrow es condition false; ends = b.ends } ∷ bs;
-}
+-- what is left of a scalar where a comparison with a constant does not hold
+abbrev pub not_so : Tested → Meaning → Meaning
+not_so t m = with_range (left_of (opposite t.comparison) t.constant) m
 
--- The branches from here on begin where the condition did not hold. Where this one begins, both are the same entries.
-abbrev pub excluding : Expression → Known → Known
-excluding condition k = exclude_from condition k.entries k.blocks
+abbrev pub excluded_at : Option ℕ → Tested → List Entry → List Entry
+excluded_at None t ds = ds
+excluded_at (Some n) t ds = at_number (with_meaning (not_so t)) n ds
 
--- A branch of an IF has ended here. Where the next one begins, the condition of this one did not hold.
-abbrev pub next_choice : Expression → Known → Known
-next_choice condition k = excluding condition (next k)
+abbrev pub excluded_by : Option Tested → List Entry → List Entry → List Entry
+excluded_by None es ds = ds
+excluded_by (Some t) es ds = excluded_at (number_in t.name es) t ds
+
+-- The outermost entries at a place, where a condition does not hold whose names are looked up at that place.
+abbrev pub excluded : Expression → List Entry → List Entry → List Entry
+excluded condition es ds = excluded_by (test_of es condition) es ds
+
+abbrev pub exclude_from : Expression → List Entry → List Block → List Block
+exclude_from condition es [] = []
+exclude_from condition es (b ∷ bs) = record { start = excluded condition es b.start; ends = b.ends } ∷ bs
+
+-- A choice of an IF begins here. Where the further ones begin, its condition did not hold.
+abbrev pub exclude : Expression → Known → Known
+exclude condition k = record { entries = k.entries; blocks = exclude_from condition k.entries k.blocks }
 
 -- what is known after a block whose last branch has ended: if it had none, it is as before
 abbrev pub after_block : List Entry → List Block → Known

@@ -1,6 +1,6 @@
 -- What a scope of the program knows.
 pub use Rattle.scalar_ranges.specs.EntryViews.{meaning_of, entry_of}
-use Rattle.std.specs.Prelude.{◌≡◌, List, [], ◌∷◌}
+use Rattle.std.specs.Prelude.{List}
 use Rattle.scalar_ranges.specs.declared.scope.Scope as code_scope
 use Rattle.scalar_ranges.specs.Entries.{Entry}
 use Rattle.scalar_ranges.specs.Moves.{Block, Known}
@@ -14,8 +14,3 @@ entries_of scope = (known_of scope).entries
 
 abbrev pub blocks_of : code_scope.Scope → List Block
 blocks_of scope = (known_of scope).blocks
-
--- the entries are those with which the branches of the innermost block begin
-abbrev pub BeginsHere : List Entry → List Block → Type 0
-BeginsHere es [] = Unit {0}
-BeginsHere es (b ∷ bs) = b.start ≡ es

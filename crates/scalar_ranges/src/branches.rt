@@ -2,20 +2,20 @@
 
 ghost use Rattle.std.specs.Prelude.{◌≡◌, OnOk, OnErr};
 ghost use Rattle.occam_parser.specs.Views.{expression_of};
-ghost use Rattle.scalar_ranges.specs.Moves.{begin, begin_par, begin_loop, widen, next, next_choice, next_component};
-ghost use Rattle.scalar_ranges.specs.Moves.{end, excluding};
+ghost use Rattle.scalar_ranges.specs.Moves.{begin, begin_par, begin_loop, widen, exclude, next, next_component};
+ghost use Rattle.scalar_ranges.specs.Moves.{end};
 ghost use Rattle.scalar_ranges.specs.Changes.{begin_with};
-ghost use Rattle.scalar_ranges.specs.Scopes.{entries_of, blocks_of, known_of, BeginsHere};
+ghost use Rattle.scalar_ranges.specs.Scopes.{entries_of, blocks_of, known_of};
 
-use crate::narrowing::narrowed_by;
+use crate::narrowing::{as_holds, test_of};
 use crate::scope::Scope;
 use occam_parser::Expr;
 use std::alloc::AllocError;
 
 impl Scope<'_> {
-    /// An `IF` or an `ALT` begins, with its first branch. The end of each branch is told by [`next`](Scope::next), or
-    /// for an `IF` by [`next_choice`](Scope::next_choice), and after the last one the block's by [`end`](Scope::end).
-    /// If memory runs out, all is as it was.
+    /// An `IF` or an `ALT` begins, with its first branch. A choice of an `IF` begins with
+    /// [`exclude`](Scope::exclude). The end of each branch is told by [`next`](Scope::next), and after the last one the
+    /// block's by [`end`](Scope::end). If memory runs out, all is as it was.
     pub fn begin(&mut self) -> Result<(), AllocError>
         ensures ok { OnOk result (known_of self.new ≡ begin (known_of self.old)) }
         ensures err { OnErr result (known_of self.new ≡ known_of self.old) }
@@ -60,24 +60,16 @@ impl Scope<'_> {
         self.names.truncate(self.known.len());
     }
 
-    /// A branch of an `IF` ends, and the next one begins where the condition did not hold. It takes no memory.
-    pub fn next_choice(&mut self, condition: &Expr)
-        ensures { known_of self.new ≡ next_choice (expression_of condition.now) (known_of self.old) }
+    /// A choice of an `IF` begins: the further ones begin where its condition does not hold. In this one
+    /// [`narrow_by`](crate::narrow_by) tells that it holds, once this was called. It takes no memory.
+    pub fn exclude(&mut self, condition: &Expr)
+        ensures { known_of self.new ≡ exclude (expression_of condition.now) (known_of self.old) }
     {
-        self.next();
-        self.exclude(condition);
-    }
-
-    /// The branches from here on begin where the condition does not hold.
-    fn exclude(&mut self, condition: &Expr)
-        requires { BeginsHere (entries_of self.old) (blocks_of self.old) }
-        ensures { known_of self.new ≡ excluding (expression_of condition.now) (known_of self.old) }
-    {
-        if self.known.blocks.is_empty() {
-            return;
-        }
-        if let Some((number, meaning)) = narrowed_by(self, condition, false) {
-            self.known.put_start(number, meaning);
+        if let Some(test) = test_of(self, condition) {
+            if let Some(number) = self.find(test.name) {
+                let comparison = as_holds(false, test.comparison);
+                self.known.put_start(number, comparison, test.constant);
+            }
         }
     }
 

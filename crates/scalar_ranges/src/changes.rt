@@ -9,6 +9,7 @@ ghost use Rattle.scalar_ranges.specs.ChangeViews.{AfterBlock, BelongTogether, Be
 
 use crate::scope::{Entry, Meaning};
 use crate::slots::{Branching, Change, Slot, Turn, Update};
+use occam_parser::Comparison;
 use std::alloc::{AllocError, Global};
 
 /// The entries at a place, numbered from the outermost one on, and the blocks of branches around it. Once a block has
@@ -25,6 +26,7 @@ impl<'a> Tracked<'a> {
     ghost use Rattle.scalar_ranges.specs.Moves.{begun_with, next, next_component, end};
     ghost use Rattle.scalar_ranges.specs.MoveLaws.{meaning_at};
     ghost use Rattle.scalar_ranges.specs.Changes.{is_new, note, put_by, put, put_start, begun, declared, cut};
+    ghost use Rattle.scalar_ranges.specs.Narrowing.{left_of, with_range};
     ghost use Rattle.scalar_ranges.specs.TrackedViews.{tracked_of, known_by};
 
     /// No entries, and no blocks.
@@ -128,11 +130,17 @@ impl<'a> Tracked<'a> {
         self.update(number, Update::Mean(meaning));
     }
 
-    /// An entry means something else, and the branches of the innermost block begin so from here on.
-    pub(crate) fn put_start(&mut self, number: usize, meaning: Meaning)
-        ensures { tracked_of self.new ≡ put_start number (meaning_of meaning) (tracked_of self.old) }
+    /// The branches of the innermost block begin from here on with what a comparison with a constant leaves of the
+    /// entry.
+    pub(crate) fn put_start(&mut self, number: usize, comparison: Comparison, constant: i32)
+        ensures { tracked_of self.new
+            ≡ put_start number (with_range (left_of comparison constant)) (tracked_of self.old) }
     {
-        self.update(number, Update::Begin(meaning));
+        let update = Update::Begin {
+            comparison,
+            constant,
+        };
+        self.update(number, update);
     }
 
     /// A block begins, which has ends if it is a `PAR`. It gets room for all entries to change. If memory runs out, all

@@ -3,7 +3,8 @@ ghost use Rattle.scalar_ranges.specs.Laws.{BoundsHold, ConstantsHold, NarrowingH
 ghost use Rattle.scalar_ranges.specs.MoveLaws.{DeclaringHolds, LeavingHolds, ChangingHolds, HoldingHolds};
 ghost use Rattle.scalar_ranges.specs.Nesting.{NestedEndsHold};
 ghost use Rattle.scalar_ranges.specs.Changes.{ListsHold};
-ghost use Rattle.scalar_ranges.specs.MoveLaws.{WideningHolds, BranchesHold, ComponentsHold, ShapesStay};
+ghost use Rattle.scalar_ranges.specs.MoveLaws.{WideningHolds, BranchesHold, ComponentsHold, ExcludingHolds};
+ghost use Rattle.scalar_ranges.specs.MoveLaws.{ShapesStay};
 
 /// Where a well typed expression has a bound, it has a value as the bound says in every environment that meets the
 /// scope.
@@ -48,12 +49,14 @@ pub fn loops_hold()
 {}
 
 /// An environment that meets the end of a branch meets what is known after the block, if both ends have one shape, as
-/// they have in blocks that nest; and what each component of a PAR changes is as its end says, the rest as before.
-#[tactic(auto, using(crate::proofs::Nesting::laws_of_branches))]
+/// they have in blocks that nest. What each component of a PAR changes is as its end says, the rest as before. An
+/// environment where a condition does not hold, with which a choice begins, meets what the further choices begin with.
+#[tactic(auto, using(crate::proofs::Nesting::laws_of_branches, crate::proofs::Excluding::excluding_holds))]
 pub fn branches_hold()
     ensures branches { BranchesHold }
     ensures nested { NestedEndsHold }
     ensures components { ComponentsHold }
+    ensures excluding { ExcludingHolds }
 {}
 
 /// The ends of the branches of a block have the names of its beginning, with the same meanings but for the ranges of

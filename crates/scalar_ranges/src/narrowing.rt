@@ -34,7 +34,7 @@ pub fn narrow_by(scope: &mut Scope, condition: &Expr, holds: bool)
 }
 
 /// The number of the scalar that a condition with this truth narrows, and what it means then.
-pub(crate) fn narrowed_by(scope: &Scope, condition: &Expr, holds: bool) -> Option<(usize, Meaning)>
+fn narrowed_by(scope: &Scope, condition: &Expr, holds: bool) -> Option<(usize, Meaning)>
     ensures { narrow (entries_of scope.now) (expression_of condition.now) holds
         ≡ changed_by result (entries_of scope.now) }
 {
@@ -46,7 +46,7 @@ pub(crate) fn narrowed_by(scope: &Scope, condition: &Expr, holds: bool) -> Optio
 }
 
 /// What a condition says, if it is exactly a scalar and a constant with a comparison between them.
-fn test_of<'e>(scope: &Scope, condition: &'e Expr) -> Option<Test<'e>>
+pub(crate) fn test_of<'e>(scope: &Scope, condition: &'e Expr) -> Option<Test<'e>>
     ensures { option_map tested_of result ≡ test_of (entries_of scope.now) (expression_of condition.now) }
 {
     match &*condition.operation {
@@ -125,7 +125,7 @@ fn turned(comparison: Comparison) -> Comparison
 }
 
 /// The comparison that holds where one has this truth.
-fn as_holds(holds: bool, comparison: Comparison) -> Comparison
+pub(crate) fn as_holds(holds: bool, comparison: Comparison) -> Comparison
     ensures { result ≡ as_holds holds comparison }
 {
     if holds {
@@ -136,7 +136,7 @@ fn as_holds(holds: bool, comparison: Comparison) -> Comparison
 }
 
 /// What is left of a scalar's range by a comparison with a constant.
-fn narrowed(meaning: Meaning, comparison: Comparison, constant: i32) -> Meaning
+pub(crate) fn narrowed(meaning: Meaning, comparison: Comparison, constant: i32) -> Meaning
     ensures { meaning_of result ≡ with_range (left_of comparison constant) (meaning_of meaning) }
 {
     match meaning {

@@ -3,7 +3,9 @@
 ghost use Rattle.std.specs.Prelude.{◌≤◌, vec_capacity};
 
 use crate::moves::hull_meaning;
+use crate::narrowing::narrowed;
 use crate::scope::{Entry, Meaning};
+use occam_parser::Comparison;
 
 /// An entry, and what the innermost block has of it that has it in its list.
 #[derive(Clone, Copy)]
@@ -43,11 +45,16 @@ pub(crate) struct Branching<'a> {
 #[derive(Clone, Copy)]
 pub(crate) enum Update<'a> {
     /// The block of this depth has it in its list from now on.
-    Mark { depth: usize },
+    Mark {
+        depth: usize,
+    },
     /// It means something else.
     Mean(Meaning),
-    /// It means something else, and so it does where the further branches begin.
-    Begin(Meaning),
+    /// Where the further branches begin, its range is what this comparison with a constant leaves of it.
+    Begin {
+        comparison: Comparison,
+        constant: i32,
+    },
     /// A branch of the block of this depth ends, which matters if the block has it in its list.
     End(usize, Turn),
     /// It is again as it was.
@@ -95,9 +102,11 @@ impl<'a> Slot<'a> {
                 ..self
             },
             Update::Mean(meaning) => Slot { meaning, ..self },
-            Update::Begin(meaning) => Slot {
-                meaning,
-                start: meaning,
+            Update::Begin {
+                comparison,
+                constant,
+            } => Slot {
+                start: narrowed(self.start, comparison, constant),
                 ..self
             },
             Update::End(depth, turn) => self.turned(depth, turn),

@@ -1,27 +1,36 @@
-use Rattle.std.proofs.Common.{◌<◌, ◌∙◌, length, refl, sym, arith}
+use Rattle.std.proofs.Common.{◌≡◌, FitsSigned, rules, refl, sym, ◌∙◌}
+use Rattle.std.specs.Int.{w32}
+use Rattle.std.proofs.lemmas.Int.{to_z-of_z}
 use Rattle.occam_parser.specs.Views.{expression_of}
-use Rattle.scalar_ranges.specs.Scopes.{meaning_of, entries_of, blocks_of}
+use Rattle.scalar_ranges.specs.Narrowing.{left_of, with_range}
+use Rattle.scalar_ranges.specs.Moves.{exclude}
+use Rattle.scalar_ranges.specs.Changes.{put_start}
+use Rattle.scalar_ranges.specs.Scopes.{entries_of, blocks_of}
 use Rattle.scalar_ranges.specs.Naming.{names_from}
+use Rattle.scalar_ranges.specs.Tests.{tested_of}
+use Rattle.scalar_ranges.specs.TrackedViews.{tracked_of, known_by}
 use Rattle.scalar_ranges.proofs.Nesting.{fit_excluded}
-use Rattle.scalar_ranges.proofs.Fitting.{fit_of, fit_at, excluded_known, some_of}
+use Rattle.scalar_ranges.proofs.Fitting.{fit_of, fit_at, excluded_known}
 use Rattle.scalar_ranges.proofs.scope.Scope.exclude.Goals as goal
+use Rattle.scalar_ranges.proofs.scope.Scope.exclude.Goals.{After-put_start}
+
+known : (c : After-put_start) → known_by c.put_start.new.self
+    ≡ exclude (expression_of c.args.condition.now) (known_by c.args.self.now.known)
+known c =
+    let old = c.args.self.now.known in
+    let test = c.in-Some.test in
+    let fits : FitsSigned w32 test.constant = search rules in
+    excluded_known old c.put_start.new.self (expression_of c.args.condition.now) c.in-Some-find.number
+    (tested_of test) (sym c.in-Some.ensures) (sym c.in-Some-find.ensures.number)
+    (c.put_start.ensures ∙ (λ i. put_start c.in-Some-find.number (with_range (left_of
+    (c.as_holds-comparison.ensures i) (to_z-of_z w32 test.constant fits i))) (tracked_of old)))
 
 pub invariant_of-self : goal.invariant_of-self
 invariant_of-self c =
     let old = c.args.self.now in
-    let condition = expression_of c.args.condition.now in
-    let more = some_of (sym c.is_empty.ensures ∙ c.if-is_empty.false) in
-    let some : 0 < length old.known.blocks.items = omega arith in
-    let known = excluded_known old.known c.put_start.new.self condition c.in-Some.number
-    (meaning_of c.in-Some.meaning) some c.requires c.in-Some.ensures c.put_start.ensures in
-    let fit = fit_at known refl (fit_excluded condition (names_from old.names.rows.items) (entries_of old)
-    (blocks_of old) c.requires (fit_of old)) in
+    let fit = fit_at (known c) refl (fit_excluded (expression_of c.args.condition.now)
+    (names_from old.names.rows.items) (entries_of old) (blocks_of old) (fit_of old)) in
     record { named = fit.named; nested = fit.nested }
 
-pub returns-in-Some : goal.returns-in-Some
-returns-in-Some c =
-    let old = c.args.self.now in
-    let more = some_of (sym c.is_empty.ensures ∙ c.if-is_empty.false) in
-    let some : 0 < length old.known.blocks.items = omega arith in
-    excluded_known old.known c.put_start.new.self (expression_of c.args.condition.now) c.in-Some.number
-    (meaning_of c.in-Some.meaning) some c.requires c.in-Some.ensures c.put_start.ensures
+pub returns-in-Some-find : goal.returns-in-Some-find
+returns-in-Some-find c = known (goal.at.returns-in-Some-find c).After-put_start
