@@ -1,28 +1,31 @@
 -- A component that ends, and a condition that is excluded, by the lists of changes.
 use Rattle.std.proofs.Common.{◌≡◌, ℕ, suc, ◌<◌, ◌≤◌, Bool, true, false, cond, List, [], ◌∷◌, length, map}
-use Rattle.std.proofs.Common.{reverse, take, refl, sym, ap, subst, arith, ◌∙◌, nat_eq, option_map}
+use Rattle.std.proofs.Common.{reverse, take, Some, refl, sym, ap, subst, arith, ◌∙◌, nat_eq, option_map}
 use Rattle.std.proofs.lemmas.Bool.Decides.{nat_tests}
 use Rattle.std.proofs.lemmas.List.{take_all, length-take, length-map}
 use Rattle.scalar_ranges.specs.Entries.{Meaning, Entry}
+use Rattle.scalar_ranges.specs.Environments.{item_at}
 use Rattle.scalar_ranges.specs.Moves.{at_number, with_meaning, is_one_of, of_both, taken, end_of}
 use Rattle.scalar_ranges.specs.Moves.{next_component}
 use Rattle.scalar_ranges.specs.Changes.{Slot, Branching, Tracked, modify, entry_in, start_in, end_in, before, seen}
-use Rattle.scalar_ranges.specs.Changes.{ends_seen, block_in, blocks_in, known_in, numbers_of, AreListed, AreTracked}
-use Rattle.scalar_ranges.specs.Changes.{IsWithin, note, with_start, with_end, put_start, restarted, each, took}
-use Rattle.scalar_ranges.specs.Changes.{component_slots, component_in, Follows, changed_start}
+use Rattle.scalar_ranges.specs.Changes.{ends_seen, block_in, blocks_in, known_in, numbers_of, AreListed, is_recent}
+use Rattle.scalar_ranges.specs.Changes.{AreMarked, AreSettled, AreTracked, IsWithin, noted, with_start, with_end}
+use Rattle.scalar_ranges.specs.Changes.{put_start, restarted, each, took, component_slots, component_block}
+use Rattle.scalar_ranges.specs.Changes.{component_in, Follows, changed_start}
 use Rattle.scalar_ranges.proofs.Rows.{same_number}
 use Rattle.scalar_ranges.proofs.Numbered.{modify_long, take_modify, map_modify, map_unmodified, reverse_modify}
-use Rattle.scalar_ranges.proofs.Numbered.{each_maps, map_again, numbers_alike}
+use Rattle.scalar_ranges.proofs.Numbered.{each_maps, map_again, numbers_alike, items_modified}
 use Rattle.scalar_ranges.proofs.Widening.{same_test}
-use Rattle.scalar_ranges.proofs.Tracking.{IsNoted, IsInside, notes_well, before_same, put_tracked}
-use Rattle.scalar_ranges.proofs.Following.{restarted_by, start_by, end_by, restarted_mark, restarted_not}
-use Rattle.scalar_ranges.proofs.Following.{restarted_again, inside_restarted, end_is, map_reversed, once_tracked}
-use Rattle.scalar_ranges.proofs.Following.{twice_tracked, twice_behind}
+use Rattle.scalar_ranges.proofs.Tracking.{IsNoted, IsInside, before_same}
+use Rattle.scalar_ranges.proofs.Touching.{notes_well, put_tracked}
+use Rattle.scalar_ranges.proofs.Following.{restarted_by, start_by, end_by, restarted_mark, restarted_not, restarted_if}
+use Rattle.scalar_ranges.proofs.Following.{restarted_again, recent_restarted, inside_restarted, end_is, map_reversed}
+use Rattle.scalar_ranges.proofs.Following.{item_of_map, once_marked, twice_marked, twice_behind, goes_on}
 
 -- ---- a condition is excluded
 
 pub start_within : (f : Meaning → Meaning) → IsWithin (with_start f)
-start_within f = record { names = λ s. refl; marks = λ s. refl }
+start_within f = record { names = λ s. refl; marks = λ s. refl; recents = λ s. refl }
 
 other_start : (d : ℕ) (f : Meaning → Meaning) (s : Slot) → nat_eq s.mark d ≡ true
     → start_in d (with_start f s) ≡ with_meaning f (start_in d s)
@@ -38,22 +41,22 @@ start_blocks f n ss (b ∷ bs) noted tracked =
     let at = take_modify (with_start f) b.count n ss in
     let starts = ap (map (start_in d)) at
     ∙ map_modify (start_in d) (with_start f) (with_meaning f) n (take b.count ss)
-    (λ s is. other_start d f s (noted s is)) in
+    (λ s is. other_start d f s (noted s is).0) in
     let start = ap reverse starts ∙ reverse_modify (with_meaning f) n (map (start_in d) (take b.count ss)) in
     let ends = ap (map (end_in d)) at
     ∙ map_unmodified (end_in d) (with_start f) n (take b.count ss) (λ s is. refl) in
-    let behind = before_same (with_start f) n ss b bs (start_within f) noted tracked in
+    let behind = before_same (with_start f) n ss b bs (λ s. refl) (λ s is. (noted s is).0) tracked.0 in
     λ i. record { start = start i; ends = ends_seen b.ended (reverse (ends i)) } ∷ blocks_in (behind i) bs
 
 pub start_follows : (n : ℕ) (f : Meaning → Meaning) (t : Tracked) → AreTracked t.slots t.blocks
     → Follows (put_start n f t)
     (record { entries = (known_in t).entries; blocks = changed_start f n (known_in t).blocks })
 start_follows n f t tracked =
-    let noted = note n t.slots t.blocks in
+    let listed = noted n t.slots t.blocks in
     let well = notes_well n t.slots t.blocks tracked in
     record {
-      entries = ap reverse (map_unmodified entry_in (with_start f) n noted.slots (λ s is. refl) ∙ well.entries);
-      blocks = start_blocks f n noted.slots noted.blocks well.noted well.tracked
+      entries = ap reverse (map_unmodified entry_in (with_start f) n listed.slots (λ s is. refl) ∙ well.entries);
+      blocks = start_blocks f n listed.slots listed.blocks well.noted well.tracked
           ∙ ap (changed_start f n) well.blocks;
       tracked = put_tracked (with_start f) n t (start_within f) tracked;
     }
@@ -73,7 +76,8 @@ took_mark false s = refl
 
 inside_took : (d : ℕ) → IsInside d (took d)
 inside_took d = record {
-  within = record { names = λ s. took_name (nat_eq s.mark d) s; marks = λ s. took_mark (nat_eq s.mark d) s };
+  names = λ s. took_name (nat_eq s.mark d) s;
+  marks = λ s. took_mark (nat_eq s.mark d) s;
   others = λ s test. ap (λ t. took_by t s) test;
 }
 
@@ -211,6 +215,23 @@ end_again d s =
     ap (λ m. end_by (nat_eq m d) (restarted d s)) (restarted_mark (nat_eq s.mark d) s)
     ∙ restarted_end (nat_eq s.mark d) s
 
+-- what the branch did not change is restarted also where its ends are taken
+restarted_took : (d : ℕ) (s : Slot) → restarted d s ≡ s → restarted d (took d s) ≡ took d s
+restarted_took d s same =
+    ap (λ m. restarted_by (nat_eq m d) (took d s)) (took_mark (nat_eq s.mark d) s)
+    ∙ restarted_if (nat_eq s.mark d) s.meaning s same
+
+tooks_restarted : (d : ℕ) (b : Branching) (ns : List ℕ) (ss : List Slot)
+    → ((i : ℕ) (s : Slot) → item_at i ss ≡ Some s → is_one_of b.recent i ≡ false → restarted d s ≡ s)
+    → (i : ℕ) (s : Slot) → item_at i (each (took d) ns ss) ≡ Some s → is_one_of b.recent i ≡ false
+    → restarted d s ≡ s
+tooks_restarted d b [] ss same i s is others = same i s is others
+tooks_restarted d b (n ∷ ns) ss same i s is others =
+    tooks_restarted d b ns (modify (took d) n ss)
+    (items_modified (λ i s. is_one_of b.recent i ≡ false → restarted d s ≡ s) (took d) n ss
+    (λ k s apart is others. same k s is others)
+    (λ s is others. restarted_took d s (same n s is others))) i s is others
+
 component_ends : (ended : Bool) (ns : List ℕ) (ds es : List Entry)
     → ends_seen ended (taken ns ds es) ≡ option_map (λ k. taken ns k es) (ends_seen ended ds)
 component_ends true ns ds es = refl
@@ -227,22 +248,12 @@ module _ (ns : List ℕ) (ss : List Slot) (b : Branching) (bs : List Branching) 
   tooks = each (took depth) ns base
 
   abbrev slots : List Slot
-  slots = component_slots ns depth b ss
+  slots = component_slots ns depth b base
 
-  tooks_tracked : AreTracked tooks (b ∷ bs)
-  tooks_tracked =
-      once_tracked (took depth) (restarted depth) ns (numbers_of b.changes) ss b bs (inside_took depth)
-      (inside_restarted depth) tracked
-
-  slots_tracked : AreTracked slots (b ∷ bs)
-  slots_tracked =
-      twice_tracked (took depth) (restarted depth) ns (numbers_of b.changes) ss b bs (inside_took depth)
-      (inside_restarted depth) tracked
-
-  behind : before b slots ≡ before b ss
-  behind =
-      twice_behind (took depth) (restarted depth) ns (numbers_of b.changes) ss b bs (inside_took depth)
-      (inside_restarted depth) tracked
+  tooks_marked : AreMarked tooks b bs
+  tooks_marked =
+      once_marked (took depth) (restarted depth) ns (numbers_of b.changes) ss b bs (inside_took depth)
+      (inside_restarted depth) tracked.0
 
   tooks_taken : take b.count tooks ≡ tooks
   tooks_taken =
@@ -252,9 +263,33 @@ module _ (ns : List ℕ) (ss : List Slot) (b : Branching) (bs : List Branching) 
 
   slots_are : slots ≡ map (restarted depth) tooks
   slots_are =
-      let listed = subst (AreListed depth (numbers_of b.changes)) tooks_taken tooks_tracked.2 in
-      each_maps (restarted depth) (numbers_of b.changes) tooks (restarted_again depth)
-      (λ i s is others. restarted_not depth s (listed i s is others))
+      each_maps (restarted depth) b.recent tooks (restarted_again depth)
+      (tooks_restarted depth b ns base (λ i s is others. (tracked.1 i s is others).1))
+
+  by_list : slots ≡ each (restarted depth) (numbers_of b.changes) tooks
+  by_list =
+      let listed = subst (AreListed depth (numbers_of b.changes)) tooks_taken tooks_marked.2 in
+      slots_are ∙ sym (each_maps (restarted depth) (numbers_of b.changes) tooks (restarted_again depth)
+      (λ i s is others. restarted_not depth s (listed i s is others)))
+
+  slots_marked : AreMarked slots b bs
+  slots_marked = subst (λ ks. AreMarked ks b bs) (sym by_list)
+      (twice_marked (took depth) (restarted depth) ns (numbers_of b.changes) ss b bs (inside_took depth)
+      (inside_restarted depth) tracked.0)
+
+  behind : before b slots ≡ before b ss
+  behind = ap (before b) by_list
+      ∙ twice_behind (took depth) (restarted depth) ns (numbers_of b.changes) ss b bs (inside_took depth)
+      (inside_restarted depth) tracked.0
+
+  settled : AreSettled depth (component_block b) slots
+  settled = subst (AreSettled depth (component_block b)) (sym slots_are)
+      (λ i s is others.
+      let x = item_of_map (restarted depth) i tooks s is in (
+        ap (is_recent depth) (sym x.2) ∙ recent_restarted depth x.0,
+        subst (λ (k : Slot). restarted depth k ≡ k) x.2 (restarted_again depth x.0),
+        λ even apart. absurd (cc (even)),
+      ))
 
   slots_taken : take b.count slots ≡ slots
   slots_taken =
@@ -274,7 +309,7 @@ module _ (ns : List ℕ) (ss : List Slot) (b : Branching) (bs : List Branching) 
       ap (seen (end_in depth)) slots_are
       ∙ ap reverse (map_again (end_in depth) (restarted depth) (end_in depth) tooks (end_again depth))
       ∙ took_ends depth ns base
-      ∙ ap (taken ns (seen (end_in depth) base)) (sym (end_is depth b ss tracked.0))
+      ∙ ap (taken ns (seen (end_in depth) base)) (sym (end_is depth b ss tracked.0.0))
 
   component : Follows (component_in ns ss (b ∷ bs))
       (next_component ns (record { entries = seen entry_in ss; blocks = blocks_in ss (b ∷ bs) }))
@@ -289,7 +324,7 @@ module _ (ns : List ℕ) (ss : List Slot) (b : Branching) (bs : List Branching) 
           ends = ends_seen b.ended (seen (end_in depth) (slots_taken i));
         } ∷ blocks_in (behind i) bs)
             ∙ (λ i. record { start = starts i; ends = ends i } ∷ blocks_in (before b ss) bs);
-        tracked = slots_tracked;
+        tracked = goes_on slots ss b (component_block b) bs refl refl slots_taken slots_marked settled behind tracked;
       }
 
 pub component_follows : (ns : List ℕ) (ss : List Slot) (bs : List Branching) → AreTracked ss bs

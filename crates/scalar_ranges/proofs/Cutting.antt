@@ -1,16 +1,18 @@
 -- Declarations that are made and left, by the lists of changes, and then all moves.
 use Rattle.std.proofs.Common.{◌≡◌, ℕ, zero, suc, ◌+◌, ◌<◌, ◌≤◌, true, false, List, [], ◌∷◌, ◌++◌, length, map}
-use Rattle.std.proofs.Common.{reverse, take, nat_eq, Some, refl, sym, ap, subst, arith, ◌∙◌}
+use Rattle.std.proofs.Common.{reverse, take, cond, nat_eq, Some, refl, sym, ap, subst, arith, ◌∙◌}
 use Rattle.std.proofs.lemmas.List.{take-append-le, take-take, take-map, length-take-le, length-map, length-reverse}
 use Rattle.std.proofs.lemmas.List.{map-append, reverse-append}
 use Rattle.scalar_ranges.specs.Entries.{Entry}
 use Rattle.scalar_ranges.specs.Environments.{item_at}
 use Rattle.scalar_ranges.specs.Moves.{outermost, begun_with}
 use Rattle.scalar_ranges.specs.Changes.{Slot, Branching, Tracked, entry_in, start_in, end_in, undone, seen, ends_seen}
-use Rattle.scalar_ranges.specs.Changes.{blocks_in, known_in, numbers_of, AreListed, unmarked, AreTracked}
+use Rattle.scalar_ranges.specs.Changes.{blocks_in, known_in, numbers_of, AreListed, without, is_marked, is_recent}
+use Rattle.scalar_ranges.specs.Changes.{AreSettled, AreTracked, marked, touched}
 use Rattle.scalar_ranges.specs.Changes.{fresh, declared, cut, Follows, ListsHold}
 use Rattle.scalar_ranges.proofs.Numbered.{reverse_take, item_taken}
-use Rattle.scalar_ranges.proofs.Tracking.{fewer}
+use Rattle.scalar_ranges.proofs.Rows.{same_number, one_longer}
+use Rattle.scalar_ranges.proofs.Counting.{fewer}
 use Rattle.scalar_ranges.proofs.Following.{put_follows, begun_follows, next_follows, left_tracked}
 use Rattle.scalar_ranges.proofs.Ending.{end_follows}
 use Rattle.scalar_ranges.proofs.Components.{start_follows, component_follows}
@@ -22,10 +24,6 @@ same_blocks ks ss b bs same =
     let d = suc (length bs) in
     λ i. record { start = seen (start_in d) (same i); ends = ends_seen b.ended (seen (end_in d) (same i)) }
     ∷ blocks_in (undone b.changes (same i)) bs
-
-one_longer : {A : Type 0} (xs : List A) (x : A) → length (xs ++ x ∷ []) ≡ suc (length xs)
-one_longer [] x = refl
-one_longer (y ∷ xs) x = ap suc (one_longer xs x)
 
 -- what holds of each item of a list and of one more
 items_more : {A : Type 0} (P : A → Type 0) (xs : List A) (x : A)
@@ -41,21 +39,25 @@ pub declared_tracked : (e : Entry) (ss : List Slot) (bs : List Branching) → Ar
 declared_tracked e ss [] tracked =
     items_more (λ (s : Slot). s.mark ≤ 0) ss (fresh e) tracked (omega arith)
 declared_tracked e ss (b ∷ bs) tracked =
-    let same = take-append-le b.count ss (fresh e ∷ []) tracked.0 in
+    let same = take-append-le b.count ss (fresh e ∷ []) tracked.0.0 in
     let long = one_longer ss (fresh e) in
-    let enough = tracked.0 in (
-      omega arith,
-      items_more (λ (s : Slot). s.mark ≤ suc (length bs)) ss (fresh e) tracked.1 (omega arith),
-      subst (AreListed (suc (length bs)) (numbers_of b.changes)) (sym same) tracked.2,
-      subst (λ js. unmarked (suc (length bs)) js + length b.changes ≤ b.count) (sym same) tracked.3,
-      subst (λ js. AreTracked (undone b.changes js) bs) (sym same) tracked.4,
+    let enough = tracked.0.0 in (
+      (
+        omega arith,
+        items_more (λ (s : Slot). s.mark ≤ suc (length bs)) ss (fresh e) tracked.0.1 (omega arith),
+        subst (AreListed (suc (length bs)) (numbers_of b.changes)) (sym same) tracked.0.2,
+        subst (λ js. without (is_marked (suc (length bs))) js + length b.changes ≤ b.count) (sym same) tracked.0.3,
+      ),
+      subst (AreSettled (suc (length bs)) b) (sym same) tracked.1,
+      subst (λ js. without (is_recent (suc (length bs))) js + length b.recent ≤ b.count) (sym same) tracked.2,
+      subst (λ js. AreTracked (undone b.changes js) bs) (sym same) tracked.3,
     )
 
 declared_blocks : (e : Entry) (ss : List Slot) (bs : List Branching) → AreTracked ss bs
     → blocks_in (ss ++ fresh e ∷ []) bs ≡ blocks_in ss bs
 declared_blocks e ss [] tracked = refl
 declared_blocks e ss (b ∷ bs) tracked =
-    same_blocks (ss ++ fresh e ∷ []) ss b bs (take-append-le b.count ss (fresh e ∷ []) tracked.0)
+    same_blocks (ss ++ fresh e ∷ []) ss b bs (take-append-le b.count ss (fresh e ∷ []) tracked.0.0)
 
 pub declared_follows : (e : Entry) (t : Tracked) → AreTracked t.slots t.blocks
     → Follows (declared e t) (record { entries = e ∷ (known_in t).entries; blocks = (known_in t).blocks })
@@ -73,7 +75,7 @@ cut_tracked count ss [] tracked least = (refl, λ i s is. tracked i s (item_take
 cut_tracked count ss (b ∷ bs) tracked least =
     let begun = take b.count ss in
     let long = length-reverse (map (start_in (suc (length bs))) begun)
-    ∙ length-map begun (start_in (suc (length bs))) ∙ length-take-le b.count ss tracked.0 in
+    ∙ length-map begun (start_in (suc (length bs))) ∙ length-take-le b.count ss tracked.0.0 in
     let low : b.count ≤ count = omega arith in
     (same_blocks (take count ss) ss b bs (take-take b.count count ss low), left_tracked count ss b bs low tracked)
 
@@ -90,8 +92,18 @@ cut_follows count t tracked least =
 pub list_room : (n : ℕ) (s : Slot) (ss : List Slot) (b : Branching) (bs : List Branching) → AreTracked ss (b ∷ bs)
     → item_at n (take b.count ss) ≡ Some s → nat_eq s.mark (suc (length bs)) ≡ false → length b.changes < b.count
 list_room n s ss b bs tracked is test =
-    let less = fewer (suc (length bs)) n (take b.count ss) s is test in
-    let room = tracked.3 in
+    let d = suc (length bs) in
+    let less = fewer (is_marked d) (marked d) n (take b.count ss) s is test (same_number d d refl) in
+    let room = tracked.0.3 in
+    omega arith
+
+pub branch_room : (n : ℕ) (s : Slot) (ss : List Slot) (b : Branching) (bs : List Branching) → AreTracked ss (b ∷ bs)
+    → item_at n (take b.count ss) ≡ Some s → is_recent (suc (length bs)) s ≡ false → length b.recent < b.count
+branch_room n s ss b bs tracked is test =
+    let d = suc (length bs) in
+    let less = fewer (is_recent d) (λ k. touched (marked d k)) n (take b.count ss) s is test
+    (ap (λ t. cond t true false) (same_number d d refl)) in
+    let room = tracked.2 in
     omega arith
 
 pub lists_hold : ListsHold
@@ -106,4 +118,5 @@ lists_hold = record {
   declaring = declared_follows;
   leaving = cut_follows;
   room = list_room;
+  branch_room = branch_room;
 }

@@ -8,10 +8,11 @@ use Rattle.scalar_ranges.specs.Environments.{item_at}
 use Rattle.scalar_ranges.specs.Moves.{is_one_of, end}
 use Rattle.scalar_ranges.specs.Changes.{Slot, Change, Branching, Tracked, modify, entry_in, start_in, end_in, restored}
 use Rattle.scalar_ranges.specs.Changes.{undone, before, seen, ends_seen, blocks_in, numbers_of}
-use Rattle.scalar_ranges.specs.Changes.{AreTracked, note, with_new, meaning_after, put_if, puts, ended_in, Follows}
+use Rattle.scalar_ranges.specs.Changes.{AreTracked, noted, with_new, meaning_after, put_if, puts, ended_in, Follows}
 use Rattle.scalar_ranges.proofs.Numbered.{modify_long, map_modify, map_unmodified}
 use Rattle.scalar_ranges.proofs.Numbered.{other_item, same_items, numbers_alike, map_again, item_mapped}
-use Rattle.scalar_ranges.proofs.Tracking.{notes_well, first_not, second_not}
+use Rattle.scalar_ranges.proofs.Tracking.{first_not, second_not}
+use Rattle.scalar_ranges.proofs.Touching.{notes_well}
 use Rattle.scalar_ranges.proofs.Following.{put_follows}
 
 -- ---- a block ends
@@ -122,14 +123,14 @@ record PutWell (o : Option Meaning) (n : ℕ) (t after : Tracked) : Type 0 where
 put_well : (o : Option Meaning) (n : ℕ) (t : Tracked) → AreTracked t.slots t.blocks → PutWell o n t (put_if o n t)
 put_well None n t tracked = record { names = refl; meanings = refl; blocks = refl; tracked = tracked }
 put_well (Some m) n t tracked =
-    let noted = note n t.slots t.blocks in
+    let listed = noted n t.slots t.blocks in
     let well = notes_well n t.slots t.blocks tracked in
     let follows = put_follows n m t tracked in
     record {
-      names = map_unmodified (λ (s : Slot). s.name) (with_new m) n noted.slots (λ s is. refl)
-          ∙ names_seen noted.slots ∙ ap (map (λ (e : Entry). e.name)) well.entries ∙ sym (names_seen t.slots);
-      meanings = map_modify (λ (s : Slot). s.meaning) (with_new m) (λ k. m) n noted.slots (λ s is. refl)
-          ∙ ap (modify (λ k. m) n) (meanings_seen noted.slots ∙ ap (map (λ (e : Entry). e.meaning)) well.entries
+      names = map_unmodified (λ (s : Slot). s.name) (with_new m) n listed.slots (λ s is. refl)
+          ∙ names_seen listed.slots ∙ ap (map (λ (e : Entry). e.name)) well.entries ∙ sym (names_seen t.slots);
+      meanings = map_modify (λ (s : Slot). s.meaning) (with_new m) (λ k. m) n listed.slots (λ s is. refl)
+          ∙ ap (modify (λ k. m) n) (meanings_seen listed.slots ∙ ap (map (λ (e : Entry). e.meaning)) well.entries
           ∙ sym (meanings_seen t.slots));
       blocks = follows.blocks;
       tracked = follows.tracked;
@@ -188,7 +189,7 @@ module _ (ss : List Slot) (b : Branching) (bs : List Branching) (tracked : AreTr
   finals = map (meaning_after depth b.ended) base
 
   well : PutsWell (numbers_of b.changes) finals begins (ended_in ss (b ∷ bs))
-  well = puts_well (numbers_of b.changes) finals begins tracked.4
+  well = puts_well (numbers_of b.changes) finals begins tracked.3
 
   meanings_are : meanings_of (ended_in ss (b ∷ bs)).slots ≡ finals
   meanings_are =
@@ -197,7 +198,7 @@ module _ (ss : List Slot) (b : Branching) (bs : List Branching) (tracked : AreTr
       ∙ sym (length-map base (meaning_after depth b.ended)))
       (λ i others. item_mapped (λ (s : Slot). s.meaning) i (before b ss)
       ∙ ap (option_map (λ (s : Slot). s.meaning)) (undone_other b.changes i base others)
-      ∙ final_by depth b.ended (item_at i base) (λ s is. tracked.2 i s is others)
+      ∙ final_by depth b.ended (item_at i base) (λ s is. tracked.0.2 i s is others)
       ∙ sym (item_mapped (meaning_after depth b.ended) i base))
 
   entries_are : map entry_in (ended_in ss (b ∷ bs)).slots ≡ map (final_entry depth b.ended) base

@@ -16,7 +16,10 @@ pub mod Fitting
 pub mod Widening
 pub mod Named
 pub mod Numbered
+pub mod Hulls
+pub mod Counting
 pub mod Tracking
+pub mod Touching
 pub mod Following
 pub mod Ending
 pub mod Components

@@ -8,12 +8,13 @@ use Rattle.scalar_ranges.specs.declared.slots.Slot as code_slot
 use Rattle.scalar_ranges.specs.declared.slots.Branching as code_branching
 use Rattle.scalar_ranges.specs.Environments.{item_at}
 use Rattle.scalar_ranges.specs.Changes.{Slot, Branching, modify, AreTracked, marked, is_new_in, is_new}
-use Rattle.scalar_ranges.specs.Changes.{listing, note_if, note}
+use Rattle.scalar_ranges.specs.Changes.{listing, note_if, note, touched, touching, is_open_in, is_open, touch_if, touch}
 use Rattle.scalar_ranges.specs.ChangeViews.{slot_of, slots_from, branching_of, branchings_from, tracked_from}
 use Rattle.scalar_ranges.specs.ChangeViews.{BelongTogether}
 use Rattle.scalar_ranges.proofs.Numbered.{item_taken}
 use Rattle.scalar_ranges.proofs.Rows.{one_longer}
-use Rattle.scalar_ranges.proofs.Cutting.{list_room}
+use Rattle.scalar_ranges.proofs.Touching.{open_is, open_recent}
+use Rattle.scalar_ranges.proofs.Cutting.{list_room, branch_room}
 use Rattle.scalar_ranges.proofs.SlotLoops.{slots_changed, slot_at, item_within, item_beyond, item_below}
 use Rattle.scalar_ranges.proofs.Nesting.{beyond}
 
@@ -65,18 +66,26 @@ not_is : (t : Bool) → not t ≡ cond t false true
 not_is true = refl
 not_is false = refl
 
+-- an entry with which the innermost block began
+within : (n depth : ℕ) (slots : List code_slot.Slot) (blocks rest : List code_branching.Branching)
+    (b : code_branching.Branching) (d : code_slot.Slot) → Innermost blocks rest b depth → BelongTogether slots blocks
+    → n < b.count → d ≡ get_or slots n d → item_at n (take b.count (slots_from slots)) ≡ Some (slot_of d)
+within n depth slots blocks rest b d inner tracked less found =
+    let ss = slots_from slots in
+    let long = length-map slots slot_of in
+    let enough = (subst (AreTracked ss) inner.seen tracked).0.0 in
+    let inside : n < length slots = omega arith in
+    item_within n b.count ss less ∙ slot_at slots n d inside found
+
 pub new_within : (n depth : ℕ) (slots : List code_slot.Slot) (blocks rest : List code_branching.Branching)
     (b : code_branching.Branching) (d : code_slot.Slot) → Innermost blocks rest b depth → BelongTogether slots blocks
     → n < b.count → d ≡ get_or slots n d
     → not (nat_eq d.mark depth) ≡ is_new n (slots_from slots) (branchings_from blocks)
 new_within n depth slots blocks rest b d inner tracked less found =
     let ss = slots_from slots in
-    let long = length-map slots slot_of in
-    let enough = (subst (AreTracked ss) inner.seen tracked).0 in
-    let inside : n < length slots = omega arith in
     not_is (nat_eq d.mark depth) ∙ ap (λ k. cond (nat_eq d.mark k) false true) inner.deep
-    ∙ ap (is_new_in (suc (length (branchings_from rest)))) (sym (item_within n b.count ss less
-    ∙ slot_at slots n d inside found))
+    ∙ ap (is_new_in (suc (length (branchings_from rest)))) (sym (within n depth slots blocks rest b d inner tracked less
+    found))
     ∙ ap (is_new n ss) (sym inner.seen)
 
 pub new_beyond : (n depth : ℕ) (slots : List code_slot.Slot) (blocks rest : List code_branching.Branching)
@@ -88,6 +97,72 @@ new_beyond n depth slots blocks rest b inner least =
     beyond n b.count least
     ∙ ap (is_new_in (suc (length (branchings_from rest)))) (sym (item_beyond n (take b.count ss) (omega arith)))
     ∙ ap (is_new n ss) (sym inner.seen)
+
+-- ---- whether an entry is open
+
+pub open_within : (n depth : ℕ) (slots : List code_slot.Slot) (blocks rest : List code_branching.Branching)
+    (b : code_branching.Branching) (d : code_slot.Slot) → Innermost blocks rest b depth → BelongTogether slots blocks
+    → n < b.count → d ≡ get_or slots n d
+    → is_open_in depth (Some (slot_of d)) ≡ is_open n (slots_from slots) (branchings_from blocks)
+open_within n depth slots blocks rest b d inner tracked less found =
+    ap (λ k. is_open_in k (Some (slot_of d))) inner.deep
+    ∙ ap (is_open_in (suc (length (branchings_from rest))))
+    (sym (within n depth slots blocks rest b d inner tracked less found))
+    ∙ ap (is_open n (slots_from slots)) (sym inner.seen)
+
+pub open_beyond : (n depth : ℕ) (slots : List code_slot.Slot) (blocks rest : List code_branching.Branching)
+    (b : code_branching.Branching) → Innermost blocks rest b depth → b.count ≤ n
+    → nat_lt n b.count ≡ is_open n (slots_from slots) (branchings_from blocks)
+open_beyond n depth slots blocks rest b inner least =
+    let ss = slots_from slots in
+    let cut = length-take b.count ss in
+    beyond n b.count least
+    ∙ ap (is_open_in (suc (length (branchings_from rest)))) (sym (item_beyond n (take b.count ss) (omega arith)))
+    ∙ ap (is_open n ss) (sym inner.seen)
+
+-- the program's blocks where an entry is open: its slot, and that there is room for it
+pub record Opened (n : ℕ) (ss : List Slot) (b : Branching) (bs : List Branching) : Type 0 where
+  pub free : is_open n ss (b ∷ bs) ≡ true
+  pub within : n < length ss
+  pub room : length b.recent < b.count
+
+opened : (n : ℕ) (ss : List Slot) (b : Branching) (bs : List Branching) → AreTracked ss (b ∷ bs)
+    → is_open n ss (b ∷ bs) ≡ true → Opened n ss b bs
+opened n ss b bs tracked free =
+    let o = open_is n ss b bs free in
+    record {
+      free = free;
+      within = item_below n ss o.slot (item_taken b.count n ss o.slot o.is);
+      room = branch_room n o.slot ss b bs tracked o.is (open_recent o);
+    }
+
+pub opened_here : (n depth : ℕ) (slots : List code_slot.Slot) (blocks rest : List code_branching.Branching)
+    (b : code_branching.Branching) → Innermost blocks rest b depth → BelongTogether slots blocks
+    → is_open n (slots_from slots) (branchings_from blocks) ≡ true
+    → Opened n (slots_from slots) (branching_of b) (branchings_from rest)
+opened_here n depth slots blocks rest b inner tracked free =
+    opened n (slots_from slots) (branching_of b) (branchings_from rest)
+    (subst (AreTracked (slots_from slots)) inner.seen tracked)
+    (sym (ap (is_open n (slots_from slots)) inner.seen) ∙ free)
+
+pub touched_is : (n depth : ℕ) (slots now : List code_slot.Slot) (blocks rest all : List code_branching.Branching)
+    (b after : code_branching.Branching) (x d : code_slot.Slot) → Innermost blocks rest b depth
+    → Opened n (slots_from slots) (branching_of b) (branchings_from rest)
+    → d ≡ get_or slots n d → now ≡ set slots n x → slot_of x ≡ touched (slot_of d)
+    → all ≡ rest ++ after ∷ [] → branching_of after ≡ touching n (branching_of b)
+    → tracked_from now all ≡ touch n (slots_from slots) (branchings_from blocks)
+touched_is n depth slots now blocks rest all b after x d inner opened found slot_set marks pushed listed =
+    let bs = branchings_from rest in
+    let here = branching_of b in
+    let ss = slots_from slots in
+    let long = length-map slots slot_of in
+    let less = opened.within in
+    let inside : n < length slots = omega arith in
+    let changed = ap slots_from slot_set ∙ slots_changed touched slots n x d inside found marks in
+    let last = ap branchings_from pushed ∙ branchings_more rest after ∙ ap (λ k. k ∷ bs) listed in
+    (λ i. record { slots = changed i; blocks = last i })
+    ∙ ap (λ t. touch_if t n ss here bs) (sym opened.free)
+    ∙ ap (touch n ss) (sym inner.seen)
 
 -- ---- an entry that comes to the list
 

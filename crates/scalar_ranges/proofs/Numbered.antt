@@ -137,7 +137,22 @@ same_items (x ∷ xs) [] same = absurd (cc (same 0))
 same_items (x ∷ xs) (y ∷ ys) same =
     let first : x ≡ y = cc (same 0) in (λ i. first i ∷ same_items xs ys (λ k. same (suc k)) i)
 
+either_of : (t u v : Bool) → cond t true (cond u true v) ≡ cond (cond t true u) true v
+either_of true u v = refl
+either_of false u v = refl
+
+pub in_either : (ms ns : List ℕ) (k : ℕ) → is_one_of (ms ++ ns) k ≡ cond (is_one_of ms k) true (is_one_of ns k)
+in_either [] ns k = refl
+in_either (m ∷ ms) ns k =
+    ap (λ t. cond (nat_eq m k) true t) (in_either ms ns k)
+    ∙ either_of (nat_eq m k) (is_one_of ms k) (is_one_of ns k)
+
 -- ---- one after another
+
+pub each_both : {A : Type 0} (f : A → A) (ms ns : List ℕ) (xs : List A)
+    → each f ns (each f ms xs) ≡ each f (ms ++ ns) xs
+each_both f [] ns xs = refl
+each_both f (m ∷ ms) ns xs = each_both f ms ns (modify f m xs)
 
 pub each_more : {A : Type 0} (f : A → A) (ns : List ℕ) (n : ℕ) (xs : List A)
     → each f (ns ++ n ∷ []) xs ≡ modify f n (each f ns xs)

@@ -1,18 +1,19 @@
 -- What changes where the innermost block has an entry in its list leaves what the blocks know.
-use Rattle.std.proofs.Common.{◌≡◌, ℕ, zero, suc, ◌+◌, ◌≤◌, Bool, true, false, cond, List, [], ◌∷◌, ◌++◌, length, map}
-use Rattle.std.proofs.Common.{reverse, take, Option, Some, None, refl, sym, ap, subst, arith, ◌∙◌, nat_eq}
+use Rattle.std.proofs.Common.{◌≡◌, ℕ, suc, ◌+◌, ◌≤◌, Bool, true, false, cond, List, [], ◌∷◌, ◌++◌, length}
+use Rattle.std.proofs.Common.{map, reverse, take, Option, Some, None, refl, sym, ap, subst, arith, ◌∙◌, nat_eq}
 use Rattle.scalar_ranges.specs.Entries.{Meaning}
 use Rattle.scalar_ranges.specs.Environments.{item_at}
-use Rattle.scalar_ranges.specs.Moves.{is_one_of, at_number, with_meaning}
+use Rattle.scalar_ranges.specs.Moves.{is_one_of, hull_meaning}
 use Rattle.scalar_ranges.specs.Changes.{Slot, Change, Branching, Tracked, modify, entry_in, start_in, end_in, restored}
-use Rattle.scalar_ranges.specs.Changes.{undone, before, seen, ends_seen, blocks_in, numbers_of, AreListed}
-use Rattle.scalar_ranges.specs.Changes.{AreUpTo, unmarked, AreTracked, IsWithin, marked, listing, note_if, note}
-use Rattle.scalar_ranges.specs.Changes.{with_new, put_by, each}
-use Rattle.scalar_ranges.proofs.Rows.{same_number}
+use Rattle.scalar_ranges.specs.Changes.{undone, before, ends_seen, blocks_in, numbers_of, AreListed}
+use Rattle.scalar_ranges.specs.Changes.{AreUpTo, without, is_marked, is_recent, AreMarked, IsSettled, AreSettled}
+use Rattle.scalar_ranges.specs.Changes.{AreTracked, IsWithin, marked, listing, note_if, note, with_new, with_end, each}
+use Rattle.scalar_ranges.proofs.Rows.{same_number, one_longer}
 use Rattle.scalar_ranges.proofs.Widening.{one_more}
-use Rattle.scalar_ranges.proofs.Numbered.{modify_long, take_modify, map_modify, map_unmodified, unmodified}
-use Rattle.scalar_ranges.proofs.Numbered.{modify_over, reverse_modify}
-use Rattle.scalar_ranges.proofs.Numbered.{modify_swap, items_modified, numbers_alike}
+use Rattle.scalar_ranges.proofs.Hulls.{meaning_itself}
+use Rattle.scalar_ranges.proofs.Counting.{without_same, fewer}
+use Rattle.scalar_ranges.proofs.Numbered.{modify_long, take_modify, map_unmodified, unmodified}
+use Rattle.scalar_ranges.proofs.Numbered.{modify_over, modify_swap, items_modified, numbers_alike}
 
 -- ---- what is taken back
 
@@ -23,8 +24,14 @@ undone_more (k ∷ cs) c ss = ap (modify (restored k.before) k.number) (undone_m
 
 restored_alike : (b : Slot) (f : Slot → Slot) → ((s : Slot) → (f s).name ≡ s.name) → (s : Slot)
     → restored b (f s) ≡ restored b s
-restored_alike b f names s =
-    ap (λ n. record { name = n; meaning = b.meaning; mark = b.mark; start = b.start; ends = b.ends }) (names s)
+restored_alike b f names s = ap (λ n. restored b (record {
+  name = n;
+  meaning = s.meaning;
+  mark = s.mark;
+  recent = s.recent;
+  start = s.start;
+  ends = s.ends;
+})) (names s)
 
 over_by : (t : Bool) (cs : List Change) (c : Change) (b : Slot) (f : Slot → Slot) (n : ℕ) (ss : List Slot)
     → nat_eq n c.number ≡ t
@@ -69,107 +76,126 @@ undone_listed (c ∷ cs) f n ss listed names =
 -- ---- a slot that is in the list
 
 -- the innermost block has the entry with this number in its list, if it began with it
+abbrev pub IsListed : ℕ → List Slot → List Branching → Type 0
+IsListed n ss [] = Unit {0}
+IsListed n ss (b ∷ bs) =
+    (s : Slot) → item_at n (take b.count ss) ≡ Some s → nat_eq s.mark (suc (length bs)) ≡ true
+
+-- and its branch has it
 abbrev pub IsNoted : ℕ → List Slot → List Branching → Type 0
 IsNoted n ss [] = Unit {0}
 IsNoted n ss (b ∷ bs) =
-    (s : Slot) → item_at n (take b.count ss) ≡ Some s → nat_eq s.mark (suc (length bs)) ≡ true
+    (s : Slot) → item_at n (take b.count ss) ≡ Some s
+    → (nat_eq s.mark (suc (length bs)) ≡ true) × (is_one_of b.recent n ≡ true)
 
 undone_by : (t : Bool) (d : ℕ) (cs : List Change) (f : Slot → Slot) (n : ℕ) (ss : List Slot)
-    → is_one_of (numbers_of cs) n ≡ t → IsWithin f → AreListed d (numbers_of cs) ss
+    → is_one_of (numbers_of cs) n ≡ t → ((s : Slot) → (f s).name ≡ s.name) → AreListed d (numbers_of cs) ss
     → ((s : Slot) → item_at n ss ≡ Some s → nat_eq s.mark d ≡ true) → undone cs (modify f n ss) ≡ undone cs ss
-undone_by true d cs f n ss test within listed noted = undone_listed cs f n ss test within.names
-undone_by false d cs f n ss test within listed noted =
+undone_by true d cs f n ss test names listed noted = undone_listed cs f n ss test names
+undone_by false d cs f n ss test names listed noted =
     ap (undone cs) (unmodified f n ss (λ s is. absurd (cc (noted s is, listed n s is test))))
 
 -- the slots when the innermost block began
-pub before_same : (f : Slot → Slot) (n : ℕ) (ss : List Slot) (b : Branching) (bs : List Branching) → IsWithin f
-    → IsNoted n ss (b ∷ bs) → AreTracked ss (b ∷ bs) → before b (modify f n ss) ≡ before b ss
-before_same f n ss b bs within noted tracked =
+pub before_same : (f : Slot → Slot) (n : ℕ) (ss : List Slot) (b : Branching) (bs : List Branching)
+    → ((s : Slot) → (f s).name ≡ s.name) → IsListed n ss (b ∷ bs) → AreMarked ss b bs
+    → before b (modify f n ss) ≡ before b ss
+before_same f n ss b bs names listed marked =
     ap (undone b.changes) (take_modify f b.count n ss)
-    ∙ undone_by (is_one_of (numbers_of b.changes) n) (suc (length bs)) b.changes f n (take b.count ss) refl within
-    tracked.2 noted
+    ∙ undone_by (is_one_of (numbers_of b.changes) n) (suc (length bs)) b.changes f n (take b.count ss) refl names
+    marked.2 listed
 
-unmarked_by : (t u : Bool) (d : ℕ) (ss ks : List Slot) → t ≡ u → unmarked d ss ≡ unmarked d ks
-    → cond t (unmarked d ss) (suc (unmarked d ss)) ≡ cond u (unmarked d ks) (suc (unmarked d ks))
-unmarked_by t u d ss ks same h = λ i. cond (same i) (h i) (suc (h i))
-
-unmarked_same : (d : ℕ) (f : Slot → Slot) (n : ℕ) (ss : List Slot) → ((s : Slot) → (f s).mark ≡ s.mark)
-    → unmarked d (modify f n ss) ≡ unmarked d ss
-unmarked_same d f n [] marks = refl
-unmarked_same d f zero (s ∷ ss) marks =
-    unmarked_by (nat_eq (f s).mark d) (nat_eq s.mark d) d ss ss (ap (λ m. nat_eq m d) (marks s)) refl
-unmarked_same d f (suc n) (s ∷ ss) marks =
-    unmarked_by (nat_eq s.mark d) (nat_eq s.mark d) d (modify f n ss) ss refl (unmarked_same d f n ss marks)
-
-up_to_kept : (f : Slot → Slot) (n d : ℕ) (ss : List Slot) → IsWithin f → AreUpTo d ss → AreUpTo d (modify f n ss)
-up_to_kept f n d ss within all =
+up_to_kept : (f : Slot → Slot) (n d : ℕ) (ss : List Slot) → ((s : Slot) → (f s).mark ≡ s.mark) → AreUpTo d ss
+    → AreUpTo d (modify f n ss)
+up_to_kept f n d ss marks all =
     items_modified (λ i s. s.mark ≤ d) f n ss (λ k s apart is. all k s is)
-    (λ s is. subst (λ m. m ≤ d) (sym (within.marks s)) (all n s is))
+    (λ s is. subst (λ m. m ≤ d) (sym (marks s)) (all n s is))
 
-listed_kept : (f : Slot → Slot) (n d : ℕ) (ns : List ℕ) (ss : List Slot) → IsWithin f → AreListed d ns ss
-    → AreListed d ns (modify f n ss)
-listed_kept f n d ns ss within all =
+listed_kept : (f : Slot → Slot) (n d : ℕ) (ns : List ℕ) (ss : List Slot) → ((s : Slot) → (f s).mark ≡ s.mark)
+    → AreListed d ns ss → AreListed d ns (modify f n ss)
+listed_kept f n d ns ss marks all =
     items_modified (λ i s. is_one_of ns i ≡ false → nat_eq s.mark d ≡ false) f n ss
     (λ k s apart is others. all k s is others)
-    (λ s is others. subst (λ m. nat_eq m d ≡ false) (sym (within.marks s)) (all n s is others))
+    (λ s is others. subst (λ m. nat_eq m d ≡ false) (sym (marks s)) (all n s is others))
 
-pub still_tracked : (f : Slot → Slot) (n : ℕ) (ss : List Slot) (b : Branching) (bs : List Branching) → IsWithin f
-    → before b (modify f n ss) ≡ before b ss → AreTracked ss (b ∷ bs) → AreTracked (modify f n ss) (b ∷ bs)
-still_tracked f n ss b bs within behind tracked =
+pub still_marked : (f : Slot → Slot) (n : ℕ) (ss : List Slot) (b : Branching) (bs : List Branching)
+    → ((s : Slot) → (f s).mark ≡ s.mark) → AreMarked ss b bs → AreMarked (modify f n ss) b bs
+still_marked f n ss b bs marks marked =
     let d = suc (length bs) in
     let at = take_modify f b.count n ss in
-    let many = ap (unmarked d) at ∙ unmarked_same d f n (take b.count ss) within.marks in
+    let many = ap (without (is_marked d)) at
+    ∙ without_same (is_marked d) f n (take b.count ss) (λ s is. ap (λ m. nat_eq m d) (marks s)) in
     let long = modify_long f n ss in (
-      subst (λ k. b.count ≤ k) (sym long) tracked.0,
-      up_to_kept f n d ss within tracked.1,
+      subst (λ k. b.count ≤ k) (sym long) marked.0,
+      up_to_kept f n d ss marks marked.1,
       subst (AreListed d (numbers_of b.changes)) (sym at)
-          (listed_kept f n d (numbers_of b.changes) (take b.count ss) within tracked.2),
-      subst (λ k. k + length b.changes ≤ b.count) (sym many) tracked.3,
-      subst (λ k. AreTracked k bs) (sym behind) tracked.4,
+          (listed_kept f n d (numbers_of b.changes) (take b.count ss) marks marked.2),
+      subst (λ k. k + length b.changes ≤ b.count) (sym many) marked.3,
     )
+
+-- a change of what the branch has in its list
+settled_kept : (f : Slot → Slot) (n d : ℕ) (b : Branching) (ss : List Slot)
+    → ((s : Slot) → item_at n ss ≡ Some s → is_one_of b.recent n ≡ true) → AreSettled d b ss
+    → AreSettled d b (modify f n ss)
+settled_kept f n d b ss noted all =
+    items_modified (λ i s. is_one_of b.recent i ≡ false → IsSettled d b i s) f n ss
+    (λ k s apart is others. all k s is others)
+    (λ s is others. absurd (cc (noted s is, others)))
+
+recent_alike : (d : ℕ) (f : Slot → Slot) (s : Slot) → IsWithin f → is_recent d (f s) ≡ is_recent d s
+recent_alike d f s within = λ i. cond (nat_eq (within.marks s i) d) (within.recents s i) false
 
 pub tracked_kept : (f : Slot → Slot) (n : ℕ) (ss : List Slot) (bs : List Branching) → IsWithin f → IsNoted n ss bs
     → AreTracked ss bs → AreTracked (modify f n ss) bs
-tracked_kept f n ss [] within noted tracked = up_to_kept f n 0 ss within tracked
+tracked_kept f n ss [] within noted tracked = up_to_kept f n 0 ss within.marks tracked
 tracked_kept f n ss (b ∷ bs) within noted tracked =
-    still_tracked f n ss b bs within (before_same f n ss b bs within noted tracked) tracked
+    let d = suc (length bs) in
+    let at = take_modify f b.count n ss in
+    let many = ap (without (is_recent d)) at
+    ∙ without_same (is_recent d) f n (take b.count ss) (λ s is. recent_alike d f s within) in (
+      still_marked f n ss b bs within.marks tracked.0,
+      subst (AreSettled d b) (sym at)
+          (settled_kept f n d b (take b.count ss) (λ s is. (noted s is).1) tracked.1),
+      subst (λ k. k + length b.recent ≤ b.count) (sym many) tracked.2,
+      subst (λ k. AreTracked k bs) (sym (before_same f n ss b bs within.names (λ s is. (noted s is).0) tracked.0))
+          tracked.3,
+    )
 
 -- A change of slots of one depth alone, of one after another.
 pub record IsInside (d : ℕ) (f : Slot → Slot) : Type 0 where
-  pub within : IsWithin f
+  pub names : (s : Slot) → (f s).name ≡ s.name
+  pub marks : (s : Slot) → (f s).mark ≡ s.mark
   pub others : (s : Slot) → nat_eq s.mark d ≡ false → f s ≡ s
 
 inside_by : (t : Bool) (d : ℕ) (cs : List Change) (f : Slot → Slot) (n : ℕ) (ss : List Slot)
     → is_one_of (numbers_of cs) n ≡ t → IsInside d f → AreListed d (numbers_of cs) ss
     → undone cs (modify f n ss) ≡ undone cs ss
-inside_by true d cs f n ss test inside listed = undone_listed cs f n ss test inside.within.names
+inside_by true d cs f n ss test inside listed = undone_listed cs f n ss test inside.names
 inside_by false d cs f n ss test inside listed =
     ap (undone cs) (unmodified f n ss (λ s is. inside.others s (listed n s is test)))
 
 inside_one : (f : Slot → Slot) (n : ℕ) (ss : List Slot) (b : Branching) (bs : List Branching)
-    → IsInside (suc (length bs)) f → AreTracked ss (b ∷ bs) → before b (modify f n ss) ≡ before b ss
-inside_one f n ss b bs inside tracked =
+    → IsInside (suc (length bs)) f → AreMarked ss b bs → before b (modify f n ss) ≡ before b ss
+inside_one f n ss b bs inside marked =
     ap (undone b.changes) (take_modify f b.count n ss)
     ∙ inside_by (is_one_of (numbers_of b.changes) n) (suc (length bs)) b.changes f n (take b.count ss) refl inside
-    tracked.2
+    marked.2
 
 pub before_each : (f : Slot → Slot) (ns : List ℕ) (ss : List Slot) (b : Branching) (bs : List Branching)
-    → IsInside (suc (length bs)) f → AreTracked ss (b ∷ bs) → before b (each f ns ss) ≡ before b ss
-before_each f [] ss b bs inside tracked = refl
-before_each f (n ∷ ns) ss b bs inside tracked =
-    let one = inside_one f n ss b bs inside tracked in
-    before_each f ns (modify f n ss) b bs inside (still_tracked f n ss b bs inside.within one tracked) ∙ one
+    → IsInside (suc (length bs)) f → AreMarked ss b bs → before b (each f ns ss) ≡ before b ss
+before_each f [] ss b bs inside marked = refl
+before_each f (n ∷ ns) ss b bs inside marked =
+    before_each f ns (modify f n ss) b bs inside (still_marked f n ss b bs inside.marks marked)
+    ∙ inside_one f n ss b bs inside marked
 
-pub tracked_each : (f : Slot → Slot) (ns : List ℕ) (ss : List Slot) (b : Branching) (bs : List Branching)
-    → IsInside (suc (length bs)) f → AreTracked ss (b ∷ bs) → AreTracked (each f ns ss) (b ∷ bs)
-tracked_each f [] ss b bs inside tracked = tracked
-tracked_each f (n ∷ ns) ss b bs inside tracked =
-    tracked_each f ns (modify f n ss) b bs inside
-    (still_tracked f n ss b bs inside.within (inside_one f n ss b bs inside tracked) tracked)
+pub marked_each : (f : Slot → Slot) (ns : List ℕ) (ss : List Slot) (b : Branching) (bs : List Branching)
+    → IsInside (suc (length bs)) f → AreMarked ss b bs → AreMarked (each f ns ss) b bs
+marked_each f [] ss b bs inside marked = marked
+marked_each f (n ∷ ns) ss b bs inside marked =
+    marked_each f ns (modify f n ss) b bs inside (still_marked f n ss b bs inside.marks marked)
 
 -- an entry that means something else
 pub new_within : (m : Meaning) → IsWithin (with_new m)
-new_within m = record { names = λ s. refl; marks = λ s. refl }
+new_within m = record { names = λ s. refl; marks = λ s. refl; recents = λ s. refl }
 
 new_start : (d : ℕ) (m : Meaning) (s : Slot) → nat_eq s.mark d ≡ true → start_in d (with_new m s) ≡ start_in d s
 new_start d m s noted =
@@ -188,20 +214,20 @@ new_blocks m n ss (b ∷ bs) noted tracked =
     let d = suc (length bs) in
     let at = take_modify (with_new m) b.count n ss in
     let starts = ap (map (start_in d)) at
-    ∙ map_unmodified (start_in d) (with_new m) n (take b.count ss) (λ s is. new_start d m s (noted s is)) in
+    ∙ map_unmodified (start_in d) (with_new m) n (take b.count ss) (λ s is. new_start d m s (noted s is).0) in
     let ends = ap (map (end_in d)) at
-    ∙ map_unmodified (end_in d) (with_new m) n (take b.count ss) (λ s is. new_end d m s (noted s is)) in
-    let behind = before_same (with_new m) n ss b bs (new_within m) noted tracked in
+    ∙ map_unmodified (end_in d) (with_new m) n (take b.count ss) (λ s is. new_end d m s (noted s is).0) in
+    let behind = before_same (with_new m) n ss b bs (λ s. refl) (λ s is. (noted s is).0) tracked.0 in
     λ i. record { start = reverse (starts i); ends = ends_seen b.ended (reverse (ends i)) } ∷ blocks_in (behind i) bs
 
--- ---- a slot that comes to the list
+-- ---- a slot that comes to the lists
 
--- what is so after an entry was noted
-pub record NotesWell (n : ℕ) (ss : List Slot) (bs : List Branching) (t : Tracked) : Type 0 where
+-- what is so after an entry came to the block's list
+pub record ListsWell (n : ℕ) (ss : List Slot) (bs : List Branching) (t : Tracked) : Type 0 where
   pub entries : map entry_in t.slots ≡ map entry_in ss
   pub blocks : blocks_in t.slots t.blocks ≡ blocks_in ss bs
   pub tracked : AreTracked t.slots t.blocks
-  pub noted : IsNoted n t.slots t.blocks
+  pub listed : IsListed n t.slots t.blocks
 
 pub either : {A : Type 0} (t : Bool) (x : A) → cond t x x ≡ x
 either true x = refl
@@ -217,13 +243,21 @@ marked_end d s test =
     (λ i. record { name = s.name; meaning = either (nat_eq d d) s.meaning i })
     ∙ (λ i. record { name = s.name; meaning = cond (sym test i) s.ends s.meaning })
 
+hull_or : (ended : Bool) (m : Meaning) → cond ended (hull_meaning m m) m ≡ m
+hull_or true m = meaning_itself m
+hull_or false m = refl
+
+marked_settled : (d i : ℕ) (b : Branching) (s : Slot) → IsSettled d b i (marked d s)
+marked_settled d i b s = (
+  either (nat_eq d d) false,
+  either (nat_eq d d) (marked d s),
+  λ even apart. ap (λ m. cond (nat_eq d d) (with_end m (marked d s)) (marked d s)) (hull_or b.ended s.meaning)
+      ∙ either (nat_eq d d) (marked d s),
+)
+
 numbers_more : (cs : List Change) (c : Change) → numbers_of (cs ++ c ∷ []) ≡ numbers_of cs ++ c.number ∷ []
 numbers_more [] c = refl
 numbers_more (k ∷ cs) c = ap (λ ns. k.number ∷ ns) (numbers_more cs c)
-
-changes_more : (cs : List Change) (c : Change) → length (cs ++ c ∷ []) ≡ suc (length cs)
-changes_more [] c = refl
-changes_more (k ∷ cs) c = ap suc (changes_more cs c)
 
 pub first_not : (t u : Bool) → cond t true u ≡ false → t ≡ false
 first_not true u h = h
@@ -232,22 +266,6 @@ first_not false u h = refl
 pub second_not : (t u : Bool) → cond t true u ≡ false → u ≡ false
 second_not true u h = absurd (cc)
 second_not false u h = h
-
-fewer_by : (t : Bool) (d : ℕ) (ss ks : List Slot) → unmarked d ss ≡ suc (unmarked d ks)
-    → cond t (unmarked d ss) (suc (unmarked d ss)) ≡ suc (cond t (unmarked d ks) (suc (unmarked d ks)))
-fewer_by true d ss ks h = h
-fewer_by false d ss ks h = ap suc h
-
-pub fewer : (d n : ℕ) (ss : List Slot) (s : Slot) → item_at n ss ≡ Some s → nat_eq s.mark d ≡ false
-    → unmarked d ss ≡ suc (unmarked d (modify (marked d) n ss))
-fewer d n [] s is test = absurd (cc)
-fewer d zero (k ∷ ss) s is test =
-    let same : k ≡ s = cc in
-    let old : nat_eq k.mark d ≡ false = ap (λ (x : Slot). nat_eq x.mark d) same ∙ test in
-    ap (λ t. cond t (unmarked d ss) (suc (unmarked d ss))) old
-    ∙ ap (λ t. suc (cond t (unmarked d ss) (suc (unmarked d ss)))) (sym (same_number d d refl))
-fewer d (suc n) (k ∷ ss) s is test =
-    fewer_by (nat_eq k.mark d) d ss (modify (marked d) n ss) (fewer d n ss s is test)
 
 module _ (n : ℕ) (ss : List Slot) (b : Branching) (bs : List Branching) (s : Slot)
     (tracked : AreTracked ss (b ∷ bs)) (is : item_at n (take b.count ss) ≡ Some s)
@@ -295,81 +313,81 @@ module _ (n : ℕ) (ss : List Slot) (b : Branching) (bs : List Branching) (s : S
   listed : AreListed depth (numbers_of after.changes) (modify (marked depth) n base)
   listed = items_modified (λ i k. is_one_of (numbers_of after.changes) i ≡ false → nat_eq k.mark depth ≡ false)
       (marked depth) n base
-      (λ i k apart there others. tracked.2 i k there (first_not (is_one_of (numbers_of b.changes) i) (nat_eq n i)
+      (λ i k apart there others. tracked.0.2 i k there (first_not (is_one_of (numbers_of b.changes) i) (nat_eq n i)
       (sym (one_of i) ∙ others)))
       (λ k there others. absurd (cc (
         same_number n n refl,
         second_not (is_one_of (numbers_of b.changes) n) (nat_eq n n) (sym (one_of n) ∙ others),
       )))
 
-  now_tracked : AreTracked (modify (marked depth) n ss) (after ∷ bs)
-  now_tracked =
+  now_marked : AreMarked (modify (marked depth) n ss) after bs
+  now_marked =
       let long = modify_long (marked depth) n ss in
-      let less = fewer depth n base s is test in
-      let more = changes_more b.changes change in
-      let room = tracked.3 in
-      let many = ap (unmarked depth) at in (
-        subst (λ k. b.count ≤ k) (sym long) tracked.0,
-        items_modified (λ i k. k.mark ≤ depth) (marked depth) n ss (λ i k apart there. tracked.1 i k there)
+      let less = fewer (is_marked depth) (marked depth) n base s is test (same_number depth depth refl) in
+      let more = one_longer b.changes change in
+      let room = tracked.0.3 in
+      let many = ap (without (is_marked depth)) at in (
+        subst (λ k. b.count ≤ k) (sym long) tracked.0.0,
+        items_modified (λ i k. k.mark ≤ depth) (marked depth) n ss (λ i k apart there. tracked.0.1 i k there)
             (λ k there. omega arith),
         subst (AreListed depth (numbers_of after.changes)) (sym at) listed,
         subst (λ k. k + length after.changes ≤ b.count) (sym many) (omega arith),
-        subst (λ k. AreTracked k bs) (sym behind) tracked.4,
       )
 
-  now_noted : IsNoted n (modify (marked depth) n ss) (after ∷ bs)
-  now_noted k there =
+  now_settled : AreSettled depth after (modify (marked depth) n base)
+  now_settled = items_modified (λ i k. is_one_of b.recent i ≡ false → IsSettled depth after i k) (marked depth) n base
+      (λ i k apart there others. tracked.1 i k there others) (λ k there others. marked_settled depth n after k)
+
+  now_tracked : AreTracked (modify (marked depth) n ss) (after ∷ bs)
+  now_tracked =
+      let many = ap (without (is_recent depth)) at
+      ∙ without_same (is_recent depth) (marked depth) n base
+      (λ k there. either (nat_eq depth depth) false
+      ∙ ap (λ t. cond t k.recent false) (sym (unmarked_here k there))) in (
+        now_marked,
+        subst (AreSettled depth after) (sym at) now_settled,
+        subst (λ k. k + length b.recent ≤ b.count) (sym many) tracked.2,
+        subst (λ k. AreTracked k bs) (sym behind) tracked.3,
+      )
+
+  now_listed : IsListed n (modify (marked depth) n ss) (after ∷ bs)
+  now_listed k there =
       items_modified (λ i j. i ≡ n → nat_eq j.mark depth ≡ true) (marked depth) n base
       (λ i j apart here same. absurd (cc (same_number n i (sym same), apart)))
       (λ j here same. same_number depth depth refl) n k (subst (λ js. item_at n js ≡ Some k) at there) refl
 
 note_by : (t : Bool) (n : ℕ) (ss : List Slot) (b : Branching) (bs : List Branching) (s : Slot)
     → AreTracked ss (b ∷ bs) → item_at n (take b.count ss) ≡ Some s → nat_eq s.mark (suc (length bs)) ≡ t
-    → NotesWell n ss (b ∷ bs) (cond t (record { slots = ss; blocks = b ∷ bs })
+    → ListsWell n ss (b ∷ bs) (cond t (record { slots = ss; blocks = b ∷ bs })
     (record { slots = modify (marked (suc (length bs))) n ss; blocks = listing n s b ∷ bs }))
 note_by true n ss b bs s tracked is test = record {
   entries = refl;
   blocks = refl;
   tracked = tracked;
-  noted = λ k there. let same : s ≡ k = cc (is, there) in
+  listed = λ k there. let same : s ≡ k = cc (is, there) in
       subst (λ (x : Slot). nat_eq x.mark (suc (length bs)) ≡ true) same test;
 }
 note_by false n ss b bs s tracked is test = record {
   entries = map_unmodified entry_in (marked (suc (length bs))) n ss (λ k there. refl);
   blocks = blocks n ss b bs s tracked is test;
   tracked = now_tracked n ss b bs s tracked is test;
-  noted = now_noted n ss b bs s tracked is test;
+  listed = now_listed n ss b bs s tracked is test;
 }
 
 noted_if : (n : ℕ) (ss : List Slot) (b : Branching) (bs : List Branching) (o : Option Slot) → AreTracked ss (b ∷ bs)
-    → item_at n (take b.count ss) ≡ o → NotesWell n ss (b ∷ bs) (note_if (suc (length bs)) n ss b bs o)
+    → item_at n (take b.count ss) ≡ o → ListsWell n ss (b ∷ bs) (note_if (suc (length bs)) n ss b bs o)
 noted_if n ss b bs None tracked none = record {
   entries = refl;
   blocks = refl;
   tracked = tracked;
-  noted = λ k there. absurd (cc (none, there));
+  listed = λ k there. absurd (cc (none, there));
 }
 noted_if n ss b bs (Some s) tracked is = note_by (nat_eq s.mark (suc (length bs))) n ss b bs s tracked is refl
 
-pub notes_well : (n : ℕ) (ss : List Slot) (bs : List Branching) → AreTracked ss bs
-    → NotesWell n ss bs (note n ss bs)
-notes_well n ss [] tracked = record { entries = refl; blocks = refl; tracked = tracked; noted = tt }
-notes_well n ss (b ∷ bs) tracked = noted_if n ss b bs (item_at n (take b.count ss)) tracked refl
+pub lists_well : (n : ℕ) (ss : List Slot) (bs : List Branching) → AreTracked ss bs → ListsWell n ss bs (note n ss bs)
+lists_well n ss [] tracked = record { entries = refl; blocks = refl; tracked = tracked; listed = tt }
+lists_well n ss (b ∷ bs) tracked = noted_if n ss b bs (item_at n (take b.count ss)) tracked refl
 
--- an entry that changes once it is noted
-pub put_tracked : (f : Slot → Slot) (n : ℕ) (t : Tracked) → IsWithin f → AreTracked t.slots t.blocks
-    → AreTracked (put_by f n t).slots (put_by f n t).blocks
-put_tracked f n t within tracked =
-    let well = notes_well n t.slots t.blocks tracked in
-    tracked_kept f n (note n t.slots t.blocks).slots (note n t.slots t.blocks).blocks within well.noted well.tracked
-
--- what is seen of it
-pub put_entries : (f : Slot → Slot) (m : Meaning) (n : ℕ) (t : Tracked)
-    → ((s : Slot) → entry_in (f s) ≡ with_meaning (λ k. m) (entry_in s)) → AreTracked t.slots t.blocks
-    → seen entry_in (put_by f n t).slots ≡ at_number (with_meaning (λ k. m)) n (seen entry_in t.slots)
-put_entries f m n t means tracked =
-    let noted = note n t.slots t.blocks in
-    let well = notes_well n t.slots t.blocks tracked in
-    ap reverse (map_modify entry_in f (with_meaning (λ k. m)) n noted.slots (λ s is. means s))
-    ∙ reverse_modify (with_meaning (λ k. m)) n (map entry_in noted.slots)
-    ∙ ap (λ es. at_number (with_meaning (λ k. m)) n (reverse es)) well.entries
+pub note_tracked : (n : ℕ) (ss : List Slot) (bs : List Branching) → AreTracked ss bs
+    → AreTracked (note n ss bs).slots (note n ss bs).blocks
+note_tracked n ss bs tracked = (lists_well n ss bs tracked).tracked

@@ -8,9 +8,9 @@ use Rattle.scalar_ranges.specs.declared.slots.Slot as code_slot
 use Rattle.scalar_ranges.specs.declared.slots.Change as code_change
 use Rattle.scalar_ranges.specs.declared.slots.Branching as code_branching
 use Rattle.scalar_ranges.specs.Changes.{Slot, Branching, Tracked, modify, undone, before, numbers_of, AreTracked}
-use Rattle.scalar_ranges.specs.Changes.{joined, restarted}
-use Rattle.scalar_ranges.specs.Changes.{each, next_in, took, component_in, meaning_after, puts, ended_in, fresh, cut}
-use Rattle.scalar_ranges.specs.Changes.{note, put_by, known_in, Follows}
+use Rattle.scalar_ranges.specs.Changes.{turned_slots, turned_block, next_in, component_slots, component_block}
+use Rattle.scalar_ranges.specs.Changes.{component_in, meaning_after, puts, ended_in, fresh, cut}
+use Rattle.scalar_ranges.specs.Changes.{note, touch, put_by, known_in, Follows}
 use Rattle.scalar_ranges.specs.Moves.{Known}
 use Rattle.scalar_ranges.specs.ChangeViews.{slot_of, slots_from, changes_from, branching_of, branchings_from}
 use Rattle.scalar_ranges.specs.ChangeViews.{tracked_from, put_afters, AfterBlock, BelongTogether}
@@ -50,21 +50,29 @@ pub cut_is : (count : ℕ) (slots now : List code_slot.Slot) (blocks : List Bran
     ≡ cut count (record { slots = slots_from slots; blocks = blocks })
 cut_is count slots now blocks is = λ i. record { slots = slots_cut slots now count is i; blocks = blocks }
 
--- an entry means something else, once the innermost block has it in its list
-pub put_is : (f : Slot → Slot) (n : ℕ) (old noted : code_tracked.Tracked) (lent now all : List code_slot.Slot)
-    → tracked_of noted ≡ note n (tracked_of old).slots (tracked_of old).blocks → lent ≡ noted.slots.items
+-- an entry means something else, once the innermost block and its branch have it in their lists
+pub put_is : (f : Slot → Slot) (n : ℕ) (old listed both : code_tracked.Tracked) (lent now all : List code_slot.Slot)
+    → tracked_of listed ≡ note n (tracked_of old).slots (tracked_of old).blocks
+    → tracked_of both ≡ touch n (tracked_of listed).slots (tracked_of listed).blocks → lent ≡ both.slots.items
     → slots_from now ≡ modify f n (slots_from lent) → all ≡ now
-    → tracked_from all noted.blocks.items ≡ put_by f n (tracked_of old)
-put_is f n old noted lent now all is same changes whole =
+    → tracked_from all both.blocks.items ≡ put_by f n (tracked_of old)
+put_is f n old listed both lent now all noting touching same changes whole =
     let changed = ap slots_from whole ∙ changes ∙ ap (λ ks. modify f n (slots_from ks)) same in
-    (λ i. record { slots = changed i; blocks = branchings_from noted.blocks.items })
-    ∙ ap (λ (k : Tracked). record { slots = modify f n k.slots; blocks = k.blocks }) is
+    (λ i. record { slots = changed i; blocks = branchings_from both.blocks.items })
+    ∙ ap (λ (k : Tracked). record { slots = modify f n k.slots; blocks = k.blocks })
+    (touching ∙ ap (λ (k : Tracked). touch n k.slots k.blocks) noting)
 
 -- a block more, if there was memory for it
 pub begun_is : (t ended : Bool) (slots : List code_slot.Slot) (blocks now : List code_branching.Branching)
     (b : code_branching.Branching) → now ≡ cond t (blocks ++ b ∷ []) blocks
-    → branching_of b ≡ record { count = length (slots_from slots); ended = ended; changes = [] }
-    → BelongTogether slots blocks → BelongTogether slots now
+    → branching_of b ≡ record {
+      count = length (slots_from slots);
+      ended = ended;
+      even = true;
+      changes = [];
+      earlier = [];
+      recent = [];
+    } → BelongTogether slots blocks → BelongTogether slots now
 begun_is true ended slots blocks now b is seen tracked =
     let more = ap branchings_from is ∙ branchings_more blocks b ∙ ap (λ k. k ∷ branchings_from blocks) seen in
     subst (AreTracked (slots_from slots)) (sym more)
@@ -73,36 +81,28 @@ begun_is false ended slots blocks now b is seen tracked = subst (BelongTogether 
 
 -- ---- a branch ends
 
-pub next_is : (depth : ℕ) (slots cut lent now whole : List code_slot.Slot) (changes : List code_change.Change)
+pub next_is : (depth : ℕ) (slots cut lent now whole : List code_slot.Slot)
     (blocks rest all : List code_branching.Branching) (b after : code_branching.Branching)
-    → Innermost blocks rest b depth → cut ≡ take b.count slots → lent ≡ cut → changes ≡ b.changes.items
-    → slots_from now ≡ each (restarted depth) (numbers_of (changes_from changes))
-    (each (joined depth b.ended) (numbers_of (changes_from changes)) (slots_from lent))
-    → whole ≡ now → all ≡ rest ++ after ∷ []
-    → branching_of after ≡ record { count = b.count; ended = true; changes = changes_from b.changes.items }
+    → Innermost blocks rest b depth → cut ≡ take b.count slots → lent ≡ cut
+    → slots_from now ≡ turned_slots depth (branching_of b) (slots_from lent) → whole ≡ now → all ≡ rest ++ after ∷ []
+    → branching_of after ≡ turned_block (branching_of b)
     → tracked_from whole all ≡ next_in (slots_from slots) (branchings_from blocks)
-next_is depth slots cut lent now whole changes blocks rest all b after inner taken same listed turning is pushed
-    goes_on =
-    let f : ℕ → List code_change.Change → List Slot → List Slot = λ d cs ss. each (restarted d)
-    (numbers_of (changes_from cs)) (each (joined d b.ended) (numbers_of (changes_from cs)) ss) in
+next_is depth slots cut lent now whole blocks rest all b after inner taken same turning is pushed goes_on =
     let last = ap branchings_from pushed ∙ branchings_more rest after ∙ ap (λ k. k ∷ branchings_from rest) goes_on in
-    let changed = ap slots_from is ∙ turning
-    ∙ (λ i. f (inner.deep i) (listed i) ((ap slots_from same ∙ slots_cut slots cut b.count taken) i)) in
+    let changed = ap slots_from is ∙ turning ∙ (λ i. turned_slots (inner.deep i) (branching_of b)
+    ((ap slots_from same ∙ slots_cut slots cut b.count taken) i)) in
     (λ i. record { slots = changed i; blocks = last i }) ∙ ap (next_in (slots_from slots)) (sym inner.seen)
 
 pub component_is : (numbers : List ℕ) (depth : ℕ) (slots cut lent now whole : List code_slot.Slot)
-    (changes : List code_change.Change) (blocks rest all : List code_branching.Branching) (b : code_branching.Branching)
-    → Innermost blocks rest b depth → cut ≡ take b.count slots → lent ≡ cut → changes ≡ b.changes.items
-    → slots_from now ≡ each (restarted depth) (numbers_of (changes_from changes))
-    (each (took depth) numbers (slots_from lent))
-    → whole ≡ now → all ≡ rest ++ b ∷ []
+    (blocks rest all : List code_branching.Branching) (b after : code_branching.Branching)
+    → Innermost blocks rest b depth → cut ≡ take b.count slots → lent ≡ cut
+    → slots_from now ≡ component_slots numbers depth (branching_of b) (slots_from lent)
+    → whole ≡ now → all ≡ rest ++ after ∷ [] → branching_of after ≡ component_block (branching_of b)
     → tracked_from whole all ≡ component_in numbers (slots_from slots) (branchings_from blocks)
-component_is numbers depth slots cut lent now whole changes blocks rest all b inner taken same listed turning is
-    pushed =
-    let last = ap branchings_from pushed ∙ branchings_more rest b in
-    let changed = ap slots_from is ∙ turning
-    ∙ (λ i. each (restarted (inner.deep i)) (numbers_of (changes_from (listed i)))
-    (each (took (inner.deep i)) numbers ((ap slots_from same ∙ slots_cut slots cut b.count taken) i))) in
+component_is numbers depth slots cut lent now whole blocks rest all b after inner taken same turning is pushed goes_on =
+    let last = ap branchings_from pushed ∙ branchings_more rest after ∙ ap (λ k. k ∷ branchings_from rest) goes_on in
+    let changed = ap slots_from is ∙ turning ∙ (λ i. component_slots numbers (inner.deep i) (branching_of b)
+    ((ap slots_from same ∙ slots_cut slots cut b.count taken) i)) in
     (λ i. record { slots = changed i; blocks = last i }) ∙ ap (component_in numbers (slots_from slots)) (sym inner.seen)
 
 -- ---- a block ends
@@ -135,7 +135,7 @@ pub around : (depth : ℕ) (slots back : List code_slot.Slot) (blocks rest : Lis
     → BelongTogether back rest
 around depth slots back blocks rest b inner is tracked =
     let here = subst (AreTracked (slots_from slots)) inner.seen tracked in
-    subst (λ ss. AreTracked ss (branchings_from rest)) (sym is) here.4
+    subst (λ ss. AreTracked ss (branchings_from rest)) (sym is) here.3
 
 pub end_is : (depth : ℕ) (slots back : List code_slot.Slot) (blocks rest : List code_branching.Branching)
     (b : code_branching.Branching) (changes lent : List code_change.Change) (after : Tracked)

@@ -12,7 +12,7 @@ use Rattle.scalar_ranges.specs.declared.slots.Branching as code_branching
 use Rattle.scalar_ranges.specs.Entries.{Meaning}
 use Rattle.scalar_ranges.specs.Environments.{item_at}
 use Rattle.scalar_ranges.specs.Changes.{Slot, Change, Branching, Tracked, before, AreTracked, numbers_of, put_if}
-use Rattle.scalar_ranges.specs.Changes.{with_new, with_start, with_end, marked, restored}
+use Rattle.scalar_ranges.specs.Changes.{with_new, with_start, with_end, with_restart, marked, touched, restored}
 use Rattle.scalar_ranges.specs.Narrowing.{left_of, with_range}
 use Rattle.scalar_ranges.specs.Moves.{hull_meaning}
 
@@ -21,6 +21,7 @@ slot_of s = record {
   name = s.name.now;
   meaning = meaning_of s.meaning;
   mark = s.mark;
+  recent = s.recent;
   start = meaning_of s.start;
   ends = meaning_of s.ends;
 }
@@ -29,7 +30,7 @@ slot_of s = record {
 abbrev pub turned_to : code_turn.Turn → Slot → Slot
 turned_to (turns.Join ended) s = with_end (if ended then hull_meaning s.ends s.meaning else s.meaning) s
 turned_to turns.Take s = with_end s.meaning s
-turned_to turns.Restart s = with_new s.start s
+turned_to turns.Restart s = with_restart s
 
 abbrev pub turned : ℕ → code_turn.Turn → Slot → Slot
 turned d turn s = if nat_eq s.mark d then turned_to turn s else s
@@ -37,6 +38,7 @@ turned d turn s = if nat_eq s.mark d then turned_to turn s else s
 -- a slot after what the program makes of it
 abbrev pub updated : code_update.Update → Slot → Slot
 updated (updates.Mark depth) = marked depth
+updated updates.Touch = touched
 updated (updates.Mean m) = with_new (meaning_of m)
 updated (updates.Begin comparison constant) = with_start (with_range (left_of comparison constant))
 updated (updates.End depth turn) = turned depth turn
@@ -53,7 +55,14 @@ abbrev pub changes_from : List code_change.Change → List Change
 changes_from changes = map change_of changes
 
 abbrev pub branching_of : code_branching.Branching → Branching
-branching_of b = record { count = b.count; ended = b.ended; changes = changes_from b.changes.items }
+branching_of b = record {
+  count = b.count;
+  ended = b.ended;
+  even = b.even;
+  changes = changes_from b.changes.items;
+  earlier = b.earlier.items;
+  recent = b.recent.items;
+}
 
 -- the innermost one first, where the program has it last
 abbrev pub branchings_from : List code_branching.Branching → List Branching

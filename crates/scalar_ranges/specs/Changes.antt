@@ -1,18 +1,19 @@
 -- How a program has the blocks of branches around a place: by lists of what changed in them.
 use Rattle.std.specs.Prelude.{ℕ, zero, suc, ◌<◌, ◌≤◌, ◌+◌, ◌≡◌, Bool, true, false, List, [], ◌∷◌, ◌++◌, length, map}
-use Rattle.std.specs.Prelude.{reverse, take, nat_eq, if◌then◌else◌, Option, Some, None}
+use Rattle.std.specs.Prelude.{reverse, take, nat_eq, not, if◌then◌else◌, Option, Some, None}
 use Rattle.scalar_ranges.specs.Entries.{Meaning, Entry}
 use Rattle.scalar_ranges.specs.Environments.{item_at}
 use Rattle.scalar_ranges.specs.Moves.{outermost, at_number, with_meaning, is_one_of, hull_meaning, Block, Known}
 use Rattle.scalar_ranges.specs.Moves.{begun_with, begin, begin_par, next, end, next_component}
 
 -- An entry, and what the innermost block has of it that has it in its list: `mark` is the depth of that block, 1 for
--- the outermost one and 0 for none, `start` what the entry means where the block's branches begin, and `ends` what it
--- means at the ends so far.
+-- the outermost one and 0 for none, `recent` whether its branch has the entry in its list, `start` what the entry means
+-- where the block's branches begin, and `ends` what it means at the ends so far.
 pub record Slot : Type 0 where
   pub name : List ℕ
   pub meaning : Meaning
   pub mark : ℕ
+  pub recent : Bool
   pub start : Meaning
   pub ends : Meaning
 
@@ -21,11 +22,16 @@ pub record Change : Type 0 where
   pub number : ℕ
   pub before : Slot
 
--- A block: how many entries it began with, whether it has ends, and its list, the first change first.
+-- A block: how many entries it began with, whether it has ends, and its list, the first change first. Then which
+-- entries the branch before changed, and which this one did. Where the block is even, the ends of all others stay as
+-- they are where a branch ends that changes nothing.
 pub record Branching : Type 0 where
   pub count : ℕ
   pub ended : Bool
+  pub even : Bool
   pub changes : List Change
+  pub earlier : List ℕ
+  pub recent : List ℕ
 
 -- The slots with the outermost one first, and the blocks with the innermost one first.
 pub record Tracked : Type 0 where
@@ -52,7 +58,14 @@ end_in d s = record { name = s.name; meaning = if nat_eq s.mark d then s.ends el
 
 -- a slot as it was before a block changed it
 abbrev pub restored : Slot → Slot → Slot
-restored b s = record { name = s.name; meaning = b.meaning; mark = b.mark; start = b.start; ends = b.ends }
+restored b s = record {
+  name = s.name;
+  meaning = b.meaning;
+  mark = b.mark;
+  recent = b.recent;
+  start = b.start;
+  ends = b.ends;
+}
 
 -- the slots before the changes of a list, of which the last one is taken back first
 abbrev pub undone : List Change → List Slot → List Slot
@@ -91,6 +104,38 @@ blocks_in ss (b ∷ bs) = block_in (suc (length bs)) b ss ∷ blocks_in (before 
 abbrev pub known_in : Tracked → Known
 known_in t = record { entries = seen entry_in t.slots; blocks = blocks_in t.slots t.blocks }
 
+-- ---- where a branch ends
+
+abbrev pub with_end : Meaning → Slot → Slot
+with_end m s = record {
+  name = s.name;
+  meaning = s.meaning;
+  mark = s.mark;
+  recent = s.recent;
+  start = s.start;
+  ends = m;
+}
+
+-- the next branch begins, and has no entry in its list
+abbrev pub with_restart : Slot → Slot
+with_restart s = record {
+  name = s.name;
+  meaning = s.start;
+  mark = s.mark;
+  recent = false;
+  start = s.start;
+  ends = s.ends;
+}
+
+-- the ends of a branch come to those before it
+abbrev pub joined : ℕ → Bool → Slot → Slot
+joined d ended s =
+    if nat_eq s.mark d then with_end (if ended then hull_meaning s.ends s.meaning else s.meaning) s else s
+
+-- an entry where the next branch begins
+abbrev pub restarted : ℕ → Slot → Slot
+restarted d s = if nat_eq s.mark d then with_restart s else s
+
 -- ---- what belongs together
 
 abbrev pub numbers_of : List Change → List ℕ
@@ -103,38 +148,82 @@ AreListed d ns ss = (i : ℕ) (s : Slot) → item_at i ss ≡ Some s → is_one_
 abbrev pub AreUpTo : ℕ → List Slot → Type 0
 AreUpTo d ss = (i : ℕ) (s : Slot) → item_at i ss ≡ Some s → s.mark ≤ d
 
--- how many entries do not have this mark
-abbrev pub unmarked : ℕ → List Slot → ℕ
-unmarked d [] = 0
-unmarked d (s ∷ ss) = if nat_eq s.mark d then unmarked d ss else suc (unmarked d ss)
+-- how many entries there are of which something is not so
+abbrev pub without : (Slot → Bool) → List Slot → ℕ
+without test [] = 0
+without test (s ∷ ss) = if test s then without test ss else suc (without test ss)
 
--- Each block's list has the entries that it marked, and room for those that it did not, each once.
+abbrev pub is_marked : ℕ → Slot → Bool
+is_marked d s = nat_eq s.mark d
+
+-- whether the branch has an entry in its list, of a block of this depth
+abbrev pub is_recent : ℕ → Slot → Bool
+is_recent d s = if nat_eq s.mark d then s.recent else false
+
+-- A block's list has the entries that it marked, and room for those that it did not, each once.
+abbrev pub AreMarked : List Slot → Branching → List Branching → Type 0
+AreMarked ss b bs =
+    (b.count ≤ length ss) × AreUpTo (suc (length bs)) ss
+    × AreListed (suc (length bs)) (numbers_of b.changes) (take b.count ss)
+    × (without (is_marked (suc (length bs))) (take b.count ss) + length b.changes ≤ b.count)
+
+-- An entry that this branch did not change is as its branches begin. If the one before did not change it either, its
+-- ends stay where a branch ends that does not change it.
+abbrev pub IsSettled : ℕ → Branching → ℕ → Slot → Type 0
+IsSettled d b i s =
+    (is_recent d s ≡ false) × (restarted d s ≡ s)
+    × (b.even ≡ true → is_one_of b.earlier i ≡ false → joined d b.ended s ≡ s)
+
+abbrev pub AreSettled : ℕ → Branching → List Slot → Type 0
+AreSettled d b ss =
+    (i : ℕ) (s : Slot) → item_at i ss ≡ Some s → is_one_of b.recent i ≡ false → IsSettled d b i s
+
+-- Each block has the entries that its branches changed in its lists, and room for the others.
 abbrev pub AreTracked : List Slot → List Branching → Type 0
 AreTracked ss [] = AreUpTo 0 ss
 AreTracked ss (b ∷ bs) =
-    (b.count ≤ length ss) × AreUpTo (suc (length bs)) ss
-    × AreListed (suc (length bs)) (numbers_of b.changes) (take b.count ss)
-    × (unmarked (suc (length bs)) (take b.count ss) + length b.changes ≤ b.count) × AreTracked (before b ss) bs
+    AreMarked ss b bs × AreSettled (suc (length bs)) b (take b.count ss)
+    × (without (is_recent (suc (length bs))) (take b.count ss) + length b.recent ≤ b.count)
+    × AreTracked (before b ss) bs
 
 -- ---- moves
 
--- a change of a slot that leaves its name and its mark
+-- a change of a slot that leaves its name and its marks
 pub record IsWithin (f : Slot → Slot) : Type 0 where
   pub names : (s : Slot) → (f s).name ≡ s.name
   pub marks : (s : Slot) → (f s).mark ≡ s.mark
+  pub recents : (s : Slot) → (f s).recent ≡ s.recent
 
 abbrev pub with_new : Meaning → Slot → Slot
-with_new m s = record { name = s.name; meaning = m; mark = s.mark; start = s.start; ends = s.ends }
+with_new m s = record {
+  name = s.name;
+  meaning = m;
+  mark = s.mark;
+  recent = s.recent;
+  start = s.start;
+  ends = s.ends;
+}
 
 -- the branches from here on begin with what a change makes of it
 abbrev pub with_start : (Meaning → Meaning) → Slot → Slot
-with_start f s = record { name = s.name; meaning = s.meaning; mark = s.mark; start = f s.start; ends = s.ends }
-
-abbrev pub with_end : Meaning → Slot → Slot
-with_end m s = record { name = s.name; meaning = s.meaning; mark = s.mark; start = s.start; ends = m }
+with_start f s = record {
+  name = s.name;
+  meaning = s.meaning;
+  mark = s.mark;
+  recent = s.recent;
+  start = f s.start;
+  ends = s.ends;
+}
 
 abbrev pub marked : ℕ → Slot → Slot
-marked d s = record { name = s.name; meaning = s.meaning; mark = d; start = s.meaning; ends = s.meaning }
+marked d s = record {
+  name = s.name;
+  meaning = s.meaning;
+  mark = d;
+  recent = false;
+  start = s.meaning;
+  ends = s.meaning;
+}
 
 -- whether the innermost block began with an entry that it does not have in its list
 abbrev pub is_new_in : ℕ → Option Slot → Bool
@@ -150,7 +239,10 @@ abbrev pub listing : ℕ → Slot → Branching → Branching
 listing n s b = record {
   count = b.count;
   ended = b.ended;
+  even = b.even;
   changes = b.changes ++ record { number = n; before = s } ∷ [];
+  earlier = b.earlier;
+  recent = b.recent;
 }
 
 -- The innermost block has an entry in its list before it changes, if the block began with it.
@@ -164,47 +256,101 @@ abbrev pub note : ℕ → List Slot → List Branching → Tracked
 note n ss [] = record { slots = ss; blocks = [] }
 note n ss (b ∷ bs) = note_if (suc (length bs)) n ss b bs (item_at n (take b.count ss))
 
--- An entry changes so, once the innermost block has it in its list.
+abbrev pub touched : Slot → Slot
+touched s = record {
+  name = s.name;
+  meaning = s.meaning;
+  mark = s.mark;
+  recent = true;
+  start = s.start;
+  ends = s.ends;
+}
+
+-- whether the innermost block has an entry in its list, but not in that of its branch
+abbrev pub is_open_in : ℕ → Option Slot → Bool
+is_open_in d None = false
+is_open_in d (Some s) = if nat_eq s.mark d then not s.recent else false
+
+abbrev pub is_open : ℕ → List Slot → List Branching → Bool
+is_open n ss [] = false
+is_open n ss (b ∷ bs) = is_open_in (suc (length bs)) (item_at n (take b.count ss))
+
+-- an entry comes to the list of the branch
+abbrev pub touching : ℕ → Branching → Branching
+touching n b = record {
+  count = b.count;
+  ended = b.ended;
+  even = b.even;
+  changes = b.changes;
+  earlier = b.earlier;
+  recent = b.recent ++ n ∷ [];
+}
+
+-- The branch has an entry in its list before it changes, if the innermost block has it in its own.
+abbrev pub touch_if : Bool → ℕ → List Slot → Branching → List Branching → Tracked
+touch_if false n ss b bs = record { slots = ss; blocks = b ∷ bs }
+touch_if true n ss b bs = record { slots = modify touched n ss; blocks = touching n b ∷ bs }
+
+abbrev pub touch : ℕ → List Slot → List Branching → Tracked
+touch n ss [] = record { slots = ss; blocks = [] }
+touch n ss (b ∷ bs) = touch_if (is_open n ss (b ∷ bs)) n ss b bs
+
+-- An entry comes to both lists.
+abbrev pub noted : ℕ → List Slot → List Branching → Tracked
+noted n ss bs = let listed = note n ss bs in touch n listed.slots listed.blocks
+
+-- An entry changes so, once it is in both lists of the innermost block.
 abbrev pub put_by : (Slot → Slot) → ℕ → Tracked → Tracked
 put_by f n t =
-    let noted = note n t.slots t.blocks in record { slots = modify f n noted.slots; blocks = noted.blocks }
+    let listed = noted n t.slots t.blocks in record { slots = modify f n listed.slots; blocks = listed.blocks }
 
 -- an entry means something else
 abbrev pub put : ℕ → Meaning → Tracked → Tracked
 put n m t = put_by (with_new m) n t
 
--- A block begins, and has ends if it is a PAR.
-abbrev pub begun : Bool → Tracked → Tracked
-begun ended t = record {
-  slots = t.slots;
-  blocks = record { count = length t.slots; ended = ended; changes = [] } ∷ t.blocks;
+abbrev pub begun_block : Bool → Tracked → Branching
+begun_block ended t = record {
+  count = length t.slots;
+  ended = ended;
+  even = true;
+  changes = [];
+  earlier = [];
+  recent = [];
 }
 
--- the ends of a branch come to those before it
-abbrev pub joined : ℕ → Bool → Slot → Slot
-joined d ended s =
-    if nat_eq s.mark d then with_end (if ended then hull_meaning s.ends s.meaning else s.meaning) s else s
-
--- an entry where the next branch begins
-abbrev pub restarted : ℕ → Slot → Slot
-restarted d s = if nat_eq s.mark d then with_new s.start s else s
+-- A block begins, and has ends if it is a PAR.
+abbrev pub begun : Bool → Tracked → Tracked
+begun ended t = record { slots = t.slots; blocks = begun_block ended t ∷ t.blocks }
 
 -- items with these numbers are changed, one after another
 abbrev pub each : {A : Type 0} → (A → A) → List ℕ → List A → List A
 each f [] xs = xs
 each f (n ∷ ns) xs = each f ns (modify f n xs)
 
-abbrev pub next_slots : ℕ → Branching → List Slot → List Slot
-next_slots d b ss =
-    each (restarted d) (numbers_of b.changes) (each (joined d b.ended) (numbers_of b.changes) (take b.count ss))
+-- In an even block the ends change of the entries that this branch changed, and of those that the one before did.
+abbrev pub joined_by : Bool → ℕ → Branching → List Slot → List Slot
+joined_by true d b ss = each (joined d b.ended) b.recent (each (joined d b.ended) b.earlier ss)
+joined_by false d b ss = each (joined d b.ended) (numbers_of b.changes) ss
+
+abbrev pub turned_slots : ℕ → Branching → List Slot → List Slot
+turned_slots d b ss = each (restarted d) b.recent (joined_by b.even d b ss)
+
+-- a block where its next branch begins
+abbrev pub turned_block : Branching → Branching
+turned_block b = record {
+  count = b.count;
+  ended = true;
+  even = true;
+  changes = b.changes;
+  earlier = b.recent;
+  recent = [];
+}
 
 -- A branch ends, and the next one begins.
 abbrev pub next_in : List Slot → List Branching → Tracked
 next_in ss [] = record { slots = ss; blocks = [] }
-next_in ss (b ∷ bs) = record {
-  slots = next_slots (suc (length bs)) b ss;
-  blocks = record { count = b.count; ended = true; changes = b.changes } ∷ bs;
-}
+next_in ss (b ∷ bs) =
+    record { slots = turned_slots (suc (length bs)) b (take b.count ss); blocks = turned_block b ∷ bs }
 
 -- ---- other moves
 
@@ -217,12 +363,26 @@ abbrev pub took : ℕ → Slot → Slot
 took d s = if nat_eq s.mark d then with_end s.meaning s else s
 
 abbrev pub component_slots : List ℕ → ℕ → Branching → List Slot → List Slot
-component_slots ns d b ss = each (restarted d) (numbers_of b.changes) (each (took d) ns (take b.count ss))
+component_slots ns d b ss = each (restarted d) b.recent (each (took d) ns ss)
+
+-- a block where its next component begins
+abbrev pub component_block : Branching → Branching
+component_block b = record {
+  count = b.count;
+  ended = b.ended;
+  even = false;
+  changes = b.changes;
+  earlier = b.earlier;
+  recent = [];
+}
 
 -- A component ends, which changed the variables with these numbers, and the next one begins.
 abbrev pub component_in : List ℕ → List Slot → List Branching → Tracked
 component_in ns ss [] = record { slots = ss; blocks = [] }
-component_in ns ss (b ∷ bs) = record { slots = component_slots ns (suc (length bs)) b ss; blocks = b ∷ bs }
+component_in ns ss (b ∷ bs) = record {
+  slots = component_slots ns (suc (length bs)) b (take b.count ss);
+  blocks = component_block b ∷ bs;
+}
 
 -- what an entry means after a block
 abbrev pub meaning_after : ℕ → Bool → Slot → Meaning
@@ -246,7 +406,14 @@ ended_in ss (b ∷ bs) =
 
 -- an entry that no block has in its list
 abbrev pub fresh : Entry → Slot
-fresh e = record { name = e.name; meaning = e.meaning; mark = 0; start = e.meaning; ends = e.meaning }
+fresh e = record {
+  name = e.name;
+  meaning = e.meaning;
+  mark = 0;
+  recent = false;
+  start = e.meaning;
+  ends = e.meaning;
+}
 
 -- One declaration more. No block has it in its list.
 abbrev pub declared : Entry → Tracked → Tracked
@@ -274,7 +441,7 @@ changed_start f n [] = []
 changed_start f n (b ∷ bs) = record { start = at_number (with_meaning f) n b.start; ends = b.ends } ∷ bs
 
 -- Each move of the lists is the move of what is known; and where a block began with an entry that is not in its list,
--- the list is shorter than the entries that the block began with.
+-- or its branch does not have it, that list is shorter than the entries that the block began with.
 pub record ListsHold : Type 0 where
   pub changing : (n : ℕ) (m : Meaning) (t : Tracked) → AreTracked t.slots t.blocks
       → Follows (put n m t) (record { entries = changed_to m n (known_in t).entries; blocks = (known_in t).blocks })
@@ -294,3 +461,5 @@ pub record ListsHold : Type 0 where
       (record { entries = outermost count (known_in t).entries; blocks = (known_in t).blocks })
   pub room : (n : ℕ) (s : Slot) (ss : List Slot) (b : Branching) (bs : List Branching) → AreTracked ss (b ∷ bs)
       → item_at n (take b.count ss) ≡ Some s → nat_eq s.mark (suc (length bs)) ≡ false → length b.changes < b.count
+  pub branch_room : (n : ℕ) (s : Slot) (ss : List Slot) (b : Branching) (bs : List Branching) → AreTracked ss (b ∷ bs)
+      → item_at n (take b.count ss) ≡ Some s → is_recent (suc (length bs)) s ≡ false → length b.recent < b.count

@@ -2,9 +2,10 @@
 
 ghost use Rattle.std.specs.Prelude.{◌≡◌, ◌≤◌, [], OnOk, OnErr, map, length, option_map};
 ghost use Rattle.scalar_ranges.specs.Environments.{item_at};
-ghost use Rattle.scalar_ranges.specs.Changes.{modify, numbers_of, each, joined, took, restarted, undone, meaning_after};
-ghost use Rattle.scalar_ranges.specs.Changes.{IsWithin};
-ghost use Rattle.scalar_ranges.specs.ChangeViews.{meaning_of, entry_of, updated, slots_from, changes_from, put_afters};
+ghost use Rattle.scalar_ranges.specs.Changes.{modify, numbers_of, each, turned_slots, joined_by, component_slots};
+ghost use Rattle.scalar_ranges.specs.Changes.{undone, meaning_after, IsWithin};
+ghost use Rattle.scalar_ranges.specs.ChangeViews.{meaning_of, entry_of, updated, slots_from, changes_from};
+ghost use Rattle.scalar_ranges.specs.ChangeViews.{branching_of, put_afters};
 ghost use Rattle.scalar_ranges.specs.ChangeViews.{AfterBlock, BelongTogether, BelongTogether-prop};
 
 use crate::scope::{Entry, Meaning};
@@ -25,7 +26,8 @@ pub(crate) struct Tracked<'a> {
 impl<'a> Tracked<'a> {
     ghost use Rattle.scalar_ranges.specs.Moves.{begun_with, next, next_component, end};
     ghost use Rattle.scalar_ranges.specs.MoveLaws.{meaning_at};
-    ghost use Rattle.scalar_ranges.specs.Changes.{is_new, note, put_by, put, put_start, begun, declared, cut};
+    ghost use Rattle.scalar_ranges.specs.Changes.{is_new, note, is_open, touch, put_by, put, put_start, begun};
+    ghost use Rattle.scalar_ranges.specs.Changes.{declared, cut};
     ghost use Rattle.scalar_ranges.specs.Narrowing.{left_of, with_range};
     ghost use Rattle.scalar_ranges.specs.TrackedViews.{tracked_of, known_by};
 
@@ -114,12 +116,37 @@ impl<'a> Tracked<'a> {
         }
     }
 
-    /// An entry is updated, once the innermost block has it in its list.
+    /// Whether the innermost block has this entry in its list, and its branch does not.
+    fn is_open(&self, number: usize) -> bool
+        ensures { result ≡ is_open number (tracked_of self.now).slots (tracked_of self.now).blocks }
+    {
+        match self.blocks.last() {
+            None => false,
+            Some(block) => number < block.count && self.slots[number].is_open(self.blocks.len()),
+        }
+    }
+
+    /// The branch has this entry in its list, if the innermost block has it in its own.
+    fn touch(&mut self, number: usize)
+        ensures { tracked_of self.new ≡ touch number (tracked_of self.old).slots (tracked_of self.old).blocks }
+    {
+        if !self.is_open(number) {
+            return;
+        }
+        if let Some(mut block) = self.blocks.pop() {
+            block.recent.push_reserved(number);
+            self.slots[number] = self.slots[number].updated(Update::Touch);
+            self.blocks.push_reserved(block);
+        }
+    }
+
+    /// An entry is updated, once the innermost block and its branch have it in their lists.
     fn update(&mut self, number: usize, update: Update<'a>)
         requires { IsWithin (updated update) }
         ensures { tracked_of self.new ≡ put_by (updated update.entry) number (tracked_of self.old) }
     {
         self.note(number);
+        self.touch(number);
         modify(&mut self.slots, number, update);
     }
 
@@ -151,10 +178,15 @@ impl<'a> Tracked<'a> {
     {
         let count = self.slots.len();
         let changes = Vec::with_capacity(alloc, count)?;
+        let earlier = Vec::with_capacity(alloc, count)?;
+        let recent = Vec::with_capacity(alloc, count)?;
         self.blocks.push(Branching {
             count,
             ended,
+            even: true,
             changes,
+            earlier,
+            recent,
         })?;
         Ok(())
     }
@@ -164,11 +196,10 @@ impl<'a> Tracked<'a> {
         ensures { known_by self.new ≡ next (known_by self.old) }
     {
         let depth = self.blocks.len();
-        if let Some(mut block) = self.blocks.pop() {
+        if let Some(block) = self.blocks.pop() {
             self.slots.truncate(block.count);
-            next_slots(&mut self.slots, &block.changes, depth, block.ended);
-            block.ended = true;
-            self.blocks.push_reserved(block);
+            turn_slots(&mut self.slots, &block, depth);
+            self.blocks.push_reserved(block.turned());
         }
     }
 
@@ -179,8 +210,8 @@ impl<'a> Tracked<'a> {
         let depth = self.blocks.len();
         if let Some(block) = self.blocks.pop() {
             self.slots.truncate(block.count);
-            component_slots(&mut self.slots, numbers, &block.changes, depth);
-            self.blocks.push_reserved(block);
+            component_slots(&mut self.slots, numbers, &block, depth);
+            self.blocks.push_reserved(block.after_component());
         }
     }
 
@@ -194,6 +225,7 @@ impl<'a> Tracked<'a> {
                 count,
                 ended,
                 mut changes,
+                ..
             } = block;
             self.slots.truncate(count);
             take_back(&mut self.slots, &mut changes, depth, ended);
@@ -214,26 +246,50 @@ impl<'a> Tracked<'a> {
 }
 
 /// The slots where the next branch begins.
-fn next_slots<'a>(slots: &mut [Slot<'a>], changes: &[Change<'a>], depth: usize, ended: bool)
-    ensures { let numbers = numbers_of (changes_from changes.now) in slots_from slots.new
-        ≡ each (restarted depth) numbers (each (joined depth ended) numbers (slots_from slots.old)) }
+fn turn_slots<'a>(slots: &mut [Slot<'a>], block: &Branching<'a>, depth: usize)
+    ensures { slots_from slots.new ≡ turned_slots depth (branching_of block.now) (slots_from slots.old) }
 {
-    each_listed(slots, changes, Update::End(depth, Turn::Join { ended }));
-    each_listed(slots, changes, Update::End(depth, Turn::Restart));
+    join_slots(slots, block, depth);
+    each_numbered(slots, &block.recent, Update::End(depth, Turn::Restart));
+}
+
+/// The slots with the ends of this branch.
+fn join_slots<'a>(slots: &mut [Slot<'a>], block: &Branching<'a>, depth: usize)
+    ensures { slots_from slots.new ≡ joined_by block.now.even depth (branching_of block.now) (slots_from slots.old) }
+{
+    let ended = block.ended;
+    if block.even {
+        each_numbered(
+            slots,
+            &block.earlier,
+            Update::End(depth, Turn::Join { ended }),
+        );
+        each_numbered(
+            slots,
+            &block.recent,
+            Update::End(depth, Turn::Join { ended }),
+        );
+    } else {
+        each_listed(
+            slots,
+            &block.changes,
+            Update::End(depth, Turn::Join { ended }),
+        );
+    }
 }
 
 /// The slots where the next component begins, after one that changed the variables with these numbers.
 fn component_slots<'a>(
     slots: &mut [Slot<'a>],
     numbers: &[usize],
-    changes: &[Change<'a>],
+    block: &Branching<'a>,
     depth: usize,
 )
-    ensures { slots_from slots.new ≡ each (restarted depth) (numbers_of (changes_from changes.now))
-        (each (took depth) numbers.now (slots_from slots.old)) }
+    ensures { slots_from slots.new
+        ≡ component_slots numbers.now depth (branching_of block.now) (slots_from slots.old) }
 {
     each_numbered(slots, numbers, Update::End(depth, Turn::Take));
-    each_listed(slots, changes, Update::End(depth, Turn::Restart));
+    each_numbered(slots, &block.recent, Update::End(depth, Turn::Restart));
 }
 
 /// The slots where a block began, each of whose changes says what its entry means after the block.

@@ -1,6 +1,6 @@
 //! Entries with what a block of branches has of them, and a block's list of what changed in it.
 
-ghost use Rattle.std.specs.Prelude.{◌≤◌, vec_capacity};
+ghost use Rattle.std.specs.Prelude.{◌≡◌, ◌≤◌, vec_capacity, Some};
 
 use crate::moves::hull_meaning;
 use crate::narrowing::narrowed;
@@ -14,6 +14,8 @@ pub(crate) struct Slot<'a> {
     pub(crate) meaning: Meaning,
     /// The depth of that block, 1 for the outermost one; 0 if no block has the entry in its list.
     pub(crate) mark: usize,
+    /// Whether the branch of that block that has not ended changed the entry.
+    pub(crate) recent: bool,
     /// What the entry means where the branches of that block begin.
     pub(crate) start: Meaning,
     /// What it means at the ends of its branches so far.
@@ -36,9 +38,18 @@ pub(crate) struct Branching<'a> {
     pub(crate) count: usize,
     /// Whether it has ends.
     pub(crate) ended: bool,
+    /// Whether the ends of entries stay as they are where a branch ends that does not change them, unless the branch
+    /// before changed them.
+    pub(crate) even: bool,
     /// The entries that changed in it, the first one first. There is room for all that it began with.
     pub(crate) changes: Vec<Change<'a>>,
+    /// The entries that the branch before changed.
+    pub(crate) earlier: Vec<usize>,
+    /// Those that this branch changed, each once. In both there is room for all that the block began with.
+    pub(crate) recent: Vec<usize>,
     ghost room: { count ≤ vec_capacity changes },
+    ghost earlier_room: { count ≤ vec_capacity earlier },
+    ghost recent_room: { count ≤ vec_capacity recent },
 }
 
 /// What becomes of an entry, and of what a block has of it.
@@ -48,6 +59,8 @@ pub(crate) enum Update<'a> {
     Mark {
         depth: usize,
     },
+    /// Its branch has it in its list from now on.
+    Touch,
     /// It means something else.
     Mean(Meaning),
     /// Where the further branches begin, its range is what this comparison with a constant leaves of it.
@@ -72,9 +85,44 @@ pub(crate) enum Turn {
     Restart,
 }
 
+impl<'a> Branching<'a> {
+    ghost use Rattle.scalar_ranges.specs.Changes.{turned_block, component_block};
+    ghost use Rattle.scalar_ranges.specs.ChangeViews.{branching_of};
+
+    /// The block where its next branch begins.
+    pub(crate) fn turned(self) -> Branching<'a>
+        ensures { branching_of result ≡ turned_block (branching_of self.entry) }
+    {
+        let Branching {
+            count,
+            changes,
+            mut earlier,
+            recent,
+            ..
+        } = self;
+        earlier.clear();
+        Branching {
+            count,
+            ended: true,
+            even: true,
+            changes,
+            earlier: recent,
+            recent: earlier,
+        }
+    }
+
+    /// The block where its next component begins.
+    pub(crate) fn after_component(mut self) -> Branching<'a>
+        ensures { branching_of result ≡ component_block (branching_of self.entry) }
+    {
+        self.even = false;
+        self.recent.clear();
+        self
+    }
+}
+
 impl<'a> Slot<'a> {
-    ghost use Rattle.std.specs.Prelude.{◌≡◌};
-    ghost use Rattle.scalar_ranges.specs.Changes.{fresh, meaning_after};
+    ghost use Rattle.scalar_ranges.specs.Changes.{fresh, meaning_after, is_open_in};
     ghost use Rattle.scalar_ranges.specs.ChangeViews.{meaning_of, entry_of, slot_of, updated, turned, turned_to};
 
     /// An entry that no block has in its list.
@@ -85,6 +133,7 @@ impl<'a> Slot<'a> {
             name: entry.name,
             meaning: entry.meaning,
             mark: 0,
+            recent: false,
             start: entry.meaning,
             ends: entry.meaning,
         }
@@ -97,8 +146,13 @@ impl<'a> Slot<'a> {
         match update {
             Update::Mark { depth } => Slot {
                 mark: depth,
+                recent: false,
                 start: self.meaning,
                 ends: self.meaning,
+                ..self
+            },
+            Update::Touch => Slot {
+                recent: true,
                 ..self
             },
             Update::Mean(meaning) => Slot { meaning, ..self },
@@ -143,9 +197,17 @@ impl<'a> Slot<'a> {
             },
             Turn::Restart => Slot {
                 meaning: self.start,
+                recent: false,
                 ..self
             },
         }
+    }
+
+    /// Whether the block of this depth has it in its list, and its branch does not.
+    pub(crate) fn is_open(self, depth: usize) -> bool
+        ensures { result ≡ is_open_in depth (Some (slot_of self.entry)) }
+    {
+        self.mark == depth && !self.recent
     }
 
     /// What the entry means after a block of this depth.

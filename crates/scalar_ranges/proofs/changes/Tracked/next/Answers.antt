@@ -1,4 +1,4 @@
-use Rattle.std.proofs.Common.{◌≡◌, List, arith, refl, rules}
+use Rattle.std.proofs.Common.{◌≡◌, List, arith, rules}
 use Rattle.std.proofs.lemmas.List.{with_items_is, places}
 use Rattle.scalar_ranges.specs.declared.slots.Slot.{Slot}
 use Rattle.scalar_ranges.specs.Moves.{next}
@@ -11,7 +11,7 @@ use Rattle.scalar_ranges.proofs.Turning.{followed, known_is, next_is}
 use Rattle.scalar_ranges.proofs.changes.Tracked.next.Goals as goal
 use Rattle.scalar_ranges.proofs.changes.Tracked.next.Goals.{After-push_reserved}
 
-turned : (c : After-push_reserved) (all : List Slot) → all ≡ c.next_slots.new.slots
+turned : (c : After-push_reserved) (all : List Slot) → all ≡ c.turn_slots.new.slots
     → Follows (tracked_from all c.push_reserved.new.self.items) (next (known_by c.args.self.now))
 turned c all is =
     let old = c.args.self.now in
@@ -19,17 +19,17 @@ turned c all is =
     let inner = innermost old.blocks.items c.pop.new.self.items block c.len-depth.result c.in-Some.ensures.items
     (omega arith) in
     followed (next (known_by old)) (next_is c.len-depth.result old.slots.items c.truncate.new.self.items
-    c.deref_mut.result.now c.next_slots.new.slots all c.deref.result.now old.blocks.items c.pop.new.self.items
-    c.push_reserved.new.self.items block _ inner c.truncate.ensures.items c.deref_mut.ensures.value
-    c.deref.ensures.value c.next_slots.ensures is c.push_reserved.ensures.items refl)
+    c.deref_mut.result.now c.turn_slots.new.slots all old.blocks.items c.pop.new.self.items
+    c.push_reserved.new.self.items block c.turned.result inner c.truncate.ensures.items c.deref_mut.ensures.value
+    c.turn_slots.ensures is c.push_reserved.ensures.items c.turned.ensures)
     (next_follows (tracked_of old).slots (tracked_of old).blocks old.tracked)
 
 pub invariant_of-self : goal.invariant_of-self
 invariant_of-self c =
-    let all = with_items_is c.truncate.new.self c.next_slots.new.slots (search (rules, places)) in
+    let all = with_items_is c.truncate.new.self c.turn_slots.new.slots (search (rules, places)) in
     record { tracked = (turned (goal.at.invariant_of-self c).After-push_reserved _ all).tracked }
 
 pub returns-in-Some : goal.returns-in-Some
 returns-in-Some c =
     known_is (turned (goal.at.returns-in-Some c).After-push_reserved _
-    (with_items_is c.truncate.new.self c.next_slots.new.slots (search (rules, places))))
+    (with_items_is c.truncate.new.self c.turn_slots.new.slots (search (rules, places))))

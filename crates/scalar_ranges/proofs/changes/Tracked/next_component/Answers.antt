@@ -22,9 +22,9 @@ turned c all is =
     (omega arith) in
     followed (next_component numbers (known_by old))
     (component_is numbers c.len-depth.result old.slots.items c.truncate.new.self.items c.deref_mut.result.now
-    c.component_slots.new.slots all c.deref.result.now old.blocks.items c.pop.new.self.items
-    c.push_reserved.new.self.items block inner c.truncate.ensures.items c.deref_mut.ensures.value
-    c.deref.ensures.value c.component_slots.ensures is c.push_reserved.ensures.items)
+    c.component_slots.new.slots all old.blocks.items c.pop.new.self.items c.push_reserved.new.self.items block
+    c.after_component.result inner c.truncate.ensures.items c.deref_mut.ensures.value c.component_slots.ensures is
+    c.push_reserved.ensures.items c.after_component.ensures)
     (component_follows numbers (tracked_of old).slots (tracked_of old).blocks old.tracked)
 
 pub invariant_of-self : goal.invariant_of-self

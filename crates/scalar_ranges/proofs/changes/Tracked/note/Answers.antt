@@ -5,7 +5,7 @@ use Rattle.scalar_ranges.specs.ChangeViews.{slot_of, change_of, changes_from, sl
 use Rattle.scalar_ranges.specs.ChangeViews.{tracked_from}
 use Rattle.scalar_ranges.specs.TrackedViews.{tracked_of}
 use Rattle.scalar_ranges.proofs.Noting.{Innermost, innermost, IsNew, new_here, noted}
-use Rattle.scalar_ranges.proofs.Tracking.{notes_well}
+use Rattle.scalar_ranges.proofs.Tracking.{note_tracked}
 use Rattle.scalar_ranges.proofs.Turning.{kept}
 use Rattle.scalar_ranges.proofs.changes.Tracked.note.Goals as goal
 use Rattle.scalar_ranges.proofs.changes.Tracked.note.Goals.{In-Some, After-push_reserved-in-Some}
@@ -39,7 +39,14 @@ listed c apart is_new =
     noted c.args.number c.len-depth.result c.args.self.now.slots.items _ c.args.self.now.blocks.items
     c.pop.new.self.items c.push_reserved-in-Some.new.self.items block _ c.updated.result c.index-before.result.now
     apart is_new c.index-before.ensures refl c.updated.ensures c.push_reserved-in-Some.ensures.items
-    (λ i. record { count = block.count; ended = block.ended; changes = more i })
+    (λ i. record {
+      count = block.count;
+      ended = block.ended;
+      even = block.even;
+      changes = more i;
+      earlier = block.earlier.items;
+      recent = block.recent.items;
+    })
 
 pub push_reserved-requires : goal.push_reserved-requires
 push_reserved-requires c =
@@ -60,9 +67,9 @@ pub invariant_of-self : goal.invariant_of-self
 invariant_of-self c =
     let at = goal.at.invariant_of-self c in
     let old = c.args.self.now in
-    let well = notes_well c.args.number (tracked_of old).slots (tracked_of old).blocks old.tracked in
     record {
-      tracked = kept (listed at.After-push_reserved-in-Some (inner at.In-Some) (new at.In-Some)) well.tracked;
+      tracked = kept (listed at.After-push_reserved-in-Some (inner at.In-Some) (new at.In-Some))
+          (note_tracked c.args.number (tracked_of old).slots (tracked_of old).blocks old.tracked);
     }
 
 pub returns-in-Some : goal.returns-in-Some

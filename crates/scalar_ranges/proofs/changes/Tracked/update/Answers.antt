@@ -4,21 +4,22 @@ use Rattle.scalar_ranges.specs.declared.slots.Slot.{Slot}
 use Rattle.scalar_ranges.specs.Changes.{put_by}
 use Rattle.scalar_ranges.specs.ChangeViews.{updated, tracked_from}
 use Rattle.scalar_ranges.specs.TrackedViews.{tracked_of}
-use Rattle.scalar_ranges.proofs.Tracking.{put_tracked}
+use Rattle.scalar_ranges.proofs.Touching.{put_tracked}
 use Rattle.scalar_ranges.proofs.Turning.{kept, put_is}
 use Rattle.scalar_ranges.proofs.changes.Tracked.update.Goals as goal
 use Rattle.scalar_ranges.proofs.changes.Tracked.update.Goals.{After-modify}
 
 changed : (c : After-modify) (all : List Slot) → all ≡ c.modify.new.slots
-    → tracked_from all c.note.new.self.blocks.items
+    → tracked_from all c.touch.new.self.blocks.items
     ≡ put_by (updated c.args.update) c.args.number (tracked_of c.args.self.now)
 changed c all is =
-    put_is (updated c.args.update) c.args.number c.args.self.now c.note.new.self c.deref_mut.result.now
-    c.modify.new.slots all c.note.ensures c.deref_mut.ensures.value c.modify.ensures is
+    put_is (updated c.args.update) c.args.number c.args.self.now c.note.new.self c.touch.new.self
+    c.deref_mut.result.now c.modify.new.slots all c.note.ensures c.touch.ensures c.deref_mut.ensures.value
+    c.modify.ensures is
 
 pub invariant_of-self : goal.invariant_of-self
 invariant_of-self c =
-    let all = with_items_is c.note.new.self.slots c.modify.new.slots (search (rules, places)) in
+    let all = with_items_is c.touch.new.self.slots c.modify.new.slots (search (rules, places)) in
     let old = c.args.self.now in
     record {
       tracked = kept (changed (goal.at.invariant_of-self c).After-modify _ all)
@@ -28,4 +29,4 @@ invariant_of-self c =
 pub returns : goal.returns
 returns c =
     changed (goal.at.returns c).After-modify _
-    (with_items_is c.note.new.self.slots c.modify.new.slots (search (rules, places)))
+    (with_items_is c.touch.new.self.slots c.modify.new.slots (search (rules, places)))
