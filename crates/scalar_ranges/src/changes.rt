@@ -258,23 +258,12 @@ fn join_slots<'a>(slots: &mut [Slot<'a>], block: &Branching<'a>, depth: usize)
     ensures { slots_from slots.new ≡ joined_by block.now.even depth (branching_of block.now) (slots_from slots.old) }
 {
     let ended = block.ended;
+    let update = Update::End(depth, Turn::Join { ended });
     if block.even {
-        each_numbered(
-            slots,
-            &block.earlier,
-            Update::End(depth, Turn::Join { ended }),
-        );
-        each_numbered(
-            slots,
-            &block.recent,
-            Update::End(depth, Turn::Join { ended }),
-        );
+        each_numbered(slots, &block.earlier, update);
+        each_numbered(slots, &block.recent, update);
     } else {
-        each_listed(
-            slots,
-            &block.changes,
-            Update::End(depth, Turn::Join { ended }),
-        );
+        each_listed(slots, &block.changes, update);
     }
 }
 
