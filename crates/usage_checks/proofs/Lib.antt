@@ -12,3 +12,7 @@ pub mod ActualsFollowed
 pub mod DeclarationsWalked
 pub mod Sharing
 pub mod Links
+pub mod ChangedVariables
+pub mod ComponentsWalked
+pub mod ComponentsShared
+pub mod TurnsWalked

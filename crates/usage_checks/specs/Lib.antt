@@ -27,3 +27,6 @@ pub mod Following
 pub mod ParRules
 pub mod MainRules
 pub mod FormalRules
+pub mod AfterProcesses
+pub mod ProcessRules
+pub mod Walking

@@ -1,5 +1,5 @@
 -- What processes use.
-use Rattle.std.specs.Prelude.{◌≡◌, ℕ, ℤ, Bool, List, [], ◌++◌, Option}
+use Rattle.std.specs.Prelude.{◌≡◌, ℕ, ℤ, Bool, false, List, [], ◌++◌, Option}
 use Rattle.occam_parser.specs.Lines.{Replicator, block_word}
 use Rattle.occam_parser.specs.Blocks.{Process, Declared, Does, Construct, Act, Block, Replicated, Body, One, Part}
 use Rattle.occam_parser.specs.Blocks.{Components, NoComponent, Further, Component, Plain, Chosen, Guarded}
@@ -48,6 +48,10 @@ abbrev mutual
 -- the one component under a replicator, in one turn
 abbrev pub uses_of_one : Around → List Entry → Body → List Use
 uses_of_one a es (One kind c) = uses_of_component a es c
+
+-- the same where its index is a constant
+abbrev pub uses_in_turn : Around → List Entry → Option ℤ → List ℕ → Body → ℕ → List Use
+uses_in_turn a es first name b n = uses_of_one a (add name (index_meaning false (index_at first n)) es) b
 
 -- What is used was added, and the scope is as it was.
 pub record Collects (old new : Uses) (before after : Known) (us : List Use) : Type 0 where

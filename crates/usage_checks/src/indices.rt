@@ -1,11 +1,13 @@
 //! The turns in which the body of a replicator is gone over.
 
-ghost use Rattle.std.specs.Prelude.{◌≡◌};
+ghost use Rattle.std.specs.Prelude.{◌≡◌, ◌+ℤ◌, ◌-ℤ◌, pos, true};
 ghost use Rattle.occam_parser.specs.LineViews.{replicator_of};
 ghost use Rattle.occam_parser.specs.BlockViews.{body_of};
 ghost use Rattle.scalar_ranges.specs.Scopes.{entries_of, meaning_of};
 ghost use Rattle.usage_checks.specs.Indices.{is_sequence, is_count, count_of, turns_from, turns_of, index_at};
-ghost use Rattle.usage_checks.specs.Indices.{index_meaning};
+ghost use Rattle.usage_checks.specs.Indices.{index_meaning, happens, index_range, repeats_of, seen_repeats, index_of};
+ghost use Rattle.usage_checks.specs.Indices.{index_in};
+ghost use Rattle.word_arithmetic.specs.Range.{ends_of};
 
 use crate::constants::value_as;
 use occam_parser::{Body, Replicator, ValueType};
@@ -104,6 +106,88 @@ pub(crate) fn index_meaning(sequential: bool, index: Option<i32>) -> Meaning
         Meaning::Constant {
             value_type: ValueType::Int,
             value: index,
+        }
+    }
+}
+
+/// How the body of a replicator is gone over.
+#[derive(Clone, Copy)]
+pub(crate) struct Repeats {
+    /// Whether its block is a `SEQ`.
+    pub(crate) sequential: bool,
+    pub(crate) turns: Turns,
+    /// The numbers that the index of a `SEQ` may be.
+    pub(crate) indices: Range,
+    /// Whether it is gone over as often as it runs.
+    pub(crate) happens: bool,
+}
+
+/// Whether a body is gone over as often as it runs.
+fn happens(counted: bool, base: Option<i32>, count: Option<i32>) -> bool
+    ensures { result ≡ happens counted base count }
+{
+    match (base, count) {
+        (Some(base), Some(count)) => counted && is_count(base, count),
+        _ => false,
+    }
+}
+
+/// The numbers from a base on, so many.
+fn numbers_from(base: i32, count: i32) -> Range
+    requires { is_count base count ≡ true }
+    ensures lo { result.lo ≡ base }
+    ensures hi { result.hi ≡ base +ℤ (count -ℤ pos 1) }
+{
+    Range::new(base, base + (count - 1))
+}
+
+/// The numbers that the index of a `SEQ` may be.
+fn index_range(base: Option<i32>, count: Option<i32>) -> Range
+    ensures { ends_of result ≡ index_range base count }
+{
+    match (base, count) {
+        (Some(base), Some(count)) if is_count(base, count) => numbers_from(base, count),
+        (Some(base), Some(_)) => Range::constant(base),
+        _ => Range::full(),
+    }
+}
+
+/// How the body of a replicator is gone over.
+pub(crate) fn repeats_of(
+    counted: bool,
+    scope: &Scope,
+    sequential: bool,
+    replicator: &Replicator,
+) -> Repeats
+    ensures { seen_repeats result
+        ≡ repeats_of counted (entries_of scope.now) sequential (replicator_of replicator.now) }
+{
+    let base = value_as(scope, ExprType::Int, &replicator.base);
+    let count = value_as(scope, ExprType::Int, &replicator.count);
+    Repeats {
+        sequential,
+        turns: turns_of(counted, scope, sequential, replicator),
+        indices: index_range(base, count),
+        happens: sequential || happens(counted, base, count),
+    }
+}
+
+impl Repeats {
+    /// What the index stands for in a turn.
+    pub(crate) fn index_in(self, turn: u32) -> Meaning
+        ensures { meaning_of result ≡ index_in (seen_repeats self) turn }
+    {
+        if self.sequential {
+            Meaning::Scalar {
+                kind: ScalarKind::Index,
+                value_type: ValueType::Int,
+                range: self.indices,
+            }
+        } else {
+            Meaning::Constant {
+                value_type: ValueType::Int,
+                value: self.turns.index_at(turn),
+            }
         }
     }
 }

@@ -3,7 +3,9 @@
 
 mod action_rules;
 mod actions;
+mod blocks;
 mod channel_rules;
+mod components;
 mod constants;
 mod declaration_rules;
 mod declaring;

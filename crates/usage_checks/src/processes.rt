@@ -2,16 +2,17 @@
 
 ghost use Rattle.occam_parser.specs.LineViews.{replicator_of};
 ghost use Rattle.occam_parser.specs.BlockViews.{process_of, construct_of, body_of, branch_of};
-ghost use Rattle.scalar_ranges.specs.Scopes.{entries_of, known_of};
+ghost use Rattle.scalar_ranges.specs.Scopes.{entries_of, known_of, meaning_of};
 ghost use Rattle.usage_checks.specs.ActionViews.{around_of};
 ghost use Rattle.usage_checks.specs.Processes.{Collects, uses_of, uses_of_construct, uses_of_body, uses_of_component};
 ghost use Rattle.usage_checks.specs.Processes.{uses_of_one};
+ghost use Rattle.usage_checks.specs.Declaring.{add};
 
 use crate::actions::{Around, is_before};
 use crate::indices::{index_meaning, is_sequence, turns_of};
 use crate::uses::Uses;
 use occam_parser::{Body, Branch, Construct, Process, Replicator};
-use scalar_ranges::Scope;
+use scalar_ranges::{Meaning, Scope};
 
 impl Uses {
     /// What a process uses. The scope is afterwards as it was.
@@ -66,7 +67,7 @@ impl Uses {
 
     /// What a body uses in all its turns.
     #[cycle(collect)]
-    fn collect_replicated<'a>(
+    pub(crate) fn collect_replicated<'a>(
         &mut self,
         around: Around,
         scope: &mut Scope<'a>,
@@ -85,16 +86,30 @@ impl Uses {
             sequential,
             replicator,
         );
-        let count = scope.len();
         for turn in 0..turns.count {
-            self.enter_name(
-                scope,
-                replicator.name,
-                index_meaning(sequential, turns.index_at(turn)),
-            );
-            self.collect_body(around, scope, body);
-            scope.leave(count);
+            let meaning = index_meaning(sequential, turns.index_at(turn));
+            self.collect_turn(around, scope, replicator.name, meaning, body);
         }
+    }
+
+    /// What a body uses where its index stands for this.
+    #[cycle(collect)]
+    pub(crate) fn collect_turn<'a>(
+        &mut self,
+        around: Around,
+        scope: &mut Scope<'a>,
+        name: &'a [u8],
+        meaning: Meaning,
+        body: &Body<'a>,
+    )
+        ensures { Collects self.old self.new (known_of scope.old) (known_of scope.new)
+            (uses_of_one (around_of around.entry) (add name.now (meaning_of meaning) (entries_of scope.old))
+            (body_of body.now)) }
+    {
+        let count = scope.len();
+        self.enter_name(scope, name, meaning);
+        self.collect_body(around, scope, body);
+        scope.leave(count);
     }
 
     /// What a body uses in one turn.

@@ -1,4 +1,4 @@
-use Rattle.std.proofs.Common.{◌≡◌, length, map, arith, ap, sym, ◌∙◌, rules, inl, inr}
+use Rattle.std.proofs.Common.{◌≡◌, map, arith, ap, sym, ◌∙◌, rules, inl, inr}
 use Rattle.occam_parser.specs.declared.tree.Body.{the_lemmas}
 use Rattle.occam_parser.specs.Views.{expression_of}
 use Rattle.occam_parser.specs.LineViews.{declaration_of, replicator_of, guard_of}
@@ -121,6 +121,21 @@ collect_construct-returns-after-loop-process t c =
     collects_all a es plain_component c.deref-process-items.result.now v.items c.loop-process.process-index
     (omega arith) c.deref-process-items.ensures.value seen c.loop-process.invariant
 
+pub collect_turn-returns : goal.collect_turn-returns
+collect_turn-returns t c =
+    let a = around_of c.args.around in
+    let b = body_of c.args.body.now in
+    let k = known_of c.args.scope.now in
+    let entered = c.enter_name.ensures in
+    let below = c.collect_body.ensures.uses in
+    record {
+      uses = adds_both entered.uses
+          (adds_if (λ e. ap (λ inner. uses_of_one a inner b) (entered.entries.entries (below.complete e))) below);
+      scope = left_as_before k (known_of c.enter_name.new.scope) (known_of c.collect_body.new.scope)
+          (known_of c.leave.new.self) c.len-count.result c.args.scope.now.nested c.len-count.ensures entered.entries
+          entered.blocks c.collect_body.ensures.scope c.leave.ensures.entries c.leave.ensures.blocks;
+    }
+
 pub collect_replicated-loop-turn-preserved : goal.collect_replicated-loop-turn-preserved
 collect_replicated-loop-turn-preserved t c =
     let a = around_of c.args.around in
@@ -130,21 +145,14 @@ collect_replicated-loop-turn-preserved t c =
     let first = c.turns_of-turns.result.first in
     let n = c.loop-turn.turn in
     let before = c.loop-turn.invariant in
-    let entered = c.enter_name.ensures in
-    let below = c.collect_body.ensures.uses in
-    let index = c.index_meaning.ensures ∙ ap (index_meaning c.is_sequence-sequential.result) c.index_at.ensures in
-    let count = c.len-count.ensures ∙ ap (λ k. length k.entries) (sym before.scope) in
+    let below = c.collect_turn.ensures in
+    let index = c.index_meaning-meaning.ensures
+    ∙ ap (index_meaning c.is_sequence-sequential.result) c.index_at.ensures in
     record {
       uses = adds_as (turns_use_next a es r b c.is_sequence-sequential.result first n)
           (adds_both before.uses
-          (adds_both entered.uses
-          (adds_if (λ e. ap (λ inner. uses_of_one a inner b)
-          (entered.entries.entries (below.complete e) ∙ (λ i. add r.name (index i) (before.scope i).entries))) below)));
-      scope = left_as_before (known_of c.loop-turn.scope) (known_of c.enter_name.new.scope)
-          (known_of c.collect_body.new.scope) (known_of c.leave.new.self) c.len-count.result c.loop-turn.scope.nested
-          count entered.entries entered.blocks c.collect_body.ensures.scope c.leave.ensures.entries
-          c.leave.ensures.blocks
-          ∙ before.scope;
+          (adds_as (λ i. uses_of_one a (add r.name (index i) (before.scope i).entries) b) below.uses));
+      scope = below.scope ∙ before.scope;
     }
 
 pub collect_replicated-returns : goal.collect_replicated-returns

@@ -1,0 +1,104 @@
+-- The rules that a process breaks, each at its line.
+use Rattle.std.specs.Prelude.{ℕ, zero, suc, false, List, length, ◌⊎◌}
+use Rattle.occam_layout.specs.declared.mark.Mark.TheVariants as mark
+use Rattle.occam_parser.specs.Terminals.{Terminal, Mark}
+use Rattle.occam_parser.specs.Lines.{Replicator, block_word}
+use Rattle.occam_parser.specs.Blocks.{Process, Declared, Does, Construct, Act, Block, Replicated, Body, One, Part}
+use Rattle.occam_parser.specs.Blocks.{Components, NoComponent, Further, Component, Plain, Chosen, Guarded}
+use Rattle.scalar_ranges.specs.Entries.{Entry}
+use Rattle.scalar_ranges.specs.Moves.{Known}
+use Rattle.usage_checks.specs.declared.channel_rules.Position.{Position}
+use Rattle.usage_checks.specs.declared.telling.UsageFault.{UsageFault}
+use Rattle.usage_checks.specs.Sets.{is_among}
+use Rattle.usage_checks.specs.declared.uses.Use.{Use}
+use Rattle.usage_checks.specs.Actions.{Around, is_before}
+use Rattle.usage_checks.specs.ActionRules.{BreaksAction, BreaksGuard}
+use Rattle.usage_checks.specs.AfterProcesses.{begun, begun_body, changes_in, chosen, after_components}
+use Rattle.usage_checks.specs.AfterProcesses.{after_component}
+use Rattle.usage_checks.specs.Declaring.{add, add_declaration}
+use Rattle.usage_checks.specs.Following.{after_guard}
+use Rattle.usage_checks.specs.Indices.{is_seq, turns_of, repeats_of, index_in, turn_by_turn, in_turns}
+use Rattle.usage_checks.specs.LineRules.{BreaksCondition, BreaksReplicator}
+use Rattle.usage_checks.specs.NameRules.{BreaksDeclared, with_entries}
+use Rattle.usage_checks.specs.ParRules.{BreaksSharing}
+use Rattle.usage_checks.specs.Processes.{uses_of_body, uses_in_turn, uses_of_components, uses_of_component}
+use Rattle.usage_checks.specs.Telling.{At}
+
+-- O14 and O15: each component, with those before it
+abbrev pub BreakSharing : {part : Part} → Around → List Entry → Components part → ℕ → Type 0
+BreakSharing a es NoComponent n = ⊥
+BreakSharing a es (Further cs c) n =
+    BreakSharing a es cs n
+    ⊎ BreaksSharing (length es) (is_among (uses_of_components a es cs)) (is_among (uses_of_component a es c)) n
+
+-- the same of turns, by what they use of so many names
+abbrev pub BreakTurns : ℕ → (ℕ → List Use) → ℕ → ℕ → Type 0
+BreakTurns count used zero n = ⊥
+BreakTurns count used (suc turn) n =
+    BreakTurns count used turn n ⊎ BreaksSharing count (is_among (in_turns used turn)) (is_among (used turn)) n
+
+-- what is asked of the turns of a PAR
+abbrev pub BreaksTurns : Terminal → ℕ → (ℕ → List Use) → ℕ → ℕ → Type 0
+BreaksTurns (Mark mark.Par) count used turns n = BreakTurns count used turns n
+BreaksTurns word count used turns n = ⊥
+
+abbrev pub BreaksRepeated : Around → List Entry → ℕ → Replicator → Body → ℕ → Type 0
+BreaksRepeated a es line r (One kind c) n =
+    let turns = turns_of (is_before line a.uncounted) es false r in
+    BreaksTurns (block_word kind) (length es) (uses_in_turn a es turns.first r.name (One kind c)) turns.count n
+
+-- what is asked of a block as a whole
+abbrev pub BreaksBlock : {part : Part} → Around → Terminal → List Entry → Components part → ℕ → Type 0
+BreaksBlock a (Mark mark.Par) es cs n = BreakSharing a es cs n
+BreaksBlock a word es cs n = ⊥
+
+-- Something is broken in one of so many turns, where those before it are done with.
+abbrev pub BreaksInTurns : {A : Type 0} → (ℕ → A → A) → (ℕ → A → UsageFault → Type 0) → ℕ → A → UsageFault → Type 0
+BreaksInTurns step Breaks zero x f = ⊥
+BreaksInTurns step Breaks (suc n) x f = BreaksInTurns step Breaks n x f ⊎ Breaks n (turn_by_turn step n x) f
+
+-- where the components of a block stand that begins with so many names
+abbrev pub position_in : Terminal → ℕ → Position → Position
+position_in (Mark mark.Par) count p =
+    record { formals = p.formals; declared = p.declared; parallel = count; is_main = p.is_main }
+position_in word count p = p
+
+abbrev mutual
+  -- a process, before which there were so many names
+  pub BreaksIn : Around → Position → ℕ → Process → Known → UsageFault → Type 0
+  BreaksIn a p first (Declared d q) k f =
+      BreaksDeclared first d k.entries f ⊎ BreaksIn a p first q (with_entries (add_declaration d) k) f
+  BreaksIn a p first (Does line c) k f = BreaksConstruct a p line c k f
+
+  pub BreaksConstruct : Around → Position → ℕ → Construct → Known → UsageFault → Type 0
+  BreaksConstruct a p line (Act action) k f = At line (BreaksAction p a.signatures k.entries action) f
+  BreaksConstruct a p line (Block kind cs) k f =
+      let word = block_word kind in
+      At line (BreaksBlock a word k.entries cs) f
+      ⊎ BreakComponents a (position_in word (length k.entries) p) word cs (begun word k) f
+  BreaksConstruct a p line (Replicated r b) k f =
+      At line (BreaksReplicator k.entries r) f
+      ⊎ (At line (BreaksRepeated a k.entries line r b) f ⊎ BreaksBody a p line r b k f)
+
+  -- in some turn
+  pub BreaksBody : Around → Position → ℕ → Replicator → Body → Known → UsageFault → Type 0
+  BreaksBody a p line r (One kind c) k f =
+      let word = block_word kind in
+      let repeats = repeats_of (is_before line a.uncounted) k.entries (is_seq word) r in
+      BreaksInTurns (λ n l. after_component a word c (with_entries (add r.name (index_in repeats n)) l))
+      (λ n l. BreaksComponent a (position_in word (length k.entries) p) c
+      (with_entries (add r.name (index_in repeats n)) l)) repeats.turns.count
+      (begun_body word (changes_in (uses_of_body a k.entries line r (One kind c))) repeats.happens k) f
+
+  pub BreakComponents : {part : Part} → Around → Position → Terminal → Components part → Known → UsageFault → Type 0
+  BreakComponents a p word NoComponent k f = ⊥
+  BreakComponents a p word (Further cs c) k f =
+      BreakComponents a p word cs k f ⊎ BreaksComponent a p c (after_components a word cs k) f
+
+  pub BreaksComponent : {part : Part} → Around → Position → Component part → Known → UsageFault → Type 0
+  BreaksComponent a p (Plain q) k f = BreaksIn a p (length k.entries) q k f
+  BreaksComponent a p (Chosen line e q) k f =
+      At line (BreaksCondition k.entries e) f ⊎ BreaksIn a p (length (chosen e k).entries) q (chosen e k) f
+  BreaksComponent a p (Guarded line g q) k f =
+      let holds = with_entries (after_guard g) k in
+      At line (BreaksGuard p k.entries g) f ⊎ BreaksIn a p (length holds.entries) q holds f

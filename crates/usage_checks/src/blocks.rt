@@ -1,0 +1,443 @@
+//! The walk over processes.
+
+ghost use Rattle.occam_layout.specs.declared.mark.Mark.TheVariants as mark;
+ghost use Rattle.occam_parser.specs.Terminals.{Mark};
+ghost use Rattle.occam_parser.specs.Blocks.{Replicated};
+ghost use Rattle.occam_parser.specs.LineViews.{replicator_of};
+ghost use Rattle.occam_parser.specs.BlockViews.{process_of, construct_of, choice_of, branch_of, plain_component};
+ghost use Rattle.occam_parser.specs.BlockViews.{body_of};
+ghost use Rattle.occam_parser.specs.BlockViews.{all_processes, all_choices, all_branches};
+ghost use Rattle.std.specs.Prelude.{◌≡◌, ℕ, true};
+ghost use Rattle.scalar_ranges.specs.Moves.{begin, begin_par, begin_loop, is_one_of};
+ghost use Rattle.scalar_ranges.specs.Scopes.{entries_of, known_of, meaning_of};
+ghost use Rattle.usage_checks.specs.ActionViews.{around_of};
+ghost use Rattle.usage_checks.specs.AfterProcesses.{changes_in, unless, begun_turns, repeated};
+ghost use Rattle.usage_checks.specs.ProcessRules.{BreakSharing, BreaksRepeated, position_in};
+ghost use Rattle.usage_checks.specs.Processes.{uses_of, uses_of_body};
+ghost use Rattle.usage_checks.specs.Telling.{At, Walks};
+ghost use Rattle.usage_checks.specs.Declaring.{add};
+ghost use Rattle.usage_checks.specs.LineRules.{BreaksReplicator};
+ghost use Rattle.usage_checks.specs.NameRules.{with_entries};
+ghost use Rattle.usage_checks.specs.Walking.{WalksProcess, WalksConstruct, WalksBlock, WalksComponent};
+ghost use Rattle.usage_checks.specs.Walking.{word_of, WalksBody, WalksTurn};
+
+use crate::actions::{Around, is_before};
+use crate::channel_rules::Position;
+use crate::components::{
+    fault_of_components, fault_of_repeated, variables_changed, variables_changed_in,
+};
+use crate::indices::{is_sequence, repeats_of};
+use crate::line_rules::fault_of_replicator;
+use crate::telling::Findings;
+use occam_parser::{Body, Branch, Choice, Construct, Process, Replicator};
+use scalar_ranges::{Entry, Meaning, Scope};
+use std::alloc::Global;
+
+/// Where a process stands, and what is known of the program there.
+#[derive(Clone, Copy)]
+pub(crate) struct Site<'s> {
+    pub(crate) alloc: Global,
+    pub(crate) around: Around<'s>,
+    pub(crate) position: Position,
+}
+
+impl<'s> Site<'s> {
+    /// Where the components of a `PAR` stand that begins here, with so many names.
+    fn in_par(self, count: usize) -> Site<'s>
+        ensures around { result.around ≡ self.entry.around }
+        ensures position { result.position ≡ position_in (Mark mark.Par) count self.entry.position }
+    {
+        Site {
+            position: Position {
+                parallel: count,
+                ..self.position
+            },
+            ..self
+        }
+    }
+
+    /// Where the component under a replicator stands that begins here, with so many names.
+    fn in_body(self, body: &Body, count: usize) -> Site<'s>
+        ensures around { result.around ≡ self.entry.around }
+        ensures position { result.position ≡ position_in (word_of (body_of body.now)) count self.entry.position }
+    {
+        match body {
+            Body::Par(_) => self.in_par(count),
+            Body::Seq(_) | Body::If(_) | Body::Alt(_) => self,
+        }
+    }
+}
+
+/// A body ends after its last turn.
+fn end_body(scope: &mut Scope, happens: bool)
+    ensures { known_of scope.new ≡ repeated happens (known_of scope.old) }
+{
+    scope.end();
+    if !happens {
+        scope.end();
+    }
+}
+
+impl Findings {
+    /// What the components of a `PAR` share that begins on this line.
+    fn walk_sharing<'a>(
+        &mut self,
+        site: Site,
+        scope: &mut Scope<'a>,
+        line: u32,
+        processes: &[Process<'a>],
+    )
+        ensures { Walks self.old self.new (known_of scope.new) (known_of scope.old)
+            (At line (BreakSharing (around_of site.entry.around) (entries_of scope.old)
+            (all_processes processes.now))) }
+    {
+        match fault_of_components(site.alloc, site.around, scope, processes) {
+            Ok(found) => self.tell(line, found),
+            Err(_) => self.fail(),
+        }
+    }
+
+    /// The numbers of the variables that a process changes.
+    fn changes<'a>(
+        &mut self,
+        site: Site,
+        scope: &mut Scope<'a>,
+        process: &Process<'a>,
+    ) -> Vec<usize>
+        ensures walks { Walks self.old self.new (known_of scope.new) (known_of scope.old) (λ f. ⊥) }
+        ensures numbers { self.new.complete ≡ true → (n : ℕ) → is_one_of result.items n ≡ is_one_of
+            (changes_in (uses_of (around_of site.entry.around) (entries_of scope.old) (process_of process.now))) n }
+    {
+        match variables_changed(site.alloc, site.around, scope, process) {
+            Ok(numbers) => numbers,
+            Err(_) => {
+                self.fail();
+                Vec::new(site.alloc)
+            }
+        }
+    }
+
+    /// What the turns of a `PAR` share, if a body that begins on this line is that of one.
+    fn walk_repeated<'a>(
+        &mut self,
+        site: Site,
+        scope: &mut Scope<'a>,
+        line: u32,
+        replicator: &Replicator<'a>,
+        body: &Body<'a>,
+    )
+        ensures { Walks self.old self.new (known_of scope.new) (known_of scope.old)
+            (At line (BreaksRepeated (around_of site.entry.around) (entries_of scope.old) line
+            (replicator_of replicator.now) (body_of body.now))) }
+    {
+        match fault_of_repeated(site.alloc, site.around, scope, line, replicator, body) {
+            Ok(found) => self.tell(line, found),
+            Err(_) => self.fail(),
+        }
+    }
+
+    /// A replicator that stands on this line.
+    fn walk_replicator(&mut self, scope: &Scope, line: u32, replicator: &Replicator)
+        ensures { Walks self.old self.new (known_of scope.now) (known_of scope.now)
+            (At line (BreaksReplicator (entries_of scope.now) (replicator_of replicator.now))) }
+    {
+        self.tell(line, fault_of_replicator(scope, replicator));
+    }
+
+    /// The index of a turn in the scope.
+    fn enter_index<'a>(&mut self, scope: &mut Scope<'a>, name: &'a [u8], meaning: Meaning)
+        ensures { Walks self.old self.new (known_of scope.new)
+            (with_entries (add name.now (meaning_of meaning)) (known_of scope.old)) (λ f. ⊥) }
+    {
+        match scope.declare(Entry { name, meaning }) {
+            Ok(()) => {}
+            Err(_) => self.fail(),
+        }
+    }
+
+    /// The body of a replicated `SEQ` begins.
+    fn begin_loop<'a>(
+        &mut self,
+        site: Site,
+        scope: &mut Scope<'a>,
+        line: u32,
+        replicator: &Replicator<'a>,
+        body: &Body<'a>,
+    )
+        ensures { Walks self.old self.new (known_of scope.new)
+            (begin_loop (changes_in (uses_of_body (around_of site.entry.around) (entries_of scope.old) line
+            (replicator_of replicator.now) (body_of body.now))) (known_of scope.old)) (λ f. ⊥) }
+    {
+        match variables_changed_in(site.alloc, site.around, scope, line, replicator, body) {
+            Ok(numbers) => self.begin_widened(scope, &numbers),
+            Err(_) => self.fail(),
+        }
+    }
+
+    /// The body of a loop begins that changes the variables with these numbers.
+    fn begin_widened(&mut self, scope: &mut Scope, numbers: &[usize])
+        ensures { Walks self.old self.new (known_of scope.new) (begin_loop numbers.now (known_of scope.old)) (λ f. ⊥) }
+    {
+        match scope.begin_loop(numbers) {
+            Ok(()) => {}
+            Err(_) => self.fail(),
+        }
+    }
+
+    /// What does not happen begins inside a block without branches.
+    fn begin_unless(&mut self, scope: &mut Scope, happens: bool)
+        ensures { Walks self.old self.new (known_of scope.new) (unless happens begin (known_of scope.old)) (λ f. ⊥) }
+    {
+        if !happens {
+            self.begin(scope);
+        }
+    }
+
+    /// The turns of a body begin.
+    fn begin_turns<'a>(
+        &mut self,
+        site: Site,
+        scope: &mut Scope<'a>,
+        line: u32,
+        replicator: &Replicator<'a>,
+        body: &Body<'a>,
+    )
+        ensures { Walks self.old self.new (known_of scope.new)
+            (begun_turns (word_of (body_of body.now)) (changes_in (uses_of_body (around_of site.entry.around)
+            (entries_of scope.old) line (replicator_of replicator.now) (body_of body.now))) (known_of scope.old))
+            (λ f. ⊥) }
+    {
+        match body {
+            Body::Seq(_) => self.begin_loop(site, scope, line, replicator, body),
+            Body::Par(_) => self.begin_par(scope),
+            Body::If(_) | Body::Alt(_) => self.begin(scope),
+        }
+    }
+
+    /// An `IF` or an `ALT` begins.
+    fn begin(&mut self, scope: &mut Scope)
+        ensures { Walks self.old self.new (known_of scope.new) (begin (known_of scope.old)) (λ f. ⊥) }
+    {
+        match scope.begin() {
+            Ok(()) => {}
+            Err(_) => self.fail(),
+        }
+    }
+
+    /// A `PAR` begins.
+    fn begin_par(&mut self, scope: &mut Scope)
+        ensures { Walks self.old self.new (known_of scope.new) (begin_par (known_of scope.old)) (λ f. ⊥) }
+    {
+        match scope.begin_par() {
+            Ok(()) => {}
+            Err(_) => self.fail(),
+        }
+    }
+
+    /// A process, with what it declares.
+    #[cycle(walk)]
+    pub(crate) fn walk<'a>(&mut self, site: Site, scope: &mut Scope<'a>, process: &Process<'a>)
+        ensures { WalksProcess self.old self.new site.entry (process_of process.now) (known_of scope.old)
+            (known_of scope.new) }
+    {
+        self.walk_declarations(scope, &process.declarations);
+        self.walk_construct(site, scope, process.line, &process.construct);
+    }
+
+    /// A construct that begins on this line.
+    #[cycle(walk)]
+    fn walk_construct<'a>(
+        &mut self,
+        site: Site,
+        scope: &mut Scope<'a>,
+        line: u32,
+        construct: &Construct<'a>,
+    )
+        ensures { WalksConstruct self.old self.new site.entry line (construct_of construct.now) (known_of scope.old)
+            (known_of scope.new) }
+    {
+        match construct {
+            Construct::Action(action) => {
+                self.walk_action(site.position, site.around.signatures, scope, line, action);
+            }
+            Construct::Seq(processes) => self.walk_seq(site, scope, line, processes),
+            Construct::Par(processes) => self.walk_par(site, scope, line, processes),
+            Construct::If(choices) => self.walk_if(site, scope, line, choices),
+            Construct::Alt(branches) => self.walk_alt(site, scope, line, branches),
+            Construct::Replicated { replicator, body } => {
+                self.walk_replicated(site, scope, line, replicator, body);
+            }
+        }
+    }
+
+    /// The processes of a `SEQ`.
+    #[cycle(walk)]
+    fn walk_seq<'a>(
+        &mut self,
+        site: Site,
+        scope: &mut Scope<'a>,
+        line: u32,
+        processes: &[Process<'a>],
+    )
+        ensures { WalksBlock self.old self.new site.entry line (Mark mark.Seq) (all_processes processes.now)
+            (known_of scope.old) (known_of scope.new) }
+    {
+        for process in processes {
+            self.walk_process(site, scope, process);
+        }
+    }
+
+    /// A process of a `SEQ`.
+    #[cycle(walk)]
+    fn walk_process<'a>(&mut self, site: Site, scope: &mut Scope<'a>, process: &Process<'a>)
+        ensures { WalksComponent self.old self.new site.entry (Mark mark.Seq) (plain_component process.now)
+            (known_of scope.old) (known_of scope.new) }
+    {
+        let count = scope.len();
+        self.walk(site, scope, process);
+        scope.leave(count);
+    }
+
+    /// The components of a `PAR`.
+    #[cycle(walk)]
+    fn walk_par<'a>(
+        &mut self,
+        site: Site,
+        scope: &mut Scope<'a>,
+        line: u32,
+        processes: &[Process<'a>],
+    )
+        ensures { WalksBlock self.old self.new site.entry line (Mark mark.Par) (all_processes processes.now)
+            (known_of scope.old) (known_of scope.new) }
+    {
+        self.walk_sharing(site, scope, line, processes);
+        let inner = site.in_par(scope.len());
+        self.begin_par(scope);
+        for process in processes {
+            self.walk_component(inner, scope, process);
+        }
+        scope.end();
+    }
+
+    /// A component of a `PAR`.
+    #[cycle(walk)]
+    fn walk_component<'a>(&mut self, site: Site, scope: &mut Scope<'a>, process: &Process<'a>)
+        ensures { WalksComponent self.old self.new site.entry (Mark mark.Par) (plain_component process.now)
+            (known_of scope.old) (known_of scope.new) }
+    {
+        let changed = self.changes(site, scope, process);
+        self.walk(site, scope, process);
+        scope.next_component(&changed);
+    }
+
+    /// The choices of an `IF`.
+    #[cycle(walk)]
+    fn walk_if<'a>(&mut self, site: Site, scope: &mut Scope<'a>, line: u32, choices: &[Choice<'a>])
+        ensures { WalksBlock self.old self.new site.entry line (Mark mark.If) (all_choices choices.now)
+            (known_of scope.old) (known_of scope.new) }
+    {
+        self.begin(scope);
+        for choice in choices {
+            self.walk_choice(site, scope, choice);
+        }
+        scope.end();
+    }
+
+    /// A choice of an `IF`.
+    #[cycle(walk)]
+    fn walk_choice<'a>(&mut self, site: Site, scope: &mut Scope<'a>, choice: &Choice<'a>)
+        ensures { WalksComponent self.old self.new site.entry (Mark mark.If) (choice_of choice.now)
+            (known_of scope.old) (known_of scope.new) }
+    {
+        scope.exclude(&choice.condition);
+        self.walk_condition(scope, choice.line, &choice.condition);
+        self.walk(site, scope, &choice.process);
+        scope.next();
+    }
+
+    /// The branches of an `ALT`.
+    #[cycle(walk)]
+    fn walk_alt<'a>(
+        &mut self,
+        site: Site,
+        scope: &mut Scope<'a>,
+        line: u32,
+        branches: &[Branch<'a>],
+    )
+        ensures { WalksBlock self.old self.new site.entry line (Mark mark.Alt) (all_branches branches.now)
+            (known_of scope.old) (known_of scope.new) }
+    {
+        self.begin(scope);
+        for branch in branches {
+            self.walk_branch(site, scope, branch);
+        }
+        scope.end();
+    }
+
+    /// A branch of an `ALT`.
+    #[cycle(walk)]
+    fn walk_branch<'a>(&mut self, site: Site, scope: &mut Scope<'a>, branch: &Branch<'a>)
+        ensures { WalksComponent self.old self.new site.entry (Mark mark.Alt) (branch_of branch.now)
+            (known_of scope.old) (known_of scope.new) }
+    {
+        self.walk_guard(site.position, scope, branch.line, &branch.guard);
+        self.walk(site, scope, &branch.process);
+        scope.next();
+    }
+
+    /// A construct under a replicator.
+    #[cycle(walk)]
+    fn walk_replicated<'a>(
+        &mut self,
+        site: Site,
+        scope: &mut Scope<'a>,
+        line: u32,
+        replicator: &Replicator<'a>,
+        body: &Body<'a>,
+    )
+        ensures { WalksConstruct self.old self.new site.entry line
+            (Replicated (replicator_of replicator.now) (body_of body.now)) (known_of scope.old) (known_of scope.new) }
+    {
+        self.walk_replicator(scope, line, replicator);
+        self.walk_repeated(site, scope, line, replicator, body);
+        self.walk_body(site, scope, line, replicator, body);
+    }
+
+    /// A body under a replicator, turn by turn.
+    #[cycle(walk)]
+    fn walk_body<'a>(
+        &mut self,
+        site: Site,
+        scope: &mut Scope<'a>,
+        line: u32,
+        replicator: &Replicator<'a>,
+        body: &Body<'a>,
+    )
+        ensures { WalksBody self.old self.new site.entry line (replicator_of replicator.now) (body_of body.now)
+            (known_of scope.old) (known_of scope.new) }
+    {
+        let counted = is_before(line, site.around.uncounted);
+        let repeats = repeats_of(counted, scope, is_sequence(body), replicator);
+        let inner = site.in_body(body, scope.len());
+        self.begin_unless(scope, repeats.happens);
+        self.begin_turns(site, scope, line, replicator, body);
+        for turn in 0..repeats.turns.count {
+            self.enter_index(scope, replicator.name, repeats.index_in(turn));
+            self.walk_turn(inner, scope, body);
+        }
+        end_body(scope, repeats.happens);
+    }
+
+    /// The component under a replicator, in one turn.
+    #[cycle(walk)]
+    fn walk_turn<'a>(&mut self, site: Site, scope: &mut Scope<'a>, body: &Body<'a>)
+        ensures { WalksTurn self.old self.new site.entry (body_of body.now) (known_of scope.old) (known_of scope.new) }
+    {
+        match body {
+            Body::Seq(process) => self.walk_process(site, scope, process),
+            Body::Par(process) => self.walk_component(site, scope, process),
+            Body::If(choice) => self.walk_choice(site, scope, choice),
+            Body::Alt(branch) => self.walk_branch(site, scope, branch),
+        }
+    }
+}
