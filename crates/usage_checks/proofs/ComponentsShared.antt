@@ -1,6 +1,6 @@
 -- What the components of a PAR share is asked component by component.
-use Rattle.std.proofs.Common.{◌≡◌, ℕ, ◌+◌, ◌<◌, ◌≤◌, Bool, true, false, List, length, map, take, get_or, Option, None, Result}
-use Rattle.std.proofs.Common.{ℤ, ap, add-one, Ok, IfOk, sym, subst, ◌∙◌, ◌++◌, ◌⊎◌}
+use Rattle.std.proofs.Common.{◌≡◌, ℕ, ◌+◌, ◌<◌, ◌≤◌, Bool, true, false, List, length, map, take, get_or, Option, None}
+use Rattle.std.proofs.Common.{Result, ℤ, ap, add-one, Ok, IfOk, sym, subst, ◌∙◌, ◌++◌, ◌⊎◌}
 use Rattle.std.proofs.lemmas.List.{take_all}
 use Rattle.std.specs.declared.alloc.AllocError.{AllocError}
 use Rattle.occam_parser.specs.Blocks.{Part, Body, Components, NoComponent, Component}

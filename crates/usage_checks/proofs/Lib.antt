@@ -16,3 +16,4 @@ pub mod ChangedVariables
 pub mod ComponentsWalked
 pub mod ComponentsShared
 pub mod TurnsWalked
+pub mod HandedOver

@@ -94,8 +94,8 @@ pub walks_body : (b : Body) (site inner : Site) (line : ℕ) (r : Replicator) (r
     (changes_in (uses_of_body (around_of site.around) j.entries line r b)) j) (λ f. ⊥)
     → turns ≡ repeats.turns.count → WalksTurns u w inner r b repeats turns l m → n ≡ repeated repeats.happens m
     → WalksBody s w site line r b k n
-walks_body b site inner line r repeats count turns k {s} {t} {u} {w} {j} {l} {m} {n} is around position long outer begins
-    all walked ends =
+walks_body b site inner line r repeats count turns k {s} {t} {u} {w} {j} {l} {m} {n} is around position long outer
+    begins all walked ends =
     let a = around_of site.around in
     let start = walks_after (λ j. begun_turns (word_of b) (changes_in (uses_of_body a j.entries line r b)) j)
     (λ j f. ⊥) outer begins in
@@ -117,8 +117,8 @@ walks_body b site inner line r repeats count turns k {s} {t} {u} {w} {j} {l} {m}
     (begun_body (word_of b) (changes_in (uses_of_body a k.entries line r b)) x.happens k))) is whole)
 
 -- a replicator, what its turns share, and its body
-pub walks_replicated : (site : Site) (line : ℕ) (r : Replicator) (b : Body) (k j : Known) {s t u w : Findings} {n : Known}
-    → Walks s t k k (At line (BreaksReplicator k.entries r))
+pub walks_replicated : (site : Site) (line : ℕ) (r : Replicator) (b : Body) (k j : Known) {s t u w : Findings}
+    {n : Known} → Walks s t k k (At line (BreaksReplicator k.entries r))
     → Walks t u j k (At line (BreaksRepeated (around_of site.around) k.entries line r b))
     → WalksBody u w site line r b j n → WalksConstruct s w site line (Replicated r b) k n
 walks_replicated site line r b k j replicator shared walked =

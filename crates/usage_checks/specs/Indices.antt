@@ -1,6 +1,6 @@
 -- The turns in which the body of a replicator is gone over.
-use Rattle.std.specs.Prelude.{ℕ, zero, suc, ℤ, pos, ◌+ℤ◌, ◌-ℤ◌, int_le, unsigned_abs, Bool, true, false, List, [], ◌++◌, ◌&&◌, ◌||◌}
-use Rattle.std.specs.Prelude.{if◌then◌else◌, Option, Some, None, option_and_then}
+use Rattle.std.specs.Prelude.{ℕ, zero, suc, ℤ, pos, ◌+ℤ◌, ◌-ℤ◌, int_le, unsigned_abs, Bool, true, false, List, []}
+use Rattle.std.specs.Prelude.{◌++◌, ◌&&◌, ◌||◌, if◌then◌else◌, Option, Some, None, option_and_then}
 use Rattle.word_arithmetic.specs.Word.{greatest_word, checked}
 use Rattle.word_arithmetic.specs.Range.{Ends, ends_of, full, constant}
 use Rattle.occam_layout.specs.declared.mark.Mark.TheVariants as mark

@@ -30,3 +30,5 @@ pub mod FormalRules
 pub mod AfterProcesses
 pub mod ProcessRules
 pub mod Walking
+pub mod Handing
+pub mod Remembering

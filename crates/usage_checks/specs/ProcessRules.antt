@@ -17,6 +17,7 @@ use Rattle.usage_checks.specs.AfterProcesses.{begun, begun_body, changes_in, cho
 use Rattle.usage_checks.specs.AfterProcesses.{after_component}
 use Rattle.usage_checks.specs.Declaring.{add, add_declaration}
 use Rattle.usage_checks.specs.Following.{after_guard}
+use Rattle.usage_checks.specs.Handing.{PassesTwice}
 use Rattle.usage_checks.specs.Indices.{is_seq, turns_of, repeats_of, index_in, turn_by_turn, in_turns}
 use Rattle.usage_checks.specs.LineRules.{BreaksCondition, BreaksReplicator}
 use Rattle.usage_checks.specs.NameRules.{BreaksDeclared, with_entries}
@@ -71,7 +72,8 @@ abbrev mutual
   BreaksIn a p first (Does line c) k f = BreaksConstruct a p line c k f
 
   pub BreaksConstruct : Around → Position → ℕ → Construct → Known → UsageFault → Type 0
-  BreaksConstruct a p line (Act action) k f = At line (BreaksAction p a.signatures k.entries action) f
+  BreaksConstruct a p line (Act action) k f =
+      At line (PassesTwice a.signatures k.entries action) f ⊎ At line (BreaksAction p a.signatures k.entries action) f
   BreaksConstruct a p line (Block kind cs) k f =
       let word = block_word kind in
       At line (BreaksBlock a word k.entries cs) f

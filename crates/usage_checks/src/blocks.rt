@@ -2,8 +2,8 @@
 
 ghost use Rattle.occam_layout.specs.declared.mark.Mark.TheVariants as mark;
 ghost use Rattle.occam_parser.specs.Terminals.{Mark};
-ghost use Rattle.occam_parser.specs.Blocks.{Replicated};
-ghost use Rattle.occam_parser.specs.LineViews.{replicator_of};
+ghost use Rattle.occam_parser.specs.Blocks.{Act, Replicated};
+ghost use Rattle.occam_parser.specs.LineViews.{action_of, replicator_of};
 ghost use Rattle.occam_parser.specs.BlockViews.{process_of, construct_of, choice_of, branch_of, plain_component};
 ghost use Rattle.occam_parser.specs.BlockViews.{body_of};
 ghost use Rattle.occam_parser.specs.BlockViews.{all_processes, all_choices, all_branches};
@@ -29,7 +29,7 @@ use crate::components::{
 use crate::indices::{is_sequence, repeats_of};
 use crate::line_rules::fault_of_replicator;
 use crate::telling::Findings;
-use occam_parser::{Body, Branch, Choice, Construct, Process, Replicator};
+use occam_parser::{Action, Body, Branch, Choice, Construct, Process, Replicator};
 use scalar_ranges::{Entry, Meaning, Scope};
 use std::alloc::Global;
 
@@ -234,6 +234,15 @@ impl Findings {
         }
     }
 
+    /// An action that stands on this line, with what it passes twice.
+    fn walk_act(&mut self, site: Site, scope: &mut Scope, line: u32, action: &Action)
+        ensures { WalksConstruct self.old self.new site.entry line (Act (action_of action.now)) (known_of scope.old)
+            (known_of scope.new) }
+    {
+        self.walk_passing(site, scope, line, action);
+        self.walk_action(site.position, site.around.signatures, scope, line, action);
+    }
+
     /// A process, with what it declares.
     #[cycle(walk)]
     pub(crate) fn walk<'a>(&mut self, site: Site, scope: &mut Scope<'a>, process: &Process<'a>)
@@ -257,9 +266,7 @@ impl Findings {
             (known_of scope.new) }
     {
         match construct {
-            Construct::Action(action) => {
-                self.walk_action(site.position, site.around.signatures, scope, line, action);
-            }
+            Construct::Action(action) => self.walk_act(site, scope, line, action),
             Construct::Seq(processes) => self.walk_seq(site, scope, line, processes),
             Construct::Par(processes) => self.walk_par(site, scope, line, processes),
             Construct::If(choices) => self.walk_if(site, scope, line, choices),

@@ -13,6 +13,8 @@ pub const OTHER_ACTUAL: u8 = 13;
 pub const SHARED_VARIABLE: u8 = 14;
 /// The number of the fault that a channel may not be used so.
 pub const CHANNEL_USE: u8 = 15;
+/// The number of the fault that an instance passes something twice.
+pub const PASSED_TWICE: u8 = 18;
 /// The number of the fault that the last item is no `main` with links.
 pub const NO_MAIN: u8 = 19;
 

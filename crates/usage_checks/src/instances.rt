@@ -69,7 +69,7 @@ fn is_array(meaning: Option<Meaning>) -> bool
 }
 
 /// The array of channels that a place is, if it has no subscript.
-fn array_at(scope: &Scope, place: PlaceRef) -> Option<usize>
+pub(crate) fn array_at(scope: &Scope, place: PlaceRef) -> Option<usize>
     ensures { result ≡ array_at (entries_of scope.now) (place_at place.entry) }
 {
     match place.subscript {

@@ -13,6 +13,7 @@ mod entering;
 mod faults;
 mod following;
 mod formal_rules;
+mod handing;
 mod indices;
 mod instance_rules;
 mod instances;
@@ -34,7 +35,8 @@ mod wanting;
 pub use actions::Around;
 pub use channel_rules::Position;
 pub use faults::{
-    CHANNEL_USE, CONSTANT_WANTED, DECLARED_TWICE, NO_MAIN, OTHER_ACTUAL, SHARED_VARIABLE,
+    CHANNEL_USE, CONSTANT_WANTED, DECLARED_TWICE, NO_MAIN, OTHER_ACTUAL, PASSED_TWICE,
+    SHARED_VARIABLE,
 };
 pub use signature::{Parameter, Signature};
 pub use telling::UsageFault;

@@ -15,8 +15,8 @@ use Rattle.usage_checks.specs.AfterProcesses.{left_to}
 use Rattle.usage_checks.specs.Indices.{repeats_of, seen_repeats}
 use Rattle.usage_checks.specs.Walking.{WalksConstruct, WalksBlock, WalksComponent}
 use Rattle.usage_checks.proofs.FaultsInOrder.{walks_then}
-use Rattle.usage_checks.proofs.ComponentsWalked.{walks_behind, components_next, components_all, walks_plain, walks_block}
-use Rattle.usage_checks.proofs.ComponentsWalked.{walks_par, walks_component, walks_choice, walks_branch}
+use Rattle.usage_checks.proofs.ComponentsWalked.{walks_behind, components_next, components_all, walks_plain}
+use Rattle.usage_checks.proofs.ComponentsWalked.{walks_block, walks_par, walks_component, walks_choice, walks_branch}
 use Rattle.usage_checks.proofs.TurnsWalked.{turns_start, turns_more, walks_body, walks_replicated}
 use Rattle.usage_checks.proofs.telling.Findings.+walk.Goals as goal
 
@@ -51,8 +51,8 @@ walk_seq-returns t c =
 pub walk_par-loop-process-preserved : goal.walk_par-loop-process-preserved
 walk_par-loop-process-preserved t c =
     components_next c.in_par-inner.result (Mark mark.Par) plain_component c.args.processes.now
-    c.loop-process.process-index c.process-item.result (known_of c.begin_par.new.scope) (omega arith) c.process-item.is c.loop-process.invariant
-    c.walk_component.ensures
+    c.loop-process.process-index c.process-item.result (known_of c.begin_par.new.scope) (omega arith)
+    c.process-item.is c.loop-process.invariant c.walk_component.ensures
 
 pub walk_par-returns : goal.walk_par-returns
 walk_par-returns t c =
@@ -72,7 +72,8 @@ walk_component-returns t c =
 pub walk_if-loop-choice-preserved : goal.walk_if-loop-choice-preserved
 walk_if-loop-choice-preserved t c =
     components_next c.args.site (Mark mark.If) choice_of c.args.choices.now c.loop-choice.choice-index
-    c.choice-item.result (known_of c.begin.new.scope) (omega arith) c.choice-item.is c.loop-choice.invariant c.walk_choice.ensures
+    c.choice-item.result (known_of c.begin.new.scope) (omega arith)
+    c.choice-item.is c.loop-choice.invariant c.walk_choice.ensures
 
 pub walk_if-returns : goal.walk_if-returns
 walk_if-returns t c =
@@ -85,7 +86,8 @@ walk_if-returns t c =
 pub walk_alt-loop-branch-preserved : goal.walk_alt-loop-branch-preserved
 walk_alt-loop-branch-preserved t c =
     components_next c.args.site (Mark mark.Alt) branch_of c.args.branches.now c.loop-branch.branch-index
-    c.branch-item.result (known_of c.begin.new.scope) (omega arith) c.branch-item.is c.loop-branch.invariant c.walk_branch.ensures
+    c.branch-item.result (known_of c.begin.new.scope) (omega arith)
+    c.branch-item.is c.loop-branch.invariant c.walk_branch.ensures
 
 pub walk_alt-returns : goal.walk_alt-returns
 walk_alt-returns t c =
