@@ -17,3 +17,4 @@ pub mod ComponentsWalked
 pub mod ComponentsShared
 pub mod TurnsWalked
 pub mod HandedOver
+pub mod ProceduresWalked

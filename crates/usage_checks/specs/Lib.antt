@@ -32,3 +32,4 @@ pub mod ProcessRules
 pub mod Walking
 pub mod Handing
 pub mod Remembering
+pub mod ItemRules

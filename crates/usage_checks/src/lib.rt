@@ -24,6 +24,7 @@ mod name_rules;
 mod par_rules;
 mod place_rules;
 mod places;
+mod procedures;
 mod processes;
 mod signature;
 mod taking;
