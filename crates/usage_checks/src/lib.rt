@@ -17,6 +17,7 @@ mod handing;
 mod indices;
 mod instance_rules;
 mod instances;
+mod items;
 mod line_rules;
 mod main_rules;
 mod mentions;
