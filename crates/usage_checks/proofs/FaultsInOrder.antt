@@ -2,7 +2,6 @@
 use Rattle.std.proofs.Common.{◌≡◌, ℕ, Bool, true, false, cond, Option, Some, None, inl, inr, refl}
 use Rattle.std.proofs.Common.{sym, ap, subst, ◌∙◌, ◌⊎◌, arith}
 use Rattle.std.proofs.lemmas.Bool.Decides.{nat_tests}
-use Rattle.scalar_ranges.specs.Moves.{Known}
 use Rattle.usage_checks.specs.declared.telling.UsageFault.{UsageFault}
 use Rattle.usage_checks.specs.declared.telling.Findings.{Findings}
 use Rattle.usage_checks.specs.Lowest.{IsLowest}
@@ -116,10 +115,10 @@ earlier_first (Some f) (Some g) x = earlier_by f g (is_before g f) refl x
 -- ---- parts of the walk
 
 -- A line is asked, and nothing moves.
-pub walks_told : {Breaks : ℕ → Type 0} (s t : Findings) (k : Known) (line : ℕ) (told : Option ℕ)
+pub walks_told : {K : Type 0} {Breaks : ℕ → Type 0} (s t : Findings) (k : K) (line : ℕ) (told : Option ℕ)
     → t.first ≡ earlier s.first (fault_at line told) → t.complete ≡ s.complete → IsLowest Breaks told
     → Walks s t k k (At line Breaks)
-walks_told {Breaks} s t k line told first complete x = record {
+walks_told {Breaks = Breaks} s t k line told first complete x = record {
   complete = λ e. sym complete ∙ e;
   known = λ e. refl;
   first = λ e. subst (IsFirst (Among s.first (At line Breaks))) (sym first)
@@ -127,12 +126,12 @@ walks_told {Breaks} s t k line told first complete x = record {
 }
 
 -- Nothing is asked.
-pub walks_moved : (s : Findings) (after wanted : Known) → after ≡ wanted → Walks s s after wanted (λ f. ⊥)
+pub walks_moved : {K : Type 0} (s : Findings) (after wanted : K) → after ≡ wanted → Walks s s after wanted (λ f. ⊥)
 walks_moved s after wanted e = record { complete = λ c. c; known = λ c. e; first = λ c. first_none s.first }
 
 -- The second part begins with what is known after the first one.
-pub walks_both : {s t w : Findings} {k l m : Known} {P : UsageFault → Type 0} (g : Known → Known)
-    (Q : Known → UsageFault → Type 0) → Walks s t k l P → Walks t w m (g k) (Q k)
+pub walks_both : {K L : Type 0} {s t w : Findings} {k l : K} {m : L} {P : UsageFault → Type 0} (g : K → L)
+    (Q : K → UsageFault → Type 0) → Walks s t k l P → Walks t w m (g k) (Q k)
     → Walks s w m (g l) (λ f. P f ⊎ Q l f)
 walks_both {s = s} {t = t} {w = w} {l = l} g Q a b = record {
   complete = λ e. a.complete (b.complete e);
@@ -142,8 +141,8 @@ walks_both {s = s} {t = t} {w = w} {l = l} g Q a b = record {
 }
 
 -- then something moves, of which nothing is asked
-pub walks_then : {s t : Findings} {k l m : Known} {P : UsageFault → Type 0} (g : Known → Known) → Walks s t k l P
-    → m ≡ g k → Walks s t m (g l) P
+pub walks_then : {K L : Type 0} {s t : Findings} {k l : K} {m : L} {P : UsageFault → Type 0} (g : K → L)
+    → Walks s t k l P → m ≡ g k → Walks s t m (g l) P
 walks_then g a e = record { complete = a.complete; known = λ c. e ∙ ap g (a.known c); first = a.first }
 
 -- the same of other words for the same faults
@@ -158,12 +157,12 @@ first_as {n = Some g} there back x = record {
   first = λ f h. elim h [ inl e ↦ x.first f (inl e) | inr q ↦ x.first f (inr (back f q)) ];
 }
 
-pub walks_as : {s t : Findings} {k l : Known} {P Q : UsageFault → Type 0} → ((f : UsageFault) → P f → Q f)
+pub walks_as : {K : Type 0} {s t : Findings} {k l : K} {P Q : UsageFault → Type 0} → ((f : UsageFault) → P f → Q f)
     → ((f : UsageFault) → Q f → P f) → Walks s t k l P → Walks s t k l Q
 walks_as there back a = record { complete = a.complete; known = a.known; first = λ c. first_as there back (a.first c) }
 
 -- Where memory was not enough nothing is said.
-pub walks_failed : (s t : Findings) (k l : Known) (P : UsageFault → Type 0) → t.complete ≡ false → Walks s t k l P
+pub walks_failed : {K : Type 0} (s t : Findings) (k l : K) (P : UsageFault → Type 0) → t.complete ≡ false → Walks s t k l P
 walks_failed s t k l P lacks =
     let never : t.complete ≡ true → ⊥ = λ e. (let x = sym lacks ∙ e in absurd cc) in
     record {
@@ -178,6 +177,11 @@ only_one P f p = inl p
 pub from_one : (P : UsageFault → Type 0) (f : UsageFault) → P f ⊎ ⊥ → P f
 from_one P f (inl p) = p
 from_one P f (inr x) = absurd x
+
+-- then something is done in which nothing is asked
+pub walks_on : {K L : Type 0} {s t w : Findings} {k l : K} {m : L} {P : UsageFault → Type 0} (g : K → L)
+    → Walks s t k l P → Walks t w m (g k) (λ f. ⊥) → Walks s w m (g l) P
+walks_on {P = P} g a b = walks_as (from_one P) (only_one P) (walks_both g (λ k f. ⊥) a b)
 
 -- two rules of one line
 pub on_line : (P Q : ℕ → Type 0) {line : ℕ} (f : UsageFault) → At line P f ⊎ At line Q f → At line (λ n. P n ⊎ Q n) f

@@ -18,3 +18,6 @@ pub mod ComponentsShared
 pub mod TurnsWalked
 pub mod HandedOver
 pub mod ProceduresWalked
+pub mod EndsInOrder
+pub mod ParametersFound
+pub mod ItemsWalked

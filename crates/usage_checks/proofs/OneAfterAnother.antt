@@ -79,3 +79,21 @@ walks_next step Breaks view xs i x d k {s} {t} {w} {l} {m} h is a b =
     subst (λ es. Walks s w m (record { entries = es; blocks = k.blocks })
     (BreaksInTurn step Breaks (ys ++ view x ∷ []) k.entries)) (sym (last_in_turn step ys (view x) k.entries)) more in
     subst (λ zs. WalksOver step Breaks zs s w k m) (seen_more view xs i x d h is) last
+
+-- the same of whatever is known
+abbrev pub WalksAll : {A S : Type 0} → (A → S → S) → (A → S → UsageFault → Type 0) → List A → (s t : Findings)
+    → (before after : S) → Type 0
+WalksAll step Breaks xs s t before after = Walks s t after (in_turn step xs before) (BreaksInTurn step Breaks xs before)
+
+pub walks_further : {A B S : Type 0} (step : B → S → S) (Breaks : B → S → UsageFault → Type 0) (view : A → B)
+    (xs : List A) (i : ℕ) (x d : A) (k : S) {s t w : Findings} {l m : S} → i < length xs → x ≡ get_or xs i d
+    → WalksAll step Breaks (map view (take i xs)) s t k l → Walks t w m (step (view x) l) (Breaks (view x) l)
+    → WalksAll step Breaks (map view (take (i + 1) xs)) s w k m
+walks_further step Breaks view xs i x d k {s} {t} {w} {l} {m} h is a b =
+    let ys = map view (take i xs) in
+    let whole = walks_as (breaks_last step Breaks ys (view x) k) (breaks_before step Breaks ys (view x) k)
+    (walks_both (step (view x)) (Breaks (view x)) a b) in
+    let last : WalksAll step Breaks (ys ++ view x ∷ []) s w k m =
+    subst (λ n. Walks s w m n (BreaksInTurn step Breaks (ys ++ view x ∷ []) k))
+    (sym (last_in_turn step ys (view x) k)) whole in
+    subst (λ zs. WalksAll step Breaks zs s w k m) (seen_more view xs i x d h is) last

@@ -1,6 +1,7 @@
 -- A set shares what one of its items shares.
 use Rattle.std.proofs.Common.{◌≡◌, ℕ, Bool, true, false, ◌&&◌, ◌||◌, List, [], ◌∷◌, nat_eq, Option, Some, None}
 use Rattle.std.proofs.Common.{inl, inr, refl, sym, ap, subst, ◌∙◌, ◌⊎◌, arith}
+use Rattle.std.proofs.lemmas.Bool.{and_parts, or_cases, or_right}
 use Rattle.std.proofs.lemmas.Bool.Decides.{nat_tests}
 use Rattle.usage_checks.specs.declared.uses.Direction.{Direction}
 use Rattle.usage_checks.specs.declared.uses.Direction.TheVariants as direction
@@ -10,18 +11,6 @@ use Rattle.usage_checks.specs.Lowest.{IsLowest, lower}
 use Rattle.usage_checks.specs.Sets.{is_same_way, is_same, is_among}
 use Rattle.usage_checks.specs.ParRules.{IsShared, BreaksSharing}
 use Rattle.usage_checks.proofs.LowestOfBoth.{none_broken, lowest_of, lowest_as, lowest_at}
-
-both_true : (a b : Bool) → (a && b) ≡ true → (a ≡ true) × (b ≡ true)
-both_true true b e = (refl, e)
-both_true false b e = absurd (let k = e in cc)
-
-either_true : (a b : Bool) → (a || b) ≡ true → (a ≡ true) ⊎ (b ≡ true)
-either_true true b e = inl refl
-either_true false b e = inr e
-
-second_true : (a b : Bool) → b ≡ true → (a || b) ≡ true
-second_true true b e = refl
-second_true false b e = e
 
 same_number : (m n : ℕ) → nat_eq m n ≡ true → m ≡ n
 same_number m n e = grind (arith, nat_tests)
@@ -42,8 +31,8 @@ same_use (used.Change m) (used.Channel n j e) h = absurd (let k = h in cc)
 same_use (used.Channel m i d) (used.Read n) h = absurd (let k = h in cc)
 same_use (used.Channel m i d) (used.Change n) h = absurd (let k = h in cc)
 same_use (used.Channel m i d) (used.Channel n j e) h =
-    let x = both_true (nat_eq m n) (nat_eq i j && is_same_way d e) h in
-    let y = both_true (nat_eq i j) (is_same_way d e) x.1 in
+    let x = and_parts (nat_eq m n) (nat_eq i j && is_same_way d e) h in
+    let y = and_parts (nat_eq i j) (is_same_way d e) x.1 in
     λ k. used.Channel (same_number m n x.0 k) (same_number i j y.0 k) (same_way d e y.1 k)
 
 number_itself : (m : ℕ) → nat_eq m m ≡ true
@@ -75,13 +64,13 @@ more_shares : (count : ℕ) (before : Use → Bool) (v : Use) (items : List Use)
     → BreaksSharing count before (is_among (v ∷ items)) n
 more_shares count before v items n (inl p) = (v, (λ k. use_itself v k || is_among items v), p)
 more_shares count before v items n (inr h) =
-    (h.0, second_true (is_same h.0 v) (is_among items h.0) h.1, h.2)
+    (h.0, or_right (is_same h.0 v) (is_among items h.0) h.1, h.2)
 
 shares_more : (count : ℕ) (before : Use → Bool) (v : Use) (items : List Use) (n : ℕ)
     → BreaksSharing count before (is_among (v ∷ items)) n
     → IsShared count before v n ⊎ BreaksSharing count before (is_among items) n
 shares_more count before v items n h =
-    elim (either_true (is_same h.0 v) (is_among items h.0) h.1) [
+    elim (or_cases (is_same h.0 v) (is_among items h.0) h.1) [
       | inl e ↦ inl (subst (λ u. IsShared count before u n) (same_use h.0 v e) h.2)
       | inr e ↦ inr (h.0, e, h.2)
     ]

@@ -38,18 +38,26 @@ turns_from counted (Some base) count =
 turns_from counted None count = record { first = None; count = 1 }
 
 -- The body of a replicated SEQ is gone over once, of another block once for each index, from the base on.
+abbrev pub turns_for : Bool → Bool → Option ℤ → Option ℤ → Turns
+turns_for counted true base count = record { first = None; count = 1 }
+turns_for counted false base count = turns_from counted base count
+
 abbrev pub turns_of : Bool → List Entry → Bool → Replicator → Turns
-turns_of counted es true r = record { first = None; count = 1 }
-turns_of counted es false r = turns_from counted (value_as es types.Int r.base) (value_as es types.Int r.count)
+turns_of counted es sequential r =
+    turns_for counted sequential (value_as es types.Int r.base) (value_as es types.Int r.count)
 
 -- the index of a turn
 abbrev pub index_at : Option ℤ → ℕ → Option ℤ
 index_at first n = option_and_then (λ v. checked (v +ℤ pos n)) first
 
--- The index of a SEQ is a number of which nothing is known here, and that of another block is a constant.
+-- The index of a SEQ is a number in a range, and that of another block is a constant.
+abbrev pub index_of : Bool → Ends → Option ℤ → Meaning
+index_of true range value = Scalar scalar.Index value_type.Int range
+index_of false range value = Constant value_type.Int value
+
+-- where nothing is known of the index of a SEQ
 abbrev pub index_meaning : Bool → Option ℤ → Meaning
-index_meaning true value = Scalar scalar.Index value_type.Int full
-index_meaning false value = Constant value_type.Int value
+index_meaning sequential value = index_of sequential full value
 
 -- Whether a body is gone over as often as it runs: its count is from 1 on and breaks no rule, and it is counted.
 abbrev pub happens : Bool → Option ℤ → Option ℤ → Bool
@@ -85,10 +93,6 @@ seen_repeats r = record {
   indices = ends_of r.indices;
   happens = r.happens;
 }
-
-abbrev pub index_of : Bool → Ends → Option ℤ → Meaning
-index_of true range value = Scalar scalar.Index value_type.Int range
-index_of false range value = Constant value_type.Int value
 
 -- what the index of a block stands for in a turn
 abbrev pub index_in : Repeats → ℕ → Meaning

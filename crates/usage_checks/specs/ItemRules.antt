@@ -1,17 +1,23 @@
--- The rules of a procedure, and what is known after it.
-use Rattle.std.specs.Prelude.{ℕ, Bool, length, ◌⊎◌}
-use Rattle.occam_parser.specs.Blocks.{Procedure}
+-- The rules of a program's items, and what is known after each of them.
+use Rattle.std.specs.Prelude.{ℕ, suc, Bool, List, [], ◌∷◌, ◌++◌, length, ◌⊎◌, Option}
+use Rattle.occam_parser.specs.Lines.{Constants, Formal}
+use Rattle.occam_parser.specs.Blocks.{Procedure, ProgramItem, GlobalConstant, GlobalProcedure}
 use Rattle.scalar_ranges.specs.Entries as entries
+use Rattle.scalar_ranges.specs.Entries.{Entry}
 use Rattle.scalar_ranges.specs.Moves.{Known}
 use Rattle.usage_checks.specs.declared.channel_rules.Position.{Position}
+use Rattle.usage_checks.specs.declared.ends.ChannelEnd.{ChannelEnd}
 use Rattle.usage_checks.specs.declared.telling.UsageFault.{UsageFault}
 use Rattle.usage_checks.specs.Actions.{Around}
 use Rattle.usage_checks.specs.AfterProcesses.{inside, left_to}
-use Rattle.usage_checks.specs.Declaring.{add, add_formals}
+use Rattle.usage_checks.specs.Declaring.{add, add_declaration, formal_meaning, add_formals}
+use Rattle.usage_checks.specs.Ends.{sorted_ends, ends_at}
 use Rattle.usage_checks.specs.FormalRules.{BreakSizes, BreakFormals}
 use Rattle.usage_checks.specs.MainRules.{is_main_name}
-use Rattle.usage_checks.specs.NameRules.{BreaksName, with_entries}
+use Rattle.usage_checks.specs.NameRules.{BreaksName, BreaksDeclared, with_entries}
+use Rattle.usage_checks.specs.Processes.{uses_of}
 use Rattle.usage_checks.specs.ProcessRules.{BreaksIn}
+use Rattle.usage_checks.specs.Signatures.{Parameter}
 use Rattle.usage_checks.specs.Telling.{At}
 
 -- where the body of a procedure begins
@@ -42,3 +48,44 @@ after_named a p k =
 
 abbrev pub BreaksNamed : Around → Procedure → Known → UsageFault → Type 0
 BreaksNamed a p k f = BreaksProcedure a p k f ⊎ BreaksName 0 p.line p.head.name (after_procedure a p k).entries f
+
+-- ---- what those know of it that call it
+
+-- parameters, by their numbers from this one on: what they stand for, and the ends of those that are channels
+abbrev pub parameters_from : List Entry → ℕ → List ChannelEnd → List Formal → List Parameter
+parameters_from es number ds [] = []
+parameters_from es number ds (f ∷ fs) =
+    record { meaning = formal_meaning es f; ends = ends_at number ds } ∷ parameters_from es (suc number) ds fs
+
+abbrev pub signature_of : Around → Procedure → Known → List Parameter
+signature_of a p k =
+    let ds = sorted_ends (uses_of a (in_body p k).entries p.body) in
+    parameters_from k.entries (length k.entries) ds p.head.formals
+
+-- ---- items
+
+-- What is known after some items: of the names, of the procedures among them, and from which line on nothing is
+-- counted.
+pub record Outside : Type 0 where
+  pub known : Known
+  pub signatures : List (List Parameter)
+  pub uncounted : Option ℕ
+
+abbrev pub around_in : Outside → Around
+around_in o = record { signatures = o.signatures; uncounted = o.uncounted }
+
+abbrev pub after_item : ProgramItem → Outside → Outside
+after_item (GlobalConstant c) o = record {
+  known = with_entries (add_declaration (Constants c)) o.known;
+  signatures = o.signatures;
+  uncounted = o.uncounted;
+}
+after_item (GlobalProcedure p) o = record {
+  known = after_named (around_in o) p o.known;
+  signatures = o.signatures ++ signature_of (around_in o) p o.known ∷ [];
+  uncounted = o.uncounted;
+}
+
+abbrev pub BreaksItem : ProgramItem → Outside → UsageFault → Type 0
+BreaksItem (GlobalConstant c) o f = BreaksDeclared 0 (Constants c) o.known.entries f
+BreaksItem (GlobalProcedure p) o f = BreaksNamed (around_in o) p o.known f

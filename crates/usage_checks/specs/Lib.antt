@@ -4,6 +4,7 @@ pub mod Mentions
 pub mod Places
 pub mod PlaceViews
 pub mod Signatures
+pub mod Ends
 pub mod Instances
 pub mod Actions
 pub mod ActionViews
@@ -33,3 +34,4 @@ pub mod Walking
 pub mod Handing
 pub mod Remembering
 pub mod ItemRules
+pub mod ItemViews

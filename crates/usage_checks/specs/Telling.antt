@@ -1,7 +1,6 @@
 -- Which fault of a program is told: one at the lowest line, and there the one with the lowest number.
 use Rattle.std.specs.Prelude.{◌≡◌, ℕ, ◌<◌, ◌≤◌, nat_lt, nat_eq, Bool, true, ◌&&◌, ◌||◌, ◌⊎◌, if◌then◌else◌}
 use Rattle.std.specs.Prelude.{Option, Some, None, IfSome, IsSomeAnd}
-use Rattle.scalar_ranges.specs.Moves.{Known}
 use Rattle.usage_checks.specs.declared.telling.UsageFault.{UsageFault}
 use Rattle.usage_checks.specs.declared.telling.Findings.{Findings}
 
@@ -35,7 +34,7 @@ Among old Breaks f = (old ≡ Some f) ⊎ Breaks f
 
 -- A part of a program is gone over. If memory was enough, what is known after it is what is wanted, and of the faults
 -- so far and of those in it the first one is told.
-pub record Walks (old new : Findings) (after wanted : Known) (Breaks : UsageFault → Type 0) : Type 0 where
+pub record Walks {K : Type 0} (old new : Findings) (after wanted : K) (Breaks : UsageFault → Type 0) : Type 0 where
   pub complete : new.complete ≡ true → old.complete ≡ true
   pub known : new.complete ≡ true → after ≡ wanted
   pub first : new.complete ≡ true → IsFirst (Among old.first Breaks) new.first

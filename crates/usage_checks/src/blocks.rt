@@ -9,15 +9,13 @@ ghost use Rattle.occam_parser.specs.BlockViews.{body_of};
 ghost use Rattle.occam_parser.specs.BlockViews.{all_processes, all_choices, all_branches};
 ghost use Rattle.std.specs.Prelude.{◌≡◌, ℕ, true};
 ghost use Rattle.scalar_ranges.specs.Moves.{begin, begin_par, begin_loop, is_one_of};
-ghost use Rattle.scalar_ranges.specs.Scopes.{entries_of, known_of, meaning_of};
+ghost use Rattle.scalar_ranges.specs.Scopes.{entries_of, known_of};
 ghost use Rattle.usage_checks.specs.ActionViews.{around_of};
 ghost use Rattle.usage_checks.specs.AfterProcesses.{changes_in, unless, begun_turns, repeated};
 ghost use Rattle.usage_checks.specs.ProcessRules.{BreakSharing, BreaksRepeated, position_in};
 ghost use Rattle.usage_checks.specs.Processes.{uses_of, uses_of_body};
 ghost use Rattle.usage_checks.specs.Telling.{At, Walks};
-ghost use Rattle.usage_checks.specs.Declaring.{add};
 ghost use Rattle.usage_checks.specs.LineRules.{BreaksReplicator};
-ghost use Rattle.usage_checks.specs.NameRules.{with_entries};
 ghost use Rattle.usage_checks.specs.Walking.{WalksProcess, WalksConstruct, WalksBlock, WalksComponent};
 ghost use Rattle.usage_checks.specs.Walking.{word_of, WalksBody, WalksTurn};
 
@@ -30,7 +28,7 @@ use crate::indices::{is_sequence, repeats_of};
 use crate::line_rules::fault_of_replicator;
 use crate::telling::Findings;
 use occam_parser::{Action, Body, Branch, Choice, Construct, Process, Replicator};
-use scalar_ranges::{Entry, Meaning, Scope};
+use scalar_ranges::Scope;
 use std::alloc::Global;
 
 /// Where a process stands, and what is known of the program there.
@@ -142,17 +140,6 @@ impl Findings {
             (At line (BreaksReplicator (entries_of scope.now) (replicator_of replicator.now))) }
     {
         self.tell(line, fault_of_replicator(scope, replicator));
-    }
-
-    /// The index of a turn in the scope.
-    fn enter_index<'a>(&mut self, scope: &mut Scope<'a>, name: &'a [u8], meaning: Meaning)
-        ensures { Walks self.old self.new (known_of scope.new)
-            (with_entries (add name.now (meaning_of meaning)) (known_of scope.old)) (λ f. ⊥) }
-    {
-        match scope.declare(Entry { name, meaning }) {
-            Ok(()) => {}
-            Err(_) => self.fail(),
-        }
     }
 
     /// The body of a replicated `SEQ` begins.
@@ -429,7 +416,7 @@ impl Findings {
         self.begin_unless(scope, repeats.happens);
         self.begin_turns(site, scope, line, replicator, body);
         for turn in 0..repeats.turns.count {
-            self.enter_index(scope, replicator.name, repeats.index_in(turn));
+            self.enter(scope, replicator.name, repeats.index_in(turn));
             self.walk_turn(inner, scope, body);
         }
         end_body(scope, repeats.happens);

@@ -4,8 +4,9 @@ ghost use Rattle.std.specs.Prelude.{◌≡◌, IfOk, [], map, option_map};
 ghost use Rattle.occam_parser.specs.Views.{expression_of};
 ghost use Rattle.occam_parser.specs.LineViews.{action_of};
 ghost use Rattle.scalar_ranges.specs.Scopes.{entries_of, known_of, meaning_of};
-ghost use Rattle.usage_checks.specs.Handing.{are_values, handed_as, handed_to, handed_by, handed_all, AreAgain};
-ghost use Rattle.usage_checks.specs.Handing.{PassesTwice};
+ghost use Rattle.usage_checks.specs.declared.handing.Handed.TheVariants as handed;
+ghost use Rattle.usage_checks.specs.Handing.{are_values, handed_if, handed_as, handed_to, handed_by, handed_all};
+ghost use Rattle.usage_checks.specs.Handing.{AreAgain, PassesTwice};
 ghost use Rattle.usage_checks.specs.Lowest.{IsLowest};
 ghost use Rattle.usage_checks.specs.PlaceViews.{place_at, any_place};
 ghost use Rattle.usage_checks.specs.Remembering.{remembered, is_again};
@@ -50,6 +51,16 @@ fn are_values(meaning: Meaning) -> bool
     }
 }
 
+/// What is whole, if it has a number.
+fn whole(number: Option<usize>) -> Handed
+    ensures { result ≡ handed_if handed.Whole number }
+{
+    match number {
+        Some(number) => Handed::Whole(number),
+        None => Handed::Nothing,
+    }
+}
+
 /// What a place is that is passed so.
 fn handed_as(scope: &Scope, values: bool, passing: Passing, place: PlaceRef) -> Handed
     ensures { result ≡ handed_as values passing (entries_of scope.now) (place_at place.entry) }
@@ -60,18 +71,12 @@ fn handed_as(scope: &Scope, values: bool, passing: Passing, place: PlaceRef) -> 
             Some(number) => Handed::Values(number),
             None => Handed::Nothing,
         },
-        Passing::Variable => match variable_at(scope, place) {
-            Some(number) => Handed::Whole(number),
-            None => Handed::Nothing,
-        },
+        Passing::Variable => whole(variable_at(scope, place)),
         Passing::Channel => match spot_of(scope, place) {
             Some(spot) => Handed::Element(spot),
             None => Handed::Nothing,
         },
-        Passing::Channels => match array_at(scope, place) {
-            Some(number) => Handed::Whole(number),
-            None => Handed::Nothing,
-        },
+        Passing::Channels => whole(array_at(scope, place)),
     }
 }
 

@@ -1,12 +1,12 @@
 //! The turns in which the body of a replicator is gone over.
 
-ghost use Rattle.std.specs.Prelude.{◌≡◌, ◌+ℤ◌, ◌-ℤ◌, pos, true};
+ghost use Rattle.std.specs.Prelude.{◌≡◌, ◌+ℤ◌, ◌-ℤ◌, pos, true, None};
 ghost use Rattle.occam_parser.specs.LineViews.{replicator_of};
 ghost use Rattle.occam_parser.specs.BlockViews.{body_of};
 ghost use Rattle.scalar_ranges.specs.Scopes.{entries_of, meaning_of};
-ghost use Rattle.usage_checks.specs.Indices.{is_sequence, is_count, count_of, turns_from, turns_of, index_at};
-ghost use Rattle.usage_checks.specs.Indices.{index_meaning, happens, index_range, repeats_of, seen_repeats, index_of};
-ghost use Rattle.usage_checks.specs.Indices.{index_in};
+ghost use Rattle.usage_checks.specs.Indices.{is_sequence, is_count, count_of, turns_from, turns_for, turns_of};
+ghost use Rattle.usage_checks.specs.Indices.{index_at, index_of, index_meaning, happens, index_range, repeats_of};
+ghost use Rattle.usage_checks.specs.Indices.{seen_repeats, index_in};
 ghost use Rattle.word_arithmetic.specs.Range.{ends_of};
 
 use crate::constants::value_as;
@@ -19,6 +19,26 @@ use word_arithmetic::Range;
 pub(crate) struct Turns {
     pub(crate) first: Option<i32>,
     pub(crate) count: u32,
+}
+
+impl Turns {
+    /// Gone over once, with no index that is known.
+    fn once() -> Turns
+        ensures first { result.first ≡ None }
+        ensures count { result.count ≡ 1 }
+    {
+        Turns {
+            first: None,
+            count: 1,
+        }
+    }
+
+    /// The index of a turn.
+    pub(crate) fn index_at(self, turn: u32) -> Option<i32>
+        ensures { result ≡ index_at self.first turn }
+    {
+        i32::try_from(i64::from(self.first?) + i64::from(turn)).ok()
+    }
 }
 
 /// Whether a count is from 1 on, and the last index is a word.
@@ -42,10 +62,7 @@ fn turns_from(counted: bool, base: Option<i32>, count: Option<i32>) -> Turns
     ensures { result ≡ turns_from counted base count }
 {
     match base {
-        None => Turns {
-            first: None,
-            count: 1,
-        },
+        None => Turns::once(),
         Some(first) => Turns {
             first: Some(first),
             count: if counted { count_of(first, count) } else { 1 },
@@ -63,7 +80,18 @@ pub(crate) fn is_sequence(body: &Body) -> bool
     }
 }
 
-/// The turns in which the body of a replicator is gone over: one for a `SEQ`, and where nothing is counted.
+/// The turns in which a body is gone over: one for a `SEQ`, and where nothing is counted.
+fn turns_for(counted: bool, sequential: bool, base: Option<i32>, count: Option<i32>) -> Turns
+    ensures { result ≡ turns_for counted sequential base count }
+{
+    if sequential {
+        Turns::once()
+    } else {
+        turns_from(counted, base, count)
+    }
+}
+
+/// The turns in which the body of a replicator is gone over.
 pub(crate) fn turns_of(
     counted: bool,
     scope: &Scope,
@@ -72,42 +100,34 @@ pub(crate) fn turns_of(
 ) -> Turns
     ensures { result ≡ turns_of counted (entries_of scope.now) sequential (replicator_of replicator.now) }
 {
-    if sequential {
-        return Turns {
-            first: None,
-            count: 1,
-        };
-    }
     let base = value_as(scope, ExprType::Int, &replicator.base);
     let count = value_as(scope, ExprType::Int, &replicator.count);
-    turns_from(counted, base, count)
+    turns_for(counted, sequential, base, count)
 }
 
-impl Turns {
-    /// The index of a turn.
-    pub(crate) fn index_at(self, turn: u32) -> Option<i32>
-        ensures { result ≡ index_at self.first turn }
-    {
-        i32::try_from(i64::from(self.first?) + i64::from(turn)).ok()
-    }
-}
-
-/// What a replicator stands for, at this index.
-pub(crate) fn index_meaning(sequential: bool, index: Option<i32>) -> Meaning
-    ensures { meaning_of result ≡ index_meaning sequential index }
+/// What an index stands for: a number in a range under a `SEQ`, and a constant under another block.
+fn index_of(sequential: bool, range: Range, value: Option<i32>) -> Meaning
+    ensures { meaning_of result ≡ index_of sequential (ends_of range) value }
 {
     if sequential {
         Meaning::Scalar {
             kind: ScalarKind::Index,
             value_type: ValueType::Int,
-            range: Range::full(),
+            range,
         }
     } else {
         Meaning::Constant {
             value_type: ValueType::Int,
-            value: index,
+            value,
         }
     }
+}
+
+/// What an index stands for where nothing is known of that of a `SEQ`.
+pub(crate) fn index_meaning(sequential: bool, index: Option<i32>) -> Meaning
+    ensures { meaning_of result ≡ index_meaning sequential index }
+{
+    index_of(sequential, Range::full(), index)
 }
 
 /// How the body of a replicator is gone over.
@@ -166,7 +186,7 @@ pub(crate) fn repeats_of(
     let count = value_as(scope, ExprType::Int, &replicator.count);
     Repeats {
         sequential,
-        turns: turns_of(counted, scope, sequential, replicator),
+        turns: turns_for(counted, sequential, base, count),
         indices: index_range(base, count),
         happens: sequential || happens(counted, base, count),
     }
@@ -177,17 +197,6 @@ impl Repeats {
     pub(crate) fn index_in(self, turn: u32) -> Meaning
         ensures { meaning_of result ≡ index_in (seen_repeats self) turn }
     {
-        if self.sequential {
-            Meaning::Scalar {
-                kind: ScalarKind::Index,
-                value_type: ValueType::Int,
-                range: self.indices,
-            }
-        } else {
-            Meaning::Constant {
-                value_type: ValueType::Int,
-                value: self.turns.index_at(turn),
-            }
-        }
+        index_of(self.sequential, self.indices, self.turns.index_at(turn))
     }
 }

@@ -1,24 +1,44 @@
 //! The walk over the items of a program.
 
-ghost use Rattle.std.specs.Prelude.{◌≡◌, length, IfSome};
+ghost use Rattle.std.specs.Prelude.{◌≡◌, true, fold, [], ◌∷◌, ◌++◌, length, map, IfOk, IfSome};
 ghost use Rattle.occam_parser.specs.Lines.{Constants};
 ghost use Rattle.occam_parser.specs.LineViews.{constant_of};
-ghost use Rattle.occam_parser.specs.BlockViews.{procedure_of};
+ghost use Rattle.occam_parser.specs.Blocks.{GlobalProcedure};
+ghost use Rattle.occam_parser.specs.BlockViews.{procedure_of, item_of};
+ghost use Rattle.scalar_ranges.specs.Entries.{Procedure};
 ghost use Rattle.scalar_ranges.specs.Scopes.{entries_of, known_of};
 ghost use Rattle.usage_checks.specs.ActionViews.{around_of};
-ghost use Rattle.usage_checks.specs.Declaring.{add_declaration};
-ghost use Rattle.usage_checks.specs.ItemRules.{after_named, BreaksNamed};
-ghost use Rattle.usage_checks.specs.NameRules.{with_entries, BreaksDeclared};
+ghost use Rattle.usage_checks.specs.Declaring.{add, add_declaration};
+ghost use Rattle.usage_checks.specs.Ends.{sorted_ends, with_end};
+ghost use Rattle.usage_checks.specs.InTurn.{in_turn, BreaksInTurn};
+ghost use Rattle.usage_checks.specs.ItemRules.{after_named, BreaksNamed, signature_of, after_item, BreaksItem};
+ghost use Rattle.usage_checks.specs.ItemViews.{seen_outside};
+ghost use Rattle.usage_checks.specs.NameRules.{with_entries, BreaksName, BreaksDeclared};
+ghost use Rattle.usage_checks.specs.Signatures.{parameter_of, parameters_of, signatures_of};
 ghost use Rattle.usage_checks.specs.Telling.{Walks};
 
 use crate::actions::Around;
 use crate::declaration_rules::fault_of_value;
 use crate::declaring::constant_meaning;
-use crate::signature::Signature;
+use crate::ends::{add_ends, sorted_ends};
+use crate::formal_rules::parameters_for;
+use crate::signature::{Parameter, Signature};
 use crate::telling::Findings;
-use occam_parser::{Constant, Proc};
+use crate::uses::Uses;
+use occam_parser::{Constant, Item, Proc};
 use scalar_ranges::{Meaning, Scope};
-use std::alloc::Global;
+use std::alloc::{AllocError, Global};
+
+/// What is known after some items of a program.
+pub(crate) struct Outside<'a> {
+    pub(crate) alloc: Global,
+    /// The names.
+    pub(crate) scope: Scope<'a>,
+    /// The procedures, by their numbers.
+    pub(crate) signatures: Vec<Signature>,
+    /// The line from which on nothing is counted, if there is one.
+    pub(crate) uncounted: Option<u32>,
+}
 
 /// The number of the procedure after these, if it is one.
 fn next_number(signatures: &[Signature]) -> Option<u32>
@@ -27,9 +47,26 @@ fn next_number(signatures: &[Signature]) -> Option<u32>
     u32::try_from(signatures.len()).ok()
 }
 
+/// What is known of a procedure: of its formals by their head, and of those that are channels the ends that its body
+/// uses. The first formal has this number.
+fn signed(
+    alloc: Global,
+    parameters: Vec<Parameter>,
+    first: usize,
+    used: &Uses,
+) -> Result<Signature, AllocError>
+    ensures { IfOk result (λ s. parameters_of s
+        ≡ fold (with_end first) (map parameter_of parameters.items) (sorted_ends used.now.set.keys)) }
+{
+    let mut parameters = parameters;
+    let ends = sorted_ends(alloc, used)?;
+    add_ends(&mut parameters, first, &ends)?;
+    Ok(Signature { parameters })
+}
+
 impl Findings {
     /// A constant of the program.
-    pub(crate) fn walk_constant<'a>(&mut self, scope: &mut Scope<'a>, constant: &Constant<'a>)
+    fn walk_constant<'a>(&mut self, scope: &mut Scope<'a>, constant: &Constant<'a>)
         ensures { Walks self.old self.new (known_of scope.new)
             (with_entries (add_declaration (Constants (constant_of constant.now))) (known_of scope.old))
             (BreaksDeclared 0 (Constants (constant_of constant.now)) (entries_of scope.old)) }
@@ -40,22 +77,86 @@ impl Findings {
         self.walk_name(scope, 0, constant.line, constant.name, meaning);
     }
 
-    /// A procedure, and its name, which those after it know by how many procedures were before it.
-    pub(crate) fn walk_named<'a>(
+    /// The name of a procedure, which those after it know by how many procedures were before it.
+    fn walk_number<'a>(&mut self, scope: &mut Scope<'a>, signatures: &[Signature], proc: &Proc<'a>)
+        ensures { let p = procedure_of proc.now in
+            Walks self.old self.new (known_of scope.new)
+            (with_entries (add p.head.name (Procedure (length signatures.now))) (known_of scope.old))
+            (BreaksName 0 p.line p.head.name (entries_of scope.old)) }
+    {
+        match next_number(signatures) {
+            Some(number) => self.walk_name(scope, 0, proc.line, proc.name, Meaning::Proc(number)),
+            None => self.fail(),
+        }
+    }
+
+    /// A procedure, and its name. Returns what is known of it by those that call it.
+    fn walk_named<'a>(
         &mut self,
         alloc: Global,
         around: Around,
         scope: &mut Scope<'a>,
         proc: &Proc<'a>,
-    )
-        ensures { Walks self.old self.new (known_of scope.new)
+    ) -> Result<Signature, AllocError>
+        ensures walks { Walks self.old self.new (known_of scope.new)
             (after_named (around_of around.entry) (procedure_of proc.now) (known_of scope.old))
             (BreaksNamed (around_of around.entry) (procedure_of proc.now) (known_of scope.old)) }
+        ensures signature { IfOk result (λ s. self.new.complete ≡ true → parameters_of s
+            ≡ signature_of (around_of around.entry) (procedure_of proc.now) (known_of scope.old)) }
     {
-        self.walk_procedure(alloc, around, scope, proc);
-        match next_number(around.signatures) {
-            Some(number) => self.walk_name(scope, 0, proc.line, proc.name, Meaning::Proc(number)),
-            None => self.fail(),
+        let first = scope.len();
+        let parameters = parameters_for(alloc, scope, &proc.formals);
+        let used = self.walk_procedure(alloc, around, scope, proc);
+        self.walk_number(scope, around.signatures, proc);
+        signed(alloc, parameters?, first, &used)
+    }
+
+    /// One procedure more.
+    fn sign(&mut self, signatures: &mut Vec<Signature>, signature: Signature)
+        ensures { Walks self.old self.new (signatures_of signatures.new.items)
+            (signatures_of signatures.old.items ++ parameters_of signature ∷ []) (λ f. ⊥) }
+    {
+        if signatures.push(signature).is_err() {
+            self.fail();
+        }
+    }
+
+    /// A procedure, with what is known of it afterwards.
+    fn walk_signed<'a>(&mut self, outside: &mut Outside<'a>, proc: &Proc<'a>)
+        ensures { let item = GlobalProcedure (procedure_of proc.now) in
+            Walks self.old self.new (seen_outside outside.new) (after_item item (seen_outside outside.old))
+            (BreaksItem item (seen_outside outside.old)) }
+    {
+        let around = Around {
+            signatures: &outside.signatures,
+            uncounted: outside.uncounted,
+        };
+        match self.walk_named(outside.alloc, around, &mut outside.scope, proc) {
+            Ok(signature) => self.sign(&mut outside.signatures, signature),
+            Err(_) => self.fail(),
+        }
+    }
+
+    /// An item of the program.
+    fn walk_item<'a>(&mut self, outside: &mut Outside<'a>, item: &Item<'a>)
+        ensures { Walks self.old self.new (seen_outside outside.new)
+            (after_item (item_of item.now) (seen_outside outside.old))
+            (BreaksItem (item_of item.now) (seen_outside outside.old)) }
+    {
+        match item {
+            Item::Constant(constant) => self.walk_constant(&mut outside.scope, constant),
+            Item::Proc(proc) => self.walk_signed(outside, proc),
+        }
+    }
+
+    /// The items of a program, one after the other.
+    pub(crate) fn walk_items<'a>(&mut self, outside: &mut Outside<'a>, items: &[Item<'a>])
+        ensures { Walks self.old self.new (seen_outside outside.new)
+            (in_turn after_item (map item_of items.now) (seen_outside outside.old))
+            (BreaksInTurn after_item BreaksItem (map item_of items.now) (seen_outside outside.old)) }
+    {
+        for item in items {
+            self.walk_item(outside, item);
         }
     }
 }

@@ -9,6 +9,7 @@ mod components;
 mod constants;
 mod declaration_rules;
 mod declaring;
+mod ends;
 mod entering;
 mod faults;
 mod following;

@@ -64,6 +64,16 @@ fn declared_meaning(scope: &Scope, declaration: &Declaration) -> Meaning
 }
 
 impl Findings {
+    /// One name more in the scope.
+    pub(crate) fn enter<'a>(&mut self, scope: &mut Scope<'a>, name: &'a [u8], meaning: Meaning)
+        ensures { Walks self.old self.new (known_of scope.new)
+            (with_entries (add name.now (meaning_of meaning)) (known_of scope.old)) (λ f. ⊥) }
+    {
+        if scope.declare(Entry { name, meaning }).is_err() {
+            self.fail();
+        }
+    }
+
     /// A name in the scope, of a line of the innermost scope.
     pub(crate) fn walk_name<'a>(
         &mut self,
@@ -78,10 +88,7 @@ impl Findings {
             (At line (IsTwice first (entries_of scope.old) name.now)) }
     {
         self.tell(line, twice(scope, first, name));
-        match scope.declare(Entry { name, meaning }) {
-            Ok(()) => {}
-            Err(_) => self.fail(),
-        }
+        self.enter(scope, name, meaning);
     }
 
     /// The names of a line in the scope.

@@ -1,14 +1,16 @@
 //! The walk over procedures.
 
-ghost use Rattle.std.specs.Prelude.{length, map, ◌⊎◌};
+ghost use Rattle.std.specs.Prelude.{◌≡◌, true, length, map, ◌⊎◌};
 ghost use Rattle.occam_parser.specs.LineViews.{formal_of};
-ghost use Rattle.occam_parser.specs.BlockViews.{procedure_of};
+ghost use Rattle.occam_parser.specs.BlockViews.{process_of, procedure_of};
 ghost use Rattle.scalar_ranges.specs.Scopes.{entries_of, known_of};
 ghost use Rattle.usage_checks.specs.ActionViews.{around_of};
 ghost use Rattle.usage_checks.specs.Declaring.{add_formals};
 ghost use Rattle.usage_checks.specs.FormalRules.{BreakSizes, BreakFormals};
-ghost use Rattle.usage_checks.specs.ItemRules.{after_procedure, BreaksProcedure};
+ghost use Rattle.usage_checks.specs.ItemRules.{in_body, after_procedure, BreaksProcedure};
 ghost use Rattle.usage_checks.specs.NameRules.{with_entries};
+ghost use Rattle.usage_checks.specs.Processes.{uses_of};
+ghost use Rattle.usage_checks.specs.Sets.{has, is_among};
 ghost use Rattle.usage_checks.specs.Telling.{At, Walks};
 
 use crate::actions::Around;
@@ -17,7 +19,8 @@ use crate::channel_rules::Position;
 use crate::formal_rules::{fault_of_sizes, parameters_for};
 use crate::main_rules::is_main_name;
 use crate::telling::Findings;
-use occam_parser::{Formal, Proc};
+use crate::uses::{Use, Uses};
+use occam_parser::{Formal, Proc, Process};
 use scalar_ranges::Scope;
 use std::alloc::Global;
 
@@ -43,20 +46,44 @@ impl Findings {
         }
     }
 
-    /// A procedure, with its formals and its body, but for its name.
+    /// What a process uses. The scope is afterwards as it was.
+    fn uses<'a>(
+        &mut self,
+        alloc: Global,
+        around: Around,
+        scope: &mut Scope<'a>,
+        process: &Process<'a>,
+    ) -> Uses
+        ensures walks { Walks self.old self.new (known_of scope.new) (known_of scope.old) (λ f. ⊥) }
+        ensures uses { self.new.complete ≡ true → (u : Use) → has result u
+            ≡ is_among (uses_of (around_of around.entry) (entries_of scope.old) (process_of process.now)) u }
+    {
+        let mut used = Uses::new(alloc);
+        used.collect(around, scope, process);
+        if !used.is_complete() {
+            self.fail();
+        }
+        used
+    }
+
+    /// A procedure, with its formals and its body, but for its name. Returns what its body uses.
     pub(crate) fn walk_procedure<'a>(
         &mut self,
         alloc: Global,
         around: Around,
         scope: &mut Scope<'a>,
         proc: &Proc<'a>,
-    )
-        ensures { Walks self.old self.new (known_of scope.new)
+    ) -> Uses
+        ensures walks { Walks self.old self.new (known_of scope.new)
             (after_procedure (around_of around.entry) (procedure_of proc.now) (known_of scope.old))
             (BreaksProcedure (around_of around.entry) (procedure_of proc.now) (known_of scope.old)) }
+        ensures uses { let p = procedure_of proc.now in
+            self.new.complete ≡ true → (u : Use) → has result u
+            ≡ is_among (uses_of (around_of around.entry) (in_body p (known_of scope.old)).entries p.body) u }
     {
         let count = scope.len();
         self.walk_head(alloc, scope, proc.line, &proc.formals);
+        let used = self.uses(alloc, around, scope, &proc.body);
         let position = Position {
             formals: count,
             declared: scope.len(),
@@ -70,5 +97,6 @@ impl Findings {
         };
         self.walk(site, scope, &proc.body);
         scope.leave(count);
+        used
     }
 }

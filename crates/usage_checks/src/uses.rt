@@ -7,14 +7,14 @@ use std::collections::HashSet;
 use std::collections::hash_set::Iter;
 
 /// Which end of a channel is used.
-#[derive(Clone, Copy, PartialEq, Eq, Hash)]
+#[derive(Clone, Copy, PartialEq, Eq, PartialOrd, Ord, Hash)]
 pub enum Direction {
     Input,
     Output,
 }
 
 /// An end of a channel, or of an element of an array of channels. A channel that is no array has element 0 alone.
-#[derive(Clone, Copy)]
+#[derive(Clone, Copy, PartialEq, Eq, PartialOrd, Ord)]
 pub struct End {
     pub element: u32,
     pub direction: Direction,

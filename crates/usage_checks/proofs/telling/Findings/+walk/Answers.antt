@@ -145,7 +145,7 @@ pub walk_body-loop-turn-preserved : goal.walk_body-loop-turn-preserved
 walk_body-loop-turn-preserved t c =
     turns_more (body_of c.args.body.now) c.in_body-inner.result (replicator_of c.args.replicator.now)
     (seen_repeats c.repeats_of-repeats.result) c.loop-turn.turn (meaning_of c.index_in.result)
-    (known_of c.begin_turns.new.scope) c.index_in.ensures c.loop-turn.invariant c.enter_index.ensures
+    (known_of c.begin_turns.new.scope) c.index_in.ensures c.loop-turn.invariant c.enter.ensures
     c.walk_turn.ensures
 
 pub walk_body-returns : goal.walk_body-returns

@@ -1,0 +1,79 @@
+//! The ends that a procedure uses of its channels.
+
+ghost use Rattle.std.specs.Prelude.{◌≡◌, IfOk, OnOk, fold, map};
+ghost use Rattle.usage_checks.specs.Ends.{sorted_ends, pushed_at, with_end};
+ghost use Rattle.usage_checks.specs.Signatures.{parameter_of};
+
+use crate::signature::Parameter;
+use crate::uses::{End, Use, Uses};
+use std::alloc::{AllocError, Global};
+use std::collections::BTreeSet;
+
+/// An end of a channel, with the number of the channel.
+#[derive(Clone, Copy, PartialEq, Eq, PartialOrd, Ord)]
+pub(crate) struct ChannelEnd {
+    pub(crate) channel: usize,
+    pub(crate) end: End,
+}
+
+/// The ends that are used, in rising order: by channel, by element, and an input before an output.
+pub(crate) fn sorted_ends(alloc: Global, uses: &Uses) -> Result<BTreeSet<ChannelEnd>, AllocError>
+    ensures { IfOk result (λ ends. ends.keys ≡ sorted_ends uses.now.set.keys) }
+{
+    let mut ends = BTreeSet::new(alloc);
+    let mut rest = uses.iter();
+    while let Some(item) = rest.next() {
+        if let Use::Channel {
+            channel,
+            element,
+            direction,
+        } = *item
+        {
+            let end = End { element, direction };
+            ends.insert(ChannelEnd { channel, end })?;
+        }
+    }
+    Ok(ends)
+}
+
+/// One end more of the parameter at a place, if there is one.
+fn push_end(parameters: &mut Vec<Parameter>, place: usize, end: End) -> Result<(), AllocError>
+    ensures { OnOk result (map parameter_of parameters.new.items
+        ≡ pushed_at place end (map parameter_of parameters.old.items)) }
+{
+    if let Some(parameter) = parameters.get_mut(place) {
+        parameter.ends.push(end)?;
+    }
+    Ok(())
+}
+
+/// One end more of the parameter whose channel it is of, if that is one of these, the first of which has this number.
+fn add_end(
+    parameters: &mut Vec<Parameter>,
+    first: usize,
+    used: ChannelEnd,
+) -> Result<(), AllocError>
+    ensures { OnOk result (map parameter_of parameters.new.items
+        ≡ with_end first (map parameter_of parameters.old.items) used) }
+{
+    match used.channel.checked_sub(first) {
+        Some(place) => push_end(parameters, place, used.end),
+        None => Ok(()),
+    }
+}
+
+/// Ends of the parameters whose channels they are of, the first of which has this number.
+pub(crate) fn add_ends(
+    parameters: &mut Vec<Parameter>,
+    first: usize,
+    ends: &BTreeSet<ChannelEnd>,
+) -> Result<(), AllocError>
+    ensures { OnOk result (map parameter_of parameters.new.items
+        ≡ fold (with_end first) (map parameter_of parameters.old.items) ends.now.keys) }
+{
+    let mut rest = ends.iter();
+    while let Some(used) = rest.next() {
+        add_end(parameters, first, *used)?;
+    }
+    Ok(())
+}
