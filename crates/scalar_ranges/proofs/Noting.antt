@@ -1,21 +1,21 @@
 -- An entry comes to the innermost block's list if the block began with it and does not have it there.
 use Rattle.std.proofs.Common.{◌≡◌, ℕ, suc, ◌<◌, ◌≤◌, Bool, true, false, cond, List, [], ◌∷◌, ◌++◌, length, map, take}
-use Rattle.std.proofs.Common.{◌+◌, ◌-◌, not, nat_lt, set, reverse, get_or, nat_eq, Option, Some, None, refl, sym, ap}
+use Rattle.std.proofs.Common.{◌+◌, ◌-◌, not, nat_lt, reverse, get_or, nat_eq, Option, Some, None, refl, sym, ap}
 use Rattle.std.proofs.Common.{subst, arith, ◌∙◌}
 use Rattle.std.proofs.lemmas.List.{take_all, take_more, length-take, length-map, length-reverse, map-append}
 use Rattle.std.proofs.lemmas.List.{reverse-append}
 use Rattle.scalar_ranges.specs.declared.slots.Slot as code_slot
 use Rattle.scalar_ranges.specs.declared.slots.Branching as code_branching
 use Rattle.scalar_ranges.specs.Environments.{item_at}
-use Rattle.scalar_ranges.specs.Changes.{Slot, Branching, modify, AreTracked, marked, is_new_in, is_new}
-use Rattle.scalar_ranges.specs.Changes.{listing, note_if, note, touched, touching, is_open_in, is_open, touch_if, touch}
-use Rattle.scalar_ranges.specs.ChangeViews.{slot_of, slots_from, branching_of, branchings_from, tracked_from}
-use Rattle.scalar_ranges.specs.ChangeViews.{BelongTogether}
+use Rattle.scalar_ranges.specs.Changes.{Slot, Branching, modify, AreTracked, marked, in_innermost, is_new_in, is_new}
+use Rattle.scalar_ranges.specs.Changes.{listing, note_if, note, touched, touching, is_open, touch_if, touch}
+use Rattle.scalar_ranges.specs.ChangeViews.{slot_of, slots_from, change_of, branching_of, branchings_from}
+use Rattle.scalar_ranges.specs.ChangeViews.{tracked_from, BelongTogether}
 use Rattle.scalar_ranges.proofs.Numbered.{item_taken}
 use Rattle.scalar_ranges.proofs.Rows.{one_longer}
 use Rattle.scalar_ranges.proofs.Touching.{open_is, open_recent}
 use Rattle.scalar_ranges.proofs.Cutting.{list_room, branch_room}
-use Rattle.scalar_ranges.proofs.SlotLoops.{slots_changed, slot_at, item_within, item_beyond, item_below}
+use Rattle.scalar_ranges.proofs.SlotLoops.{slot_at, item_within, item_beyond, item_below}
 use Rattle.scalar_ranges.proofs.Nesting.{beyond}
 
 -- ---- the innermost block
@@ -29,6 +29,19 @@ branchings_more blocks b =
 pub branchings_long : (blocks : List code_branching.Branching) → length (branchings_from blocks) ≡ length blocks
 branchings_long blocks = length-reverse (map branching_of blocks) ∙ length-map blocks branching_of
 
+pub branchings_apart : (blocks rest : List code_branching.Branching) (b : code_branching.Branching)
+    → blocks ≡ rest ++ b ∷ [] → branchings_from blocks ≡ branching_of b ∷ branchings_from rest
+branchings_apart blocks rest b is = ap branchings_from is ∙ branchings_more rest b
+
+-- what is seen once the program has put a block back as the innermost one
+pub put_back : (now : List code_slot.Slot) (rest all : List code_branching.Branching)
+    (after : code_branching.Branching) {ss : List Slot} {b : Branching} → slots_from now ≡ ss
+    → all ≡ rest ++ after ∷ [] → branching_of after ≡ b
+    → tracked_from now all ≡ record { slots = ss; blocks = b ∷ branchings_from rest }
+put_back now rest all after changed pushed is =
+    let last = branchings_apart all rest after pushed ∙ ap (λ k. k ∷ branchings_from rest) is in
+    λ i. record { slots = changed i; blocks = last i }
+
 -- the blocks with the innermost one apart
 pub record Innermost (blocks rest : List code_branching.Branching) (b : code_branching.Branching)
     (depth : ℕ) : Type 0 where
@@ -38,7 +51,7 @@ pub record Innermost (blocks rest : List code_branching.Branching) (b : code_bra
 pub innermost : (blocks rest : List code_branching.Branching) (b : code_branching.Branching) (depth : ℕ)
     → blocks ≡ rest ++ b ∷ [] → depth ≡ length blocks → Innermost blocks rest b depth
 innermost blocks rest b depth is deep = record {
-  seen = ap branchings_from is ∙ branchings_more rest b;
+  seen = branchings_apart blocks rest b is;
   deep = deep ∙ ap length is ∙ one_longer rest b ∙ ap suc (sym (branchings_long rest));
 }
 
@@ -54,15 +67,15 @@ last_apart blocks lent b same some found =
     ∙ ap (λ k. take (length blocks - 1) blocks ++ k ∷ []) (sym is)
 
 -- the same of the block that is seen as the last one
-pub innermost_seen : (blocks lent : List code_branching.Branching) (b : code_branching.Branching) (depth : ℕ)
+innermost_seen : (blocks lent : List code_branching.Branching) (b : code_branching.Branching) (depth : ℕ)
     → lent ≡ blocks → 0 < length lent → b ≡ get_or lent (length lent - 1) b → depth ≡ length blocks
     → Innermost blocks (take (length blocks - 1) blocks) b depth
 innermost_seen blocks lent b depth same some found deep =
     innermost blocks (take (length blocks - 1) blocks) b depth (last_apart blocks lent b same some found) deep
 
--- ---- whether an entry is new
+-- ---- whether a test holds of an entry, in the block that is seen as the last one
 
-not_is : (t : Bool) → not t ≡ cond t false true
+pub not_is : (t : Bool) → not t ≡ cond t false true
 not_is true = refl
 not_is false = refl
 
@@ -77,94 +90,58 @@ within n depth slots blocks rest b d inner tracked less found =
     let inside : n < length slots = omega arith in
     item_within n b.count ss less ∙ slot_at slots n d inside found
 
-pub new_within : (n depth : ℕ) (slots : List code_slot.Slot) (blocks rest : List code_branching.Branching)
-    (b : code_branching.Branching) (d : code_slot.Slot) → Innermost blocks rest b depth → BelongTogether slots blocks
-    → n < b.count → d ≡ get_or slots n d
-    → not (nat_eq d.mark depth) ≡ is_new n (slots_from slots) (branchings_from blocks)
-new_within n depth slots blocks rest b d inner tracked less found =
-    let ss = slots_from slots in
-    not_is (nat_eq d.mark depth) ∙ ap (λ k. cond (nat_eq d.mark k) false true) inner.deep
-    ∙ ap (is_new_in (suc (length (branchings_from rest)))) (sym (within n depth slots blocks rest b d inner tracked less
-    found))
-    ∙ ap (is_new n ss) (sym inner.seen)
+pub test_within : {blocks lent : List code_branching.Branching} {b : code_branching.Branching}
+    (test : ℕ → Option Slot → Bool) (n depth : ℕ) (slots : List code_slot.Slot) (d : code_slot.Slot)
+    → lent ≡ blocks → 0 < length lent → b ≡ get_or lent (length lent - 1) b → depth ≡ length blocks
+    → BelongTogether slots blocks → n < b.count → d ≡ get_or slots n d
+    → test depth (Some (slot_of d)) ≡ in_innermost test n (slots_from slots) (branchings_from blocks)
+test_within {blocks} {lent} {b} test n depth slots d same some last deep tracked less found =
+    let rest = take (length blocks - 1) blocks in
+    let inner = innermost_seen blocks lent b depth same some last deep in
+    ap (λ k. test k (Some (slot_of d))) inner.deep
+    ∙ ap (test (suc (length (branchings_from rest)))) (sym (within n depth slots blocks rest b d inner tracked less found))
+    ∙ ap (in_innermost test n (slots_from slots)) (sym inner.seen)
 
-pub new_beyond : (n depth : ℕ) (slots : List code_slot.Slot) (blocks rest : List code_branching.Branching)
-    (b : code_branching.Branching) → Innermost blocks rest b depth → b.count ≤ n
-    → nat_lt n b.count ≡ is_new n (slots_from slots) (branchings_from blocks)
-new_beyond n depth slots blocks rest b inner least =
-    let ss = slots_from slots in
-    let cut = length-take b.count ss in
-    beyond n b.count least
-    ∙ ap (is_new_in (suc (length (branchings_from rest)))) (sym (item_beyond n (take b.count ss) (omega arith)))
-    ∙ ap (is_new n ss) (sym inner.seen)
-
--- ---- whether an entry is open
-
-pub open_within : (n depth : ℕ) (slots : List code_slot.Slot) (blocks rest : List code_branching.Branching)
-    (b : code_branching.Branching) (d : code_slot.Slot) → Innermost blocks rest b depth → BelongTogether slots blocks
-    → n < b.count → d ≡ get_or slots n d
-    → is_open_in depth (Some (slot_of d)) ≡ is_open n (slots_from slots) (branchings_from blocks)
-open_within n depth slots blocks rest b d inner tracked less found =
-    ap (λ k. is_open_in k (Some (slot_of d))) inner.deep
-    ∙ ap (is_open_in (suc (length (branchings_from rest))))
-    (sym (within n depth slots blocks rest b d inner tracked less found))
-    ∙ ap (is_open n (slots_from slots)) (sym inner.seen)
-
-pub open_beyond : (n depth : ℕ) (slots : List code_slot.Slot) (blocks rest : List code_branching.Branching)
-    (b : code_branching.Branching) → Innermost blocks rest b depth → b.count ≤ n
-    → nat_lt n b.count ≡ is_open n (slots_from slots) (branchings_from blocks)
-open_beyond n depth slots blocks rest b inner least =
+-- no test holds of an entry with which it did not begin
+pub test_beyond : {blocks lent : List code_branching.Branching} {b : code_branching.Branching}
+    (test : ℕ → Option Slot → Bool) → ((d : ℕ) → test d None ≡ false) → (n : ℕ) (slots : List code_slot.Slot)
+    → lent ≡ blocks → 0 < length lent → b ≡ get_or lent (length lent - 1) b → b.count ≤ n
+    → nat_lt n b.count ≡ in_innermost test n (slots_from slots) (branchings_from blocks)
+test_beyond {blocks} {lent} {b} test none n slots same some last least =
     let ss = slots_from slots in
     let cut = length-take b.count ss in
-    beyond n b.count least
-    ∙ ap (is_open_in (suc (length (branchings_from rest)))) (sym (item_beyond n (take b.count ss) (omega arith)))
-    ∙ ap (is_open n ss) (sym inner.seen)
+    let inner = innermost_seen blocks lent b (length blocks) same some last refl in
+    let d = suc (length (branchings_from (take (length blocks - 1) blocks))) in
+    beyond n b.count least ∙ sym (none d)
+    ∙ ap (test d) (sym (item_beyond n (take b.count ss) (omega arith)))
+    ∙ ap (in_innermost test n ss) (sym inner.seen)
 
--- the program's blocks where an entry is open: its slot, and that there is room for it
-pub record Opened (n : ℕ) (ss : List Slot) (b : Branching) (bs : List Branching) : Type 0 where
-  pub free : is_open n ss (b ∷ bs) ≡ true
-  pub within : n < length ss
-  pub room : length b.recent < b.count
+-- ---- an entry that is open comes to the branch's list
 
-opened : (n : ℕ) (ss : List Slot) (b : Branching) (bs : List Branching) → AreTracked ss (b ∷ bs)
-    → is_open n ss (b ∷ bs) ≡ true → Opened n ss b bs
-opened n ss b bs tracked free =
-    let o = open_is n ss b bs free in
-    record {
-      free = free;
-      within = item_below n ss o.slot (item_taken b.count n ss o.slot o.is);
-      room = branch_room n o.slot ss b bs tracked o.is (open_recent o);
-    }
+pub open_room : (n : ℕ) (slots : List code_slot.Slot) (blocks rest : List code_branching.Branching)
+    (b : code_branching.Branching) → blocks ≡ rest ++ b ∷ [] → BelongTogether slots blocks
+    → is_open n (slots_from slots) (branchings_from blocks) ≡ true → length b.recent.items < b.count
+open_room n slots blocks rest b is tracked free =
+    let ss = slots_from slots in
+    let seen = branchings_apart blocks rest b is in
+    let it = open_is n ss (branching_of b) (branchings_from rest) (sym (ap (is_open n ss) seen) ∙ free) in
+    branch_room n it.slot ss (branching_of b) (branchings_from rest) (subst (AreTracked ss) seen tracked) it.is
+    (open_recent it)
 
-pub opened_here : (n depth : ℕ) (slots : List code_slot.Slot) (blocks rest : List code_branching.Branching)
-    (b : code_branching.Branching) → Innermost blocks rest b depth → BelongTogether slots blocks
+pub touched_is : (n : ℕ) (slots now : List code_slot.Slot) (blocks rest all : List code_branching.Branching)
+    (b after : code_branching.Branching) → blocks ≡ rest ++ b ∷ []
     → is_open n (slots_from slots) (branchings_from blocks) ≡ true
-    → Opened n (slots_from slots) (branching_of b) (branchings_from rest)
-opened_here n depth slots blocks rest b inner tracked free =
-    opened n (slots_from slots) (branching_of b) (branchings_from rest)
-    (subst (AreTracked (slots_from slots)) inner.seen tracked)
-    (sym (ap (is_open n (slots_from slots)) inner.seen) ∙ free)
-
-pub touched_is : (n depth : ℕ) (slots now : List code_slot.Slot) (blocks rest all : List code_branching.Branching)
-    (b after : code_branching.Branching) (x d : code_slot.Slot) → Innermost blocks rest b depth
-    → Opened n (slots_from slots) (branching_of b) (branchings_from rest)
-    → d ≡ get_or slots n d → now ≡ set slots n x → slot_of x ≡ touched (slot_of d)
-    → all ≡ rest ++ after ∷ [] → branching_of after ≡ touching n (branching_of b)
+    → slots_from now ≡ modify touched n (slots_from slots) → all ≡ rest ++ after ∷ []
+    → branching_of after ≡ touching n (branching_of b)
     → tracked_from now all ≡ touch n (slots_from slots) (branchings_from blocks)
-touched_is n depth slots now blocks rest all b after x d inner opened found slot_set marks pushed listed =
-    let bs = branchings_from rest in
-    let here = branching_of b in
+touched_is n slots now blocks rest all b after is free changed pushed listed =
     let ss = slots_from slots in
-    let long = length-map slots slot_of in
-    let less = opened.within in
-    let inside : n < length slots = omega arith in
-    let changed = ap slots_from slot_set ∙ slots_changed touched slots n x d inside found marks in
-    let last = ap branchings_from pushed ∙ branchings_more rest after ∙ ap (λ k. k ∷ bs) listed in
-    (λ i. record { slots = changed i; blocks = last i })
-    ∙ ap (λ t. touch_if t n ss here bs) (sym opened.free)
-    ∙ ap (touch n ss) (sym inner.seen)
+    let seen = branchings_apart blocks rest b is in
+    put_back now rest all after changed pushed listed
+    ∙ ap (λ t. touch_if t n ss (branching_of b) (branchings_from rest)) (sym free ∙ ap (is_open n ss) seen)
+    ∙ ap (touch n ss) (sym seen)
 
--- ---- an entry that comes to the list
+-- ---- an entry that is new comes to the block's list
 
 not_marked : (t : Bool) → cond t false true ≡ true → t ≡ false
 not_marked true is = absurd (cc)
@@ -175,57 +152,41 @@ new_in d None is = absurd (cc)
 new_in d (Some s) is = (s, refl, not_marked (nat_eq s.mark d) is)
 
 -- what is so of a new entry: its slot, and that there is room for it
-pub record IsNew (n : ℕ) (ss : List Slot) (b : Branching) (bs : List Branching) : Type 0 where
+pub record IsNew (n : ℕ) (slots : List code_slot.Slot) (b : code_branching.Branching)
+    (rest : List code_branching.Branching) : Type 0 where
   pub slot : Slot
-  pub is : item_at n (take b.count ss) ≡ Some slot
-  pub test : nat_eq slot.mark (suc (length bs)) ≡ false
-  pub within : n < length ss
-  pub room : length b.changes < b.count
+  pub is : item_at n (take b.count (slots_from slots)) ≡ Some slot
+  pub test : nat_eq slot.mark (suc (length (branchings_from rest))) ≡ false
+  pub within : n < length slots
+  pub room : length b.changes.items < b.count
 
-pub new_is : (n : ℕ) (ss : List Slot) (b : Branching) (bs : List Branching) → AreTracked ss (b ∷ bs)
-    → is_new n ss (b ∷ bs) ≡ true → IsNew n ss b bs
-new_is n ss b bs tracked new =
-    let found = new_in (suc (length bs)) (item_at n (take b.count ss)) new in
-    record {
-      slot = found.0;
-      is = found.1;
-      test = found.2;
-      within = item_below n ss found.0 (item_taken b.count n ss found.0 found.1);
-      room = list_room n found.0 ss b bs tracked found.1 found.2;
-    }
-
--- the program's blocks where an entry is new
-pub new_here : (n depth : ℕ) (slots : List code_slot.Slot) (blocks rest : List code_branching.Branching)
-    (b : code_branching.Branching) → Innermost blocks rest b depth → BelongTogether slots blocks
-    → is_new n (slots_from slots) (branchings_from blocks) ≡ true
-    → IsNew n (slots_from slots) (branching_of b) (branchings_from rest)
-new_here n depth slots blocks rest b inner tracked new =
-    new_is n (slots_from slots) (branching_of b) (branchings_from rest)
-    (subst (AreTracked (slots_from slots)) inner.seen tracked)
-    (sym (ap (is_new n (slots_from slots)) inner.seen) ∙ new)
+pub new_here : (n : ℕ) (slots : List code_slot.Slot) (blocks rest : List code_branching.Branching)
+    (b : code_branching.Branching) → blocks ≡ rest ++ b ∷ [] → BelongTogether slots blocks
+    → is_new n (slots_from slots) (branchings_from blocks) ≡ true → IsNew n slots b rest
+new_here n slots blocks rest b is tracked new =
+    let ss = slots_from slots in
+    let bs = branchings_from rest in
+    let seen = branchings_apart blocks rest b is in
+    let it = new_in (suc (length bs)) (item_at n (take b.count ss)) (sym (ap (is_new n ss) seen) ∙ new) in
+    let less = item_below n ss it.0 (item_taken b.count n ss it.0 it.1) in
+    let room = list_room n it.0 ss (branching_of b) bs (subst (AreTracked ss) seen tracked) it.1 it.2 in
+    let long = length-map slots slot_of in
+    let size = length-map b.changes.items change_of in
+    record { slot = it.0; is = it.1; test = it.2; within = omega arith; room = omega arith }
 
 pub noted : (n depth : ℕ) (slots now : List code_slot.Slot) (blocks rest all : List code_branching.Branching)
-    (b after : code_branching.Branching) (x d : code_slot.Slot) → Innermost blocks rest b depth
-    → IsNew n (slots_from slots) (branching_of b) (branchings_from rest)
-    → d ≡ get_or slots n d → now ≡ set slots n x → slot_of x ≡ marked depth (slot_of d)
-    → all ≡ rest ++ after ∷ [] → branching_of after ≡ listing n (slot_of d) (branching_of b)
+    (b after : code_branching.Branching) (d : code_slot.Slot) → Innermost blocks rest b depth → IsNew n slots b rest
+    → d ≡ get_or slots n d → slots_from now ≡ modify (marked depth) n (slots_from slots) → all ≡ rest ++ after ∷ []
+    → branching_of after ≡ listing n (slot_of d) (branching_of b)
     → tracked_from now all ≡ note n (slots_from slots) (branchings_from blocks)
-noted n depth slots now blocks rest all b after x d inner new found slot_set marks pushed listed =
+noted n depth slots now blocks rest all b after d inner new found changed pushed listed =
+    let ss = slots_from slots in
     let bs = branchings_from rest in
     let here = branching_of b in
-    let long = length-map slots slot_of in
-    let less = new.within in
-    let inside : n < length slots = omega arith in
-    let old = item_taken here.count n (slots_from slots) new.slot new.is in
-    let same : slot_of d ≡ new.slot = cc (slot_at slots n d inside found, old) in
-    let deep = inner.deep in
-    let changed = ap slots_from slot_set ∙ slots_changed (marked depth) slots n x d inside found marks
-    ∙ ap (λ k. modify (marked k) n (slots_from slots)) deep in
-    let last = ap branchings_from pushed ∙ branchings_more rest after ∙ ap (λ k. k ∷ bs) listed
-    ∙ ap (λ (s : Slot). listing n s here ∷ bs) same in
-    (λ i. record { slots = changed i; blocks = last i })
-    ∙ ap (λ t. cond t (record { slots = slots_from slots; blocks = here ∷ bs })
-    (record { slots = modify (marked (suc (length bs))) n (slots_from slots); blocks = listing n new.slot here ∷ bs }))
-    (sym new.test)
-    ∙ ap (note_if (suc (length bs)) n (slots_from slots) here bs) (sym new.is)
-    ∙ ap (note n (slots_from slots)) (sym inner.seen)
+    let old = item_taken b.count n ss new.slot new.is in
+    let same : slot_of d ≡ new.slot = cc (slot_at slots n d new.within found, old) in
+    put_back now rest all after (changed ∙ ap (λ k. modify (marked k) n ss) inner.deep) pushed
+    (listed ∙ ap (λ s. listing n s here) same)
+    ∙ ap (λ t. cond t (record { slots = ss; blocks = here ∷ bs })
+    (record { slots = modify (marked (suc (length bs))) n ss; blocks = listing n new.slot here ∷ bs })) (sym new.test)
+    ∙ ap (note_if (suc (length bs)) n ss here bs) (sym new.is) ∙ ap (note n ss) (sym inner.seen)

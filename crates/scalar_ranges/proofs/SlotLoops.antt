@@ -30,6 +30,11 @@ slots_same f [] n least = refl
 slots_same f (y ∷ ys) zero least = absurd (omega arith)
 slots_same f (y ∷ ys) (suc n) least = ap (λ ss. slot_of y ∷ ss) (slots_same f ys n (omega arith))
 
+-- the same once the slots that were lent out for it are given back
+pub slots_modified : {slots lent now whole : List code_slot.Slot} (f : Slot → Slot) (n : ℕ) → lent ≡ slots
+    → slots_from now ≡ modify f n (slots_from lent) → whole ≡ now → slots_from whole ≡ modify f n (slots_from slots)
+slots_modified f n same is whole = ap slots_from whole ∙ is ∙ ap (λ ks. modify f n (slots_from ks)) same
+
 pub slot_at : (slots : List code_slot.Slot) (n : ℕ) (d : code_slot.Slot) → n < length slots → d ≡ get_or slots n d
     → item_at n (slots_from slots) ≡ Some (slot_of d)
 slot_at [] n d less found = absurd (omega arith)

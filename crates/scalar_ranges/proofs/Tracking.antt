@@ -24,14 +24,7 @@ undone_more (k ∷ cs) c ss = ap (modify (restored k.before) k.number) (undone_m
 
 restored_alike : (b : Slot) (f : Slot → Slot) → ((s : Slot) → (f s).name ≡ s.name) → (s : Slot)
     → restored b (f s) ≡ restored b s
-restored_alike b f names s = ap (λ n. restored b (record {
-  name = n;
-  meaning = s.meaning;
-  mark = s.mark;
-  recent = s.recent;
-  start = s.start;
-  ends = s.ends;
-})) (names s)
+restored_alike b f names s = ap (λ n. restored b (record s { name = n })) (names s)
 
 over_by : (t : Bool) (cs : List Change) (c : Change) (b : Slot) (f : Slot → Slot) (n : ℕ) (ss : List Slot)
     → nat_eq n c.number ≡ t

@@ -17,8 +17,8 @@ use Rattle.scalar_ranges.specs.ChangeViews.{tracked_from, put_afters, AfterBlock
 use Rattle.scalar_ranges.specs.TrackedViews.{tracked_of}
 use Rattle.scalar_ranges.proofs.Following.{begun_follows}
 use Rattle.scalar_ranges.proofs.Cutting.{declared_tracked}
-use Rattle.scalar_ranges.proofs.SlotLoops.{puts_are}
-use Rattle.scalar_ranges.proofs.Noting.{Innermost, branchings_more}
+use Rattle.scalar_ranges.proofs.SlotLoops.{slots_modified, puts_are}
+use Rattle.scalar_ranges.proofs.Noting.{Innermost, branchings_apart, put_back}
 
 slots_cut : (slots cut : List code_slot.Slot) (count : ℕ) → cut ≡ take count slots
     → slots_from cut ≡ take count (slots_from slots)
@@ -57,7 +57,7 @@ pub put_is : (f : Slot → Slot) (n : ℕ) (old listed both : code_tracked.Track
     → slots_from now ≡ modify f n (slots_from lent) → all ≡ now
     → tracked_from all both.blocks.items ≡ put_by f n (tracked_of old)
 put_is f n old listed both lent now all noting touching same changes whole =
-    let changed = ap slots_from whole ∙ changes ∙ ap (λ ks. modify f n (slots_from ks)) same in
+    let changed = slots_modified f n same changes whole in
     (λ i. record { slots = changed i; blocks = branchings_from both.blocks.items })
     ∙ ap (λ (k : Tracked). record { slots = modify f n k.slots; blocks = k.blocks })
     (touching ∙ ap (λ (k : Tracked). touch n k.slots k.blocks) noting)
@@ -74,7 +74,7 @@ pub begun_is : (t ended : Bool) (slots : List code_slot.Slot) (blocks now : List
       recent = [];
     } → BelongTogether slots blocks → BelongTogether slots now
 begun_is true ended slots blocks now b is seen tracked =
-    let more = ap branchings_from is ∙ branchings_more blocks b ∙ ap (λ k. k ∷ branchings_from blocks) seen in
+    let more = branchings_apart now blocks b is ∙ ap (λ k. k ∷ branchings_from blocks) seen in
     subst (AreTracked (slots_from slots)) (sym more)
     (begun_follows ended (record { slots = slots_from slots; blocks = branchings_from blocks }) tracked).tracked
 begun_is false ended slots blocks now b is seen tracked = subst (BelongTogether slots) (sym is) tracked
@@ -88,10 +88,9 @@ pub next_is : (depth : ℕ) (slots cut lent now whole : List code_slot.Slot)
     → branching_of after ≡ turned_block (branching_of b)
     → tracked_from whole all ≡ next_in (slots_from slots) (branchings_from blocks)
 next_is depth slots cut lent now whole blocks rest all b after inner taken same turning is pushed goes_on =
-    let last = ap branchings_from pushed ∙ branchings_more rest after ∙ ap (λ k. k ∷ branchings_from rest) goes_on in
     let changed = ap slots_from is ∙ turning ∙ (λ i. turned_slots (inner.deep i) (branching_of b)
     ((ap slots_from same ∙ slots_cut slots cut b.count taken) i)) in
-    (λ i. record { slots = changed i; blocks = last i }) ∙ ap (next_in (slots_from slots)) (sym inner.seen)
+    put_back whole rest all after changed pushed goes_on ∙ ap (next_in (slots_from slots)) (sym inner.seen)
 
 pub component_is : (numbers : List ℕ) (depth : ℕ) (slots cut lent now whole : List code_slot.Slot)
     (blocks rest all : List code_branching.Branching) (b after : code_branching.Branching)
@@ -100,10 +99,9 @@ pub component_is : (numbers : List ℕ) (depth : ℕ) (slots cut lent now whole 
     → whole ≡ now → all ≡ rest ++ after ∷ [] → branching_of after ≡ component_block (branching_of b)
     → tracked_from whole all ≡ component_in numbers (slots_from slots) (branchings_from blocks)
 component_is numbers depth slots cut lent now whole blocks rest all b after inner taken same turning is pushed goes_on =
-    let last = ap branchings_from pushed ∙ branchings_more rest after ∙ ap (λ k. k ∷ branchings_from rest) goes_on in
     let changed = ap slots_from is ∙ turning ∙ (λ i. component_slots numbers (inner.deep i) (branching_of b)
     ((ap slots_from same ∙ slots_cut slots cut b.count taken) i)) in
-    (λ i. record { slots = changed i; blocks = last i }) ∙ ap (component_in numbers (slots_from slots)) (sym inner.seen)
+    put_back whole rest all after changed pushed goes_on ∙ ap (component_in numbers (slots_from slots)) (sym inner.seen)
 
 -- ---- a block ends
 

@@ -58,14 +58,7 @@ end_in d s = record { name = s.name; meaning = if nat_eq s.mark d then s.ends el
 
 -- a slot as it was before a block changed it
 abbrev pub restored : Slot → Slot → Slot
-restored b s = record {
-  name = s.name;
-  meaning = b.meaning;
-  mark = b.mark;
-  recent = b.recent;
-  start = b.start;
-  ends = b.ends;
-}
+restored b s = record b { name = s.name }
 
 -- the slots before the changes of a list, of which the last one is taken back first
 abbrev pub undone : List Change → List Slot → List Slot
@@ -107,25 +100,11 @@ known_in t = record { entries = seen entry_in t.slots; blocks = blocks_in t.slot
 -- ---- where a branch ends
 
 abbrev pub with_end : Meaning → Slot → Slot
-with_end m s = record {
-  name = s.name;
-  meaning = s.meaning;
-  mark = s.mark;
-  recent = s.recent;
-  start = s.start;
-  ends = m;
-}
+with_end m s = record s { ends = m }
 
 -- the next branch begins, and has no entry in its list
 abbrev pub with_restart : Slot → Slot
-with_restart s = record {
-  name = s.name;
-  meaning = s.start;
-  mark = s.mark;
-  recent = false;
-  start = s.start;
-  ends = s.ends;
-}
+with_restart s = record s { meaning = s.start; recent = false }
 
 -- the ends of a branch come to those before it
 abbrev pub joined : ℕ → Bool → Slot → Slot
@@ -195,35 +174,19 @@ pub record IsWithin (f : Slot → Slot) : Type 0 where
   pub recents : (s : Slot) → (f s).recent ≡ s.recent
 
 abbrev pub with_new : Meaning → Slot → Slot
-with_new m s = record {
-  name = s.name;
-  meaning = m;
-  mark = s.mark;
-  recent = s.recent;
-  start = s.start;
-  ends = s.ends;
-}
+with_new m s = record s { meaning = m }
 
 -- the branches from here on begin with what a change makes of it
 abbrev pub with_start : (Meaning → Meaning) → Slot → Slot
-with_start f s = record {
-  name = s.name;
-  meaning = s.meaning;
-  mark = s.mark;
-  recent = s.recent;
-  start = f s.start;
-  ends = s.ends;
-}
+with_start f s = record s { start = f s.start }
 
 abbrev pub marked : ℕ → Slot → Slot
-marked d s = record {
-  name = s.name;
-  meaning = s.meaning;
-  mark = d;
-  recent = false;
-  start = s.meaning;
-  ends = s.meaning;
-}
+marked d s = record s { mark = d; recent = false; start = s.meaning; ends = s.meaning }
+
+-- whether a test holds in the innermost block, of its depth and of the entry with this number if it began with it
+abbrev pub in_innermost : (ℕ → Option Slot → Bool) → ℕ → List Slot → List Branching → Bool
+in_innermost test n ss [] = false
+in_innermost test n ss (b ∷ bs) = test (suc (length bs)) (item_at n (take b.count ss))
 
 -- whether the innermost block began with an entry that it does not have in its list
 abbrev pub is_new_in : ℕ → Option Slot → Bool
@@ -231,19 +194,11 @@ is_new_in d None = false
 is_new_in d (Some s) = if nat_eq s.mark d then false else true
 
 abbrev pub is_new : ℕ → List Slot → List Branching → Bool
-is_new n ss [] = false
-is_new n ss (b ∷ bs) = is_new_in (suc (length bs)) (item_at n (take b.count ss))
+is_new n ss bs = in_innermost is_new_in n ss bs
 
 -- an entry comes to the innermost block's list
 abbrev pub listing : ℕ → Slot → Branching → Branching
-listing n s b = record {
-  count = b.count;
-  ended = b.ended;
-  even = b.even;
-  changes = b.changes ++ record { number = n; before = s } ∷ [];
-  earlier = b.earlier;
-  recent = b.recent;
-}
+listing n s b = record b { changes = b.changes ++ record { number = n; before = s } ∷ [] }
 
 -- The innermost block has an entry in its list before it changes, if the block began with it.
 abbrev pub note_if : ℕ → ℕ → List Slot → Branching → List Branching → Option Slot → Tracked
@@ -257,14 +212,7 @@ note n ss [] = record { slots = ss; blocks = [] }
 note n ss (b ∷ bs) = note_if (suc (length bs)) n ss b bs (item_at n (take b.count ss))
 
 abbrev pub touched : Slot → Slot
-touched s = record {
-  name = s.name;
-  meaning = s.meaning;
-  mark = s.mark;
-  recent = true;
-  start = s.start;
-  ends = s.ends;
-}
+touched s = record s { recent = true }
 
 -- whether the innermost block has an entry in its list, but not in that of its branch
 abbrev pub is_open_in : ℕ → Option Slot → Bool
@@ -272,19 +220,11 @@ is_open_in d None = false
 is_open_in d (Some s) = if nat_eq s.mark d then not s.recent else false
 
 abbrev pub is_open : ℕ → List Slot → List Branching → Bool
-is_open n ss [] = false
-is_open n ss (b ∷ bs) = is_open_in (suc (length bs)) (item_at n (take b.count ss))
+is_open n ss bs = in_innermost is_open_in n ss bs
 
 -- an entry comes to the list of the branch
 abbrev pub touching : ℕ → Branching → Branching
-touching n b = record {
-  count = b.count;
-  ended = b.ended;
-  even = b.even;
-  changes = b.changes;
-  earlier = b.earlier;
-  recent = b.recent ++ n ∷ [];
-}
+touching n b = record b { recent = b.recent ++ n ∷ [] }
 
 -- The branch has an entry in its list before it changes, if the innermost block has it in its own.
 abbrev pub touch_if : Bool → ℕ → List Slot → Branching → List Branching → Tracked
@@ -337,14 +277,7 @@ turned_slots d b ss = each (restarted d) b.recent (joined_by b.even d b ss)
 
 -- a block where its next branch begins
 abbrev pub turned_block : Branching → Branching
-turned_block b = record {
-  count = b.count;
-  ended = true;
-  even = true;
-  changes = b.changes;
-  earlier = b.recent;
-  recent = [];
-}
+turned_block b = record b { ended = true; even = true; earlier = b.recent; recent = [] }
 
 -- A branch ends, and the next one begins.
 abbrev pub next_in : List Slot → List Branching → Tracked
@@ -367,14 +300,7 @@ component_slots ns d b ss = each (restarted d) b.recent (each (took d) ns ss)
 
 -- a block where its next component begins
 abbrev pub component_block : Branching → Branching
-component_block b = record {
-  count = b.count;
-  ended = b.ended;
-  even = false;
-  changes = b.changes;
-  earlier = b.earlier;
-  recent = [];
-}
+component_block b = record b { even = false; recent = [] }
 
 -- A component ends, which changed the variables with these numbers, and the next one begins.
 abbrev pub component_in : List ℕ → List Slot → List Branching → Tracked

@@ -111,7 +111,7 @@ impl<'a> Tracked<'a> {
                 before,
                 after: None,
             });
-            self.slots[number] = before.updated(Update::Mark { depth });
+            modify(&mut self.slots, number, Update::Mark { depth });
             self.blocks.push_reserved(block);
         }
     }
@@ -135,7 +135,7 @@ impl<'a> Tracked<'a> {
         }
         if let Some(mut block) = self.blocks.pop() {
             block.recent.push_reserved(number);
-            self.slots[number] = self.slots[number].updated(Update::Touch);
+            modify(&mut self.slots, number, Update::Touch);
             self.blocks.push_reserved(block);
         }
     }

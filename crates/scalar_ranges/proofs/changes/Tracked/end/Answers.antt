@@ -1,6 +1,6 @@
-use Rattle.std.proofs.Common.{◌≡◌, List, arith, rules, ◌∙◌}
+use Rattle.std.proofs.Common.{arith, rules, ◌∙◌}
 use Rattle.std.proofs.lemmas.List.{with_items_is, places}
-use Rattle.scalar_ranges.specs.declared.slots.Slot.{Slot}
+use Rattle.std.specs.Vec.{with_items}
 use Rattle.scalar_ranges.specs.Moves.{end}
 use Rattle.scalar_ranges.specs.TrackedViews.{tracked_of, known_by}
 use Rattle.scalar_ranges.proofs.Ending.{end_follows}
@@ -15,32 +15,32 @@ inner c =
     innermost c.args.self.now.blocks.items c.pop.new.self.items c.in-Some.block c.len-depth.result
     c.in-Some.ensures.items (omega arith)
 
-begun : (c : After-take_back) (all : List Slot) → all ≡ c.take_back.new.slots
-    → TakenBack c.args.self.now.slots.items all c.take_back.new.changes c.len-depth.result c.in-Some.block
-begun c all is =
-    taken_back c.args.self.now.slots.items c.truncate.new.self.items c.deref_mut.result.now c.take_back.new.slots all
+begun : (c : After-take_back)
+    → TakenBack c.args.self.now.slots.items (with_items c.truncate.new.self c.take_back.new.slots).items
+    c.take_back.new.changes c.len-depth.result c.in-Some.block
+begun c =
+    taken_back c.args.self.now.slots.items c.truncate.new.self.items c.deref_mut.result.now c.take_back.new.slots _
     c.deref_mut-in-Some.result.now c.take_back.new.changes c.len-depth.result c.in-Some.block
     c.truncate.ensures.items c.deref_mut.ensures.value c.deref_mut-in-Some.ensures.value c.take_back.ensures.same
-    c.take_back.ensures.after c.take_back.ensures.slots is
+    c.take_back.ensures.after c.take_back.ensures.slots
+    (with_items_is c.truncate.new.self c.take_back.new.slots (search (rules, places)))
 
 pub invariant_of-self : goal.invariant_of-self
 invariant_of-self c =
     let at = (goal.at.invariant_of-self c).After-take_back in
     let old = c.args.self.now in
-    let all = with_items_is c.truncate.new.self c.take_back.new.slots (search (rules, places)) in
     record {
       tracked = around c.len-depth.result old.slots.items _ old.blocks.items c.pop.new.self.items c.in-Some.block
-          (inner at) (begun at _ all).begins old.tracked;
+          (inner at) (begun at).begins old.tracked;
     }
 
 pub returns-in-Some : goal.returns-in-Some
 returns-in-Some c =
     let at = (goal.at.returns-in-Some c).After-take_back in
     let old = c.args.self.now in
-    let all = with_items_is c.truncate.new.self c.take_back.new.slots (search (rules, places)) in
     let held = with_items_is c.in-Some.block.changes c.take_back.new.changes (search (rules, places)) in
     known_is (followed (end (known_by old)) (end_is c.len-depth.result old.slots.items _ old.blocks.items
     c.pop.new.self.items c.in-Some.block c.take_back.new.changes c.deref.result.now
-    (tracked_of c.put_afters.new.self) (inner at) (begun at _ all) (c.deref.ensures.value ∙ held)
+    (tracked_of c.put_afters.new.self) (inner at) (begun at) (c.deref.ensures.value ∙ held)
     c.put_afters.ensures)
     (end_follows (tracked_of old).slots (tracked_of old).blocks old.tracked))

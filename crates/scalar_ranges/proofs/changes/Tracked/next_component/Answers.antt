@@ -1,6 +1,6 @@
-use Rattle.std.proofs.Common.{◌≡◌, List, arith, rules}
+use Rattle.std.proofs.Common.{arith, rules}
 use Rattle.std.proofs.lemmas.List.{with_items_is, places}
-use Rattle.scalar_ranges.specs.declared.slots.Slot.{Slot}
+use Rattle.std.specs.Vec.{with_items}
 use Rattle.scalar_ranges.specs.Moves.{next_component}
 use Rattle.scalar_ranges.specs.Changes.{Follows}
 use Rattle.scalar_ranges.specs.ChangeViews.{tracked_from}
@@ -11,10 +11,11 @@ use Rattle.scalar_ranges.proofs.Turning.{followed, known_is, component_is}
 use Rattle.scalar_ranges.proofs.changes.Tracked.next_component.Goals as goal
 use Rattle.scalar_ranges.proofs.changes.Tracked.next_component.Goals.{After-push_reserved}
 
-turned : (c : After-push_reserved) (all : List Slot) → all ≡ c.component_slots.new.slots
-    → Follows (tracked_from all c.push_reserved.new.self.items)
-    (next_component c.args.numbers.now (known_by c.args.self.now))
-turned c all is =
+turned : (c : After-push_reserved)
+    → Follows (tracked_from (with_items c.truncate.new.self c.component_slots.new.slots).items
+    c.push_reserved.new.self.items) (next_component c.args.numbers.now (known_by c.args.self.now))
+turned c =
+    let all = with_items_is c.truncate.new.self c.component_slots.new.slots (search (rules, places)) in
     let numbers = c.args.numbers.now in
     let old = c.args.self.now in
     let block = c.in-Some.block in
@@ -22,17 +23,13 @@ turned c all is =
     (omega arith) in
     followed (next_component numbers (known_by old))
     (component_is numbers c.len-depth.result old.slots.items c.truncate.new.self.items c.deref_mut.result.now
-    c.component_slots.new.slots all old.blocks.items c.pop.new.self.items c.push_reserved.new.self.items block
-    c.after_component.result inner c.truncate.ensures.items c.deref_mut.ensures.value c.component_slots.ensures is
+    c.component_slots.new.slots _ old.blocks.items c.pop.new.self.items c.push_reserved.new.self.items block
+    c.after_component.result inner c.truncate.ensures.items c.deref_mut.ensures.value c.component_slots.ensures all
     c.push_reserved.ensures.items c.after_component.ensures)
     (component_follows numbers (tracked_of old).slots (tracked_of old).blocks old.tracked)
 
 pub invariant_of-self : goal.invariant_of-self
-invariant_of-self c =
-    let all = with_items_is c.truncate.new.self c.component_slots.new.slots (search (rules, places)) in
-    record { tracked = (turned (goal.at.invariant_of-self c).After-push_reserved _ all).tracked }
+invariant_of-self c = record { tracked = (turned (goal.at.invariant_of-self c).After-push_reserved).tracked }
 
 pub returns-in-Some : goal.returns-in-Some
-returns-in-Some c =
-    known_is (turned (goal.at.returns-in-Some c).After-push_reserved _
-    (with_items_is c.truncate.new.self c.component_slots.new.slots (search (rules, places))))
+returns-in-Some c = known_is (turned (goal.at.returns-in-Some c).After-push_reserved)
