@@ -90,6 +90,7 @@ within n depth slots blocks rest b d inner tracked less found =
     let inside : n < length slots = omega arith in
     item_within n b.count ss less ∙ slot_at slots n d inside found
 
+-- what a test says of it
 pub test_within : {blocks lent : List code_branching.Branching} {b : code_branching.Branching}
     (test : ℕ → Option Slot → Bool) (n depth : ℕ) (slots : List code_slot.Slot) (d : code_slot.Slot)
     → lent ≡ blocks → 0 < length lent → b ≡ get_or lent (length lent - 1) b → depth ≡ length blocks
@@ -99,10 +100,11 @@ test_within {blocks} {lent} {b} test n depth slots d same some last deep tracked
     let rest = take (length blocks - 1) blocks in
     let inner = innermost_seen blocks lent b depth same some last deep in
     ap (λ k. test k (Some (slot_of d))) inner.deep
-    ∙ ap (test (suc (length (branchings_from rest)))) (sym (within n depth slots blocks rest b d inner tracked less found))
+    ∙ ap (test (suc (length (branchings_from rest))))
+    (sym (within n depth slots blocks rest b d inner tracked less found))
     ∙ ap (in_innermost test n (slots_from slots)) (sym inner.seen)
 
--- no test holds of an entry with which it did not begin
+-- and of an entry with which the block did not begin
 pub test_beyond : {blocks lent : List code_branching.Branching} {b : code_branching.Branching}
     (test : ℕ → Option Slot → Bool) → ((d : ℕ) → test d None ≡ false) → (n : ℕ) (slots : List code_slot.Slot)
     → lent ≡ blocks → 0 < length lent → b ≡ get_or lent (length lent - 1) b → b.count ≤ n
@@ -174,6 +176,15 @@ new_here n slots blocks rest b is tracked new =
     let size = length-map b.changes.items change_of in
     record { slot = it.0; is = it.1; test = it.2; within = omega arith; room = omega arith }
 
+-- what noting it comes to
+note_new : (n : ℕ) (ss : List Slot) (b : Branching) (bs : List Branching) (s : Slot)
+    → item_at n (take b.count ss) ≡ Some s → nat_eq s.mark (suc (length bs)) ≡ false
+    → record { slots = modify (marked (suc (length bs))) n ss; blocks = listing n s b ∷ bs } ≡ note n ss (b ∷ bs)
+note_new n ss b bs s is test =
+    ap (λ t. cond t (record { slots = ss; blocks = b ∷ bs })
+    (record { slots = modify (marked (suc (length bs))) n ss; blocks = listing n s b ∷ bs })) (sym test)
+    ∙ ap (note_if (suc (length bs)) n ss b bs) (sym is)
+
 pub noted : (n depth : ℕ) (slots now : List code_slot.Slot) (blocks rest all : List code_branching.Branching)
     (b after : code_branching.Branching) (d : code_slot.Slot) → Innermost blocks rest b depth → IsNew n slots b rest
     → d ≡ get_or slots n d → slots_from now ≡ modify (marked depth) n (slots_from slots) → all ≡ rest ++ after ∷ []
@@ -181,12 +192,9 @@ pub noted : (n depth : ℕ) (slots now : List code_slot.Slot) (blocks rest all :
     → tracked_from now all ≡ note n (slots_from slots) (branchings_from blocks)
 noted n depth slots now blocks rest all b after d inner new found changed pushed listed =
     let ss = slots_from slots in
-    let bs = branchings_from rest in
     let here = branching_of b in
     let old = item_taken b.count n ss new.slot new.is in
     let same : slot_of d ≡ new.slot = cc (slot_at slots n d new.within found, old) in
     put_back now rest all after (changed ∙ ap (λ k. modify (marked k) n ss) inner.deep) pushed
     (listed ∙ ap (λ s. listing n s here) same)
-    ∙ ap (λ t. cond t (record { slots = ss; blocks = here ∷ bs })
-    (record { slots = modify (marked (suc (length bs))) n ss; blocks = listing n new.slot here ∷ bs })) (sym new.test)
-    ∙ ap (note_if (suc (length bs)) n ss here bs) (sym new.is) ∙ ap (note n ss) (sym inner.seen)
+    ∙ note_new n ss here (branchings_from rest) new.slot new.is new.test ∙ ap (note n ss) (sym inner.seen)
