@@ -114,16 +114,26 @@ earlier_first (Some f) (Some g) x = earlier_by f g (is_before g f) refl x
 
 -- ---- parts of the walk
 
--- A line is asked, and nothing moves.
+-- Something is asked, and nothing moves.
+pub walks_first : {K : Type 0} {Breaks : UsageFault → Type 0} (s t : Findings) (k : K) (told : Option UsageFault)
+    → t.first ≡ earlier s.first told → t.complete ≡ s.complete → IsFirst Breaks told → Walks s t k k Breaks
+walks_first {Breaks = Breaks} s t k told first complete x = record {
+  complete = λ e. sym complete ∙ e;
+  known = λ e. refl;
+  first = λ e. subst (IsFirst (Among s.first Breaks)) (sym first) (earlier_first s.first told x);
+}
+
+-- A line is asked.
 pub walks_told : {K : Type 0} {Breaks : ℕ → Type 0} (s t : Findings) (k : K) (line : ℕ) (told : Option ℕ)
     → t.first ≡ earlier s.first (fault_at line told) → t.complete ≡ s.complete → IsLowest Breaks told
     → Walks s t k k (At line Breaks)
-walks_told {Breaks = Breaks} s t k line told first complete x = record {
-  complete = λ e. sym complete ∙ e;
-  known = λ e. refl;
-  first = λ e. subst (IsFirst (Among s.first (At line Breaks))) (sym first)
-      (earlier_first s.first (fault_at line told) (line_first line told x));
-}
+walks_told s t k line told first complete x =
+    walks_first s t k (fault_at line told) first complete (line_first line told x)
+
+-- what is known has no part in it
+pub walks_still : {K L : Type 0} {s t : Findings} {k : K} (l : L) {P : UsageFault → Type 0} → Walks s t k k P
+    → Walks s t l l P
+walks_still l a = record { complete = a.complete; known = λ e. refl; first = a.first }
 
 -- Nothing is asked.
 pub walks_moved : {K : Type 0} (s : Findings) (after wanted : K) → after ≡ wanted → Walks s s after wanted (λ f. ⊥)

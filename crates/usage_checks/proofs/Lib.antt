@@ -20,4 +20,8 @@ pub mod HandedOver
 pub mod ProceduresWalked
 pub mod EndsInOrder
 pub mod ParametersFound
+pub mod SizesAdded
+pub mod ScopesExtended
+pub mod PartsWeighed
+pub mod TurnsWeighed
 pub mod ItemsWalked

@@ -1,5 +1,5 @@
 -- The rules of a program's items, and what is known after each of them.
-use Rattle.std.specs.Prelude.{ℕ, suc, Bool, List, [], ◌∷◌, ◌++◌, length, ◌⊎◌, Option}
+use Rattle.std.specs.Prelude.{◌≡◌, ℕ, suc, ◌+◌, Bool, List, [], ◌∷◌, ◌++◌, length, ◌⊎◌, Option, Some, None}
 use Rattle.occam_parser.specs.Lines.{Constants, Formal}
 use Rattle.occam_parser.specs.Blocks.{Procedure, ProgramItem, GlobalConstant, GlobalProcedure}
 use Rattle.scalar_ranges.specs.Entries as entries
@@ -7,17 +7,20 @@ use Rattle.scalar_ranges.specs.Entries.{Entry}
 use Rattle.scalar_ranges.specs.Moves.{Known}
 use Rattle.usage_checks.specs.declared.channel_rules.Position.{Position}
 use Rattle.usage_checks.specs.declared.ends.ChannelEnd.{ChannelEnd}
+use Rattle.scalar_ranges.specs.declared.bounds.TheConstants.{OUT_OF_RANGE}
 use Rattle.usage_checks.specs.declared.telling.UsageFault.{UsageFault}
 use Rattle.usage_checks.specs.Actions.{Around}
 use Rattle.usage_checks.specs.AfterProcesses.{inside, left_to}
 use Rattle.usage_checks.specs.Declaring.{add, add_declaration, formal_meaning, add_formals}
 use Rattle.usage_checks.specs.Ends.{sorted_ends, ends_at}
 use Rattle.usage_checks.specs.FormalRules.{BreakSizes, BreakFormals}
-use Rattle.usage_checks.specs.MainRules.{is_main_name}
+use Rattle.usage_checks.specs.InTurn.{in_turn, BreaksInTurn}
+use Rattle.usage_checks.specs.MainRules.{is_main_name, BreaksMain}
 use Rattle.usage_checks.specs.NameRules.{BreaksName, BreaksDeclared, with_entries}
 use Rattle.usage_checks.specs.Processes.{uses_of}
 use Rattle.usage_checks.specs.ProcessRules.{BreaksIn}
 use Rattle.usage_checks.specs.Signatures.{Parameter}
+use Rattle.usage_checks.specs.Sizes.{Measured, total, measures_of_item, capped, end_in}
 use Rattle.usage_checks.specs.Telling.{At}
 
 -- where the body of a procedure begins
@@ -64,28 +67,67 @@ signature_of a p k =
 
 -- ---- items
 
--- What is known after some items: of the names, of the procedures among them, and from which line on nothing is
--- counted.
+-- What is known after some items: of the names, of the procedures among them, how large they are, as far as just above
+-- the greatest size, and from which line on nothing is counted.
 pub record Outside : Type 0 where
   pub known : Known
   pub signatures : List (List Parameter)
+  pub size : ℕ
   pub uncounted : Option ℕ
+
+-- of no items
+abbrev pub outermost : Outside
+outermost = record {
+  known = record { entries = []; blocks = [] };
+  signatures = [];
+  size = 0;
+  uncounted = None;
+}
 
 abbrev pub around_in : Outside → Around
 around_in o = record { signatures = o.signatures; uncounted = o.uncounted }
 
-abbrev pub after_item : ProgramItem → Outside → Outside
-after_item (GlobalConstant c) o = record {
-  known = with_entries (add_declaration (Constants c)) o.known;
-  signatures = o.signatures;
-  uncounted = o.uncounted;
-}
-after_item (GlobalProcedure p) o = record {
+-- an item is weighed before it is gone over, and nothing is weighed where counting has ended
+abbrev pub after_weighing : Option ℕ → List Measured → Outside → Outside
+after_weighing (Some line) ms o = o
+after_weighing None ms o = record o { size = capped (o.size + total ms); uncounted = end_in o.size ms }
+
+abbrev pub weighed : ProgramItem → Outside → Outside
+weighed item o = after_weighing o.uncounted (measures_of_item o.signatures o.known.entries item) o
+
+-- O16, on the line where counting ends
+abbrev pub Ends : Option ℕ → Option ℕ → UsageFault → Type 0
+Ends (Some line) after f = ⊥
+Ends None None f = ⊥
+Ends None (Some line) f = At line (λ n. n ≡ OUT_OF_RANGE) f
+
+abbrev pub EndsCounting : ProgramItem → Outside → UsageFault → Type 0
+EndsCounting item o f = Ends o.uncounted (weighed item o).uncounted f
+
+abbrev pub after_walk : ProgramItem → Outside → Outside
+after_walk (GlobalConstant c) o = record o { known = with_entries (add_declaration (Constants c)) o.known }
+after_walk (GlobalProcedure p) o = record o {
   known = after_named (around_in o) p o.known;
   signatures = o.signatures ++ signature_of (around_in o) p o.known ∷ [];
-  uncounted = o.uncounted;
 }
 
+abbrev pub BreaksWalk : ProgramItem → Outside → UsageFault → Type 0
+BreaksWalk (GlobalConstant c) o f = BreaksDeclared 0 (Constants c) o.known.entries f
+BreaksWalk (GlobalProcedure p) o f = BreaksNamed (around_in o) p o.known f
+
+abbrev pub after_item : ProgramItem → Outside → Outside
+after_item item o = after_walk item (weighed item o)
+
 abbrev pub BreaksItem : ProgramItem → Outside → UsageFault → Type 0
-BreaksItem (GlobalConstant c) o f = BreaksDeclared 0 (Constants c) o.known.entries f
-BreaksItem (GlobalProcedure p) o f = BreaksNamed (around_in o) p o.known f
+BreaksItem item o f = EndsCounting item o f ⊎ BreaksWalk item (weighed item o) f
+
+-- ---- a program
+
+abbrev pub after_items : List ProgramItem → Outside
+after_items items = in_turn after_item items outermost
+
+abbrev pub BreaksProgram : List ProgramItem → UsageFault → Type 0
+BreaksProgram items f = BreaksInTurn after_item BreaksItem items outermost f ⊎ BreaksMain items f
+
+abbrev pub BreaksNoRule : List ProgramItem → Type 0
+BreaksNoRule items = (f : UsageFault) → BreaksProgram items f → ⊥

@@ -3,10 +3,12 @@ use Rattle.scalar_ranges.specs.Scopes.{known_of}
 use Rattle.usage_checks.specs.declared.items.Outside as code_outside
 use Rattle.usage_checks.specs.ItemRules.{Outside}
 use Rattle.usage_checks.specs.Signatures.{signatures_of}
+use Rattle.usage_checks.specs.Sizes.{capped}
 
 abbrev pub seen_outside : code_outside.Outside → Outside
 seen_outside o = record {
   known = known_of o.scope;
   signatures = signatures_of o.signatures.items;
-  uncounted = o.uncounted;
+  size = capped o.weight.sum;
+  uncounted = o.weight.over;
 }

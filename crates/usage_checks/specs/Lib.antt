@@ -33,5 +33,8 @@ pub mod ProcessRules
 pub mod Walking
 pub mod Handing
 pub mod Remembering
+pub mod Sizes
+pub mod Extending
+pub mod Weighing
 pub mod ItemRules
 pub mod ItemViews

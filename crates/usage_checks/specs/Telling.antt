@@ -1,6 +1,7 @@
 -- Which fault of a program is told: one at the lowest line, and there the one with the lowest number.
 use Rattle.std.specs.Prelude.{◌≡◌, ℕ, ◌<◌, ◌≤◌, nat_lt, nat_eq, Bool, true, ◌&&◌, ◌||◌, ◌⊎◌, if◌then◌else◌}
 use Rattle.std.specs.Prelude.{Option, Some, None, IfSome, IsSomeAnd}
+use Rattle.usage_checks.specs.declared.faults.TheConstants.{MEMORY}
 use Rattle.usage_checks.specs.declared.telling.UsageFault.{UsageFault}
 use Rattle.usage_checks.specs.declared.telling.Findings.{Findings}
 
@@ -23,6 +24,13 @@ earlier (Some f) (Some g) = if is_before g f then Some g else Some f
 abbrev pub fault_at : ℕ → Option ℕ → Option UsageFault
 fault_at line None = None
 fault_at line (Some number) = Some (record { number = number; line = line })
+
+-- what is told where memory ran out
+abbrev pub out_of_memory : UsageFault
+out_of_memory = record { number = MEMORY; line = 0 }
+
+abbrev pub verdict : Findings → Option UsageFault
+verdict f = if f.complete then f.first else Some out_of_memory
 
 -- a rule that is broken on this line
 abbrev pub At : ℕ → (ℕ → Type 0) → UsageFault → Type 0

@@ -17,6 +17,8 @@ pub const CHANNEL_USE: u8 = 15;
 pub const PASSED_TWICE: u8 = 18;
 /// The number of the fault that the last item is no `main` with links.
 pub const NO_MAIN: u8 = 19;
+/// The number that is told at line 0 where memory ran out.
+pub const MEMORY: u8 = 20;
 
 /// The lower one of two numbers, if there are any.
 pub(crate) fn lower(first: Option<u8>, second: Option<u8>) -> Option<u8>

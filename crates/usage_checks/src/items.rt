@@ -1,6 +1,6 @@
 //! The walk over the items of a program.
 
-ghost use Rattle.std.specs.Prelude.{◌≡◌, true, fold, [], ◌∷◌, ◌++◌, length, map, IfOk, IfSome};
+ghost use Rattle.std.specs.Prelude.{◌≡◌, true, None, fold, [], ◌∷◌, ◌++◌, length, map, IfOk, IfSome};
 ghost use Rattle.occam_parser.specs.Lines.{Constants};
 ghost use Rattle.occam_parser.specs.LineViews.{constant_of};
 ghost use Rattle.occam_parser.specs.Blocks.{GlobalProcedure};
@@ -11,7 +11,9 @@ ghost use Rattle.usage_checks.specs.ActionViews.{around_of};
 ghost use Rattle.usage_checks.specs.Declaring.{add, add_declaration};
 ghost use Rattle.usage_checks.specs.Ends.{sorted_ends, with_end};
 ghost use Rattle.usage_checks.specs.InTurn.{in_turn, BreaksInTurn};
-ghost use Rattle.usage_checks.specs.ItemRules.{after_named, BreaksNamed, signature_of, after_item, BreaksItem};
+ghost use Rattle.usage_checks.specs.ItemRules.{after_named, BreaksNamed, signature_of, outermost, weighed};
+ghost use Rattle.usage_checks.specs.ItemRules.{Ends, EndsCounting, after_walk, BreaksWalk, after_item, BreaksItem};
+ghost use Rattle.usage_checks.specs.ItemRules.{after_items, BreaksProgram};
 ghost use Rattle.usage_checks.specs.ItemViews.{seen_outside};
 ghost use Rattle.usage_checks.specs.NameRules.{with_entries, BreaksName, BreaksDeclared};
 ghost use Rattle.usage_checks.specs.Signatures.{parameter_of, parameters_of, signatures_of};
@@ -22,22 +24,25 @@ use crate::declaration_rules::fault_of_value;
 use crate::declaring::constant_meaning;
 use crate::ends::{add_ends, sorted_ends};
 use crate::formal_rules::parameters_for;
+use crate::main_rules::fault_of_main;
 use crate::signature::{Parameter, Signature};
 use crate::telling::Findings;
 use crate::uses::Uses;
+use crate::weighing::Weight;
 use occam_parser::{Constant, Item, Proc};
-use scalar_ranges::{Meaning, Scope};
+use scalar_ranges::{Meaning, OUT_OF_RANGE, Scope};
 use std::alloc::{AllocError, Global};
 
 /// What is known after some items of a program.
+#[derive(Drop)]
 pub(crate) struct Outside<'a> {
     pub(crate) alloc: Global,
     /// The names.
     pub(crate) scope: Scope<'a>,
     /// The procedures, by their numbers.
     pub(crate) signatures: Vec<Signature>,
-    /// The line from which on nothing is counted, if there is one.
-    pub(crate) uncounted: Option<u32>,
+    /// How large the items are, and from which line on nothing is counted.
+    pub(crate) weight: Weight,
 }
 
 /// The number of the procedure after these, if it is one.
@@ -124,16 +129,67 @@ impl Findings {
     /// A procedure, with what is known of it afterwards.
     fn walk_signed<'a>(&mut self, outside: &mut Outside<'a>, proc: &Proc<'a>)
         ensures { let item = GlobalProcedure (procedure_of proc.now) in
-            Walks self.old self.new (seen_outside outside.new) (after_item item (seen_outside outside.old))
-            (BreaksItem item (seen_outside outside.old)) }
+            Walks self.old self.new (seen_outside outside.new) (after_walk item (seen_outside outside.old))
+            (BreaksWalk item (seen_outside outside.old)) }
     {
         let around = Around {
             signatures: &outside.signatures,
-            uncounted: outside.uncounted,
+            uncounted: outside.weight.over,
         };
         match self.walk_named(outside.alloc, around, &mut outside.scope, proc) {
             Ok(signature) => self.sign(&mut outside.signatures, signature),
             Err(_) => self.fail(),
+        }
+    }
+
+    /// The names, the processes and the signature of an item.
+    fn walk_weighed<'a>(&mut self, outside: &mut Outside<'a>, item: &Item<'a>)
+        ensures { Walks self.old self.new (seen_outside outside.new)
+            (after_walk (item_of item.now) (seen_outside outside.old))
+            (BreaksWalk (item_of item.now) (seen_outside outside.old)) }
+    {
+        match item {
+            Item::Constant(constant) => self.walk_constant(&mut outside.scope, constant),
+            Item::Proc(proc) => self.walk_signed(outside, proc),
+        }
+    }
+
+    /// Counting ends on this line, if there is one.
+    fn tell_end(&mut self, line: Option<u32>)
+        ensures { Walks self.old self.new line line (Ends None line) }
+    {
+        if let Some(line) = line {
+            self.tell(line, Some(OUT_OF_RANGE));
+        }
+    }
+
+    /// An item is weighed, and counting may end in it.
+    fn weigh<'a>(&mut self, outside: &mut Outside<'a>, item: &Item<'a>)
+        requires { outside.old.weight.over ≡ None }
+        ensures { Walks self.old self.new (seen_outside outside.new)
+            (weighed (item_of item.now) (seen_outside outside.old))
+            (EndsCounting (item_of item.now) (seen_outside outside.old)) }
+    {
+        let signatures = &outside.signatures;
+        outside
+            .weight
+            .weigh_item(outside.alloc, signatures, &mut outside.scope, item);
+        if outside.weight.complete {
+            self.tell_end(outside.weight.over);
+        } else {
+            self.fail();
+        }
+    }
+
+    /// An item is weighed, unless counting has ended.
+    fn weigh_unless_ended<'a>(&mut self, outside: &mut Outside<'a>, item: &Item<'a>)
+        ensures { Walks self.old self.new (seen_outside outside.new)
+            (weighed (item_of item.now) (seen_outside outside.old))
+            (EndsCounting (item_of item.now) (seen_outside outside.old)) }
+    {
+        match outside.weight.over {
+            Some(_) => {}
+            None => self.weigh(outside, item),
         }
     }
 
@@ -143,20 +199,42 @@ impl Findings {
             (after_item (item_of item.now) (seen_outside outside.old))
             (BreaksItem (item_of item.now) (seen_outside outside.old)) }
     {
-        match item {
-            Item::Constant(constant) => self.walk_constant(&mut outside.scope, constant),
-            Item::Proc(proc) => self.walk_signed(outside, proc),
-        }
+        self.weigh_unless_ended(outside, item);
+        self.walk_weighed(outside, item);
     }
 
     /// The items of a program, one after the other.
-    pub(crate) fn walk_items<'a>(&mut self, outside: &mut Outside<'a>, items: &[Item<'a>])
+    fn walk_items<'a>(&mut self, outside: &mut Outside<'a>, items: &[Item<'a>])
         ensures { Walks self.old self.new (seen_outside outside.new)
             (in_turn after_item (map item_of items.now) (seen_outside outside.old))
             (BreaksInTurn after_item BreaksItem (map item_of items.now) (seen_outside outside.old)) }
     {
         for item in items {
             self.walk_item(outside, item);
+        }
+    }
+
+    /// A program, from nothing known.
+    pub(crate) fn walk_program<'a>(&mut self, outside: &mut Outside<'a>, items: &[Item<'a>])
+        requires { seen_outside outside.old ≡ outermost }
+        ensures { Walks self.old self.new (seen_outside outside.new) (after_items (map item_of items.now))
+            (BreaksProgram (map item_of items.now)) }
+    {
+        self.walk_items(outside, items);
+        self.tell_first(fault_of_main(items));
+    }
+}
+
+impl Outside<'_> {
+    /// Nothing is known.
+    pub(crate) fn new<'a>(alloc: Global) -> Outside<'a>
+        ensures { seen_outside result ≡ outermost }
+    {
+        Outside {
+            alloc,
+            scope: Scope::new(alloc),
+            signatures: Vec::new(alloc),
+            weight: Weight::new(),
         }
     }
 }

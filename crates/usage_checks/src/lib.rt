@@ -3,14 +3,17 @@
 
 mod action_rules;
 mod actions;
+mod array_ends;
 mod blocks;
 mod channel_rules;
+mod checked;
 mod components;
 mod constants;
 mod declaration_rules;
 mod declaring;
 mod ends;
 mod entering;
+mod extending;
 mod faults;
 mod following;
 mod formal_rules;
@@ -29,16 +32,19 @@ mod places;
 mod procedures;
 mod processes;
 mod signature;
+mod sizes;
 mod taking;
 mod telling;
 mod uses;
 mod walking;
 mod wanting;
+mod weighing;
 
 pub use actions::Around;
 pub use channel_rules::Position;
+pub use checked::{CheckedProgram, check};
 pub use faults::{
-    CHANNEL_USE, CONSTANT_WANTED, DECLARED_TWICE, NO_MAIN, OTHER_ACTUAL, PASSED_TWICE,
+    CHANNEL_USE, CONSTANT_WANTED, DECLARED_TWICE, MEMORY, NO_MAIN, OTHER_ACTUAL, PASSED_TWICE,
     SHARED_VARIABLE,
 };
 pub use signature::{Parameter, Signature};

@@ -72,6 +72,14 @@ impl Findings {
         self.first = earlier(self.first, fault_at(line, number));
     }
 
+    /// The first fault of a part of the program, if there is one.
+    pub(crate) fn tell_first(&mut self, fault: Option<UsageFault>)
+        ensures first { self.new.first ≡ earlier self.old.first fault }
+        ensures complete { self.new.complete ≡ self.old.complete }
+    {
+        self.first = earlier(self.first, fault);
+    }
+
     /// Memory ran out.
     pub(crate) fn fail(&mut self)
         ensures first { self.new.first ≡ self.old.first }

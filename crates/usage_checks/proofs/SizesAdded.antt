@@ -1,0 +1,54 @@
+-- Sizes are added one by one.
+use Rattle.std.proofs.Common.{◌≡◌, ℕ, suc, ◌+◌, ◌<◌, List, [], ◌∷◌, ◌++◌, length, map, take, get_or, sum_by, sym, ap}
+use Rattle.std.proofs.Common.{◌∙◌, arith, add-zero}
+use Rattle.std.proofs.lemmas.List.{length-take, length-map}
+use Rattle.std.proofs.lemmas.List.Sums.{sum_by-cons, sum_by_push}
+use Rattle.occam_parser.specs.declared.tree.Expr.{Expr}
+use Rattle.occam_parser.specs.Expressions.{Expression, Terms, Then, Term}
+use Rattle.occam_parser.specs.Views.{expression_of, with_others}
+use Rattle.scalar_ranges.specs.Entries.{Entry}
+use Rattle.scalar_ranges.specs.Environments.{item_at}
+use Rattle.usage_checks.specs.Signatures.{Parameter}
+use Rattle.usage_checks.specs.Sizes.{size_of_terms, size_of_term, ends_of_actual, ends_of_actuals}
+use Rattle.usage_checks.proofs.OneAfterAnother.{seen_more}
+
+-- ---- loops
+
+pub sum_next : {A B : Type 0} (f : B → ℕ) (view : A → B) (xs : List A) (i : ℕ) (x d : A) → i < length xs
+    → x ≡ get_or xs i d
+    → sum_by f (map view (take i xs)) + f (view x) ≡ sum_by f (map view (take (i + 1) xs))
+sum_next f view xs i x d h is =
+    sym (sum_by_push f (map view (take i xs)) (view x)) ∙ ap (sum_by f) (seen_more view xs i x d h is)
+
+-- ---- chains
+
+abbrev pub further_size : Term → ℕ
+further_size t = 1 + size_of_term t
+
+pub chain_size : (ts : Terms) (xs : List Term)
+    → size_of_terms (with_others ts xs) ≡ size_of_terms ts + sum_by further_size xs
+chain_size ts [] = sym (add-zero (size_of_terms ts))
+chain_size ts (x ∷ xs) = omega (arith, chain_size (Then ts x) xs, sum_by-cons further_size x xs)
+
+-- ---- actuals
+
+abbrev ends_at : List Entry → List Parameter → ℕ → Expression → ℕ
+ends_at es ps i e = ends_of_actual es (item_at i ps) e
+
+last_ends : (es : List Entry) (ps : List Parameter) (k : ℕ) (xs : List Expression) (x : Expression)
+    → ends_of_actuals es ps k (xs ++ x ∷ []) ≡ ends_of_actuals es ps k xs + ends_at es ps (k + length xs) x
+last_ends es ps k [] x = omega (arith, ap (λ j. ends_at es ps j x) (add-zero k))
+last_ends es ps k (y ∷ xs) x =
+    let long : suc k + length xs ≡ k + length (y ∷ xs) = omega arith in
+    omega (arith, last_ends es ps (suc k) xs x, ap (λ j. ends_at es ps j x) long)
+
+pub next_ends : (es : List Entry) (ps : List Parameter) (xs : List Expr) (i : ℕ) (x d : Expr) → i < length xs
+    → x ≡ get_or xs i d
+    → ends_of_actuals es ps 0 (map expression_of (take i xs)) + ends_at es ps i (expression_of x)
+    ≡ ends_of_actuals es ps 0 (map expression_of (take (i + 1) xs))
+next_ends es ps xs i x d h is =
+    let ys = map expression_of (take i xs) in
+    let many : i ≡ 0 + length ys = simp (length-map, length-take) (omega arith) in
+    ap (λ j. ends_of_actuals es ps 0 ys + ends_at es ps j (expression_of x)) many
+    ∙ sym (last_ends es ps 0 ys (expression_of x))
+    ∙ ap (ends_of_actuals es ps 0) (seen_more expression_of xs i x d h is)

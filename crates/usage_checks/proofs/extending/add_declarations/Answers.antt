@@ -1,0 +1,22 @@
+use Rattle.std.proofs.Common.{arith, ap, ◌∙◌}
+use Rattle.occam_parser.specs.LineViews.{declaration_of}
+use Rattle.scalar_ranges.specs.Scopes.{entries_of}
+use Rattle.usage_checks.specs.Declaring.{add_declaration}
+use Rattle.usage_checks.proofs.OneAfterAnother.{next_in_turn}
+use Rattle.usage_checks.proofs.ScopesExtended.{extends_both}
+use Rattle.usage_checks.proofs.extending.add_declarations.Goals as goal
+
+pub loop-declaration-preserved : goal.loop-declaration-preserved
+loop-declaration-preserved c =
+    let x = c.declaration-item.result in
+    let before = c.loop-declaration.invariant in
+    record {
+      entries = c.in_ok-add_declaration.ensures.ok ∙ ap (add_declaration (declaration_of x)) before.entries
+          ∙ next_in_turn add_declaration declaration_of c.args.declarations.now
+          c.loop-declaration.declaration-index x x (entries_of c.args.scope.now) (omega arith) c.declaration-item.is;
+      extends = extends_both before.extends c.add_declaration.ensures.extends;
+    }
+
+pub returns-in_err-add_declaration-clause-extends : goal.returns-in_err-add_declaration-clause-extends
+returns-in_err-add_declaration-clause-extends c =
+    extends_both c.loop-declaration.invariant.extends c.add_declaration.ensures.extends

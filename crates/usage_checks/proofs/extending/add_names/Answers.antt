@@ -1,0 +1,42 @@
+use Rattle.std.proofs.Common.{◌≤◌, [], length, map, take, get_or, Bor, ℕ, List, arith, ap, ◌∙◌, refl}
+use Rattle.std.proofs.lemmas.List.{take_all}
+use Rattle.occam_parser.specs.LineViews.{spelling_of}
+use Rattle.scalar_ranges.specs.Scopes.{entries_of, meaning_of}
+use Rattle.usage_checks.specs.Declaring.{add, add_all}
+use Rattle.usage_checks.proofs.OneAfterAnother.{next_in_turn}
+use Rattle.usage_checks.proofs.ScopesExtended.{extends_both}
+use Rattle.usage_checks.proofs.extending.add_names.Goals as goal
+
+pub loop-name-preserved : goal.loop-name-preserved
+loop-name-preserved c =
+    let m = meaning_of c.args.meaning in
+    let items = c.deref-name-items.result.now in
+    let i = c.loop-name.name-index in
+    let none : Bor (List ℕ) = record { ref_ptr = (0, 0); now = [] } in
+    let name = get_or items i none in
+    let before = c.loop-name.invariant in
+    record {
+      entries = c.in_ok-add_name-2.ensures.ok ∙ ap (add name.now m) before.entries
+          ∙ next_in_turn (λ n. add n m) spelling_of items i name none (entries_of c.add_name.new.scope)
+          (omega arith) refl;
+      extends = extends_both before.extends c.add_name-in-loop-name.ensures.extends;
+    }
+
+pub returns-in_err-add_name-2-clause-extends : goal.returns-in_err-add_name-2-clause-extends
+returns-in_err-add_name-2-clause-extends c =
+    extends_both (extends_both c.add_name.ensures.extends c.loop-name.invariant.extends)
+    c.add_name-in-loop-name.ensures.extends
+
+pub returns-clause-ok : goal.returns-clause-ok
+returns-clause-ok c =
+    let m = meaning_of c.args.meaning in
+    let items = c.deref-name-items.result.now in
+    let i = c.loop-name.name-index in
+    let done : length items ≤ i = omega arith in
+    let all = ap (map spelling_of) (take_all i items done ∙ c.deref-name-items.ensures.value) in
+    c.loop-name.invariant.entries
+    ∙ ap (add_all (map spelling_of (take i items)) m) c.in_ok-add_name.ensures.ok
+    ∙ ap (λ ns. add_all ns m (add c.args.names.now.first.now m (entries_of c.args.scope.now))) all
+
+pub returns-clause-extends : goal.returns-clause-extends
+returns-clause-extends c = extends_both c.add_name.ensures.extends c.loop-name.invariant.extends

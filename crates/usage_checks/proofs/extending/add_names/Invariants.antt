@@ -1,0 +1,13 @@
+use Rattle.std.proofs.Common.{◌≡◌, map, take}
+use Rattle.occam_parser.specs.LineViews.{spelling_of}
+use Rattle.scalar_ranges.specs.Scopes.{entries_of, known_of, meaning_of}
+use Rattle.usage_checks.specs.Declaring.{add_all}
+use Rattle.usage_checks.specs.Extending.{Extends}
+use Rattle.usage_checks.proofs.extending.add_names.Given as goal
+
+abbrev pub invariant-loop-name : goal.invariant-loop-name
+invariant-loop-name l = record {
+  entries : entries_of l.scope
+      ≡ add_all (map spelling_of (take l.name-index l.name-items)) (meaning_of l.meaning) (entries_of l.initial.scope);
+  extends : Extends (known_of l.initial.scope) (known_of l.scope);
+}

@@ -1,0 +1,121 @@
+//! Names that are declared in a scope.
+
+ghost use Rattle.std.specs.Prelude.{◌≡◌, map, OnOk};
+ghost use Rattle.occam_parser.specs.OneOrMore.{as_list, one_or_more_of};
+ghost use Rattle.occam_parser.specs.LineViews.{declaration_of, formal_of, spelling_of};
+ghost use Rattle.scalar_ranges.specs.Scopes.{entries_of, known_of, meaning_of};
+ghost use Rattle.usage_checks.specs.Declaring.{add, add_all, add_declaration, add_formals};
+ghost use Rattle.usage_checks.specs.Entering.{add_declarations};
+ghost use Rattle.usage_checks.specs.Extending.{Extends};
+ghost use Rattle.usage_checks.specs.FormalRules.{parameter_for};
+ghost use Rattle.usage_checks.specs.Signatures.{parameter_of};
+
+use crate::declaring::{channel_meaning, constant_meaning, variable_meaning};
+use crate::formal_rules::parameters_for;
+use crate::signature::Parameter;
+use occam_parser::{Declaration, Formal, OneOrMore};
+use scalar_ranges::{Entry, Meaning, Scope};
+use std::alloc::{AllocError, Global};
+
+/// One name more.
+pub(crate) fn add_name<'a>(
+    scope: &mut Scope<'a>,
+    name: &'a [u8],
+    meaning: Meaning,
+) -> Result<(), AllocError>
+    ensures ok { OnOk result
+        (entries_of scope.new ≡ add name.now (meaning_of meaning) (entries_of scope.old)) }
+    ensures extends { Extends (known_of scope.old) (known_of scope.new) }
+{
+    scope.declare(Entry { name, meaning })?;
+    Ok(())
+}
+
+/// Some names more, which mean the same.
+fn add_names<'a>(
+    scope: &mut Scope<'a>,
+    names: &OneOrMore<&'a [u8]>,
+    meaning: Meaning,
+) -> Result<(), AllocError>
+    ensures ok { OnOk result (entries_of scope.new
+        ≡ add_all (as_list (one_or_more_of spelling_of names.now)) (meaning_of meaning) (entries_of scope.old)) }
+    ensures extends { Extends (known_of scope.old) (known_of scope.new) }
+{
+    add_name(scope, names.first, meaning)?;
+    for name in &names.others {
+        add_name(scope, name, meaning)?;
+    }
+    Ok(())
+}
+
+/// The names of a declaration.
+fn add_declaration<'a>(
+    scope: &mut Scope<'a>,
+    declaration: &Declaration<'a>,
+) -> Result<(), AllocError>
+    ensures ok { OnOk result
+        (entries_of scope.new ≡ add_declaration (declaration_of declaration.now) (entries_of scope.old)) }
+    ensures extends { Extends (known_of scope.old) (known_of scope.new) }
+{
+    match declaration {
+        Declaration::Constant(constant) => {
+            let meaning = constant_meaning(scope, constant.value_type, &constant.value);
+            add_name(scope, constant.name, meaning)
+        }
+        Declaration::Variables(names) => {
+            let meaning = variable_meaning(scope, names.value_type, &names.size);
+            add_names(scope, &names.names, meaning)
+        }
+        Declaration::Channels(names) => {
+            let meaning = channel_meaning(scope, names.value_type, &names.size);
+            add_names(scope, &names.names, meaning)
+        }
+    }
+}
+
+/// The names of declarations.
+pub(crate) fn add_declarations<'a>(
+    scope: &mut Scope<'a>,
+    declarations: &[Declaration<'a>],
+) -> Result<(), AllocError>
+    ensures ok { OnOk result (entries_of scope.new
+        ≡ add_declarations (map declaration_of declarations.now) (entries_of scope.old)) }
+    ensures extends { Extends (known_of scope.old) (known_of scope.new) }
+{
+    for declaration in declarations {
+        add_declaration(scope, declaration)?;
+    }
+    Ok(())
+}
+
+/// The names of formals, with what they stand for.
+fn add_parameters<'a>(
+    scope: &mut Scope<'a>,
+    formals: &[Formal<'a>],
+    parameters: &[Parameter],
+) -> Result<(), AllocError>
+    requires { map parameter_of parameters.now
+        ≡ map (parameter_for (entries_of scope.old)) (map formal_of formals.now) }
+    ensures ok { OnOk result (entries_of scope.new
+        ≡ add_formals (entries_of scope.old) (map formal_of formals.now) (entries_of scope.old)) }
+    ensures extends { Extends (known_of scope.old) (known_of scope.new) }
+{
+    for (place, formal) in formals.iter().enumerate() {
+        add_name(scope, formal.name, parameters[place].meaning)?;
+    }
+    Ok(())
+}
+
+/// The names of formals. What one stands for does not see those before it.
+pub(crate) fn add_formals<'a>(
+    alloc: Global,
+    scope: &mut Scope<'a>,
+    formals: &[Formal<'a>],
+) -> Result<(), AllocError>
+    ensures ok { OnOk result (entries_of scope.new
+        ≡ add_formals (entries_of scope.old) (map formal_of formals.now) (entries_of scope.old)) }
+    ensures extends { Extends (known_of scope.old) (known_of scope.new) }
+{
+    let parameters = parameters_for(alloc, scope, formals)?;
+    add_parameters(scope, formals, &parameters)
+}
