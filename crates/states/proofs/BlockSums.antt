@@ -1,6 +1,6 @@
 -- What is known of the words of blocks together, as it is kept.
 use Rattle.std.proofs.Common.{◌≡◌, ◌≢◌, ℕ, zero, suc, ◌+◌, ◌-◌, ◌*◌, ◌/◌, ◌%◌, ◌<◌, ◌≤◌, ℤ, pos, ◌+ℤ◌, ◌≤ℤ◌}
-use Rattle.std.proofs.Common.{Bool, true, false, ◌&&◌, cond, eqb, List, length, set, Option, Some, None, refl, sym, ap}
+use Rattle.std.proofs.Common.{Bool, true, false, ◌&&◌, cond, eqb, List, [], length, set, Option, Some, None, refl, sym, ap}
 use Rattle.std.proofs.Common.{◌∙◌, arith, inl, inr}
 use Rattle.std.specs.Prelude.{IfSome}
 use Rattle.std.specs.Int.{int_min, int_max}
@@ -25,10 +25,10 @@ use Rattle.states.proofs.SpanFacts.{and-yes}
 
 -- ---- one span behind the other
 
-min-assoc : (a b c : ℤ) → int_min (int_min a b) c ≡ int_min a (int_min b c)
+pub min-assoc : (a b c : ℤ) → int_min (int_min a b) c ≡ int_min a (int_min b c)
 min-assoc a b c = omega (arith, ints, clamps)
 
-max-assoc : (a b c : ℤ) → int_max (int_max a b) c ≡ int_max a (int_max b c)
+pub max-assoc : (a b c : ℤ) → int_max (int_max a b) c ≡ int_max a (int_max b c)
 max-assoc a b c = omega (arith, ints, clamps)
 
 and-assoc : (a b c : Bool) → (a && b) && c ≡ a && (b && c)
@@ -150,7 +150,7 @@ kept-set blocks number n block low = elim (cases_eq n number) [
 -- ---- the sums of blocks
 
 -- the block that has an index
-number-of : (index number size : ℕ) → number * size ≤ index → index < number * size + size → index / size ≡ number
+pub number-of : (index number size : ℕ) → number * size ≤ index → index < number * size + size → index / size ≡ number
 number-of index number size low high =
     let behind = index - number * size in
     let here : number * size + behind ≡ index = omega arith in
@@ -160,6 +160,19 @@ pub no-sum : (block : Block) (sum : Together) → block ≡ no_block → block.s
 no-sum block sum none some =
     let clash : None ≡ Some sum = sym (ap (λ (b : Block). b.sum) none) ∙ some in
     cc
+
+-- nothing is summed
+pub none-summed : (facts : Facts) (lo : ℤ) (blocks : List Block) → blocks ≡ [] → AreSummed facts lo blocks
+unfolding AreSummed
+none-summed facts lo blocks none = λ n sum is.
+    absurd (no-sum (block_at blocks n) sum (ap (λ (bs : List Block). block_at bs n) none) is)
+
+-- what is kept of a block is the sum of its words
+pub sum-is : (facts : Facts) (lo : ℤ) (blocks : List Block) (number : ℕ) (found : Option Together)
+    → AreSummed facts lo blocks → found ≡ (block_at blocks number).sum
+    → (sum : Together) → found ≡ Some sum → sum ≡ together facts (first_of lo number) block_words
+unfolding AreSummed
+sum-is facts lo blocks number found summed is sum some = summed number sum (sym is ∙ some)
 
 -- a word of another block stays what it is
 other-block : (facts : Facts) (lo word : ℤ) (index number j : ℕ) (fact : Fact) → word ≡ lo +ℤ pos index
@@ -179,6 +192,7 @@ pub summed-write : (facts new : Facts) (lo word : ℤ) (index number : ℕ) (fac
     → AreSummed facts lo blocks → new ≡ with_alone word fact facts → word ≡ lo +ℤ pos index
     → number ≡ index / block_words
     → ((n : ℕ) → block_at others n ≡ cond (eqb n number) no_block (block_at blocks n)) → AreSummed new lo others
+unfolding AreSummed
 summed-write facts new lo word index number fact blocks others summed new_is word_is number_is kept =
     λ n sum is. elim (cases_eq n number) [
       | inl e ↦
@@ -200,6 +214,7 @@ pub summed-more : (facts : Facts) (lo word : ℤ) (number : ℕ) (all : Together
     (blocks others : List Block) → AreSummed facts lo blocks → block.sum ≡ Some all → word ≡ first_of lo number
     → all ≡ together facts word block_words
     → ((n : ℕ) → block_at others n ≡ cond (eqb n number) block (block_at blocks n)) → AreSummed facts lo others
+unfolding AreSummed
 summed-more facts lo word number all block blocks others summed all_is word_is right kept =
     λ n sum is. elim (cases_eq n number) [
       | inl e ↦
@@ -220,6 +235,7 @@ summed-more facts lo word number all block blocks others summed all_is word_is r
 pub sum-at : (facts : Facts) (lo word : ℤ) (number : ℕ) (blocks : List Block) (found : Option Together)
     → AreSummed facts lo blocks → found ≡ (block_at blocks number).sum → first_of lo number ≡ word
     → IfSome found (λ sum. sum ≡ together facts word block_words)
+unfolding AreSummed
 sum-at facts lo word number blocks None summed is begins = tt
 sum-at facts lo word number blocks (Some sum) summed is begins =
     summed number sum (sym is) ∙ ap (λ (w : ℤ). together facts w block_words) begins

@@ -65,6 +65,32 @@ words_say-at facts entry (suc m) n h l =
           omega arith in ap (λ j. says (facts (entry.word +ℤ pos j)) (said_of entry.fact (eqb j 0))) same ∙ p.0
     ]
 
+-- one of the words says less
+pub words_say-fails : (facts : Facts) (entry : Entry) (k : ℤ) (span n : ℕ) (fact wanted : WordFact)
+    → k ≡ entry.word +ℤ pos n → n < span → fact ≡ facts k → wanted ≡ said_of entry.fact (eqb n 0)
+    → says fact wanted ≡ false → words_say facts entry span ≡ false
+words_say-fails facts entry k span n fact wanted at low fact_is wanted_is fails =
+    elim (cases_Bool (words_say facts entry span)) [
+      | inl e ↦
+          let holds : says fact wanted ≡ true =
+          ap (λ (f : WordFact). says f wanted) (fact_is ∙ ap facts at)
+          ∙ (ap (says (facts (entry.word +ℤ pos n))) wanted_is ∙ words_say-at facts entry span n e low) in
+          let clash : true ≡ false = sym holds ∙ fails in
+          absurd (cc)
+      | inr e ↦ e
+    ]
+
+-- one more of the words
+pub words_say-more : (facts : Facts) (entry : Entry) (k : ℤ) (n m : ℕ) (fact wanted : WordFact)
+    → k ≡ entry.word +ℤ pos n → m ≡ suc n → fact ≡ facts k → wanted ≡ said_of entry.fact (eqb n 0)
+    → says fact wanted ≡ true → words_say facts entry n ≡ true → words_say facts entry m ≡ true
+words_say-more facts entry k n m fact wanted at m_is fact_is wanted_is holds earlier =
+    ap (words_say facts entry) m_is
+    ∙ and-both _ _
+    (ap (says (facts (entry.word +ℤ pos n))) (sym wanted_is)
+    ∙ (ap (λ (f : WordFact). says f wanted) (sym (fact_is ∙ ap facts at)) ∙ holds))
+    earlier
+
 -- ---- the words of a row
 
 -- what is said by the rest of a row

@@ -7,6 +7,7 @@ pub mod RowFacts
 pub mod FrameFacts
 pub mod SpanFacts
 pub mod BlockSums
+pub mod Leavings
 pub mod Comparisons
 pub mod States
 pub mod OwnWords

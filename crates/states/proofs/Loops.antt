@@ -1,9 +1,13 @@
 -- What is known of the words of loops.
-use Rattle.std.proofs.Common.{◌≡◌, ℕ, suc, ◌<◌, ℤ, pos, negsuc, ◌-ℤ◌, Bool, true, false, if◌then◌else◌, List, [], ◌∷◌}
+use Rattle.std.proofs.Common.{◌≡◌, ℕ, suc, ◌*◌, ◌/◌, ◌%◌, ◌<◌, ◌≤◌, ℤ, pos, ◌+ℤ◌, negsuc, ◌-ℤ◌, Bool, true, false, if◌then◌else◌, List, [], ◌∷◌}
 use Rattle.std.proofs.Common.{length, inl, inr, Option, Some, None, refl, sym, ap, ◌∙◌, subst, arith}
 use Rattle.std.specs.Prelude.{option_map, unwrap_or, slice_index}
 use Rattle.std.proofs.lemmas.Bool.Decides.{eqb_tells}
 use Rattle.std.proofs.lemmas.Int.{ints}
+use Rattle.std.proofs.lemmas.Bool.{cases_lt}
+use Rattle.std.proofs.lemmas.List.{get_or_past}
+use Rattle.std.proofs.lemmas.Nat.{div-add-mod'}
+use Rattle.std.proofs.Math.Nat.{mod-lt, mul-le-mul_right}
 use Rattle.std.proofs.Math.Logic.{∥∥₁_elim}
 use Rattle.module_format.specs.Rows.{Fact}
 use Rattle.std.specs.Coded.{Unit-prop}
@@ -17,7 +21,10 @@ use Rattle.states.specs.Lookup.{lookup, indices, ArePlaced, fact_of_index}
 use Rattle.states.specs.declared.overlay.Written.{Written}
 use Rattle.states.specs.Rows.{LoopFits}
 use Rattle.states.specs.declared.frame.Frame.{Frame}
-use Rattle.states.specs.Frames.{frame_facts, is_loop_word, HasRoom}
+use Rattle.states.specs.declared.blocks.Block.{Block}
+use Rattle.states.specs.declared.span.Leaving.{Leaving}
+use Rattle.states.specs.Blocks.{block_words, HaveRoom, no_block, block_at, left_by, leaving_at, facts_left}
+use Rattle.states.specs.Frames.{frame_facts, over_facts, is_loop_word, HasRoom}
 
 pub loop_fits_prop : (fact : WordFact) → IsProp (LoopFits fact)
 loop_fits_prop (Alone fact) = Unit-prop
@@ -53,11 +60,40 @@ index-below places ws index fact placed h =
     let at = written-at ws index fact h in
     subst (λ (n : ℕ). n < length places) at.2 (placed at.0 at.1).0
 
+-- a block has words
+pub some-words : 0 < block_words
+unfolding block_words
+some-words = omega arith
+
+-- a block that was left is one of the frame's
+pub left-below : (frame : Frame) (number : ℕ) (leaving : Leaving)
+    → (block_at frame.by_block.kept.items number).left ≡ Some leaving → number < frame.by_block.room
+left-below frame number leaving left = elim (cases_lt number (length frame.by_block.kept.items)) [
+  | inl low ↦ let few = frame.by_block.few in omega (arith, few)
+  | inr high ↦
+      let none = ap (λ (b : Block). b.left) (get_or_past frame.by_block.kept.items number no_block high) in
+      let clash : None ≡ Some leaving = sym none ∙ left in
+      absurd (cc)
+]
+
+-- each word of a block can be written
+pub block-room : (frame : Frame) (k : ℤ) (index : ℕ) → k ≡ frame.lo +ℤ pos index
+    → index / block_words < frame.by_block.room → HasRoom frame k
+unfolding HaveRoom
+block-room frame k index at below =
+    let whole = frame.whole in
+    let both = div-add-mod' index block_words in
+    let rest : index % block_words < block_words = mod-lt index some-words in
+    let more : suc (index / block_words) * block_words ≤ frame.by_block.room * block_words =
+    mul-le-mul_right block_words (omega (arith, below)) in
+    record { low = omega (arith, ints); high = omega (arith, ints, whole, both, rest, more) }
+
 -- Something is known of words alone that can be written.
 pub room-known : (frame : Frame) (k : ℤ) (fact : WordFact) → fact ≡ frame_facts frame k → is_silent fact ≡ false
     → HasRoom frame k
-room-known frame k fact is known = on_word (k -ℤ frame.lo) refl
-    (ap is_silent (sym is) ∙ known)
+unfolding facts_left
+room-known frame k fact is known =
+    on_left (leaving_at frame.by_block.kept.items (k -ℤ frame.lo)) refl (ap is_silent (sym is) ∙ known)
   where
     of_row : is_silent (entry_fact frame.row.now k) ≡ false → HasRoom frame k
     of_row h = let inside = frame.inside k h in record { low = inside.0; high = inside.1 }
@@ -76,6 +112,17 @@ room-known frame k fact is known = on_word (k -ℤ frame.lo) refl
         ≡ false → HasRoom frame k
     on_word (pos index) at h = on_index index at (lookup frame.overlay.written.items index) refl h
     on_word (negsuc n) at h = of_row h
+
+    in_block : (z : ℤ) (leaving : Leaving) → k -ℤ frame.lo ≡ z → leaving_at frame.by_block.kept.items z ≡ Some leaving
+        → HasRoom frame k
+    in_block (pos index) leaving at e =
+        block-room frame k index (omega (arith, ints, at)) (left-below frame (index / block_words) leaving e)
+    in_block (negsuc n) leaving at e = absurd (cc)
+
+    on_left : (o : Option Leaving) → leaving_at frame.by_block.kept.items (k -ℤ frame.lo) ≡ o
+        → is_silent (left_by o (over_facts frame k)) ≡ false → HasRoom frame k
+    on_left None e h = on_word (k -ℤ frame.lo) refl h
+    on_left (Some leaving) e h = in_block (k -ℤ frame.lo) leaving refl e
 
 -- the words of a loop can be written
 pub room-of : (frame : Frame) (k : ℤ) (fact : WordFact) → fact ≡ frame_facts frame k → is_alone fact ≡ false

@@ -9,12 +9,17 @@ use Rattle.states.specs.declared.known.LoopWord.TheVariants as words
 use Rattle.states.specs.declared.known.WordFact.{WordFact}
 use Rattle.states.specs.declared.known.WordFact.TheVariants.{Alone, Index, Count}
 use Rattle.states.specs.Lookup.{facts_over}
+use Rattle.states.specs.Blocks.{facts_left}
 use Rattle.states.specs.State.{Facts, is_word, by_itself}
 use Rattle.states.specs.declared.span.Leaving.{Leaving}
 use Rattle.states.specs.Spans.{is_in_span, left_of}
 
+-- the same but for how blocks of words were left since
+abbrev pub over_facts : Frame → Facts
+over_facts frame = facts_over frame.lo frame.row.now frame.overlay.written.items
+
 abbrev pub frame_facts : Frame → Facts
-frame_facts frame = facts_over frame.lo frame.row.now frame.overlay.written.items
+frame_facts frame = facts_left frame.lo frame.by_block.kept.items (over_facts frame)
 
 -- word k has this fact from now on, and the others what they had
 abbrev pub with_alone : ℤ → Fact → Facts → Facts

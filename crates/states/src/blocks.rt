@@ -1,9 +1,10 @@
 //! What is kept for blocks of words, beside what is kept for each word.
 
 ghost use Rattle.std.specs.Prelude.{◌≡◌, ◌<◌, ◌≤◌, ◌==◌, ℕ, if◌then◌else◌, [], vec_len, vec_capacity, IfOk};
+ghost use Rattle.std.specs.Prelude.{IsFalse, None};
 ghost use Rattle.states.specs.Blocks.{block_words, no_block, block_at};
 
-use crate::span::Together;
+use crate::span::{Leaving, Together};
 use std::alloc::{AllocError, Global};
 
 /// How many words a block has.
@@ -21,11 +22,16 @@ pub(crate) fn block_words() -> usize
 pub(crate) struct Block {
     /// What is known of its words together, if that was summed.
     pub sum: Option<Together>,
+    /// How its words were left since they were written, if they were.
+    pub left: Option<Leaving>,
 }
 
 impl Block {
     /// Nothing is kept.
-    const NONE: Block = Block { sum: None };
+    const NONE: Block = Block {
+        sum: None,
+        left: None,
+    };
 }
 
 /// What is kept for blocks, by their numbers, which are below a room that is set when it is made. Nothing is allocated
@@ -36,6 +42,7 @@ pub(crate) struct Blocks {
     pub(crate) kept: Vec<Block>,
     pub(crate) room: usize,
     ghost reserved: { room ≤ vec_capacity kept },
+    ghost few: { vec_len kept ≤ room },
 }
 
 impl Blocks {
@@ -67,6 +74,18 @@ impl Blocks {
             return Block::NONE;
         }
         self.kept[number]
+    }
+
+    /// Whether the words of some block were left.
+    pub(crate) fn are_left(&self) -> bool
+        ensures { IsFalse result → (n : ℕ) → (block_at self.now.kept.items n).left ≡ None }
+    {
+        for block in &self.kept {
+            if block.left.is_some() {
+                return true;
+            }
+        }
+        false
     }
 
     /// Nothing is kept for any block from now on.

@@ -30,8 +30,7 @@ fn agrees(state: &State, row: &LabelRow) -> bool
         && implies(state.stack.a.fact, row.stack.a)
         && implies(state.stack.b.fact, row.stack.b)
         && implies(state.stack.c.fact, row.stack.c)
-        && state.frame.holds(&row.entries)
-        && state.frame.is_whole(&row.entries)
+        && state.frame.says_all(&row.entries)
 }
 
 /// The label's number and the price of the loops that are entered, if this number covers them.
@@ -60,7 +59,7 @@ pub fn compare(number: u128, state: &State, row: &LabelRow) -> Result<u128, Rule
 /// What it costs a state to go on as a label's: the label's number, and for each loop that it enters the
 /// loop's weight for each turn but the first. `Rule::Budget`: it cannot pay. `Rule::Label`: it stands
 /// elsewhere, or knows less. The time goes with the entries of the row and of the label before, and with
-/// the words written since then.
+/// the words written since then; where blocks of words were left since then, with the words of the row.
 #[tactic(auto, unfolding(crate::specs::Below::below))]
 pub fn cost_below(state: &State, row: &LabelRow) -> Result<u64, Rule>
     requires { AreApart row.now.entries.items }

@@ -1,20 +1,22 @@
 //! What is known of the words of a frame.
+#![tactic(auto, unfolding(crate::specs::Blocks::HaveRoom))]
 
-ghost use Rattle.std.specs.Prelude.{◌≡◌, ◌≤◌, ◌<◌, ◌-◌, ℕ, ℤ, pos, ◌+ℤ◌, ◌-ℤ◌, ◌≤ℤ◌, ◌<ℤ◌, ◌⊎◌, ◌^◌, IfOk, IsTrue};
+ghost use Rattle.std.specs.Prelude.{◌≡◌, ◌≤◌, ◌<◌, ◌≢◌, ◌-◌, ◌*◌, ◌/◌, ℕ, ℤ, pos, ◌+ℤ◌, ◌-ℤ◌, ◌≤ℤ◌, ◌<ℤ◌, ◌⊎◌, ◌^◌, IfOk, IsTrue};
 ghost use Rattle.std.specs.Prelude.{IsFalse, true, false, SomeIff, sum_by, length, Some, None, vec_len};
 ghost use Rattle.std.specs.List.{list_all};
 ghost use Rattle.module_format.specs.Contents.{procedure_of};
 ghost use Rattle.module_format.specs.Order.{least_word};
-ghost use Rattle.states.specs.Blocks.{AreSummed};
+ghost use Rattle.states.specs.Blocks.{block_words, HaveRoom, HaveRoom-prop, AreSummed, AreSummed-prop, facts_left};
 ghost use Rattle.states.specs.Lookup.{facts_over};
 ghost use Rattle.states.specs.Rows.{AreApart, LoopFits, IsRow};
 ghost use Rattle.states.specs.State.{is_silent, entry_fact, parameter_fact};
 
-use crate::blocks::{Blocks, block_words};
+use crate::blocks::{Block, Blocks, block_words};
 use crate::implication::{holds_constant, says};
 use crate::known::{LoopWord, WordFact};
 use crate::overlay::Overlay;
-use crate::row::{row_fact, segment_from};
+use crate::row::{row_fact, said_of, segment_from, word_count};
+use crate::span::Leaving;
 use certificate::{Entry, Fact, ParameterKind, ProcedureRow, Step};
 use std::alloc::{AllocError, Global};
 
@@ -25,21 +27,26 @@ pub(crate) struct Frame<'a> {
     pub(crate) lo: i32,
     pub(crate) row: &'a [Entry],
     pub(crate) overlay: Overlay,
-    /// The sums of blocks of words, so that a span is not asked word by word.
+    /// What is kept for blocks of words, so that a span is neither asked nor left word by word.
     pub(crate) by_block: Blocks,
     ghost apart: { AreApart row.now },
     ghost loops: { ∥ ((k : ℤ) → LoopFits (entry_fact row.now k)) ∥₁ },
     ghost inside: { (k : ℤ) → is_silent (entry_fact row.now k) ≡ false → (lo ≤ℤ k) × (k <ℤ (lo +ℤ pos (vec_len overlay.places))) },
     ghost low: { least_word ≤ℤ lo },
     ghost high: { (lo +ℤ pos (vec_len overlay.places)) ≤ℤ pos (2 ^ 31) },
-    ghost summed: { AreSummed (facts_over lo row.now overlay.written.items) lo by_block.kept.items },
+    ghost whole: { HaveRoom (vec_len overlay.places) by_block.room } by { HaveRoom-prop (vec_len overlay.places) by_block.room },
+    ghost summed: { AreSummed (facts_left lo by_block.kept.items (facts_over lo row.now overlay.written.items)) lo
+        by_block.kept.items } by { AreSummed-prop (facts_left lo by_block.kept.items
+            (facts_over lo row.now overlay.written.items)) lo by_block.kept.items },
 }
 
 impl<'a> Frame<'a> {
+    ghost use Rattle.std.specs.Prelude.{◌&&◌};
     ghost use Rattle.states.specs.State.{no_facts, with_fact, procedure_facts};
-    ghost use Rattle.states.specs.Below.{says, entries_hold, is_whole, price};
+    ghost use Rattle.states.specs.Below.{says, words_say, entries_hold, is_whole, price};
     ghost use Rattle.states.specs.Lookup.{fact_of_index};
-    ghost use Rattle.states.specs.Frames.{frame_facts, with_alone, parted, HasRoom};
+    ghost use Rattle.states.specs.Frames.{frame_facts, over_facts, with_alone, parted, HasRoom};
+    ghost use Rattle.states.specs.Blocks.{block_at, first_of, leaving_at};
     ghost use Rattle.states.specs.Frames.{HasRoomForAll, SameRoom};
     ghost use Rattle.states.specs.Comparing.{SaysLess, OneSaysAll, WrittenSaysAll};
 
@@ -80,14 +87,39 @@ impl<'a> Frame<'a> {
         self.overlay.get(word.abs_diff(lo) as usize)
     }
 
-    /// What is known of a word.
-    fn said(&self, word: i64) -> WordFact
-        ensures value { result ≡ frame_facts self.now word }
+    /// What was written to a word, or else what the row says of it.
+    fn over(&self, word: i64) -> WordFact
+        ensures value { result ≡ over_facts self.now word }
         ensures fits { LoopFits result }
     {
         match self.written(word) {
             Some(fact) => WordFact::Alone(fact),
             None => row_fact(self.row, word),
+        }
+    }
+
+    /// How a word's block was left since it was written, if it was.
+    fn leaving(&self, word: i64) -> Option<Leaving>
+        ensures { result ≡ leaving_at self.now.by_block.kept.items (word -ℤ self.now.lo) }
+    {
+        let lo = i64::from(self.lo);
+        if word < lo {
+            return None;
+        }
+        self.by_block
+            .get(word.abs_diff(lo) as usize / block_words())
+            .left
+    }
+
+    /// What is known of a word.
+    #[tactic(auto, unfolding(crate::specs::Blocks::facts_left, crate::specs::Blocks::HaveRoom))]
+    fn said(&self, word: i64) -> WordFact
+        ensures value { result ≡ frame_facts self.now word }
+        ensures fits { LoopFits result }
+    {
+        match self.leaving(word) {
+            Some(leaving) => WordFact::Alone(leaving.left_of(self.over(word).by_itself())),
+            None => self.over(word),
         }
     }
 
@@ -100,6 +132,37 @@ impl<'a> Frame<'a> {
         self.said(word)
     }
 
+    /// Each word of a block that was left is written as what is known of it. It is left so still.
+    fn settle_words(&mut self, number: usize)
+        requires some { (block_at self.old.by_block.kept.items number).left ≢ None }
+        requires room { number < self.old.by_block.room }
+        ensures facts { frame_facts self.new ≡ frame_facts self.old }
+        ensures settled { (j : ℕ) → j < block_words → over_facts self.new (first_of self.old.lo number +ℤ pos j)
+            ≡ frame_facts self.old (first_of self.old.lo number +ℤ pos j) }
+        ensures blocks { self.new.by_block ≡ self.old.by_block }
+        ensures room { SameRoom self.old self.new }
+    {
+        let first = number * block_words();
+        for i in 0..block_words() {
+            let index = first + i;
+            let fact = self.said(self.word_at(index)).by_itself();
+            self.overlay.set(index, fact);
+        }
+    }
+
+    /// What was left of a block's words is written in each of them from now on.
+    fn settle(&mut self, number: usize)
+        ensures facts { frame_facts self.new ≡ frame_facts self.old }
+        ensures none { (block_at self.new.by_block.kept.items number).left ≡ None }
+        ensures room { SameRoom self.old self.new }
+    {
+        let Block { sum, left } = self.by_block.get(number);
+        if left.is_some() {
+            self.settle_words(number);
+            self.by_block.set(number, Block { sum, left: None });
+        }
+    }
+
     /// The word has this fact from now on, and the others what they had.
     pub(crate) fn place(&mut self, word: i64, fact: Fact)
         requires { HasRoom self.old word }
@@ -107,8 +170,10 @@ impl<'a> Frame<'a> {
         ensures room { SameRoom self.old self.new }
     {
         let index = word.abs_diff(i64::from(self.lo)) as usize;
+        let number = index / block_words();
+        self.settle(number);
         self.overlay.set(index, fact);
-        self.by_block.forget(index / block_words());
+        self.by_block.forget(number);
     }
 
     /// If the word is this one of a loop, it is what it says by itself from now on.
@@ -194,7 +259,7 @@ impl<'a> Frame<'a> {
     }
 
     /// The word of an index.
-    fn word_at(&self, index: usize) -> i64
+    pub(crate) fn word_at(&self, index: usize) -> i64
         requires { index < vec_len self.now.overlay.places }
         ensures { result ≡ self.now.lo +ℤ pos index }
     {
@@ -205,7 +270,7 @@ impl<'a> Frame<'a> {
     fn written_holds(&self, row: &[Entry]) -> bool
         requires { AreApart row.now }
         ensures yes { IsTrue result → WrittenSaysAll self.now.overlay.written.items self.now.lo (entry_fact row.now) }
-        ensures no { IsFalse result → SaysLess (frame_facts self.now) (entry_fact row.now) }
+        ensures no { IsFalse result → SaysLess (over_facts self.now) (entry_fact row.now) }
     {
         for written in &self.overlay.written {
             if !says(
@@ -243,11 +308,50 @@ impl<'a> Frame<'a> {
         true
     }
 
+    /// Whether of each word of an entry at least that is known which the entry says, word by word.
+    fn entry_holds(&self, entry: &Entry) -> bool
+        ensures { result ≡ words_say (frame_facts self.now) entry.now entry.now.span }
+    {
+        let word = i64::from(entry.word);
+        for i in 0..entry.span {
+            if !says(
+                self.fact_at(word + i64::from(i)),
+                said_of(entry.fact, i == 0),
+            ) {
+                return false;
+            }
+        }
+        true
+    }
+
+    /// Whether of each word at least that is known which a row wants, word by word.
+    fn each_holds(&self, row: &[Entry]) -> bool
+        ensures { result ≡ entries_hold (frame_facts self.now) row.now }
+    {
+        for entry in row {
+            if !self.entry_holds(entry) {
+                return false;
+            }
+        }
+        true
+    }
+
+    /// Whether a row is to be compared word by word: blocks were left, or as many words were written as a quarter of
+    /// the row's.
+    fn asks_each(&self, row: &[Entry]) -> bool
+        ensures { IsFalse result → frame_facts self.now ≡ over_facts self.now }
+    {
+        self.by_block.are_left() || word_count(row) / 4 <= self.overlay.written.len() as u64
+    }
+
     /// Whether of each word at least that is known which a row wants.
-    pub(crate) fn holds(&self, row: &[Entry]) -> bool
+    fn holds(&self, row: &[Entry]) -> bool
         requires { AreApart row.now }
         ensures { result ≡ entries_hold (frame_facts self.now) row.now }
     {
+        if self.asks_each(row) {
+            return self.each_holds(row);
+        }
         self.written_holds(row) && self.row_holds(row)
     }
 
@@ -265,7 +369,7 @@ impl<'a> Frame<'a> {
     }
 
     /// Whether no loop that a row wants is half known.
-    pub(crate) fn is_whole(&self, row: &[Entry]) -> bool
+    fn is_whole(&self, row: &[Entry]) -> bool
         ensures { result ≡ list_all (is_whole (frame_facts self.now)) row.now }
     {
         for entry in row {
@@ -274,6 +378,15 @@ impl<'a> Frame<'a> {
             }
         }
         true
+    }
+
+    /// Whether of each word at least that is known which a row wants, and no loop that it wants is half known.
+    pub(crate) fn says_all(&self, row: &[Entry]) -> bool
+        requires { AreApart row.now }
+        ensures { result ≡ (entries_hold (frame_facts self.now) row.now
+            && list_all (is_whole (frame_facts self.now)) row.now) }
+    {
+        self.holds(row) && self.is_whole(row)
     }
 
     /// What it costs to enter the loop that an entry wants: its weight for each turn but the first, where its

@@ -32,7 +32,7 @@ fn is_about(entry: &Entry, word: i64) -> bool
 }
 
 /// What an entry's fact says of one of its words, which is the first or another one.
-fn said_of(fact: Fact, is_first: bool) -> WordFact
+pub(crate) fn said_of(fact: Fact, is_first: bool) -> WordFact
     ensures { result ≡ said_of fact is_first }
 {
     match fact {
@@ -56,6 +56,15 @@ fn said_of(fact: Fact, is_first: bool) -> WordFact
         }),
         _ => WordFact::Alone(fact),
     }
+}
+
+/// How many words a row's entries have, which may be told too low where they are more than 2^64.
+pub(crate) fn word_count(row: &[Entry]) -> u64 {
+    let mut count = 0_u64;
+    for entry in row {
+        count = count.saturating_add(u64::from(entry.span));
+    }
+    count
 }
 
 /// What a row says of a word.

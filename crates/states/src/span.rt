@@ -1,8 +1,11 @@
 //! Spans of words: what is known of them together, and what is left of what was known.
 
-ghost use Rattle.std.specs.Prelude.{◌≡◌};
+ghost use Rattle.std.specs.Prelude.{◌≡◌, Some};
 ghost use Rattle.states.specs.Rows.{LoopFits};
 ghost use Rattle.states.specs.Spans.{of_none, with_plain, with_one, with_silent, joined, widened, left_of};
+ghost use Rattle.states.specs.Blocks.{left_after, sum_left, is_number, is_unbounded};
+ghost use Rattle.states.specs.declared.known.WordFact.TheVariants.{Alone};
+ghost use Rattle.states.specs.declared.span.Leaving.TheVariants.{Widen};
 
 use crate::known::WordFact;
 use certificate::Fact;
@@ -62,6 +65,35 @@ impl Together {
         all.with_plain(fact.plain())
     }
 
+    /// Of some words of each of which this is known.
+    pub(crate) fn of_fact(fact: Fact) -> Self
+        ensures { result ≡ with_one (Alone fact) of_none }
+    {
+        Together::of_none().with(WordFact::Alone(fact))
+    }
+
+    /// Whether there may be no number among the words.
+    pub(crate) fn is_unbounded(self) -> bool
+        ensures { result ≡ is_unbounded self }
+    {
+        self.lo == i32::MAX && self.hi == i32::MIN
+    }
+
+    /// The same once each of the words is left so, where that follows.
+    pub(crate) fn widened(self, lo: i32, hi: i32) -> Option<Self>
+        ensures { result ≡ sum_left (Some self) (Widen lo hi) }
+    {
+        if self.is_unbounded() {
+            return None;
+        }
+        Some(Together {
+            lo: self.lo.min(lo),
+            hi: self.hi.max(hi),
+            are_numbers: self.are_numbers,
+            are_alone: true,
+        })
+    }
+
     /// The same of these words and of others.
     pub(crate) fn joined(self, other: Self) -> Self
         ensures { result ≡ joined self other }
@@ -83,6 +115,13 @@ impl Together {
             ..self
         }
     }
+}
+
+/// Whether a fact is a number.
+pub(crate) fn is_number(fact: Fact) -> bool
+    ensures { result ≡ is_number fact }
+{
+    matches!(fact, Fact::Number { .. })
 }
 
 /// What is left of what was known of a word.
@@ -115,6 +154,34 @@ impl Leaving {
         match self {
             Leaving::Become(fact) => fact,
             Leaving::Widen { lo, hi } => widened(lo, hi, said),
+        }
+    }
+
+    /// What is known together of a block's words once they are left so, where that follows from what was.
+    pub(crate) fn sum_left(self, sum: Option<Together>) -> Option<Together>
+        ensures { result ≡ sum_left sum self }
+    {
+        match (self, sum) {
+            (Leaving::Become(fact), _) => Some(Together::of_fact(fact)),
+            (Leaving::Widen { .. }, None) => None,
+            (Leaving::Widen { lo, hi }, Some(sum)) => sum.widened(lo, hi),
+        }
+    }
+
+    /// What is left where this comes after another one, if one came.
+    pub(crate) fn after(self, before: Option<Leaving>) -> Leaving
+        ensures { result ≡ left_after before self }
+    {
+        match (before, self) {
+            (Some(Leaving::Become(said)), Leaving::Widen { lo, hi }) => Leaving::Become(widened(
+                lo, hi, said,
+            )),
+            (Some(Leaving::Widen { lo: low, hi: high }), Leaving::Widen { lo, hi }) =>
+                Leaving::Widen {
+                    lo: low.min(lo),
+                    hi: high.max(hi),
+                },
+            _ => self,
         }
     }
 }

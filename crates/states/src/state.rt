@@ -264,8 +264,8 @@ impl<'a> State<'a> {
     }
 
     /// The words of the frame from `first` on, so many, are summed in blocks of 64 from now on, each block until one of
-    /// its words is written or a label comes. What is known stays what it is. The time goes with the number of words
-    /// in blocks that are not summed, and with the number of blocks.
+    /// its words is written by itself or a label comes. What is known stays what it is. The time goes with the number
+    /// of words in blocks that are not summed, and with the number of blocks. Fewer words than a block's are not summed.
     pub fn sum_words(&mut self, first: i32, count: u32)
         ensures state { state_of self.new ≡ state_of self.old }
         ensures belongs { (m : Contents) → BelongsTo m self.old → BelongsTo m self.new }
@@ -284,7 +284,8 @@ impl<'a> State<'a> {
 
     /// So many words of the frame from `first` on, at least one, are left so from now on, and no register
     /// speaks of what they were. A loop that loses one of its words leaves what the other says by itself.
-    /// The time goes with their number.
+    /// The time goes with the number of blocks of 64 among them, and of the other words. A block that is
+    /// widened is summed before.
     pub fn change_span(&mut self, first: i32, count: u32, leaving: Leaving)
         requires room { CanWriteSpan self.old first count }
         requires some { 0 < count }

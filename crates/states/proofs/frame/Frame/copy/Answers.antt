@@ -1,11 +1,12 @@
-use Rattle.std.proofs.Common.{List, ℕ, ap, sym, subst, ◌∙◌, pos, ◌+ℤ◌, ◌<ℤ◌, SFits, rules}
+use Rattle.std.proofs.Common.{◌≡◌, List, ℕ, ap, sym, subst, ◌∙◌, pos, ◌+ℤ◌, ◌<ℤ◌, SFits, rules}
 use Rattle.std.proofs.lemmas.Int.{to_z-of_z}
 use Rattle.std.specs.Int.{w32}
 use Rattle.states.specs.declared.blocks.Block.{Block}
 use Rattle.states.specs.declared.overlay.Written.{Written}
-use Rattle.states.specs.Blocks.{block_words, block_at, first_of}
+use Rattle.states.specs.Blocks.{block_at, facts_left}
 use Rattle.states.specs.Lookup.{facts_over}
-use Rattle.states.specs.Spans.{together}
+use Rattle.states.specs.Frames.{frame_facts}
+use Rattle.states.proofs.Leavings.{summed-same}
 use Rattle.states.proofs.frame.Frame.copy.Goals as goal
 
 pub invariant_of-result-clause-inside : goal.invariant_of-result-clause-inside
@@ -20,8 +21,10 @@ pub invariant_of-result-clause-summed : goal.invariant_of-result-clause-summed
 invariant_of-result-clause-summed c =
     let frame = c.args.self.now in
     let fits : SFits w32 frame.lo = search rules in
-    rw (to_z-of_z w32 frame.lo fits) (λ n sum is.
-    frame.summed n sum (ap (λ (blocks : List Block). (block_at blocks n).sum) (sym c.in_ok-copy-2.ensures.kept) ∙ is)
-    ∙ ap (λ (written : List Written).
-    together (facts_over frame.lo frame.row.now written) (first_of frame.lo n) block_words)
-    (sym c.in_ok-copy.ensures.written))
+    rw (to_z-of_z w32 frame.lo fits) (summed-same (frame_facts frame) _ frame.lo frame.by_block.kept.items
+    c.in_ok-copy-2.field-0.kept.items frame.summed
+    (ap (λ (blocks : List Block). facts_left frame.lo blocks
+    (facts_over frame.lo frame.row.now c.in_ok-copy.field-0.written.items)) c.in_ok-copy-2.ensures.kept
+    ∙ ap (λ (written : List Written). facts_left frame.lo frame.by_block.kept.items
+    (facts_over frame.lo frame.row.now written)) c.in_ok-copy.ensures.written)
+    (λ n. ap (λ (blocks : List Block). (block_at blocks n).sum) c.in_ok-copy-2.ensures.kept))

@@ -1,9 +1,12 @@
-use Rattle.std.proofs.Common.{List, ap}
-use Rattle.states.specs.declared.blocks.Block.{Block}
-use Rattle.states.specs.Blocks.{block_at}
-use Rattle.states.proofs.BlockSums.{no-sum}
+use Rattle.std.proofs.Common.{[]}
+use Rattle.states.proofs.BlockSums.{none-summed}
+use Rattle.states.proofs.Leavings.{facts-cleared}
 use Rattle.states.proofs.frame.Frame.new.Goals as goal
 
 pub invariant_of-result-clause-summed : goal.invariant_of-result-clause-summed
-invariant_of-result-clause-summed c = λ n sum is.
-    absurd (no-sum _ sum (ap (λ (blocks : List Block). block_at blocks n) c.in_ok-new-2.ensures.none) is)
+invariant_of-result-clause-summed c = none-summed _ _ c.in_ok-new-2.field-0.kept.items c.in_ok-new-2.ensures.none
+
+pub returns-clause-facts : goal.returns-clause-facts
+returns-clause-facts c =
+    facts-cleared _ c.in_ok-new-2.field-0.kept.items [] c.in_ok-new.field-0.written.items c.in_ok-new-2.ensures.none
+    c.in_ok-new.ensures.empty

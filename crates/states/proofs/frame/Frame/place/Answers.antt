@@ -1,26 +1,42 @@
-use Rattle.std.proofs.Common.{rules, arith, ◌≡◌, ℕ, ◌/◌, ◌-ℤ◌, nat_abs, ap}
+use Rattle.std.proofs.Common.{rules, arith, ◌≡◌, ℕ, ◌/◌, ◌-ℤ◌, pos, ◌+ℤ◌, nat_abs, ap, ◌∙◌}
 use Rattle.std.proofs.lemmas.Int.{ints}
-use Rattle.states.specs.Frames.{frame_facts}
+use Rattle.states.specs.Blocks.{block_words, facts_left}
+use Rattle.states.specs.Frames.{frame_facts, over_facts, with_alone}
 use Rattle.states.specs.Lookup.{facts_over}
 use Rattle.states.proofs.FrameFacts.{facts_over-write, distance}
 use Rattle.states.proofs.BlockSums.{summed-write}
+use Rattle.states.proofs.Leavings.{word-placed}
 use Rattle.states.proofs.frame.Frame.place.Goals as goal
+use Rattle.states.proofs.frame.Frame.place.Goals.{After-forget}
+
+word-is : (c : After-forget) → c.args.word ≡ c.settle.new.self.lo +ℤ pos c.abs_diff-index.result
+word-is c =
+    let apart : c.abs_diff-index.result ≡ nat_abs (c.args.word -ℤ c.args.self.now.lo) = search (rules, arith, ints) in
+    let lo = c.settle.ensures.room.lo in
+    rw lo (distance c.args.word c.args.self.now.lo c.abs_diff-index.result c.requires.low apart)
+
+placed : (c : After-forget) → facts_left c.settle.new.self.lo c.forget.new.self.kept.items
+    (facts_over c.settle.new.self.lo c.settle.new.self.row.now c.set.new.self.written.items)
+    ≡ with_alone c.args.word c.args.fact (frame_facts c.settle.new.self)
+placed c =
+    let frame = c.settle.new.self in
+    let index = c.abs_diff-index.result in
+    word-placed frame.lo c.args.word frame.by_block.kept.items c.forget.new.self.kept.items (over_facts frame)
+    (facts_over frame.lo frame.row.now c.set.new.self.written.items) index _ c.args.fact (word-is c)
+    (ap (λ (n : ℕ). index / n) c.block_words.ensures.value) c.settle.ensures.none
+    (facts_over-write frame.lo c.args.word frame.row.now frame.overlay.written.items c.set.new.self.written.items
+    c.args.fact index (word-is c) c.set.ensures.facts)
+    c.forget.ensures.kept
 
 pub invariant_of-self-clause-summed : goal.invariant_of-self-clause-summed
 invariant_of-self-clause-summed c =
-    let frame = c.args.self.now in
+    let frame = c.settle.new.self in
     let index = c.abs_diff-index.result in
-    let apart : index ≡ nat_abs (c.args.word -ℤ frame.lo) = search (rules, arith, ints) in
-    let at = distance c.args.word frame.lo index c.requires.low apart in
-    summed-write (frame_facts frame) (facts_over frame.lo frame.row.now c.set.new.self.written.items) frame.lo
-    c.args.word index _ c.args.fact frame.by_block.kept.items c.forget.new.self.kept.items frame.summed
-    (facts_over-write frame.lo c.args.word frame.row.now frame.overlay.written.items c.set.new.self.written.items
-    c.args.fact index at c.set.ensures.facts) at (ap (λ (n : ℕ). index / n) c.block_words.ensures.value)
-    c.forget.ensures.kept
+    summed-write (frame_facts frame) _ frame.lo c.args.word index _ c.args.fact frame.by_block.kept.items
+    c.forget.new.self.kept.items frame.summed (placed c) (word-is c)
+    (ap (λ (n : ℕ). index / n) c.block_words.ensures.value) c.forget.ensures.kept
 
 pub returns-clause-facts : goal.returns-clause-facts
 returns-clause-facts c =
-    let apart : c.abs_diff-index.result ≡ nat_abs (c.args.word -ℤ c.args.self.now.lo) = search (rules, arith, ints) in
-    facts_over-write c.args.self.now.lo c.args.word c.args.self.now.row.now c.args.self.now.overlay.written.items
-    c.set.new.self.written.items c.args.fact c.abs_diff-index.result
-    (distance c.args.word c.args.self.now.lo c.abs_diff-index.result c.requires.low apart) c.set.ensures.facts
+    placed (goal.at.returns-clause-facts c).After-forget
+    ∙ ap (with_alone c.args.word c.args.fact) c.settle.ensures.facts

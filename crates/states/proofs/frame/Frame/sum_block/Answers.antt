@@ -1,18 +1,38 @@
-use Rattle.std.proofs.Common.{ap, refl, ◌∙◌, sym, Some}
+use Rattle.std.proofs.Common.{◌≡◌, ap, refl, ◌∙◌, sym, subst, Some}
 use Rattle.std.proofs.lemmas.Int.{to_z-of_z}
 use Rattle.std.specs.Int.{w32}
-use Rattle.states.specs.Frames.{frame_facts}
+use Rattle.states.specs.declared.blocks.Block.{Block}
+use Rattle.states.specs.State.{Facts}
+use Rattle.states.specs.Blocks.{AreSummed, facts_left}
+use Rattle.states.specs.Frames.{frame_facts, over_facts}
 use Rattle.states.specs.Spans.{together}
 use Rattle.states.proofs.BlockSums.{summed-more}
+use Rattle.states.proofs.Leavings.{left-same, lefts-set}
 use Rattle.states.proofs.frame.Frame.sum_block.Goals as goal
+use Rattle.states.proofs.frame.Frame.sum_block.Goals.{After-set}
+
+same-facts : (c : After-set)
+    → facts_left c.args.self.now.lo c.set.new.self.kept.items (over_facts c.args.self.now)
+    ≡ frame_facts c.args.self.now
+same-facts c =
+    let frame = c.args.self.now in
+    left-same frame.lo frame.by_block.kept.items c.set.new.self.kept.items (over_facts frame)
+    (lefts-set frame.by_block.kept.items c.set.new.self.kept.items c.args.number
+    (record { sum = Some c.together-all.result; left = c.get-left.result.left }) c.set.ensures.kept
+    (ap (λ (b : Block). b.left) c.get-left.ensures))
 
 pub invariant_of-self-clause-summed : goal.invariant_of-self-clause-summed
 invariant_of-self-clause-summed c =
     let frame = c.args.self.now in
     let size_is = c.block_words.ensures.value in
-    summed-more (frame_facts frame) frame.lo c.args.word c.args.number c.together-all.result
-    (record { sum = Some c.together-all.result }) frame.by_block.kept.items c.set.new.self.kept.items frame.summed refl
-    (sym c.requires.begins)
+    subst (λ (f : Facts). AreSummed f frame.lo c.set.new.self.kept.items) (sym (same-facts c))
+    (summed-more (frame_facts frame) frame.lo c.args.word c.args.number c.together-all.result
+    (record { sum = Some c.together-all.result; left = c.get-left.result.left }) frame.by_block.kept.items
+    c.set.new.self.kept.items frame.summed refl (sym c.requires.begins)
     ((rw (to_z-of_z w32 c.args.word c.ranges.word) at c.together-all.ensures)
     ∙ ap (together (frame_facts frame) c.args.word) size_is)
-    c.set.ensures.kept
+    c.set.ensures.kept)
+
+pub returns-then-is_none-clause-facts : goal.returns-then-is_none-clause-facts
+returns-then-is_none-clause-facts c =
+    same-facts (goal.at.returns-then-is_none-clause-facts c).After-set

@@ -2,7 +2,7 @@ use Rattle.std.proofs.Common.{sym, subst}
 use Rattle.states.specs.State.{entry_fact}
 use Rattle.states.specs.Rows.{LoopFits}
 use Rattle.states.proofs.Loops.{loop-at}
-use Rattle.states.proofs.frame.Frame.said.Goals as goal
+use Rattle.states.proofs.frame.Frame.over.Goals as goal
 
 pub returns-in-None-clause-fits : goal.returns-in-None-clause-fits
 returns-in-None-clause-fits c =

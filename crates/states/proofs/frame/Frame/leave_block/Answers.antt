@@ -1,0 +1,39 @@
+use Rattle.std.proofs.Common.{◌≡◌, ap, ◌∙◌, sym, None, Some}
+use Rattle.states.specs.declared.blocks.Block.{Block}
+use Rattle.states.specs.declared.span.Together.{Together}
+use Rattle.states.specs.Blocks.{block_words, first_of, left_after, sum_left, facts_left}
+use Rattle.states.specs.State.{Facts}
+use Rattle.states.specs.Spans.{together}
+use Rattle.states.specs.Frames.{frame_facts, over_facts, with_span}
+use Rattle.states.proofs.BlockSums.{sum-is}
+use Rattle.states.proofs.Leavings.{block-left, summed-left, sum-right}
+use Rattle.states.proofs.frame.Frame.leave_block.Goals as goal
+use Rattle.states.proofs.frame.Frame.leave_block.Goals.{After-set}
+
+-- what is kept for the block from now on
+abbrev kept : After-set → Block
+kept c = record { sum = c.sum_left.result; left = Some c.after.result }
+
+left-so : (c : After-set) → facts_left c.args.self.now.lo c.set.new.self.kept.items (over_facts c.args.self.now)
+    ≡ with_span (first_of c.args.self.now.lo c.args.number) block_words c.args.leaving (frame_facts c.args.self.now)
+left-so c =
+    let frame = c.args.self.now in
+    block-left frame.lo frame.by_block.kept.items c.set.new.self.kept.items (over_facts frame) c.args.number
+    c.args.leaving (kept c)
+    (ap (λ o. Some o) (c.after.ensures ∙ ap (λ (b : Block). left_after b.left c.args.leaving) c.get-sum.ensures))
+    c.set.ensures.kept
+
+pub invariant_of-self-clause-summed : goal.invariant_of-self-clause-summed
+invariant_of-self-clause-summed c =
+    let frame = c.args.self.now in
+    let first = first_of frame.lo c.args.number in
+    summed-left (frame_facts frame) _ frame.lo c.args.number c.args.leaving (kept c) frame.by_block.kept.items
+    c.set.new.self.kept.items frame.summed (left-so c) c.set.ensures.kept
+    (λ sum is. sum-right (frame_facts frame) first c.get-sum.result.sum c.args.leaving
+    (sum-is (frame_facts frame) frame.lo frame.by_block.kept.items c.args.number c.get-sum.result.sum frame.summed
+    (ap (λ (b : Block). b.sum) c.get-sum.ensures))
+    sum (sym c.sum_left.ensures ∙ is)
+    ∙ ap (λ (f : Facts). together f first block_words) (sym (left-so c)))
+
+pub returns-clause-facts : goal.returns-clause-facts
+returns-clause-facts c = left-so (goal.at.returns-clause-facts c).After-set

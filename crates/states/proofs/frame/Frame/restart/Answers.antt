@@ -1,0 +1,14 @@
+use Rattle.states.proofs.BlockSums.{none-summed}
+use Rattle.states.proofs.Leavings.{facts-cleared}
+use Rattle.states.proofs.frame.Frame.restart.Goals as goal
+
+pub invariant_of-self-clause-loops : goal.invariant_of-self-clause-loops
+invariant_of-self-clause-loops c = ∣ c.requires.loops ∣₁
+
+pub invariant_of-self-clause-summed : goal.invariant_of-self-clause-summed
+invariant_of-self-clause-summed c = none-summed _ _ c.clear-2.new.self.kept.items c.clear-2.ensures.none
+
+pub returns-clause-facts : goal.returns-clause-facts
+returns-clause-facts c =
+    facts-cleared c.args.self.now.lo c.clear-2.new.self.kept.items c.args.row.now c.clear.new.self.written.items
+    c.clear-2.ensures.none c.clear.ensures.empty
