@@ -1,1 +1,2 @@
+pub mod Exchanging
 pub mod Loops

@@ -1,11 +1,20 @@
 //! The steps of an alternation that a process asks for.
 #![tactic(auto, using(machine_state::proofs::Scheduling::schedules_is), unfolding(machine_state::specs::LocalStep::operation_step, machine_state::specs::LocalStep::uses, machine_state::specs::LocalStep::writes, machine_state::specs::LocalStep::followed_by_code))]
 
+ghost use Rattle.std.specs.Prelude.{◌≡◌, ◌==◌, not};
+ghost use Rattle.std.specs.Int.{w32, cast_unsigned};
 ghost use Rattle.machine_state.specs.declared.op.Op.TheVariants as operation;
 ghost use Rattle.machine_state.specs.Performing.{PerformsOperation};
 
 use certificate::{Direction, Stack};
 use machine_state::{Cpu, FaultKind, Flow, Request, Store};
+
+/// Whether a guard holds, by the word that it is.
+fn guard_holds(guard: i32) -> bool
+    ensures { result ≡ not (cast_unsigned w32 guard == 0) }
+{
+    guard.cast_unsigned() != 0
+}
 
 /// `alt`: an alternation begins.
 pub(crate) fn alternate<S: Store>(cpu: &mut Cpu<S>) -> Result<Flow, FaultKind>
@@ -30,7 +39,7 @@ pub(crate) fn enable_channel<S: Store>(cpu: &mut Cpu<S>) -> Result<Flow, FaultKi
         b: None,
         c: None,
     };
-    let guard = guard.cast_unsigned() != 0;
+    let guard = guard_holds(guard);
     Ok(Flow::Ask(Request::EnableChannel { guard, address }))
 }
 
@@ -46,7 +55,7 @@ pub(crate) fn enable_skip<S: Store>(cpu: &mut Cpu<S>) -> Result<Flow, FaultKind>
         b: None,
         c: None,
     };
-    let guard = guard.cast_unsigned() != 0;
+    let guard = guard_holds(guard);
     Ok(Flow::Ask(Request::EnableSkip { guard }))
 }
 
@@ -68,11 +77,10 @@ pub(crate) fn disable_channel<S: Store>(cpu: &mut Cpu<S>) -> Result<Flow, FaultK
 {
     cpu.while_disabling()?;
     let distance = cpu.used(cpu.registers.stack.a)?;
-    let guard = cpu.used(cpu.registers.stack.b)?;
+    let guard = guard_holds(cpu.used(cpu.registers.stack.b)?);
     let channel = cpu.used(cpu.registers.stack.c)?;
     let address = cpu.channel(channel, Direction::In)?;
     cpu.writable(cpu.registers.workspace)?;
-    let guard = guard.cast_unsigned() != 0;
     Ok(Flow::Ask(Request::DisableChannel {
         guard,
         address,
@@ -86,10 +94,9 @@ pub(crate) fn disable_skip<S: Store>(cpu: &mut Cpu<S>) -> Result<Flow, FaultKind
 {
     cpu.while_disabling()?;
     let distance = cpu.used(cpu.registers.stack.a)?;
-    let guard = cpu.used(cpu.registers.stack.b)?;
+    let guard = guard_holds(cpu.used(cpu.registers.stack.b)?);
     cpu.writable(cpu.registers.workspace)?;
     cpu.in_code(cpu.next())?;
-    let guard = guard.cast_unsigned() != 0;
     Ok(Flow::Ask(Request::DisableSkip { guard, distance }))
 }
 

@@ -3,6 +3,7 @@
 ghost use Rattle.machine_state.specs.declared.op.Op.TheVariants as operation;
 ghost use Rattle.machine_state.specs.Performing.{PerformsOperation};
 
+use crate::replacing::replace_two;
 use machine_state::{Cpu, FaultKind, Flow, Store};
 use word_arithmetic::{Binary, Unary};
 
@@ -15,9 +16,7 @@ pub(crate) fn binary<S: Store>(cpu: &mut Cpu<S>, op: Binary) -> Result<Flow, Fau
     let right = cpu.used(cpu.registers.stack.a)?;
     let left = cpu.used(cpu.registers.stack.b)?;
     let value = cpu.computed(op.apply(left, right))?;
-    cpu.in_code(cpu.next())?;
-    cpu.registers.stack.pop(None);
-    cpu.registers.stack.a = Some(value);
+    replace_two(cpu, value)?;
     Ok(Flow::Next)
 }
 

@@ -9,6 +9,7 @@ mod loops;
 mod messages;
 mod moving;
 mod registers;
+mod replacing;
 mod returning;
 mod starting;
 mod stopping;

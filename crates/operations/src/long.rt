@@ -3,6 +3,7 @@
 ghost use Rattle.machine_state.specs.declared.op.Op.TheVariants as operation;
 ghost use Rattle.machine_state.specs.Performing.{PerformsOperation};
 
+use crate::replacing::replace_two;
 use certificate::Stack;
 use machine_state::{Cpu, FaultKind, Flow, LongOp, Shift, Store};
 
@@ -18,9 +19,7 @@ pub(crate) fn shift<S: Store>(cpu: &mut Cpu<S>, op: Shift) -> Result<Flow, Fault
     let word = cpu.used(cpu.registers.stack.b)?;
     let count = cpu.count(0, MOST_SHIFT, count)?;
     let value = op.apply(word, count);
-    cpu.in_code(cpu.next())?;
-    cpu.registers.stack.pop(None);
-    cpu.registers.stack.a = Some(value);
+    replace_two(cpu, value)?;
     Ok(Flow::Next)
 }
 

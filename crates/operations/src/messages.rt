@@ -1,8 +1,10 @@
 //! The messages that a process asks for.
 
-ghost use Rattle.std.specs.Prelude.{IfOk, ◌≤◌};
+ghost use Rattle.std.specs.Prelude.{◌≡◌, ◌≤◌, IfOk, OnOk, IsTrue};
 ghost use Rattle.machine_state.specs.declared.op.Op.TheVariants as operation;
+ghost use Rattle.machine_state.specs.LocalStep.{holds_scheduling_words};
 ghost use Rattle.machine_state.specs.Performing.{AsksFor, PerformsOperation};
+ghost use Rattle.operations.specs.Exchanging.{may_use_bytes, AsksForMessage};
 
 use certificate::{Direction, MAX_MESSAGE, Stack};
 use machine_state::{Cpu, Exchange, FaultKind, Flow, Request, Store};
@@ -25,16 +27,40 @@ fn exchange<S: Store>(cpu: &Cpu<S>, direction: Direction) -> Result<Exchange, Fa
     })
 }
 
+/// Whether the process may use the bytes of a message that goes this way: they are its own to write where it receives,
+/// and to read where it sends.
+fn may_use<S: Store>(cpu: &Cpu<S>, direction: Direction, exchange: Exchange) -> bool
+    ensures { result ≡ may_use_bytes (S.holding cpu.now.store) direction exchange.address exchange.length }
+{
+    match direction {
+        Direction::In => cpu.store.can_store_bytes(exchange.address, exchange.length),
+        Direction::Out => cpu.store.can_load_bytes(exchange.address, exchange.length),
+    }
+}
+
+/// The message that goes this way, for which the process asks alone. It may use the bytes, which are apart from the
+/// words that scheduling takes.
+#[tactic(auto, using(machine_state::proofs::Scheduling::schedules_is, crate::proofs::Exchanging::message_step), unfolding(machine_state::specs::LocalStep::holds))]
+fn message<S: Store>(cpu: &Cpu<S>, direction: Direction) -> Result<Exchange, FaultKind>
+    ensures asks { AsksForMessage S.Store cpu.now direction result }
+    ensures length { IfOk result (λ e. 1 ≤ e.length) }
+    ensures words { let workspace = cpu.now.registers.workspace in
+        OnOk result (IsTrue (holds_scheduling_words (S.holding cpu.now.store) workspace)) }
+{
+    cpu.alone()?;
+    let exchange = exchange(cpu, direction)?;
+    cpu.schedulable()?;
+    let is_own = may_use(cpu, direction, exchange);
+    let is_apart = cpu.is_apart_from_scheduling(exchange.address, exchange.length);
+    cpu.check(is_own && is_apart, FaultKind::NotOwn)?;
+    Ok(exchange)
+}
+
 /// `in`: a message of A bytes from channel B is to go to C.
 pub(crate) fn input<S: Store>(cpu: &mut Cpu<S>) -> Result<Flow, FaultKind>
     ensures { PerformsOperation S.Store operation.Input cpu.old cpu.new result }
 {
-    cpu.alone()?;
-    let exchange = exchange(cpu, Direction::In)?;
-    cpu.schedulable()?;
-    let is_own = cpu.store.can_store_bytes(exchange.address, exchange.length);
-    let is_apart = cpu.is_apart_from_scheduling(exchange.address, exchange.length);
-    cpu.check(is_own && is_apart, FaultKind::NotOwn)?;
+    let exchange = message(cpu, Direction::In)?;
     cpu.registers.stack = Stack::of_empty(None);
     Ok(Flow::Ask(Request::Receive(exchange)))
 }
@@ -43,12 +69,7 @@ pub(crate) fn input<S: Store>(cpu: &mut Cpu<S>) -> Result<Flow, FaultKind>
 pub(crate) fn output<S: Store>(cpu: &mut Cpu<S>) -> Result<Flow, FaultKind>
     ensures { PerformsOperation S.Store operation.Output cpu.old cpu.new result }
 {
-    cpu.alone()?;
-    let exchange = exchange(cpu, Direction::Out)?;
-    cpu.schedulable()?;
-    let is_own = cpu.store.can_load_bytes(exchange.address, exchange.length);
-    let is_apart = cpu.is_apart_from_scheduling(exchange.address, exchange.length);
-    cpu.check(is_own && is_apart, FaultKind::NotOwn)?;
+    let exchange = message(cpu, Direction::Out)?;
     let is_defined = cpu.stays_defined(exchange.address, exchange.length);
     cpu.check(is_defined, FaultKind::Undefined)?;
     cpu.registers.stack = Stack::of_empty(None);

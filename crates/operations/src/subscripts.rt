@@ -3,6 +3,7 @@
 ghost use Rattle.machine_state.specs.declared.op.Op.TheVariants as operation;
 ghost use Rattle.machine_state.specs.Performing.{PerformsOperation};
 
+use crate::replacing::replace_two;
 use machine_state::{Cpu, FaultKind, Flow, Store, local_address};
 use word_arithmetic::is_below_unsigned;
 
@@ -14,9 +15,7 @@ pub(crate) fn byte_subscript<S: Store>(cpu: &mut Cpu<S>) -> Result<Flow, FaultKi
     let base = cpu.used(cpu.registers.stack.a)?;
     let subscript = cpu.used(cpu.registers.stack.b)?;
     let address = base.cast_unsigned().wrapping_add(subscript.cast_unsigned());
-    cpu.in_code(cpu.next())?;
-    cpu.registers.stack.pop(None);
-    cpu.registers.stack.a = Some(address.cast_signed());
+    replace_two(cpu, address.cast_signed())?;
     Ok(Flow::Next)
 }
 
@@ -28,9 +27,7 @@ pub(crate) fn word_subscript<S: Store>(cpu: &mut Cpu<S>) -> Result<Flow, FaultKi
     let base = cpu.used(cpu.registers.stack.a)?;
     let subscript = cpu.used(cpu.registers.stack.b)?;
     let address = local_address(base.cast_unsigned(), subscript);
-    cpu.in_code(cpu.next())?;
-    cpu.registers.stack.pop(None);
-    cpu.registers.stack.a = Some(address.cast_signed());
+    replace_two(cpu, address.cast_signed())?;
     Ok(Flow::Next)
 }
 

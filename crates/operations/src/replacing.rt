@@ -1,0 +1,21 @@
+//! How the result of two operands is left.
+
+ghost use Rattle.std.specs.Prelude.{◌≡◌, ◌+◌, Some, None, nat_lt, OnOk, OnErr};
+ghost use Rattle.machine_state.specs.Performing.{value_or_fault};
+ghost use Rattle.module_format.specs.Stack.{popped, with_top};
+
+use machine_state::{Cpu, FaultKind};
+
+/// The value takes the place of A and B, if code follows the instruction, else `OutsideCode`.
+pub(crate) fn replace_two<S>(cpu: &mut Cpu<S>, value: i32) -> Result<(), FaultKind>
+    ensures followed { let follows = nat_lt (cpu.old.registers.at + 1) cpu.old.code_length in
+        result ≡ value_or_fault follows tt FaultKind.OutsideCode }
+    ensures ok { let stack = with_top (Some value) (popped None cpu.old.registers.stack) in
+        OnOk result (cpu.new ≡ record cpu.old { registers = record cpu.old.registers { stack = stack } }) }
+    ensures err { OnErr result (cpu.new ≡ cpu.old) }
+{
+    cpu.in_code(cpu.next())?;
+    cpu.registers.stack.pop(None);
+    cpu.registers.stack.a = Some(value);
+    Ok(())
+}
