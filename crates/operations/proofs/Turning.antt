@@ -1,18 +1,18 @@
 -- The step of lend, test by test.
-use Rattle.std.proofs.Common.{◌≡◌, ℕ, ◌%◌, ℤ, Bool, true, false, cond, nat_lt, Option, Some, None, Result, refl, sym}
-use Rattle.std.proofs.Common.{ap, ◌∙◌}
-use Rattle.std.proofs.Common.{subst}
-use Rattle.std.specs.Prelude.{◌==◌}
+use Rattle.std.proofs.Common.{◌≡◌, ◌&&◌, ℕ, ◌%◌, ℤ, pos, Bool, true, false, cond, nat_lt, Option, Some, None, Result}
+use Rattle.std.proofs.Common.{refl, sym, ap, subst, ◌∙◌}
+use Rattle.std.specs.Prelude.{◌==◌, int_le, nat_abs}
 use Rattle.machine_state.specs.declared.cpu.Cpu.{Cpu}
 use Rattle.machine_state.specs.declared.cpu.Flow.{Flow}
 use Rattle.machine_state.specs.declared.fault.FaultKind.{FaultKind}
 use Rattle.machine_state.specs.declared.op.Op.TheVariants as ops
+use Rattle.machine_state.specs.declared.op.Shift.{Shift}
 use Rattle.machine_state.specs.declared.store.Store.{Ghosts}
 use Rattle.machine_state.specs.Site.{Site, Local, Outcome, fails, waits}
-use Rattle.machine_state.specs.declared.fault.FaultKind.TheVariants.{NotOwn, OutsideCode, Unaligned}
+use Rattle.machine_state.specs.declared.fault.FaultKind.TheVariants.{NotOwn, OutsideCode, Unaligned, CountRange}
 use Rattle.machine_state.specs.LocalStep.{alone, while_enabling, uses, aligned, address, leads_to, turned}
 use Rattle.machine_state.specs.LocalStep.{holds_scheduling_words, schedules, writes, followed_by_code}
-use Rattle.machine_state.specs.LocalStep.{without_registers, operation_step, loop_end_step}
+use Rattle.machine_state.specs.LocalStep.{without_registers, counts, replaces_two, shifted, operation_step}
 use Rattle.machine_state.specs.Performing.{Performs}
 use Rattle.machine_state.proofs.Scheduling.{schedules-is}
 use Rattle.operations.specs.Loops.{loop_target, counts_turn, tests_block}
@@ -30,16 +30,33 @@ aligned-fits : (v : ℤ) (k : ℕ → Outcome) → (address v % 4 == 0) ≡ true
 unfolding aligned
 aligned-fits v k fits = ap (λ (b : Bool). cond b (k (address v)) (fails Unaligned)) fits
 
-pub tested-registers : (s : Site) (l : Local) (a b : ℤ) (block : ℕ) → ((o : Outcome) → alone s.mode o ≡ o)
-    → l.registers.stack.a ≡ Some a → l.registers.stack.b ≡ Some b → (address b % 4 == 0) ≡ true → block ≡ address b
+pub tested-registers : (s : Site) (l : Local) (a b : ℤ) (block : ℕ)
+    → ((k : ℤ → Outcome) → alone s.mode (uses l.registers.stack.a k) ≡ k a)
+    → l.registers.stack.b ≡ Some b → (address b % 4 == 0) ≡ true → block ≡ address b
     → operation_step s ops.LoopEnd l ≡ tests_block s a block l
 unfolding operation_step
-tested-registers s l a b block passes a_is b_is fits block_is =
-    passes (loop_end_step s l)
-    ∙ (uses-some l.registers.stack.a a _ a_is
+tested-registers s l a b block finds b_is fits block_is =
+    finds (λ a. uses l.registers.stack.b (λ b. aligned b (λ block. tests_block s a block l)))
     ∙ (uses-some l.registers.stack.b b (λ b. aligned b (λ block. tests_block s a block l)) b_is
     ∙ (aligned-fits b (λ block. tests_block s a block l) fits
-    ∙ ap (λ (x : ℕ). tests_block s a x l) (sym block_is))))
+    ∙ ap (λ (x : ℕ). tests_block s a x l) (sym block_is)))
+
+counts-within : (least most : ℕ) (v : ℤ) (k : ℕ → Outcome) → (int_le (pos least) v && int_le v (pos most)) ≡ true
+    → counts least most v k ≡ k (nat_abs v)
+unfolding counts
+counts-within least most v k within = ap (λ (b : Bool). cond b (k (nat_abs v)) (fails CountRange)) within
+
+-- a word is shifted by a count that is within its bounds
+pub shifts-word : (s : Site) (l : Local) (op : Shift) (a b : ℤ) (n : ℕ)
+    → ((k : ℤ → Outcome) → alone s.mode (uses l.registers.stack.a k) ≡ k a)
+    → l.registers.stack.b ≡ Some b → (int_le (pos 0) a && int_le a (pos 31)) ≡ true → n ≡ nat_abs a
+    → operation_step s (ops.Shift op) l ≡ replaces_two s (shifted op b n) l
+unfolding operation_step
+shifts-word s l op a b n finds b_is within n_is =
+    finds (λ a. uses l.registers.stack.b (λ b. counts 0 31 a (λ n. replaces_two s (shifted op b n) l)))
+    ∙ (uses-some l.registers.stack.b b (λ b. counts 0 31 a (λ n. replaces_two s (shifted op b n) l)) b_is
+    ∙ (counts-within 0 31 a (λ n. replaces_two s (shifted op b n) l) within
+    ∙ ap (λ (n : ℕ). replaces_two s (shifted op b n) l) (sym n_is)))
 
 -- where the words that scheduling takes are not the process's own, altwt is at fault
 pub waits-unscheduled : (s : Site) (l : Local) → ((o : Outcome) → while_enabling s.mode o ≡ o)

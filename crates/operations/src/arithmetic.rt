@@ -3,7 +3,7 @@
 ghost use Rattle.machine_state.specs.declared.op.Op.TheVariants as operation;
 ghost use Rattle.machine_state.specs.Performing.{PerformsOperation};
 
-use crate::replacing::replace_two;
+use crate::operands::{operand, replace_two};
 use machine_state::{Cpu, FaultKind, Flow, Store};
 use word_arithmetic::{Binary, Unary};
 
@@ -12,20 +12,17 @@ use word_arithmetic::{Binary, Unary};
 pub(crate) fn binary<S: Store>(cpu: &mut Cpu<S>, op: Binary) -> Result<Flow, FaultKind>
     ensures { PerformsOperation S.Store (operation.Binary op) cpu.old cpu.new result }
 {
-    cpu.alone()?;
-    let right = cpu.used(cpu.registers.stack.a)?;
+    let right = operand(cpu)?;
     let left = cpu.used(cpu.registers.stack.b)?;
     let value = cpu.computed(op.apply(left, right))?;
-    replace_two(cpu, value)?;
-    Ok(Flow::Next)
+    replace_two(cpu, value)
 }
 
 /// An operation of one operand: A becomes the result of A, unless that sets the error flag.
 pub(crate) fn unary<S: Store>(cpu: &mut Cpu<S>, op: Unary) -> Result<Flow, FaultKind>
     ensures { PerformsOperation S.Store (operation.Unary op) cpu.old cpu.new result }
 {
-    cpu.alone()?;
-    let operand = cpu.used(cpu.registers.stack.a)?;
+    let operand = operand(cpu)?;
     let value = cpu.computed(op.apply(operand))?;
     cpu.in_code(cpu.next())?;
     cpu.registers.stack.a = Some(value);

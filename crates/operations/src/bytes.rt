@@ -3,14 +3,14 @@
 ghost use Rattle.machine_state.specs.declared.op.Op.TheVariants as operation;
 ghost use Rattle.machine_state.specs.Performing.{PerformsOperation};
 
+use crate::operands::operand;
 use machine_state::{Cpu, FaultKind, Flow, Store};
 
 /// `lb`: A becomes the byte at A.
 pub(crate) fn load_byte<S: Store>(cpu: &mut Cpu<S>) -> Result<Flow, FaultKind>
     ensures { PerformsOperation S.Store operation.LoadByte cpu.old cpu.new result }
 {
-    cpu.alone()?;
-    let address = cpu.used(cpu.registers.stack.a)?.cast_unsigned();
+    let address = operand(cpu)?.cast_unsigned();
     let byte = cpu.read_byte(address)?;
     cpu.in_code(cpu.next())?;
     cpu.registers.stack.a = byte.map(i32::from);
@@ -21,8 +21,7 @@ pub(crate) fn load_byte<S: Store>(cpu: &mut Cpu<S>) -> Result<Flow, FaultKind>
 pub(crate) fn store_byte<S: Store>(cpu: &mut Cpu<S>) -> Result<Flow, FaultKind>
     ensures { PerformsOperation S.Store operation.StoreByte cpu.old cpu.new result }
 {
-    cpu.alone()?;
-    let address = cpu.used(cpu.registers.stack.a)?.cast_unsigned();
+    let address = operand(cpu)?.cast_unsigned();
     let value = cpu.used(cpu.registers.stack.b)?;
     cpu.writable_byte(address)?;
     cpu.in_code(cpu.next())?;

@@ -3,7 +3,7 @@
 ghost use Rattle.machine_state.specs.declared.op.Op.TheVariants as operation;
 ghost use Rattle.machine_state.specs.Performing.{PerformsOperation};
 
-use crate::replacing::replace_two;
+use crate::operands::{operand, replace_two};
 use certificate::Stack;
 use machine_state::{Cpu, FaultKind, Flow, LongOp, Shift, Store};
 
@@ -14,13 +14,11 @@ const MOST_SHIFT: u32 = 31;
 pub(crate) fn shift<S: Store>(cpu: &mut Cpu<S>, op: Shift) -> Result<Flow, FaultKind>
     ensures { PerformsOperation S.Store (operation.Shift op) cpu.old cpu.new result }
 {
-    cpu.alone()?;
-    let count = cpu.used(cpu.registers.stack.a)?;
+    let count = operand(cpu)?;
     let word = cpu.used(cpu.registers.stack.b)?;
     let count = cpu.count(0, MOST_SHIFT, count)?;
     let value = op.apply(word, count);
-    replace_two(cpu, value)?;
-    Ok(Flow::Next)
+    replace_two(cpu, value)
 }
 
 /// `lsum`, `ldiff`, `lmul`: A becomes the low word of the result of B, A and C, and B the high one or the carry.
@@ -28,8 +26,7 @@ pub(crate) fn long<S: Store>(cpu: &mut Cpu<S>, op: LongOp) -> Result<Flow, Fault
     ensures { PerformsOperation S.Store (operation.Long op) cpu.old cpu.new result }
 {
     cpu.check(cpu.has_long_operations, FaultKind::UnknownOperation)?;
-    cpu.alone()?;
-    let right = cpu.used(cpu.registers.stack.a)?;
+    let right = operand(cpu)?;
     let left = cpu.used(cpu.registers.stack.b)?;
     let third = cpu.used(cpu.registers.stack.c)?;
     cpu.in_code(cpu.next())?;

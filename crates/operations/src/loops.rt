@@ -7,6 +7,7 @@ ghost use Rattle.machine_state.specs.Performing.{Performs, PerformsOperation, Is
 ghost use Rattle.machine_state.specs.Performing.{site_of, local_of, value_or_fault};
 ghost use Rattle.operations.specs.Loops.{holds_block, loop_target, counts_turn, turns_block, tests_block};
 
+use crate::operands::operand;
 use certificate::Stack;
 use machine_state::{Cpu, FaultKind, Flow, Store, local_address};
 
@@ -99,8 +100,7 @@ fn test_block<S: Store>(cpu: &mut Cpu<S>, distance: i32, block: u32) -> Result<F
 pub(crate) fn loop_end<S: Store>(cpu: &mut Cpu<S>) -> Result<Flow, FaultKind>
     ensures { PerformsOperation S.Store operation.LoopEnd cpu.old cpu.new result }
 {
-    cpu.alone()?;
-    let distance = cpu.used(cpu.registers.stack.a)?;
+    let distance = operand(cpu)?;
     let block = cpu.used(cpu.registers.stack.b)?;
     let block = cpu.aligned(block)?;
     test_block(cpu, distance, block)

@@ -3,6 +3,7 @@
 ghost use Rattle.machine_state.specs.declared.op.Op.TheVariants as operation;
 ghost use Rattle.machine_state.specs.Performing.{PerformsOperation};
 
+use crate::operands::operand;
 use certificate::Stack;
 use machine_state::{Cpu, FaultKind, Flow, Store};
 
@@ -13,8 +14,7 @@ const MOST_MOVED: u32 = 65_536;
 pub(crate) fn move_bytes<S: Store>(cpu: &mut Cpu<S>) -> Result<Flow, FaultKind>
     ensures { PerformsOperation S.Store operation.Move cpu.old cpu.new result }
 {
-    cpu.alone()?;
-    let count = cpu.used(cpu.registers.stack.a)?;
+    let count = operand(cpu)?;
     let to = cpu.used(cpu.registers.stack.b)?.cast_unsigned();
     let from = cpu.used(cpu.registers.stack.c)?.cast_unsigned();
     let count = cpu.count(0, MOST_MOVED, count)?;

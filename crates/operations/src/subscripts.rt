@@ -3,7 +3,7 @@
 ghost use Rattle.machine_state.specs.declared.op.Op.TheVariants as operation;
 ghost use Rattle.machine_state.specs.Performing.{PerformsOperation};
 
-use crate::replacing::replace_two;
+use crate::operands::{operand, replace_two};
 use machine_state::{Cpu, FaultKind, Flow, Store, local_address};
 use word_arithmetic::is_below_unsigned;
 
@@ -11,32 +11,27 @@ use word_arithmetic::is_below_unsigned;
 pub(crate) fn byte_subscript<S: Store>(cpu: &mut Cpu<S>) -> Result<Flow, FaultKind>
     ensures { PerformsOperation S.Store operation.ByteSubscript cpu.old cpu.new result }
 {
-    cpu.alone()?;
-    let base = cpu.used(cpu.registers.stack.a)?;
+    let base = operand(cpu)?;
     let subscript = cpu.used(cpu.registers.stack.b)?;
     let address = base.cast_unsigned().wrapping_add(subscript.cast_unsigned());
-    replace_two(cpu, address.cast_signed())?;
-    Ok(Flow::Next)
+    replace_two(cpu, address.cast_signed())
 }
 
 /// `wsub`: A and B are popped, and the address B words after A is pushed.
 pub(crate) fn word_subscript<S: Store>(cpu: &mut Cpu<S>) -> Result<Flow, FaultKind>
     ensures { PerformsOperation S.Store operation.WordSubscript cpu.old cpu.new result }
 {
-    cpu.alone()?;
-    let base = cpu.used(cpu.registers.stack.a)?;
+    let base = operand(cpu)?;
     let subscript = cpu.used(cpu.registers.stack.b)?;
     let address = local_address(base.cast_unsigned(), subscript);
-    replace_two(cpu, address.cast_signed())?;
-    Ok(Flow::Next)
+    replace_two(cpu, address.cast_signed())
 }
 
 /// `csub0`: A is popped, unless B is not below it, which sets the error flag.
 pub(crate) fn check_subscript<S: Store>(cpu: &mut Cpu<S>) -> Result<Flow, FaultKind>
     ensures { PerformsOperation S.Store operation.CheckSubscript cpu.old cpu.new result }
 {
-    cpu.alone()?;
-    let bound = cpu.used(cpu.registers.stack.a)?;
+    let bound = operand(cpu)?;
     let subscript = cpu.used(cpu.registers.stack.b)?;
     cpu.check(is_below_unsigned(subscript, bound), FaultKind::ErrorFlag)?;
     cpu.in_code(cpu.next())?;
@@ -48,8 +43,7 @@ pub(crate) fn check_subscript<S: Store>(cpu: &mut Cpu<S>) -> Result<Flow, FaultK
 pub(crate) fn check_count<S: Store>(cpu: &mut Cpu<S>) -> Result<Flow, FaultKind>
     ensures { PerformsOperation S.Store operation.CheckCount cpu.old cpu.new result }
 {
-    cpu.alone()?;
-    let most = cpu.used(cpu.registers.stack.a)?;
+    let most = operand(cpu)?;
     let count = cpu.used(cpu.registers.stack.b)?;
     cpu.check(
         count.cast_unsigned() != 0 && !is_below_unsigned(most, count),
@@ -64,8 +58,7 @@ pub(crate) fn check_count<S: Store>(cpu: &mut Cpu<S>) -> Result<Flow, FaultKind>
 pub(crate) fn load_pointer_to_instruction<S: Store>(cpu: &mut Cpu<S>) -> Result<Flow, FaultKind>
     ensures { PerformsOperation S.Store operation.LoadPointerToInstruction cpu.old cpu.new result }
 {
-    cpu.alone()?;
-    let distance = cpu.used(cpu.registers.stack.a)?;
+    let distance = operand(cpu)?;
     cpu.in_code(cpu.next())?;
     let address = cpu.next_address().wrapping_add(distance.cast_unsigned());
     cpu.registers.stack.a = Some(address.cast_signed());

@@ -7,5 +7,5 @@ pub returns : goal.returns
 returns g c = performs-by {S = g.row.S.Denot} g.S.Store _ _ _ _ _
     (tested-registers (site_of g.S.Store c.args.cpu.now) (local_of g.S.Store c.args.cpu.now)
     c.in_ok-distance.distance c.in_ok-block.block c.in_ok-block-2.block
-    (search rules) (search rules) (search rules) (search rules) (search rules))
+    c.in_ok-distance.ensures (search rules) (search rules) (search rules))
     (search rules)
