@@ -1,1 +1,2 @@
 pub mod AlternationsBeside
+pub mod Choosing

@@ -1,25 +1,24 @@
 //! From `altwt` to `altend`: the process waits until something is ready, and what it has enabled is disabled.
 
-ghost use Rattle.std.specs.Prelude.{◌≡◌, ◌+◌, ◌<◌, ◌^◌, if◌then◌else◌, Some, IsTrue, length, ℤ, pos};
+ghost use Rattle.std.specs.Prelude.{◌≡◌, ◌+◌, ◌<◌, ◌^◌, IsTrue, length};
 ghost use Rattle.module_format.specs.Contents.{Contents, contents_of};
-ghost use Rattle.machine_state.specs.declared.process.Mode.TheVariants.{Disabling};
 ghost use Rattle.machine_state.specs.Holding.{may_write_word};
-ghost use Rattle.machine_state.specs.LocalStep.{holds_scheduling_words, with_a_alone};
+ghost use Rattle.machine_state.specs.LocalStep.{holds_scheduling_words};
 ghost use Rattle.machine_state.specs.Memory.{place_of};
 ghost use Rattle.machine_state.specs.Moves.{counted};
 ghost use Rattle.machine_state.specs.Turn.{ran, answered};
-ghost use Rattle.machine_state.specs.Alternations.{selected, waited};
+ghost use Rattle.machine_state.specs.Alternations.{waited};
 ghost use Rattle.machine_state.specs.Alternations.{skip_disabled, channel_disabled, alternation_ended};
 ghost use Rattle.channels.specs.Moment.{IsSteady};
 ghost use Rattle.channels.specs.Settling.{here_in, scheduled, Settles};
-ghost use Rattle.alternation.specs.Locals.{untouched, without_selection_word, after_in};
+ghost use Rattle.alternation.specs.Locals.{untouched, without_selection_word, selects, after_choice};
 ghost use Rattle.alternation.specs.Ready.{is_ready_in};
 
-use crate::moves::{clear_selection_word, go_on};
+use crate::moves::clear_selection_word;
 use crate::source::Source;
 use certificate::{Stack, Tables};
 use channels::{Here, Traffic};
-use machine_state::{Condition, Fault, FaultKind, Mode, Registers, Store, Task};
+use machine_state::{Condition, Fault, FaultKind, Mode, Registers, Store};
 use process_queue::ListQueue;
 
 /// Waits until something that is enabled is ready. Answers whether the process goes on: it does if something is ready
@@ -44,36 +43,26 @@ pub fn wait<S: Store>(
     clear_selection_word(traffic, registers.workspace);
     let mode = Mode::Disabling { selection: None };
     if let Mode::Enabling { is_ready: true } = here.task.mode {
-        go_on(traffic, here, mode, registers);
+        traffic.go_on(here, mode, registers);
         return true;
     }
-    let condition = Condition::Alternating;
-    let task = here.continued(here.next(), registers);
-    traffic.put(
-        here.process,
-        Task {
-            mode,
-            condition,
-            ..task
-        },
-    );
+    traffic.put_in(here, here.next(), registers, mode, Condition::Alternating);
     traffic.give_way(here);
     false
 }
 
-/// Whether a process in this mode selects what it disables.
-fn selects(mode: Mode, is_ready: bool) -> bool
-    ensures { (distance : ℤ) → result ≡ selected mode is_ready distance }
+/// Whether a process in this mode selects this distance: if there is one and nothing is selected yet.
+fn selects(mode: Mode, ready: Option<i32>) -> bool
+    ensures { result ≡ selects mode ready }
 {
-    is_ready && matches!(mode, Mode::Disabling { selection: None })
+    ready.is_some() && matches!(mode, Mode::Disabling { selection: None })
 }
 
-/// Selects this distance, if what is disabled is ready and nothing is selected yet. A tells whether it is selected.
+/// Selects this distance, if there is one and nothing is selected yet. A tells whether it is selected.
 fn choose<S: Store>(
     traffic: &mut Traffic<S, ListQueue>,
     here: &Here,
-    is_ready: bool,
-    distance: i32,
+    ready: Option<i32>,
     registers: Registers,
 )
     requires next { here.now.task.registers.at + 1 < 2 ^ 32 }
@@ -81,19 +70,11 @@ fn choose<S: Store>(
     requires word { IsTrue (may_write_word traffic.old.holding (place_of registers.workspace)) }
     ensures { let w = traffic.old.world in
         let l = without_selection_word (untouched registers w) in
-        let mode = here.now.task.mode in
-        traffic.new ≡ record traffic.old {
-          world =
-              (if selected mode is_ready distance
-              then after_in here.now (Disabling (Some distance)) (with_a_alone (Some (pos 1)) l) w
-              else after_in here.now mode (with_a_alone (Some (pos 0)) l) w);
-        } }
+        traffic.new ≡ record traffic.old { world = after_choice here.now ready l w } }
 {
-    let is_selected = selects(here.task.mode, is_ready);
+    let is_selected = selects(here.task.mode, ready);
     let mode = if is_selected {
-        Mode::Disabling {
-            selection: Some(distance),
-        }
+        Mode::Disabling { selection: ready }
     } else {
         here.task.mode
     };
@@ -103,10 +84,11 @@ fn choose<S: Store>(
         c: None,
     };
     clear_selection_word(traffic, registers.workspace);
-    go_on(traffic, here, mode, Registers { stack, ..registers });
+    traffic.go_on(here, mode, Registers { stack, ..registers });
 }
 
 /// Disables a skip, which is ready if the guard holds. If nothing is selected yet, it is selected by its distance.
+#[tactic(auto, using(crate::proofs::Choosing::unready_is_not_selected))]
 pub fn disable_skip<S: Store>(
     traffic: &mut Traffic<S, ListQueue>,
     here: &Here,
@@ -122,7 +104,7 @@ pub fn disable_skip<S: Store>(
         skip_disabled (here_in m here.now) guard distance l w ≡ answered ran (counted traffic.new.world) }
     ensures rest { traffic.new ≡ record traffic.old { world = traffic.new.world } }
 {
-    choose(traffic, here, guard, distance, registers);
+    choose(traffic, here, guard.then_some(distance), registers);
 }
 
 /// Disables the link or channel at the address, if the guard holds. If it is ready and nothing is selected yet, it is
@@ -130,6 +112,7 @@ pub fn disable_skip<S: Store>(
 ///
 /// If there is no link or channel at the address, the fault is `EndNotHeld`; if the process has not enabled it,
 /// `AlternationOrder`. Then, if no code follows the instruction, it is `OutsideCode`.
+#[tactic(auto, using(crate::proofs::Choosing::unready_is_not_selected))]
 pub fn disable_channel<S: Store>(
     traffic: &mut Traffic<S, ListQueue>,
     tables: &Tables,
@@ -150,7 +133,7 @@ pub fn disable_channel<S: Store>(
 {
     if !guard {
         here.check(here.is_followed(tables), FaultKind::OutsideCode)?;
-        choose(traffic, here, false, distance, registers);
+        choose(traffic, here, None, registers);
         return Ok(());
     }
     let source = Source::at(traffic, address).ok_or(here.fault(FaultKind::EndNotHeld))?;
@@ -159,7 +142,12 @@ pub fn disable_channel<S: Store>(
         FaultKind::AlternationOrder,
     )?;
     here.check(here.is_followed(tables), FaultKind::OutsideCode)?;
-    choose(traffic, here, source.is_ready(), distance, registers);
+    choose(
+        traffic,
+        here,
+        source.is_ready().then_some(distance),
+        registers,
+    );
     source.set_enabled(traffic, None);
     Ok(())
 }
@@ -184,8 +172,6 @@ pub fn end<S: Store>(
     let is_disabled = !traffic.has_enabled(here.process);
     here.check(is_disabled, FaultKind::AlternationOrder)?;
     here.check((to as usize) < tables.code.len(), FaultKind::OutsideCode)?;
-    let mode = Mode::Plain;
-    let task = here.continued(to, registers);
-    traffic.put(here.process, Task { mode, ..task });
+    traffic.put_in(here, to, registers, Mode::Plain, here.task.condition);
     Ok(())
 }

@@ -10,7 +10,6 @@ ghost use Rattle.channels.specs.Moment.{IsSteady};
 ghost use Rattle.channels.specs.Settling.{here_in, scheduled, Settles};
 ghost use Rattle.alternation.specs.Locals.{untouched};
 
-use crate::moves::go_on;
 use crate::source::Source;
 use certificate::Tables;
 use channels::{Here, Traffic};
@@ -39,7 +38,7 @@ pub fn begin<S: Store>(traffic: &mut Traffic<S, ListQueue>, here: &Here, registe
     ensures rest { traffic.new ≡ record traffic.old { world = traffic.new.world } }
 {
     traffic.clear_scheduling_words(registers);
-    go_on(traffic, here, Mode::Enabling { is_ready: false }, registers);
+    traffic.go_on(here, Mode::Enabling { is_ready: false }, registers);
 }
 
 /// Enables a skip, which is ready if the guard holds.
@@ -55,7 +54,7 @@ pub fn enable_skip<S: Store>(
         skip_enabled (here_in m here.now) guard (untouched registers w) w ≡ answered ran (counted traffic.new.world) }
     ensures rest { traffic.new ≡ record traffic.old { world = traffic.new.world } }
 {
-    go_on(traffic, here, ready_or(here.task.mode, guard), registers);
+    traffic.go_on(here, ready_or(here.task.mode, guard), registers);
 }
 
 /// Enables the link or channel at the address, if the guard holds.
@@ -79,14 +78,14 @@ pub fn enable_channel<S: Store>(
 {
     if !guard {
         here.check(here.is_followed(tables), FaultKind::OutsideCode)?;
-        go_on(traffic, here, here.task.mode, registers);
+        traffic.go_on(here, here.task.mode, registers);
         return Ok(());
     }
     let source = Source::at(traffic, address).ok_or(here.fault(FaultKind::EndNotHeld))?;
     here.check(source.enabled().is_none(), FaultKind::AlternationOrder)?;
     here.check(here.is_followed(tables), FaultKind::OutsideCode)?;
     let mode = ready_or(here.task.mode, source.is_ready());
-    go_on(traffic, here, mode, registers);
+    traffic.go_on(here, mode, registers);
     source.set_enabled(traffic, Some(here.process));
     Ok(())
 }

@@ -8,7 +8,7 @@ ghost use Rattle.channels.specs.Moment.{IsSteady, WaitsForMore};
 
 use crate::traffic::Traffic;
 use certificate::Tables;
-use machine_state::{Condition, Fault, FaultKind, Registers, Store, Task};
+use machine_state::{Condition, Fault, FaultKind, Mode, Registers, Store, Task};
 use process_queue::ListQueue;
 
 /// A process at a byte of its code: the last one of an instruction, or a prefix.
@@ -71,6 +71,33 @@ impl Here {
 }
 
 impl<S: Store> Traffic<S, ListQueue> {
+    /// The process is between two instructions, the next of which begins at this offset, with these registers, in this
+    /// mode and in this condition.
+    pub fn put_in(
+        &mut self,
+        here: &Here,
+        at: u32,
+        registers: Registers,
+        mode: Mode,
+        condition: Condition,
+    )
+        requires { WaitsForMore condition }
+        ensures { let w = self.old.world in
+            let registers = between at registers in
+            let task = record here.now.task { registers = registers; mode = mode; condition = condition } in
+            self.new ≡ record self.old { world = put here.now.process task w.memory w } }
+    {
+        let registers = here.continued(at, registers).registers;
+        self.put(
+            here.process,
+            Task {
+                registers,
+                mode,
+                condition,
+            },
+        );
+    }
+
     /// The process is between two instructions, the next of which begins at this offset, with these registers and in
     /// this condition.
     pub fn put_at(&mut self, here: &Here, at: u32, registers: Registers, condition: Condition)
@@ -79,8 +106,19 @@ impl<S: Store> Traffic<S, ListQueue> {
             let task = record here.now.task { registers = between at registers; condition = condition } in
             self.new ≡ record self.old { world = put here.now.process task w.memory w } }
     {
-        let task = here.continued(at, registers);
-        self.put(here.process, Task { condition, ..task });
+        self.put_in(here, at, registers, here.task.mode, condition);
+    }
+
+    /// The process goes on after the instruction, with these registers and in this mode.
+    pub fn go_on(&mut self, here: &Here, mode: Mode, registers: Registers)
+        requires next { here.now.task.registers.at + 1 < 2 ^ 32 }
+        requires task { IsSteady here.now.task }
+        ensures { let w = self.old.world in
+            let registers = between (here.now.task.registers.at + 1) registers in
+            let task = record here.now.task { registers = registers; mode = mode } in
+            self.new ≡ record self.old { world = put here.now.process task w.memory w } }
+    {
+        self.put_in(here, here.next(), registers, mode, here.task.condition);
     }
 
     /// The process gives way, and another may run.
