@@ -8,12 +8,14 @@ use Rattle.module_format.specs.Contents.{Contents}
 use Rattle.machine_state.specs.declared.fault.Fault.{Fault}
 use Rattle.machine_state.specs.declared.fault.FaultKind.{FaultKind}
 use Rattle.machine_state.specs.Faults.{fault_in}
-use Rattle.machine_state.specs.Joins.{Found, first_fault, start_or_fail, first_start, later_start, later_plan}
-use Rattle.machine_state.specs.Joins.{later_faults, no_row_faults, started, opened_by}
+use Rattle.machine_state.specs.Holding.{Holding}
+use Rattle.machine_state.specs.Joins.{Found, Plan, first_fault, start_or_fail, first_start, later_start, later_plan}
+use Rattle.machine_state.specs.Joins.{first_plan, first_faults, later_faults, no_row_faults, started, opened}
+use Rattle.machine_state.specs.Joins.{opened_by}
 use Rattle.machine_state.specs.Moves.{counted, faulty}
 use Rattle.machine_state.specs.Site.{Local}
 use Rattle.machine_state.specs.Turn.{Here, Turn, answered, failed, followed, ran}
-use Rattle.machine_state.specs.World.{World, Join}
+use Rattle.machine_state.specs.World.{World, Join, holding_at}
 use Rattle.channels.specs.declared.here.Here.{Here as Instance}
 use Rattle.channels.specs.declared.stop.Stop.{Stop}
 use Rattle.channels.specs.declared.stop.Stop.TheVariants as stops
@@ -125,5 +127,33 @@ module _ (m : Contents) (here : Instance) (w : World) where
     pub by_opened : (o : Option Join) (after : World) (result : Result (Unit {0}) Stop) → opened_by w here.process ≡ o
         → SettlesIfRoom {A = Unit {0}} (λ x. ran) w after result (by_open o)
         → SettlesIfRoom {A = Unit {0}} (λ x. ran) w after result (found_start h f workspace l w)
-    by_opened o after result opened settles =
-        subst (λ (t : Turn). SettlesIfRoom {A = Unit {0}} (λ x. ran) w after result t) (sym (ap by_open opened)) settles
+    by_opened o after result is settles =
+        subst (λ (t : Turn). SettlesIfRoom {A = Unit {0}} (λ x. ran) w after result t) (sym (ap by_open is)) settles
+
+    -- a later start that has stopped at its tests
+    pub later_stops : (join : Join) (A : Type 0) (stop : Stop) (result : Result (Unit {0}) Stop)
+        → opened_by w here.process ≡ Some join → IsErrAnd result (λ other. other ≡ stop)
+        → Finds {A = A} here (Err stop) (first_fault (later_tests m (length w.memory) join f workspace))
+        → SettlesIfRoom {A = Unit {0}} (λ x. ran) w w result (found_start h f workspace l w)
+    later_stops join A stop result some is finds =
+        by_opened (Some join) w result some
+        (subst (λ (r : Result (Unit {0}) Stop). SettlesIfRoom {A = Unit {0}} (λ x. ran) w w r (by_open (Some join)))
+        (sym (same_stop result stop is)) (later_fails join f workspace l A stop finds))
+
+    abbrev held : Holding
+    held = holding_at w.roles here.process
+
+    abbrev plan : Plan
+    plan = first_plan m here.process here.task.registers.workspace held w.memory f
+
+    -- a first start that has
+    pub first_stops : (A : Type 0) (stop : Stop) (result : Result (Unit {0}) Stop)
+        → opened_by w here.process ≡ None → IsErrAnd result (λ other. other ≡ stop)
+        → Finds {A = A} here (Err stop) (first_fault (first_faults m w.memory held plan f workspace))
+        → SettlesIfRoom {A = Unit {0}} (λ x. ran) w w result (found_start h f workspace l w)
+    first_stops A stop result none is finds =
+        let there = opened h plan l w in
+        by_opened None w result none
+        (subst (λ (r : Result (Unit {0}) Stop). SettlesIfRoom {A = Unit {0}} (λ x. ran) w w r (by_open None))
+        (sym (same_stop result stop is)) (tests_fail (first_faults m w.memory held plan f workspace)
+        (started h plan f workspace there.0 there.1) A stop finds))

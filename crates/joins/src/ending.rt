@@ -10,14 +10,23 @@ ghost use Rattle.channels.specs.Settling.{here_in, Settles};
 ghost use Rattle.joins.specs.Locals.{untouched};
 ghost use Rattle.joins.specs.Summary.{summary};
 
+use crate::Processes;
 use crate::open::{Open, open_of, opener_of};
 use certificate::{ParRow, Stack, Tables};
-use channels::{Here, Traffic};
-use machine_state::{Condition, Fault, FaultKind, Mode, Registers, TaggedStore, Task};
-use process_queue::ListQueue;
+use channels::Here;
+use machine_state::{Condition, Fault, FaultKind, Mode, Registers, Task};
+
+/// The end of a process at this instruction, which names the block and leaves these registers.
+#[derive(Clone, Copy)]
+struct Ending<'a, 't> {
+    tables: &'a Tables<'t>,
+    here: &'a Here,
+    block: u32,
+    registers: Registers,
+}
 
 /// The process that has opened the join goes on at once after the PAR, with the block as its workspace.
-fn close(traffic: &mut Traffic<TaggedStore, ListQueue>, opener: u64, block: u32, successor: u32)
+fn close(traffic: &mut Processes, opener: u64, block: u32, successor: u32)
     ensures { (join : Join) (par : Par) → block ≡ join.block → successor ≡ par.successor →
         traffic.new.world ≡ closed opener join par traffic.old.world }
 {
@@ -42,13 +51,7 @@ fn close(traffic: &mut Traffic<TaggedStore, ListQueue>, opener: u64, block: u32,
 }
 
 /// The process is no member any more. If it was the last one, the join is over; if not, another process may run.
-fn leave(
-    traffic: &mut Traffic<TaggedStore, ListQueue>,
-    here: &Here,
-    opener: u64,
-    seen: Open,
-    successor: u32,
-)
+fn leave(traffic: &mut Processes, here: &Here, opener: u64, seen: Open, successor: u32)
     ensures { (m : Contents) (join : Join) (par : Par) → opened_by traffic.old.world opener ≡ Some join →
         seen ≡ summary here.now.process join → successor ≡ par.successor →
         traffic.new.world ≡ joined (here_in m here.now) opener join par traffic.old.world }
@@ -62,22 +65,13 @@ fn leave(
 }
 
 /// The process has ended.
-fn end(traffic: &mut Traffic<TaggedStore, ListQueue>, here: &Here, registers: Registers)
+fn end(traffic: &mut Processes, here: &Here, registers: Registers)
     requires { here.now.task.registers.at + 1 < 2 ^ 32 }
     ensures { (m : Contents) → let w = traffic.old.world in
         traffic.new.world ≡ ended (here_in m here.now) (untouched registers w) w }
 {
-    let task = here.continued(here.next(), registers);
-    let mode = Mode::Plain;
-    let condition = Condition::Ended;
-    traffic.put(
-        here.process,
-        Task {
-            mode,
-            condition,
-            ..task
-        },
-    );
+    let next = here.next();
+    traffic.put_in(here, next, registers, Mode::Plain, Condition::Ended);
 }
 
 /// The row of a PAR, if there is one of this number.
@@ -96,54 +90,48 @@ fn is_whole(seen: Open, par: &ParRow, block: u32) -> bool
 }
 
 /// The end of the process that has started the branches: all of them.
-fn end_opener(
-    traffic: &mut Traffic<TaggedStore, ListQueue>,
-    tables: &Tables,
-    here: &Here,
-    seen: Open,
-    block: u32,
-    registers: Registers,
-) -> Result<(), Fault>
-    requires { here.now.task.registers.at + 1 < 2 ^ 32 }
-    ensures { (join : Join) → let h = here_in (contents_of tables.now) here.now in
+fn end_opener(traffic: &mut Processes, ending: &Ending, seen: Open) -> Result<(), Fault>
+    requires { ending.now.here.now.task.registers.at + 1 < 2 ^ 32 }
+    ensures { (join : Join) → let h = here_in (contents_of ending.now.tables.now) ending.now.here.now in
         let w = traffic.old.world in
-        opened_by w here.now.process ≡ Some join → seen ≡ summary here.now.process join →
-        Settles w traffic.new.world ran result (own_end h join block (untouched registers w) w) }
+        let l = untouched ending.now.registers w in
+        opened_by w h.process ≡ Some join → seen ≡ summary h.process join →
+        Settles w traffic.new.world ran result (own_end h join ending.now.block l w) }
 {
-    let Some(par) = row_at(tables, seen.row) else {
+    let here = ending.here;
+    let Some(par) = row_at(ending.tables, seen.row) else {
         return Err(here.fault(FaultKind::JoinOrder));
     };
-    if !is_whole(seen, par, block) {
+    if !is_whole(seen, par, ending.block) {
         return Err(here.fault(FaultKind::JoinOrder));
     }
-    end(traffic, here, registers);
+    end(traffic, here, ending.registers);
     leave(traffic, here, here.process, seen, par.successor);
     Ok(())
 }
 
 /// The end of a branch of the join that this process has open.
 fn end_branch(
-    traffic: &mut Traffic<TaggedStore, ListQueue>,
-    tables: &Tables,
-    here: &Here,
+    traffic: &mut Processes,
+    ending: &Ending,
     opener: u64,
     seen: Open,
-    block: u32,
-    registers: Registers,
 ) -> Result<(), Fault>
-    requires { here.now.task.registers.at + 1 < 2 ^ 32 }
-    ensures { (join : Join) → let h = here_in (contents_of tables.now) here.now in
+    requires { ending.now.here.now.task.registers.at + 1 < 2 ^ 32 }
+    ensures { (join : Join) → let h = here_in (contents_of ending.now.tables.now) ending.now.here.now in
         let w = traffic.old.world in
-        opened_by w opener ≡ Some join → seen ≡ summary here.now.process join →
-        Settles w traffic.new.world ran result (branch_end h opener join block (untouched registers w) w) }
+        let l = untouched ending.now.registers w in
+        opened_by w opener ≡ Some join → seen ≡ summary h.process join →
+        Settles w traffic.new.world ran result (branch_end h opener join ending.now.block l w) }
 {
-    let Some(par) = row_at(tables, seen.row) else {
+    let here = ending.here;
+    let Some(par) = row_at(ending.tables, seen.row) else {
         return Err(here.fault(FaultKind::JoinOrder));
     };
-    if seen.block != block {
+    if seen.block != ending.block {
         return Err(here.fault(FaultKind::JoinOrder));
     }
-    end(traffic, here, registers);
+    end(traffic, here, ending.registers);
     traffic.give_back(here.process);
     leave(traffic, here, opener, seen, par.successor);
     Ok(())
@@ -154,7 +142,7 @@ fn end_branch(
 /// With the last member the join is over, and the process that has opened it goes on at once. Where the process is in
 /// no join, where the block is not the join's, or where not all branches are started, the fault is `JoinOrder`.
 pub fn join(
-    traffic: &mut Traffic<TaggedStore, ListQueue>,
+    traffic: &mut Processes,
     tables: &Tables,
     here: &Here,
     block: u32,
@@ -165,11 +153,17 @@ pub fn join(
         let w = traffic.old.world in
         Settles w traffic.new.world ran result (join_turn h block (untouched registers w) w) }
 {
+    let ending = Ending {
+        tables,
+        here,
+        block,
+        registers,
+    };
     if let Some(seen) = open_of(traffic, here.process, here.process) {
-        return end_opener(traffic, tables, here, seen, block, registers);
+        return end_opener(traffic, &ending, seen);
     }
     let fault = here.fault(FaultKind::JoinOrder);
     let opener = opener_of(traffic, here.process).ok_or(fault)?;
     let seen = open_of(traffic, opener, here.process).ok_or(fault)?;
-    end_branch(traffic, tables, here, opener, seen, block, registers)
+    end_branch(traffic, &ending, opener, seen)
 }

@@ -8,21 +8,19 @@ ghost use Rattle.machine_state.specs.declared.process.Mode.TheVariants.{Starting
 ghost use Rattle.machine_state.specs.Turn.{between};
 ghost use Rattle.machine_state.specs.Moves.{enqueue};
 ghost use Rattle.machine_state.specs.Joins.{Plan, frame_address, new_task, opened_by, later_plan, started, opened};
-ghost use Rattle.machine_state.specs.Joins.{without_words, scheduling_addresses};
-ghost use Rattle.machine_state.specs.Joins.{block_addresses, channel_addresses};
+ghost use Rattle.machine_state.specs.Joins.{without_words, scheduling_addresses, block_addresses, channel_addresses};
 ghost use Rattle.channels.specs.Moment.{IsSteady};
 ghost use Rattle.channels.specs.Settling.{here_in};
 ghost use Rattle.joins.specs.Finding.{found_view};
 ghost use Rattle.joins.specs.Gifts.{IsGift, IsFirstGift};
 ghost use Rattle.joins.specs.Locals.{untouched};
 
-use crate::found::Found;
+use crate::Processes;
+use crate::found::Start;
+use crate::gifts::{First, Later};
 use certificate::{BranchRow, ChannelRow, ParRow, Stack};
-use channels::{Here, NewProcess, Traffic};
-use machine_state::{
-    Condition, Holding, Join, Mode, Progress, Registers, TaggedStore, Task, local_address,
-};
-use process_queue::ListQueue;
+use channels::{Here, NewProcess};
+use machine_state::{Condition, Mode, Registers, Task, local_address};
 use std::alloc::AllocError;
 
 /// A branch at its first byte, with this workspace.
@@ -58,7 +56,7 @@ fn starter(here: &Here, registers: Registers) -> Task
 }
 
 /// The branch is there, and is ready after all that are. What scheduling takes of its words is undefined.
-fn enter(traffic: &mut Traffic<TaggedStore, ListQueue>, workspace: u32, process: u64)
+fn enter(traffic: &mut Processes, workspace: u32, process: u64)
     requires { 0 < traffic.old.room }
     ensures { let w = traffic.old.world in
         let memory = without_words (scheduling_addresses workspace) w.memory in
@@ -71,43 +69,31 @@ fn enter(traffic: &mut Traffic<TaggedStore, ListQueue>, workspace: u32, process:
 }
 
 /// One more branch of the PAR that the process has open is started. If memory runs out, nothing changes.
-pub(crate) fn advance(
-    traffic: &mut Traffic<TaggedStore, ListQueue>,
-    here: &Here,
-    found: Found,
-    workspace: u32,
-    registers: Registers,
-    to: Progress,
-    own: Holding,
-) -> Result<(), AllocError>
-    requires next { here.now.task.registers.at + 1 < 2 ^ 32 }
-    requires task { IsSteady here.now.task }
+pub(crate) fn advance(traffic: &mut Processes, start: &Start, gift: Later) -> Result<(), AllocError>
+    requires next { start.now.here.now.task.registers.at + 1 < 2 ^ 32 }
+    requires task { IsSteady start.now.here.now.task }
     ensures { (m : Contents) (join : Opened) → let w = traffic.old.world in
-        let h = here_in m here.now in
-        let f = found_view found.entry in
+        let h = here_in m start.now.here.now in
+        let f = found_view start.now.found in
         let plan = later_plan m join f.par in
-        opened_by w here.now.process ≡ Some join → IsGift m (length w.memory) plan f.branch to own →
-        MatchResult result (λ _. traffic.new.world ≡ started h plan f workspace (untouched registers w) w)
-        (λ _. traffic.new.world ≡ w) }
+        let next = started h plan f start.now.workspace (untouched start.now.registers w) w in
+        opened_by w h.process ≡ Some join → IsGift m (length w.memory) plan f.branch gift.to gift.own →
+        MatchResult result (λ _. traffic.new.world ≡ next) (λ _. traffic.new.world ≡ w) }
 {
     traffic.reserve()?;
     let process = traffic.count();
-    let task = starter(here, registers);
+    let task = starter(start.here, start.registers);
     let branch = NewProcess {
-        task: new_task(found.branch, workspace),
-        own,
+        task: new_task(start.found.branch, start.workspace),
+        own: gift.own,
     };
-    traffic.advance_join(here.process, task, to, branch)?;
-    enter(traffic, workspace, process);
+    traffic.advance_join(start.here.process, task, gift.to, branch)?;
+    enter(traffic, start.workspace, process);
     Ok(())
 }
 
 /// Nothing is in the words of the channels of a PAR any more.
-fn clear_channel_words(
-    traffic: &mut Traffic<TaggedStore, ListQueue>,
-    base: u32,
-    channels: &[ChannelRow],
-)
+fn clear_channel_words(traffic: &mut Processes, base: u32, channels: &[ChannelRow])
     ensures { let w = traffic.old.world in
         let memory = without_words (map (λ (c : Row). frame_address base c.word) channels.now) w.memory in
         traffic.new ≡ record traffic.old { world = record w { memory = memory } } }
@@ -118,7 +104,7 @@ fn clear_channel_words(
 }
 
 /// The block of a PAR and the words of its channels are taken away.
-fn take_block(traffic: &mut Traffic<TaggedStore, ListQueue>, base: u32, par: &ParRow)
+fn take_block(traffic: &mut Processes, base: u32, par: &ParRow)
     ensures { let w = traffic.old.world in
         let p = par_of par.now in
         let memory = without_words (block_addresses base p ++ channel_addresses base p) w.memory in
@@ -131,35 +117,28 @@ fn take_block(traffic: &mut Traffic<TaggedStore, ListQueue>, base: u32, par: &Pa
 }
 
 /// A PAR is open, and its first branch is started. If memory runs out, nothing changes.
-pub(crate) fn open(
-    traffic: &mut Traffic<TaggedStore, ListQueue>,
-    here: &Here,
-    found: Found,
-    workspace: u32,
-    registers: Registers,
-    join: Join,
-    own: Holding,
-) -> Result<(), AllocError>
-    requires next { here.now.task.registers.at + 1 < 2 ^ 32 }
-    requires task { IsSteady here.now.task }
+pub(crate) fn open(traffic: &mut Processes, start: &Start, gift: First) -> Result<(), AllocError>
+    requires next { start.now.here.now.task.registers.at + 1 < 2 ^ 32 }
+    requires task { IsSteady start.now.here.now.task }
     ensures { (m : Contents) (plan : Plan) → let w = traffic.old.world in
-        let h = here_in m here.now in
-        let f = found_view found.entry in
-        let there = opened h plan (untouched registers w) w in
-        plan.par ≡ f.par → IsFirstGift m (length w.memory) plan f (length w.tasks) join own →
-        MatchResult result (λ _. traffic.new.world ≡ started h plan f workspace there.0 there.1)
+        let h = here_in m start.now.here.now in
+        let f = found_view start.now.found in
+        let there = opened h plan (untouched start.now.registers w) w in
+        plan.par ≡ f.par → IsFirstGift m (length w.memory) plan f (length w.tasks) gift.join gift.own →
+        MatchResult result (λ _. traffic.new.world ≡ started h plan f start.now.workspace there.0 there.1)
         (λ _. traffic.new.world ≡ w) }
 {
     traffic.reserve()?;
     let process = traffic.count();
-    let base = join.base;
-    let task = starter(here, registers);
+    let par = start.found.par;
+    let base = gift.join.base;
+    let task = starter(start.here, start.registers);
     let branch = NewProcess {
-        task: new_task(found.branch, workspace),
-        own,
+        task: new_task(start.found.branch, start.workspace),
+        own: gift.own,
     };
-    traffic.open_join(here.process, task, join, &found.par.channels, branch)?;
-    take_block(traffic, base, found.par);
-    enter(traffic, workspace, process);
+    traffic.open_join(start.here.process, task, gift.join, &par.channels, branch)?;
+    take_block(traffic, base, par);
+    enter(traffic, start.workspace, process);
     Ok(())
 }

@@ -1,11 +1,15 @@
-//! The branch that begins at a code offset, and where it stands in the module.
+//! The branch that begins at a code offset, where it stands in the module, and a start of it.
 
-ghost use Rattle.std.specs.Prelude.{◌≡◌, Some, None, map, MatchOption};
+ghost use Rattle.std.specs.Prelude.{◌≡◌, ◌+◌, ◌<◌, ◌^◌, if◌then◌else◌, Some, None, OnOk, map, length, nat_lt};
+ghost use Rattle.std.specs.Prelude.{MatchOption};
 ghost use Rattle.module_format.specs.Contents.{branch_of, contents_of};
+ghost use Rattle.machine_state.specs.Faults.{fault_in};
 ghost use Rattle.machine_state.specs.Joins.{branch_from, branch_at};
 ghost use Rattle.joins.specs.Finding.{found_view};
 
-use certificate::{BranchRow, ParRow, Tables};
+use certificate::{BranchRow, Module, ParRow, Tables};
+use channels::Here;
+use machine_state::{Fault, FaultKind, Registers};
 
 /// A branch, the number of its row, and its own number in the row.
 #[derive(Clone, Copy)]
@@ -14,6 +18,30 @@ pub(crate) struct Found<'a> {
     pub par: &'a ParRow,
     pub number: usize,
     pub branch: &'a BranchRow,
+}
+
+/// A start of this branch, with this workspace, by a process that goes on with these registers.
+#[derive(Clone, Copy)]
+pub(crate) struct Start<'a, 'm> {
+    pub module: &'a Module<'m>,
+    /// The process, at the instruction.
+    pub here: &'a Here,
+    pub found: Found<'a>,
+    pub workspace: u32,
+    pub registers: Registers,
+}
+
+impl Start<'_, '_> {
+    /// Passes if code follows the instruction, else `OutsideCode`.
+    pub(crate) fn check_followed(&self) -> Result<(), Fault>
+        ensures followed { let at = self.now.here.now.task.registers.at in
+            let fault = fault_in self.now.here.now.process self.now.here.now.task.registers.began FaultKind.OutsideCode in
+            result ≡ (if nat_lt (at + 1) (length self.now.module.now.code) then Ok tt else Err fault) }
+        ensures bound { OnOk result (self.now.here.now.task.registers.at + 1 < 2 ^ 32) }
+    {
+        let is_followed = self.here.is_followed(self.module.tables());
+        self.here.check(is_followed, FaultKind::OutsideCode)
+    }
 }
 
 /// The branch of a row that begins at a code offset, with its number.

@@ -1,7 +1,7 @@
 //! What changes hands at a start that is not at fault.
 
 ghost use Rattle.std.specs.Prelude.{◌≡◌, ◌<◌, ◌^◌, ◌+◌, ◌∷◌, [], IfOk, length};
-ghost use Rattle.module_format.specs.Contents.{contents_of, branch_of, par_of};
+ghost use Rattle.module_format.specs.Contents.{contents_of, par_of};
 ghost use Rattle.module_format.specs.Contexts.{parameters_at};
 ghost use Rattle.machine_state.specs.Joins.{first_plan, first_faults, first_fault, frame_address, holding_of};
 ghost use Rattle.machine_state.specs.Joins.{later_plan, later_faults, named_from, share_by};
@@ -13,17 +13,31 @@ ghost use Rattle.joins.specs.Gifts.{IsGift, IsFirstGift};
 ghost use Rattle.joins.specs.Opened.{opening_plan};
 ghost use Rattle.joins.specs.Testing.{Finds, later_tests};
 
-use crate::found::Found;
+use crate::Processes;
+use crate::found::{Found, Start};
 use crate::open::held;
 use crate::opening::{Opening, prepare};
 use crate::plan::Plan;
 use crate::share::{Frame, share_of};
 use crate::testing::{Gift, divide, no_row_fault, test_first, test_later};
 use certificate::{Module, ParRow, Parameter, Tables};
-use channels::{Here, Stop, Traffic};
+use channels::Stop;
 use machine_state::{Holding, Join, Progress, TaggedStore, local_address};
-use process_queue::ListQueue;
 use std::alloc::{AllocError, Global};
+
+/// What changes hands at a start while a PAR is open: how far its join is, and what the branch holds.
+#[derive(Drop)]
+pub(crate) struct Later {
+    pub to: Progress,
+    pub own: Holding,
+}
+
+/// What changes hands at the first start of a PAR: the join that is open, and what the branch holds.
+#[derive(Drop)]
+pub(crate) struct First {
+    pub join: Join,
+    pub own: Holding,
+}
 
 /// The address of the join block.
 fn block_of(base: u32, par: &ParRow) -> u32
@@ -38,19 +52,20 @@ fn next_gift(
     end: u32,
     tables: &Tables,
     parameters: &[Parameter],
-    here: &Here,
+    start: &Start,
     join: &Join,
-    found: Found,
-    workspace: u32,
-) -> Result<(Progress, Holding), Stop>
+) -> Result<Later, Stop>
     requires code { length tables.now.code.now < 2 ^ 32 }
-    requires number { found.number + 1 < 2 ^ 32 }
-    requires parameters { parameters.now ≡ parameters_at (contents_of tables.now) found.par.now.context }
-    ensures finds { let plan = later_plan (contents_of tables.now) (join_view join.now) (par_of found.entry.par.now) in
-        Finds here.now result (first_fault (later_faults end plan (found_view found.entry) workspace)) }
-    ensures gift { let plan = later_plan (contents_of tables.now) (join_view join.now) (par_of found.entry.par.now) in
-        IfOk result (λ x. IsGift (contents_of tables.now) end plan (branch_of found.entry.branch.now) x.0 x.1) }
+    requires number { start.now.found.number + 1 < 2 ^ 32 }
+    requires parameters { parameters.now ≡ parameters_at (contents_of tables.now) start.now.found.par.now.context }
+    ensures finds { let f = found_view start.now.found in
+        let plan = later_plan (contents_of tables.now) (join_view join.now) f.par in
+        Finds start.now.here.now result (first_fault (later_faults end plan f start.now.workspace)) }
+    ensures gift { let f = found_view start.now.found in
+        let plan = later_plan (contents_of tables.now) (join_view join.now) f.par in
+        IfOk result (λ x. IsGift (contents_of tables.now) end plan f.branch x.to x.own) }
 {
+    let found = start.found;
     let frame = Frame {
         base: join.base,
         parameters,
@@ -64,48 +79,46 @@ fn next_gift(
         rest: &join.rest,
     };
     let share = share_of(alloc, frame, found.branch)?;
-    test_later(alloc, here, end, plan, found, &share, workspace)?;
+    test_later(alloc, start.here, end, plan, found, &share, start.workspace)?;
     let gift = divide(alloc, end, tables, &join.rest, &share)?;
     let to = Progress {
         block: block_of(join.base, found.par),
         started: found.number as u32 + 1,
         rest: gift.rest,
     };
-    Ok((to, gift.own))
+    Ok(Later { to, own: gift.own })
 }
 
 /// What changes at a start while a PAR is open: its join, and what the branch holds. The branch is one of its row.
 pub(crate) fn later_gift(
     alloc: Global,
-    traffic: &Traffic<TaggedStore, ListQueue>,
-    module: &Module,
-    here: &Here,
+    traffic: &Processes,
+    start: &Start,
     join: &Join,
-    found: Found,
-    workspace: u32,
-) -> Result<(Progress, Holding), Stop>
-    requires { found.number + 1 < 2 ^ 32 }
+) -> Result<Later, Stop>
+    requires { start.now.found.number + 1 < 2 ^ 32 }
     ensures finds { let n = length traffic.now.world.memory in
-        let tests = later_tests «module».now n (join_view join.now) (found_view found.entry) workspace in
-        Finds here.now result (first_fault tests) }
+        let f = found_view start.now.found in
+        let tests = later_tests start.now.module.now n (join_view join.now) f start.now.workspace in
+        Finds start.now.here.now result (first_fault tests) }
     ensures gift { let n = length traffic.now.world.memory in
-        let f = found_view found.entry in
-        let plan = later_plan «module».now (join_view join.now) f.par in
-        IfOk result (λ x. IsGift «module».now n plan f.branch x.0 x.1) }
+        let f = found_view start.now.found in
+        let plan = later_plan start.now.module.now (join_view join.now) f.par in
+        IfOk result (λ x. IsGift start.now.module.now n plan f.branch x.to x.own) }
 {
+    let found = start.found;
     if found.row != join.row as usize {
-        return Err(Stop::Fault(no_row_fault(here, &join.rest, workspace)));
+        let fault = no_row_fault(start.here, &join.rest, start.workspace);
+        return Err(Stop::Fault(fault));
     }
-    let parameters = module.parameters(u32::from(found.par.context));
+    let parameters = start.module.parameters(u32::from(found.par.context));
     next_gift(
         alloc,
         traffic.store().size(),
-        module.tables(),
+        start.module.tables(),
         parameters,
-        here,
+        start,
         join,
-        found,
-        workspace,
     )
 }
 
@@ -114,28 +127,27 @@ fn first_division(
     alloc: Global,
     tables: &Tables,
     parameters: &[Parameter],
-    here: &Here,
+    start: &Start,
     store: &TaggedStore,
     holding: &Holding,
     opening: &Opening,
-    found: Found,
-    workspace: u32,
 ) -> Result<Gift, Stop>
     requires code { length tables.now.code.now < 2 ^ 32 }
-    requires row { found.row < 2 ^ 32 }
-    requires words { opening.now.words.items ≡ named_from (par_of found.par.now) 0 parameters.now }
-    ensures finds { let f = found_view found.entry in
+    requires row { start.now.found.row < 2 ^ 32 }
+    requires words { opening.now.words.items ≡ named_from (par_of start.now.found.par.now) 0 parameters.now }
+    ensures finds { let f = found_view start.now.found in
         let plan = opening_plan opening.now f parameters.now in
         let h = holding_view holding.now in
-        let tests = first_faults (contents_of tables.now) store.now.cells h plan f workspace in
-        Finds here.now result (first_fault tests) }
-    ensures own { let f = found_view found.entry in
+        let tests = first_faults (contents_of tables.now) store.now.cells h plan f start.now.workspace in
+        Finds start.now.here.now result (first_fault tests) }
+    ensures own { let f = found_view start.now.found in
         let share = share_by (opening_plan opening.now f parameters.now) f.branch in
         IfOk result (λ g. holding_view g.own ≡ holding_of (contents_of tables.now) (length store.now.cells) share) }
-    ensures rest { let f = found_view found.entry in
+    ensures rest { let f = found_view start.now.found in
         let plan = opening_plan opening.now f parameters.now in
         IfOk result (λ g. holding_view g.rest ≡ less (length store.now.cells) plan.rest (share_by plan f.branch)) }
 {
+    let found = start.found;
     let frame = Frame {
         base: opening.base,
         parameters,
@@ -151,7 +163,7 @@ fn first_division(
     let share = share_of(alloc, frame, found.branch)?;
     test_first(
         alloc,
-        here,
+        start.here,
         tables,
         store,
         holding,
@@ -159,7 +171,7 @@ fn first_division(
         &opening.words,
         found,
         &share,
-        workspace,
+        start.workspace,
     )?;
     Ok(divide(alloc, store.size(), tables, &opening.rest, &share)?)
 }
@@ -197,44 +209,44 @@ fn first_join(
 }
 
 /// What the first start of a PAR opens: the join, and what the branch holds.
-pub(crate) fn first_gift(
-    alloc: Global,
-    traffic: &Traffic<TaggedStore, ListQueue>,
-    module: &Module,
-    here: &Here,
-    found: Found,
-    workspace: u32,
-) -> Result<(Join, Holding), Stop>
-    requires { found.row < 2 ^ 32 }
+pub(crate) fn first_gift(alloc: Global, traffic: &Processes, start: &Start) -> Result<First, Stop>
+    requires { start.now.found.row < 2 ^ 32 }
     ensures finds { let w = traffic.now.world in
-        let f = found_view found.entry in
-        let holding = holding_at w.roles here.now.process in
-        let plan = first_plan «module».now here.now.process here.now.task.registers.workspace holding w.memory f in
-        Finds here.now result (first_fault (first_faults «module».now w.memory holding plan f workspace)) }
+        let m = start.now.module.now in
+        let here = start.now.here.now in
+        let f = found_view start.now.found in
+        let holding = holding_at w.roles here.process in
+        let plan = first_plan m here.process here.task.registers.workspace holding w.memory f in
+        Finds here result (first_fault (first_faults m w.memory holding plan f start.now.workspace)) }
     ensures gift { let w = traffic.now.world in
-        let f = found_view found.entry in
-        let holding = holding_at w.roles here.now.process in
-        let plan = first_plan «module».now here.now.process here.now.task.registers.workspace holding w.memory f in
-        IfOk result (λ x. IsFirstGift «module».now (length w.memory) plan f (length w.tasks) x.0 x.1) }
+        let m = start.now.module.now in
+        let here = start.now.here.now in
+        let f = found_view start.now.found in
+        let holding = holding_at w.roles here.process in
+        let plan = first_plan m here.process here.task.registers.workspace holding w.memory f in
+        IfOk result (λ x. IsFirstGift m (length w.memory) plan f (length w.tasks) x.join x.own) }
 {
+    let here = start.here;
+    let found = start.found;
     let store = traffic.store();
     let empty = Holding::nothing(alloc);
     let holding = held(store, here.process, &empty);
-    let parameters = module.parameters(u32::from(found.par.context));
+    let parameters = start.module.parameters(u32::from(found.par.context));
     let from = here.task.registers.workspace;
     let opening = prepare(alloc, store, holding, from, found.par, parameters)?;
     let gift = first_division(
         alloc,
-        module.tables(),
+        start.module.tables(),
         parameters,
-        here,
+        start,
         store,
         holding,
         &opening,
-        found,
-        workspace,
     )?;
     let branch = traffic.count();
     let join = first_join(alloc, opening, gift.rest, found, here.process, branch)?;
-    Ok((join, gift.own))
+    Ok(First {
+        join,
+        own: gift.own,
+    })
 }

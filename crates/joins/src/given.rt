@@ -44,39 +44,41 @@ fn ends_without(alloc: Global, ends: &[End], taken: &[End]) -> Result<Vec<End>, 
     Ok(left)
 }
 
-/// What may still be written, without these places.
-fn left_to_write(
-    alloc: Global,
+/// What is taken of a holding in a memory of `end` places: some that are written by another one from now on, and some
+/// that are read.
+#[derive(Clone, Copy)]
+struct Taking<'a> {
     end: u32,
-    holding: &Holding,
-    writes: &[Span],
-    reads: &[Span],
-) -> Result<Vec<Span>, AllocError>
-    ensures { let h = holding_view holding.now in
-        let test = λ (p : ℕ). may_write h p && not (covered writes.now p) && not (covered reads.now p) in
-        IfOk result (λ v. v.items ≡ runs test 0 end) }
-{
-    let taken = both(alloc, writes, reads)?;
-    without(alloc, &holding.writes, &taken, end)
+    holding: &'a Holding,
+    writes: &'a [Span],
+    reads: &'a [Span],
 }
 
-/// What may still be read only, where some places are written and some read from now on.
-fn left_to_read(
-    alloc: Global,
-    end: u32,
-    holding: &Holding,
-    writes: &[Span],
-    reads: &[Span],
-) -> Result<Vec<Span>, AllocError>
-    ensures { let h = holding_view holding.now in
-        let test = λ (p : ℕ). may_read h p && not (covered writes.now p)
-        && (not (may_write h p) || covered reads.now p) in
-        IfOk result (λ v. v.items ≡ runs test 0 end) }
-{
-    let kept = without(alloc, &holding.writes, reads, end)?;
-    let held = both(alloc, &holding.writes, &holding.reads)?;
-    let taken = both(alloc, writes, &kept)?;
-    without(alloc, &held, &taken, end)
+impl Taking<'_> {
+    /// What may still be written.
+    fn left_to_write(&self, alloc: Global) -> Result<Vec<Span>, AllocError>
+        ensures { let h = holding_view self.now.holding.now in
+            let test = λ (p : ℕ). may_write h p && not (covered self.now.writes.now p)
+            && not (covered self.now.reads.now p) in
+            IfOk result (λ v. v.items ≡ runs test 0 self.now.end) }
+    {
+        let taken = both(alloc, self.writes, self.reads)?;
+        without(alloc, &self.holding.writes, &taken, self.end)
+    }
+
+    /// What may still be read only.
+    fn left_to_read(&self, alloc: Global) -> Result<Vec<Span>, AllocError>
+        ensures { let h = holding_view self.now.holding.now in
+            let test = λ (p : ℕ). may_read h p && not (covered self.now.writes.now p)
+            && (not (may_write h p) || covered self.now.reads.now p) in
+            IfOk result (λ v. v.items ≡ runs test 0 self.now.end) }
+    {
+        let holding = self.holding;
+        let kept = without(alloc, &holding.writes, self.reads, self.end)?;
+        let held = both(alloc, &holding.writes, &holding.reads)?;
+        let taken = both(alloc, self.writes, &kept)?;
+        without(alloc, &held, &taken, self.end)
+    }
 }
 
 /// What is left of a holding in a memory of `end` places, without a share.
@@ -90,9 +92,15 @@ pub(crate) fn less(
 {
     let writes = places_within(alloc, &share.writes, end)?;
     let reads = places_within(alloc, &share.reads, end)?;
+    let taking = Taking {
+        end,
+        holding,
+        writes: &writes,
+        reads: &reads,
+    };
     Ok(Holding {
-        writes: left_to_write(alloc, end, holding, &writes, &reads)?,
-        reads: left_to_read(alloc, end, holding, &writes, &reads)?,
+        writes: taking.left_to_write(alloc)?,
+        reads: taking.left_to_read(alloc)?,
         ends: ends_without(alloc, &holding.ends, &share.ends)?,
     })
 }

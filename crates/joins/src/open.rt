@@ -9,9 +9,8 @@ ghost use Rattle.machine_state.specs.Views.{holding_view, join_view};
 ghost use Rattle.machine_state.specs.World.{holding_at};
 ghost use Rattle.joins.specs.Summary.{summary, open_of};
 
-use channels::Traffic;
+use crate::Processes;
 use machine_state::{Holding, Join, TaggedStore};
-use process_queue::ListQueue;
 
 /// An open join, as one of its members ends.
 #[derive(Clone, Copy)]
@@ -54,7 +53,7 @@ fn summary(join: &Join, process: u64) -> Open
 }
 
 /// The join that a process has open, if it has one.
-pub(crate) fn join_of(traffic: &Traffic<TaggedStore, ListQueue>, process: u64) -> Option<&Join>
+pub(crate) fn join_of(traffic: &Processes, process: u64) -> Option<&Join>
     ensures { let found = opened_by traffic.now.world process in
         MatchOption result (found ≡ None) (λ join. found ≡ Some (join_view join.now)) }
 {
@@ -76,11 +75,7 @@ pub(crate) fn held<'a>(store: &'a TaggedStore, process: u64, empty: &'a Holding)
 }
 
 /// The join that the opener has open, if it has one, as the process of this number ends.
-pub(crate) fn open_of(
-    traffic: &Traffic<TaggedStore, ListQueue>,
-    opener: u64,
-    process: u64,
-) -> Option<Open>
+pub(crate) fn open_of(traffic: &Processes, opener: u64, process: u64) -> Option<Open>
     ensures { result ≡ open_of traffic.now.world opener process }
 {
     let role = traffic.store().role(opener)?;
@@ -91,7 +86,7 @@ pub(crate) fn open_of(
 }
 
 /// The opener of the join that a process is in, if it is in one.
-pub(crate) fn opener_of(traffic: &Traffic<TaggedStore, ListQueue>, process: u64) -> Option<u64>
+pub(crate) fn opener_of(traffic: &Processes, process: u64) -> Option<u64>
     ensures { result ≡ opener_of traffic.now.world process }
 {
     traffic.store().role(process)?.opener

@@ -1,7 +1,6 @@
 //! `startp`: a branch starts.
 
 ghost use Rattle.std.specs.Prelude.{◌≡◌, ◌<◌, ◌^◌, ◌+◌, Some, None, IfSome, MatchOption, length};
-ghost use Rattle.module_format.specs.Contents.{contents_of};
 ghost use Rattle.machine_state.specs.World.{Join as Opened, holding_at};
 ghost use Rattle.machine_state.specs.Turn.{ran};
 ghost use Rattle.machine_state.specs.Joins.{first_plan, first_faults, first_fault, later_plan, opened_by};
@@ -15,15 +14,15 @@ ghost use Rattle.joins.specs.Gifts.{IsGift, IsFirstGift};
 ghost use Rattle.joins.specs.Locals.{untouched};
 ghost use Rattle.joins.specs.Testing.{found_start, later_tests};
 
+use crate::Processes;
 use crate::entering::{advance, open};
-use crate::found::{Found, branch_at};
-use crate::gifts::{first_gift, later_gift};
+use crate::found::{Found, Start, branch_at};
+use crate::gifts::{First, Later, first_gift, later_gift};
 use crate::open::{held, join_of};
 use crate::testing::no_row_fault;
-use certificate::{Module, Tables};
-use channels::{Here, Stop, Traffic};
-use machine_state::{Fault, FaultKind, Holding, Join, Progress, Registers, TaggedStore};
-use process_queue::ListQueue;
+use certificate::Module;
+use channels::{Here, Stop};
+use machine_state::{Fault, Holding, Registers};
 use std::alloc::Global;
 
 /// The branch of a module that begins at a code offset, if there is one. Its numbers are small, as the format says.
@@ -37,65 +36,45 @@ fn found_in<'m>(module: &'m Module, target: u32) -> Option<Found<'m>>
 }
 
 /// One more branch of the PAR that the process has open is started, where nothing is wrong and code follows.
-fn start_later(
-    traffic: &mut Traffic<TaggedStore, ListQueue>,
-    tables: &Tables,
-    here: &Here,
-    found: Found,
-    workspace: u32,
-    registers: Registers,
-    gift: (Progress, Holding),
-) -> Result<(), Stop>
-    requires code { length tables.now.code.now < 2 ^ 32 }
-    requires task { IsSteady here.now.task }
+fn start_later(traffic: &mut Processes, start: &Start, gift: Later) -> Result<(), Stop>
+    requires { IsSteady start.now.here.now.task }
     ensures { (join : Opened) → let w = traffic.old.world in
-        let m = contents_of tables.now in
-        let f = found_view found.entry in
+        let m = start.now.module.now in
+        let h = here_in m start.now.here.now in
+        let f = found_view start.now.found in
         let n = length w.memory in
-        let turn = later_start (here_in m here.now) join f workspace (untouched registers w) w in
-        opened_by w here.now.process ≡ Some join → first_fault (later_tests m n join f workspace) ≡ None →
-        IsGift m n (later_plan m join f.par) f.branch gift.0 gift.1 →
+        let turn = later_start h join f start.now.workspace (untouched start.now.registers w) w in
+        opened_by w h.process ≡ Some join → first_fault (later_tests m n join f start.now.workspace) ≡ None →
+        IsGift m n (later_plan m join f.par) f.branch gift.to gift.own →
         SettlesIfRoom (λ done. ran) w traffic.new.world result turn }
 {
-    here.check(here.is_followed(tables), FaultKind::OutsideCode)?;
-    advance(traffic, here, found, workspace, registers, gift.0, gift.1)?;
+    start.check_followed()?;
+    advance(traffic, start, gift)?;
     Ok(())
 }
 
 /// A PAR is open, and its first branch is started, where nothing is wrong and code follows.
-fn start_first(
-    traffic: &mut Traffic<TaggedStore, ListQueue>,
-    tables: &Tables,
-    here: &Here,
-    found: Found,
-    workspace: u32,
-    registers: Registers,
-    gift: (Join, Holding),
-) -> Result<(), Stop>
-    requires code { length tables.now.code.now < 2 ^ 32 }
-    requires task { IsSteady here.now.task }
+fn start_first(traffic: &mut Processes, start: &Start, gift: First) -> Result<(), Stop>
+    requires { IsSteady start.now.here.now.task }
     ensures { let w = traffic.old.world in
-        let m = contents_of tables.now in
-        let f = found_view found.entry in
-        let holding = holding_at w.roles here.now.process in
-        let plan = first_plan m here.now.process here.now.task.registers.workspace holding w.memory f in
-        let turn = first_start (here_in m here.now) f workspace (untouched registers w) w in
+        let m = start.now.module.now in
+        let here = start.now.here.now in
+        let f = found_view start.now.found in
+        let workspace = start.now.workspace in
+        let holding = holding_at w.roles here.process in
+        let plan = first_plan m here.process here.task.registers.workspace holding w.memory f in
+        let turn = first_start (here_in m here) f workspace (untouched start.now.registers w) w in
         first_fault (first_faults m w.memory holding plan f workspace) ≡ None →
-        IsFirstGift m (length w.memory) plan f (length w.tasks) gift.0 gift.1 →
+        IsFirstGift m (length w.memory) plan f (length w.tasks) gift.join gift.own →
         SettlesIfRoom (λ done. ran) w traffic.new.world result turn }
 {
-    here.check(here.is_followed(tables), FaultKind::OutsideCode)?;
-    open(traffic, here, found, workspace, registers, gift.0, gift.1)?;
+    start.check_followed()?;
+    open(traffic, start, gift)?;
     Ok(())
 }
 
 /// The fault of a start at which no branch begins.
-fn no_branch_fault(
-    alloc: Global,
-    traffic: &Traffic<TaggedStore, ListQueue>,
-    here: &Here,
-    workspace: u32,
-) -> Fault
+fn no_branch_fault(alloc: Global, traffic: &Processes, here: &Here, workspace: u32) -> Fault
     ensures { let tests = no_row_faults (holding_at traffic.now.world.roles here.now.process) workspace in
         option_map (fault_in here.now.process here.now.task.registers.began) (first_fault tests) ≡ Some result }
 {
@@ -105,32 +84,24 @@ fn no_branch_fault(
 }
 
 /// A start by a branch of the module.
-fn start_found(
-    alloc: Global,
-    traffic: &mut Traffic<TaggedStore, ListQueue>,
-    module: &Module,
-    here: &Here,
-    found: Found,
-    workspace: u32,
-    registers: Registers,
-) -> Result<(), Stop>
-    requires row { found.row < 2 ^ 32 }
-    requires number { found.number + 1 < 2 ^ 32 }
-    requires task { IsSteady here.now.task }
-    ensures { let h = here_in «module».now here.now in
+fn start_found(alloc: Global, traffic: &mut Processes, start: &Start) -> Result<(), Stop>
+    requires row { start.now.found.row < 2 ^ 32 }
+    requires number { start.now.found.number + 1 < 2 ^ 32 }
+    requires task { IsSteady start.now.here.now.task }
+    ensures { let h = here_in start.now.module.now start.now.here.now in
         let w = traffic.old.world in
-        let turn = found_start h (found_view found.entry) workspace (untouched registers w) w in
+        let f = found_view start.now.found in
+        let turn = found_start h f start.now.workspace (untouched start.now.registers w) w in
         SettlesIfRoom (λ done. ran) w traffic.new.world result turn }
 {
-    let tables = module.tables();
-    match join_of(traffic, here.process) {
+    match join_of(traffic, start.here.process) {
         Some(join) => {
-            let gift = later_gift(alloc, traffic, module, here, join, found, workspace)?;
-            start_later(traffic, tables, here, found, workspace, registers, gift)
+            let gift = later_gift(alloc, traffic, start, join)?;
+            start_later(traffic, start, gift)
         }
         None => {
-            let gift = first_gift(alloc, traffic, module, here, found, workspace)?;
-            start_first(traffic, tables, here, found, workspace, registers, gift)
+            let gift = first_gift(alloc, traffic, start)?;
+            start_first(traffic, start, gift)
         }
     }
 }
@@ -146,7 +117,7 @@ fn start_found(
 /// nothing has changed.
 pub fn start(
     alloc: Global,
-    traffic: &mut Traffic<TaggedStore, ListQueue>,
+    traffic: &mut Processes,
     module: &Module,
     here: &Here,
     target: u32,
@@ -163,5 +134,12 @@ pub fn start(
         let fault = no_branch_fault(alloc, traffic, here, workspace);
         return Err(Stop::Fault(fault));
     };
-    start_found(alloc, traffic, module, here, found, workspace, registers)
+    let start = Start {
+        module,
+        here,
+        found,
+        workspace,
+        registers,
+    };
+    start_found(alloc, traffic, &start)
 }

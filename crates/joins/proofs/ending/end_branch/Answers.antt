@@ -13,22 +13,23 @@ use Rattle.joins.proofs.ending.end_branch.Goals as goal
 
 pub returns : goal.returns
 returns c = λ join opened same.
-    let m = contents_of c.args.tables.now in
-    let h = here_in m c.args.here.now in
+    let ending = c.args.ending.now in
+    let m = contents_of ending.tables.now in
+    let h = here_in m ending.here.now in
     let w = c.args.traffic.now.world in
-    let p = c.args.here.now.process in
+    let p = ending.here.now.process in
     let par = par_of c.in-Some.par.now in
     let row : slice_get m.pars join.row ≡ Some par =
     ap (λ (o : Open). slice_get m.pars o.row) (sym same) ∙ c.in-Some.ensures in
-    let here : c.args.seen.block ≡ c.args.block = c.if-seen-block.false in
-    let test : (join.block == c.args.block) ≡ true =
-    ap (λ (o : Open). o.block == c.args.block) (sym same) ∙ eq-eqb c.args.seen.block c.args.block here in
+    let here : c.args.seen.block ≡ ending.block = c.if-seen-ending.false in
+    let test : (join.block == ending.block) ≡ true =
+    ap (λ (o : Open). o.block == ending.block) (sym same) ∙ eq-eqb c.args.seen.block ending.block here in
     let given : c.give_back.new.self.world ≡ on_role p without_own c.end.new.traffic.world = c.give_back.ensures in
     let there : opened_by c.give_back.new.self.world c.args.opener ≡ Some join =
     ap (λ (v : World). opened_by v c.args.opener) given
     ∙ (still_open c.end.new.traffic.world p c.args.opener
     ∙ (ap (λ (v : World). opened_by v c.args.opener) (c.end.ensures m) ∙ opened)) in
-    branch_done h w join c.args.block (untouched c.args.registers w) c.args.opener par
+    branch_done h w join ending.block (untouched ending.registers w) c.args.opener par
     c.leave.new.traffic.world row test
     (c.leave.ensures m join par there same refl
     ∙ (ap (λ (v : World). joined h c.args.opener join par v) given

@@ -11,17 +11,18 @@ use Rattle.joins.proofs.ending.end_opener.Goals as goal
 
 pub returns : goal.returns
 returns c = λ join opened same.
-    let m = contents_of c.args.tables.now in
-    let h = here_in m c.args.here.now in
+    let ending = c.args.ending.now in
+    let m = contents_of ending.tables.now in
+    let h = here_in m ending.here.now in
+    let p = ending.here.now.process in
     let w = c.args.traffic.now.world in
     let par = par_of c.in-Some.par.now in
     let row : slice_get m.pars join.row ≡ Some par =
     ap (λ (o : Open). slice_get m.pars o.row) (sym same) ∙ c.in-Some.ensures in
-    let test : ((join.block == c.args.block) && (join.started == length par.branches)) ≡ true =
-    ap (λ (o : Open). (o.block == c.args.block) && (o.started == length par.branches)) (sym same)
+    let test : ((join.block == ending.block) && (join.started == length par.branches)) ≡ true =
+    ap (λ (o : Open). (o.block == ending.block) && (o.started == length par.branches)) (sym same)
     ∙ (sym c.is_whole.ensures ∙ c.if-not-is_whole.false) in
-    let there : opened_by c.end.new.traffic.world c.args.here.now.process ≡ Some join =
-    ap (λ (v : World). opened_by v c.args.here.now.process) (c.end.ensures m) ∙ opened in
-    own_done h w join c.args.block (untouched c.args.registers w) par c.leave.new.traffic.world row test
-    (c.leave.ensures m join par there same refl
-    ∙ ap (λ (v : World). joined h c.args.here.now.process join par v) (c.end.ensures m))
+    let there : opened_by c.end.new.traffic.world p ≡ Some join =
+    ap (λ (v : World). opened_by v p) (c.end.ensures m) ∙ opened in
+    own_done h w join ending.block (untouched ending.registers w) par c.leave.new.traffic.world row test
+    (c.leave.ensures m join par there same refl ∙ ap (λ (v : World). joined h p join par v) (c.end.ensures m))

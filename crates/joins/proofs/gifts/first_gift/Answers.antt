@@ -11,31 +11,34 @@ use Rattle.joins.proofs.gifts.first_gift.Goals as goal
 
 pub returns-in_err-gift-clause-finds : goal.returns-in_err-gift-clause-finds
 returns-in_err-gift-clause-finds c =
-    let here = c.args.here.now in
+    let start = c.args.start.now in
+    let here = start.here.now in
     hands_on Gift _ here c.from_residual-in_err-gift.result c.in_err-gift.field-0.0 _ _
     c.from_residual-in_err-gift.ensures.1
-    (tests_planned c.args.module.now here.process _ _ _ (found_view c.args.found) c.tables.ensures.contents
+    (tests_planned start.module.now here.process _ _ _ (found_view start.found) c.tables.ensures.contents
     c.store-store.ensures.memory
     (c.held-holding.ensures ∙ ap (λ (roles : List Role). holding_at roles here.process) c.store-store.ensures.roles)
-    (c.parameters-parameters.ensures ∙ ap (parameters_at c.args.module.now) c.from.ensures)
-    c.in_ok-opening.ensures c.args.workspace) c.in_err-gift.ensures.finds
+    (c.parameters-parameters.ensures ∙ ap (parameters_at start.module.now) c.from.ensures)
+    c.in_ok-opening.ensures start.workspace) c.in_err-gift.ensures.finds
 
 pub returns-clause-finds : goal.returns-clause-finds
 returns-clause-finds c =
-    let here = c.args.here.now in
-    sym (tests_planned c.args.module.now here.process _ _ _ (found_view c.args.found) c.tables.ensures.contents
+    let start = c.args.start.now in
+    let here = start.here.now in
+    sym (tests_planned start.module.now here.process _ _ _ (found_view start.found) c.tables.ensures.contents
     c.store-store.ensures.memory
     (c.held-holding.ensures ∙ ap (λ (roles : List Role). holding_at roles here.process) c.store-store.ensures.roles)
-    (c.parameters-parameters.ensures ∙ ap (parameters_at c.args.module.now) c.from.ensures)
-    c.in_ok-opening.ensures c.args.workspace)
+    (c.parameters-parameters.ensures ∙ ap (parameters_at start.module.now) c.from.ensures)
+    c.in_ok-opening.ensures start.workspace)
     ∙ c.in_ok-gift.ensures.finds
 
 pub returns-clause-gift : goal.returns-clause-gift
 returns-clause-gift c =
+    let start = c.args.start.now in
     let w = c.args.traffic.now.world in
-    let here = c.args.here.now in
-    let f = found_view c.args.found in
-    let m = c.args.module.now in
+    let here = start.here.now in
+    let f = found_view start.found in
+    let m = start.module.now in
     let plan = first_plan m here.process here.task.registers.workspace (holding_at w.roles here.process) w.memory f in
     let held =
     c.held-holding.ensures ∙ ap (λ (roles : List Role). holding_at roles here.process) c.store-store.ensures.roles in

@@ -13,9 +13,10 @@ use Rattle.joins.proofs.gifts.next_gift.Goals as goal
 pub returns-clause-gift : goal.returns-clause-gift
 returns-clause-gift c =
     let m = contents_of c.args.tables.now in
+    let start = c.args.start.now in
     let join = c.args.join.now in
-    let par = par_of c.args.found.par.now in
-    let b = branch_of c.args.found.branch.now in
+    let par = par_of start.found.par.now in
+    let b = branch_of start.found.branch.now in
     let plan : Plan = record {
       row = join.row;
       par = par;
@@ -31,8 +32,8 @@ returns-clause-gift c =
     c.in_ok-share.ensures
     ∙ (ap (λ (ps : List Parameter). share_of join.base ps c.deref.result.now b) c.requires.parameters
     ∙ ap (λ (l : List (Option ℕ)). share_of join.base (parameters_at m par.context) l b) c.deref.ensures.value) in
-    let next : c.args.found.number ≡ join.started =
-    next_number c.args.end plan (found_view c.args.found) c.args.workspace c.in_ok-test_later.ensures in
+    let next : start.found.number ≡ join.started =
+    next_number c.args.end plan (found_view start.found) start.workspace c.in_ok-test_later.ensures in
     record {
       block = c.block_of.ensures;
       started = ap (λ (n : ℕ). n + 1) next;
