@@ -7,6 +7,7 @@ pub mod LowestOfBoth
 pub mod ConstantOperands
 pub mod FaultsInOrder
 pub mod OneAfterAnother
+pub mod FormalsNamed
 pub mod LowestOfMany
 pub mod ActualsFollowed
 pub mod DeclarationsWalked

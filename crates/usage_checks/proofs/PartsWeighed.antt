@@ -70,13 +70,6 @@ end_both sum (m ∷ ms) ns =
 
 -- ---- parts in a row
 
-pub weighs_none : (s : Weight) → Weighs s s []
-weighs_none s = record {
-  complete = λ e. e;
-  sum = λ e. ap capped (sym (add-zero s.sum));
-  over = λ e. or_none s.over;
-}
-
 pub weighs_both : {s t w : Weight} {ms ns : List Measured} → Weighs s t ms → Weighs t w ns → Weighs s w (ms ++ ns)
 weighs_both {s} {t} {w} {ms} {ns} a b = record {
   complete = λ e. a.complete (b.complete e);
@@ -99,9 +92,6 @@ weighs_if {s} {t} same a = record {
   sum = λ e. a.sum e ∙ ap (λ ms. capped (s.sum + total ms)) (same e);
   over = λ e. a.over e ∙ ap (λ ms. option_or s.over (end_in s.sum ms)) (same e);
 }
-
-pub weighs_failed : {s t : Weight} {ms : List Measured} → t.complete ≡ false → Weighs s t ms
-weighs_failed failed = record { complete = λ e. cc; sum = λ e. cc; over = λ e. cc }
 
 -- ---- lines
 

@@ -11,9 +11,6 @@ use Rattle.usage_checks.specs.Extending.{Extends}
 
 -- ---- entries more
 
-pub extends_none : (k l : Known) → l.entries ≡ k.entries → l.blocks ≡ k.blocks → Extends k l
-extends_none k l is same = record { inner = []; entries = is; blocks = same }
-
 pub extends_one : (k l : Known) (e : Entry) → l.entries ≡ e ∷ k.entries → l.blocks ≡ k.blocks → Extends k l
 extends_one k l e is same = record { inner = e ∷ []; entries = is; blocks = same }
 

@@ -2,7 +2,7 @@
 use Rattle.std.proofs.Common.{◌≡◌, ℕ, suc, ◌+◌, ◌<◌, List, [], ◌∷◌, ◌++◌, length, map, take, get_or, sum_by, sym, ap}
 use Rattle.std.proofs.Common.{◌∙◌, arith, add-zero}
 use Rattle.std.proofs.lemmas.List.{length-take, length-map}
-use Rattle.std.proofs.lemmas.List.Sums.{sum_by-cons, sum_by_push}
+use Rattle.std.proofs.lemmas.List.Sums.{sum_by-cons}
 use Rattle.occam_parser.specs.declared.tree.Expr.{Expr}
 use Rattle.occam_parser.specs.Expressions.{Expression, Terms, Then, Term}
 use Rattle.occam_parser.specs.Views.{expression_of, with_others}
@@ -11,14 +11,6 @@ use Rattle.scalar_ranges.specs.Environments.{item_at}
 use Rattle.usage_checks.specs.Signatures.{Parameter}
 use Rattle.usage_checks.specs.Sizes.{size_of_terms, size_of_term, ends_of_actual, ends_of_actuals}
 use Rattle.usage_checks.proofs.OneAfterAnother.{seen_more}
-
--- ---- loops
-
-pub sum_next : {A B : Type 0} (f : B → ℕ) (view : A → B) (xs : List A) (i : ℕ) (x d : A) → i < length xs
-    → x ≡ get_or xs i d
-    → sum_by f (map view (take i xs)) + f (view x) ≡ sum_by f (map view (take (i + 1) xs))
-sum_next f view xs i x d h is =
-    sym (sum_by_push f (map view (take i xs)) (view x)) ∙ ap (sum_by f) (seen_more view xs i x d h is)
 
 -- ---- chains
 

@@ -1,16 +1,14 @@
 -- What is collected of a process step by step is what it uses, and its scope is left as it was.
-use Rattle.std.proofs.Common.{◌≡◌, ℕ, suc, ℤ, ◌+◌, ◌<◌, ◌≤◌, Bool, true, false, cond, List, [], ◌∷◌, ◌++◌, length, map}
-use Rattle.std.proofs.Common.{take, get_or, max, nat_lt, Option, refl, sym, ap, arith, ◌∙◌, append_assoc, add-one}
-use Rattle.std.proofs.lemmas.Bool.Decides.{nat_tests}
-use Rattle.std.proofs.lemmas.List.{length-append, take_all}
+use Rattle.std.proofs.Common.{◌≡◌, ℕ, ℤ, ◌+◌, ◌<◌, ◌≤◌, Bool, List, [], ◌∷◌, ◌++◌, length, map}
+use Rattle.std.proofs.Common.{take, get_or, Option, refl, sym, ap, ◌∙◌, append_assoc, add-one}
+use Rattle.std.proofs.lemmas.List.{take_all}
 use Rattle.occam_parser.specs.Lines.{Declaration, Replicator}
 use Rattle.occam_parser.specs.Blocks.{Does, Construct, Body, One, Part, Component}
 use Rattle.occam_parser.specs.BlockReading.{with_declarations}
 use Rattle.occam_parser.specs.BlockViews.{all_of}
 use Rattle.occam_parser.proofs.SeenBlocks.{all_push}
 use Rattle.scalar_ranges.specs.Entries.{Entry}
-use Rattle.scalar_ranges.specs.MoveLaws.{shape}
-use Rattle.scalar_ranges.specs.Moves.{outermost, begun_with, leave, Block, Known}
+use Rattle.scalar_ranges.specs.Moves.{leave, Known}
 use Rattle.scalar_ranges.specs.Nesting.{AreNested}
 use Rattle.usage_checks.specs.declared.uses.Use.{Use}
 use Rattle.usage_checks.specs.declared.uses.Uses.{Uses}
@@ -22,6 +20,7 @@ use Rattle.usage_checks.specs.Indices.{is_sequence, turns_of, in_turns}
 use Rattle.usage_checks.specs.Processes.{Collects, in_turn, uses_of, uses_of_construct, uses_of_body}
 use Rattle.usage_checks.specs.Processes.{uses_of_components, uses_of_component, uses_of_one}
 use Rattle.usage_checks.proofs.Adding.{taken_one, adds_both, adds_as}
+use Rattle.usage_checks.proofs.ScopesExtended.{left_again}
 
 -- ---- declarations, and then a construct
 
@@ -85,48 +84,11 @@ body_in_turns a es line r (One kind c) = refl
 
 -- ---- the scope that is left
 
-shape_long : (es : List Entry) → length (shape es) ≡ length es
-shape_long [] = refl
-shape_long (e ∷ es) = ap suc (shape_long es)
-
-cut_by : (t : Bool) (count : ℕ) (e : Entry) (es : List Entry) → length (outermost count es) ≤ length es
-    → length (cond t (e ∷ es) (outermost count es)) ≤ suc (length es)
-cut_by true count e es h = omega arith
-cut_by false count e es h = omega arith
-
-cut_long : (count : ℕ) (es : List Entry) → length (outermost count es) ≤ length es
-cut_long count [] = omega arith
-cut_long count (e ∷ es) = cut_by (nat_lt (length es) count) count e es (cut_long count es)
-
-begun_within : (es : List Entry) (bs : List Block) → AreNested es bs → begun_with bs ≤ length es
-begun_within es [] nested = omega arith
-begun_within es (b ∷ bs) nested =
-    let same = sym (shape_long b.start) ∙ ap length nested.0 ∙ shape_long (outermost (length b.start) es) in
-    omega (arith, same, cut_long (length b.start) es)
-
-all_outermost : (es : List Entry) → outermost (length es) es ≡ es
-all_outermost [] = refl
-all_outermost (e ∷ es) =
-    let t : nat_lt (length es) (suc (length es)) ≡ true = grind (arith, nat_tests) in
-    ap (λ t. cond t (e ∷ es) (outermost (suc (length es)) es)) t
-
-inner_cut : (inner es : List Entry) → outermost (length es) (inner ++ es) ≡ es
-inner_cut [] es = all_outermost es
-inner_cut (e ∷ inner) es =
-    let long = length-append inner es in
-    let t : nat_lt (length (inner ++ es)) (length es) ≡ false = grind (arith, nat_tests) in
-    ap (λ t. cond t (e ∷ inner ++ es) (outermost (length es) (inner ++ es))) t ∙ inner_cut inner es
-
 -- what was entered since the scope was so long is left
 pub left_as_before : {s : Uses} {wanted : List Entry} (old entered before after : Known) (count : ℕ)
     → AreNested old.entries old.blocks → count ≡ length old.entries → Enters s old.entries entered.entries wanted
     → entered.blocks ≡ old.blocks → before ≡ entered
     → after.entries ≡ leave count before.blocks before.entries → after.blocks ≡ before.blocks → after ≡ old
 left_as_before old entered before after count nested is enters blocks same left kept =
-    let most : max count (begun_with old.blocks) ≡ length old.entries =
-    omega (arith, begun_within old.entries old.blocks nested) in
-    let entries = left ∙ (λ i. leave count (same i).blocks (same i).entries)
-    ∙ (λ i. leave count (blocks i) (enters.kept i)) ∙ ap (λ n. outermost n (enters.inner ++ old.entries)) most
-    ∙ inner_cut enters.inner old.entries in
-    let outer = kept ∙ ap (λ k. k.blocks) same ∙ blocks in
-    λ i. record { entries = entries i; blocks = outer i }
+    left_again old entered before after count nested is
+    (record { inner = enters.inner; entries = enters.kept; blocks = blocks }) same left kept

@@ -1,28 +1,19 @@
-use Rattle.std.proofs.Common.{◌≡◌, ◌≤◌, ℕ, List, length, map, get_or, arith, ap, sym, subst, ◌∙◌, refl}
-use Rattle.std.proofs.lemmas.List.{take_all, length-map, get_or-map}
+use Rattle.std.proofs.Common.{◌≤◌, ℕ, List, length, map, arith, subst, refl}
+use Rattle.std.proofs.lemmas.List.{take_all}
 use Rattle.occam_parser.specs.declared.tree.Formal as code_formal
 use Rattle.occam_parser.specs.LineViews.{formal_of}
 use Rattle.scalar_ranges.specs.Scopes.{entries_of, known_of}
 use Rattle.usage_checks.specs.Declaring.{add, formal_meaning}
-use Rattle.usage_checks.specs.FormalRules.{parameter_for}
 use Rattle.usage_checks.specs.NameRules.{BreaksName, with_entries}
-use Rattle.usage_checks.specs.Signatures.{parameter_of}
 use Rattle.usage_checks.specs.Telling.{Walks}
 use Rattle.usage_checks.proofs.FaultsInOrder.{walks_moved}
-use Rattle.usage_checks.proofs.OneAfterAnother.{same_at, WalksOver, walks_next}
+use Rattle.usage_checks.proofs.FormalsNamed.{as_many, stands_for}
+use Rattle.usage_checks.proofs.OneAfterAnother.{WalksOver, walks_next}
 use Rattle.usage_checks.proofs.telling.Findings.walk_formals.Goals as goal
 
 pub bounds-parameters-place : goal.bounds-parameters-place
 bounds-parameters-place c =
-    let formals = map formal_of c.args.formals.now in
-    let outer = entries_of c.args.scope.now in
-    omega (
-      arith,
-      length-map c.args.parameters.now parameter_of,
-      ap length c.requires,
-      length-map formals (parameter_for outer),
-      length-map c.args.formals.now formal_of,
-    )
+    omega (arith, as_many (entries_of c.args.scope.now) c.args.formals.now c.args.parameters.now c.requires)
 
 pub loop-place-init : goal.loop-place-init
 loop-place-init c = walks_moved c.args.self.now (known_of c.args.scope.now) (known_of c.args.scope.now) refl
@@ -31,22 +22,13 @@ pub loop-place-preserved : goal.loop-place-preserved
 loop-place-preserved c =
     let outer = entries_of c.args.scope.now in
     let fs = c.args.formals.now in
-    let ps = c.args.parameters.now in
     let i = c.loop-place.place in
     let x = c.index-formals-place.result in
-    let p = c.index-parameters-place.result in
-    let seen : formal_of x ≡ get_or (map formal_of fs) i (formal_of x) =
-    sym (get_or-map formal_of fs i x (formal_of x) (omega arith) ∙ ap formal_of (sym c.index-formals-place.is)) in
-    let long : length ps ≡ length fs =
-    sym (length-map ps parameter_of) ∙ ap length c.requires ∙ length-map (map formal_of fs) (parameter_for outer)
-    ∙ length-map fs formal_of in
-    let same = same_at parameter_of (parameter_for outer) ps (map formal_of fs) i p (formal_of x) c.requires
-    (omega (arith, long)) c.index-parameters-place.is (omega (arith, length-map fs formal_of)) seen in
+    let means = stands_for outer fs c.args.parameters.now i x c.index-parameters-place.result c.requires (omega arith)
+    c.index-formals-place.is c.index-parameters-place.is in
     let step = subst (λ m. Walks c.loop-place.self c.walk_name.new.self (known_of c.walk_name.new.scope)
     (with_entries (add x.name.now m) (known_of c.loop-place.scope))
-    (BreaksName c.len-first.result c.args.line x.name.now (entries_of c.loop-place.scope)))
-    (ap (λ q. (parameter_of q).meaning) (sym c.index-parameters-place.is) ∙ ap (λ q. q.meaning) same)
-    c.walk_name.ensures in
+    (BreaksName c.len-first.result c.args.line x.name.now (entries_of c.loop-place.scope))) means c.walk_name.ensures in
     walks_next (λ f. add f.name (formal_meaning outer f)) (λ f. BreaksName c.len-first.result c.args.line f.name)
     formal_of fs i x x (known_of c.args.scope.now) (omega arith) c.index-formals-place.is c.loop-place.invariant step
 
