@@ -5,6 +5,8 @@ use Rattle.machine_state.specs.Memory.{Memory}
 use Rattle.machine_state.specs.World.{World, Counters}
 use Rattle.machine_state.specs.declared.link.Link.{Link}
 use Rattle.machine_state.specs.declared.process.Exchange.{Exchange}
+use Rattle.machine_state.specs.declared.process.Registers.{Registers}
+use Rattle.machine_state.specs.Asking.{scheduled}
 use Rattle.machine_state.specs.Exchanges.{sent}
 use Rattle.machine_state.specs.LocalStep.{are_defined}
 use Rattle.machine_state.specs.Moves.{counted, dispatch}
@@ -17,44 +19,60 @@ use Rattle.channels.specs.declared.stop.Stop.TheVariants as stops
 use Rattle.channels.specs.Beside.{beside, counted_beside, CountsBeside}
 use Rattle.module_format.specs.Contents.{Contents}
 use Rattle.channels.specs.declared.here.Here.{Here as Instance}
-use Rattle.channels.specs.Settling.{here_in, Settles}
+use Rattle.channels.specs.declared.message.Message.{Message}
+use Rattle.channels.specs.Settling.{here_in, turn_for, Settles}
 use Rattle.machine.specs.declared.checked.act.Act.{Act}
 use Rattle.machine.specs.Applying.{Applies, Grants, ran_by, world_by}
 
-module _ (turn : World → Turn) (counts : CountsBeside turn) (c : Counters) (f : Option Fault)
-    (before after : World) where
-  pub granted_beside : (result : Result Act Stop) → Grants before after result (turn before)
-      → Applies (beside c f before) (world_by result (beside c f after)) result (turn (beside c f before))
-  granted_beside (Ok act) grants = (counts c f before ∙ ap (counted_beside c f) grants.0, grants.1)
-  granted_beside (Err (stops.Fault fault)) grants =
-      rw grants.1 (counts c f before ∙ ap (counted_beside c f) grants.0)
-  granted_beside (Err stops.Memory) grants = ap (beside c f) grants
-
-  pub settled_beside : (result : Result (Unit {0}) Fault) → Settles before after ran result (turn before)
-      → Applies (beside c f before) (world_by (ran_by result) (beside c f after)) (ran_by result)
-      (turn (beside c f before))
-  settled_beside (Ok done) settles = (counts c f before ∙ ap (counted_beside c f) settles, tt)
-  settled_beside (Err fault) settles = rw settles.1 (counts c f before ∙ ap (counted_beside c f) settles.0)
-
-  -- and once the machine has kept the answer
-  pub granted_kept : (result : Result Act Stop) → Grants before after result (turn before)
-      → (kept : Result Act Stop) (later : World) → kept ≡ result → later ≡ world_by result (beside c f after)
-      → Applies (beside c f before) later kept (turn (beside c f before))
-  granted_kept result grants kept later same is = rw (same, is) (granted_beside result grants)
-
-  pub settled_kept : (result : Result (Unit {0}) Fault) → Settles before after ran result (turn before)
-      → (kept : Result Act Stop) (later : World) → kept ≡ ran_by result
-      → later ≡ world_by (ran_by result) (beside c f after)
-      → Applies (beside c f before) later kept (turn (beside c f before))
-  settled_kept result settles kept later same is = rw (same, is) (settled_beside result settles)
+granted_beside : (turn : World → Turn) → CountsBeside turn → (c : Counters) (f : Option Fault) (before after : World)
+    (result : Result Act Stop) → Grants before after result (turn before)
+    → Applies (beside c f before) (world_by result (beside c f after)) result (turn (beside c f before))
+granted_beside turn counts c f before after (Ok act) grants =
+    (counts c f before ∙ ap (counted_beside c f) grants.0, grants.1)
+granted_beside turn counts c f before after (Err (stops.Fault fault)) grants =
+    rw grants.1 (counts c f before ∙ ap (counted_beside c f) grants.0)
+granted_beside turn counts c f before after (Err stops.Memory) grants = ap (beside c f) grants
 
 -- the same turn, however its module and the world before are named
-pub in_place : (turn : Here → Memory → World → Turn) (h : Instance) (m n : Contents) (v w after : World)
+in_place : (turn : Here → Memory → World → Turn) (h : Instance) (m n : Contents) (v w after : World)
     (result : Result Act Stop) → n ≡ m → v ≡ w → Applies w after result (turn (here_in n h) w.memory w)
     → Applies v after result (turn (here_in m h) v.memory v)
 in_place turn h m n v w after result modules worlds applies =
     subst (λ (c : Contents). Applies v after result (turn (here_in c h) v.memory v)) modules
     (subst (λ (u : World). Applies u after result (turn (here_in n h) u.memory u)) (sym worlds) applies)
+
+-- What is granted, once the machine has kept the answer, as the module and the worlds are named there.
+module _ (h : Instance) (m : Contents) (c : Counters) (f : Option Fault) (before world later kept_in : World)
+    (granted kept : Result Act Stop) (worlds : world ≡ beside c f before) (same : kept ≡ granted)
+    (is : later ≡ world_by granted kept_in) (n : Contents) (modules : n ≡ m) where
+  pub granted_here : (turn : Here → Memory → World → Turn) → CountsBeside (turn (here_in n h) before.memory)
+      → (after : World) (result : Result Act Stop)
+      → Grants before after result (turn (here_in n h) before.memory before)
+      → granted ≡ result → kept_in ≡ beside c f after → Applies world later kept (turn (here_in m h) world.memory world)
+  granted_here turn counts after result grants by there =
+      let last : later ≡ world_by result (beside c f after) =
+      is ∙ (ap (λ (r : Result Act Stop). world_by r kept_in) by ∙ ap (world_by result) there) in
+      in_place turn h m n world (beside c f before) later kept modules worlds (rw (same ∙ by, last)
+      (granted_beside (turn (here_in n h) before.memory) counts c f before after result grants))
+
+  -- of a message, received or sent
+  pub message_here : (turn : Here → Exchange → Local → World → Turn)
+      → ((h : Here) (e : Exchange) (l : Local) → CountsBeside (turn h e l))
+      → (e : Exchange) (registers : Registers) (message : Message)
+      → message ≡ record { here = h; exchange = e; registers = registers }
+      → (after : World) (result : Result Act Stop) → Grants before after result (turn_for turn n message before)
+      → granted ≡ result → kept_in ≡ beside c f after
+      → Applies world later kept (turn (here_in m h) e (scheduled registers world.memory) world)
+  message_here turn counts e registers message made after result grants =
+      granted_here (λ (h : Here) (m : Memory). turn h e (scheduled registers m))
+      (counts (here_in n h) e (scheduled registers before.memory)) after result
+      (subst (λ (x : Message). Grants before after result (turn_for turn n x before)) made grants)
+
+-- what settles with no effect of its own is granted
+pub settles_granted : (before after : World) (turn : Turn) (result : Result (Unit {0}) Fault)
+    → Settles before after ran result turn → Grants before after (ran_by result) turn
+settles_granted before after turn (Ok done) settles = (settles, tt)
+settles_granted before after turn (Err fault) settles = settles
 
 -- ---- what goes out
 

@@ -20,7 +20,7 @@ use alternation::{
 use certificate::{Module, Tables};
 use channels::{Delivery, Here, Message, Stop, messages_read_no_counters};
 use joins::{join, joins_read_no_counters, starts_read_no_counters};
-use machine_state::{Fault, Registers, Request};
+use machine_state::{Exchange, Fault, Registers, Request};
 use std::alloc::Global;
 
 /// What an instruction did that was granted, or is at fault.
@@ -29,6 +29,17 @@ fn ran(granted: Result<(), Fault>) -> Result<Act, Stop>
 {
     granted?;
     Ok(Act::Ran)
+}
+
+/// The message that a process asks for at this instruction, after which it goes on with these registers.
+fn message(here: &Here, exchange: Exchange, registers: Registers) -> Message
+    ensures { result ≡ record { here = here.now; exchange = exchange; registers = registers } }
+{
+    Message {
+        here: *here,
+        exchange,
+        registers,
+    }
 }
 
 /// A message is received.
@@ -121,20 +132,10 @@ impl Machine {
         let processes = &mut self.traffic;
         let granted = match request {
             Request::Receive(exchange) => {
-                let message = Message {
-                    here: *here,
-                    exchange,
-                    registers,
-                };
-                receive(processes, tables, &message)
+                receive(processes, tables, &message(here, exchange, registers))
             }
             Request::Send(exchange) => {
-                let message = Message {
-                    here: *here,
-                    exchange,
-                    registers,
-                };
-                send(processes, tables, &message)
+                send(processes, tables, &message(here, exchange, registers))
             }
             Request::Begin => {
                 begin(processes, here, registers);

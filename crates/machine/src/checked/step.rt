@@ -24,6 +24,15 @@ use prefix_decoder::operand::{after_prefix, with_nibble};
 /// No count of executed bytes goes beyond this.
 const MOST_EXECUTED: u64 = 1 << 63;
 
+/// A Step of a process, which is at a byte of the module's code.
+#[derive(Clone, Copy)]
+struct Stepping<'a, 'm> {
+    module: &'a Module<'m>,
+    here: Here,
+    /// Whether the process goes to the back of the ready list after a jump.
+    slice: bool,
+}
+
 /// The byte of the code at this offset.
 fn byte_at(code: &[u8], at: u32) -> Option<u8>
     ensures { result ≡ slice_get code.now at }
@@ -130,75 +139,62 @@ impl Machine {
     }
 
     /// An instruction was performed: its process goes on after it or elsewhere, stops, or asks something of others.
-    /// With `slice` it goes to the back of the ready list after a jump.
-    fn settle(
-        &mut self,
-        module: &Module<'_>,
-        here: &Here,
-        flow: Flow,
-        registers: Registers,
-        slice: bool,
-    ) -> Result<Act, Stop>
+    fn settle(&mut self, step: &Stepping, flow: Flow, registers: Registers) -> Result<Act, Stop>
         requires executed { self.old.world.counters.executed < most_executed }
-        requires next { here.now.task.registers.at + 1 < 2 ^ 32 }
-        requires task { IsSteady here.now.task }
-        requires room { IsTrue slice → 0 < self.old.room }
-        requires asks { AsksRightly (here_in «module».now here.now) flow registers self.old }
+        requires next { step.now.here.task.registers.at + 1 < 2 ^ 32 }
+        requires task { IsSteady step.now.here.task }
+        requires room { IsTrue step.now.slice → 0 < self.old.room }
+        requires asks { AsksRightly (here_in step.now.module.now step.now.here) flow registers self.old }
         ensures applies { let w = self.old.world in
             let outcome = outcome_of flow registers w.memory in
-            let turn = settled (here_in «module».now here.now) slice outcome w in
+            let turn = settled (here_in step.now.module.now step.now.here) step.now.slice outcome w in
             Applies w self.new.world result turn }
         ensures memory { OnMemory result (IsAsk flow) }
     {
+        let here = &step.here;
         match flow {
             Flow::Next => self.land(here, here.next(), registers),
             Flow::Land { to } => self.land(here, to, registers),
-            Flow::Jump { to } => self.jump(here, to, registers, slice),
-            Flow::Stop => self.stop(module.tables(), here, registers),
-            Flow::Ask(request) => return self.grant(module, here, request, registers),
+            Flow::Jump { to } => self.jump(here, to, registers, step.slice),
+            Flow::Stop => self.stop(step.module.tables(), here, registers),
+            Flow::Ask(request) => return self.grant(step.module, here, request, registers),
         }
         Ok(Act::Ran)
     }
 
     /// An instruction, with its whole operand.
-    fn instruct(
-        &mut self,
-        module: &Module<'_>,
-        here: &Here,
-        fun: Fun,
-        operand: i32,
-        slice: bool,
-    ) -> Result<Act, Stop>
+    fn instruct(&mut self, step: &Stepping, fun: Fun, operand: i32) -> Result<Act, Stop>
         requires executed { self.old.world.counters.executed < most_executed }
-        requires next { here.now.task.registers.at + 1 < 2 ^ 32 }
-        requires task { IsSteady here.now.task }
-        requires room { IsTrue slice → 0 < self.old.room }
-        ensures { let h = here_in «module».now here.now in
+        requires next { step.now.here.task.registers.at + 1 < 2 ^ 32 }
+        requires task { IsSteady step.now.here.task }
+        requires room { IsTrue step.now.slice → 0 < self.old.room }
+        ensures { let h = here_in step.now.module.now step.now.here in
             let w = self.old.world in
-            Applies w self.new.world result (settled h slice (outcome_at h fun operand w) w) }
+            Applies w self.new.world result (settled h step.now.slice (outcome_at h fun operand w) w) }
     {
-        match self.perform(module.tables(), here, fun, operand) {
-            Ok((flow, registers)) => self.settle(module, here, flow, registers, slice),
-            Err(kind) => Err(self.fail_in(here, kind).into()),
+        match self.perform(step.module.tables(), &step.here, fun, operand) {
+            Ok((flow, registers)) => self.settle(step, flow, registers),
+            Err(kind) => Err(self.fail_in(&step.here, kind).into()),
         }
     }
 
     /// The byte at which a process is.
-    fn run_byte(&mut self, module: &Module<'_>, here: &Here, slice: bool) -> Result<Act, Stop>
+    fn run_byte(&mut self, step: &Stepping) -> Result<Act, Stop>
         requires executed { self.old.world.counters.executed < most_executed }
-        requires task { IsSteady here.now.task }
-        requires room { IsTrue slice → 0 < self.old.room }
-        ensures { let h = here_in «module».now here.now in
-            Applies self.old.world self.new.world result (task_turn h slice self.old.world) }
+        requires task { IsSteady step.now.here.task }
+        requires room { IsTrue step.now.slice → 0 < self.old.room }
+        ensures { let h = here_in step.now.module.now step.now.here in
+            Applies self.old.world self.new.world result (task_turn h step.now.slice self.old.world) }
     {
-        let tables = module.tables();
+        let here = &step.here;
+        let tables = step.module.tables();
         let Some(byte) = byte_at(tables.code, here.task.registers.at) else {
             return Err(self.fail_in(here, FaultKind::OutsideCode).into());
         };
         let code = byte >> 4;
         let operand = with_nibble(here.task.registers.operand, byte);
         match Fun::from_code(code) {
-            Some(fun) => self.instruct(module, here, fun, operand, slice),
+            Some(fun) => self.instruct(step, fun, operand),
             None => self.prefix(tables, here, after_prefix(code, operand)),
         }
     }
@@ -227,6 +223,11 @@ impl Machine {
             task,
             pick,
         };
-        self.run_byte(module, &here, slice)
+        let step = Stepping {
+            module,
+            here,
+            slice,
+        };
+        self.run_byte(&step)
     }
 }

@@ -11,15 +11,15 @@ use Rattle.machine.proofs.checked.machine.Machine.instruct.Goals as goal
 pub returns-in-Ok : goal.returns-in-Ok
 returns-in-Ok c =
     let performs = c.in-Ok.ensures.performs in
-    let mine = c.args.module.now in
+    let step = c.args.step.now in
+    let mine = step.module.now in
     let theirs = contents_of c.tables.result.now in
     let w = c.args.self.now.world in
     let later = c.settle.new.self.world in
     let turn = λ (m : Contents) (operand : ℤ).
-    settled (here_in mine c.args.here.now) c.args.slice
-    (outcome_at (here_in m c.args.here.now) c.args.fun operand w) w in
+    settled (here_in mine step.here) step.slice (outcome_at (here_in m step.here) c.args.fun operand w) w in
     subst (λ (m : Contents). Applies w later c.settle.result (turn m c.args.operand)) c.tables.ensures.contents
     (subst (λ (operand : ℤ). Applies w later c.settle.result (turn theirs operand))
     (to_z-of_z w32 c.args.operand (search rules))
-    (rest_is_whole (here_in mine c.args.here.now) c.args.slice w c.perform.new.self.world later c.in-Ok.registers _
+    (rest_is_whole (here_in mine step.here) step.slice w c.perform.new.self.world later c.in-Ok.registers _
     c.settle.result c.in-Ok.flow performs.0 performs.1 c.settle.ensures.memory c.settle.ensures.applies))
