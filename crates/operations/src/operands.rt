@@ -15,6 +15,19 @@ pub(crate) fn operand<S>(cpu: &Cpu<S>) -> Result<i32, FaultKind>
     cpu.used(cpu.registers.stack.a)
 }
 
+/// A is popped, if code follows the instruction, else `OutsideCode`.
+pub(crate) fn pop_one<S>(cpu: &mut Cpu<S>) -> Result<Flow, FaultKind>
+    ensures followed { let follows = nat_lt (cpu.old.registers.at + 1) cpu.old.code_length in
+        result ≡ value_or_fault follows Flow.Next FaultKind.OutsideCode }
+    ensures ok { let stack = popped None cpu.old.registers.stack in
+        OnOk result (cpu.new ≡ record cpu.old { registers = record cpu.old.registers { stack = stack } }) }
+    ensures err { OnErr result (cpu.new ≡ cpu.old) }
+{
+    cpu.in_code(cpu.next())?;
+    cpu.registers.stack.pop(None);
+    Ok(Flow::Next)
+}
+
 /// The value takes the place of A and B, if code follows the instruction, else `OutsideCode`.
 pub(crate) fn replace_two<S>(cpu: &mut Cpu<S>, value: i32) -> Result<Flow, FaultKind>
     ensures followed { let follows = nat_lt (cpu.old.registers.at + 1) cpu.old.code_length in
@@ -23,8 +36,7 @@ pub(crate) fn replace_two<S>(cpu: &mut Cpu<S>, value: i32) -> Result<Flow, Fault
         OnOk result (cpu.new ≡ record cpu.old { registers = record cpu.old.registers { stack = stack } }) }
     ensures err { OnErr result (cpu.new ≡ cpu.old) }
 {
-    cpu.in_code(cpu.next())?;
-    cpu.registers.stack.pop(None);
+    let flow = pop_one(cpu)?;
     cpu.registers.stack.a = Some(value);
-    Ok(Flow::Next)
+    Ok(flow)
 }

@@ -3,7 +3,7 @@
 ghost use Rattle.machine_state.specs.declared.op.Op.TheVariants as operation;
 ghost use Rattle.machine_state.specs.Performing.{PerformsOperation};
 
-use crate::operands::{operand, replace_two};
+use crate::operands::{operand, pop_one, replace_two};
 use machine_state::{Cpu, FaultKind, Flow, Store, local_address};
 use word_arithmetic::is_below_unsigned;
 
@@ -34,9 +34,7 @@ pub(crate) fn check_subscript<S: Store>(cpu: &mut Cpu<S>) -> Result<Flow, FaultK
     let bound = operand(cpu)?;
     let subscript = cpu.used(cpu.registers.stack.b)?;
     cpu.check(is_below_unsigned(subscript, bound), FaultKind::ErrorFlag)?;
-    cpu.in_code(cpu.next())?;
-    cpu.registers.stack.pop(None);
-    Ok(Flow::Next)
+    pop_one(cpu)
 }
 
 /// `ccnt1`: A is popped, unless B is 0 or above it, which sets the error flag.
@@ -49,9 +47,7 @@ pub(crate) fn check_count<S: Store>(cpu: &mut Cpu<S>) -> Result<Flow, FaultKind>
         count.cast_unsigned() != 0 && !is_below_unsigned(most, count),
         FaultKind::ErrorFlag,
     )?;
-    cpu.in_code(cpu.next())?;
-    cpu.registers.stack.pop(None);
-    Ok(Flow::Next)
+    pop_one(cpu)
 }
 
 /// `ldpi`: A becomes the address A bytes after the instruction.
