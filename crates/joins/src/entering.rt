@@ -73,9 +73,9 @@ pub(crate) fn advance(traffic: &mut Processes, start: &Start, gift: Later) -> Re
     requires next { start.now.here.now.task.registers.at + 1 < 2 ^ 32 }
     requires task { IsSteady start.now.here.now.task }
     ensures { (m : Contents) (join : Opened) → let w = traffic.old.world in
-        let h = here_in m start.now.here.now in
         let f = found_view start.now.found in
         let plan = later_plan m join f.par in
+        let h = here_in m start.now.here.now in
         let next = started h plan f start.now.workspace (untouched start.now.registers w) w in
         opened_by w h.process ≡ Some join → IsGift m (length w.memory) plan f.branch gift.to gift.own →
         MatchResult result (λ _. traffic.new.world ≡ next) (λ _. traffic.new.world ≡ w) }

@@ -147,20 +147,19 @@ fn first_division(
         let plan = opening_plan opening.now f parameters.now in
         IfOk result (λ g. holding_view g.rest ≡ less (length store.now.cells) plan.rest (share_by plan f.branch)) }
 {
-    let found = start.found;
     let frame = Frame {
         base: opening.base,
         parameters,
         addresses: &opening.addresses,
     };
     let plan = Plan {
-        row: found.row as u32,
-        par: found.par,
+        row: start.found.row as u32,
+        par: start.found.par,
         frame,
         started: 0,
         rest: &opening.rest,
     };
-    let share = share_of(alloc, frame, found.branch)?;
+    let share = share_of(alloc, frame, start.found.branch)?;
     test_first(
         alloc,
         start.here,
@@ -169,7 +168,7 @@ fn first_division(
         holding,
         plan,
         &opening.words,
-        found,
+        start.found,
         &share,
         start.workspace,
     )?;
