@@ -3,12 +3,12 @@
 ghost use Rattle.std.specs.Prelude.{◌≡◌, ◌<◌, ◌^◌, ◌+◌, ◌∷◌, [], IfOk, length};
 ghost use Rattle.module_format.specs.Contents.{contents_of, par_of};
 ghost use Rattle.module_format.specs.Contexts.{parameters_at};
-ghost use Rattle.machine_state.specs.Joins.{first_plan, first_faults, first_fault, frame_address, holding_of};
+ghost use Rattle.machine_state.specs.Joins.{first_faults, first_fault, frame_address, holding_of};
 ghost use Rattle.machine_state.specs.Joins.{later_plan, later_faults, named_from, share_by};
 ghost use Rattle.machine_state.specs.Spans.{less};
 ghost use Rattle.machine_state.specs.Views.{holding_view, join_view};
 ghost use Rattle.machine_state.specs.World.{holding_at};
-ghost use Rattle.joins.specs.Finding.{found_view};
+ghost use Rattle.joins.specs.Finding.{found_view, first_plan_of};
 ghost use Rattle.joins.specs.Gifts.{IsGift, IsFirstGift};
 ghost use Rattle.joins.specs.Opened.{opening_plan};
 ghost use Rattle.joins.specs.Testing.{Finds, later_tests};
@@ -211,19 +211,16 @@ fn first_join(
 pub(crate) fn first_gift(alloc: Global, traffic: &Processes, start: &Start) -> Result<First, Stop>
     requires { start.now.found.row < 2 ^ 32 }
     ensures finds { let w = traffic.now.world in
-        let m = start.now.module.now in
-        let here = start.now.here.now in
+        let holding = holding_at w.roles start.now.here.now.process in
+        let plan = first_plan_of start.now w in
         let f = found_view start.now.found in
-        let holding = holding_at w.roles here.process in
-        let plan = first_plan m here.process here.task.registers.workspace holding w.memory f in
-        Finds here result (first_fault (first_faults m w.memory holding plan f start.now.workspace)) }
+        let tests = first_faults start.now.module.now w.memory holding plan f start.now.workspace in
+        Finds start.now.here.now result (first_fault tests) }
     ensures gift { let w = traffic.now.world in
         let m = start.now.module.now in
-        let here = start.now.here.now in
         let f = found_view start.now.found in
-        let holding = holding_at w.roles here.process in
-        let plan = first_plan m here.process here.task.registers.workspace holding w.memory f in
-        IfOk result (λ x. IsFirstGift m (length w.memory) plan f (length w.tasks) x.join x.own) }
+        IfOk result (λ x.
+        IsFirstGift m (length w.memory) (first_plan_of start.now w) f (length w.tasks) x.join x.own) }
 {
     let here = start.here;
     let found = start.found;

@@ -3,13 +3,13 @@
 ghost use Rattle.std.specs.Prelude.{◌≡◌, ◌<◌, ◌^◌, ◌+◌, Some, None, IfSome, MatchOption, length};
 ghost use Rattle.machine_state.specs.World.{Join as Opened, holding_at};
 ghost use Rattle.machine_state.specs.Turn.{ran};
-ghost use Rattle.machine_state.specs.Joins.{first_plan, first_faults, first_fault, later_plan, opened_by};
+ghost use Rattle.machine_state.specs.Joins.{first_faults, first_fault, later_plan, opened_by};
 ghost use Rattle.machine_state.specs.Joins.{first_start, later_start, start_turn, branch_at, no_row_faults};
 ghost use Rattle.channels.specs.Moment.{IsSteady};
 ghost use Rattle.channels.specs.Settling.{here_in, SettlesIfRoom};
 ghost use Rattle.machine_state.specs.Faults.{fault_in};
 ghost use Rattle.std.specs.Option.{option_map};
-ghost use Rattle.joins.specs.Finding.{found_view};
+ghost use Rattle.joins.specs.Finding.{found_view, first_plan_of};
 ghost use Rattle.joins.specs.Gifts.{IsGift, IsFirstGift};
 ghost use Rattle.joins.specs.Locals.{untouched};
 ghost use Rattle.joins.specs.Testing.{found_start, later_tests};
@@ -58,13 +58,12 @@ fn start_first(traffic: &mut Processes, start: &Start, gift: First) -> Result<()
     requires { IsSteady start.now.here.now.task }
     ensures { let w = traffic.old.world in
         let m = start.now.module.now in
-        let here = start.now.here.now in
+        let h = here_in m start.now.here.now in
         let f = found_view start.now.found in
-        let workspace = start.now.workspace in
-        let holding = holding_at w.roles here.process in
-        let plan = first_plan m here.process here.task.registers.workspace holding w.memory f in
-        let turn = first_start (here_in m here) f workspace (untouched start.now.registers w) w in
-        first_fault (first_faults m w.memory holding plan f workspace) ≡ None →
+        let holding = holding_at w.roles h.process in
+        let plan = first_plan_of start.now w in
+        let turn = first_start h f start.now.workspace (untouched start.now.registers w) w in
+        first_fault (first_faults m w.memory holding plan f start.now.workspace) ≡ None →
         IsFirstGift m (length w.memory) plan f (length w.tasks) gift.join gift.own →
         SettlesIfRoom (λ done. ran) w traffic.new.world result turn }
 {

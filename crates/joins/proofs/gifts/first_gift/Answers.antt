@@ -1,9 +1,9 @@
 use Rattle.std.proofs.Common.{◌∙◌, List, length, sym, ap}
 use Rattle.module_format.specs.Contexts.{parameters_at}
-use Rattle.machine_state.specs.Joins.{join_after, first_plan}
+use Rattle.machine_state.specs.Joins.{join_after}
 use Rattle.machine_state.specs.Views.{holding_view, join_view}
 use Rattle.machine_state.specs.World.{Role, holding_at}
-use Rattle.joins.specs.Finding.{found_view}
+use Rattle.joins.specs.Finding.{found_view, first_plan_of}
 use Rattle.joins.specs.declared.testing.Gift.{Gift}
 use Rattle.joins.proofs.Planned.{tests_planned, own_planned, join_planned}
 use Rattle.joins.proofs.Settled.{hands_on}
@@ -39,7 +39,6 @@ returns-clause-gift c =
     let here = start.here.now in
     let f = found_view start.found in
     let m = start.module.now in
-    let plan = first_plan m here.process here.task.registers.workspace (holding_at w.roles here.process) w.memory f in
     let held =
     c.held-holding.ensures ∙ ap (λ (roles : List Role). holding_at roles here.process) c.store-store.ensures.roles in
     let named = c.parameters-parameters.ensures ∙ ap (parameters_at m) c.from.ensures in
@@ -48,7 +47,7 @@ returns-clause-gift c =
           join_planned m here.process _ _ _ f c.tables.ensures.contents c.store-store.ensures.memory held named
           c.in_ok-opening.ensures c.count-branch.result (holding_view c.in_ok-gift.gift.rest)
           (join_view c.in_ok-join.join) c.in_ok-gift.ensures.rest c.in_ok-join.ensures
-          ∙ ap (join_after (length w.memory) plan f) c.count-branch.ensures;
+          ∙ ap (join_after (length w.memory) (first_plan_of start w) f) c.count-branch.ensures;
       own =
           c.in_ok-gift.ensures.own
           ∙ own_planned m here.process _ _ _ f c.tables.ensures.contents c.store-store.ensures.memory held named

@@ -1,8 +1,8 @@
 use Rattle.std.proofs.Common.{◌≡◌, ◌+◌, true, nat_lt, length, refl}
-use Rattle.machine_state.specs.Joins.{first_plan, first_faults, started, opened}
+use Rattle.machine_state.specs.Joins.{first_faults, started, opened}
 use Rattle.machine_state.specs.World.{holding_at}
 use Rattle.channels.specs.Settling.{here_in}
-use Rattle.joins.specs.Finding.{found_view}
+use Rattle.joins.specs.Finding.{found_view, first_plan_of}
 use Rattle.joins.specs.Locals.{untouched}
 use Rattle.joins.proofs.Settled.{out_of_memory, is_done, test_passed}
 use Rattle.joins.proofs.starting.start_first.Goals as goal
@@ -10,13 +10,10 @@ use Rattle.joins.proofs.starting.start_first.Goals as goal
 pub returns-in_err-open : goal.returns-in_err-open
 returns-in_err-open c = λ passes gives.
     let start = c.args.start.now in
-    let here = start.here.now in
     let w = c.args.traffic.now.world in
-    let holding = holding_at w.roles here.process in
-    let f = found_view start.found in
-    let plan = first_plan start.module.now here.process here.task.registers.workspace holding w.memory f in
     out_of_memory c.from_residual-in_err-open.result w c.open.new.traffic.world _ c.from_residual-in_err-open.ensures.0
-    c.from_residual-in_err-open.ensures.1 (c.in_err-open.ensures start.module.now plan refl gives)
+    c.from_residual-in_err-open.ensures.1
+    (c.in_err-open.ensures start.module.now (first_plan_of start w) refl gives)
 
 pub returns : goal.returns
 returns c = λ passes gives.
@@ -25,11 +22,10 @@ returns c = λ passes gives.
     let here = start.here.now in
     let w = c.args.traffic.now.world in
     let f = found_view start.found in
-    let holding = holding_at w.roles here.process in
-    let plan = first_plan m here.process here.task.registers.workspace holding w.memory f in
+    let plan = first_plan_of start w in
     let there = opened (here_in m here) plan (untouched start.registers w) w in
     let follows : nat_lt (here.task.registers.at + 1) (length m.code) ≡ true =
     test_passed _ _ c.in_ok-check_followed.field-0 c.in_ok-check_followed.ensures.followed in
-    is_done m here w (first_faults m w.memory holding plan f start.workspace)
+    is_done m here w (first_faults m w.memory (holding_at w.roles here.process) plan f start.workspace)
     (started (here_in m here) plan f start.workspace there.0 there.1) c.open.new.traffic.world passes follows
     (c.in_ok-open.ensures m plan refl gives)
