@@ -4,7 +4,7 @@ ghost use Rattle.std.specs.Prelude.{◌≡◌, IfOk, IfErr, Some, false, option_
 ghost use Rattle.clap.specs.Simple.{app_of, shape_of, subcommand_rows_of, with_subcommand};
 ghost use Rattle.clap.specs.declared.builder.command.Command.TheViews.{out-Command as fields_of};
 ghost use Rattle.clap.specs.Walk.{texts};
-ghost use Rattle.tpm.specs.CommandLine.{asked_of, entered_by, line_of, subcommand_shape, tpm};
+ghost use Rattle.tpm.specs.CommandLine.{asked_of, entered_by, line_of, named, subcommand_shape, tpm};
 ghost use Rattle.tpm.specs.LineFaults.{IsFaultAt};
 
 use crate::line::{Line, LineFault};
@@ -48,6 +48,18 @@ fn command<'a>(alloc: Global) -> Result<Command<'a>, AllocError>
     with_subcommand(alloc, tpm, "list", "Lists the instructions of a module")
 }
 
+/// What the subcommand of this name asks for with this path.
+fn line_named<'a>(name: &str, path: &'a str) -> Option<Line<'a>>
+    ensures { option_map asked_of result ≡ named name.now path.now }
+{
+    match name {
+        "verify" => Some(Line::Verify { path }),
+        "run" => Some(Line::Run { path }),
+        "list" => Some(Line::List { path }),
+        _ => None,
+    }
+}
+
 /// What the matches ask for.
 fn asked<'a>(matches: &ArgMatches<'a>) -> Option<Line<'a>>
     ensures { let found = subcommand_rows_of matches.now in
@@ -55,12 +67,7 @@ fn asked<'a>(matches: &ArgMatches<'a>) -> Option<Line<'a>>
 {
     let (name, given) = matches.subcommand()?;
     let path = given.get_str("MOD")?;
-    match name {
-        "verify" => Some(Line::Verify { path }),
-        "run" => Some(Line::Run { path }),
-        "list" => Some(Line::List { path }),
-        _ => None,
-    }
+    line_named(name, path)
 }
 
 /// What the words of a command line ask for, of which the first is the program's name: `verify MOD`,

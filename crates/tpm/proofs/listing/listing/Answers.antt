@@ -1,4 +1,4 @@
-use Rattle.std.proofs.Common.{◌≡◌, ap, sym, ◌∙◌, ◌++◌, ◌<◌, ◌≤◌, length, arith, string_bytes, subst}
+use Rattle.std.proofs.Common.{◌≡◌, sym, ◌++◌, ◌<◌, ◌≤◌, length, arith, string_bytes, subst}
 use Rattle.clap.specs.Walk.{Text}
 use Rattle.module_format.specs.Contents.{Contents}
 use Rattle.tpm.specs.Listing.{listed_line, listed_size}
