@@ -1,7 +1,7 @@
 //! The calls, repeated.
 
 use crate::call::{Call, ModuleCall, STEP};
-use crate::failure::Failure;
+use crate::failure::{Failure, refusal};
 use certificate::{Module, write};
 use machine::Checked;
 use machine_state::{Effect, Event, Link};
@@ -25,7 +25,7 @@ fn summary(module: &Module) -> (u64, u64) {
 fn read(alloc: Global, file: &[u8]) -> Result<(u64, u64), Failure> {
     match Module::read(alloc, file) {
         Ok(module) => Ok(summary(&module)),
-        Err(fault) => Err(fault.into()),
+        Err(fault) => Err(refusal(fault.number, certificate::MEMORY)),
     }
 }
 
@@ -43,7 +43,7 @@ fn read_repeatedly(alloc: Global, file: &[u8], times: u64) -> Result<u64, Failur
 fn write_repeatedly(alloc: Global, module: &Module, times: u64) -> Result<u64, Failure> {
     let mut checksum = 0;
     for _ in 0..times {
-        let written = write(alloc, module.tables())?;
+        let written = write(alloc, module.tables()).map_err(|_| Failure::Memory)?;
         checksum = mixed(checksum, written.len() as u64);
     }
     Ok(checksum)
@@ -53,7 +53,8 @@ fn write_repeatedly(alloc: Global, module: &Module, times: u64) -> Result<u64, F
 fn verify_repeatedly(alloc: Global, module: &Module, times: u64) -> Result<u64, Failure> {
     let mut checksum = 0;
     for _ in 0..times {
-        let verified = verify(alloc, &*module)?;
+        let verified = verify(alloc, &*module);
+        let verified = verified.map_err(|refused| refusal(refused.number, states::MEMORY))?;
         checksum = mixed(checksum, verified.module().tables().budget);
     }
     Ok(checksum)
@@ -98,7 +99,7 @@ fn of_module(alloc: Global, call: ModuleCall, module: &Module, times: u64) -> Re
         ModuleCall::Verify => verify_repeatedly(alloc, module, times),
         ModuleCall::Apply(later) => match Checked::load(alloc, module) {
             Ok(mut machine) => apply_repeatedly(&mut machine, later, times),
-            Err(error) => Err(error.into()),
+            Err(_) => Err(Failure::Memory),
         },
     }
 }
@@ -107,7 +108,7 @@ fn of_module(alloc: Global, call: ModuleCall, module: &Module, times: u64) -> Re
 fn of_file(alloc: Global, call: ModuleCall, file: &[u8], times: u64) -> Result<u64, Failure> {
     match Module::read(alloc, file) {
         Ok(module) => of_module(alloc, call, &module, times),
-        Err(fault) => Err(fault.into()),
+        Err(fault) => Err(refusal(fault.number, certificate::MEMORY)),
     }
 }
 
@@ -115,7 +116,9 @@ fn of_file(alloc: Global, call: ModuleCall, file: &[u8], times: u64) -> Result<u
 fn lines_repeatedly(alloc: Global, source: &[u8], times: u64) -> Result<u64, Failure> {
     let mut checksum = 0;
     for _ in 0..times {
-        for line in &lines(alloc, source)? {
+        let rows = lines(alloc, source);
+        let rows = rows.map_err(|fault| refusal(fault.number, occam_layout::MEMORY))?;
+        for line in &rows {
             checksum = mixed(checksum, u64::from(line.level));
             checksum = mixed(checksum, line.tokens.len() as u64);
         }
@@ -127,7 +130,7 @@ fn lines_repeatedly(alloc: Global, source: &[u8], times: u64) -> Result<u64, Fai
 fn parse_repeatedly(alloc: Global, rows: &[Line], times: u64) -> Result<u64, Failure> {
     let mut checksum = 0;
     for _ in 0..times {
-        parse(alloc, rows)?;
+        parse(alloc, rows).map_err(|fault| refusal(fault.number, occam_parser::MEMORY))?;
         checksum = mixed(checksum, rows.len() as u64);
     }
     Ok(checksum)
@@ -137,7 +140,7 @@ fn parse_repeatedly(alloc: Global, rows: &[Line], times: u64) -> Result<u64, Fai
 fn parse_source(alloc: Global, source: &[u8], times: u64) -> Result<u64, Failure> {
     match lines(alloc, source) {
         Ok(rows) => parse_repeatedly(alloc, &rows, times),
-        Err(fault) => Err(fault.into()),
+        Err(fault) => Err(refusal(fault.number, occam_layout::MEMORY)),
     }
 }
 
