@@ -77,7 +77,7 @@ fn ask(alloc: Global, setting: &mut Setting, statement: Statement, out: &mut Ans
         "bits" => altered_sums(alloc, &mut setting.file, Ways::Bits, out),
         "run_bits" => return altered_runs(alloc, setting, Ways::Bits, statement.rest, out),
         "bytes" | "run_bytes" => return ask_bytes(alloc, setting, statement, out),
-        "lines" | "parse" => return ask_source(alloc, &setting.source, statement, out),
+        "lines" | "parse" | "check" => return ask_source(alloc, &setting.source, statement, out),
         "assemble" | "spell" => return ask_draft(alloc, &setting.file, statement, out),
         _ => return ask_file(alloc, setting, statement, out),
     }

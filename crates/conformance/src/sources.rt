@@ -6,8 +6,9 @@ use crate::statements::{Statement, has_lines};
 use crate::tokens::write_lines;
 use crate::trees::write_items;
 use occam_layout::{Line, lines};
-use occam_parser::{Item, parse};
+use occam_parser::{Item, Program, parse};
 use std::alloc::Global;
+use usage_checks::check;
 
 /// What comes of the lines of a source: how many there are, or the tokens of each.
 fn judge_lines(found: &[Line], statement: Statement, out: &mut Answer) -> Outcome {
@@ -31,6 +32,20 @@ fn judge_items(items: &[Item], source: &[u8], statement: Statement, out: &mut An
     }
 }
 
+/// Whether a program breaks no usage rule: `ok`, or the rule and its line.
+fn judge_usage(
+    alloc: Global,
+    program: Program,
+    statement: Statement,
+    out: &mut Answer,
+) -> Outcome {
+    match check(alloc, program) {
+        Ok(_) => out.put("ok"),
+        Err(fault) => out.fault("O", fault.number, u64::from(fault.line)),
+    }
+    judged(out, statement.rest)
+}
+
 /// The program of the lines of a source, or the fault.
 fn judge_program(
     alloc: Global,
@@ -40,6 +55,7 @@ fn judge_program(
     out: &mut Answer,
 ) -> Outcome {
     match parse(alloc, rows) {
+        Ok(program) if statement.word == "check" => judge_usage(alloc, program, statement, out),
         Ok(program) => judge_items(program.items(), source, statement, out),
         Err(fault) => {
             out.fault("O", fault.number, u64::from(fault.line));
@@ -48,7 +64,7 @@ fn judge_program(
     }
 }
 
-/// What is asked of the lines of a source, or else of its program.
+/// What is asked of the lines of a source, of its program, or of the usage rules.
 pub(crate) fn ask_source(
     alloc: Global,
     source: &[u8],
