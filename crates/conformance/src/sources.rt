@@ -33,12 +33,7 @@ fn judge_items(items: &[Item], source: &[u8], statement: Statement, out: &mut An
 }
 
 /// Whether a program breaks no usage rule: `ok`, or the rule and its line.
-fn judge_usage(
-    alloc: Global,
-    program: Program,
-    statement: Statement,
-    out: &mut Answer,
-) -> Outcome {
+fn judge_usage(alloc: Global, program: Program, statement: Statement, out: &mut Answer) -> Outcome {
     match check(alloc, program) {
         Ok(_) => out.put("ok"),
         Err(fault) => out.fault("O", fault.number, u64::from(fault.line)),
