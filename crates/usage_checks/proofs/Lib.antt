@@ -26,3 +26,7 @@ pub mod ScopesExtended
 pub mod PartsWeighed
 pub mod TurnsWeighed
 pub mod ItemsWalked
+pub mod WholeMoves
+pub mod KnownValues
+pub mod LinesHold
+pub mod PlacesHold

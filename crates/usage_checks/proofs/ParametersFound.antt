@@ -1,6 +1,6 @@
 -- The ends of parameters, found one after another.
 use Rattle.std.proofs.Common.{◌≡◌, ℕ, zero, suc, ◌+◌, ◌<◌, Bool, true, false, cond, List, [], ◌∷◌, ◌++◌, map, nat_eq}
-use Rattle.std.proofs.Common.{refl, sym, ap, ◌∙◌, arith, append_assoc, length, ◌≤◌, Option, Some, None, Result, Ok, Err, OnOk}
+use Rattle.std.proofs.Common.{refl, sym, ap, ◌∙◌, arith, append_assoc, length, ◌≤◌, Some, Result, Ok, Err, OnOk}
 use Rattle.std.proofs.Common.{Vec, Global, slice_set, unwrap_or}
 use Rattle.std.specs.Prelude.{fold}
 use Rattle.std.specs.List.{slice_get}

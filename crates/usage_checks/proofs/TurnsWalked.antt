@@ -18,15 +18,11 @@ use Rattle.usage_checks.specs.LineRules.{BreaksReplicator}
 use Rattle.usage_checks.specs.NameRules.{with_entries}
 use Rattle.usage_checks.specs.Processes.{uses_of_body}
 use Rattle.usage_checks.specs.ProcessRules.{BreaksRepeated, BreaksInTurns, position_in, BreaksComponent, BreaksBody}
+use Rattle.usage_checks.specs.Reaching.{turn_of}
 use Rattle.usage_checks.specs.Telling.{At, Walks}
 use Rattle.usage_checks.specs.Walking.{word_of, WalksBody, WalksTurn, WalksConstruct}
 use Rattle.usage_checks.proofs.ComponentsWalked.{walks_after}
 use Rattle.usage_checks.proofs.FaultsInOrder.{walks_both, walks_then, walks_moved}
-
--- a turn, with its index
-abbrev pub turn_of : Around → Replicator → Body → Repeats → ℕ → Known → Known
-turn_of a r (One kind c) repeats n k =
-    after_component a (block_word kind) c (with_entries (add r.name (index_in repeats n)) k)
 
 abbrev pub BreaksTurn : Around → Position → Replicator → Body → Repeats → ℕ → Known → UsageFault → Type 0
 BreaksTurn a p r (One kind c) repeats n k = BreaksComponent a p c (with_entries (add r.name (index_in repeats n)) k)

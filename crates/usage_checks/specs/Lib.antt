@@ -38,3 +38,6 @@ pub mod Extending
 pub mod Weighing
 pub mod ItemRules
 pub mod ItemViews
+pub mod Whole
+pub mod Holding
+pub mod Reaching

@@ -1,6 +1,6 @@
 -- The rules of single lines: assignments, inputs, outputs, conditions and replicators.
 use Rattle.std.specs.Prelude.{◌≡◌, ℕ, ℤ, pos, ◌+ℤ◌, int_le, Bool, true, false, ◌&&◌, List, ◌⊎◌, Option, Some, None}
-use Rattle.word_arithmetic.specs.Word.{greatest_word}
+use Rattle.word_arithmetic.specs.Word.{greatest_word, is_word}
 use Rattle.occam_parser.specs.Expressions.{Expression}
 use Rattle.occam_parser.specs.Lines.{Place, Replicator}
 use Rattle.scalar_ranges.specs.declared.types.ExprType.TheVariants as types
@@ -36,10 +36,10 @@ abbrev pub BreaksConditionIfAny : List Entry → Option Expression → ℕ → T
 BreaksConditionIfAny es None n = ⊥
 BreaksConditionIfAny es (Some e) n = BreaksCondition es e n
 
--- a count is not below 0, and with it the last index is a word
+-- with a count that is not below 0, each index is a word
 abbrev pub fits_word : Option ℤ → ℤ → Bool
 fits_word None count = true
-fits_word (Some base) count = int_le (base +ℤ count) (greatest_word +ℤ pos 1)
+fits_word (Some base) count = is_word base && int_le (base +ℤ count) (greatest_word +ℤ pos 1)
 
 -- O16: a count that is known is no count from the base on
 abbrev pub IsNoCount : Option ℤ → Option ℤ → ℕ → Type 0

@@ -22,6 +22,7 @@ mod indices;
 mod instance_rules;
 mod instances;
 mod items;
+mod laws;
 mod line_rules;
 mod main_rules;
 mod mentions;
@@ -47,6 +48,7 @@ pub use faults::{
     CHANNEL_USE, CONSTANT_WANTED, DECLARED_TWICE, MEMORY, NO_MAIN, OTHER_ACTUAL, PASSED_TWICE,
     SHARED_VARIABLE,
 };
+pub use laws::{items_hold, places_hold, signatures_stay};
 pub use signature::{Parameter, Signature};
 pub use telling::UsageFault;
 pub use uses::{Direction, End, Use, Uses};

@@ -1,7 +1,7 @@
 use Rattle.std.proofs.Common.{map, sym, ap, ◌∙◌}
 use Rattle.std.proofs.lemmas.List.{length-map}
 use Rattle.occam_parser.specs.LineViews.{formal_of}
-use Rattle.occam_parser.specs.BlockViews.{process_of, procedure_of}
+use Rattle.occam_parser.specs.BlockViews.{procedure_of}
 use Rattle.scalar_ranges.specs.Scopes.{known_of}
 use Rattle.usage_checks.specs.ActionViews.{around_of}
 use Rattle.usage_checks.specs.FormalRules.{parameter_for}

@@ -1,0 +1,25 @@
+//! The laws of programs that break no rule, each the contract of a function that does nothing.
+ghost use Rattle.usage_checks.specs.Reaching.{PlacesHold, ItemsHold, SignaturesStay};
+
+/// At each place that the walk over such a program comes to, no rule is broken in what stands there. Constants in scope
+/// have their values, arrays their sizes, and procedures their parameters. The names of its first line are found, their
+/// types fit, expressions have a range, and what has to be constant has a value.
+///
+/// A place is reached by the walk's own moves, from the body of a procedure on; so whoever makes these moves, from a
+/// scope that is known, is at places that are reached.
+#[tactic(auto, using(crate::proofs::PlacesHold::places_hold))]
+pub fn places_hold()
+    ensures { PlacesHold }
+{}
+
+/// The same of each item, where those before it are known, and of the formals of a procedure.
+#[tactic(auto, using(crate::proofs::PlacesHold::items_hold))]
+pub fn items_hold()
+    ensures { ItemsHold }
+{}
+
+/// The procedures before an item have the same numbers and parameters among all procedures.
+#[tactic(auto, using(crate::proofs::PlacesHold::signatures_stay))]
+pub fn signatures_stay()
+    ensures { SignaturesStay }
+{}
