@@ -1,11 +1,12 @@
 -- One map of facts against another, word by word.
-use Rattle.std.specs.Prelude.{◌≡◌, ◌⊎◌, ℤ, ◌-ℤ◌, true, false, List, Some}
-use Rattle.module_format.specs.Rows.{Fact}
+use Rattle.std.specs.Prelude.{◌≡◌, ◌⊎◌, ◌^◌, ℤ, pos, ◌-ℤ◌, ◌≤ℤ◌, ◌<ℤ◌, true, false, List, Some}
+use Rattle.module_format.specs.Rows.{Fact, Entry}
 use Rattle.states.specs.declared.overlay.Written.{Written}
-use Rattle.states.specs.State.{Facts}
+use Rattle.states.specs.State.{Facts, entry_fact}
 use Rattle.states.specs.declared.known.WordFact.TheVariants.{Alone}
 use Rattle.states.specs.Below.{says}
 use Rattle.states.specs.Lookup.{fact_of_index}
+use Rattle.states.specs.Rows.{AreApart}
 
 -- the one says of each word at least what the other says
 abbrev pub SaysAll : Facts → Facts → Type 0
@@ -23,3 +24,15 @@ OneSaysAll facts others wanted = (k : ℤ) → (says (facts k) (wanted k) ≡ tr
 abbrev pub WrittenSaysAll : List Written → ℤ → Facts → Type 0
 WrittenSaysAll written lo wanted =
     (k : ℤ) (fact : Fact) → fact_of_index written (k -ℤ lo) ≡ Some fact → says (Alone fact) (wanted k) ≡ true
+
+-- What is left of two rows from the word `next` on: it says of the words from there on what the rows say. Of the words
+-- before, from `word` on, the first row says at least what the second wants.
+pub record ImpliedTo (row wanted : List Entry) (word : ℤ) (row_left wanted_left : List Entry)
+    (next : ℤ) : Type 0 where
+  pub row_apart : AreApart row_left
+  pub wanted_apart : AreApart wanted_left
+  pub near : next <ℤ pos (2 ^ 40)
+  pub ahead : word ≤ℤ next
+  pub row_same : (k : ℤ) → next ≤ℤ k → entry_fact row_left k ≡ entry_fact row k
+  pub wanted_same : (k : ℤ) → next ≤ℤ k → entry_fact wanted_left k ≡ entry_fact wanted k
+  pub each : (k : ℤ) → word ≤ℤ k → k <ℤ next → says (entry_fact row k) (entry_fact wanted k) ≡ true

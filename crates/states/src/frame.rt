@@ -15,7 +15,7 @@ use crate::blocks::{Block, Blocks, block_words};
 use crate::implication::{holds_constant, says};
 use crate::known::{LoopWord, WordFact};
 use crate::overlay::Overlay;
-use crate::row::{row_fact, said_of, segment_from, word_count};
+use crate::row::{has_at_most, past_implied, row_fact, said_of, segment_from};
 use crate::span::Leaving;
 use certificate::{Entry, Fact, ParameterKind, ProcedureRow, Step};
 use std::alloc::{AllocError, Global};
@@ -284,8 +284,8 @@ impl<'a> Frame<'a> {
     }
 
     /// Whether what the label's row says of each word is at least what another row wants, or else what is
-    /// known of the word is. Words are looked at one by one only where the label's row says less, and then
-    /// each but the last was written.
+    /// known of the word is. Words are looked at one by one only where no entry of the label's row says at
+    /// once what is wanted, and where it says less each but the last was written.
     fn row_holds(&self, row: &[Entry]) -> bool
         requires { AreApart row.now }
         ensures yes { IsTrue result → OneSaysAll (entry_fact self.now.row.now) (frame_facts self.now) (entry_fact row.now) }
@@ -295,10 +295,11 @@ impl<'a> Frame<'a> {
         let mut wanted = row;
         let mut word = i64::from(i32::MIN);
         while !wanted.is_empty() {
-            let here = segment_from(base, word);
-            let there = segment_from(wanted, word);
+            let pair = past_implied(base, wanted, word);
+            let here = segment_from(pair.row, pair.word);
+            let there = segment_from(pair.wanted, pair.word);
             let end = here.end.min(there.end);
-            if !self.stretch_holds(word, end, here.fact, there.fact) {
+            if !self.stretch_holds(pair.word, end, here.fact, there.fact) {
                 return false;
             }
             base = here.row;
@@ -341,7 +342,8 @@ impl<'a> Frame<'a> {
     fn asks_each(&self, row: &[Entry]) -> bool
         ensures { IsFalse result → frame_facts self.now ≡ over_facts self.now }
     {
-        self.by_block.are_left() || word_count(row) / 4 <= self.overlay.written.len() as u64
+        let written = self.overlay.written.len() as u64;
+        self.by_block.are_left() || has_at_most(row, written.saturating_mul(4))
     }
 
     /// Whether of each word at least that is known which a row wants.
@@ -356,6 +358,7 @@ impl<'a> Frame<'a> {
     }
 
     /// Whether both words of a loop come from that loop, or neither does, where the entry is of one.
+    #[inline(always)]
     fn is_whole_at(&self, entry: &Entry) -> bool
         ensures { result ≡ is_whole (frame_facts self.now) entry.now }
     {
@@ -369,6 +372,7 @@ impl<'a> Frame<'a> {
     }
 
     /// Whether no loop that a row wants is half known.
+    #[inline(never)]
     fn is_whole(&self, row: &[Entry]) -> bool
         ensures { result ≡ list_all (is_whole (frame_facts self.now)) row.now }
     {
@@ -391,6 +395,7 @@ impl<'a> Frame<'a> {
 
     /// What it costs to enter the loop that an entry wants: its weight for each turn but the first, where its
     /// words are constants. None where that is no number of 128 bits.
+    #[inline(always)]
     fn price(&self, entry: &Entry) -> Option<u128>
         ensures { SomeIff result (price (frame_facts self.now) entry.now < 2 ^ 128) (price (frame_facts self.now) entry.now) }
     {
@@ -414,12 +419,15 @@ impl<'a> Frame<'a> {
     }
 
     /// What is left of a number once the loops are entered that a row wants, where it covers them.
+    #[inline(never)]
     pub(crate) fn left_of(&self, number: u128, row: &[Entry]) -> Option<u128>
         ensures { let prices = sum_by (price (frame_facts self.now)) row.now in SomeIff result (prices ≤ number) (number - prices) }
     {
         let mut left = number;
         for entry in row {
-            left = left.checked_sub(self.price(entry)?)?;
+            if let Fact::Loop { .. } = entry.fact {
+                left = left.checked_sub(self.price(entry)?)?;
+            }
         }
         Some(left)
     }

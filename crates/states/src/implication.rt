@@ -21,6 +21,7 @@ fn lies_within(lo: i32, hi: i32, low: i32, high: i32) -> bool
 }
 
 /// Whether the first fact says at least what the second says.
+#[inline(always)]
 pub fn implies(fact: Fact, wanted: Fact) -> bool
     ensures { result ≡ implies fact wanted }
 {

@@ -1,14 +1,18 @@
 //! The entries of a label row.
 
-ghost use Rattle.std.specs.Prelude.{◌≡◌, ◌≤◌, ℤ, pos, ◌+ℤ◌, ◌≤ℤ◌, ◌<ℤ◌, ◌<◌, ◌^◌, true, length};
+ghost use Rattle.std.specs.Prelude.{◌≡◌, ◌≤◌, ◌+◌, ℤ, pos, ◌+ℤ◌, ◌≤ℤ◌, ◌<ℤ◌, ◌<◌, ◌^◌, true, length, IsTrue, IfSome};
 ghost use Rattle.module_format.specs.Facts.{end_of};
+ghost use Rattle.states.specs.Below.{implies};
+ghost use Rattle.states.specs.Comparing.{ImpliedTo};
 ghost use Rattle.states.specs.Rows.{AreApart};
 ghost use Rattle.states.specs.State.{is_word, is_about, said_of, entry_fact};
 
+use crate::implication::implies;
 use crate::known::{Loop, WordFact};
 use certificate::{Entry, Fact};
 
 /// The first word of an entry.
+#[inline(always)]
 fn start_of(entry: &Entry) -> i64
     ensures value { result ≡ entry.now.word }
     ensures near { result <ℤ pos (2 ^ 40) }
@@ -17,6 +21,7 @@ fn start_of(entry: &Entry) -> i64
 }
 
 /// The first word behind an entry.
+#[inline(always)]
 fn end_of(entry: &Entry) -> i64
     ensures value { result ≡ end_of entry.now }
     ensures near { result <ℤ pos (2 ^ 40) }
@@ -58,13 +63,17 @@ pub(crate) fn said_of(fact: Fact, is_first: bool) -> WordFact
     }
 }
 
-/// How many words a row's entries have, which may be told too low where they are more than 2^64.
-pub(crate) fn word_count(row: &[Entry]) -> u64 {
-    let mut count = 0_u64;
+/// Whether a row's entries have at most so many words. No entries are looked at behind those that
+/// have more.
+pub(crate) fn has_at_most(row: &[Entry], count: u64) -> bool {
+    let mut left = count;
     for entry in row {
-        count = count.saturating_add(u64::from(entry.span));
+        let Some(rest) = left.checked_sub(u64::from(entry.span)) else {
+            return false;
+        };
+        left = rest;
     }
-    count
+    true
 }
 
 /// What a row says of a word.
@@ -144,5 +153,138 @@ pub(crate) fn segment_from<'a>(row: &'a [Entry], word: i64) -> Segment<'a>
         row: rest,
         fact: WordFact::Alone(Fact::Unknown),
         end: i64::MAX,
+    }
+}
+
+/// Two rows from a word on.
+#[derive(Clone, Copy)]
+pub(crate) struct RowPair<'a> {
+    pub row: &'a [Entry],
+    pub wanted: &'a [Entry],
+    pub word: i64,
+}
+
+/// Whether two entries are about the same words, and the one says what the other wants.
+#[inline(always)]
+fn is_alike(entry: &Entry, other: &Entry) -> bool
+    ensures { IsTrue result → (entry.now.word ≡ other.now.word) × (entry.now.span ≡ other.now.span)
+        × (implies entry.now.fact other.now.fact ≡ true) }
+{
+    entry.word == other.word && entry.span == other.span && implies(entry.fact, other.fact)
+}
+
+/// What is left of two rows behind their first entries, where these are about the same words, and
+/// the one says what the other wants.
+#[inline(always)]
+fn past_alike<'a>(row: &'a [Entry], wanted: &'a [Entry], word: i64) -> Option<RowPair<'a>>
+    requires row { AreApart row.now }
+    requires wanted { AreApart wanted.now }
+    requires near { word <ℤ pos (2 ^ 40) }
+    ensures implied { IfSome result
+        (λ pair. ImpliedTo row.now wanted.now word pair.row.now pair.wanted.now pair.word) }
+    ensures shorter { IfSome result (λ pair. length pair.row.now + length pair.wanted.now
+        < length row.now + length wanted.now) }
+{
+    let (entry, later) = row.split_first()?;
+    let (other, others) = wanted.split_first()?;
+    if !is_alike(entry, other) {
+        return None;
+    }
+    let next = word.max(end_of(other));
+    Some(RowPair {
+        row: later,
+        wanted: others,
+        word: next,
+    })
+}
+
+/// Whether an entry is about a word and says what another one wants, unless `end` is not behind the
+/// word.
+#[inline(always)]
+fn is_implied(entry: &Entry, other: &Entry, word: i64, end: i64) -> bool
+    ensures { IsTrue result → word <ℤ end
+        → (entry.now.word ≤ℤ word) × (implies entry.now.fact other.now.fact ≡ true) }
+{
+    if end <= word {
+        return true;
+    }
+    start_of(entry) <= word && implies(entry.fact, other.fact)
+}
+
+/// What is left of two rows behind that of their first entries which ends first, where the one says
+/// what the other wants of the words up to there.
+#[inline(always)]
+fn past_either<'a>(row: &'a [Entry], wanted: &'a [Entry], word: i64) -> Option<RowPair<'a>>
+    requires row { AreApart row.now }
+    requires wanted { AreApart wanted.now }
+    requires near { word <ℤ pos (2 ^ 40) }
+    ensures implied { IfSome result
+        (λ pair. ImpliedTo row.now wanted.now word pair.row.now pair.wanted.now pair.word) }
+    ensures shorter { IfSome result (λ pair. length pair.row.now + length pair.wanted.now
+        < length row.now + length wanted.now) }
+{
+    let (entry, later) = row.split_first()?;
+    let (other, others) = wanted.split_first()?;
+    let here = end_of(entry);
+    let there = end_of(other);
+    let begin = word.max(start_of(other));
+    let end = here.min(there);
+    if !is_implied(entry, other, begin, end) {
+        return None;
+    }
+    let next = begin.max(end);
+    if here <= there {
+        return Some(RowPair {
+            row: later,
+            wanted,
+            word: next,
+        });
+    }
+    Some(RowPair {
+        row,
+        wanted: others,
+        word: next,
+    })
+}
+
+/// What is left of two rows behind one of their first entries or both, where the one says what the
+/// other wants of the words up to there.
+#[inline(always)]
+fn past_first<'a>(row: &'a [Entry], wanted: &'a [Entry], word: i64) -> Option<RowPair<'a>>
+    requires row { AreApart row.now }
+    requires wanted { AreApart wanted.now }
+    requires near { word <ℤ pos (2 ^ 40) }
+    ensures implied { IfSome result
+        (λ pair. ImpliedTo row.now wanted.now word pair.row.now pair.wanted.now pair.word) }
+    ensures shorter { IfSome result (λ pair. length pair.row.now + length pair.wanted.now
+        < length row.now + length wanted.now) }
+{
+    match past_alike(row, wanted, word) {
+        Some(pair) => Some(pair),
+        None => past_either(row, wanted, word),
+    }
+}
+
+/// What is left of two rows from a word on, once those words are passed of which the entries of the
+/// one say what those of the other want. The time goes with the entries that are passed.
+#[inline(never)]
+pub(crate) fn past_implied<'a>(row: &'a [Entry], wanted: &'a [Entry], word: i64) -> RowPair<'a>
+    requires row { AreApart row.now }
+    requires wanted { AreApart wanted.now }
+    requires near { word <ℤ pos (2 ^ 40) }
+    ensures { ImpliedTo row.now wanted.now word result.row.now result.wanted.now result.word }
+{
+    let mut base = row;
+    let mut left = wanted;
+    let mut at = word;
+    while let Some(pair) = past_first(base, left, at) {
+        base = pair.row;
+        left = pair.wanted;
+        at = pair.word;
+    }
+    RowPair {
+        row: base,
+        wanted: left,
+        word: at,
     }
 }
