@@ -7,9 +7,9 @@ use Rattle.occam_parser.specs.Expressions.{Expression}
 use Rattle.occam_parser.specs.Views.{expression_of}
 use Rattle.scalar_ranges.specs.Entries.{Entry}
 use Rattle.scalar_ranges.specs.Environments.{item_at}
-use Rattle.usage_checks.specs.Signatures.{Parameter}
+use Rattle.program_uses.specs.Signatures.{Parameter}
+use Rattle.program_uses.proofs.NextInTurn.{seen_more}
 use Rattle.usage_checks.specs.Following.{receive_if, passed_to, after_actuals}
-use Rattle.usage_checks.proofs.OneAfterAnother.{seen_more}
 
 abbrev after_one : List Parameter → ℕ → Expression → List Entry → List Entry
 after_one qs i e es = receive_if (passed_to (item_at i qs) es e) es

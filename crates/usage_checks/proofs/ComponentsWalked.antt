@@ -11,27 +11,27 @@ use Rattle.occam_parser.specs.BlockReading.{with_declarations}
 use Rattle.occam_parser.specs.BlockViews.{all_of}
 use Rattle.occam_parser.proofs.SeenBlocks.{all_push}
 use Rattle.scalar_ranges.specs.Moves.{Known, is_one_of, exclude, next, next_component}
+use Rattle.program_uses.specs.Actions.{Around}
+use Rattle.program_uses.specs.ActionViews.{around_of}
+use Rattle.program_uses.specs.Components.{changes_in}
+use Rattle.program_uses.specs.Declaring.{add_declaration}
+use Rattle.program_uses.specs.Entering.{add_declarations}
+use Rattle.program_uses.specs.Processes.{uses_of}
+use Rattle.program_uses.proofs.Adding.{taken_one}
+use Rattle.program_uses.proofs.ChangedVariables.{next_component_same}
 use Rattle.usage_checks.specs.declared.blocks.Site.{Site}
 use Rattle.usage_checks.specs.declared.channel_rules.Position.{Position}
 use Rattle.usage_checks.specs.declared.telling.UsageFault.{UsageFault}
 use Rattle.usage_checks.specs.declared.telling.Findings.{Findings}
-use Rattle.usage_checks.specs.Actions.{Around}
-use Rattle.usage_checks.specs.ActionViews.{around_of}
 use Rattle.usage_checks.specs.ActionRules.{BreaksGuard}
 use Rattle.usage_checks.specs.AfterProcesses.{inside, after_construct, after_components, after_component, begun, ended}
-use Rattle.usage_checks.specs.AfterProcesses.{changes_in}
-use Rattle.usage_checks.specs.Declaring.{add_declaration}
-use Rattle.usage_checks.specs.Entering.{add_declarations}
 use Rattle.usage_checks.specs.Following.{where_holds, after_guard}
 use Rattle.usage_checks.specs.LineRules.{BreaksCondition}
 use Rattle.usage_checks.specs.NameRules.{BreakDeclarations, with_entries}
 use Rattle.usage_checks.specs.ProcessRules.{BreaksIn, BreaksConstruct, BreaksBlock, position_in, BreakComponents}
 use Rattle.usage_checks.specs.ProcessRules.{BreaksComponent}
-use Rattle.usage_checks.specs.Processes.{uses_of}
 use Rattle.usage_checks.specs.Telling.{At, Walks}
 use Rattle.usage_checks.specs.Walking.{WalksProcess, WalksConstruct, WalksComponents, WalksComponent, WalksBlock}
-use Rattle.usage_checks.proofs.Adding.{taken_one}
-use Rattle.usage_checks.proofs.ChangedVariables.{next_component_same}
 use Rattle.usage_checks.proofs.FaultsInOrder.{walks_both, walks_then, walks_as}
 
 -- ---- declarations, and then a construct

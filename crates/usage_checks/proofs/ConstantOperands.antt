@@ -9,8 +9,8 @@ use Rattle.occam_parser.specs.Expressions.{Expression, Terms, Two, Then}
 use Rattle.occam_parser.specs.Views.{term_of, with_others, operation_of}
 use Rattle.occam_parser.proofs.Seen.{view-Chain}
 use Rattle.scalar_ranges.specs.Entries.{Entry}
+use Rattle.program_uses.proofs.Adding.{taken_one}
 use Rattle.usage_checks.specs.Wanting.{is_constant, are_constant, is_constant_term}
-use Rattle.usage_checks.proofs.Adding.{taken_one}
 
 unfoldable pub constant_after : List Entry → Bool → List Operand → Bool
 constant_after es b [] = b

@@ -4,8 +4,8 @@ use Rattle.occam_parser.specs.Lines.{Declaration, Constants, Variables, Channels
 use Rattle.occam_parser.specs.Blocks.{declaration_line}
 use Rattle.scalar_ranges.specs.Entries.{Meaning, Entry}
 use Rattle.scalar_ranges.specs.Moves.{Known}
+use Rattle.program_uses.specs.Declaring.{add_all, add_declaration}
 use Rattle.usage_checks.specs.declared.telling.Findings.{Findings}
-use Rattle.usage_checks.specs.Declaring.{add_all, add_declaration}
 use Rattle.usage_checks.specs.DeclarationRules.{BreaksDeclaration}
 use Rattle.usage_checks.specs.NameRules.{BreakNames, BreaksDeclared, names_in, declared_meaning, with_entries}
 use Rattle.usage_checks.specs.Telling.{At, Walks}

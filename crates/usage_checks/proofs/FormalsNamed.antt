@@ -4,11 +4,11 @@ use Rattle.std.proofs.lemmas.List.{length-map, get_or-map}
 use Rattle.occam_parser.specs.declared.tree.Formal as code_formal
 use Rattle.occam_parser.specs.LineViews.{formal_of}
 use Rattle.scalar_ranges.specs.Entries.{Entry}
-use Rattle.usage_checks.specs.declared.signature.Parameter as code_parameter
-use Rattle.usage_checks.specs.Declaring.{formal_meaning}
+use Rattle.program_uses.specs.declared.signature.Parameter as code_parameter
+use Rattle.program_uses.specs.Declaring.{formal_meaning}
+use Rattle.program_uses.specs.Signatures.{parameter_of}
+use Rattle.program_uses.proofs.NextInTurn.{same_at}
 use Rattle.usage_checks.specs.FormalRules.{parameter_for}
-use Rattle.usage_checks.specs.Signatures.{parameter_of}
-use Rattle.usage_checks.proofs.OneAfterAnother.{same_at}
 
 pub as_many : (outer : List Entry) (fs : List code_formal.Formal) (ps : List code_parameter.Parameter)
     → map parameter_of ps ≡ map (parameter_for outer) (map formal_of fs) → length ps ≡ length fs

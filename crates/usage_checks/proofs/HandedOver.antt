@@ -9,22 +9,22 @@ use Rattle.occam_parser.specs.Expressions.{Expression}
 use Rattle.occam_parser.specs.Views.{expression_of}
 use Rattle.scalar_ranges.specs.Entries.{Entry}
 use Rattle.scalar_ranges.specs.Environments.{item_at}
-use Rattle.usage_checks.specs.declared.faults.TheConstants.{PASSED_TWICE}
+use Rattle.program_uses.specs.declared.faults.TheConstants.{PASSED_TWICE}
+use Rattle.program_uses.specs.declared.uses.Direction.TheVariants as direction
+use Rattle.program_uses.specs.declared.uses.Use.{Use}
+use Rattle.program_uses.specs.declared.uses.Use.TheVariants as used
+use Rattle.program_uses.specs.declared.uses.Uses.{Uses}
+use Rattle.program_uses.specs.Lowest.{IsLowest, lower, told_unless}
+use Rattle.program_uses.specs.Sets.{is_among, has, Adds}
+use Rattle.program_uses.specs.Signatures.{Parameter}
+use Rattle.program_uses.proofs.Adding.{adds_none, adds_both, adds_as}
+use Rattle.program_uses.proofs.ChangedVariables.{has_exactly}
+use Rattle.program_uses.proofs.LowestOfBoth.{none_broken, lowest_of, lowest_as, lowest_at}
+use Rattle.program_uses.proofs.NextInTurn.{seen_more}
 use Rattle.usage_checks.specs.declared.handing.Handed.{Handed}
 use Rattle.usage_checks.specs.declared.handing.Handed.TheVariants as handed
-use Rattle.usage_checks.specs.declared.uses.Direction.TheVariants as direction
-use Rattle.usage_checks.specs.declared.uses.Use.{Use}
-use Rattle.usage_checks.specs.declared.uses.Use.TheVariants as used
-use Rattle.usage_checks.specs.declared.uses.Uses.{Uses}
 use Rattle.usage_checks.specs.Handing.{handed_by, handed_all, collide, IsAgain, AreAgain}
-use Rattle.usage_checks.specs.Lowest.{IsLowest, lower, told_unless}
 use Rattle.usage_checks.specs.Remembering.{remembered, all_remembered, is_again}
-use Rattle.usage_checks.specs.Sets.{is_among, has, Adds}
-use Rattle.usage_checks.specs.Signatures.{Parameter}
-use Rattle.usage_checks.proofs.Adding.{adds_none, adds_both, adds_as}
-use Rattle.usage_checks.proofs.ChangedVariables.{has_exactly}
-use Rattle.usage_checks.proofs.LowestOfBoth.{none_broken, lowest_of, lowest_as, lowest_at}
-use Rattle.usage_checks.proofs.OneAfterAnother.{seen_more}
 
 -- ---- the set
 

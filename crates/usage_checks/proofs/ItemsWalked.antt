@@ -9,25 +9,25 @@ use Rattle.occam_parser.specs.Blocks.{Procedure, ProgramItem, GlobalProcedure}
 use Rattle.scalar_ranges.specs.Entries as entries
 use Rattle.scalar_ranges.specs.Entries.{Entry}
 use Rattle.scalar_ranges.specs.Moves.{Known}
-use Rattle.usage_checks.specs.declared.signature.Signature.{Signature}
+use Rattle.program_uses.specs.declared.signature.Signature.{Signature}
+use Rattle.program_uses.specs.declared.uses.Use.{Use}
+use Rattle.program_uses.specs.Declaring.{add}
+use Rattle.program_uses.specs.Ends.{sorted_ends, with_end}
+use Rattle.program_uses.specs.Actions.{Around}
+use Rattle.program_uses.specs.Sets.{is_among}
+use Rattle.program_uses.specs.Signatures.{Parameter, parameters_of}
+use Rattle.program_uses.proofs.EndsInOrder.{same_ends}
 use Rattle.usage_checks.specs.declared.telling.Findings.{Findings}
-use Rattle.usage_checks.specs.declared.uses.Use.{Use}
 use Rattle.usage_checks.specs.declared.weighing.Weight.{Weight}
-use Rattle.usage_checks.specs.Declaring.{add}
-use Rattle.usage_checks.specs.Ends.{sorted_ends, with_end}
 use Rattle.usage_checks.specs.FormalRules.{parameter_for}
-use Rattle.usage_checks.specs.Actions.{Around}
 use Rattle.usage_checks.specs.ItemRules.{after_procedure, BreaksProcedure, after_named, BreaksNamed, parameters_from}
 use Rattle.usage_checks.specs.ItemRules.{signature_of, Outside, outermost, after_weighing, weighed, Ends, EndsCounting}
 use Rattle.usage_checks.specs.ItemRules.{after_walk, BreaksWalk, after_item, BreaksItem, after_items, BreaksProgram}
 use Rattle.usage_checks.specs.MainRules.{BreaksMain}
 use Rattle.usage_checks.specs.NameRules.{BreaksName, with_entries}
-use Rattle.usage_checks.specs.Sets.{is_among}
-use Rattle.usage_checks.specs.Signatures.{Parameter, parameters_of}
 use Rattle.usage_checks.specs.Sizes.{Measured, total, measures_of_item, capped, end_in}
 use Rattle.usage_checks.specs.Telling.{Walks}
 use Rattle.usage_checks.specs.Weighing.{WeighsIn}
-use Rattle.usage_checks.proofs.EndsInOrder.{same_ends}
 use Rattle.usage_checks.proofs.FaultsInOrder.{walks_moved, walks_both, walks_on}
 use Rattle.usage_checks.proofs.OneAfterAnother.{WalksAll}
 use Rattle.usage_checks.proofs.ParametersFound.{all_found}

@@ -33,10 +33,10 @@ use Rattle.scalar_ranges.specs.Bounds.{Bound, Exactly, Within, ends, gives, by_c
 use Rattle.scalar_ranges.specs.Bounds.{pair_bound, chain_bound, not_bound, prefix_bound, named_bound, converted_bound}
 use Rattle.scalar_ranges.specs.Bounds.{bound_of, bound_of_terms, bound_of_term, exact_value, range_found}
 use Rattle.scalar_ranges.proofs.Parts.{both_ok, then_ok, or_ok, mapped, passed, passed_ok, ok_same}
-use Rattle.usage_checks.specs.declared.faults.TheConstants.{CONSTANT_WANTED}
+use Rattle.program_uses.specs.declared.faults.TheConstants.{CONSTANT_WANTED}
+use Rattle.program_uses.specs.Constants.{is_same_type, has_type, value_as, from_one, size_in}
 use Rattle.usage_checks.specs.declared.wanting.Wanted.{Wanted}
 use Rattle.usage_checks.specs.declared.wanting.Wanted.TheVariants as wanted
-use Rattle.usage_checks.specs.Constants.{is_same_type, has_type, value_as, from_one, size_in}
 use Rattle.usage_checks.specs.DeclarationRules.{IsNoSize, BreaksSize}
 use Rattle.usage_checks.specs.Holding.{HasValue, Suits, IsFit}
 use Rattle.usage_checks.specs.Wanting.{is_constant_meaning, is_constant, are_constant, is_constant_term, HasFault}

@@ -26,18 +26,21 @@ use Rattle.scalar_ranges.specs.Environments.{item_at}
 use Rattle.scalar_ranges.specs.Types.{type_of_values, type_of}
 use Rattle.scalar_ranges.specs.Bounds.{is_subscript}
 use Rattle.scalar_ranges.specs.Steps.{both_some}
+use Rattle.program_uses.specs.declared.faults.TheConstants.{OTHER_ACTUAL}
+use Rattle.program_uses.specs.declared.uses.Direction.{Direction}
+use Rattle.program_uses.specs.declared.uses.Direction.TheVariants as direction
+use Rattle.program_uses.specs.Constants.{value_as, size_in}
+use Rattle.program_uses.specs.Declaring.{with_value, range_of_items, range_of_bytes, table_of, constant_meaning}
+use Rattle.program_uses.specs.Declaring.{variable_meaning, channel_meaning, formal_meaning}
+use Rattle.program_uses.specs.Instances.{place_in}
+use Rattle.program_uses.specs.Places.{element_in, element_of, is_subscripted}
+use Rattle.program_uses.specs.Signatures.{Parameter, parameters_in}
 use Rattle.usage_checks.specs.declared.channel_rules.Position.{Position}
-use Rattle.usage_checks.specs.declared.faults.TheConstants.{OTHER_ACTUAL}
-use Rattle.usage_checks.specs.declared.uses.Direction.{Direction}
-use Rattle.usage_checks.specs.declared.uses.Direction.TheVariants as direction
 use Rattle.usage_checks.specs.declared.wanting.Wanted.{Wanted}
 use Rattle.usage_checks.specs.declared.wanting.Wanted.TheVariants as wanted
 use Rattle.usage_checks.specs.ActionRules.{BreaksAction, BreaksGuard}
-use Rattle.usage_checks.specs.Constants.{value_as, size_in}
 use Rattle.usage_checks.specs.DeclarationRules.{BreaksSizeIfAny, HasOtherSize, IsNoText, BreaksItem, BreaksValue}
 use Rattle.usage_checks.specs.DeclarationRules.{BreaksDeclaration}
-use Rattle.usage_checks.specs.Declaring.{with_value, range_of_items, range_of_bytes, table_of, constant_meaning}
-use Rattle.usage_checks.specs.Declaring.{variable_meaning, channel_meaning, formal_meaning}
 use Rattle.usage_checks.specs.EachBroken.{BreaksEach}
 use Rattle.usage_checks.specs.Following.{where_holds}
 use Rattle.usage_checks.specs.FormalRules.{BreakSizes}
@@ -47,19 +50,17 @@ use Rattle.usage_checks.specs.Holding.{ConditionHoldsIfAny, GuardHolds, Replicat
 use Rattle.usage_checks.specs.Holding.{DeclarationHolds, FormalsHold}
 use Rattle.usage_checks.specs.InstanceRules.{takes, takes_value, IsNotTaken, subscript_for, IsNoValue, BreaksActual}
 use Rattle.usage_checks.specs.InstanceRules.{BreaksOne, IsNotCalled, BreaksInstance}
-use Rattle.usage_checks.specs.Instances.{place_in}
 use Rattle.usage_checks.specs.LineRules.{BreaksInput, BreaksCondition, BreaksConditionIfAny, fits_word, IsNoCount}
 use Rattle.usage_checks.specs.LineRules.{BreaksReplicator}
 use Rattle.usage_checks.specs.NameRules.{declared_meaning}
-use Rattle.usage_checks.specs.Places.{element_in, element_of}
-use Rattle.usage_checks.specs.PlaceRules.{channel_type, elements_in, is_subscripted, target_at, channel_at, IsOutside}
+use Rattle.usage_checks.specs.PlaceRules.{channel_type, elements_in, target_at, channel_at, IsOutside}
 use Rattle.usage_checks.specs.PlaceRules.{BreaksSubscript, BreaksTarget, Differ}
 use Rattle.usage_checks.specs.ChannelRules.{BreaksEnd}
-use Rattle.usage_checks.specs.Signatures.{Parameter, parameters_in}
 use Rattle.usage_checks.specs.Whole.{is_whole, AreWhole}
 use Rattle.scalar_ranges.proofs.Parts.{ok_same}
 use Rattle.usage_checks.proofs.KnownValues.{below, equal_numbers, equal_itself}
-use Rattle.usage_checks.proofs.KnownValues.{not_false, found_whole, found_number, IsNumber, types_agree, WantsNumber, fit}
+use Rattle.usage_checks.proofs.KnownValues.{not_false, found_whole, found_number, IsNumber, types_agree, WantsNumber}
+use Rattle.usage_checks.proofs.KnownValues.{fit}
 use Rattle.usage_checks.proofs.KnownValues.{value_found, value_range, size_found, size_positive}
 use Rattle.usage_checks.proofs.WholeMoves.{holds_whole}
 

@@ -2,10 +2,10 @@
 use Rattle.std.proofs.Common.{◌≡◌, ℕ, suc, ◌+◌, ◌<◌, List, [], ◌∷◌, ◌++◌, length, map, take, get_or, Option, None}
 use Rattle.std.proofs.Common.{inl, inr, sym, subst, ◌⊎◌, arith, add-zero}
 use Rattle.std.proofs.lemmas.List.{length-take, length-map}
-use Rattle.usage_checks.specs.Lowest.{IsLowest, lower}
+use Rattle.program_uses.specs.Lowest.{IsLowest, lower}
+use Rattle.program_uses.proofs.LowestOfBoth.{none_broken, lowest_of, lowest_as, lowest_at}
+use Rattle.program_uses.proofs.NextInTurn.{seen_more}
 use Rattle.usage_checks.specs.EachBroken.{BreaksEach}
-use Rattle.usage_checks.proofs.LowestOfBoth.{none_broken, lowest_of, lowest_as, lowest_at}
-use Rattle.usage_checks.proofs.OneAfterAnother.{seen_more}
 
 before_last : {A : Type 0} (Breaks : ℕ → A → ℕ → Type 0) (k : ℕ) (xs : List A) (x : A) (n : ℕ)
     → BreaksEach Breaks k (xs ++ x ∷ []) n → BreaksEach Breaks k xs n ⊎ Breaks (k + length xs) x n

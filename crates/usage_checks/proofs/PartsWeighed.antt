@@ -13,14 +13,14 @@ use Rattle.occam_parser.specs.BlockViews.{all_of}
 use Rattle.occam_parser.proofs.SeenBlocks.{all_push}
 use Rattle.scalar_ranges.specs.Entries.{Entry}
 use Rattle.scalar_ranges.specs.Moves.{Known}
+use Rattle.program_uses.specs.Declaring.{add_declaration}
+use Rattle.program_uses.specs.Entering.{add_declarations}
+use Rattle.program_uses.specs.Signatures.{Parameter}
+use Rattle.program_uses.proofs.Adding.{taken_one}
 use Rattle.usage_checks.specs.declared.weighing.Weight.{Weight}
-use Rattle.usage_checks.specs.Declaring.{add_declaration}
-use Rattle.usage_checks.specs.Entering.{add_declarations}
-use Rattle.usage_checks.specs.Signatures.{Parameter}
 use Rattle.usage_checks.specs.Sizes.{size_of_declaration, Measured, plain, total, measures_of, measures_of_construct}
 use Rattle.usage_checks.specs.Sizes.{measures_of_components, measures_of_component, greatest_size, capped, end_in}
 use Rattle.usage_checks.specs.Weighing.{Counts, Sums, Weighs, WeighsIn, end_at, declared_lines}
-use Rattle.usage_checks.proofs.Adding.{taken_one}
 
 -- ---- sums
 

@@ -18,30 +18,33 @@ use Rattle.occam_parser.specs.Blocks.{ProgramItem, GlobalConstant, GlobalProcedu
 use Rattle.scalar_ranges.specs.Entries as entries
 use Rattle.scalar_ranges.specs.Entries.{Meaning, Entry}
 use Rattle.scalar_ranges.specs.Moves.{Known}
+use Rattle.program_uses.specs.Actions.{Around, is_before}
+use Rattle.program_uses.specs.Components.{changes_in}
+use Rattle.program_uses.specs.Declaring.{add, add_all, add_declaration, formal_meaning, add_formals}
+use Rattle.program_uses.specs.Indices.{is_sequence, is_count, turns_from, turns_for, index_at, index_of, index_in}
+use Rattle.program_uses.specs.Indices.{turn_by_turn}
+use Rattle.program_uses.specs.InTurn.{in_turn}
+use Rattle.program_uses.specs.Processes.{uses_of, uses_of_body}
+use Rattle.program_uses.specs.Signatures.{Parameter}
 use Rattle.usage_checks.specs.declared.channel_rules.Position.{Position}
 use Rattle.usage_checks.specs.declared.telling.UsageFault.{UsageFault}
-use Rattle.usage_checks.specs.Actions.{Around, is_before}
-use Rattle.usage_checks.specs.AfterProcesses.{inside, after_construct, begun, begun_body, changes_in, chosen}
+use Rattle.usage_checks.specs.AfterProcesses.{inside, after_construct, begun, begun_body, chosen}
 use Rattle.usage_checks.specs.AfterProcesses.{after_components, after_component}
-use Rattle.usage_checks.specs.Declaring.{add, add_all, add_declaration, formal_meaning, add_formals}
 use Rattle.usage_checks.specs.Following.{after_action, after_guard}
 use Rattle.usage_checks.specs.Holding.{ReplicatorHolds, DeclarationHolds, FormalsHold}
-use Rattle.usage_checks.specs.Indices.{is_sequence, is_count, turns_from, turns_for, index_at, index_of, index_in}
-use Rattle.usage_checks.specs.Indices.{turn_by_turn}
-use Rattle.usage_checks.specs.InTurn.{in_turn, BreaksInTurn}
+use Rattle.usage_checks.specs.BrokenInTurn.{BreaksInTurn}
 use Rattle.usage_checks.specs.ItemRules.{in_body, after_procedure, signature_of, Outside, outermost, around_in}
 use Rattle.usage_checks.specs.ItemRules.{after_weighing, weighed, after_walk, BreaksWalk, after_item, BreaksItem}
 use Rattle.usage_checks.specs.ItemRules.{BreaksNoRule}
 use Rattle.usage_checks.specs.LineRules.{fits_word}
 use Rattle.usage_checks.specs.NameRules.{with_entries, BreaksDeclared, declared_meaning}
-use Rattle.usage_checks.specs.Processes.{uses_of, uses_of_body}
 use Rattle.usage_checks.specs.ProcessRules.{BreaksInTurns, position_in, BreaksIn, BreaksConstruct, BreakComponents}
 use Rattle.usage_checks.specs.ProcessRules.{BreaksComponent}
 use Rattle.usage_checks.specs.Reaching.{Standing, Piece, AProcess, AComponent, Comes, in_procedure, in_block}
 use Rattle.usage_checks.specs.Reaching.{repeats_in, turn_of, in_turn_of, IsUnder, StandsAmong, StandsIn}
-use Rattle.usage_checks.specs.Reaching.{process_of, entered, Reaches, to_body, behind, to_part, to_process, ProcessHolds, ComponentHolds}
+use Rattle.usage_checks.specs.Reaching.{process_of, entered, Reaches, to_body, behind, to_part, to_process}
+use Rattle.usage_checks.specs.Reaching.{ProcessHolds, ComponentHolds}
 use Rattle.usage_checks.specs.Reaching.{IsRight, ItemHolds, ItemIsRight, PlacesHold, ItemsHold, SignaturesStay}
-use Rattle.usage_checks.specs.Signatures.{Parameter}
 use Rattle.usage_checks.specs.Sizes.{Measured, measures_of_item}
 use Rattle.usage_checks.specs.Telling.{At}
 use Rattle.usage_checks.specs.Walking.{word_of}

@@ -3,12 +3,12 @@ use Rattle.std.proofs.Common.{◌≡◌, ℕ, List, length, ap, subst, ◌∙◌
 use Rattle.occam_parser.specs.Lines.{Formal}
 use Rattle.occam_parser.specs.Blocks.{Procedure}
 use Rattle.scalar_ranges.specs.Moves.{Known}
+use Rattle.program_uses.specs.ActionViews.{around_of}
+use Rattle.program_uses.specs.Declaring.{add_formals}
 use Rattle.usage_checks.specs.declared.blocks.Site.{Site}
 use Rattle.usage_checks.specs.declared.channel_rules.Position.{Position}
 use Rattle.usage_checks.specs.declared.telling.Findings.{Findings}
-use Rattle.usage_checks.specs.ActionViews.{around_of}
 use Rattle.usage_checks.specs.AfterProcesses.{inside, left_to}
-use Rattle.usage_checks.specs.Declaring.{add_formals}
 use Rattle.usage_checks.specs.FormalRules.{BreakSizes, BreakFormals}
 use Rattle.usage_checks.specs.ItemRules.{body_position, after_procedure, BreaksProcedure}
 use Rattle.usage_checks.specs.MainRules.{is_main_name}

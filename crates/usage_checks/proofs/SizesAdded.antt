@@ -8,9 +8,9 @@ use Rattle.occam_parser.specs.Expressions.{Expression, Terms, Then, Term}
 use Rattle.occam_parser.specs.Views.{expression_of, with_others}
 use Rattle.scalar_ranges.specs.Entries.{Entry}
 use Rattle.scalar_ranges.specs.Environments.{item_at}
-use Rattle.usage_checks.specs.Signatures.{Parameter}
+use Rattle.program_uses.specs.Signatures.{Parameter}
+use Rattle.program_uses.proofs.NextInTurn.{seen_more}
 use Rattle.usage_checks.specs.Sizes.{size_of_terms, size_of_term, ends_of_actual, ends_of_actuals}
-use Rattle.usage_checks.proofs.OneAfterAnother.{seen_more}
 
 -- ---- chains
 

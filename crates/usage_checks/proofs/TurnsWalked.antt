@@ -4,20 +4,21 @@ use Rattle.occam_parser.specs.Lines.{Replicator, block_word}
 use Rattle.occam_parser.specs.Blocks.{Body, One, Replicated}
 use Rattle.scalar_ranges.specs.Entries.{Meaning}
 use Rattle.scalar_ranges.specs.Moves.{Known, begin}
+use Rattle.program_uses.specs.Actions.{Around, is_before}
+use Rattle.program_uses.specs.ActionViews.{around_of}
+use Rattle.program_uses.specs.Components.{changes_in, BreaksRepeated}
+use Rattle.program_uses.specs.Declaring.{add}
+use Rattle.program_uses.specs.Indices.{is_sequence, Repeats, repeats_of, index_in, turn_by_turn}
+use Rattle.program_uses.specs.Processes.{uses_of_body}
 use Rattle.usage_checks.specs.declared.blocks.Site.{Site}
 use Rattle.usage_checks.specs.declared.channel_rules.Position.{Position}
 use Rattle.usage_checks.specs.declared.telling.UsageFault.{UsageFault}
 use Rattle.usage_checks.specs.declared.telling.Findings.{Findings}
-use Rattle.usage_checks.specs.Actions.{Around, is_before}
-use Rattle.usage_checks.specs.ActionViews.{around_of}
-use Rattle.usage_checks.specs.AfterProcesses.{changes_in, unless, begun_turns, begun_body, repeated, after_component}
+use Rattle.usage_checks.specs.AfterProcesses.{unless, begun_turns, begun_body, repeated, after_component}
 use Rattle.usage_checks.specs.AfterProcesses.{after_body}
-use Rattle.usage_checks.specs.Declaring.{add}
-use Rattle.usage_checks.specs.Indices.{is_sequence, Repeats, repeats_of, index_in, turn_by_turn}
 use Rattle.usage_checks.specs.LineRules.{BreaksReplicator}
 use Rattle.usage_checks.specs.NameRules.{with_entries}
-use Rattle.usage_checks.specs.Processes.{uses_of_body}
-use Rattle.usage_checks.specs.ProcessRules.{BreaksRepeated, BreaksInTurns, position_in, BreaksComponent, BreaksBody}
+use Rattle.usage_checks.specs.ProcessRules.{BreaksInTurns, position_in, BreaksComponent, BreaksBody}
 use Rattle.usage_checks.specs.Reaching.{turn_of}
 use Rattle.usage_checks.specs.Telling.{At, Walks}
 use Rattle.usage_checks.specs.Walking.{word_of, WalksBody, WalksTurn, WalksConstruct}

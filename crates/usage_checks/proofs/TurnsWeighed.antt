@@ -4,12 +4,12 @@ use Rattle.std.proofs.Common.{ℤ, sym, ap, arith, ◌∙◌, zero-add, add-one}
 use Rattle.occam_parser.specs.Lines.{Replicator}
 use Rattle.occam_parser.specs.Blocks.{Body, One}
 use Rattle.scalar_ranges.specs.Entries.{Entry}
-use Rattle.usage_checks.specs.declared.indices.Turns.{Turns}
+use Rattle.program_uses.specs.declared.indices.Turns.{Turns}
+use Rattle.program_uses.specs.Declaring.{add}
+use Rattle.program_uses.specs.Indices.{is_sequence, turns_of, index_meaning, in_turns}
+use Rattle.program_uses.specs.Processes.{in_turn}
+use Rattle.program_uses.specs.Signatures.{Parameter}
 use Rattle.usage_checks.specs.declared.weighing.Weight.{Weight}
-use Rattle.usage_checks.specs.Declaring.{add}
-use Rattle.usage_checks.specs.Indices.{is_sequence, turns_of, index_meaning, in_turns}
-use Rattle.usage_checks.specs.Processes.{in_turn}
-use Rattle.usage_checks.specs.Signatures.{Parameter}
 use Rattle.usage_checks.specs.Sizes.{size_of_replicator, Measured, plain, total, with_turns, measures_of_body}
 use Rattle.usage_checks.specs.Sizes.{measures_of_component, greatest_size}
 use Rattle.usage_checks.specs.Weighing.{Sums, Weighs, measures_of_one, measures_in_turns}

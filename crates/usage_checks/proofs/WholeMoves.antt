@@ -20,13 +20,13 @@ use Rattle.scalar_ranges.specs.Moves.{next_from, next, excluded, exclude_from, a
 use Rattle.scalar_ranges.specs.Moves.{component_end, component_from}
 use Rattle.scalar_ranges.specs.MoveLaws.{shape}
 use Rattle.scalar_ranges.proofs.MoveLaws.{shapes_stay}
+use Rattle.program_uses.specs.Instances.{variable_at}
+use Rattle.program_uses.specs.Signatures.{Parameter, parameters_in}
 use Rattle.usage_checks.specs.AfterProcesses.{left_to, begun, ended, unless, begun_turns, begun_body, repeated, chosen}
 use Rattle.usage_checks.specs.AfterProcesses.{process_ended}
 use Rattle.usage_checks.specs.Following.{receive_if, assign_if, passed_to, after_actuals, after_action, where_holds}
 use Rattle.usage_checks.specs.Following.{after_guard}
-use Rattle.usage_checks.specs.Instances.{variable_at}
 use Rattle.usage_checks.specs.NameRules.{with_entries}
-use Rattle.usage_checks.specs.Signatures.{Parameter, parameters_in}
 use Rattle.usage_checks.specs.Whole.{is_whole, AreWhole, AreWholeIfAny, BlocksAreWhole, IsWhole}
 use Rattle.usage_checks.proofs.KnownValues.{below, is_below}
 

@@ -2,8 +2,8 @@
 use Rattle.std.specs.Prelude.{ℕ, List, ◌⊎◌}
 use Rattle.occam_parser.specs.Lines.{Action, Skip, Stop, Assign, Input, Output, Instance, Guard, Receives, Skips}
 use Rattle.scalar_ranges.specs.Entries.{Entry}
+use Rattle.program_uses.specs.Signatures.{Parameter}
 use Rattle.usage_checks.specs.declared.channel_rules.Position.{Position}
-use Rattle.usage_checks.specs.Signatures.{Parameter}
 use Rattle.usage_checks.specs.Following.{where_holds}
 use Rattle.usage_checks.specs.LineRules.{BreaksAssignment, BreaksInput, BreaksOutput, BreaksCondition}
 use Rattle.usage_checks.specs.LineRules.{BreaksConditionIfAny}

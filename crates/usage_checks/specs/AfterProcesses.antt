@@ -1,5 +1,5 @@
 -- What is known after a process: the moves of its parts, one after another.
-use Rattle.std.specs.Prelude.{ℕ, Bool, true, false, List, [], ◌∷◌, length, Some}
+use Rattle.std.specs.Prelude.{ℕ, Bool, true, false, List, length, Some}
 use Rattle.occam_layout.specs.declared.mark.Mark.TheVariants as mark
 use Rattle.occam_parser.specs.Terminals.{Terminal, Mark}
 use Rattle.occam_parser.specs.Expressions.{Expression}
@@ -7,21 +7,13 @@ use Rattle.occam_parser.specs.Lines.{Replicator, block_word}
 use Rattle.occam_parser.specs.Blocks.{Process, Declared, Does, Construct, Act, Block, Replicated, Body, One, Part}
 use Rattle.occam_parser.specs.Blocks.{Components, NoComponent, Further, Component, Plain, Chosen, Guarded}
 use Rattle.scalar_ranges.specs.Moves.{Known, leave, begin, exclude, next, end, begin_par, next_component, begin_loop}
-use Rattle.usage_checks.specs.declared.uses.Use.{Use}
-use Rattle.usage_checks.specs.declared.uses.Use.TheVariants as used
-use Rattle.usage_checks.specs.Actions.{Around, is_before}
-use Rattle.usage_checks.specs.Declaring.{add, add_declaration}
+use Rattle.program_uses.specs.Components.{changes_in}
+use Rattle.program_uses.specs.Actions.{Around, is_before}
+use Rattle.program_uses.specs.Declaring.{add, add_declaration}
+use Rattle.program_uses.specs.Indices.{is_seq, repeats_of, index_in, turn_by_turn}
+use Rattle.program_uses.specs.Processes.{uses_of, uses_of_body}
 use Rattle.usage_checks.specs.Following.{after_action, after_guard, where_holds}
-use Rattle.usage_checks.specs.Indices.{is_seq, repeats_of, index_in, turn_by_turn}
 use Rattle.usage_checks.specs.NameRules.{with_entries}
-use Rattle.usage_checks.specs.Processes.{uses_of, uses_of_body}
-
--- the numbers of the variables that are changed
-abbrev pub changes_in : List Use → List ℕ
-changes_in [] = []
-changes_in (used.Change n ∷ us) = n ∷ changes_in us
-changes_in (used.Read n ∷ us) = changes_in us
-changes_in (used.Channel n i d ∷ us) = changes_in us
 
 -- what was declared since there were so many names is left
 abbrev pub left_to : ℕ → Known → Known

@@ -4,11 +4,11 @@ use Rattle.std.specs.Prelude.{if◌then◌else◌, Option, Some, None, Result, O
 use Rattle.occam_parser.specs.Lines.{Place}
 use Rattle.scalar_ranges.specs.declared.types.ExprType.{ExprType}
 use Rattle.scalar_ranges.specs.Entries.{Entry, number_in}
+use Rattle.program_uses.specs.declared.faults.TheConstants.{CHANNEL_USE}
+use Rattle.program_uses.specs.declared.uses.Direction.{Direction}
+use Rattle.program_uses.specs.declared.uses.Direction.TheVariants as direction
+use Rattle.program_uses.specs.Sets.{is_same_way}
 use Rattle.usage_checks.specs.declared.channel_rules.Position.{Position}
-use Rattle.usage_checks.specs.declared.faults.TheConstants.{CHANNEL_USE}
-use Rattle.usage_checks.specs.declared.uses.Direction.{Direction}
-use Rattle.usage_checks.specs.declared.uses.Direction.TheVariants as direction
-use Rattle.usage_checks.specs.Sets.{is_same_way}
 use Rattle.usage_checks.specs.PlaceRules.{channel_at, BreaksChannel}
 
 -- in main `in0` to `in3` are received from, and `out0` to `out3` are sent to

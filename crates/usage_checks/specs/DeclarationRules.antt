@@ -10,8 +10,8 @@ use Rattle.scalar_ranges.specs.declared.types.TheConstants.{WRONG_TYPE}
 use Rattle.scalar_ranges.specs.declared.bounds.TheConstants.{OUT_OF_RANGE}
 use Rattle.scalar_ranges.specs.Entries.{Entry}
 use Rattle.scalar_ranges.specs.Types.{type_of_values}
+use Rattle.program_uses.specs.Constants.{value_as, size_in}
 use Rattle.usage_checks.specs.declared.wanting.Wanted.TheVariants as wanted
-use Rattle.usage_checks.specs.Constants.{value_as, size_in}
 use Rattle.usage_checks.specs.Wanting.{BreaksWanted}
 use Rattle.usage_checks.specs.EachBroken.{BreaksEach}
 

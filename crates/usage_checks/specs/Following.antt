@@ -10,10 +10,10 @@ use Rattle.scalar_ranges.specs.Environments.{item_at}
 use Rattle.scalar_ranges.specs.Bounds.{bound_of, range_found}
 use Rattle.scalar_ranges.specs.Narrowing.{narrow}
 use Rattle.scalar_ranges.specs.Moves.{at_number, with_meaning, assign, widened}
-use Rattle.usage_checks.specs.declared.signature.Passing.{Passing}
-use Rattle.usage_checks.specs.declared.signature.Passing.TheVariants as passing
-use Rattle.usage_checks.specs.Signatures.{Parameter, passing_of, parameters_in}
-use Rattle.usage_checks.specs.Instances.{place_in, variable_at}
+use Rattle.program_uses.specs.declared.signature.Passing.{Passing}
+use Rattle.program_uses.specs.declared.signature.Passing.TheVariants as passing
+use Rattle.program_uses.specs.Signatures.{Parameter, passing_of, parameters_in}
+use Rattle.program_uses.specs.Instances.{place_in, variable_at}
 
 -- something is received into a variable, if there is one
 abbrev pub receive_if : Option ℕ → List Entry → List Entry

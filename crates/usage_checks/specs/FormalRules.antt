@@ -2,13 +2,13 @@
 use Rattle.std.specs.Prelude.{ℕ, List, []}
 use Rattle.occam_parser.specs.Lines.{Formal}
 use Rattle.scalar_ranges.specs.Entries.{Entry}
+use Rattle.program_uses.specs.Declaring.{add, formal_meaning}
+use Rattle.program_uses.specs.Signatures.{Parameter}
 use Rattle.usage_checks.specs.declared.telling.UsageFault.{UsageFault}
 use Rattle.usage_checks.specs.DeclarationRules.{BreaksSizeIfAny}
-use Rattle.usage_checks.specs.Declaring.{add, formal_meaning}
 use Rattle.usage_checks.specs.EachBroken.{BreaksEach}
-use Rattle.usage_checks.specs.InTurn.{BreaksInTurn}
+use Rattle.usage_checks.specs.BrokenInTurn.{BreaksInTurn}
 use Rattle.usage_checks.specs.NameRules.{BreaksName}
-use Rattle.usage_checks.specs.Signatures.{Parameter}
 
 -- No size of a formal sees another formal.
 abbrev pub BreakSizes : List Entry → List Formal → ℕ → Type 0

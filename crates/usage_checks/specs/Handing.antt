@@ -7,15 +7,15 @@ use Rattle.occam_parser.specs.Lines.{Place, Action, Skip, Stop, Assign, Input, O
 use Rattle.scalar_ranges.specs.declared.scope.ArrayKind.TheVariants as array
 use Rattle.scalar_ranges.specs.Entries.{Meaning, Array, Entry, meaning_in}
 use Rattle.scalar_ranges.specs.Environments.{item_at}
-use Rattle.usage_checks.specs.declared.faults.TheConstants.{PASSED_TWICE}
+use Rattle.program_uses.specs.declared.faults.TheConstants.{PASSED_TWICE}
+use Rattle.program_uses.specs.declared.places.Spot.{Spot}
+use Rattle.program_uses.specs.declared.signature.Passing.{Passing}
+use Rattle.program_uses.specs.declared.signature.Passing.TheVariants as passing
+use Rattle.program_uses.specs.Places.{spot_of}
+use Rattle.program_uses.specs.Signatures.{Parameter, passing_of, parameters_in}
+use Rattle.program_uses.specs.Instances.{place_in, variable_at, array_at}
 use Rattle.usage_checks.specs.declared.handing.Handed.{Handed}
 use Rattle.usage_checks.specs.declared.handing.Handed.TheVariants as handed
-use Rattle.usage_checks.specs.declared.places.Spot.{Spot}
-use Rattle.usage_checks.specs.declared.signature.Passing.{Passing}
-use Rattle.usage_checks.specs.declared.signature.Passing.TheVariants as passing
-use Rattle.usage_checks.specs.Places.{spot_of}
-use Rattle.usage_checks.specs.Signatures.{Parameter, passing_of, parameters_in}
-use Rattle.usage_checks.specs.Instances.{place_in, variable_at, array_at}
 
 abbrev pub handed_if : (ℕ → Handed) → Option ℕ → Handed
 handed_if as_handed None = handed.Nothing

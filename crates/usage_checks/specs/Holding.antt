@@ -16,16 +16,16 @@ use Rattle.scalar_ranges.specs.Entries.{Meaning, Procedure, Entry, meaning_in}
 use Rattle.scalar_ranges.specs.Environments.{item_at}
 use Rattle.scalar_ranges.specs.Types.{type_of_values, type_of}
 use Rattle.scalar_ranges.specs.Bounds.{bound_of, range_found, is_subscript}
+use Rattle.program_uses.specs.Constants.{value_as, size_in}
+use Rattle.program_uses.specs.Instances.{place_in}
+use Rattle.program_uses.specs.Places.{spot_of, is_subscripted}
+use Rattle.program_uses.specs.Signatures.{Parameter}
 use Rattle.usage_checks.specs.declared.wanting.Wanted.{Wanted}
 use Rattle.usage_checks.specs.declared.wanting.Wanted.TheVariants as wanted
-use Rattle.usage_checks.specs.Constants.{value_as, size_in}
 use Rattle.usage_checks.specs.Following.{where_holds}
 use Rattle.usage_checks.specs.InstanceRules.{takes, takes_value, subscript_for}
-use Rattle.usage_checks.specs.Instances.{place_in}
 use Rattle.usage_checks.specs.LineRules.{fits_word}
-use Rattle.usage_checks.specs.Places.{spot_of}
-use Rattle.usage_checks.specs.PlaceRules.{target_at, channel_at, elements_in, is_subscripted}
-use Rattle.usage_checks.specs.Signatures.{Parameter}
+use Rattle.usage_checks.specs.PlaceRules.{target_at, channel_at, elements_in}
 
 -- ---- expressions and places
 

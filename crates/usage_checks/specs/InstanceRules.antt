@@ -15,18 +15,19 @@ use Rattle.scalar_ranges.specs.Entries.{Meaning, Constant, Scalar, Array, Channe
 use Rattle.scalar_ranges.specs.Entries.{meaning_in, number_in}
 use Rattle.scalar_ranges.specs.Environments.{item_at}
 use Rattle.scalar_ranges.specs.Types.{type_of_values, type_of}
+use Rattle.program_uses.specs.declared.faults.TheConstants.{OTHER_ACTUAL, CHANNEL_USE}
+use Rattle.program_uses.specs.declared.uses.End.{End}
+use Rattle.program_uses.specs.Constants.{is_same_type, has_type}
+use Rattle.program_uses.specs.Mentions.{are_changeable}
+use Rattle.program_uses.specs.Signatures.{Parameter, parameters_in}
+use Rattle.program_uses.specs.Instances.{place_in}
+use Rattle.program_uses.specs.Places.{is_subscripted}
 use Rattle.usage_checks.specs.declared.channel_rules.Position.{Position}
-use Rattle.usage_checks.specs.declared.faults.TheConstants.{OTHER_ACTUAL, CHANNEL_USE}
-use Rattle.usage_checks.specs.declared.uses.End.{End}
 use Rattle.usage_checks.specs.declared.wanting.Wanted.{Wanted}
 use Rattle.usage_checks.specs.declared.wanting.Wanted.TheVariants as wanted
-use Rattle.usage_checks.specs.Constants.{is_same_type, has_type}
-use Rattle.usage_checks.specs.Mentions.{are_changeable}
-use Rattle.usage_checks.specs.Signatures.{Parameter, parameters_in}
-use Rattle.usage_checks.specs.Instances.{place_in}
 use Rattle.usage_checks.specs.Wanting.{BreaksWanted}
 use Rattle.usage_checks.specs.EachBroken.{BreaksEach}
-use Rattle.usage_checks.specs.PlaceRules.{target_type, channel_type, elements_in, is_subscripted, BreaksSubscript}
+use Rattle.usage_checks.specs.PlaceRules.{target_type, channel_type, elements_in, BreaksSubscript}
 use Rattle.usage_checks.specs.ChannelRules.{is_inside, is_right_way}
 
 -- ---- what a formal takes: by what a name stands for, and by whether a subscript follows it

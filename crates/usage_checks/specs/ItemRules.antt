@@ -5,21 +5,22 @@ use Rattle.occam_parser.specs.Blocks.{Procedure, ProgramItem, GlobalConstant, Gl
 use Rattle.scalar_ranges.specs.Entries as entries
 use Rattle.scalar_ranges.specs.Entries.{Entry}
 use Rattle.scalar_ranges.specs.Moves.{Known}
+use Rattle.program_uses.specs.declared.ends.ChannelEnd.{ChannelEnd}
 use Rattle.usage_checks.specs.declared.channel_rules.Position.{Position}
-use Rattle.usage_checks.specs.declared.ends.ChannelEnd.{ChannelEnd}
 use Rattle.scalar_ranges.specs.declared.bounds.TheConstants.{OUT_OF_RANGE}
+use Rattle.program_uses.specs.Actions.{Around}
+use Rattle.program_uses.specs.Declaring.{add, add_declaration, formal_meaning, add_formals}
+use Rattle.program_uses.specs.Ends.{sorted_ends, ends_at}
+use Rattle.program_uses.specs.InTurn.{in_turn}
+use Rattle.program_uses.specs.Processes.{uses_of}
+use Rattle.program_uses.specs.Signatures.{Parameter}
 use Rattle.usage_checks.specs.declared.telling.UsageFault.{UsageFault}
-use Rattle.usage_checks.specs.Actions.{Around}
 use Rattle.usage_checks.specs.AfterProcesses.{inside, left_to}
-use Rattle.usage_checks.specs.Declaring.{add, add_declaration, formal_meaning, add_formals}
-use Rattle.usage_checks.specs.Ends.{sorted_ends, ends_at}
 use Rattle.usage_checks.specs.FormalRules.{BreakSizes, BreakFormals}
-use Rattle.usage_checks.specs.InTurn.{in_turn, BreaksInTurn}
+use Rattle.usage_checks.specs.BrokenInTurn.{BreaksInTurn}
 use Rattle.usage_checks.specs.MainRules.{is_main_name, BreaksMain}
 use Rattle.usage_checks.specs.NameRules.{BreaksName, BreaksDeclared, with_entries}
-use Rattle.usage_checks.specs.Processes.{uses_of}
 use Rattle.usage_checks.specs.ProcessRules.{BreaksIn}
-use Rattle.usage_checks.specs.Signatures.{Parameter}
 use Rattle.usage_checks.specs.Sizes.{Measured, total, measures_of_item, capped, end_in}
 use Rattle.usage_checks.specs.Telling.{At}
 

@@ -1,8 +1,8 @@
 -- What the program knows of its items.
 use Rattle.scalar_ranges.specs.Scopes.{known_of}
+use Rattle.program_uses.specs.Signatures.{signatures_of}
 use Rattle.usage_checks.specs.declared.items.Outside as code_outside
 use Rattle.usage_checks.specs.ItemRules.{Outside}
-use Rattle.usage_checks.specs.Signatures.{signatures_of}
 use Rattle.usage_checks.specs.Sizes.{capped}
 
 abbrev pub seen_outside : code_outside.Outside → Outside

@@ -7,10 +7,10 @@ use Rattle.scalar_ranges.specs.declared.types.ExprType.TheVariants as types
 use Rattle.scalar_ranges.specs.declared.bounds.TheConstants.{OUT_OF_RANGE}
 use Rattle.scalar_ranges.specs.Entries.{Entry}
 use Rattle.scalar_ranges.specs.Types.{type_of}
+use Rattle.program_uses.specs.declared.uses.Direction.TheVariants as direction
+use Rattle.program_uses.specs.Constants.{value_as}
 use Rattle.usage_checks.specs.declared.channel_rules.Position.{Position}
-use Rattle.usage_checks.specs.declared.uses.Direction.TheVariants as direction
 use Rattle.usage_checks.specs.declared.wanting.Wanted.TheVariants as wanted
-use Rattle.usage_checks.specs.Constants.{value_as}
 use Rattle.usage_checks.specs.Wanting.{BreaksWanted}
 use Rattle.usage_checks.specs.PlaceRules.{target_at, channel_at, BreaksTarget, Differ}
 use Rattle.usage_checks.specs.ChannelRules.{BreaksEnd}

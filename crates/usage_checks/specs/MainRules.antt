@@ -6,9 +6,9 @@ use Rattle.occam_parser.specs.declared.tree.FormalKind.TheVariants as formal_kin
 use Rattle.occam_parser.specs.Expressions.{Expression}
 use Rattle.occam_parser.specs.Lines.{Formal}
 use Rattle.occam_parser.specs.Blocks.{ProgramItem, GlobalConstant, GlobalProcedure, item_line}
-use Rattle.usage_checks.specs.declared.faults.TheConstants.{NO_MAIN}
+use Rattle.program_uses.specs.declared.faults.TheConstants.{NO_MAIN}
+use Rattle.program_uses.specs.declared.uses.Direction.{Direction}
 use Rattle.usage_checks.specs.declared.telling.UsageFault.{UsageFault}
-use Rattle.usage_checks.specs.declared.uses.Direction.{Direction}
 use Rattle.usage_checks.specs.ChannelRules.{link_way}
 use Rattle.usage_checks.specs.Telling.{At}
 

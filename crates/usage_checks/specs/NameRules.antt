@@ -5,11 +5,11 @@ use Rattle.occam_parser.specs.Lines.{Declaration, Constants, Variables, Channels
 use Rattle.occam_parser.specs.Blocks.{declaration_line}
 use Rattle.scalar_ranges.specs.Entries.{Meaning, Entry, number_in}
 use Rattle.scalar_ranges.specs.Moves.{Known}
-use Rattle.usage_checks.specs.declared.faults.TheConstants.{DECLARED_TWICE}
+use Rattle.program_uses.specs.declared.faults.TheConstants.{DECLARED_TWICE}
+use Rattle.program_uses.specs.Declaring.{add, constant_meaning, variable_meaning, channel_meaning, add_declaration}
 use Rattle.usage_checks.specs.declared.telling.UsageFault.{UsageFault}
-use Rattle.usage_checks.specs.Declaring.{add, constant_meaning, variable_meaning, channel_meaning, add_declaration}
 use Rattle.usage_checks.specs.DeclarationRules.{BreaksDeclaration}
-use Rattle.usage_checks.specs.InTurn.{BreaksInTurn}
+use Rattle.usage_checks.specs.BrokenInTurn.{BreaksInTurn}
 use Rattle.usage_checks.specs.Telling.{At}
 
 -- whether a declaration is of the innermost scope, whose first one has this number

@@ -10,10 +10,11 @@ use Rattle.scalar_ranges.specs.declared.bounds.TheConstants.{OUTSIDE}
 use Rattle.scalar_ranges.specs.Entries.{Meaning, Scalar, Array, Channel, Channels, Entry, meaning_in}
 use Rattle.scalar_ranges.specs.Types.{type_of_values, type_of}
 use Rattle.scalar_ranges.specs.Bounds.{bound_of, range_found, is_subscript}
+use Rattle.program_uses.specs.Constants.{is_same_type}
+use Rattle.program_uses.specs.Places.{is_subscripted}
+use Rattle.program_uses.specs.Mentions.{is_changeable, are_changeable}
 use Rattle.usage_checks.specs.declared.wanting.Wanted.{Wanted}
 use Rattle.usage_checks.specs.declared.wanting.Wanted.TheVariants as wanted
-use Rattle.usage_checks.specs.Constants.{is_same_type}
-use Rattle.usage_checks.specs.Mentions.{is_changeable, are_changeable}
 use Rattle.usage_checks.specs.Wanting.{BreaksWanted}
 
 -- ---- what a name stands for, by whether a subscript follows it
@@ -39,10 +40,6 @@ abbrev pub elements_in : Option Meaning → Option ℕ
 elements_in (Some (Array kind type size range)) = size
 elements_in (Some (Channels type size)) = size
 elements_in m = None
-
-abbrev pub is_subscripted : Option Expression → Bool
-is_subscripted None = false
-is_subscripted (Some e) = true
 
 abbrev pub target_at : List Entry → Place → Result ExprType ℕ
 target_at es p = target_type (meaning_in p.name es) (is_subscripted p.subscript)

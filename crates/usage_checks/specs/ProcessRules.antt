@@ -1,5 +1,5 @@
 -- The rules that a process breaks, each at its line.
-use Rattle.std.specs.Prelude.{ℕ, zero, suc, false, List, length, ◌⊎◌}
+use Rattle.std.specs.Prelude.{ℕ, zero, suc, List, length, ◌⊎◌}
 use Rattle.occam_layout.specs.declared.mark.Mark.TheVariants as mark
 use Rattle.occam_parser.specs.Terminals.{Terminal, Mark}
 use Rattle.occam_parser.specs.Lines.{Replicator, block_word}
@@ -7,46 +7,21 @@ use Rattle.occam_parser.specs.Blocks.{Process, Declared, Does, Construct, Act, B
 use Rattle.occam_parser.specs.Blocks.{Components, NoComponent, Further, Component, Plain, Chosen, Guarded}
 use Rattle.scalar_ranges.specs.Entries.{Entry}
 use Rattle.scalar_ranges.specs.Moves.{Known}
+use Rattle.program_uses.specs.Components.{changes_in, BreakSharing, BreaksRepeated}
+use Rattle.program_uses.specs.Actions.{Around, is_before}
+use Rattle.program_uses.specs.Declaring.{add, add_declaration}
+use Rattle.program_uses.specs.Indices.{is_seq, repeats_of, index_in, turn_by_turn}
+use Rattle.program_uses.specs.Processes.{uses_of_body}
 use Rattle.usage_checks.specs.declared.channel_rules.Position.{Position}
 use Rattle.usage_checks.specs.declared.telling.UsageFault.{UsageFault}
-use Rattle.usage_checks.specs.Sets.{is_among}
-use Rattle.usage_checks.specs.declared.uses.Use.{Use}
-use Rattle.usage_checks.specs.Actions.{Around, is_before}
 use Rattle.usage_checks.specs.ActionRules.{BreaksAction, BreaksGuard}
-use Rattle.usage_checks.specs.AfterProcesses.{begun, begun_body, changes_in, chosen, after_components}
+use Rattle.usage_checks.specs.AfterProcesses.{begun, begun_body, chosen, after_components}
 use Rattle.usage_checks.specs.AfterProcesses.{after_component}
-use Rattle.usage_checks.specs.Declaring.{add, add_declaration}
 use Rattle.usage_checks.specs.Following.{after_guard}
 use Rattle.usage_checks.specs.Handing.{PassesTwice}
-use Rattle.usage_checks.specs.Indices.{is_seq, turns_of, repeats_of, index_in, turn_by_turn, in_turns}
 use Rattle.usage_checks.specs.LineRules.{BreaksCondition, BreaksReplicator}
 use Rattle.usage_checks.specs.NameRules.{BreaksDeclared, with_entries}
-use Rattle.usage_checks.specs.ParRules.{BreaksSharing}
-use Rattle.usage_checks.specs.Processes.{uses_of_body, uses_in_turn, uses_of_components, uses_of_component}
 use Rattle.usage_checks.specs.Telling.{At}
-
--- O14 and O15: each component, with those before it
-abbrev pub BreakSharing : {part : Part} → Around → List Entry → Components part → ℕ → Type 0
-BreakSharing a es NoComponent n = ⊥
-BreakSharing a es (Further cs c) n =
-    BreakSharing a es cs n
-    ⊎ BreaksSharing (length es) (is_among (uses_of_components a es cs)) (is_among (uses_of_component a es c)) n
-
--- the same of turns, by what they use of so many names
-abbrev pub BreakTurns : ℕ → (ℕ → List Use) → ℕ → ℕ → Type 0
-BreakTurns count used zero n = ⊥
-BreakTurns count used (suc turn) n =
-    BreakTurns count used turn n ⊎ BreaksSharing count (is_among (in_turns used turn)) (is_among (used turn)) n
-
--- what is asked of the turns of a PAR
-abbrev pub BreaksTurns : Terminal → ℕ → (ℕ → List Use) → ℕ → ℕ → Type 0
-BreaksTurns (Mark mark.Par) count used turns n = BreakTurns count used turns n
-BreaksTurns word count used turns n = ⊥
-
-abbrev pub BreaksRepeated : Around → List Entry → ℕ → Replicator → Body → ℕ → Type 0
-BreaksRepeated a es line r (One kind c) n =
-    let turns = turns_of (is_before line a.uncounted) es false r in
-    BreaksTurns (block_word kind) (length es) (uses_in_turn a es turns.first r.name (One kind c)) turns.count n
 
 -- what is asked of a block as a whole
 abbrev pub BreaksBlock : {part : Part} → Around → Terminal → List Entry → Components part → ℕ → Type 0

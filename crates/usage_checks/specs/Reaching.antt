@@ -8,22 +8,23 @@ use Rattle.occam_parser.specs.Blocks.{Components, NoComponent, Further, Componen
 use Rattle.occam_parser.specs.Blocks.{ProgramItem, GlobalConstant, GlobalProcedure}
 use Rattle.scalar_ranges.specs.Entries.{Entry}
 use Rattle.scalar_ranges.specs.Moves.{Known}
+use Rattle.program_uses.specs.Actions.{Around, is_before}
+use Rattle.program_uses.specs.Components.{changes_in}
+use Rattle.program_uses.specs.Declaring.{add, add_declaration}
+use Rattle.program_uses.specs.Indices.{is_sequence, Repeats, repeats_of, index_in, turn_by_turn}
+use Rattle.program_uses.specs.Processes.{uses_of_body}
+use Rattle.program_uses.specs.Signatures.{Parameter}
 use Rattle.usage_checks.specs.declared.channel_rules.Position.{Position}
 use Rattle.usage_checks.specs.declared.telling.UsageFault.{UsageFault}
-use Rattle.usage_checks.specs.Actions.{Around, is_before}
-use Rattle.usage_checks.specs.AfterProcesses.{changes_in, begun, begun_body, chosen, after_components, after_component}
-use Rattle.usage_checks.specs.Declaring.{add, add_declaration}
+use Rattle.usage_checks.specs.AfterProcesses.{begun, begun_body, chosen, after_components, after_component}
 use Rattle.usage_checks.specs.Following.{after_guard}
 use Rattle.usage_checks.specs.Holding.{ActionHolds, ConditionHolds, GuardHolds, ReplicatorHolds, DeclarationHolds}
 use Rattle.usage_checks.specs.Holding.{FormalsHold}
-use Rattle.usage_checks.specs.Indices.{is_sequence, Repeats, repeats_of, index_in, turn_by_turn}
 use Rattle.usage_checks.specs.ItemRules.{in_body, body_position, Outside, outermost, around_in, weighed, BreaksWalk}
 use Rattle.usage_checks.specs.ItemRules.{after_item, after_items, BreaksNoRule}
 use Rattle.usage_checks.specs.MainRules.{is_main_name}
 use Rattle.usage_checks.specs.NameRules.{with_entries}
-use Rattle.usage_checks.specs.Processes.{uses_of_body}
 use Rattle.usage_checks.specs.ProcessRules.{position_in, BreaksIn, BreaksComponent}
-use Rattle.usage_checks.specs.Signatures.{Parameter}
 use Rattle.usage_checks.specs.Walking.{word_of}
 use Rattle.usage_checks.specs.Whole.{IsWhole}
 

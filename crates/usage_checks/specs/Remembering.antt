@@ -1,10 +1,10 @@
 -- How a set remembers what was handed.
 use Rattle.std.specs.Prelude.{Bool, false, ◌||◌, List, [], ◌∷◌, ◌++◌}
+use Rattle.program_uses.specs.declared.uses.Direction.TheVariants as direction
+use Rattle.program_uses.specs.declared.uses.Use.{Use}
+use Rattle.program_uses.specs.declared.uses.Use.TheVariants as used
 use Rattle.usage_checks.specs.declared.handing.Handed.{Handed}
 use Rattle.usage_checks.specs.declared.handing.Handed.TheVariants as handed
-use Rattle.usage_checks.specs.declared.uses.Direction.TheVariants as direction
-use Rattle.usage_checks.specs.declared.uses.Use.{Use}
-use Rattle.usage_checks.specs.declared.uses.Use.TheVariants as used
 
 -- Of an element the set has, besides, that the array was handed in part.
 abbrev pub remembered : Handed → List Use

@@ -12,14 +12,14 @@ use Rattle.occam_parser.specs.Blocks.{Components, NoComponent, Further, Componen
 use Rattle.occam_parser.specs.Blocks.{ProgramItem, GlobalConstant, GlobalProcedure, declaration_line}
 use Rattle.scalar_ranges.specs.Entries.{Entry, meaning_in}
 use Rattle.scalar_ranges.specs.Environments.{item_at}
-use Rattle.usage_checks.specs.declared.uses.End.{End}
-use Rattle.usage_checks.specs.declared.signature.Passing.{Passing}
-use Rattle.usage_checks.specs.declared.signature.Passing.TheVariants as passing
-use Rattle.usage_checks.specs.Declaring.{add_declaration, add_formals}
-use Rattle.usage_checks.specs.Indices.{is_seq, turns_of, in_turns}
-use Rattle.usage_checks.specs.Instances.{place_in, array_at}
-use Rattle.usage_checks.specs.Processes.{in_turn}
-use Rattle.usage_checks.specs.Signatures.{Parameter, passing_of, parameters_in}
+use Rattle.program_uses.specs.declared.uses.End.{End}
+use Rattle.program_uses.specs.declared.signature.Passing.{Passing}
+use Rattle.program_uses.specs.declared.signature.Passing.TheVariants as passing
+use Rattle.program_uses.specs.Declaring.{add_declaration, add_formals}
+use Rattle.program_uses.specs.Indices.{is_seq, turns_of, in_turns}
+use Rattle.program_uses.specs.Instances.{place_in, array_at}
+use Rattle.program_uses.specs.Processes.{in_turn}
+use Rattle.program_uses.specs.Signatures.{Parameter, passing_of, parameters_in}
 
 -- ---- the size of a line
 -- 1, the bytes of each name on it, and 1 for each other operand, operator, conversion and pair of brackets. A text

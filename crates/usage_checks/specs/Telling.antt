@@ -1,7 +1,7 @@
 -- Which fault of a program is told: one at the lowest line, and there the one with the lowest number.
 use Rattle.std.specs.Prelude.{◌≡◌, ℕ, ◌<◌, ◌≤◌, nat_lt, nat_eq, Bool, true, ◌&&◌, ◌||◌, ◌⊎◌, if◌then◌else◌}
 use Rattle.std.specs.Prelude.{Option, Some, None, IfSome, IsSomeAnd}
-use Rattle.usage_checks.specs.declared.faults.TheConstants.{MEMORY}
+use Rattle.program_uses.specs.declared.faults.TheConstants.{MEMORY}
 use Rattle.usage_checks.specs.declared.telling.UsageFault.{UsageFault}
 use Rattle.usage_checks.specs.declared.telling.Findings.{Findings}
 

@@ -4,9 +4,9 @@ use Rattle.occam_parser.specs.Terminals.{Terminal}
 use Rattle.occam_parser.specs.Blocks.{Process, Construct, Body, One, Part, Components, Component}
 use Rattle.occam_parser.specs.Lines.{Replicator, block_word}
 use Rattle.scalar_ranges.specs.Moves.{Known}
+use Rattle.program_uses.specs.ActionViews.{around_of}
 use Rattle.usage_checks.specs.declared.blocks.Site.{Site}
 use Rattle.usage_checks.specs.declared.telling.Findings.{Findings}
-use Rattle.usage_checks.specs.ActionViews.{around_of}
 use Rattle.usage_checks.specs.AfterProcesses.{inside, begun, ended, after_construct, after_components, after_component}
 use Rattle.usage_checks.specs.AfterProcesses.{after_body}
 use Rattle.usage_checks.specs.ProcessRules.{BreaksIn, BreaksConstruct, BreaksBlock, position_in, BreakComponents}

@@ -7,10 +7,10 @@ use Rattle.scalar_ranges.specs.declared.types.TheConstants.{WRONG_TYPE}
 use Rattle.scalar_ranges.specs.Entries.{Meaning, Constant, Entry, meaning_in}
 use Rattle.scalar_ranges.specs.Types.{type_of}
 use Rattle.scalar_ranges.specs.Bounds.{Bound, bound_of}
-use Rattle.usage_checks.specs.declared.faults.TheConstants.{CONSTANT_WANTED}
+use Rattle.program_uses.specs.declared.faults.TheConstants.{CONSTANT_WANTED}
+use Rattle.program_uses.specs.Constants.{is_same_type}
 use Rattle.usage_checks.specs.declared.wanting.Wanted.{Wanted}
 use Rattle.usage_checks.specs.declared.wanting.Wanted.TheVariants as wanted
-use Rattle.usage_checks.specs.Constants.{is_same_type}
 
 -- ---- constant expressions
 

@@ -5,10 +5,10 @@ use Rattle.occam_parser.specs.Lines.{Declaration, Replicator}
 use Rattle.occam_parser.specs.Blocks.{Body, One, declaration_line}
 use Rattle.scalar_ranges.specs.Entries.{Entry}
 use Rattle.scalar_ranges.specs.Moves.{Known}
+use Rattle.program_uses.specs.Indices.{is_sequence, turns_of, in_turns}
+use Rattle.program_uses.specs.Processes.{in_turn}
+use Rattle.program_uses.specs.Signatures.{Parameter}
 use Rattle.usage_checks.specs.declared.weighing.Weight.{Weight}
-use Rattle.usage_checks.specs.Indices.{is_sequence, turns_of, in_turns}
-use Rattle.usage_checks.specs.Processes.{in_turn}
-use Rattle.usage_checks.specs.Signatures.{Parameter}
 use Rattle.usage_checks.specs.Sizes.{size_of_declaration, Measured, plain, total, measures_of_component, greatest_size}
 use Rattle.usage_checks.specs.Sizes.{capped, end_in}
 

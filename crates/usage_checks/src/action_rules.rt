@@ -2,15 +2,15 @@
 
 ghost use Rattle.occam_parser.specs.LineViews.{action_of};
 ghost use Rattle.scalar_ranges.specs.Scopes.{entries_of};
-ghost use Rattle.usage_checks.specs.Lowest.{IsLowest};
-ghost use Rattle.usage_checks.specs.Signatures.{signatures_of};
+ghost use Rattle.program_uses.specs.Lowest.{IsLowest};
+ghost use Rattle.program_uses.specs.Signatures.{signatures_of};
 ghost use Rattle.usage_checks.specs.ActionRules.{BreaksAction};
 
 use crate::channel_rules::Position;
 use crate::instance_rules::fault_of_instance;
 use crate::line_rules::{fault_of_assignment, fault_of_input, fault_of_output};
-use crate::signature::Signature;
 use occam_parser::Action;
+use program_uses::Signature;
 use scalar_ranges::Scope;
 
 /// The lowest number of the rules that an action breaks.

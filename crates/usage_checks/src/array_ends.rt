@@ -4,16 +4,16 @@ ghost use Rattle.std.specs.Prelude.{◌≡◌, map, option_map, option_and_then}
 ghost use Rattle.occam_parser.specs.LineViews.{action_of};
 ghost use Rattle.occam_parser.specs.Views.{expression_of};
 ghost use Rattle.scalar_ranges.specs.Scopes.{entries_of, meaning_of};
-ghost use Rattle.usage_checks.specs.Instances.{place_in, array_at};
-ghost use Rattle.usage_checks.specs.Signatures.{parameter_of, signatures_of, passing_of, parameters_in};
+ghost use Rattle.program_uses.specs.Instances.{place_in, array_at};
+ghost use Rattle.program_uses.specs.Signatures.{parameter_of, signatures_of, passing_of, parameters_in};
 ghost use Rattle.usage_checks.specs.Sizes.{capped, ends_of_array, ends_passed, ends_of_actual, ends_of_actuals};
 ghost use Rattle.usage_checks.specs.Sizes.{ends_of_instance, is_instance};
 
-use crate::instances::{array_at, place_in};
-use crate::signature::{Parameter, Passing, Signature, parameter_at, passing_of};
 use crate::sizes::{plus, size_of_count};
-use crate::uses::End;
 use occam_parser::{Action, Expr};
+use program_uses::{
+    End, Parameter, Passing, Signature, array_at, parameter_at, passing_of, place_in,
+};
 use scalar_ranges::{Meaning, Scope};
 
 /// The array of channels that an actual is, if it is one.

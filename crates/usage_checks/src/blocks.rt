@@ -10,24 +10,24 @@ ghost use Rattle.occam_parser.specs.BlockViews.{all_processes, all_choices, all_
 ghost use Rattle.std.specs.Prelude.{◌≡◌, ℕ, true};
 ghost use Rattle.scalar_ranges.specs.Moves.{begin, begin_par, begin_loop, is_one_of};
 ghost use Rattle.scalar_ranges.specs.Scopes.{entries_of, known_of};
-ghost use Rattle.usage_checks.specs.ActionViews.{around_of};
-ghost use Rattle.usage_checks.specs.AfterProcesses.{changes_in, unless, begun_turns, repeated};
-ghost use Rattle.usage_checks.specs.ProcessRules.{BreakSharing, BreaksRepeated, position_in};
-ghost use Rattle.usage_checks.specs.Processes.{uses_of, uses_of_body};
+ghost use Rattle.program_uses.specs.ActionViews.{around_of};
+ghost use Rattle.program_uses.specs.Components.{changes_in, BreakSharing, BreaksRepeated};
+ghost use Rattle.program_uses.specs.Processes.{uses_of, uses_of_body};
+ghost use Rattle.usage_checks.specs.AfterProcesses.{unless, begun_turns, repeated};
+ghost use Rattle.usage_checks.specs.ProcessRules.{position_in};
 ghost use Rattle.usage_checks.specs.Telling.{At, Walks};
 ghost use Rattle.usage_checks.specs.LineRules.{BreaksReplicator};
 ghost use Rattle.usage_checks.specs.Walking.{WalksProcess, WalksConstruct, WalksBlock, WalksComponent};
 ghost use Rattle.usage_checks.specs.Walking.{word_of, WalksBody, WalksTurn};
 
-use crate::actions::{Around, is_before};
 use crate::channel_rules::Position;
-use crate::components::{
-    fault_of_components, fault_of_repeated, variables_changed, variables_changed_in,
-};
-use crate::indices::{is_sequence, repeats_of};
 use crate::line_rules::fault_of_replicator;
 use crate::telling::Findings;
 use occam_parser::{Action, Body, Branch, Choice, Construct, Process, Replicator};
+use program_uses::{
+    Around, fault_of_components, fault_of_repeated, is_before, is_sequence, repeats_of,
+    variables_changed, variables_changed_in,
+};
 use scalar_ranges::Scope;
 use std::alloc::Global;
 

@@ -3,16 +3,14 @@
 ghost use Rattle.std.specs.Prelude.{◌≡◌, ◌&&◌};
 ghost use Rattle.occam_parser.specs.LineViews.{place_of};
 ghost use Rattle.scalar_ranges.specs.Scopes.{entries_of};
-ghost use Rattle.usage_checks.specs.Lowest.{IsLowest};
+ghost use Rattle.program_uses.specs.Lowest.{IsLowest};
 ghost use Rattle.usage_checks.specs.ChannelRules.{is_link, is_in, is_out, link_way, is_way, is_formal_of_main};
 ghost use Rattle.usage_checks.specs.ChannelRules.{is_inside, is_right_way};
 ghost use Rattle.usage_checks.specs.ChannelRules.{IsMisused, BreaksEnd};
 
-use crate::faults::{CHANNEL_USE, lower, told_unless};
 use crate::place_rules::{channel_at, fault_of_channel};
-use crate::places::place_ref;
-use crate::uses::Direction;
 use occam_parser::Place;
+use program_uses::{CHANNEL_USE, Direction, lower, place_ref, told_unless};
 use scalar_ranges::{ExprType, Scope};
 
 /// Where a process stands, by the numbers of declarations.

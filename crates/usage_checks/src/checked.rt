@@ -2,15 +2,14 @@
 
 ghost use Rattle.std.specs.Prelude.{◌≡◌, ◌⊎◌, true, Some, map, IfOk, IfErr};
 ghost use Rattle.occam_parser.specs.BlockViews.{item_of};
+ghost use Rattle.program_uses.specs.Signatures.{signatures_of};
 ghost use Rattle.usage_checks.specs.ItemRules.{after_items, BreaksProgram, BreaksNoRule};
-ghost use Rattle.usage_checks.specs.Signatures.{signatures_of};
 ghost use Rattle.usage_checks.specs.Telling.{IsFirst, out_of_memory, verdict};
 
-use crate::faults::MEMORY;
 use crate::items::Outside;
-use crate::signature::Signature;
 use crate::telling::{Findings, UsageFault};
 use occam_parser::Program;
+use program_uses::{MEMORY, Signature};
 use std::alloc::Global;
 
 /// A program that breaks no rule, with what is known of its procedures.

@@ -5,16 +5,14 @@ ghost use Rattle.occam_parser.specs.OneOrMore.{as_list, one_or_more_of};
 ghost use Rattle.occam_parser.specs.Views.{expression_of};
 ghost use Rattle.occam_parser.specs.LineViews.{any_of, value_of, declaration_of};
 ghost use Rattle.scalar_ranges.specs.Scopes.{entries_of};
-ghost use Rattle.usage_checks.specs.Lowest.{IsLowest};
+ghost use Rattle.program_uses.specs.Lowest.{IsLowest};
 ghost use Rattle.usage_checks.specs.EachBroken.{BreaksEach};
 ghost use Rattle.usage_checks.specs.DeclarationRules.{IsNoSize, BreaksSize, BreaksSizeIfAny, HasOtherSize, IsNoText};
 ghost use Rattle.usage_checks.specs.DeclarationRules.{BreaksItem, BreaksValue, BreaksDeclaration};
 
-use crate::constants::{size_in, value_as};
-use crate::declaring::type_of_values;
-use crate::faults::{lower, told_unless};
 use crate::wanting::{Wanted, fault_of};
 use occam_parser::{ConstantValue, Declaration, Expr, OneOrMore, ValueType};
+use program_uses::{lower, size_in, told_unless, type_of_values, value_as};
 use scalar_ranges::{ExprType, OUT_OF_RANGE, Scope, WRONG_TYPE};
 
 /// The number of a size that is known and is below 1.

@@ -4,16 +4,15 @@ ghost use Rattle.std.specs.Prelude.{◌≡◌, map, OnOk};
 ghost use Rattle.occam_parser.specs.OneOrMore.{as_list, one_or_more_of};
 ghost use Rattle.occam_parser.specs.LineViews.{declaration_of, formal_of, spelling_of};
 ghost use Rattle.scalar_ranges.specs.Scopes.{entries_of, known_of, meaning_of};
-ghost use Rattle.usage_checks.specs.Declaring.{add, add_all, add_declaration, add_formals};
-ghost use Rattle.usage_checks.specs.Entering.{add_declarations};
-ghost use Rattle.usage_checks.specs.Extending.{Extends};
+ghost use Rattle.program_uses.specs.Declaring.{add, add_all, add_declaration, add_formals};
+ghost use Rattle.program_uses.specs.Entering.{add_declarations};
+ghost use Rattle.program_uses.specs.Extending.{Extends};
+ghost use Rattle.program_uses.specs.Signatures.{parameter_of};
 ghost use Rattle.usage_checks.specs.FormalRules.{parameter_for};
-ghost use Rattle.usage_checks.specs.Signatures.{parameter_of};
 
-use crate::declaring::{channel_meaning, constant_meaning, variable_meaning};
 use crate::formal_rules::parameters_for;
-use crate::signature::Parameter;
 use occam_parser::{Declaration, Formal, OneOrMore};
+use program_uses::{Parameter, channel_meaning, constant_meaning, variable_meaning};
 use scalar_ranges::{Entry, Meaning, Scope};
 use std::alloc::{AllocError, Global};
 

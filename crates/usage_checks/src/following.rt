@@ -5,14 +5,14 @@ ghost use Rattle.occam_parser.specs.Views.{expression_of};
 ghost use Rattle.occam_parser.specs.LineViews.{place_of, action_of};
 ghost use Rattle.scalar_ranges.specs.BoundViews.{all_ends};
 ghost use Rattle.scalar_ranges.specs.Scopes.{entries_of, blocks_of, meaning_of};
-ghost use Rattle.usage_checks.specs.Signatures.{parameter_of, signatures_of, parameters_in};
+ghost use Rattle.program_uses.specs.Signatures.{parameter_of, signatures_of, parameters_in};
 ghost use Rattle.usage_checks.specs.Following.{receive_if, assign_if, after_assignment, after_input, passed_to};
 ghost use Rattle.usage_checks.specs.Following.{after_actuals, after_action};
 
-use crate::instances::{place_in, variable_at};
-use crate::places::place_ref;
-use crate::signature::{Parameter, Passing, Signature, parameter_at, passing_of};
 use occam_parser::{Action, Expr, Place};
+use program_uses::{
+    Parameter, Passing, Signature, parameter_at, passing_of, place_in, place_ref, variable_at,
+};
 use scalar_ranges::{Meaning, Scope, range_of};
 use word_arithmetic::Range;
 

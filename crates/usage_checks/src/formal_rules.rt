@@ -3,19 +3,17 @@
 ghost use Rattle.std.specs.Prelude.{◌≡◌, IfOk, length, map};
 ghost use Rattle.occam_parser.specs.LineViews.{formal_of};
 ghost use Rattle.scalar_ranges.specs.Scopes.{entries_of, known_of};
+ghost use Rattle.program_uses.specs.Lowest.{IsLowest};
+ghost use Rattle.program_uses.specs.Signatures.{parameter_of};
+ghost use Rattle.program_uses.specs.Declaring.{add_formals};
 ghost use Rattle.usage_checks.specs.Telling.{Walks};
-ghost use Rattle.usage_checks.specs.Lowest.{IsLowest};
-ghost use Rattle.usage_checks.specs.Signatures.{parameter_of};
 ghost use Rattle.usage_checks.specs.FormalRules.{BreakSizes, parameter_for, BreakFormals};
-ghost use Rattle.usage_checks.specs.Declaring.{add_formals};
 ghost use Rattle.usage_checks.specs.NameRules.{with_entries};
 
 use crate::declaration_rules::fault_of_any_size;
-use crate::declaring::formal_meaning;
-use crate::faults::lower;
-use crate::signature::Parameter;
 use crate::telling::Findings;
 use occam_parser::Formal;
+use program_uses::{Parameter, formal_meaning, lower};
 use scalar_ranges::Scope;
 use std::alloc::{AllocError, Global};
 

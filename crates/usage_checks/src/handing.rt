@@ -4,24 +4,23 @@ ghost use Rattle.std.specs.Prelude.{◌≡◌, IfOk, [], map, option_map};
 ghost use Rattle.occam_parser.specs.Views.{expression_of};
 ghost use Rattle.occam_parser.specs.LineViews.{action_of};
 ghost use Rattle.scalar_ranges.specs.Scopes.{entries_of, known_of, meaning_of};
+ghost use Rattle.program_uses.specs.Lowest.{IsLowest};
+ghost use Rattle.program_uses.specs.PlaceViews.{place_at, any_place};
+ghost use Rattle.program_uses.specs.Sets.{Adds, has};
+ghost use Rattle.program_uses.specs.Signatures.{parameter_of, signatures_of, parameters_in};
 ghost use Rattle.usage_checks.specs.declared.handing.Handed.TheVariants as handed;
 ghost use Rattle.usage_checks.specs.Handing.{are_values, handed_if, handed_as, handed_to, handed_by, handed_all};
 ghost use Rattle.usage_checks.specs.Handing.{AreAgain, PassesTwice};
-ghost use Rattle.usage_checks.specs.Lowest.{IsLowest};
-ghost use Rattle.usage_checks.specs.PlaceViews.{place_at, any_place};
 ghost use Rattle.usage_checks.specs.Remembering.{remembered, is_again};
-ghost use Rattle.usage_checks.specs.Sets.{Adds, has};
-ghost use Rattle.usage_checks.specs.Signatures.{parameter_of, signatures_of, parameters_in};
 ghost use Rattle.usage_checks.specs.Telling.{At, Walks};
 
 use crate::blocks::Site;
-use crate::faults::{PASSED_TWICE, lower, told_unless};
-use crate::instances::{array_at, place_in, variable_at};
-use crate::places::{PlaceRef, Spot, spot_of};
-use crate::signature::{Parameter, Passing, Signature, parameter_at, passing_of};
 use crate::telling::Findings;
-use crate::uses::{Direction, Use, Uses};
 use occam_parser::{Action, Expr};
+use program_uses::{
+    Direction, PASSED_TWICE, Parameter, Passing, PlaceRef, Signature, Spot, Use, Uses, array_at,
+    lower, parameter_at, passing_of, place_in, spot_of, told_unless, variable_at,
+};
 use scalar_ranges::{ArrayKind, Meaning, Scope};
 use std::alloc::{AllocError, Global};
 
@@ -96,44 +95,42 @@ fn handed_by(scope: &Scope, parameter: Option<&Parameter>, actual: &Expr) -> Han
     }
 }
 
-impl Uses {
-    /// Whether something was passed before that it may not be passed with.
-    fn is_again(&self, handed: Handed) -> bool
-        ensures { result ≡ is_again (has self.now) handed }
-    {
-        match handed {
-            Handed::Nothing => false,
-            Handed::Whole(number) => {
-                self.contains(Use::Read(number)) || self.contains(Use::Change(number))
-            }
-            Handed::Values(number) => self.contains(Use::Change(number)),
-            Handed::Element(Spot { channel, element }) => {
-                let end = Use::Channel {
-                    channel,
-                    element,
-                    direction: Direction::Input,
-                };
-                self.contains(Use::Change(channel)) || self.contains(end)
-            }
+/// Whether something was passed before that it may not be passed with.
+fn is_again(before: &Uses, handed: Handed) -> bool
+    ensures { result ≡ is_again (has before.now) handed }
+{
+    match handed {
+        Handed::Nothing => false,
+        Handed::Whole(number) => {
+            before.contains(Use::Read(number)) || before.contains(Use::Change(number))
+        }
+        Handed::Values(number) => before.contains(Use::Change(number)),
+        Handed::Element(Spot { channel, element }) => {
+            let end = Use::Channel {
+                channel,
+                element,
+                direction: Direction::Input,
+            };
+            before.contains(Use::Change(channel)) || before.contains(end)
         }
     }
+}
 
-    /// Something is passed.
-    fn remember(&mut self, handed: Handed)
-        ensures { Adds self.old self.new (remembered handed) }
-    {
-        match handed {
-            Handed::Nothing => {}
-            Handed::Whole(number) => self.add(Use::Change(number)),
-            Handed::Values(number) => self.add(Use::Read(number)),
-            Handed::Element(Spot { channel, element }) => {
-                self.add(Use::Read(channel));
-                self.add(Use::Channel {
-                    channel,
-                    element,
-                    direction: Direction::Input,
-                });
-            }
+/// Something is passed.
+fn remember(before: &mut Uses, handed: Handed)
+    ensures { Adds before.old before.new (remembered handed) }
+{
+    match handed {
+        Handed::Nothing => {}
+        Handed::Whole(number) => before.add(Use::Change(number)),
+        Handed::Values(number) => before.add(Use::Read(number)),
+        Handed::Element(Spot { channel, element }) => {
+            before.add(Use::Read(channel));
+            before.add(Use::Channel {
+                channel,
+                element,
+                direction: Direction::Input,
+            });
         }
     }
 }
@@ -154,8 +151,8 @@ fn fault_of_handing(
     let mut found = None;
     for (place, actual) in actuals.iter().enumerate() {
         let handed = handed_by(scope, parameter_at(signatures, procedure, place), actual);
-        found = lower(found, told_unless(!before.is_again(handed), PASSED_TWICE));
-        before.remember(handed);
+        found = lower(found, told_unless(!is_again(&before, handed), PASSED_TWICE));
+        remember(&mut before, handed);
     }
     if before.is_complete() {
         Ok(found)

@@ -3,24 +3,23 @@
 ghost use Rattle.std.specs.Prelude.{◌≡◌, map, option_map};
 ghost use Rattle.occam_parser.specs.Views.{expression_of};
 ghost use Rattle.scalar_ranges.specs.Scopes.{entries_of, meaning_of};
-ghost use Rattle.usage_checks.specs.Lowest.{IsLowest};
-ghost use Rattle.usage_checks.specs.PlaceViews.{place_at, any_place};
-ghost use Rattle.usage_checks.specs.Signatures.{parameter_of, signatures_of, parameters_in};
+ghost use Rattle.program_uses.specs.Lowest.{IsLowest};
+ghost use Rattle.program_uses.specs.PlaceViews.{place_at, any_place};
+ghost use Rattle.program_uses.specs.Signatures.{parameter_of, signatures_of, parameters_in};
 ghost use Rattle.usage_checks.specs.InstanceRules.{IsNotTaken, subscript_for, BreaksWhole, IsNoValue, BreaksExpression};
 ghost use Rattle.usage_checks.specs.InstanceRules.{BreaksActual, is_channel, are_right_ways, IsMispassed};
 ghost use Rattle.usage_checks.specs.InstanceRules.{BreaksPassing, BreaksOne, BreaksActuals, IsNotCalled};
 ghost use Rattle.usage_checks.specs.InstanceRules.{BreaksInstance};
 
 use crate::channel_rules::Position;
-use crate::faults::{CHANNEL_USE, OTHER_ACTUAL, lower, told_unless};
-use crate::instances::place_in;
 use crate::place_rules::{elements_in, fault_of_subscript};
-use crate::places::PlaceRef;
-use crate::signature::{Parameter, Signature, count_of_parameters, parameter_at};
 use crate::taking::{takes, takes_value};
-use crate::uses::End;
 use crate::wanting::{Wanted, fault_of};
 use occam_parser::Expr;
+use program_uses::{
+    CHANNEL_USE, End, OTHER_ACTUAL, Parameter, PlaceRef, Signature, count_of_parameters, lower,
+    parameter_at, place_in, told_unless,
+};
 use scalar_ranges::{ExprType, Meaning, Scope, UNKNOWN_NAME, WRONG_TYPE, type_of};
 
 /// The number of a place whose name has this meaning and that a formal does not take.

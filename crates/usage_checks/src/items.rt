@@ -1,35 +1,31 @@
 //! The walk over the items of a program.
 
-ghost use Rattle.std.specs.Prelude.{◌≡◌, true, None, fold, [], ◌∷◌, ◌++◌, length, map, IfOk, IfSome};
+ghost use Rattle.std.specs.Prelude.{◌≡◌, true, None, [], ◌∷◌, ◌++◌, length, map, IfOk, IfSome};
 ghost use Rattle.occam_parser.specs.Lines.{Constants};
 ghost use Rattle.occam_parser.specs.LineViews.{constant_of};
 ghost use Rattle.occam_parser.specs.Blocks.{GlobalProcedure};
 ghost use Rattle.occam_parser.specs.BlockViews.{procedure_of, item_of};
 ghost use Rattle.scalar_ranges.specs.Entries.{Procedure};
 ghost use Rattle.scalar_ranges.specs.Scopes.{entries_of, known_of};
-ghost use Rattle.usage_checks.specs.ActionViews.{around_of};
-ghost use Rattle.usage_checks.specs.Declaring.{add, add_declaration};
-ghost use Rattle.usage_checks.specs.Ends.{sorted_ends, with_end};
-ghost use Rattle.usage_checks.specs.InTurn.{in_turn, BreaksInTurn};
+ghost use Rattle.program_uses.specs.ActionViews.{around_of};
+ghost use Rattle.program_uses.specs.Declaring.{add, add_declaration};
+ghost use Rattle.program_uses.specs.InTurn.{in_turn};
+ghost use Rattle.program_uses.specs.Signatures.{parameter_of, parameters_of, signatures_of};
+ghost use Rattle.usage_checks.specs.BrokenInTurn.{BreaksInTurn};
 ghost use Rattle.usage_checks.specs.ItemRules.{after_named, BreaksNamed, signature_of, outermost, weighed};
 ghost use Rattle.usage_checks.specs.ItemRules.{Ends, EndsCounting, after_walk, BreaksWalk, after_item, BreaksItem};
 ghost use Rattle.usage_checks.specs.ItemRules.{after_items, BreaksProgram};
 ghost use Rattle.usage_checks.specs.ItemViews.{seen_outside};
 ghost use Rattle.usage_checks.specs.NameRules.{with_entries, BreaksName, BreaksDeclared};
-ghost use Rattle.usage_checks.specs.Signatures.{parameter_of, parameters_of, signatures_of};
 ghost use Rattle.usage_checks.specs.Telling.{Walks};
 
-use crate::actions::Around;
 use crate::declaration_rules::fault_of_value;
-use crate::declaring::constant_meaning;
-use crate::ends::{add_ends, sorted_ends};
 use crate::formal_rules::parameters_for;
 use crate::main_rules::fault_of_main;
-use crate::signature::{Parameter, Signature};
 use crate::telling::Findings;
-use crate::uses::Uses;
 use crate::weighing::Weight;
 use occam_parser::{Constant, Item, Proc};
+use program_uses::{Around, Signature, constant_meaning, signed};
 use scalar_ranges::{Meaning, OUT_OF_RANGE, Scope};
 use std::alloc::{AllocError, Global};
 
@@ -50,23 +46,6 @@ fn next_number(signatures: &[Signature]) -> Option<u32>
     ensures { IfSome result (λ number. number ≡ length signatures.now) }
 {
     u32::try_from(signatures.len()).ok()
-}
-
-/// What is known of a procedure: of its formals by their head, and of those that are channels the ends that its body
-/// uses. The first formal has this number.
-fn signed(
-    alloc: Global,
-    parameters: Vec<Parameter>,
-    first: usize,
-    used: &Uses,
-) -> Result<Signature, AllocError>
-    ensures { IfOk result (λ s. parameters_of s
-        ≡ fold (with_end first) (map parameter_of parameters.items) (sorted_ends used.now.set.keys)) }
-{
-    let mut parameters = parameters;
-    let ends = sorted_ends(alloc, used)?;
-    add_ends(&mut parameters, first, &ends)?;
-    Ok(Signature { parameters })
 }
 
 impl Findings {

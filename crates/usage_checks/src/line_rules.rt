@@ -4,18 +4,15 @@ ghost use Rattle.std.specs.Prelude.{◌≡◌};
 ghost use Rattle.occam_parser.specs.Views.{expression_of};
 ghost use Rattle.occam_parser.specs.LineViews.{place_of, replicator_of};
 ghost use Rattle.scalar_ranges.specs.Scopes.{entries_of};
-ghost use Rattle.usage_checks.specs.Lowest.{IsLowest};
+ghost use Rattle.program_uses.specs.Lowest.{IsLowest};
 ghost use Rattle.usage_checks.specs.LineRules.{BreaksAssignment, BreaksInput, BreaksOutput, BreaksCondition};
 ghost use Rattle.usage_checks.specs.LineRules.{fits_word, IsNoCount, BreaksReplicator};
 
 use crate::channel_rules::{Position, fault_of_end};
-use crate::constants::value_as;
-use crate::faults::{lower, told_unless};
 use crate::place_rules::{channel_at, differ, fault_of_target, target_at};
-use crate::places::place_ref;
-use crate::uses::Direction;
 use crate::wanting::{Wanted, fault_of};
 use occam_parser::{Expr, Place, Replicator};
+use program_uses::{Direction, lower, place_ref, told_unless, value_as};
 use scalar_ranges::{ExprType, OUT_OF_RANGE, Scope, type_of};
 
 /// The lowest number of the rules that an assignment breaks.

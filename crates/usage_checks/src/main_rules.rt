@@ -8,9 +8,9 @@ ghost use Rattle.usage_checks.specs.MainRules.{is_link_as, are_links, is_main_na
 ghost use Rattle.usage_checks.specs.Telling.{IsFirst};
 
 use crate::channel_rules::link_way;
-use crate::faults::{NO_MAIN, told_unless};
 use crate::telling::{UsageFault, fault_at};
 use occam_parser::{Expr, Formal, FormalKind, Item};
+use program_uses::{NO_MAIN, told_unless};
 
 /// Whether a formal is a link of `main`.
 fn is_link_as(kind: FormalKind, size: &Option<Expr>, name: &[u8]) -> bool

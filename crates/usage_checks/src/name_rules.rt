@@ -5,18 +5,17 @@ ghost use Rattle.occam_parser.specs.OneOrMore.{as_list, one_or_more_of};
 ghost use Rattle.occam_parser.specs.LineViews.{declaration_of, spelling_of};
 ghost use Rattle.occam_parser.specs.Blocks.{declaration_line};
 ghost use Rattle.scalar_ranges.specs.Scopes.{entries_of, known_of, meaning_of};
+ghost use Rattle.program_uses.specs.Lowest.{IsLowest};
+ghost use Rattle.program_uses.specs.Declaring.{add, add_all, add_declaration};
+ghost use Rattle.program_uses.specs.Entering.{add_declarations};
 ghost use Rattle.usage_checks.specs.Telling.{At, Walks};
-ghost use Rattle.usage_checks.specs.Lowest.{IsLowest};
-ghost use Rattle.usage_checks.specs.Declaring.{add, add_all, add_declaration};
-ghost use Rattle.usage_checks.specs.Entering.{add_declarations};
 ghost use Rattle.usage_checks.specs.NameRules.{is_of_scope, IsTwice, BreakNames, names_in, declared_meaning};
 ghost use Rattle.usage_checks.specs.NameRules.{BreaksDeclared, BreakDeclarations, with_entries};
 
 use crate::declaration_rules::fault_of_declaration;
-use crate::declaring::{channel_meaning, constant_meaning, variable_meaning};
-use crate::faults::DECLARED_TWICE;
 use crate::telling::Findings;
 use occam_parser::{Declaration, OneOrMore};
+use program_uses::{DECLARED_TWICE, channel_meaning, constant_meaning, variable_meaning};
 use scalar_ranges::{Entry, Meaning, Scope};
 
 /// Whether a declaration is of the innermost scope, whose first one has this number.

@@ -7,18 +7,15 @@ ghost use Rattle.scalar_ranges.specs.Scopes.{entries_of, meaning_of};
 ghost use Rattle.scalar_ranges.specs.Bounds.{bound_of, range_found, is_subscript};
 ghost use Rattle.scalar_ranges.specs.BoundViews.{all_ends};
 ghost use Rattle.scalar_ranges.specs.Types.{type_of};
+ghost use Rattle.program_uses.specs.PlaceViews.{place_at};
+ghost use Rattle.program_uses.specs.Lowest.{IsLowest};
 ghost use Rattle.usage_checks.specs.PlaceRules.{target_type, channel_type, elements_in, target_at, channel_at};
-ghost use Rattle.usage_checks.specs.PlaceViews.{place_at};
 ghost use Rattle.usage_checks.specs.PlaceRules.{BreaksChannel, Differ};
-ghost use Rattle.usage_checks.specs.Lowest.{IsLowest};
 ghost use Rattle.usage_checks.specs.PlaceRules.{IsOutside, BreaksSubscript, BreaksPlace, BreaksTarget};
 
-use crate::declaring::type_of_values;
-use crate::faults::{lower, told_unless};
-use crate::mentions::is_variable;
-use crate::places::PlaceRef;
 use crate::wanting::{Wanted, fault_of};
 use occam_parser::Expr;
+use program_uses::{PlaceRef, is_variable, lower, told_unless, type_of_values};
 use scalar_ranges::{
     ExprType, Meaning, OUTSIDE, Scope, UNKNOWN_NAME, WRONG_TYPE, range_of, type_of,
 };

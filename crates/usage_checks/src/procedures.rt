@@ -4,23 +4,22 @@ ghost use Rattle.std.specs.Prelude.{◌≡◌, true, length, map, ◌⊎◌};
 ghost use Rattle.occam_parser.specs.LineViews.{formal_of};
 ghost use Rattle.occam_parser.specs.BlockViews.{process_of, procedure_of};
 ghost use Rattle.scalar_ranges.specs.Scopes.{entries_of, known_of};
-ghost use Rattle.usage_checks.specs.ActionViews.{around_of};
-ghost use Rattle.usage_checks.specs.Declaring.{add_formals};
+ghost use Rattle.program_uses.specs.ActionViews.{around_of};
+ghost use Rattle.program_uses.specs.Declaring.{add_formals};
+ghost use Rattle.program_uses.specs.Processes.{uses_of};
+ghost use Rattle.program_uses.specs.Sets.{has, is_among};
 ghost use Rattle.usage_checks.specs.FormalRules.{BreakSizes, BreakFormals};
 ghost use Rattle.usage_checks.specs.ItemRules.{in_body, after_procedure, BreaksProcedure};
 ghost use Rattle.usage_checks.specs.NameRules.{with_entries};
-ghost use Rattle.usage_checks.specs.Processes.{uses_of};
-ghost use Rattle.usage_checks.specs.Sets.{has, is_among};
 ghost use Rattle.usage_checks.specs.Telling.{At, Walks};
 
-use crate::actions::Around;
 use crate::blocks::Site;
 use crate::channel_rules::Position;
 use crate::formal_rules::{fault_of_sizes, parameters_for};
 use crate::main_rules::is_main_name;
 use crate::telling::Findings;
-use crate::uses::{Use, Uses};
 use occam_parser::{Formal, Proc, Process};
+use program_uses::{Around, Use, Uses};
 use scalar_ranges::Scope;
 use std::alloc::Global;
 

@@ -3,14 +3,13 @@
 ghost use Rattle.std.specs.Prelude.{◌≡◌, Some, ◌&&◌, option_map};
 ghost use Rattle.scalar_ranges.specs.Scopes.{meaning_of};
 ghost use Rattle.scalar_ranges.specs.Types.{type_of_values};
-ghost use Rattle.usage_checks.specs.Constants.{is_same_type};
+ghost use Rattle.program_uses.specs.Constants.{is_same_type};
 ghost use Rattle.usage_checks.specs.InstanceRules.{held_type, takes_scalar, agree, takes_kind, takes_array};
 ghost use Rattle.usage_checks.specs.InstanceRules.{takes_channels, takes, takes_value};
 
-use crate::constants::has_type;
-use crate::declaring::type_of_values;
 use crate::place_rules::{channel_type, target_type};
 use occam_parser::ValueType;
+use program_uses::{has_type, type_of_values};
 use scalar_ranges::{ArrayKind, ExprType, Meaning, ScalarKind, WRONG_TYPE};
 
 /// The type of a single value, or of an element of an array.

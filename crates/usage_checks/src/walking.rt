@@ -4,20 +4,20 @@ ghost use Rattle.std.specs.Prelude.{Some};
 ghost use Rattle.occam_parser.specs.Views.{expression_of};
 ghost use Rattle.occam_parser.specs.LineViews.{any_of, action_of, guard_of};
 ghost use Rattle.scalar_ranges.specs.Scopes.{entries_of, known_of};
+ghost use Rattle.program_uses.specs.Signatures.{signatures_of};
 ghost use Rattle.usage_checks.specs.LineRules.{BreaksCondition, BreaksConditionIfAny};
 ghost use Rattle.usage_checks.specs.ActionRules.{BreaksAction, BreaksGuard};
 ghost use Rattle.usage_checks.specs.Following.{where_holds, after_action, after_guard};
 ghost use Rattle.usage_checks.specs.NameRules.{with_entries};
 ghost use Rattle.usage_checks.specs.Telling.{At, Walks};
-ghost use Rattle.usage_checks.specs.Signatures.{signatures_of};
 
 use crate::action_rules::fault_of_action;
 use crate::channel_rules::Position;
 use crate::following::{after_action, after_input};
 use crate::line_rules::{fault_of_condition, fault_of_input};
-use crate::signature::Signature;
 use crate::telling::Findings;
 use occam_parser::{Action, Expr, Guard};
+use program_uses::Signature;
 use scalar_ranges::{Scope, narrow_by};
 
 impl Findings {

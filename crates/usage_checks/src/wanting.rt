@@ -5,11 +5,11 @@ ghost use Rattle.occam_parser.specs.Views.{expression_of, term_of};
 ghost use Rattle.scalar_ranges.specs.Bounds.{bound_of};
 ghost use Rattle.scalar_ranges.specs.Types.{type_of};
 ghost use Rattle.scalar_ranges.specs.Scopes.{entries_of, meaning_of};
-ghost use Rattle.usage_checks.specs.Lowest.{IsLowest};
+ghost use Rattle.program_uses.specs.Lowest.{IsLowest};
 ghost use Rattle.usage_checks.specs.Wanting.{is_constant_meaning, is_constant, is_constant_term, IsUnfit, BreaksWanted};
 
-use crate::faults::{CONSTANT_WANTED, lower, told_unless};
 use occam_parser::{Expr, Operand, Operation};
+use program_uses::{CONSTANT_WANTED, lower, told_unless};
 use scalar_ranges::{ExprType, Meaning, Scope, WRONG_TYPE, range_of, type_of};
 
 /// What a place wants of the expression that stands there.

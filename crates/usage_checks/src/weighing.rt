@@ -7,10 +7,10 @@ ghost use Rattle.occam_parser.specs.BlockViews.{process_of, construct_of, body_o
 ghost use Rattle.occam_parser.specs.BlockViews.{all_processes, all_choices, all_branches, procedure_of, item_of};
 ghost use Rattle.occam_parser.specs.Blocks.{GlobalProcedure};
 ghost use Rattle.scalar_ranges.specs.Scopes.{entries_of, known_of, meaning_of};
-ghost use Rattle.usage_checks.specs.Declaring.{add, add_formals};
-ghost use Rattle.usage_checks.specs.Entering.{add_declarations};
-ghost use Rattle.usage_checks.specs.Extending.{Extends};
-ghost use Rattle.usage_checks.specs.Signatures.{signatures_of};
+ghost use Rattle.program_uses.specs.Declaring.{add, add_formals};
+ghost use Rattle.program_uses.specs.Entering.{add_declarations};
+ghost use Rattle.program_uses.specs.Extending.{Extends};
+ghost use Rattle.program_uses.specs.Signatures.{signatures_of};
 ghost use Rattle.usage_checks.specs.Sizes.{total, measure_of_action, measures_of, measures_of_construct};
 ghost use Rattle.usage_checks.specs.Sizes.{measures_of_body, measures_of_components, measures_of_component};
 ghost use Rattle.usage_checks.specs.Sizes.{measures_of_item};
@@ -19,8 +19,6 @@ ghost use Rattle.usage_checks.specs.Weighing.{measures_of_one, measures_in_turns
 
 use crate::array_ends::{ends_of_instance, is_instance};
 use crate::extending::{add_declarations, add_formals, add_name};
-use crate::indices::{index_meaning, is_sequence, turns_of};
-use crate::signature::Signature;
 use crate::sizes::{
     GREATEST_SIZE, plus, size_of_action, size_of_condition, size_of_constant, size_of_declarations,
     size_of_guard, size_of_head, size_of_replicator,
@@ -28,6 +26,7 @@ use crate::sizes::{
 use occam_parser::{
     Action, Body, Branch, Choice, Construct, Declaration, Formal, Item, Proc, Process, Replicator,
 };
+use program_uses::{Signature, index_meaning, is_sequence, turns_of};
 use scalar_ranges::{Meaning, Scope};
 use std::alloc::Global;
 

@@ -1,7 +1,7 @@
 use Rattle.std.proofs.Common.{◌≡◌, map, take, option_map}
 use Rattle.occam_parser.specs.Views.{expression_of}
 use Rattle.scalar_ranges.specs.Scopes.{entries_of, meaning_of}
-use Rattle.usage_checks.specs.Signatures.{signatures_of, parameters_in}
+use Rattle.program_uses.specs.Signatures.{signatures_of, parameters_in}
 use Rattle.usage_checks.specs.Sizes.{capped, ends_of_actuals}
 use Rattle.usage_checks.proofs.array_ends.ends_of_actuals.Given as goal
 

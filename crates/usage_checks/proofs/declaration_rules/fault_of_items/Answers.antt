@@ -2,9 +2,9 @@ use Rattle.std.proofs.Common.{◌≤◌, length, map, arith, ◌∙◌}
 use Rattle.std.proofs.lemmas.List.{take_all}
 use Rattle.occam_parser.specs.Views.{expression_of}
 use Rattle.scalar_ranges.specs.Scopes.{entries_of}
+use Rattle.program_uses.proofs.LowestOfBoth.{lowest_of, lowest_at}
 use Rattle.usage_checks.specs.EachBroken.{BreaksEach}
 use Rattle.usage_checks.specs.DeclarationRules.{BreaksItem}
-use Rattle.usage_checks.proofs.LowestOfBoth.{lowest_of, lowest_at}
 use Rattle.usage_checks.proofs.LowestOfMany.{lowest_start, lowest_next}
 use Rattle.usage_checks.proofs.declaration_rules.fault_of_items.Goals as goal
 

@@ -1,7 +1,7 @@
 use Rattle.std.proofs.Common.{map, take}
 use Rattle.occam_parser.specs.Views.{expression_of}
 use Rattle.scalar_ranges.specs.Scopes.{entries_of}
-use Rattle.usage_checks.specs.Lowest.{IsLowest}
+use Rattle.program_uses.specs.Lowest.{IsLowest}
 use Rattle.usage_checks.specs.EachBroken.{BreaksEach}
 use Rattle.usage_checks.specs.DeclarationRules.{BreaksItem}
 use Rattle.usage_checks.proofs.declaration_rules.fault_of_items.Given as goal

@@ -1,5 +1,5 @@
+use Rattle.program_uses.proofs.LowestOfBoth.{lowest_of, lowest_at}
 use Rattle.usage_checks.specs.DeclarationRules.{IsNoSize}
-use Rattle.usage_checks.proofs.LowestOfBoth.{lowest_of, lowest_at}
 use Rattle.usage_checks.proofs.declaration_rules.fault_of_size.Goals as goal
 
 pub returns : goal.returns

@@ -4,8 +4,8 @@ use Rattle.occam_parser.specs.OneOrMore.{as_list, one_or_more_of}
 use Rattle.occam_parser.specs.Views.{expression_of}
 use Rattle.occam_parser.specs.LineViews.{value_of}
 use Rattle.scalar_ranges.specs.Scopes.{entries_of}
+use Rattle.program_uses.proofs.LowestOfBoth.{lowest_of, lowest_at, lowest_at2}
 use Rattle.usage_checks.specs.DeclarationRules.{BreaksValue, HasOtherSize}
-use Rattle.usage_checks.proofs.LowestOfBoth.{lowest_of, lowest_at, lowest_at2}
 use Rattle.usage_checks.proofs.declaration_rules.fault_of_value.Goals as goal
 
 pub returns-in-Table : goal.returns-in-Table

@@ -1,9 +1,9 @@
 use Rattle.std.proofs.Common.{arith, ap, ◌∙◌}
 use Rattle.occam_parser.specs.LineViews.{declaration_of}
 use Rattle.scalar_ranges.specs.Scopes.{entries_of}
-use Rattle.usage_checks.specs.Declaring.{add_declaration}
-use Rattle.usage_checks.proofs.OneAfterAnother.{next_in_turn}
-use Rattle.usage_checks.proofs.ScopesExtended.{extends_both}
+use Rattle.program_uses.specs.Declaring.{add_declaration}
+use Rattle.program_uses.proofs.NextInTurn.{next_in_turn}
+use Rattle.program_uses.proofs.ScopesExtended.{extends_both}
 use Rattle.usage_checks.proofs.extending.add_declarations.Goals as goal
 
 pub loop-declaration-preserved : goal.loop-declaration-preserved

@@ -1,8 +1,8 @@
 use Rattle.std.proofs.Common.{◌≡◌, map, take}
 use Rattle.occam_parser.specs.LineViews.{declaration_of}
 use Rattle.scalar_ranges.specs.Scopes.{entries_of, known_of}
-use Rattle.usage_checks.specs.Entering.{add_declarations}
-use Rattle.usage_checks.specs.Extending.{Extends}
+use Rattle.program_uses.specs.Entering.{add_declarations}
+use Rattle.program_uses.specs.Extending.{Extends}
 use Rattle.usage_checks.proofs.extending.add_declarations.Given as goal
 
 abbrev pub invariant-loop-declaration : goal.invariant-loop-declaration

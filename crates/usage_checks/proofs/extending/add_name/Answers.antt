@@ -1,5 +1,5 @@
 use Rattle.scalar_ranges.specs.Scopes.{known_of, meaning_of}
-use Rattle.usage_checks.proofs.ScopesExtended.{extends_one}
+use Rattle.program_uses.proofs.ScopesExtended.{extends_one}
 use Rattle.usage_checks.proofs.extending.add_name.Goals as goal
 
 pub returns-clause-extends : goal.returns-clause-extends

@@ -2,9 +2,9 @@ use Rattle.std.proofs.Common.{◌≤◌, [], length, map, take, get_or, Bor, ℕ
 use Rattle.std.proofs.lemmas.List.{take_all}
 use Rattle.occam_parser.specs.LineViews.{spelling_of}
 use Rattle.scalar_ranges.specs.Scopes.{entries_of, meaning_of}
-use Rattle.usage_checks.specs.Declaring.{add, add_all}
-use Rattle.usage_checks.proofs.OneAfterAnother.{next_in_turn}
-use Rattle.usage_checks.proofs.ScopesExtended.{extends_both}
+use Rattle.program_uses.specs.Declaring.{add, add_all}
+use Rattle.program_uses.proofs.NextInTurn.{next_in_turn}
+use Rattle.program_uses.proofs.ScopesExtended.{extends_both}
 use Rattle.usage_checks.proofs.extending.add_names.Goals as goal
 
 pub loop-name-preserved : goal.loop-name-preserved

@@ -1,8 +1,8 @@
 use Rattle.std.proofs.Common.{◌≡◌, map, take}
 use Rattle.occam_parser.specs.LineViews.{spelling_of}
 use Rattle.scalar_ranges.specs.Scopes.{entries_of, known_of, meaning_of}
-use Rattle.usage_checks.specs.Declaring.{add_all}
-use Rattle.usage_checks.specs.Extending.{Extends}
+use Rattle.program_uses.specs.Declaring.{add_all}
+use Rattle.program_uses.specs.Extending.{Extends}
 use Rattle.usage_checks.proofs.extending.add_names.Given as goal
 
 abbrev pub invariant-loop-name : goal.invariant-loop-name

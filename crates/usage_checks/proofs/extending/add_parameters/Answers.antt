@@ -1,10 +1,10 @@
 use Rattle.std.proofs.Common.{arith, ◌∙◌}
 use Rattle.occam_parser.specs.LineViews.{formal_of}
 use Rattle.scalar_ranges.specs.Scopes.{entries_of}
-use Rattle.usage_checks.specs.Declaring.{add, formal_meaning}
+use Rattle.program_uses.specs.Declaring.{add, formal_meaning}
+use Rattle.program_uses.proofs.NextInTurn.{next_in_turn}
+use Rattle.program_uses.proofs.ScopesExtended.{extends_both}
 use Rattle.usage_checks.proofs.FormalsNamed.{as_many, stands_for}
-use Rattle.usage_checks.proofs.OneAfterAnother.{next_in_turn}
-use Rattle.usage_checks.proofs.ScopesExtended.{extends_both}
 use Rattle.usage_checks.proofs.extending.add_parameters.Goals as goal
 
 pub bounds-parameters-place : goal.bounds-parameters-place

@@ -3,7 +3,7 @@ use Rattle.std.proofs.lemmas.List.{take_all}
 use Rattle.occam_parser.specs.Views.{expression_of}
 use Rattle.scalar_ranges.specs.Environments.{item_at}
 use Rattle.scalar_ranges.specs.Scopes.{entries_of, meaning_of}
-use Rattle.usage_checks.specs.Signatures.{signatures_of, parameters_in}
+use Rattle.program_uses.specs.Signatures.{signatures_of, parameters_in}
 use Rattle.usage_checks.specs.Following.{receive_if, passed_to, after_actuals}
 use Rattle.usage_checks.proofs.ActualsFollowed.{next_actual}
 use Rattle.usage_checks.proofs.following.after_actuals.Goals as goal

@@ -1,6 +1,6 @@
 use Rattle.std.proofs.Common.{ap, ◌∙◌}
 use Rattle.scalar_ranges.specs.Scopes.{entries_of}
-use Rattle.usage_checks.specs.Instances.{variable_at}
+use Rattle.program_uses.specs.Instances.{variable_at}
 use Rattle.usage_checks.specs.Following.{assign_if}
 use Rattle.usage_checks.proofs.following.after_assignment.Goals as goal
 

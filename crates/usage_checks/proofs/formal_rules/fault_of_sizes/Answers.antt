@@ -3,9 +3,9 @@ use Rattle.std.proofs.lemmas.List.{take_all}
 use Rattle.occam_parser.specs.Lines.{Formal}
 use Rattle.occam_parser.specs.LineViews.{formal_of}
 use Rattle.scalar_ranges.specs.Scopes.{entries_of}
+use Rattle.program_uses.proofs.LowestOfBoth.{lowest_at}
 use Rattle.usage_checks.specs.DeclarationRules.{BreaksSizeIfAny}
 use Rattle.usage_checks.specs.FormalRules.{BreakSizes}
-use Rattle.usage_checks.proofs.LowestOfBoth.{lowest_at}
 use Rattle.usage_checks.proofs.LowestOfMany.{lowest_start, lowest_next}
 use Rattle.usage_checks.proofs.formal_rules.fault_of_sizes.Goals as goal
 

@@ -1,8 +1,8 @@
 use Rattle.std.proofs.Common.{map, take}
 use Rattle.occam_parser.specs.LineViews.{formal_of}
 use Rattle.scalar_ranges.specs.Scopes.{entries_of}
+use Rattle.program_uses.specs.Lowest.{IsLowest}
 use Rattle.usage_checks.specs.FormalRules.{BreakSizes}
-use Rattle.usage_checks.specs.Lowest.{IsLowest}
 use Rattle.usage_checks.proofs.formal_rules.fault_of_sizes.Given as goal
 
 abbrev pub invariant-loop-formal : goal.invariant-loop-formal

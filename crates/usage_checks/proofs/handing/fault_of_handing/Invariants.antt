@@ -1,8 +1,8 @@
 use Rattle.std.proofs.Common.{map, take, option_map}
 use Rattle.occam_parser.specs.Views.{expression_of}
 use Rattle.scalar_ranges.specs.Scopes.{entries_of, meaning_of}
+use Rattle.program_uses.specs.Signatures.{signatures_of, parameters_in}
 use Rattle.usage_checks.specs.Handing.{handed_all}
-use Rattle.usage_checks.specs.Signatures.{signatures_of, parameters_in}
 use Rattle.usage_checks.proofs.HandedOver.{Hands}
 use Rattle.usage_checks.proofs.handing.fault_of_handing.Given as goal
 

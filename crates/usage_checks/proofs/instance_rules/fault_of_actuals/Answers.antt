@@ -3,9 +3,9 @@ use Rattle.std.proofs.lemmas.List.{take_all}
 use Rattle.occam_parser.specs.Views.{expression_of}
 use Rattle.scalar_ranges.specs.Environments.{item_at}
 use Rattle.scalar_ranges.specs.Scopes.{entries_of, meaning_of}
-use Rattle.usage_checks.specs.Signatures.{signatures_of, parameters_in}
+use Rattle.program_uses.specs.Signatures.{signatures_of, parameters_in}
+use Rattle.program_uses.proofs.LowestOfBoth.{lowest_at}
 use Rattle.usage_checks.specs.InstanceRules.{BreaksOne, BreaksActuals}
-use Rattle.usage_checks.proofs.LowestOfBoth.{lowest_at}
 use Rattle.usage_checks.proofs.LowestOfMany.{lowest_start, lowest_next}
 use Rattle.usage_checks.proofs.instance_rules.fault_of_actuals.Goals as goal
 

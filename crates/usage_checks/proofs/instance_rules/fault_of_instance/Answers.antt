@@ -2,9 +2,9 @@ use Rattle.std.proofs.Common.{map, sym}
 use Rattle.std.proofs.lemmas.List.{length-map}
 use Rattle.occam_parser.specs.Views.{expression_of}
 use Rattle.scalar_ranges.specs.Scopes.{entries_of}
-use Rattle.usage_checks.specs.Signatures.{signatures_of, parameters_in}
+use Rattle.program_uses.specs.Signatures.{signatures_of, parameters_in}
+use Rattle.program_uses.proofs.LowestOfBoth.{lowest_of, lowest_at, lowest_at2}
 use Rattle.usage_checks.specs.InstanceRules.{BreaksActuals, IsNotCalled}
-use Rattle.usage_checks.proofs.LowestOfBoth.{lowest_of, lowest_at, lowest_at2}
 use Rattle.usage_checks.proofs.instance_rules.fault_of_instance.Goals as goal
 
 pub returns : goal.returns

@@ -1,7 +1,7 @@
 use Rattle.occam_parser.specs.Views.{expression_of}
 use Rattle.scalar_ranges.specs.Scopes.{entries_of}
+use Rattle.program_uses.proofs.LowestOfBoth.{lowest_of, lowest_at, lowest_at2}
 use Rattle.usage_checks.specs.InstanceRules.{BreaksActual, BreaksPassing}
-use Rattle.usage_checks.proofs.LowestOfBoth.{lowest_of, lowest_at, lowest_at2}
 use Rattle.usage_checks.proofs.instance_rules.fault_of_one.Goals as goal
 
 pub returns : goal.returns

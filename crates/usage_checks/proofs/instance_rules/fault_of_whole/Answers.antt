@@ -1,9 +1,9 @@
 use Rattle.std.proofs.Common.{ap, ◌∙◌, option_map}
 use Rattle.scalar_ranges.specs.Scopes.{entries_of, meaning_of}
-use Rattle.usage_checks.specs.PlaceViews.{place_at}
+use Rattle.program_uses.specs.PlaceViews.{place_at}
+use Rattle.program_uses.proofs.LowestOfBoth.{lowest_of, lowest_at2}
 use Rattle.usage_checks.specs.PlaceRules.{elements_in, BreaksSubscript}
 use Rattle.usage_checks.specs.InstanceRules.{IsNotTaken}
-use Rattle.usage_checks.proofs.LowestOfBoth.{lowest_of, lowest_at2}
 use Rattle.usage_checks.proofs.instance_rules.fault_of_whole.Goals as goal
 
 pub returns : goal.returns

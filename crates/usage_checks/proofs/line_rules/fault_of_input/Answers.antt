@@ -1,7 +1,7 @@
 use Rattle.std.proofs.Common.{ap, ◌∙◌}
 use Rattle.scalar_ranges.specs.Scopes.{entries_of}
+use Rattle.program_uses.proofs.LowestOfBoth.{lowest_of, lowest_at, lowest_at2}
 use Rattle.usage_checks.specs.PlaceRules.{target_at, channel_at, BreaksTarget, Differ}
-use Rattle.usage_checks.proofs.LowestOfBoth.{lowest_of, lowest_at, lowest_at2}
 use Rattle.usage_checks.proofs.line_rules.fault_of_input.Goals as goal
 
 pub returns : goal.returns

@@ -1,5 +1,5 @@
+use Rattle.program_uses.proofs.LowestOfBoth.{lowest_of, lowest_at2}
 use Rattle.usage_checks.specs.LineRules.{IsNoCount}
-use Rattle.usage_checks.proofs.LowestOfBoth.{lowest_of, lowest_at2}
 use Rattle.usage_checks.proofs.line_rules.fault_of_replicator.Goals as goal
 
 pub returns : goal.returns

@@ -1,8 +1,8 @@
 use Rattle.std.proofs.Common.{ap, ◌∙◌}
 use Rattle.scalar_ranges.specs.Scopes.{entries_of}
-use Rattle.usage_checks.specs.PlaceViews.{place_at}
+use Rattle.program_uses.specs.PlaceViews.{place_at}
+use Rattle.program_uses.proofs.LowestOfBoth.{lowest_of, lowest_at}
 use Rattle.usage_checks.specs.PlaceRules.{elements_in, BreaksSubscript}
-use Rattle.usage_checks.proofs.LowestOfBoth.{lowest_of, lowest_at}
 use Rattle.usage_checks.proofs.place_rules.fault_of_place.Goals as goal
 
 pub returns : goal.returns

@@ -1,8 +1,8 @@
 use Rattle.std.proofs.Common.{sym, option_map}
 use Rattle.occam_parser.specs.Views.{expression_of}
 use Rattle.scalar_ranges.specs.Scopes.{entries_of}
+use Rattle.program_uses.proofs.LowestOfBoth.{lowest_of, lowest_at, lowest_at2}
 use Rattle.usage_checks.specs.PlaceRules.{IsOutside, BreaksSubscript}
-use Rattle.usage_checks.proofs.LowestOfBoth.{lowest_of, lowest_at, lowest_at2}
 use Rattle.usage_checks.proofs.place_rules.fault_of_subscript.Goals as goal
 
 pub returns-in-Some : goal.returns-in-Some

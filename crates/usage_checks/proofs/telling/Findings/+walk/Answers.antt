@@ -11,8 +11,8 @@ use Rattle.occam_parser.specs.BlockViews.{body_of, all_processes, all_choices, a
 use Rattle.occam_parser.proofs.SeenBlocks.{view-Seq, view-Par}
 use Rattle.scalar_ranges.specs.Moves.{next_component}
 use Rattle.scalar_ranges.specs.Scopes.{known_of, meaning_of}
+use Rattle.program_uses.specs.Indices.{repeats_of, seen_repeats}
 use Rattle.usage_checks.specs.AfterProcesses.{left_to}
-use Rattle.usage_checks.specs.Indices.{repeats_of, seen_repeats}
 use Rattle.usage_checks.specs.Walking.{WalksConstruct, WalksBlock, WalksComponent}
 use Rattle.usage_checks.proofs.FaultsInOrder.{walks_then}
 use Rattle.usage_checks.proofs.ComponentsWalked.{walks_behind, components_next, components_all, walks_plain}

@@ -4,7 +4,7 @@ use Rattle.occam_parser.specs.Terminals.{Mark}
 use Rattle.occam_parser.specs.LineViews.{replicator_of}
 use Rattle.occam_parser.specs.BlockViews.{body_of, all_processes, all_choices, all_branches}
 use Rattle.scalar_ranges.specs.Scopes.{known_of}
-use Rattle.usage_checks.specs.Indices.{seen_repeats}
+use Rattle.program_uses.specs.Indices.{seen_repeats}
 use Rattle.usage_checks.specs.Walking.{WalksComponents}
 use Rattle.usage_checks.proofs.TurnsWalked.{WalksTurns}
 use Rattle.usage_checks.proofs.telling.Findings.+walk.Given as goal

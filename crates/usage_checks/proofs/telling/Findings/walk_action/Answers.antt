@@ -1,6 +1,6 @@
 use Rattle.occam_parser.specs.LineViews.{action_of}
 use Rattle.scalar_ranges.specs.Scopes.{known_of}
-use Rattle.usage_checks.specs.Signatures.{signatures_of}
+use Rattle.program_uses.specs.Signatures.{signatures_of}
 use Rattle.usage_checks.specs.Following.{after_action}
 use Rattle.usage_checks.specs.NameRules.{with_entries}
 use Rattle.usage_checks.proofs.FaultsInOrder.{walks_told, walks_then}

@@ -3,7 +3,7 @@ use Rattle.std.proofs.lemmas.List.{take_all}
 use Rattle.occam_parser.specs.declared.tree.Declaration.{Declaration}
 use Rattle.occam_parser.specs.LineViews.{declaration_of}
 use Rattle.scalar_ranges.specs.Scopes.{known_of}
-use Rattle.usage_checks.specs.Declaring.{add_declaration}
+use Rattle.program_uses.specs.Declaring.{add_declaration}
 use Rattle.usage_checks.specs.NameRules.{BreaksDeclared}
 use Rattle.usage_checks.proofs.FaultsInOrder.{walks_moved}
 use Rattle.usage_checks.proofs.OneAfterAnother.{WalksOver, walks_next}

@@ -1,7 +1,7 @@
 use Rattle.std.proofs.Common.{map, take}
 use Rattle.occam_parser.specs.LineViews.{declaration_of}
 use Rattle.scalar_ranges.specs.Scopes.{known_of}
-use Rattle.usage_checks.specs.Declaring.{add_declaration}
+use Rattle.program_uses.specs.Declaring.{add_declaration}
 use Rattle.usage_checks.specs.NameRules.{BreaksDeclared}
 use Rattle.usage_checks.proofs.OneAfterAnother.{WalksOver}
 use Rattle.usage_checks.proofs.telling.Findings.walk_declarations.Given as goal

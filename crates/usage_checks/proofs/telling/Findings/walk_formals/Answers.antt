@@ -3,7 +3,7 @@ use Rattle.std.proofs.lemmas.List.{take_all}
 use Rattle.occam_parser.specs.declared.tree.Formal as code_formal
 use Rattle.occam_parser.specs.LineViews.{formal_of}
 use Rattle.scalar_ranges.specs.Scopes.{entries_of, known_of}
-use Rattle.usage_checks.specs.Declaring.{add, formal_meaning}
+use Rattle.program_uses.specs.Declaring.{add, formal_meaning}
 use Rattle.usage_checks.specs.NameRules.{BreaksName, with_entries}
 use Rattle.usage_checks.specs.Telling.{Walks}
 use Rattle.usage_checks.proofs.FaultsInOrder.{walks_moved}

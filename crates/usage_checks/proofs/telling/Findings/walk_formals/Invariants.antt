@@ -1,7 +1,7 @@
 use Rattle.std.proofs.Common.{map, take}
 use Rattle.occam_parser.specs.LineViews.{formal_of}
 use Rattle.scalar_ranges.specs.Scopes.{entries_of, known_of}
-use Rattle.usage_checks.specs.Declaring.{add, formal_meaning}
+use Rattle.program_uses.specs.Declaring.{add, formal_meaning}
 use Rattle.usage_checks.specs.NameRules.{BreaksName}
 use Rattle.usage_checks.proofs.OneAfterAnother.{WalksOver}
 use Rattle.usage_checks.proofs.telling.Findings.walk_formals.Given as goal

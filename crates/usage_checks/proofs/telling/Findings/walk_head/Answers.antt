@@ -1,7 +1,7 @@
 use Rattle.std.proofs.Common.{length, map}
 use Rattle.occam_parser.specs.LineViews.{formal_of}
 use Rattle.scalar_ranges.specs.Scopes.{known_of}
-use Rattle.usage_checks.specs.Declaring.{add_formals}
+use Rattle.program_uses.specs.Declaring.{add_formals}
 use Rattle.usage_checks.specs.FormalRules.{BreakFormals}
 use Rattle.usage_checks.specs.NameRules.{with_entries}
 use Rattle.usage_checks.proofs.FaultsInOrder.{walks_told, walks_both}

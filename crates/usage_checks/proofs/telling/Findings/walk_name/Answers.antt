@@ -1,5 +1,5 @@
 use Rattle.scalar_ranges.specs.Scopes.{known_of, meaning_of}
-use Rattle.usage_checks.specs.Declaring.{add}
+use Rattle.program_uses.specs.Declaring.{add}
 use Rattle.usage_checks.specs.NameRules.{with_entries}
 use Rattle.usage_checks.proofs.FaultsInOrder.{walks_told, walks_on}
 use Rattle.usage_checks.proofs.telling.Findings.walk_name.Goals as goal

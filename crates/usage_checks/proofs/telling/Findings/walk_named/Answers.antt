@@ -3,11 +3,12 @@ use Rattle.std.proofs.lemmas.List.{length-map}
 use Rattle.occam_parser.specs.LineViews.{formal_of}
 use Rattle.occam_parser.specs.BlockViews.{procedure_of}
 use Rattle.scalar_ranges.specs.Scopes.{known_of}
-use Rattle.usage_checks.specs.ActionViews.{around_of}
+use Rattle.program_uses.specs.ActionViews.{around_of}
+use Rattle.program_uses.specs.Processes.{uses_of}
+use Rattle.program_uses.specs.Sets.{members_of}
+use Rattle.program_uses.specs.Signatures.{parameter_of, parameters_of}
 use Rattle.usage_checks.specs.FormalRules.{parameter_for}
 use Rattle.usage_checks.specs.ItemRules.{in_body}
-use Rattle.usage_checks.specs.Processes.{uses_of}
-use Rattle.usage_checks.specs.Signatures.{parameter_of, parameters_of}
 use Rattle.usage_checks.proofs.ItemsWalked.{signature_found, if_signed, walks_named}
 use Rattle.usage_checks.proofs.telling.Findings.walk_named.Goals as goal
 
@@ -33,5 +34,5 @@ returns-clause-signature c =
     ∙ ap (λ fs. map (parameter_for k.entries) (map formal_of fs)) c.deref.ensures.value in
     if_signed c.signed.result
     (λ complete. signature_found k.entries c.len-first.result p.head.formals
-    (map parameter_of c.in_ok-parameters.field-0.items) c.walk_procedure-used.result.set.keys us c.len-first.ensures
+    (map parameter_of c.in_ok-parameters.field-0.items) (members_of c.walk_procedure-used.result) us c.len-first.ensures
     heads (c.walk_procedure-used.ensures.uses (c.walk_number.ensures.complete complete))) c.signed.ensures

@@ -2,7 +2,7 @@ use Rattle.std.proofs.Common.{◌≤◌, [], length, map, get_or, Bor, ℕ, List
 use Rattle.std.proofs.lemmas.List.{take_all}
 use Rattle.occam_parser.specs.LineViews.{spelling_of}
 use Rattle.scalar_ranges.specs.Scopes.{known_of, meaning_of}
-use Rattle.usage_checks.specs.Declaring.{add, add_all}
+use Rattle.program_uses.specs.Declaring.{add, add_all}
 use Rattle.usage_checks.specs.NameRules.{BreaksName, BreakNames, with_entries}
 use Rattle.usage_checks.proofs.FaultsInOrder.{walks_both, walks_moved}
 use Rattle.usage_checks.proofs.OneAfterAnother.{WalksOver, walks_next}

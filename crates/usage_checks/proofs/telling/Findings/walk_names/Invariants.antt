@@ -1,7 +1,7 @@
 use Rattle.std.proofs.Common.{map, take}
 use Rattle.occam_parser.specs.LineViews.{spelling_of}
 use Rattle.scalar_ranges.specs.Scopes.{known_of, meaning_of}
-use Rattle.usage_checks.specs.Declaring.{add}
+use Rattle.program_uses.specs.Declaring.{add}
 use Rattle.usage_checks.specs.NameRules.{BreaksName}
 use Rattle.usage_checks.proofs.OneAfterAnother.{WalksOver}
 use Rattle.usage_checks.proofs.telling.Findings.walk_names.Given as goal

@@ -2,7 +2,7 @@ use Rattle.std.proofs.Common.{subst}
 use Rattle.occam_parser.specs.BlockViews.{procedure_of}
 use Rattle.scalar_ranges.specs.Entries.{Procedure}
 use Rattle.scalar_ranges.specs.Scopes.{entries_of, known_of}
-use Rattle.usage_checks.specs.Declaring.{add}
+use Rattle.program_uses.specs.Declaring.{add}
 use Rattle.usage_checks.specs.NameRules.{BreaksName, with_entries}
 use Rattle.usage_checks.specs.Telling.{Walks}
 use Rattle.usage_checks.proofs.telling.Findings.walk_number.Goals as goal

@@ -2,12 +2,12 @@ use Rattle.std.proofs.Common.{map, ap, ◌∙◌}
 use Rattle.occam_parser.specs.LineViews.{formal_of}
 use Rattle.occam_parser.specs.BlockViews.{process_of, procedure_of}
 use Rattle.scalar_ranges.specs.Scopes.{known_of}
+use Rattle.program_uses.specs.ActionViews.{around_of}
+use Rattle.program_uses.specs.Declaring.{add_formals}
+use Rattle.program_uses.specs.Processes.{uses_of}
+use Rattle.program_uses.specs.Sets.{is_among}
 use Rattle.usage_checks.specs.declared.blocks.Site.{Site}
-use Rattle.usage_checks.specs.ActionViews.{around_of}
-use Rattle.usage_checks.specs.Declaring.{add_formals}
 use Rattle.usage_checks.specs.ItemRules.{body_position}
-use Rattle.usage_checks.specs.Processes.{uses_of}
-use Rattle.usage_checks.specs.Sets.{is_among}
 use Rattle.usage_checks.proofs.FaultsInOrder.{walks_on}
 use Rattle.usage_checks.proofs.ProceduresWalked.{walks_procedure}
 use Rattle.usage_checks.proofs.telling.Findings.walk_procedure.Goals as goal

@@ -1,7 +1,7 @@
 use Rattle.std.proofs.Common.{ap}
 use Rattle.occam_parser.specs.BlockViews.{procedure_of}
+use Rattle.program_uses.specs.Signatures.{parameters_of, signatures_of}
 use Rattle.usage_checks.specs.ItemViews.{seen_outside}
-use Rattle.usage_checks.specs.Signatures.{parameters_of, signatures_of}
 use Rattle.usage_checks.proofs.ItemsWalked.{walks_signed}
 use Rattle.usage_checks.proofs.telling.Findings.walk_signed.Goals as goal
 

@@ -1,8 +1,8 @@
 use Rattle.std.proofs.Common.{ap}
 use Rattle.occam_parser.specs.BlockViews.{item_of}
 use Rattle.scalar_ranges.specs.Scopes.{known_of}
+use Rattle.program_uses.specs.Signatures.{signatures_of}
 use Rattle.usage_checks.specs.ItemViews.{seen_outside}
-use Rattle.usage_checks.specs.Signatures.{signatures_of}
 use Rattle.usage_checks.specs.Sizes.{measures_of_item}
 use Rattle.usage_checks.proofs.FaultsInOrder.{walks_still}
 use Rattle.usage_checks.proofs.ItemsWalked.{weighed_is, walks_weighed}

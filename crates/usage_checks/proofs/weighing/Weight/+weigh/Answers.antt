@@ -9,16 +9,16 @@ use Rattle.occam_parser.specs.BlockViews.{process_of, construct_of, body_of, cho
 use Rattle.occam_parser.specs.BlockViews.{all_processes, all_choices, all_branches}
 use Rattle.occam_parser.proofs.SeenBlocks.{view-Seq, view-Par, view-If, view-Alt}
 use Rattle.scalar_ranges.specs.Scopes.{entries_of, known_of}
-use Rattle.usage_checks.specs.Declaring.{add}
-use Rattle.usage_checks.specs.Indices.{index_meaning, in_turns}
-use Rattle.usage_checks.specs.Signatures.{signatures_of}
+use Rattle.program_uses.specs.Declaring.{add}
+use Rattle.program_uses.specs.Indices.{index_meaning, in_turns}
+use Rattle.program_uses.specs.Signatures.{signatures_of}
+use Rattle.program_uses.proofs.ScopesExtended.{left_again}
 use Rattle.usage_checks.specs.Sizes.{size_of_expression, size_of_guard, size_of_replicator, total, measures_of}
 use Rattle.usage_checks.specs.Sizes.{plain, measures_of_construct, measures_of_components, measures_of_component}
 use Rattle.usage_checks.specs.Weighing.{end_at, measures_of_one, measures_in_turns}
 use Rattle.usage_checks.proofs.PartsWeighed.{weighs_both, weighs_as, weighs_if, counts_line, counts_sums, sums_both}
 use Rattle.usage_checks.proofs.PartsWeighed.{sums_as, sums_end, measures_behind, weighs_then, weighs_in_as}
 use Rattle.usage_checks.proofs.PartsWeighed.{weighs_next, weighs_all}
-use Rattle.usage_checks.proofs.ScopesExtended.{left_again}
 use Rattle.usage_checks.proofs.TurnsWeighed.{turn_measures, all_turns, turns_next, turns_enough, body_of_seq}
 use Rattle.usage_checks.proofs.TurnsWeighed.{body_of_other}
 use Rattle.usage_checks.proofs.weighing.Weight.+weigh.Goals as goal

@@ -2,8 +2,8 @@ use Rattle.std.proofs.Common.{◌≡◌, take}
 use Rattle.occam_parser.specs.LineViews.{replicator_of}
 use Rattle.occam_parser.specs.BlockViews.{body_of, all_processes, all_choices, all_branches}
 use Rattle.scalar_ranges.specs.Scopes.{entries_of, known_of}
-use Rattle.usage_checks.specs.Indices.{in_turns}
-use Rattle.usage_checks.specs.Signatures.{signatures_of}
+use Rattle.program_uses.specs.Indices.{in_turns}
+use Rattle.program_uses.specs.Signatures.{signatures_of}
 use Rattle.usage_checks.specs.Sizes.{total, measures_of_components}
 use Rattle.usage_checks.specs.Weighing.{Sums, WeighsIn}
 use Rattle.usage_checks.proofs.TurnsWeighed.{turn_measures}

@@ -1,0 +1,13 @@
+pub mod Same
+pub mod Adding
+pub mod Gathering
+pub mod NextInTurn
+pub mod NamesEntered
+pub mod UsesOfProcesses
+pub mod LowestOfBoth
+pub mod Sharing
+pub mod ChangedVariables
+pub mod ComponentsShared
+pub mod EndsInOrder
+pub mod EndsPushed
+pub mod ScopesExtended

@@ -1,0 +1,38 @@
+//! What programs use, and what the components of a `PAR` share.
+#![tactic(auto)]
+
+mod actions;
+mod components;
+mod constants;
+mod declaring;
+mod ends;
+mod entering;
+mod faults;
+mod indices;
+mod instances;
+mod mentions;
+mod par_rules;
+mod places;
+mod processes;
+mod signature;
+mod uses;
+
+pub use actions::{Around, is_before};
+pub use components::{
+    fault_of_components, fault_of_repeated, variables_changed, variables_changed_in,
+};
+pub use constants::{has_type, size_in, value_as};
+pub use declaring::{
+    channel_meaning, constant_meaning, formal_meaning, type_of_values, variable_meaning,
+};
+pub use ends::{ChannelEnd, signed};
+pub use faults::{
+    CHANNEL_USE, CONSTANT_WANTED, DECLARED_TWICE, MEMORY, NO_MAIN, OTHER_ACTUAL, PASSED_TWICE,
+    SHARED_VARIABLE, lower, told_unless,
+};
+pub use indices::{Repeats, Turns, index_meaning, is_sequence, repeats_of, turns_of};
+pub use instances::{array_at, place_in, variable_at};
+pub use mentions::is_variable;
+pub use places::{PlaceRef, Spot, place_ref, spot_of};
+pub use signature::{Parameter, Passing, Signature, count_of_parameters, parameter_at, passing_of};
+pub use uses::{Direction, End, Use, Uses};

@@ -1,9 +1,0 @@
-use Rattle.std.proofs.Common.{◌≡◌, fold, map}
-use Rattle.usage_checks.specs.Ends.{with_end}
-use Rattle.usage_checks.specs.Signatures.{parameter_of}
-use Rattle.usage_checks.proofs.ends.add_ends.Given as goal
-
-abbrev pub invariant-loop-used : goal.invariant-loop-used
-invariant-loop-used l =
-    fold (with_end l.first) (map parameter_of l.parameters.items) l.rest
-    ≡ fold (with_end l.first) (map parameter_of l.fn.parameters.items) l.ends.keys

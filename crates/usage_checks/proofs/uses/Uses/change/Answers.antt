@@ -1,5 +1,0 @@
-use Rattle.usage_checks.proofs.Adding.{adds_both}
-use Rattle.usage_checks.proofs.uses.Uses.change.Goals as goal
-
-pub returns : goal.returns
-returns c = adds_both c.change_name.ensures c.read_if_any.ensures
