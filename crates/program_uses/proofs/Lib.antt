@@ -7,6 +7,7 @@ pub mod UsesOfProcesses
 pub mod LowestOfBoth
 pub mod Sharing
 pub mod ChangedVariables
+pub mod ChangesAlike
 pub mod ComponentsShared
 pub mod EndsInOrder
 pub mod EndsPushed

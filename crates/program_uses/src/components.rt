@@ -37,7 +37,18 @@ fn changes_among(alloc: Global, uses: &Uses) -> Result<Vec<usize>, AllocError>
     Ok(numbers)
 }
 
-/// The numbers of the variables that a process changes. The scope is afterwards as it was.
+/// What is known of the program where counting has ended: there each body is gone over once, and no ends of arrays are
+/// used.
+fn uncounted(around: Around<'_>) -> Around<'_>
+    ensures { (around_of result).signatures ≡ (around_of around.entry).signatures }
+{
+    Around {
+        uncounted: Some(0),
+        ..around
+    }
+}
+
+/// The numbers of the variables that a process changes, wherever counting ends. The scope is afterwards as it was.
 pub fn variables_changed<'a>(
     alloc: Global,
     around: Around,
@@ -49,7 +60,7 @@ pub fn variables_changed<'a>(
     ensures scope { known_of scope.new ≡ known_of scope.old }
 {
     let mut used = Uses::new(alloc);
-    used.collect(around, scope, process);
+    used.collect(uncounted(around), scope, process);
     if used.is_complete() {
         changes_among(alloc, &used)
     } else {
@@ -107,7 +118,8 @@ pub fn fault_of_components<'a>(
     }
 }
 
-/// The numbers of the variables that the body of a replicator changes. The scope is afterwards as it was.
+/// The numbers of the variables that the body of a replicator changes, wherever counting ends. The scope is afterwards
+/// as it was.
 pub fn variables_changed_in<'a>(
     alloc: Global,
     around: Around,
@@ -122,7 +134,7 @@ pub fn variables_changed_in<'a>(
     ensures scope { known_of scope.new ≡ known_of scope.old }
 {
     let mut used = Uses::new(alloc);
-    used.collect_replicated(around, scope, line, replicator, body);
+    used.collect_replicated(uncounted(around), scope, line, replicator, body);
     if used.is_complete() {
         changes_among(alloc, &used)
     } else {
