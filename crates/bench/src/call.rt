@@ -11,8 +11,17 @@ pub(crate) enum Call {
     OfModule(ModuleCall),
     /// `lines` of a source.
     Lines,
-    /// `parse` of a source's lines.
+    /// A call on the lines of a source.
+    OfLines(LinesCall),
+}
+
+/// A call on the lines of a source.
+#[derive(Clone, Copy)]
+pub(crate) enum LinesCall {
+    /// `parse`.
     Parse,
+    /// `parse`, and `check` of the program, which it takes: so its own time is what this takes longer than `parse`.
+    Check,
 }
 
 /// A call on a module.
@@ -28,7 +37,7 @@ pub(crate) enum ModuleCall {
 }
 
 /// The names, as they are listed if another one is given.
-pub(crate) const NAMES: &str = "read, write, verify, apply, slice, pick, lines, parse";
+pub(crate) const NAMES: &str = "read, write, verify, apply, slice, pick, lines, parse, check";
 
 /// One byte of the running process, which then goes on.
 pub(crate) const STEP: Event = Event::Step {
@@ -58,7 +67,8 @@ pub(crate) fn call_named(name: &str) -> Option<Call> {
         "slice" => Some(Call::OfModule(ModuleCall::Apply(SLICE))),
         "pick" => Some(Call::OfModule(ModuleCall::Apply(PICK))),
         "lines" => Some(Call::Lines),
-        "parse" => Some(Call::Parse),
+        "parse" => Some(Call::OfLines(LinesCall::Parse)),
+        "check" => Some(Call::OfLines(LinesCall::Check)),
         _ => None,
     }
 }

@@ -1,13 +1,14 @@
 //! The calls, repeated.
 
-use crate::call::{Call, ModuleCall, STEP};
+use crate::call::{Call, LinesCall, ModuleCall, STEP};
 use crate::failure::{Failure, refusal};
 use certificate::{Module, write};
 use machine::Checked;
 use machine_state::{Effect, Event, Link};
 use occam_layout::{Line, lines};
-use occam_parser::parse;
+use occam_parser::{Program, parse};
 use std::alloc::Global;
+use usage_checks::check;
 use verifier::verify;
 
 /// A checksum with one more number in it.
@@ -136,10 +137,43 @@ fn parse_repeatedly(alloc: Global, rows: &[Line], times: u64) -> Result<u64, Fai
     Ok(checksum)
 }
 
-/// The same, of the lines of a source.
-fn parse_source(alloc: Global, source: &[u8], times: u64) -> Result<u64, Failure> {
+/// How many procedures a program has that breaks no usage rule.
+fn check_program(alloc: Global, program: Program) -> Result<u64, Failure> {
+    match check(alloc, program) {
+        Ok(checked) => Ok(checked.signatures().len() as u64),
+        Err(fault) => Err(refusal(fault.number, usage_checks::MEMORY)),
+    }
+}
+
+/// The same, of the program that these lines are.
+fn check_lines(alloc: Global, rows: &[Line]) -> Result<u64, Failure> {
+    match parse(alloc, rows) {
+        Ok(program) => check_program(alloc, program),
+        Err(fault) => Err(refusal(fault.number, occam_parser::MEMORY)),
+    }
+}
+
+/// The numbers of procedures.
+fn check_repeatedly(alloc: Global, rows: &[Line], times: u64) -> Result<u64, Failure> {
+    let mut checksum = 0;
+    for _ in 0..times {
+        checksum = mixed(checksum, check_lines(alloc, rows)?);
+    }
+    Ok(checksum)
+}
+
+/// Repeats a call on these lines.
+fn of_lines(alloc: Global, call: LinesCall, rows: &[Line], times: u64) -> Result<u64, Failure> {
+    match call {
+        LinesCall::Parse => parse_repeatedly(alloc, rows, times),
+        LinesCall::Check => check_repeatedly(alloc, rows, times),
+    }
+}
+
+/// Repeats a call on the lines of this source.
+fn of_source(alloc: Global, call: LinesCall, source: &[u8], times: u64) -> Result<u64, Failure> {
     match lines(alloc, source) {
-        Ok(rows) => parse_repeatedly(alloc, &rows, times),
+        Ok(rows) => of_lines(alloc, call, &rows, times),
         Err(fault) => Err(refusal(fault.number, occam_layout::MEMORY)),
     }
 }
@@ -155,6 +189,6 @@ pub(crate) fn checksum_of(
         Call::Read => read_repeatedly(alloc, bytes, times),
         Call::OfModule(call) => of_file(alloc, call, bytes, times),
         Call::Lines => lines_repeatedly(alloc, bytes, times),
-        Call::Parse => parse_source(alloc, bytes, times),
+        Call::OfLines(call) => of_source(alloc, call, bytes, times),
     }
 }

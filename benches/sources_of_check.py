@@ -1,0 +1,245 @@
+"""Sources for the figures of `check`: ordinary procedures, and what is made to be slow, as large as the rule on sizes
+lets through. docs/LANGUAGE.md says how sizes are counted. No rule is broken, so all is gone over to the end."""
+
+from itertools import chain, islice, product
+from string import ascii_lowercase, digits
+
+MAX_SIZE = 8_388_608
+MAX_LEVEL = 64
+AROUND = 400  # at least the size of what is around a body, in each source that counts with `as_many`
+ENDS = 100_000
+
+RELAY = r"""PROC relay{number}(CHAN OF INT left, CHAN OF INT right, VAL INT most)
+  [16]INT table:
+  INT value, sum:
+  SEQ
+    {first}
+    SEQ turn = 0 FOR 16
+      ALT
+        left ? value
+          IF
+            value < 0
+              table[turn] := -(INT 'a')
+            TRUE
+              sum := sum PLUS (value \ 100)
+        sum > (most / 2) & SKIP
+          right ! sum PLUS table[turn]
+:
+"""
+
+
+def as_many(size, others=0):
+    """How many parts of this size a program may have, beside others."""
+    return (MAX_SIZE - AROUND - others) // size
+
+
+def names(count):
+    """The first so many names, the short ones before the long ones."""
+    spellings = (product(ascii_lowercase, *[ascii_lowercase + digits] * more) for more in range(4))
+    return ["".join(it) for it in islice(chain.from_iterable(spellings), count)]
+
+
+def deeper(lines, levels=1):
+    return [levels * "  " + line for line in lines]
+
+
+def under(heads, body):
+    """Heads, each a level deeper than the one before, and then a body."""
+    return [line for level, head in enumerate(heads) for line in deeper([head], level)] + deeper(body, len(heads))
+
+
+def program(*procedures):
+    return "".join(line + "\n" for lines in procedures for line in lines).encode()
+
+
+def procedure(head, body):
+    return [f"PROC {head}", *deeper(body), ":"]
+
+
+def main(*body):
+    return procedure("main()", body)
+
+
+def counted(turns, *body):
+    """A main procedure with a body under a count."""
+    return main(*under([f"PAR i = 0 FOR {turns}"], body))
+
+
+# ---- ordinary sources
+
+
+def procedures(lines):
+    """Procedures of 16 lines, so many lines in all. Each but the first has an instance of the one before."""
+    last = lines // 16 - 2
+    relays = [
+        RELAY.format(number=number, first=f"relay{number - 1}(left, right, most)" if number else "sum := 0")
+        for number in range(last + 1)
+    ]
+    ends = ["in0", *(f"c[{it}]" for it in range(11)), "out0"]
+    instances = [f"    relay{last}({left}, {right}, 100)" for left, right in zip(ends, ends[1:])]
+    head = ["PROC main(CHAN OF INT in0, CHAN OF INT out0)", "  [11]CHAN OF INT c:", "  PAR"]
+    return "".join(relays).encode() + program([*head, *instances, ":"])
+
+
+def replicated():
+    """16 lines that are gone over 62,500 times, those of an IF and of an ALT in it twice each time."""
+    turns = 62_500
+    replicated_if = under(["IF k = 0 FOR 2", "x = k"], ["y := y + k"])
+    replicated_alt = under(["ALT k = 0 FOR 2", "x < y & SKIP"], ["y := 0"])
+    body = ["x := i /\\ 15", "y := x + 1", *replicated_if, *replicated_alt, "y := y - x", "c[i] ! y"]
+    lines = ["INT x, y:", *under(["SEQ"], body)]
+    return program(main(f"[{turns}]CHAN OF INT c:", *under([f"PAR i = 0 FOR {turns}"], lines)))
+
+
+# ---- turns
+
+
+def turns():
+    return program(counted(as_many(1), "SKIP"))
+
+
+def elements():
+    """Turns of a PAR that use an element each."""
+    count = as_many(5)
+    return program(main(f"[{count}]CHAN OF INT c:", *under([f"PAR i = 0 FOR {count}"], ["c[i] ! 1"])))
+
+
+def branches():
+    """Branches of an ALT that use an element each."""
+    count = as_many(6)
+    alternation = under([f"ALT i = 0 FOR {count}", "c[i] ? x"], ["SKIP"])
+    return program(main(f"[{count}]CHAN OF INT c:", "INT x:", *under(["PAR"], alternation)))
+
+
+def blocks():
+    """Turns with a block, where 20,000 names are known."""
+    known = names(20_000)
+    count = as_many(1, sum(map(len, known)))
+    return program(main(f"INT {','.join(known)}:", *under([f"PAR i = 0 FOR {count}"], ["IF"])))
+
+
+# ---- long lines under a count
+
+
+def operands():
+    sum_of_ones = "+".join(["1"] * 200_000)
+    return program(counted(as_many(400_003), "INT x:", f"x := {sum_of_ones}"))
+
+
+def variables():
+    sum_of_zeros = "+".join(["y"] * 200_000)
+    return program(counted(as_many(400_004), "INT x,y:", f"x := {sum_of_zeros}"))
+
+
+def items():
+    """A table of names."""
+    table = ",".join(["a"] * 200_000)
+    return program(["VAL INT a IS 1:"], counted(as_many(200_006), f"VAL [200000]INT t IS [{table}]:", "SKIP"))
+
+
+def actuals():
+    formals = ", ".join(f"VAL INT {name}" for name in names(1_000))
+    passed = ",".join(["a"] * 1_000)
+    return program(
+        procedure(f"p({formals})", ["SKIP"]),
+        main("INT a:", *under([f"PAR i = 0 FOR {as_many(1_003, 5_000)}"], [f"p({passed})"])),
+    )
+
+
+def declared():
+    fresh = names(900)
+    return program(counted(as_many(2 + sum(map(len, fresh))), f"INT {','.join(fresh)}:", "SKIP"))
+
+
+# ---- instances that use many ends
+
+
+def sender():
+    """A procedure that uses an end of each element of an array."""
+    return procedure(f"send([{ENDS}]CHAN OF INT c)", under([f"PAR i = 0 FOR {ENDS}"], ["c[i] ! 1"]))
+
+
+def instances():
+    """As many as may be, whose ends are of one array."""
+    calls = ["send(c)"] * as_many(ENDS + 7, 5 * ENDS)
+    return program(sender(), main(f"[{ENDS}]CHAN OF INT c:", *under(["PAR", "SEQ"], calls)))
+
+
+def instances_apart():
+    """As many as may be, each with an array of its own."""
+    arrays = names(as_many(ENDS + 11, 5 * ENDS))
+    calls = [f"send({name})" for name in arrays]
+    return program(sender(), main(f"[{ENDS}]CHAN OF INT {','.join(arrays)}:", *under(["PAR", "SEQ"], calls)))
+
+
+# ---- many variables
+
+
+def choices():
+    """Each choice tests another variable, and changes it."""
+    scalars = names(16_000)
+    body = [line for name in scalars for line in (f"{name}<1", f"  {name}:=1")]
+    return program(main(f"INT {','.join(scalars)}:", *under(["IF"], body)))
+
+
+def components():
+    """Each component changes another variable."""
+    scalars = names(16_000)
+    return program(main(f"INT {','.join(scalars)}:", *under(["PAR"], [f"{name}:=1" for name in scalars])))
+
+
+# ---- deep nests
+
+
+def nested_turns(block):
+    """Turns of a PAR, as deep as may be in blocks of one turn."""
+    heads = [f"{block} i = 0 FOR 1"] * (MAX_LEVEL - 2)
+    return program(main(*under([*heads, f"PAR i = 0 FOR {as_many(1)}"], ["SKIP"])))
+
+
+def nested_components():
+    """Turns of a PAR, as deep as may be in PARs, each with a component that uses a variable."""
+    body = under([f"PAR i = 0 FOR {as_many(1)}"], ["SKIP"])
+    for _ in range(MAX_LEVEL - 2):
+        body = ["PAR", "  x := 1", *deeper(body)]
+        body = ["INT x:", *body]
+    return program(main(*body))
+
+
+def nested_variables(block):
+    """A long line in turns of a PAR, as deep as may be in blocks of one turn."""
+    sum_of_zeros = "+".join(["y"] * 20_000)
+    inside = under([f"{block} i = 0 FOR 1"] * (MAX_LEVEL - 2), [f"x := {sum_of_zeros}"])
+    return program(counted(as_many(40_300), "INT x,y:", *inside))
+
+
+def nested_instances():
+    """Instances that use many ends, as deep as may be in PARs of one turn."""
+    calls = ["send(c)"] * as_many(ENDS + 7, 5 * ENDS)
+    heads = ["PAR i = 0 FOR 1"] * (MAX_LEVEL - 2)
+    return program(sender(), main(f"[{ENDS}]CHAN OF INT c:", *under([*heads, "SEQ"], calls)))
+
+
+# What is made to be slow: the source, how many procedures it has, and what it is.
+SLOW = {
+    "replicated": (replicated, 1, "a million lines in turns of a PAR, an IF and an ALT"),
+    "turns": (turns, 1, "turns of a PAR"),
+    "elements": (elements, 1, "turns of a PAR that use an element each"),
+    "branches": (branches, 1, "branches of an ALT that use an element each"),
+    "blocks": (blocks, 1, "turns with a block, where 20,000 names are known"),
+    "operands": (operands, 1, "a line of 200,000 operands, in turns"),
+    "variables": (variables, 1, "a line of 200,000 variables, in turns"),
+    "items": (items, 1, "a table of 200,000 names, in turns"),
+    "actuals": (actuals, 2, "an instance with 1,000 actuals, in turns"),
+    "declared": (declared, 1, "a line that declares 900 names, in turns"),
+    "instances": (instances, 2, "instances that use 100,000 ends of one array"),
+    "instances-apart": (instances_apart, 2, "the same of an array each"),
+    "choices": (choices, 1, "16,000 choices that change a variable each"),
+    "components": (components, 1, "16,000 components that change a variable each"),
+    "nested-seqs": (lambda: nested_turns("SEQ"), 1, "turns of a PAR in 62 SEQs"),
+    "nested-pars": (lambda: nested_turns("PAR"), 1, "the same in 62 PARs of one turn"),
+    "nested-components": (nested_components, 1, "the same in 62 PARs of two components"),
+    "nested-lines-seq": (lambda: nested_variables("SEQ"), 1, "a line in 62 SEQs, in turns"),
+    "nested-lines-par": (lambda: nested_variables("PAR"), 1, "a line in 62 PARs of one turn, in turns"),
+    "nested-instances": (nested_instances, 2, "instances that use 100,000 ends, in 62 PARs of one turn"),
+}
