@@ -1,5 +1,8 @@
 -- Names with the innermost declaration first, and which of them each declaration hides.
 use Rattle.std.specs.Prelude.{ℕ, List, [], ◌∷◌, map, reverse, length, bytes_eq, if◌then◌else◌, Option, Some, None}
+use Rattle.std.specs.Prelude.{slice_index_or}
+use Rattle.std.specs.Borrow.{Bor}
+use Rattle.std.specs.HashMap.{HashMap, get_by}
 use Rattle.scalar_ranges.specs.declared.names.Row.{Row}
 
 -- the number of the innermost declaration of a name, counted from the outermost one
@@ -22,3 +25,15 @@ names_from rows = reverse (map (λ r. r.name.now) rows)
 
 abbrev pub hides_from : List Row → List (Option ℕ)
 hides_from rows = reverse (map (λ r. r.hides) rows)
+
+abbrev pub spellings_from : List Row → List ℕ
+spellings_from rows = reverse (map (λ r. r.spelling) rows)
+
+-- the number of a spelling, if it has one
+abbrev pub spelling_of : {S : Type 0} → List ℕ → HashMap (Bor (List ℕ)) ℕ S → Option ℕ
+spelling_of name spellings = get_by (λ k. bytes_eq name k.now) spellings
+
+-- what a list has of the spelling with this number
+abbrev pub innermost_of : Option ℕ → List (Option ℕ) → Option ℕ
+innermost_of None innermost = None
+innermost_of (Some number) innermost = slice_index_or innermost number None

@@ -26,5 +26,6 @@ pub use laws::{
 };
 pub use narrowing::narrow_by;
 pub use ranges::{range_of, value_of};
+pub use reading::{Reading, read};
 pub use scope::{ArrayKind, Entry, Meaning, ScalarKind, Scope};
 pub use types::{ExprType, UNKNOWN_NAME, WRONG_TYPE, type_of};

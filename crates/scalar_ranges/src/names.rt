@@ -1,9 +1,9 @@
 //! Names in the order of their declarations, of which the innermost one is found at once.
 
-ghost use Rattle.std.specs.Prelude.{◌≡◌, ℕ, List, [], ◌∷◌, bytes_eq, OnOk, OnErr};
-ghost use Rattle.std.specs.HashMap.{get_by};
+ghost use Rattle.std.specs.Prelude.{◌≡◌, ◌<◌, ℕ, List, [], ◌∷◌, map, Some, vec_len, IfOk, OnOk, OnErr};
 ghost use Rattle.scalar_ranges.specs.Moves.{outermost};
 ghost use Rattle.scalar_ranges.specs.Naming.{number_of, hidden_by, names_from, hides_from, without_first};
+ghost use Rattle.scalar_ranges.specs.Naming.{spelling_of, spellings_from, innermost_of};
 
 use std::alloc::{AllocError, Global};
 use std::collections::HashMap;
@@ -12,17 +12,31 @@ use std::collections::HashMap;
 #[derive(Clone, Copy)]
 pub(crate) struct Row<'a> {
     pub(crate) name: &'a [u8],
+    /// The number of its spelling.
+    pub(crate) spelling: usize,
     /// The number of the next outer declaration of the same name.
     pub(crate) hides: Option<usize>,
 }
 
 /// The names that are declared at a place, numbered from the outermost declaration on.
+///
+/// A spelling gets a number with its first declaration and keeps it after its last one is left. So leaving a
+/// declaration hashes no name, and a spelling that is declared again is not put into the map again. The map never
+/// shrinks: it takes memory linear in the names of the source.
 #[derive(Drop)]
 pub(crate) struct Names<'a> {
     pub(crate) rows: Vec<Row<'a>>,
-    /// The number of the innermost declaration of each name.
-    pub(crate) innermost: HashMap<&'a [u8], usize>,
-    ghost found: { (q : List ℕ) → get_by (λ k. bytes_eq q k.now) innermost ≡ number_of q (names_from rows.items) },
+    /// The number of each spelling.
+    pub(crate) spellings: HashMap<&'a [u8], usize>,
+    /// The number of the innermost declaration of each spelling, by the spelling's number.
+    pub(crate) innermost: Vec<Option<usize>>,
+    ghost found: { (q : List ℕ)
+        → innermost_of (spelling_of q spellings) innermost.items ≡ number_of q (names_from rows.items) },
+    ghost apart: { (p q : List ℕ) (n : ℕ)
+        → spelling_of p spellings ≡ Some n → spelling_of q spellings ≡ Some n → p ≡ q },
+    ghost within: { (q : List ℕ) (n : ℕ) → spelling_of q spellings ≡ Some n → n < vec_len innermost },
+    ghost spelled: { map (λ q. spelling_of q spellings) (names_from rows.items)
+        ≡ map Some (spellings_from rows.items) },
     ghost hides: { hides_from rows.items ≡ hidden_by (names_from rows.items) },
 }
 
@@ -33,19 +47,40 @@ impl<'a> Names<'a> {
     {
         Names {
             rows: Vec::new(alloc),
-            innermost: HashMap::new(alloc),
+            spellings: HashMap::new(alloc),
+            innermost: Vec::new(alloc),
         }
     }
 
-    /// One declaration more, the innermost one. If memory runs out, all is as it was.
+    /// One declaration more, the innermost one. If memory runs out, the names are as they were.
     pub(crate) fn push(&mut self, name: &'a [u8]) -> Result<(), AllocError>
         ensures ok { OnOk result (names_from self.new.rows.items ≡ name.now ∷ names_from self.old.rows.items) }
         ensures err { OnErr result (names_from self.new.rows.items ≡ names_from self.old.rows.items) }
     {
+        let spelling = self.spelling(name)?;
         self.rows.reserve(1)?;
-        let hides = self.innermost.insert(name, self.rows.len())?;
-        self.rows.push_reserved(Row { name, hides });
+        let hides = self.innermost[spelling].replace(self.rows.len());
+        self.rows.push_reserved(Row {
+            name,
+            spelling,
+            hides,
+        });
         Ok(())
+    }
+
+    /// The number of a spelling. A new spelling gets the next one, and has no declaration yet.
+    fn spelling(&mut self, name: &'a [u8]) -> Result<usize, AllocError>
+        ensures number { IfOk result (λ number. spelling_of name.now self.new.spellings ≡ Some number) }
+        ensures rows { self.new.rows.items ≡ self.old.rows.items }
+    {
+        if let Some(number) = self.spellings.get(name) {
+            return Ok(*number);
+        }
+        let number = self.innermost.len();
+        self.innermost.reserve(1)?;
+        self.spellings.insert(name, number)?;
+        self.innermost.push_reserved(None);
+        Ok(number)
     }
 
     /// The innermost declaration is left, if there is one.
@@ -53,14 +88,7 @@ impl<'a> Names<'a> {
         ensures { names_from self.new.rows.items ≡ without_first (names_from self.old.rows.items) }
     {
         if let Some(row) = self.rows.pop() {
-            match row.hides {
-                None => {
-                    self.innermost.remove(row.name);
-                }
-                Some(number) => {
-                    let _ = self.innermost.insert(row.name, number);
-                }
-            }
+            self.innermost[row.spelling] = row.hides;
         }
     }
 
@@ -77,6 +105,7 @@ impl<'a> Names<'a> {
     pub(crate) fn find(&self, name: &[u8]) -> Option<usize>
         ensures { result ≡ number_of name.now (names_from self.now.rows.items) }
     {
-        self.innermost.get(name).copied()
+        let spelling = *self.spellings.get(name)?;
+        self.innermost[spelling]
     }
 }

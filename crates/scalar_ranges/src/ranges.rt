@@ -6,7 +6,6 @@ ghost use Rattle.scalar_ranges.specs.Bounds.{bound_of, exact_value, range_found}
 ghost use Rattle.scalar_ranges.specs.BoundViews.{all_ends};
 ghost use Rattle.scalar_ranges.specs.Scopes.{entries_of};
 
-use crate::bounds::Bound;
 use crate::reading::read;
 use crate::scope::Scope;
 use occam_parser::Expr;
@@ -16,17 +15,13 @@ use word_arithmetic::Range;
 pub fn value_of(scope: &Scope, expr: &Expr) -> Option<i32>
     ensures { result ≡ exact_value (bound_of (entries_of scope.now) (expression_of expr.now)) }
 {
-    match read(scope, expr).bound {
-        Ok(Bound::Exactly(value)) => Some(value),
-        _ => None,
-    }
+    read(scope, expr).value()
 }
 
-/// Where the value of an expression lies; for a condition, the range of the truth values. The error is
-/// [`OUT_OF_RANGE`](crate::OUT_OF_RANGE) or [`OUTSIDE`](crate::OUTSIDE), the lower one of two on both sides of an
-/// operator.
+/// Where the value of an expression lies; for a condition, the range of the truth values. The error is that of
+/// [`Reading::range`](crate::Reading::range).
 pub fn range_of(scope: &Scope, expr: &Expr) -> Result<Range, u8>
     ensures { all_ends result ≡ range_found (bound_of (entries_of scope.now) (expression_of expr.now)) }
 {
-    Ok(read(scope, expr).bound?.range())
+    read(scope, expr).range()
 }

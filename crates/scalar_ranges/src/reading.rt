@@ -6,8 +6,9 @@ ghost use Rattle.scalar_ranges.specs.Scopes.{entries_of, meaning_of};
 ghost use Rattle.scalar_ranges.specs.Steps.{and_then, both};
 ghost use Rattle.scalar_ranges.specs.Types.{type_of, type_of_term, named_type, element_type, subscripted};
 ghost use Rattle.scalar_ranges.specs.Bounds.{Exactly, bound_of, bound_of_term, named_bound, element_bound};
+ghost use Rattle.scalar_ranges.specs.Bounds.{exact_value, range_found};
 ghost use Rattle.scalar_ranges.specs.OperandViews.{before_type, between_type, before_bound, between_bound};
-ghost use Rattle.scalar_ranges.specs.BoundViews.{all_known};
+ghost use Rattle.scalar_ranges.specs.BoundViews.{all_known, all_ends};
 
 use crate::bounds::{Bound, element_bound, named_bound, truth_bound};
 use crate::operands::{Before, Between};
@@ -15,18 +16,21 @@ use crate::results::{before_bound, between_bound};
 use crate::scope::{Meaning, Scope};
 use crate::types::{ExprType, before_type, between_type, named_type, subscripted_type};
 use occam_parser::{Expr, Operand, Operation};
+use word_arithmetic::Range;
 
-/// What is read of an expression or of a part of it. An error is the number of a fault.
+/// What is read of an expression or of a part of it.
 #[derive(Clone, Copy)]
-pub(crate) struct Reading {
-    pub(crate) expr_type: Result<ExprType, u8>,
+pub struct Reading {
+    /// The type, or the number of a fault if there is none, as [`type_of`](crate::type_of) tells it.
+    pub expr_type: Result<ExprType, u8>,
+    /// What is known of the number, or the number of a fault.
     pub(crate) bound: Result<Bound, u8>,
 }
 
-/// What is read of an expression.
+/// What is read of an expression: its type, its value and its range, in one walk.
 #[cycle(read)]
 #[tactic(auto, unfolding(crate::proofs::Chains::chain_after))]
-pub(crate) fn read(scope: &Scope, expr: &Expr) -> Reading
+pub fn read(scope: &Scope, expr: &Expr) -> Reading
     ensures types { result.expr_type ≡ type_of (entries_of scope.now) (expression_of expr.now) }
     ensures bounds { all_known result.bound ≡ bound_of (entries_of scope.now) (expression_of expr.now) }
 {
@@ -86,6 +90,25 @@ pub(crate) fn read_operand(scope: &Scope, operand: &Operand) -> Reading
 }
 
 impl Reading {
+    /// The value of a constant expression; `None` if the expression is no constant or has no value.
+    pub fn value(self) -> Option<i32>
+        ensures { result ≡ exact_value (all_known self.bound) }
+    {
+        match self.bound {
+            Ok(Bound::Exactly(value)) => Some(value),
+            _ => None,
+        }
+    }
+
+    /// Where the value lies; for a condition, the range of the truth values. The error is
+    /// [`OUT_OF_RANGE`](crate::OUT_OF_RANGE) or [`OUTSIDE`](crate::OUTSIDE), the lower one of two on both sides of an
+    /// operator.
+    pub fn range(self) -> Result<Range, u8>
+        ensures { all_ends result ≡ range_found (all_known self.bound) }
+    {
+        Ok(self.bound?.range())
+    }
+
     /// A constant of this type.
     fn constant(expr_type: ExprType, value: i32) -> Reading
         ensures types { result.expr_type ≡ Ok expr_type }
