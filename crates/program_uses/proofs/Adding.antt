@@ -3,13 +3,14 @@ use Rattle.std.proofs.Common.{◌≡◌, ℕ, suc, ◌+◌, ◌<◌, ◌≤◌, 
 use Rattle.std.proofs.Common.{length, take, get_or, nat_eq, refl, sym, ap, subst, ◌∙◌, arith, append_assoc}
 use Rattle.std.proofs.Common.{add-zero}
 use Rattle.std.proofs.lemmas.List.{take_more, take_all, length-take, append-nil}
+use Rattle.std.proofs.lemmas.Bool.{and_parts}
 use Rattle.std.proofs.lemmas.Bool.Decides.{nat_tests}
 use Rattle.program_uses.specs.declared.uses.Direction.{Direction}
 use Rattle.program_uses.specs.declared.uses.Direction.TheVariants as direction
 use Rattle.program_uses.specs.declared.uses.Use.{Use}
 use Rattle.program_uses.specs.declared.uses.Use.TheVariants as used
 use Rattle.program_uses.specs.declared.uses.Uses.{Uses}
-use Rattle.program_uses.specs.Sets.{is_same_way, is_same, is_among, has, Adds}
+use Rattle.program_uses.specs.Sets.{is_same_way, is_same, is_among, members_of, has, Adds, Joins}
 
 flips_number : (a b : ℕ) → nat_eq a b ≡ nat_eq b a
 flips_number a b = grind (arith, nat_tests)
@@ -74,6 +75,52 @@ adds_both {s = s} {us = us} {vs = vs} a b = record {
 
 pub adds_as : {s t : Uses} {us vs : List Use} → us ≡ vs → Adds s t us → Adds s t vs
 adds_as {s = s} {t = t} e a = subst (Adds s t) e a
+
+-- ---- a set that another one joins
+
+or_turned : (a b : Bool) → (a || b) ≡ (b || a)
+or_turned true true = refl
+or_turned true false = refl
+or_turned false true = refl
+or_turned false false = refl
+
+pub joins_turned : {s t w : Uses} → Joins s w t → Joins t w s
+joins_turned {s} {t} joins = record {
+  complete = λ e. (let both = joins.complete e in (both.1, both.0));
+  has = λ e u. joins.has e u ∙ or_turned (has s u) (has t u);
+}
+
+-- With the items that are left a set has what it will have in the end.
+pub record JoinsWith (s t other : Uses) (rest : List Use) : Type 0 where
+  pub complete : t.complete ≡ true → (s.complete ≡ true) × (other.complete ≡ true)
+  pub has : t.complete ≡ true → (u : Use) → (has t u || is_among rest u) ≡ (has s u || has other u)
+
+pub joins_first : (s t other : Uses) (rest : List Use) → t.set ≡ s.set
+    → t.complete ≡ (s.complete && other.complete) → rest ≡ members_of other → JoinsWith s t other rest
+joins_first s t other rest same complete all = record {
+  complete = λ e. and_parts s.complete other.complete (sym complete ∙ e);
+  has = λ e u i. is_among (same i).keys u || is_among (all i) u;
+}
+
+moved_on : (a b c : Bool) → ((a || (b || false)) || c) ≡ (a || (b || c))
+moved_on true b c = refl
+moved_on false true c = refl
+moved_on false false c = refl
+
+pub joins_next : {s t w other : Uses} (rest items : List Use) (item : Use) → rest ≡ item ∷ items
+    → JoinsWith s t other rest → Adds t w (item ∷ []) → JoinsWith s w other items
+joins_next {t = t} rest items item is before one = record {
+  complete = λ e. before.complete (one.complete e);
+  has = λ e u. ap (λ k. k || is_among items u) (one.has e u)
+      ∙ moved_on (has t u) (is_same u item) (is_among items u)
+      ∙ ap (λ xs. has t u || is_among xs u) (sym is) ∙ before.has (one.complete e) u;
+}
+
+pub joins_all : {s t other : Uses} (rest : List Use) → rest ≡ [] → JoinsWith s t other rest → Joins s t other
+joins_all {t = t} rest none all = record {
+  complete = all.complete;
+  has = λ e u. or_none (has t u) ∙ ap (λ xs. has t u || is_among xs u) (sym none) ∙ all.has e u;
+}
 
 -- ---- loops
 

@@ -32,11 +32,11 @@ use Rattle.program_uses.specs.declared.places.Spot.{Spot}
 use Rattle.program_uses.specs.declared.signature.Passing.{Passing}
 use Rattle.program_uses.specs.declared.signature.Passing.TheVariants as passing
 use Rattle.program_uses.specs.Sets.{is_among}
-use Rattle.program_uses.specs.Mentions.{is_variable, variable_in, of_variable, name_reads, name_changes, reads_of}
+use Rattle.program_uses.specs.Mentions.{is_variable, variable_in, of_variable, reads_of}
 use Rattle.program_uses.specs.Mentions.{reads_of_terms, reads_of_term}
 use Rattle.program_uses.specs.Places.{reads_if_any, changes_of, spot_of, uses_spot, ends_of}
 use Rattle.program_uses.specs.Signatures.{Parameter, passing_of, parameters_in}
-use Rattle.program_uses.specs.Instances.{place_in, whole_name, variable_at, array_at, uses_ends, of_spot, of_array}
+use Rattle.program_uses.specs.Instances.{place_in, whole_name, array_at, uses_ends, of_spot, of_array}
 use Rattle.program_uses.specs.Instances.{passes, uses_of_actual, uses_of_actuals}
 use Rattle.program_uses.specs.Actions.{Around, is_before, uses_of_action, uses_of_guard, reads_of_all, reads_of_value}
 use Rattle.program_uses.specs.Actions.{uses_of_declaration}

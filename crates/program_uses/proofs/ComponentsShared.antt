@@ -1,111 +1,180 @@
--- What the components of a PAR share is asked component by component.
-use Rattle.std.proofs.Common.{◌≡◌, ℕ, ◌+◌, ◌<◌, ◌≤◌, Bool, true, false, List, length, map, take, get_or, Option, None}
-use Rattle.std.proofs.Common.{Result, ℤ, ap, add-one, Ok, IfOk, sym, subst, ◌∙◌, ◌++◌, ◌⊎◌}
+-- What the components of a PAR share is asked component by component, each beside those before it.
+use Rattle.std.proofs.Common.{◌≡◌, ℕ, ◌+◌, ◌<◌, ◌≤◌, Bool, false, List, [], length, map, take, get_or, Option}
+use Rattle.std.proofs.Common.{ℤ, ap, add-one, sym, subst, ◌∙◌, ◌++◌, ◌||◌, ◌⊎◌, inl, inr}
 use Rattle.std.proofs.lemmas.List.{take_all}
-use Rattle.std.specs.declared.alloc.AllocError.{AllocError}
+use Rattle.occam_parser.specs.Lines.{Replicator}
 use Rattle.occam_parser.specs.Blocks.{Part, Body, Components, NoComponent, Component}
 use Rattle.occam_parser.specs.BlockViews.{all_of}
 use Rattle.occam_parser.proofs.SeenBlocks.{all_push}
 use Rattle.scalar_ranges.specs.Entries.{Meaning, Entry}
 use Rattle.scalar_ranges.specs.Moves.{Known}
+use Rattle.program_uses.specs.declared.telling.UsageFault.{UsageFault}
 use Rattle.program_uses.specs.declared.uses.Use.{Use}
 use Rattle.program_uses.specs.declared.uses.Uses.{Uses}
-use Rattle.program_uses.specs.Sets.{is_among, has}
+use Rattle.program_uses.specs.Sets.{is_among, has, Joins}
 use Rattle.program_uses.specs.Actions.{Around}
-use Rattle.program_uses.specs.Lowest.{IsLowest, lower}
 use Rattle.program_uses.specs.ParRules.{BreaksSharing}
 use Rattle.program_uses.specs.Declaring.{add}
 use Rattle.program_uses.specs.Indices.{index_at, index_meaning, in_turns}
 use Rattle.program_uses.specs.Components.{BreakSharing, BreakTurns}
 use Rattle.program_uses.specs.Processes.{Collects, uses_of_components, uses_of_component, uses_of_one, uses_in_turn}
-use Rattle.program_uses.proofs.Adding.{adds_none, adds_both, taken_one}
+use Rattle.program_uses.specs.Sharing.{InSomeTurn, SharesInComponents, SharesInComponent, SharesInOne}
+use Rattle.program_uses.specs.Telling.{IsFirst, At, Among}
+use Rattle.program_uses.proofs.Adding.{adds_both, taken_one}
 use Rattle.program_uses.proofs.ChangedVariables.{has_exactly}
-use Rattle.program_uses.proofs.LowestOfBoth.{none_broken, lowest_of, lowest_at}
+use Rattle.program_uses.proofs.FaultsInOrder.{first_both, first_as}
+use Rattle.program_uses.proofs.UsesOfProcesses.{collects_none, collects_for, collects_at}
 
--- the uses of these components, and the lowest number of what they break
-abbrev pub Shares : {part : Part} → Around → (s t : Uses) → (k l : Known) → Components part → Option ℕ → Type 0
-Shares a s t k l cs found =
-    Collects s t k l (uses_of_components a k.entries cs)
-    × (t.complete ≡ true → IsLowest (BreakSharing a k.entries cs) found)
+-- ---- a set that another one joins
 
-pub shares_none : (part : Part) (a : Around) (s : Uses) (k : Known)
-    → Shares a s s k k (NoComponent {part = part}) None
-shares_none part a s k =
-    (record { uses = adds_none s; scope = (λ i. k) }, (λ e. none_broken (λ n h. h)))
+-- What was collected in a set of its own joins those before it.
+pub collects_apart : {s t old new : Uses} {o m : Option UsageFault} {k l : Known} {us : List Use}
+    {P : UsageFault → Type 0} → ((u : Use) → has s u ≡ false) → Collects s t o m k l us P → Joins old new t
+    → Collects old new o m k l us P
+collects_apart {old = old} nothing a joins = record {
+  uses = record {
+    complete = λ e. (joins.complete e).0;
+    has = λ e u. joins.has e u ∙ (λ i. has old u || has_exactly nothing a.uses (joins.complete e).1 i u);
+  };
+  first = λ e. a.first (joins.complete e).1;
+  scope = a.scope;
+}
 
--- the uses so far and the lowest number of what is broken by them, and then what is used next
-abbrev pub SharesSo : (s t : Uses) → (k l : Known) → List Use → (ℕ → Type 0) → Option ℕ → Type 0
-SharesSo s t k l us Breaks found = Collects s t k l us × (t.complete ≡ true → IsLowest Breaks found)
+-- The same, and what it shares with them is told.
+pub collects_beside : {line count : ℕ} {s t old new : Uses} {o m n : Option UsageFault} {k l : Known} {us : List Use}
+    {P : UsageFault → Type 0} → ((u : Use) → has s u ≡ false) → Collects s t o m k l us P → Joins old new t
+    → count ≡ length l.entries → IsFirst (Among m (At line (BreaksSharing count (has old) (has t)))) n
+    → Collects old new o n k l us
+    (λ f. P f ⊎ At line (BreaksSharing (length k.entries) (has old) (is_among us)) f)
+collects_beside {line} {count} {t = t} {old = old} {o = o} {m = m} {n = n} {k = k} {us = us} nothing a joins long
+    shared =
+    let joined = collects_apart nothing a joins in
+    let all : count ≡ length k.entries = long ∙ ap (λ l. length l.entries) a.scope in
+    record {
+      uses = joined.uses;
+      first = λ e.
+          let had = has_exactly nothing a.uses (joins.complete e).1 in
+          first_both o m n (joined.first e)
+          (subst (λ (x : ℕ × (Use → Bool)). IsFirst (Among m (At line (BreaksSharing x.0 (has old) x.1))) n)
+          (λ i. (all i, had i)) shared);
+      scope = a.scope;
+    }
 
-pub shares_more : (k : Known) (us : List Use) (Breaks : ℕ → Type 0) (g : List Entry → List Use) {s t w : Uses}
-    {l m n : Known} {count : ℕ} {found fault told : Option ℕ} → ((u : Use) → has s u ≡ false)
-    → count ≡ length k.entries → told ≡ lower found fault → SharesSo s t k l us Breaks found
-    → IsLowest (BreaksSharing count (has t) (is_among (g l.entries))) fault → m ≡ l → Collects t w m n (g m.entries)
-    → SharesSo s w k n (us ++ g k.entries)
-    (λ n. Breaks n ⊎ BreaksSharing (length k.entries) (is_among us) (is_among (g k.entries)) n) told
-shares_more k us Breaks g {s} {t} {w} {l} {m} {n} nothing long lower before one same last =
-    let next : Collects t w k n (g k.entries) =
-    subst (λ m. Collects t w m n (g m.entries)) (same ∙ before.0.scope) last in (
-      record { uses = adds_both before.0.uses next.uses; scope = next.scope },
-      λ e.
-          let complete = next.uses.complete e in
-          let had = has_exactly nothing before.0.uses complete in
-          let asked = lowest_at (λ (y : ℕ × (Use → Bool) × Known). BreaksSharing y.0 y.1 (is_among (g y.2.entries)))
-          (λ i. (long i, had i, before.0.scope i)) one in
-          lowest_of lower (before.1 complete) asked,
-    )
+-- ---- components and turns
 
-pub shares_next : {part : Part} {A : Type 0} (a : Around) (f : A → Component part) (xs : List A) (i : ℕ) (x : A)
-    (k : Known) {s t w : Uses} {l m n : Known} {count : ℕ} {found fault told : Option ℕ} → i < length xs
-    → x ≡ get_or xs i x → ((u : Use) → has s u ≡ false) → count ≡ length k.entries → told ≡ lower found fault
-    → Shares a s t k l (all_of (map f (take i xs))) found
-    → IsLowest (BreaksSharing count (has t) (is_among (uses_of_component a l.entries (f x)))) fault → m ≡ l
-    → Collects t w m n (uses_of_component a m.entries (f x))
-    → Shares a s w k n (all_of (map f (take (i + 1) xs))) told
-shares_next a f xs i x k {s} {w = w} {n = n} {told = told} h is nothing long lower before one same last =
+regrouped : (A B : UsageFault → Type 0) (C D : ℕ → Type 0) {line : ℕ} (f : UsageFault)
+    → (A f ⊎ At line C f) ⊎ (B f ⊎ At line D f) → (A f ⊎ B f) ⊎ At line (λ n. C n ⊎ D n) f
+regrouped A B C D f (inl (inl a)) = inl (inl a)
+regrouped A B C D f (inl (inr c)) = inr (c.0, inl c.1)
+regrouped A B C D f (inr (inl b)) = inl (inr b)
+regrouped A B C D f (inr (inr d)) = inr (d.0, inr d.1)
+
+ungrouped : (A B : UsageFault → Type 0) (C D : ℕ → Type 0) {line : ℕ} (f : UsageFault)
+    → (A f ⊎ B f) ⊎ At line (λ n. C n ⊎ D n) f → (A f ⊎ At line C f) ⊎ (B f ⊎ At line D f)
+ungrouped A B C D f (inl (inl a)) = inl (inl a)
+ungrouped A B C D f (inl (inr b)) = inr (inl b)
+ungrouped A B C D f (inr h) = elim h.1 [ inl c ↦ inl (inr (h.0, c)) | inr d ↦ inr (inr (h.0, d)) ]
+
+-- what is asked of some components or turns, and what they share with each other
+abbrev pub Apart : ℕ → (UsageFault → Type 0) → (ℕ → Type 0) → UsageFault → Type 0
+Apart line Inside Shared f = Inside f ⊎ At line Shared f
+
+apart_more : {line : ℕ} (k : Known) (us : List Use) (Inside : UsageFault → Type 0) (Shared : ℕ → Type 0)
+    (uses : List Entry → List Use) (Breaks : List Entry → UsageFault → Type 0) {s t w : Uses}
+    {o m n : Option UsageFault} {l h : Known} → ((u : Use) → has s u ≡ false)
+    → Collects s t o m k l us (Apart line Inside Shared)
+    → Collects t w m n l h (uses l.entries)
+    (Apart line (Breaks l.entries) (BreaksSharing (length l.entries) (has t) (is_among (uses l.entries))))
+    → Collects s w o n k h (us ++ uses k.entries)
+    (Apart line (λ f. Inside f ⊎ Breaks k.entries f)
+    (λ n. Shared n ⊎ BreaksSharing (length k.entries) (is_among us) (is_among (uses k.entries)) n))
+apart_more {line} k us Inside Shared uses Breaks {s} {t} {w} {o} {m} {n} {l} {h} nothing before next =
+    let asked : Known → (Use → Bool) → UsageFault → Type 0 =
+    λ l had. Apart line (Breaks l.entries) (BreaksSharing (length l.entries) had (is_among (uses l.entries))) in
+    let last : Collects t w m n k h (uses k.entries) (asked k (has t)) =
+    subst (λ l. Collects t w m n l h (uses l.entries) (asked l (has t))) before.scope next in
+    record {
+      uses = adds_both before.uses last.uses;
+      first = λ e.
+          let complete = last.uses.complete e in
+          let had = has_exactly nothing before.uses complete in
+          let shared = BreaksSharing (length k.entries) (is_among us) (is_among (uses k.entries)) in
+          first_as (regrouped Inside (Breaks k.entries) Shared shared)
+          (ungrouped Inside (Breaks k.entries) Shared shared)
+          (first_both o m n (before.first complete)
+          (subst (λ had. IsFirst (Among m (asked k had)) n) had (last.first e)));
+      scope = last.scope;
+    }
+
+nothing_yet : {line : ℕ} (s : Uses) (o : Option UsageFault) (k : Known)
+    → Collects s s o o k k [] (Apart line (λ f. ⊥) (λ n. ⊥))
+nothing_yet s o k =
+    collects_for (λ f h. absurd h) (λ f h. elim h [ inl x ↦ x | inr x ↦ x.1 ]) (collects_none s o k)
+
+-- the components of a PAR on this line
+abbrev pub ComponentsApart : {part : Part} → Around → List Entry → ℕ → Components part → UsageFault → Type 0
+ComponentsApart a es line cs = Apart line (SharesInComponents a es cs) (BreakSharing a es cs)
+
+pub components_none : (part : Part) (a : Around) (line : ℕ) (s : Uses) (o : Option UsageFault) (k : Known)
+    → Collects s s o o k k [] (ComponentsApart a k.entries line (NoComponent {part = part}))
+components_none part a line s o k = nothing_yet s o k
+
+pub components_next : {part : Part} {A : Type 0} (a : Around) (line : ℕ) (f : A → Component part) (xs : List A) (i : ℕ)
+    (x : A) (k : Known) {s t w : Uses} {o m n : Option UsageFault} {l h : Known} → ((u : Use) → has s u ≡ false)
+    → i < length xs → x ≡ get_or xs i x
+    → Collects s t o m k l (uses_of_components a k.entries (all_of (map f (take i xs))))
+    (ComponentsApart a k.entries line (all_of (map f (take i xs))))
+    → Collects t w m n l h (uses_of_component a l.entries (f x))
+    (Apart line (SharesInComponent a l.entries (f x))
+    (BreaksSharing (length l.entries) (has t) (is_among (uses_of_component a l.entries (f x)))))
+    → Collects s w o n k h (uses_of_components a k.entries (all_of (map f (take (i + 1) xs))))
+    (ComponentsApart a k.entries line (all_of (map f (take (i + 1) xs))))
+components_next a line f xs i x k nothing h is before next =
     let cs = all_of (map f (take i xs)) in
-    subst (λ cs. Shares a s w k n cs told)
+    collects_at (uses_of_components a k.entries) (ComponentsApart a k.entries line)
     (sym (all_push f (take i xs) (take (i + 1) xs) x (taken_one xs i x x h is)))
-    (shares_more k (uses_of_components a k.entries cs) (BreakSharing a k.entries cs)
-    (λ es. uses_of_component a es (f x)) nothing long lower before one same last)
+    (apart_more k (uses_of_components a k.entries cs) (SharesInComponents a k.entries cs)
+    (BreakSharing a k.entries cs) (λ es. uses_of_component a es (f x)) (λ es. SharesInComponent a es (f x)) nothing
+    before next)
 
-pub shares_all : {part : Part} {A : Type 0} (a : Around) (f : A → Component part) (xs : List A) (i : ℕ)
-    {s t : Uses} {k l : Known} {found : Option ℕ} → length xs ≤ i
-    → Shares a s t k l (all_of (map f (take i xs))) found → t.complete ≡ true
-    → IsLowest (BreakSharing a k.entries (all_of (map f xs))) found
-shares_all a f xs i {k = k} done x complete =
-    lowest_at (λ ys. BreakSharing a k.entries (all_of (map f ys))) (take_all i xs done) (x.1 complete)
+pub components_all : {part : Part} {A : Type 0} (a : Around) (line : ℕ) (f : A → Component part) (xs : List A) (i : ℕ)
+    (k : Known) {s t : Uses} {o m : Option UsageFault} {l : Known} → length xs ≤ i
+    → Collects s t o m k l (uses_of_components a k.entries (all_of (map f (take i xs))))
+    (ComponentsApart a k.entries line (all_of (map f (take i xs))))
+    → Collects s t o m k l (uses_of_components a k.entries (all_of (map f xs)))
+    (ComponentsApart a k.entries line (all_of (map f xs)))
+components_all a line f xs i k done x =
+    collects_at (λ ys. uses_of_components a k.entries (all_of (map f ys)))
+    (λ ys. ComponentsApart a k.entries line (all_of (map f ys))) (take_all i xs done) x
 
--- ---- turns
+-- so many turns of one
+abbrev pub TurnsApart : Around → List Entry → ℕ → Replicator → Body → Option ℤ → ℕ → UsageFault → Type 0
+TurnsApart a es line r b first n =
+    Apart line (InSomeTurn (λ n. SharesInOne a (add r.name (index_meaning false (index_at first n)) es) b) n)
+    (BreakTurns (length es) (uses_in_turn a es first r.name b) n)
 
-abbrev pub SharesInTurns : (s t : Uses) → (k l : Known) → (ℕ → List Use) → ℕ → Option ℕ → Type 0
-SharesInTurns s t k l used turns found =
-    SharesSo s t k l (in_turns used turns) (BreakTurns (length k.entries) used turns) found
+pub turns_none : (a : Around) (line : ℕ) (r : Replicator) (b : Body) (first : Option ℤ) (s : Uses)
+    (o : Option UsageFault) (k : Known) → Collects s s o o k k [] (TurnsApart a k.entries line r b first 0)
+turns_none a line r b first s o k = nothing_yet s o k
 
-pub turns_none : (s : Uses) (k : Known) (used : ℕ → List Use) → SharesInTurns s s k k used 0 None
-turns_none s k used =
-    (record { uses = adds_none s; scope = (λ i. k) }, (λ e. none_broken (λ n h. h)))
-
-pub turns_next : (k : Known) (a : Around) (first : Option ℤ) (name : List ℕ) (b : Body) (m : Meaning) (turn : ℕ)
-    {s t w : Uses} {l j n : Known} {found fault told : Option ℕ} → ((u : Use) → has s u ≡ false)
-    → m ≡ index_meaning false (index_at first turn) → told ≡ lower found fault
-    → SharesInTurns s t k l (uses_in_turn a k.entries first name b) turn found
-    → IsLowest (BreaksSharing (length l.entries) (has t) (is_among (uses_of_one a (add name m l.entries) b))) fault
-    → j ≡ l → Collects t w j n (uses_of_one a (add name m j.entries) b)
-    → SharesInTurns s w k n (uses_in_turn a k.entries first name b) (turn + 1) told
-turns_next k a first name b m turn {s} {t} {w} {l} {j} {n} {fault = fault} {told = told} nothing means lower before one
-    same last =
-    let used = uses_in_turn a k.entries first name b in
-    let g : Meaning → List Entry → List Use = λ m es. uses_of_one a (add name m es) b in
-    let asked = lowest_at (λ (x : Meaning). BreaksSharing (length l.entries) (has t) (is_among (g x l.entries))) means
-    one in
-    let more = subst (λ x. Collects t w j n (g x j.entries)) means last in
-    subst (λ turns. SharesInTurns s w k n used turns told) (sym (add-one turn))
-    (shares_more k (in_turns used turn) (BreakTurns (length k.entries) used turn)
-    (g (index_meaning false (index_at first turn))) nothing (ap (λ x. length x.entries) before.0.scope) lower before
-    asked same more)
-
--- what was told, if memory was enough
-pub told_if : (P : Option ℕ → Type 0) (r : Result (Option ℕ) AllocError) {fault : Option ℕ} → IfOk r P → r ≡ Ok fault
-    → P fault
-told_if P r {fault} x is = subst (λ r. IfOk r P) is x
+pub one_more_turn : (a : Around) (line : ℕ) (r : Replicator) (b : Body) (first : Option ℤ) (turn : ℕ) (m : Meaning)
+    (k : Known) {s t w : Uses} {o p q : Option UsageFault} {l h : Known} → ((u : Use) → has s u ≡ false)
+    → m ≡ index_meaning false (index_at first turn)
+    → Collects s t o p k l (in_turns (uses_in_turn a k.entries first r.name b) turn)
+    (TurnsApart a k.entries line r b first turn)
+    → Collects t w p q l h (uses_of_one a (add r.name m l.entries) b)
+    (Apart line (SharesInOne a (add r.name m l.entries) b)
+    (BreaksSharing (length l.entries) (has t) (is_among (uses_of_one a (add r.name m l.entries) b))))
+    → Collects s w o q k h (in_turns (uses_in_turn a k.entries first r.name b) (turn + 1))
+    (TurnsApart a k.entries line r b first (turn + 1))
+one_more_turn a line r b first turn m k {t = t} {l = l} nothing means before next =
+    let index = index_meaning false (index_at first turn) in
+    let used = uses_in_turn a k.entries first r.name b in
+    let indexed = collects_at (λ m. uses_of_one a (add r.name m l.entries) b)
+    (λ m. Apart line (SharesInOne a (add r.name m l.entries) b)
+    (BreaksSharing (length l.entries) (has t) (is_among (uses_of_one a (add r.name m l.entries) b)))) means next in
+    collects_at (in_turns used) (TurnsApart a k.entries line r b first) (sym (add-one turn))
+    (apart_more k (in_turns used turn)
+    (InSomeTurn (λ n. SharesInOne a (add r.name (index_meaning false (index_at first n)) k.entries) b) turn)
+    (BreakTurns (length k.entries) used turn) (λ es. uses_of_one a (add r.name index es) b)
+    (λ es. SharesInOne a (add r.name index es) b) nothing before indexed)

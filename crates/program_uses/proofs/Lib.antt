@@ -5,6 +5,7 @@ pub mod NextInTurn
 pub mod NamesEntered
 pub mod UsesOfProcesses
 pub mod LowestOfBoth
+pub mod FaultsInOrder
 pub mod Sharing
 pub mod ChangedVariables
 pub mod ChangesAlike

@@ -1,5 +1,5 @@
 -- A set shares what one of its items shares.
-use Rattle.std.proofs.Common.{◌≡◌, ℕ, Bool, true, ◌&&◌, ◌||◌, List, [], ◌∷◌, nat_eq, Option, Some, None}
+use Rattle.std.proofs.Common.{◌≡◌, ℕ, Bool, true, ◌&&◌, ◌||◌, List, [], ◌∷◌, nat_eq, nat_lt, Option, Some, None}
 use Rattle.std.proofs.Common.{inl, inr, refl, sym, ap, subst, ◌∙◌, ◌⊎◌, arith}
 use Rattle.std.proofs.lemmas.Bool.{and_parts, or_cases, or_right}
 use Rattle.std.proofs.lemmas.Bool.Decides.{nat_tests}
@@ -98,3 +98,30 @@ told_next count before whole items rest v found {b} is all one e told x =
     (lowest_at (λ us. BreaksSharing count before (is_among us)) (sym is) more) in
     subst (IsLowest (BreaksSharing count before (is_among whole)))
     (lower_again found b told ∙ ap (λ t. lower t told) (sym e)) whole_told
+
+-- ---- whichever is first
+
+turned : (count : ℕ) (before component : Use → Bool) (n : ℕ) (u : Use) → component u ≡ true → IsShared count before u n
+    → BreaksSharing count component before n
+turned count before component n (used.Read m) uses (shared, is) =
+    let x = and_parts (nat_lt m count) (before (used.Change m)) shared in
+    (used.Change m, x.1, ((λ i. x.0 i && (uses i || component (used.Change m))), is))
+turned count before component n (used.Change m) uses (shared, is) =
+    let x = and_parts (nat_lt m count) (before (used.Read m) || before (used.Change m)) shared in
+    elim (or_cases (before (used.Read m)) (before (used.Change m)) x.1) [
+      | inl e ↦ (used.Read m, e, ((λ i. x.0 i && uses i), is))
+      | inr e ↦ (
+        used.Change m,
+        e,
+        ((λ i. x.0 i && or_right (component (used.Read m)) (component (used.Change m)) uses i), is),
+      )
+    ]
+turned count before component n (used.Channel m j d) uses (shared, is) =
+    let x = and_parts (nat_lt m count) (before (used.Channel m j d)) shared in
+    (used.Channel m j d, x.1, ((λ i. x.0 i && uses i), is))
+
+pub shares_turned : (count : ℕ) (before component : Use → Bool) {told : Option ℕ}
+    → IsLowest (BreaksSharing count component before) told → IsLowest (BreaksSharing count before component) told
+shares_turned count before component x =
+    lowest_as (λ n h. turned count component before n h.0 h.1 h.2)
+    (λ n h. turned count before component n h.0 h.1 h.2) x

@@ -17,3 +17,5 @@ pub mod Processes
 pub mod Components
 pub mod Lowest
 pub mod ParRules
+pub mod Telling
+pub mod Sharing

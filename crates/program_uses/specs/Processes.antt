@@ -1,5 +1,5 @@
 -- What processes use.
-use Rattle.std.specs.Prelude.{◌≡◌, ℕ, ℤ, Bool, false, List, [], ◌++◌, Option}
+use Rattle.std.specs.Prelude.{◌≡◌, ℕ, ℤ, Bool, true, false, List, [], ◌++◌, Option}
 use Rattle.occam_parser.specs.Lines.{Replicator, block_word}
 use Rattle.occam_parser.specs.Blocks.{Process, Declared, Does, Construct, Act, Block, Replicated, Body, One, Part}
 use Rattle.occam_parser.specs.Blocks.{Components, NoComponent, Further, Component, Plain, Chosen, Guarded}
@@ -7,11 +7,13 @@ use Rattle.scalar_ranges.specs.Entries.{Entry}
 use Rattle.scalar_ranges.specs.Moves.{Known}
 use Rattle.program_uses.specs.declared.uses.Use.{Use}
 use Rattle.program_uses.specs.declared.uses.Uses.{Uses}
+use Rattle.program_uses.specs.declared.telling.UsageFault.{UsageFault}
 use Rattle.program_uses.specs.Sets.{Adds}
 use Rattle.program_uses.specs.Mentions.{reads_of}
 use Rattle.program_uses.specs.Actions.{Around, is_before, uses_of_action, uses_of_guard, uses_of_declaration}
 use Rattle.program_uses.specs.Declaring.{add, add_declaration}
 use Rattle.program_uses.specs.Indices.{is_seq, turns_of, index_at, index_meaning, in_turns}
+use Rattle.program_uses.specs.Telling.{IsFirst, Among}
 
 -- the scope in a turn
 abbrev pub in_turn : Replicator → Bool → Option ℤ → ℕ → List Entry → List Entry
@@ -53,7 +55,9 @@ uses_of_one a es (One kind c) = uses_of_component a es c
 abbrev pub uses_in_turn : Around → List Entry → Option ℤ → List ℕ → Body → ℕ → List Use
 uses_in_turn a es first name b n = uses_of_one a (add name (index_meaning false (index_at first n)) es) b
 
--- What is used was added, and the scope is as it was.
-pub record Collects (old new : Uses) (before after : Known) (us : List Use) : Type 0 where
+-- What is used was added, of the faults so far and of those in it the first one is told, and the scope is as it was.
+pub record Collects (old new : Uses) (told now : Option UsageFault) (before after : Known) (us : List Use)
+    (Breaks : UsageFault → Type 0) : Type 0 where
   pub uses : Adds old new us
+  pub first : new.complete ≡ true → IsFirst (Among told Breaks) now
   pub scope : after ≡ before

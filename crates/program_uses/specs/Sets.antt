@@ -32,3 +32,8 @@ has s u = is_among (members_of s) u
 pub record Adds (old new : Uses) (us : List Use) : Type 0 where
   pub complete : new.complete ≡ true → old.complete ≡ true
   pub has : new.complete ≡ true → (u : Use) → has new u ≡ (has old u || is_among us u)
+
+-- A set has what it had before and what another one has, if memory was enough for all that they have.
+pub record Joins (old new other : Uses) : Type 0 where
+  pub complete : new.complete ≡ true → (old.complete ≡ true) × (other.complete ≡ true)
+  pub has : new.complete ≡ true → (u : Use) → has new u ≡ (has old u || has other u)

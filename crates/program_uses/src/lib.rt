@@ -15,12 +15,11 @@ mod par_rules;
 mod places;
 mod processes;
 mod signature;
+mod telling;
 mod uses;
 
 pub use actions::{Around, is_before};
-pub use components::{
-    fault_of_components, fault_of_repeated, variables_changed, variables_changed_in,
-};
+pub use components::{variables_changed, variables_changed_in};
 pub use constants::{has_type, size_in, value_as};
 pub use declaring::{
     channel_meaning, constant_meaning, formal_meaning, type_of_values, variable_meaning,
@@ -35,4 +34,5 @@ pub use instances::{array_at, place_in, variable_at};
 pub use mentions::is_variable;
 pub use places::{PlaceRef, Spot, place_ref, spot_of};
 pub use signature::{Parameter, Passing, Signature, count_of_parameters, parameter_at, passing_of};
+pub use telling::{UsageFault, earlier, fault_at};
 pub use uses::{Direction, End, Use, Uses};

@@ -2,10 +2,12 @@
 
 ghost use Rattle.std.specs.Prelude.{◌≡◌};
 ghost use Rattle.program_uses.specs.Lowest.{IsLowest};
-ghost use Rattle.program_uses.specs.Sets.{has};
+ghost use Rattle.program_uses.specs.Sets.{has, Joins};
+ghost use Rattle.program_uses.specs.Telling.{IsFirst, Among, At};
 ghost use Rattle.program_uses.specs.ParRules.{is_shared, shared_fault, IsShared, BreaksSharing};
 
 use crate::faults::{CHANNEL_USE, SHARED_VARIABLE, lower};
+use crate::telling::{UsageFault, earlier, fault_at};
 use crate::uses::{Use, Uses};
 
 /// Whether a component may not have this use, by what those before it use.
@@ -43,15 +45,45 @@ fn fault_of_use(count: usize, before: &Uses, item: Use) -> Option<u8>
     }
 }
 
-/// The lowest number of the rules that a component of a `PAR` breaks with those before it, by what it uses of the names
-/// around, of which there are so many.
-pub(crate) fn fault_of_sharing(count: usize, before: &Uses, component: &Uses) -> Option<u8>
-    ensures { IsLowest (BreaksSharing count (has before.now) (has component.now)) result }
+/// The lowest number of the rules that these uses break with those before them, of the names around, of which there are
+/// so many.
+fn fault_of_each(count: usize, before: &Uses, uses: &Uses) -> Option<u8>
+    ensures { IsLowest (BreaksSharing count (has before.now) (has uses.now)) result }
 {
     let mut found = None;
-    let mut rest = component.iter();
+    let mut rest = uses.iter();
     while let Some(item) = rest.next() {
         found = lower(found, fault_of_use(count, before, *item));
     }
     found
+}
+
+/// The same of what a component of a `PAR` uses, whichever is the smaller.
+fn fault_of_sharing(count: usize, before: &Uses, component: &Uses) -> Option<u8>
+    ensures { IsLowest (BreaksSharing count (has before.now) (has component.now)) result }
+{
+    if component.len() <= before.len() {
+        fault_of_each(count, before, component)
+    } else {
+        fault_of_each(count, component, before)
+    }
+}
+
+impl Uses {
+    /// What a component of a `PAR` uses that begins on this line joins what those before it use. What they share of the
+    /// names around is told, of which there are so many.
+    pub(crate) fn join_beside(
+        &mut self,
+        told: &mut Option<UsageFault>,
+        count: usize,
+        line: u32,
+        component: Uses,
+    )
+        ensures uses { Joins self.old self.new component }
+        ensures told { IsFirst (Among told.old (At line (BreaksSharing count (has self.old) (has component)))) told.new }
+    {
+        let found = fault_of_sharing(count, self, &component);
+        *told = earlier(*told, fault_at(line, found));
+        self.join(component);
+    }
 }

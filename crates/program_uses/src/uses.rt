@@ -5,6 +5,7 @@ ghost use Rattle.std.specs.Prelude.{◌≡◌, [], ◌∷◌, false};
 use std::alloc::Global;
 use std::collections::HashSet;
 use std::collections::hash_set::Iter;
+use std::mem;
 
 /// Which end of a channel is used.
 #[derive(Clone, Copy, PartialEq, Eq, PartialOrd, Ord, Hash)]
@@ -38,18 +39,20 @@ pub enum Use {
 /// What is used. It remembers whether memory ran out while something was added.
 #[derive(Drop)]
 pub struct Uses {
+    alloc: Global,
     set: HashSet<Use>,
     complete: bool,
 }
 
 impl Uses {
-    ghost use Rattle.program_uses.specs.Sets.{has, Adds};
+    ghost use Rattle.program_uses.specs.Sets.{has, Adds, Joins};
 
     /// Nothing.
     pub fn new(alloc: Global) -> Uses
         ensures { (u : Use) → has result u ≡ false }
     {
         Uses {
+            alloc,
             set: HashSet::new(alloc),
             complete: true,
         }
@@ -62,6 +65,35 @@ impl Uses {
         match self.set.insert(item) {
             Ok(_) => {}
             Err(_) => self.complete = false,
+        }
+    }
+
+    /// A set of uses with nothing in it.
+    pub(crate) fn fresh(&self) -> Uses
+        ensures { (u : Use) → has result u ≡ false }
+    {
+        Uses::new(self.alloc)
+    }
+
+    /// What another set has besides. The smaller of the two joins the larger.
+    pub(crate) fn join(&mut self, other: Uses)
+        ensures { Joins self.old self.new other }
+    {
+        let mut other = other;
+        if self.set.len() < other.set.len() {
+            mem::swap(self, &mut other);
+        }
+        self.add_all(&other);
+    }
+
+    /// Each use of another set.
+    fn add_all(&mut self, other: &Uses)
+        ensures { Joins self.old self.new other.now }
+    {
+        self.complete &= other.complete;
+        let mut rest = other.iter();
+        while let Some(item) = rest.next() {
+            self.add(*item);
         }
     }
 
@@ -80,12 +112,18 @@ impl Uses {
         self.complete
     }
 
+    /// How many uses it has.
+    pub(crate) fn len(&self) -> usize {
+        self.set.len()
+    }
+
     /// Whether this is used.
     pub fn contains(&self, item: Use) -> bool
         ensures { result ≡ has self.now item }
     {
         self.set.contains(&item)
     }
+
     /// Each use that it has.
     pub(crate) fn iter(&self) -> Iter<'_, Use>
         ensures { result ≡ self.now.set.keys }

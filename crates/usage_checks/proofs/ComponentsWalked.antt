@@ -21,16 +21,17 @@ use Rattle.program_uses.proofs.Adding.{taken_one}
 use Rattle.program_uses.proofs.ChangedVariables.{next_component_same}
 use Rattle.usage_checks.specs.declared.blocks.Site.{Site}
 use Rattle.usage_checks.specs.declared.channel_rules.Position.{Position}
-use Rattle.usage_checks.specs.declared.telling.UsageFault.{UsageFault}
+use Rattle.program_uses.specs.declared.telling.UsageFault.{UsageFault}
 use Rattle.usage_checks.specs.declared.telling.Findings.{Findings}
 use Rattle.usage_checks.specs.ActionRules.{BreaksGuard}
 use Rattle.usage_checks.specs.AfterProcesses.{inside, after_construct, after_components, after_component, begun, ended}
 use Rattle.usage_checks.specs.Following.{where_holds, after_guard}
 use Rattle.usage_checks.specs.LineRules.{BreaksCondition}
 use Rattle.usage_checks.specs.NameRules.{BreakDeclarations, with_entries}
-use Rattle.usage_checks.specs.ProcessRules.{BreaksIn, BreaksConstruct, BreaksBlock, position_in, BreakComponents}
+use Rattle.usage_checks.specs.ProcessRules.{BreaksIn, BreaksConstruct, position_in, BreakComponents}
 use Rattle.usage_checks.specs.ProcessRules.{BreaksComponent}
-use Rattle.usage_checks.specs.Telling.{At, Walks}
+use Rattle.program_uses.specs.Telling.{At}
+use Rattle.usage_checks.specs.Telling.{Walks}
 use Rattle.usage_checks.specs.Walking.{WalksProcess, WalksConstruct, WalksComponents, WalksComponent, WalksBlock}
 use Rattle.usage_checks.proofs.FaultsInOrder.{walks_both, walks_then, walks_as}
 
@@ -97,18 +98,6 @@ components_all site word f xs i k {s} {t} {l} done x =
 
 -- ---- blocks
 
-nothing_asked : {line : ℕ} (P : UsageFault → Type 0) (f : UsageFault) → P f → At line (λ n. ⊥) f ⊎ P f
-nothing_asked P f p = inr p
-
-asked_alone : {line : ℕ} (P : UsageFault → Type 0) (f : UsageFault) → At line (λ n. ⊥) f ⊎ P f → P f
-asked_alone P f (inl x) = absurd x.1
-asked_alone P f (inr p) = p
-
--- a block of which nothing is asked as a whole
-pub walks_plain : {s t : Findings} {k l : Known} (line : ℕ) (P : UsageFault → Type 0) → Walks s t k l P
-    → Walks s t k l (λ f. At line (λ n. ⊥) f ⊎ P f)
-walks_plain line P x = walks_as (nothing_asked P) (asked_alone P) x
-
 only_second : (P : UsageFault → Type 0) (f : UsageFault) → ⊥ ⊎ P f → P f
 only_second P f (inl x) = absurd x
 only_second P f (inr p) = p
@@ -141,21 +130,17 @@ walks_block site word cs k begins components ends =
     (walks_after (after_components a word cs) (BreakComponents a site.position word cs) begins components) ends
 
 -- the components of a PAR, which stand elsewhere than it
-pub walks_par : {part : Part} (site inner : Site) (line count : ℕ) (cs : Components part) (k j : Known)
-    {s r t w : Findings} {l m n : Known} → inner.around ≡ site.around
-    → inner.position ≡ position_in (Mark mark.Par) count site.position → count ≡ length j.entries
-    → Walks s r j k (At line (BreaksBlock (around_of site.around) (Mark mark.Par) k.entries cs))
-    → Walks r t l (begun (Mark mark.Par) j) (λ f. ⊥) → WalksComponents t w inner (Mark mark.Par) cs l m
-    → n ≡ ended (Mark mark.Par) m → WalksBlock s w site line (Mark mark.Par) cs k n
-walks_par site inner line count cs k j {s} {r} {t} {w} {n = n} around position long shared begins components ends =
-    let a = around_of site.around in
+pub walks_par : {part : Part} (site inner : Site) (count : ℕ) (cs : Components part) (k : Known) {s t w : Findings}
+    {l m n : Known} → inner.around ≡ site.around
+    → inner.position ≡ position_in (Mark mark.Par) count site.position → count ≡ length k.entries
+    → Walks s t l (begun (Mark mark.Par) k) (λ f. ⊥) → WalksComponents t w inner (Mark mark.Par) cs l m
+    → n ≡ ended (Mark mark.Par) m → WalksBlock s w site (Mark mark.Par) cs k n
+walks_par site inner count cs k {s} {t} {w} {n = n} around position long begins components ends =
     let word = Mark mark.Par in
-    let block = walks_block inner word cs j begins components ends in
-    let seen = subst (λ (x : Around × Position). Walks r w n (ended word (after_components x.0 word cs (begun word j)))
-    (BreakComponents x.0 x.1 word cs (begun word j)))
-    (λ i. (around_of (around i), (position ∙ ap (λ c. position_in word c site.position) long) i)) block in
-    walks_both (λ k. ended word (after_components a word cs (begun word k)))
-    (λ k. BreakComponents a (position_in word (length k.entries) site.position) word cs (begun word k)) shared seen
+    subst (λ (x : Around × Position). Walks s w n (ended word (after_components x.0 word cs (begun word k)))
+    (BreakComponents x.0 x.1 word cs (begun word k)))
+    (λ i. (around_of (around i), (position ∙ ap (λ c. position_in word c site.position) long) i))
+    (walks_block inner word cs k begins components ends)
 
 -- a component of a PAR, with the variables that it changes
 pub walks_component : (site : Site) (p : Process) (k : Known) {s t w : Findings} {j l m : Known} (numbers : List ℕ)

@@ -8,7 +8,8 @@ use Rattle.program_uses.specs.Declaring.{add_all, add_declaration}
 use Rattle.usage_checks.specs.declared.telling.Findings.{Findings}
 use Rattle.usage_checks.specs.DeclarationRules.{BreaksDeclaration}
 use Rattle.usage_checks.specs.NameRules.{BreakNames, BreaksDeclared, names_in, declared_meaning, with_entries}
-use Rattle.usage_checks.specs.Telling.{At, Walks}
+use Rattle.program_uses.specs.Telling.{At}
+use Rattle.usage_checks.specs.Telling.{Walks}
 use Rattle.usage_checks.proofs.FaultsInOrder.{walks_both}
 
 abbrev pub WalksNames : ℕ → Meaning → (s t : Findings) → (before after : Known) → Declaration → Type 0

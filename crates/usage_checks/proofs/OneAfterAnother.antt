@@ -5,7 +5,7 @@ use Rattle.scalar_ranges.specs.Entries.{Entry}
 use Rattle.scalar_ranges.specs.Moves.{Known}
 use Rattle.program_uses.specs.InTurn.{in_turn}
 use Rattle.program_uses.proofs.NextInTurn.{seen_more, last_in_turn}
-use Rattle.usage_checks.specs.declared.telling.UsageFault.{UsageFault}
+use Rattle.program_uses.specs.declared.telling.UsageFault.{UsageFault}
 use Rattle.usage_checks.specs.declared.telling.Findings.{Findings}
 use Rattle.usage_checks.specs.BrokenInTurn.{BreaksInTurn}
 use Rattle.usage_checks.specs.NameRules.{with_entries}

@@ -27,7 +27,7 @@ use Rattle.program_uses.specs.InTurn.{in_turn}
 use Rattle.program_uses.specs.Processes.{uses_of, uses_of_body}
 use Rattle.program_uses.specs.Signatures.{Parameter}
 use Rattle.usage_checks.specs.declared.channel_rules.Position.{Position}
-use Rattle.usage_checks.specs.declared.telling.UsageFault.{UsageFault}
+use Rattle.program_uses.specs.declared.telling.UsageFault.{UsageFault}
 use Rattle.usage_checks.specs.AfterProcesses.{inside, after_construct, begun, begun_body, chosen}
 use Rattle.usage_checks.specs.AfterProcesses.{after_components, after_component}
 use Rattle.usage_checks.specs.Following.{after_action, after_guard}
@@ -46,7 +46,7 @@ use Rattle.usage_checks.specs.Reaching.{process_of, entered, Reaches, to_body, b
 use Rattle.usage_checks.specs.Reaching.{ProcessHolds, ComponentHolds}
 use Rattle.usage_checks.specs.Reaching.{IsRight, ItemHolds, ItemIsRight, PlacesHold, ItemsHold, SignaturesStay}
 use Rattle.usage_checks.specs.Sizes.{Measured, measures_of_item}
-use Rattle.usage_checks.specs.Telling.{At}
+use Rattle.program_uses.specs.Telling.{At}
 use Rattle.usage_checks.specs.Walking.{word_of}
 use Rattle.usage_checks.specs.Whole.{is_whole, AreWhole, IsWhole}
 use Rattle.usage_checks.proofs.KnownValues.{is_below}
@@ -204,8 +204,7 @@ module _ (a : Around) where
         ended_whole (length a.signatures) (block_word kind)
         (after_components a (block_word kind) cs (begun (block_word kind) k))
         (components_whole (position_in (block_word kind) (length k.entries) p) (block_word kind) cs
-        (begun (block_word kind) k) (λ f x. none f (inr x))
-        (begun_whole (length a.signatures) (block_word kind) k w))
+        (begun (block_word kind) k) none (begun_whole (length a.signatures) (block_word kind) k w))
     construct_whole p line (Replicated r (One kind c)) k none w =
         let count = length a.signatures in
         let b = One kind c in
@@ -221,7 +220,7 @@ module _ (a : Around) where
         repeated_whole count repeats.happens _
         (turns_keep (IsWhole count) (turn_of a r b repeats) _ repeats.turns.count repeats.turns.count
         (begun_body (block_word kind) changed repeats.happens k) turn (omega arith)
-        (λ f x. none f (inr (inr x))) (body_begun_whole count (block_word kind) changed repeats.happens k w))
+        (λ f x. none f (inr x)) (body_begun_whole count (block_word kind) changed repeats.happens k w))
 
     components_whole : {part : Part} (p : Position) (word : Terminal) (cs : Components part) (k : Known)
         → Unbroken (BreakComponents a p word cs k) → IsWhole (length a.signatures) k
@@ -286,7 +285,7 @@ walk_whole (GlobalProcedure p) o none w =
     let a = around_in o in
     let count = length o.signatures in
     let body = body_whole o p (item_holds (GlobalProcedure p) o none w) w in
-    let ended = inside_whole a _ _ p.body (in_body p o.known) (λ f x. none f (inl (inr x))) body in
+    let ended = inside_whole a _ _ p.body (in_body p o.known) (λ f x. none f (inl (inr (inr x)))) body in
     let after = whole_more count (after_procedure a p o.known)
     (left_whole count (length o.known.entries) (inside a p.body (in_body p o.known)) ended) in
     let number = is_below count (suc count) (omega arith) in
@@ -421,7 +420,7 @@ right_turn s first line r (One kind c) k n piece right under less =
     let indexed : ℕ → Known → Known = λ m l. with_entries (add r.name (index_in repeats m)) l in
     let Breaks : ℕ → Known → UsageFault → Type 0 = λ m l. BreaksComponent a inner c (indexed m l) in
     let none : Unbroken (BreaksInTurns step Breaks repeats.turns.count start) =
-    λ f x. right.unbroken f (inr (inr x)) in
+    λ f x. right.unbroken f (inr x) in
     let index : (m : ℕ) → m < repeats.turns.count → is_whole count (index_in repeats m) ≡ true =
     λ m within. index_whole count a line r b k m right.holds within in
     let before = turns_keep (IsWhole count) step Breaks repeats.turns.count n start
@@ -440,7 +439,7 @@ right_part s t first line (Act action) piece k l right stands = absurd stands
 right_part s t first line (Block kind cs) piece k l right stands =
     let word = block_word kind in
     subst (λ x. IsRight x piece l) (sym stands.0)
-    (right_among (in_block word k s) word cs (begun word k) piece l (λ f x. right.unbroken f (inr x))
+    (right_among (in_block word k s) word cs (begun word k) piece l right.unbroken
     (begun_whole (length s.around.signatures) word k right.whole) stands.1)
 right_part s t first line (Replicated r b) piece k l right stands =
     subst (λ (x : Standing × Known). IsRight x.0 piece x.1) (λ i. (sym stands.1 i, sym stands.4 i))
@@ -450,7 +449,7 @@ right_body : (o : Outside) (p : Procedure) → ItemIsRight o (GlobalProcedure p)
     → IsRight (in_procedure o p) (AProcess (length (in_body p o.known).entries) p.body) (in_body p o.known)
 right_body o p right =
     right_process (in_procedure o p) (length (in_body p o.known).entries) p.body (in_body p o.known)
-    (λ f x. right.unbroken f (inl (inr x))) (body_whole o p right.holds right.whole)
+    (λ f x. right.unbroken f (inl (inr (inr x)))) (body_whole o p right.holds right.whole)
 
 reached_holds : (items : List ProgramItem) → BreaksNoRule items → (s : Standing) (piece : Piece) (k : Known)
     → Reaches items s piece k → IsRight s piece k

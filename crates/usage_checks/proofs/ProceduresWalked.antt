@@ -1,10 +1,12 @@
--- A procedure is gone over by its formals and its body, and then left.
+-- A procedure is gone over by its formals, what its body uses, and its body, and then left.
 use Rattle.std.proofs.Common.{◌≡◌, ℕ, List, length, ap, subst, ◌∙◌, ◌⊎◌}
 use Rattle.occam_parser.specs.Lines.{Formal}
 use Rattle.occam_parser.specs.Blocks.{Procedure}
 use Rattle.scalar_ranges.specs.Moves.{Known}
 use Rattle.program_uses.specs.ActionViews.{around_of}
 use Rattle.program_uses.specs.Declaring.{add_formals}
+use Rattle.program_uses.specs.Sharing.{Shares}
+use Rattle.program_uses.specs.declared.telling.UsageFault.{UsageFault}
 use Rattle.usage_checks.specs.declared.blocks.Site.{Site}
 use Rattle.usage_checks.specs.declared.channel_rules.Position.{Position}
 use Rattle.usage_checks.specs.declared.telling.Findings.{Findings}
@@ -14,7 +16,8 @@ use Rattle.usage_checks.specs.ItemRules.{body_position, after_procedure, BreaksP
 use Rattle.usage_checks.specs.MainRules.{is_main_name}
 use Rattle.usage_checks.specs.NameRules.{with_entries}
 use Rattle.usage_checks.specs.ProcessRules.{BreaksIn}
-use Rattle.usage_checks.specs.Telling.{At, Walks}
+use Rattle.program_uses.specs.Telling.{At}
+use Rattle.usage_checks.specs.Telling.{Walks}
 use Rattle.usage_checks.specs.Walking.{WalksProcess}
 use Rattle.usage_checks.proofs.FaultsInOrder.{walks_both, walks_then}
 
@@ -25,19 +28,22 @@ WalksHead s t line fs k l =
     (λ f. At line (BreakSizes k.entries fs) f ⊎ BreakFormals (length k.entries) line k.entries fs k.entries f)
 
 pub walks_procedure : (site : Site) (p : Procedure) (k : Known) (fs : List Formal) (formals declared : ℕ)
-    {s t w : Findings} {l m n : Known} → fs ≡ p.head.formals → formals ≡ length k.entries
-    → declared ≡ length l.entries
+    {s t u w : Findings} {l j m n : Known} → fs ≡ p.head.formals → formals ≡ length k.entries
+    → declared ≡ length j.entries
     → site.position ≡ body_position (is_main_name p.head.name) formals declared → WalksHead s t p.line fs k l
-    → WalksProcess t w site p.body l m → n ≡ left_to formals m
+    → Walks t u j l (Shares (around_of site.around) l.entries p.body) → WalksProcess u w site p.body j m
+    → n ≡ left_to formals m
     → Walks s w n (after_procedure (around_of site.around) p k) (BreaksProcedure (around_of site.around) p k)
-walks_procedure site p k fs formals declared {s} {t} {w} {l} {m} {n} same long begun stands head body left =
+walks_procedure site p k fs formals declared {s} {t} {u} {w} {l} {j} {m} {n} same long begun stands head uses body
+    left =
     let a = around_of site.around in
     let is_main = is_main_name p.head.name in
     let inner : Known → Position = λ l. body_position is_main (length k.entries) (length l.entries) in
-    let position : site.position ≡ inner l = stands ∙ (λ i. body_position is_main (long i) (begun i)) in
-    let placed = subst (λ x. Walks t w m (inside a p.body l) (BreaksIn a x (length l.entries) p.body l)) position
+    let position : site.position ≡ inner j = stands ∙ (λ i. body_position is_main (long i) (begun i)) in
+    let placed = subst (λ x. Walks u w m (inside a p.body j) (BreaksIn a x (length j.entries) p.body j)) position
     body in
+    let Breaks : Known → UsageFault → Type 0 = λ l. BreaksIn a (inner l) (length l.entries) p.body l in
     let first = subst (λ fs. WalksHead s t p.line fs k l) same head in
     walks_then (left_to (length k.entries))
-    (walks_both (inside a p.body) (λ l. BreaksIn a (inner l) (length l.entries) p.body l) first placed)
-    (left ∙ ap (λ n. left_to n m) long)
+    (walks_both (inside a p.body) (λ l f. Shares a l.entries p.body f ⊎ Breaks l f) first
+    (walks_both (inside a p.body) Breaks uses placed)) (left ∙ ap (λ n. left_to n m) long)

@@ -6,13 +6,13 @@ use Rattle.scalar_ranges.specs.Entries.{Meaning}
 use Rattle.scalar_ranges.specs.Moves.{Known, begin}
 use Rattle.program_uses.specs.Actions.{Around, is_before}
 use Rattle.program_uses.specs.ActionViews.{around_of}
-use Rattle.program_uses.specs.Components.{changes_in, BreaksRepeated}
+use Rattle.program_uses.specs.Components.{changes_in}
 use Rattle.program_uses.specs.Declaring.{add}
 use Rattle.program_uses.specs.Indices.{is_sequence, Repeats, repeats_of, index_in, turn_by_turn}
 use Rattle.program_uses.specs.Processes.{uses_of_body}
 use Rattle.usage_checks.specs.declared.blocks.Site.{Site}
 use Rattle.usage_checks.specs.declared.channel_rules.Position.{Position}
-use Rattle.usage_checks.specs.declared.telling.UsageFault.{UsageFault}
+use Rattle.program_uses.specs.declared.telling.UsageFault.{UsageFault}
 use Rattle.usage_checks.specs.declared.telling.Findings.{Findings}
 use Rattle.usage_checks.specs.AfterProcesses.{unless, begun_turns, begun_body, repeated, after_component}
 use Rattle.usage_checks.specs.AfterProcesses.{after_body}
@@ -20,7 +20,8 @@ use Rattle.usage_checks.specs.LineRules.{BreaksReplicator}
 use Rattle.usage_checks.specs.NameRules.{with_entries}
 use Rattle.usage_checks.specs.ProcessRules.{BreaksInTurns, position_in, BreaksComponent, BreaksBody}
 use Rattle.usage_checks.specs.Reaching.{turn_of}
-use Rattle.usage_checks.specs.Telling.{At, Walks}
+use Rattle.program_uses.specs.Telling.{At}
+use Rattle.usage_checks.specs.Telling.{Walks}
 use Rattle.usage_checks.specs.Walking.{word_of, WalksBody, WalksTurn, WalksConstruct}
 use Rattle.usage_checks.proofs.ComponentsWalked.{walks_after}
 use Rattle.usage_checks.proofs.FaultsInOrder.{walks_both, walks_then, walks_moved}
@@ -113,13 +114,10 @@ walks_body b site inner line r repeats count turns k {s} {t} {u} {w} {j} {l} {m}
     (BreaksTurn (around_of inner.around) inner.position r b x) x.turns.count
     (begun_body (word_of b) (changes_in (uses_of_body a k.entries line r b)) x.happens k))) is whole)
 
--- a replicator, what its turns share, and its body
-pub walks_replicated : (site : Site) (line : ℕ) (r : Replicator) (b : Body) (k j : Known) {s t u w : Findings}
-    {n : Known} → Walks s t k k (At line (BreaksReplicator k.entries r))
-    → Walks t u j k (At line (BreaksRepeated (around_of site.around) k.entries line r b))
-    → WalksBody u w site line r b j n → WalksConstruct s w site line (Replicated r b) k n
-walks_replicated site line r b k j replicator shared walked =
+-- a replicator and its body
+pub walks_replicated : (site : Site) (line : ℕ) (r : Replicator) (b : Body) (k : Known) {s t w : Findings} {n : Known}
+    → Walks s t k k (At line (BreaksReplicator k.entries r)) → WalksBody t w site line r b k n
+    → WalksConstruct s w site line (Replicated r b) k n
+walks_replicated site line r b k replicator walked =
     let a = around_of site.around in
-    walks_both (after_body a line r b)
-    (λ k f. At line (BreaksRepeated a k.entries line r b) f ⊎ BreaksBody a site.position line r b k f) replicator
-    (walks_both (after_body a line r b) (BreaksBody a site.position line r b) shared walked)
+    walks_both (after_body a line r b) (BreaksBody a site.position line r b) replicator walked

@@ -1,6 +1,6 @@
 -- What is asked of items one after another, of each where those before it are done with.
 use Rattle.std.specs.Prelude.{List, [], ◌∷◌, ◌⊎◌}
-use Rattle.usage_checks.specs.declared.telling.UsageFault.{UsageFault}
+use Rattle.program_uses.specs.declared.telling.UsageFault.{UsageFault}
 
 abbrev pub BreaksInTurn : {A S : Type 0} → (A → S → S) → (A → S → UsageFault → Type 0) → List A → S → UsageFault
     → Type 0

@@ -4,7 +4,7 @@ use Rattle.occam_parser.specs.Lines.{Formal}
 use Rattle.scalar_ranges.specs.Entries.{Entry}
 use Rattle.program_uses.specs.Declaring.{add, formal_meaning}
 use Rattle.program_uses.specs.Signatures.{Parameter}
-use Rattle.usage_checks.specs.declared.telling.UsageFault.{UsageFault}
+use Rattle.program_uses.specs.declared.telling.UsageFault.{UsageFault}
 use Rattle.usage_checks.specs.DeclarationRules.{BreaksSizeIfAny}
 use Rattle.usage_checks.specs.EachBroken.{BreaksEach}
 use Rattle.usage_checks.specs.BrokenInTurn.{BreaksInTurn}

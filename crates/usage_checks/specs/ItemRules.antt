@@ -13,8 +13,9 @@ use Rattle.program_uses.specs.Declaring.{add, add_declaration, formal_meaning, a
 use Rattle.program_uses.specs.Ends.{sorted_ends, ends_at}
 use Rattle.program_uses.specs.InTurn.{in_turn}
 use Rattle.program_uses.specs.Processes.{uses_of}
+use Rattle.program_uses.specs.Sharing.{Shares}
 use Rattle.program_uses.specs.Signatures.{Parameter}
-use Rattle.usage_checks.specs.declared.telling.UsageFault.{UsageFault}
+use Rattle.program_uses.specs.declared.telling.UsageFault.{UsageFault}
 use Rattle.usage_checks.specs.AfterProcesses.{inside, left_to}
 use Rattle.usage_checks.specs.FormalRules.{BreakSizes, BreakFormals}
 use Rattle.usage_checks.specs.BrokenInTurn.{BreaksInTurn}
@@ -22,7 +23,7 @@ use Rattle.usage_checks.specs.MainRules.{is_main_name, BreaksMain}
 use Rattle.usage_checks.specs.NameRules.{BreaksName, BreaksDeclared, with_entries}
 use Rattle.usage_checks.specs.ProcessRules.{BreaksIn}
 use Rattle.usage_checks.specs.Sizes.{Measured, total, measures_of_item, capped, end_in}
-use Rattle.usage_checks.specs.Telling.{At}
+use Rattle.program_uses.specs.Telling.{At}
 
 -- where the body of a procedure begins
 abbrev pub in_body : Procedure → Known → Known
@@ -36,14 +37,15 @@ body_position is_main formals declared =
 abbrev pub after_procedure : Around → Procedure → Known → Known
 after_procedure a p k = left_to (length k.entries) (inside a p.body (in_body p k))
 
--- the formals, and then the body
+-- the formals, what the components of the PARs in the body share, and then the body
 abbrev pub BreaksProcedure : Around → Procedure → Known → UsageFault → Type 0
 BreaksProcedure a p k f =
     let formals = length k.entries in
     let declared = length (in_body p k).entries in
     (At p.line (BreakSizes k.entries p.head.formals) f
     ⊎ BreakFormals formals p.line k.entries p.head.formals k.entries f)
-    ⊎ BreaksIn a (body_position (is_main_name p.head.name) formals declared) declared p.body (in_body p k) f
+    ⊎ (Shares a (in_body p k).entries p.body f
+    ⊎ BreaksIn a (body_position (is_main_name p.head.name) formals declared) declared p.body (in_body p k) f)
 
 -- Its name is known after it, and not in it. The procedures are numbered in their order.
 abbrev pub after_named : Around → Procedure → Known → Known

@@ -8,9 +8,9 @@ use Rattle.occam_parser.specs.Lines.{Formal}
 use Rattle.occam_parser.specs.Blocks.{ProgramItem, GlobalConstant, GlobalProcedure, item_line}
 use Rattle.program_uses.specs.declared.faults.TheConstants.{NO_MAIN}
 use Rattle.program_uses.specs.declared.uses.Direction.{Direction}
-use Rattle.usage_checks.specs.declared.telling.UsageFault.{UsageFault}
+use Rattle.program_uses.specs.declared.telling.UsageFault.{UsageFault}
 use Rattle.usage_checks.specs.ChannelRules.{link_way}
-use Rattle.usage_checks.specs.Telling.{At}
+use Rattle.program_uses.specs.Telling.{At}
 
 abbrev pub is_link_name : Option Direction → Bool
 is_link_name None = false

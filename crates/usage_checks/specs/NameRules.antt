@@ -7,10 +7,10 @@ use Rattle.scalar_ranges.specs.Entries.{Meaning, Entry, number_in}
 use Rattle.scalar_ranges.specs.Moves.{Known}
 use Rattle.program_uses.specs.declared.faults.TheConstants.{DECLARED_TWICE}
 use Rattle.program_uses.specs.Declaring.{add, constant_meaning, variable_meaning, channel_meaning, add_declaration}
-use Rattle.usage_checks.specs.declared.telling.UsageFault.{UsageFault}
+use Rattle.program_uses.specs.declared.telling.UsageFault.{UsageFault}
 use Rattle.usage_checks.specs.DeclarationRules.{BreaksDeclaration}
 use Rattle.usage_checks.specs.BrokenInTurn.{BreaksInTurn}
-use Rattle.usage_checks.specs.Telling.{At}
+use Rattle.program_uses.specs.Telling.{At}
 
 -- whether a declaration is of the innermost scope, whose first one has this number
 abbrev pub is_of_scope : ℕ → Option ℕ → Bool

@@ -1,4 +1,4 @@
--- The rules that a process breaks, each at its line.
+-- The rules that a process breaks, each at its line, but for what the components of its PARs share.
 use Rattle.std.specs.Prelude.{ℕ, zero, suc, List, length, ◌⊎◌}
 use Rattle.occam_layout.specs.declared.mark.Mark.TheVariants as mark
 use Rattle.occam_parser.specs.Terminals.{Terminal, Mark}
@@ -7,13 +7,13 @@ use Rattle.occam_parser.specs.Blocks.{Process, Declared, Does, Construct, Act, B
 use Rattle.occam_parser.specs.Blocks.{Components, NoComponent, Further, Component, Plain, Chosen, Guarded}
 use Rattle.scalar_ranges.specs.Entries.{Entry}
 use Rattle.scalar_ranges.specs.Moves.{Known}
-use Rattle.program_uses.specs.Components.{changes_in, BreakSharing, BreaksRepeated}
+use Rattle.program_uses.specs.Components.{changes_in}
 use Rattle.program_uses.specs.Actions.{Around, is_before}
 use Rattle.program_uses.specs.Declaring.{add, add_declaration}
 use Rattle.program_uses.specs.Indices.{is_seq, repeats_of, index_in, turn_by_turn}
 use Rattle.program_uses.specs.Processes.{uses_of_body}
 use Rattle.usage_checks.specs.declared.channel_rules.Position.{Position}
-use Rattle.usage_checks.specs.declared.telling.UsageFault.{UsageFault}
+use Rattle.program_uses.specs.declared.telling.UsageFault.{UsageFault}
 use Rattle.usage_checks.specs.ActionRules.{BreaksAction, BreaksGuard}
 use Rattle.usage_checks.specs.AfterProcesses.{begun, begun_body, chosen, after_components}
 use Rattle.usage_checks.specs.AfterProcesses.{after_component}
@@ -21,12 +21,7 @@ use Rattle.usage_checks.specs.Following.{after_guard}
 use Rattle.usage_checks.specs.Handing.{PassesTwice}
 use Rattle.usage_checks.specs.LineRules.{BreaksCondition, BreaksReplicator}
 use Rattle.usage_checks.specs.NameRules.{BreaksDeclared, with_entries}
-use Rattle.usage_checks.specs.Telling.{At}
-
--- what is asked of a block as a whole
-abbrev pub BreaksBlock : {part : Part} → Around → Terminal → List Entry → Components part → ℕ → Type 0
-BreaksBlock a (Mark mark.Par) es cs n = BreakSharing a es cs n
-BreaksBlock a word es cs n = ⊥
+use Rattle.program_uses.specs.Telling.{At}
 
 -- Something is broken in one of so many turns, where those before it are done with.
 abbrev pub BreaksInTurns : {A : Type 0} → (ℕ → A → A) → (ℕ → A → UsageFault → Type 0) → ℕ → A → UsageFault → Type 0
@@ -51,11 +46,9 @@ abbrev mutual
       At line (PassesTwice a.signatures k.entries action) f ⊎ At line (BreaksAction p a.signatures k.entries action) f
   BreaksConstruct a p line (Block kind cs) k f =
       let word = block_word kind in
-      At line (BreaksBlock a word k.entries cs) f
-      ⊎ BreakComponents a (position_in word (length k.entries) p) word cs (begun word k) f
+      BreakComponents a (position_in word (length k.entries) p) word cs (begun word k) f
   BreaksConstruct a p line (Replicated r b) k f =
-      At line (BreaksReplicator k.entries r) f
-      ⊎ (At line (BreaksRepeated a k.entries line r b) f ⊎ BreaksBody a p line r b k f)
+      At line (BreaksReplicator k.entries r) f ⊎ BreaksBody a p line r b k f
 
   -- in some turn
   pub BreaksBody : Around → Position → ℕ → Replicator → Body → Known → UsageFault → Type 0

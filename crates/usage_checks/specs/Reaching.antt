@@ -15,7 +15,7 @@ use Rattle.program_uses.specs.Indices.{is_sequence, Repeats, repeats_of, index_i
 use Rattle.program_uses.specs.Processes.{uses_of_body}
 use Rattle.program_uses.specs.Signatures.{Parameter}
 use Rattle.usage_checks.specs.declared.channel_rules.Position.{Position}
-use Rattle.usage_checks.specs.declared.telling.UsageFault.{UsageFault}
+use Rattle.program_uses.specs.declared.telling.UsageFault.{UsageFault}
 use Rattle.usage_checks.specs.AfterProcesses.{begun, begun_body, chosen, after_components, after_component}
 use Rattle.usage_checks.specs.Following.{after_guard}
 use Rattle.usage_checks.specs.Holding.{ActionHolds, ConditionHolds, GuardHolds, ReplicatorHolds, DeclarationHolds}

@@ -1,5 +1,5 @@
 -- What it is to go over a process or a part of one.
-use Rattle.std.specs.Prelude.{ℕ, length, ◌⊎◌}
+use Rattle.std.specs.Prelude.{ℕ, length}
 use Rattle.occam_parser.specs.Terminals.{Terminal}
 use Rattle.occam_parser.specs.Blocks.{Process, Construct, Body, One, Part, Components, Component}
 use Rattle.occam_parser.specs.Lines.{Replicator, block_word}
@@ -9,9 +9,9 @@ use Rattle.usage_checks.specs.declared.blocks.Site.{Site}
 use Rattle.usage_checks.specs.declared.telling.Findings.{Findings}
 use Rattle.usage_checks.specs.AfterProcesses.{inside, begun, ended, after_construct, after_components, after_component}
 use Rattle.usage_checks.specs.AfterProcesses.{after_body}
-use Rattle.usage_checks.specs.ProcessRules.{BreaksIn, BreaksConstruct, BreaksBlock, position_in, BreakComponents}
+use Rattle.usage_checks.specs.ProcessRules.{BreaksIn, BreaksConstruct, position_in, BreakComponents}
 use Rattle.usage_checks.specs.ProcessRules.{BreaksComponent, BreaksBody}
-use Rattle.usage_checks.specs.Telling.{At, Walks}
+use Rattle.usage_checks.specs.Telling.{Walks}
 
 abbrev pub WalksProcess : (s t : Findings) → Site → Process → (before after : Known) → Type 0
 WalksProcess s t site p before after =
@@ -35,14 +35,14 @@ WalksComponent s t site word c before after =
     Walks s t after (after_component (around_of site.around) word c before)
     (BreaksComponent (around_of site.around) site.position c before)
 
--- the components of a block that begins with this word, and what is asked of the block as a whole
-abbrev pub WalksBlock : {part : Part} → (s t : Findings) → Site → ℕ → Terminal → Components part
+-- the components of a block that begins with this word
+abbrev pub WalksBlock : {part : Part} → (s t : Findings) → Site → Terminal → Components part
     → (before after : Known) → Type 0
-WalksBlock s t site line word cs before after =
+WalksBlock s t site word cs before after =
     let a = around_of site.around in
     let inner = position_in word (length before.entries) site.position in
     Walks s t after (ended word (after_components a word cs (begun word before)))
-    (λ f. At line (BreaksBlock a word before.entries cs) f ⊎ BreakComponents a inner word cs (begun word before) f)
+    (BreakComponents a inner word cs (begun word before))
 
 -- the word of the block under whose replicator a body stands
 abbrev pub word_of : Body → Terminal

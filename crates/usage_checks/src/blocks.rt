@@ -11,11 +11,12 @@ ghost use Rattle.std.specs.Prelude.{◌≡◌, ℕ, true};
 ghost use Rattle.scalar_ranges.specs.Moves.{begin, begin_par, begin_loop, is_one_of};
 ghost use Rattle.scalar_ranges.specs.Scopes.{entries_of, known_of};
 ghost use Rattle.program_uses.specs.ActionViews.{around_of};
-ghost use Rattle.program_uses.specs.Components.{changes_in, BreakSharing, BreaksRepeated};
+ghost use Rattle.program_uses.specs.Components.{changes_in};
 ghost use Rattle.program_uses.specs.Processes.{uses_of, uses_of_body};
 ghost use Rattle.usage_checks.specs.AfterProcesses.{unless, begun_turns, repeated};
 ghost use Rattle.usage_checks.specs.ProcessRules.{position_in};
-ghost use Rattle.usage_checks.specs.Telling.{At, Walks};
+ghost use Rattle.program_uses.specs.Telling.{At};
+ghost use Rattle.usage_checks.specs.Telling.{Walks};
 ghost use Rattle.usage_checks.specs.LineRules.{BreaksReplicator};
 ghost use Rattle.usage_checks.specs.Walking.{WalksProcess, WalksConstruct, WalksBlock, WalksComponent};
 ghost use Rattle.usage_checks.specs.Walking.{word_of, WalksBody, WalksTurn};
@@ -25,8 +26,7 @@ use crate::line_rules::fault_of_replicator;
 use crate::telling::Findings;
 use occam_parser::{Action, Body, Branch, Choice, Construct, Process, Replicator};
 use program_uses::{
-    Around, fault_of_components, fault_of_repeated, is_before, is_sequence, repeats_of,
-    variables_changed, variables_changed_in,
+    Around, is_before, is_sequence, repeats_of, variables_changed, variables_changed_in,
 };
 use scalar_ranges::Scope;
 use std::alloc::Global;
@@ -77,24 +77,6 @@ fn end_body(scope: &mut Scope, happens: bool)
 }
 
 impl Findings {
-    /// What the components of a `PAR` share that begins on this line.
-    fn walk_sharing<'a>(
-        &mut self,
-        site: Site,
-        scope: &mut Scope<'a>,
-        line: u32,
-        processes: &[Process<'a>],
-    )
-        ensures { Walks self.old self.new (known_of scope.new) (known_of scope.old)
-            (At line (BreakSharing (around_of site.entry.around) (entries_of scope.old)
-            (all_processes processes.now))) }
-    {
-        match fault_of_components(site.alloc, site.around, scope, processes) {
-            Ok(found) => self.tell(line, found),
-            Err(_) => self.fail(),
-        }
-    }
-
     /// The numbers of the variables that a process changes.
     fn changes<'a>(
         &mut self,
@@ -112,25 +94,6 @@ impl Findings {
                 self.fail();
                 Vec::new(site.alloc)
             }
-        }
-    }
-
-    /// What the turns of a `PAR` share, if a body that begins on this line is that of one.
-    fn walk_repeated<'a>(
-        &mut self,
-        site: Site,
-        scope: &mut Scope<'a>,
-        line: u32,
-        replicator: &Replicator<'a>,
-        body: &Body<'a>,
-    )
-        ensures { Walks self.old self.new (known_of scope.new) (known_of scope.old)
-            (At line (BreaksRepeated (around_of site.entry.around) (entries_of scope.old) line
-            (replicator_of replicator.now) (body_of body.now))) }
-    {
-        match fault_of_repeated(site.alloc, site.around, scope, line, replicator, body) {
-            Ok(found) => self.tell(line, found),
-            Err(_) => self.fail(),
         }
     }
 
@@ -254,10 +217,10 @@ impl Findings {
     {
         match construct {
             Construct::Action(action) => self.walk_act(site, scope, line, action),
-            Construct::Seq(processes) => self.walk_seq(site, scope, line, processes),
-            Construct::Par(processes) => self.walk_par(site, scope, line, processes),
-            Construct::If(choices) => self.walk_if(site, scope, line, choices),
-            Construct::Alt(branches) => self.walk_alt(site, scope, line, branches),
+            Construct::Seq(processes) => self.walk_seq(site, scope, processes),
+            Construct::Par(processes) => self.walk_par(site, scope, processes),
+            Construct::If(choices) => self.walk_if(site, scope, choices),
+            Construct::Alt(branches) => self.walk_alt(site, scope, branches),
             Construct::Replicated { replicator, body } => {
                 self.walk_replicated(site, scope, line, replicator, body);
             }
@@ -266,14 +229,8 @@ impl Findings {
 
     /// The processes of a `SEQ`.
     #[cycle(walk)]
-    fn walk_seq<'a>(
-        &mut self,
-        site: Site,
-        scope: &mut Scope<'a>,
-        line: u32,
-        processes: &[Process<'a>],
-    )
-        ensures { WalksBlock self.old self.new site.entry line (Mark mark.Seq) (all_processes processes.now)
+    fn walk_seq<'a>(&mut self, site: Site, scope: &mut Scope<'a>, processes: &[Process<'a>])
+        ensures { WalksBlock self.old self.new site.entry (Mark mark.Seq) (all_processes processes.now)
             (known_of scope.old) (known_of scope.new) }
     {
         for process in processes {
@@ -294,17 +251,10 @@ impl Findings {
 
     /// The components of a `PAR`.
     #[cycle(walk)]
-    fn walk_par<'a>(
-        &mut self,
-        site: Site,
-        scope: &mut Scope<'a>,
-        line: u32,
-        processes: &[Process<'a>],
-    )
-        ensures { WalksBlock self.old self.new site.entry line (Mark mark.Par) (all_processes processes.now)
+    fn walk_par<'a>(&mut self, site: Site, scope: &mut Scope<'a>, processes: &[Process<'a>])
+        ensures { WalksBlock self.old self.new site.entry (Mark mark.Par) (all_processes processes.now)
             (known_of scope.old) (known_of scope.new) }
     {
-        self.walk_sharing(site, scope, line, processes);
         let inner = site.in_par(scope.len());
         self.begin_par(scope);
         for process in processes {
@@ -326,8 +276,8 @@ impl Findings {
 
     /// The choices of an `IF`.
     #[cycle(walk)]
-    fn walk_if<'a>(&mut self, site: Site, scope: &mut Scope<'a>, line: u32, choices: &[Choice<'a>])
-        ensures { WalksBlock self.old self.new site.entry line (Mark mark.If) (all_choices choices.now)
+    fn walk_if<'a>(&mut self, site: Site, scope: &mut Scope<'a>, choices: &[Choice<'a>])
+        ensures { WalksBlock self.old self.new site.entry (Mark mark.If) (all_choices choices.now)
             (known_of scope.old) (known_of scope.new) }
     {
         self.begin(scope);
@@ -351,14 +301,8 @@ impl Findings {
 
     /// The branches of an `ALT`.
     #[cycle(walk)]
-    fn walk_alt<'a>(
-        &mut self,
-        site: Site,
-        scope: &mut Scope<'a>,
-        line: u32,
-        branches: &[Branch<'a>],
-    )
-        ensures { WalksBlock self.old self.new site.entry line (Mark mark.Alt) (all_branches branches.now)
+    fn walk_alt<'a>(&mut self, site: Site, scope: &mut Scope<'a>, branches: &[Branch<'a>])
+        ensures { WalksBlock self.old self.new site.entry (Mark mark.Alt) (all_branches branches.now)
             (known_of scope.old) (known_of scope.new) }
     {
         self.begin(scope);
@@ -393,7 +337,6 @@ impl Findings {
             (Replicated (replicator_of replicator.now) (body_of body.now)) (known_of scope.old) (known_of scope.new) }
     {
         self.walk_replicator(scope, line, replicator);
-        self.walk_repeated(site, scope, line, replicator, body);
         self.walk_body(site, scope, line, replicator, body);
     }
 

@@ -4,12 +4,13 @@ ghost use Rattle.std.specs.Prelude.{◌≡◌, ◌⊎◌, true, Some, map, IfOk,
 ghost use Rattle.occam_parser.specs.BlockViews.{item_of};
 ghost use Rattle.program_uses.specs.Signatures.{signatures_of};
 ghost use Rattle.usage_checks.specs.ItemRules.{after_items, BreaksProgram, BreaksNoRule};
-ghost use Rattle.usage_checks.specs.Telling.{IsFirst, out_of_memory, verdict};
+ghost use Rattle.program_uses.specs.Telling.{IsFirst};
+ghost use Rattle.usage_checks.specs.Telling.{out_of_memory, verdict};
 
 use crate::items::Outside;
-use crate::telling::{Findings, UsageFault};
+use crate::telling::Findings;
 use occam_parser::Program;
-use program_uses::{MEMORY, Signature};
+use program_uses::{MEMORY, Signature, UsageFault};
 use std::alloc::Global;
 
 /// A program that breaks no rule, with what is known of its procedures.

@@ -12,7 +12,8 @@ ghost use Rattle.usage_checks.specs.declared.handing.Handed.TheVariants as hande
 ghost use Rattle.usage_checks.specs.Handing.{are_values, handed_if, handed_as, handed_to, handed_by, handed_all};
 ghost use Rattle.usage_checks.specs.Handing.{AreAgain, PassesTwice};
 ghost use Rattle.usage_checks.specs.Remembering.{remembered, is_again};
-ghost use Rattle.usage_checks.specs.Telling.{At, Walks};
+ghost use Rattle.program_uses.specs.Telling.{At};
+ghost use Rattle.usage_checks.specs.Telling.{Walks};
 
 use crate::blocks::Site;
 use crate::telling::Findings;

@@ -31,7 +31,6 @@ pub use checked::{CheckedProgram, check};
 pub use laws::{items_hold, places_hold, signatures_stay};
 pub use program_uses::{
     Around, CHANNEL_USE, CONSTANT_WANTED, DECLARED_TWICE, Direction, End, MEMORY, NO_MAIN,
-    OTHER_ACTUAL, PASSED_TWICE, Parameter, SHARED_VARIABLE, Signature, Use, Uses,
+    OTHER_ACTUAL, PASSED_TWICE, Parameter, SHARED_VARIABLE, Signature, UsageFault, Use, Uses,
 };
-pub use telling::UsageFault;
 pub use wanting::{Wanted, fault_of};

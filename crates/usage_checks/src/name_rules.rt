@@ -8,7 +8,8 @@ ghost use Rattle.scalar_ranges.specs.Scopes.{entries_of, known_of, meaning_of};
 ghost use Rattle.program_uses.specs.Lowest.{IsLowest};
 ghost use Rattle.program_uses.specs.Declaring.{add, add_all, add_declaration};
 ghost use Rattle.program_uses.specs.Entering.{add_declarations};
-ghost use Rattle.usage_checks.specs.Telling.{At, Walks};
+ghost use Rattle.program_uses.specs.Telling.{At};
+ghost use Rattle.usage_checks.specs.Telling.{Walks};
 ghost use Rattle.usage_checks.specs.NameRules.{is_of_scope, IsTwice, BreakNames, names_in, declared_meaning};
 ghost use Rattle.usage_checks.specs.NameRules.{BreaksDeclared, BreakDeclarations, with_entries};
 

@@ -8,10 +8,12 @@ ghost use Rattle.program_uses.specs.ActionViews.{around_of};
 ghost use Rattle.program_uses.specs.Declaring.{add_formals};
 ghost use Rattle.program_uses.specs.Processes.{uses_of};
 ghost use Rattle.program_uses.specs.Sets.{has, is_among};
+ghost use Rattle.program_uses.specs.Sharing.{Shares};
 ghost use Rattle.usage_checks.specs.FormalRules.{BreakSizes, BreakFormals};
 ghost use Rattle.usage_checks.specs.ItemRules.{in_body, after_procedure, BreaksProcedure};
 ghost use Rattle.usage_checks.specs.NameRules.{with_entries};
-ghost use Rattle.usage_checks.specs.Telling.{At, Walks};
+ghost use Rattle.program_uses.specs.Telling.{At};
+ghost use Rattle.usage_checks.specs.Telling.{Walks};
 
 use crate::blocks::Site;
 use crate::channel_rules::Position;
@@ -45,7 +47,7 @@ impl Findings {
         }
     }
 
-    /// What a process uses. The scope is afterwards as it was.
+    /// What a process uses, and what the components of the `PAR`s in it share. The scope is afterwards as it was.
     fn uses<'a>(
         &mut self,
         alloc: Global,
@@ -53,12 +55,13 @@ impl Findings {
         scope: &mut Scope<'a>,
         process: &Process<'a>,
     ) -> Uses
-        ensures walks { Walks self.old self.new (known_of scope.new) (known_of scope.old) (λ f. ⊥) }
+        ensures walks { Walks self.old self.new (known_of scope.new) (known_of scope.old)
+            (Shares (around_of around.entry) (entries_of scope.old) (process_of process.now)) }
         ensures uses { self.new.complete ≡ true → (u : Use) → has result u
             ≡ is_among (uses_of (around_of around.entry) (entries_of scope.old) (process_of process.now)) u }
     {
         let mut used = Uses::new(alloc);
-        used.collect(around, scope, process);
+        used.collect(&mut self.first, around, scope, process);
         if !used.is_complete() {
             self.fail();
         }

@@ -9,7 +9,8 @@ ghost use Rattle.usage_checks.specs.LineRules.{BreaksCondition, BreaksConditionI
 ghost use Rattle.usage_checks.specs.ActionRules.{BreaksAction, BreaksGuard};
 ghost use Rattle.usage_checks.specs.Following.{where_holds, after_action, after_guard};
 ghost use Rattle.usage_checks.specs.NameRules.{with_entries};
-ghost use Rattle.usage_checks.specs.Telling.{At, Walks};
+ghost use Rattle.program_uses.specs.Telling.{At};
+ghost use Rattle.usage_checks.specs.Telling.{Walks};
 
 use crate::action_rules::fault_of_action;
 use crate::channel_rules::Position;

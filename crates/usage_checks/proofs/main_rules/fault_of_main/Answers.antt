@@ -6,7 +6,7 @@ use Rattle.std.specs.Option.{option_copied}
 use Rattle.occam_parser.specs.declared.tree.Item.{Item}
 use Rattle.occam_parser.specs.BlockViews.{item_of}
 use Rattle.usage_checks.specs.MainRules.{IsNoMain}
-use Rattle.usage_checks.specs.Telling.{IsFirst}
+use Rattle.program_uses.specs.Telling.{IsFirst}
 use Rattle.usage_checks.proofs.main_rules.fault_of_main.Goals as goal
 
 seen : (r : Option (Bor Item)) → option_map (λ i. item_of i.now) r ≡ option_map item_of (option_copied r)

@@ -15,7 +15,7 @@ use Rattle.program_uses.specs.Indices.{repeats_of, seen_repeats}
 use Rattle.usage_checks.specs.AfterProcesses.{left_to}
 use Rattle.usage_checks.specs.Walking.{WalksConstruct, WalksBlock, WalksComponent}
 use Rattle.usage_checks.proofs.FaultsInOrder.{walks_then}
-use Rattle.usage_checks.proofs.ComponentsWalked.{walks_behind, components_next, components_all, walks_plain}
+use Rattle.usage_checks.proofs.ComponentsWalked.{walks_behind, components_next, components_all}
 use Rattle.usage_checks.proofs.ComponentsWalked.{walks_block, walks_par, walks_component, walks_choice, walks_branch}
 use Rattle.usage_checks.proofs.TurnsWalked.{turns_start, turns_more, walks_body, walks_replicated}
 use Rattle.usage_checks.proofs.telling.Findings.+walk.Goals as goal
@@ -45,8 +45,8 @@ walk_seq-loop-process-preserved t c =
 pub walk_seq-returns : goal.walk_seq-returns
 walk_seq-returns t c =
     let done : length c.args.processes.now ≤ c.loop-process.process-index = omega arith in
-    walks_plain c.args.line _ (components_all c.args.site (Mark mark.Seq) plain_component c.args.processes.now
-    c.loop-process.process-index (known_of c.args.scope.now) done c.loop-process.invariant)
+    components_all c.args.site (Mark mark.Seq) plain_component c.args.processes.now c.loop-process.process-index
+    (known_of c.args.scope.now) done c.loop-process.invariant
 
 pub walk_par-loop-process-preserved : goal.walk_par-loop-process-preserved
 walk_par-loop-process-preserved t c =
@@ -57,9 +57,9 @@ walk_par-loop-process-preserved t c =
 pub walk_par-returns : goal.walk_par-returns
 walk_par-returns t c =
     let done : length c.args.processes.now ≤ c.loop-process.process-index = omega arith in
-    walks_par c.args.site c.in_par-inner.result c.args.line c.len.result (all_processes c.args.processes.now)
-    (known_of c.args.scope.now) (known_of c.walk_sharing.new.scope) c.in_par-inner.ensures.around
-    c.in_par-inner.ensures.position c.len.ensures c.walk_sharing.ensures c.begin_par.ensures
+    walks_par c.args.site c.in_par-inner.result c.len.result (all_processes c.args.processes.now)
+    (known_of c.args.scope.now) c.in_par-inner.ensures.around c.in_par-inner.ensures.position c.len.ensures
+    c.begin_par.ensures
     (components_all c.in_par-inner.result (Mark mark.Par) plain_component c.args.processes.now
     c.loop-process.process-index (known_of c.begin_par.new.scope) done c.loop-process.invariant) c.end.ensures
 
@@ -78,10 +78,9 @@ walk_if-loop-choice-preserved t c =
 pub walk_if-returns : goal.walk_if-returns
 walk_if-returns t c =
     let done : length c.args.choices.now ≤ c.loop-choice.choice-index = omega arith in
-    walks_plain c.args.line _
-    (walks_block c.args.site (Mark mark.If) (all_choices c.args.choices.now) (known_of c.args.scope.now)
-    c.begin.ensures (components_all c.args.site (Mark mark.If) choice_of c.args.choices.now
-    c.loop-choice.choice-index (known_of c.begin.new.scope) done c.loop-choice.invariant) c.end.ensures)
+    walks_block c.args.site (Mark mark.If) (all_choices c.args.choices.now) (known_of c.args.scope.now) c.begin.ensures
+    (components_all c.args.site (Mark mark.If) choice_of c.args.choices.now c.loop-choice.choice-index
+    (known_of c.begin.new.scope) done c.loop-choice.invariant) c.end.ensures
 
 pub walk_alt-loop-branch-preserved : goal.walk_alt-loop-branch-preserved
 walk_alt-loop-branch-preserved t c =
@@ -92,10 +91,9 @@ walk_alt-loop-branch-preserved t c =
 pub walk_alt-returns : goal.walk_alt-returns
 walk_alt-returns t c =
     let done : length c.args.branches.now ≤ c.loop-branch.branch-index = omega arith in
-    walks_plain c.args.line _
-    (walks_block c.args.site (Mark mark.Alt) (all_branches c.args.branches.now) (known_of c.args.scope.now)
-    c.begin.ensures (components_all c.args.site (Mark mark.Alt) branch_of c.args.branches.now
-    c.loop-branch.branch-index (known_of c.begin.new.scope) done c.loop-branch.invariant) c.end.ensures)
+    walks_block c.args.site (Mark mark.Alt) (all_branches c.args.branches.now) (known_of c.args.scope.now) c.begin.ensures
+    (components_all c.args.site (Mark mark.Alt) branch_of c.args.branches.now c.loop-branch.branch-index
+    (known_of c.begin.new.scope) done c.loop-branch.invariant) c.end.ensures
 
 pub walk_choice-returns : goal.walk_choice-returns
 walk_choice-returns t c =
@@ -124,7 +122,7 @@ walk_construct-returns-in-Seq t c =
     let view = ap all_processes c.deref.ensures.value in
     subst (λ x. WalksConstruct c.args.self.now c.walk_seq.new.self c.args.site c.args.line x (known_of c.args.scope.now)
     (known_of c.walk_seq.new.scope)) (sym (view-Seq v) ∙ ap construct_of (sym c.in-Seq.is))
-    (subst (λ cs. WalksBlock c.args.self.now c.walk_seq.new.self c.args.site c.args.line (Mark mark.Seq) cs
+    (subst (λ cs. WalksBlock c.args.self.now c.walk_seq.new.self c.args.site (Mark mark.Seq) cs
     (known_of c.args.scope.now) (known_of c.walk_seq.new.scope)) view c.walk_seq.ensures)
 
 pub walk_construct-returns-in-Par : goal.walk_construct-returns-in-Par
@@ -133,7 +131,7 @@ walk_construct-returns-in-Par t c =
     let view = ap all_processes c.deref-in-Par.ensures.value in
     subst (λ x. WalksConstruct c.args.self.now c.walk_par.new.self c.args.site c.args.line x (known_of c.args.scope.now)
     (known_of c.walk_par.new.scope)) (sym (view-Par v) ∙ ap construct_of (sym c.in-Par.is))
-    (subst (λ cs. WalksBlock c.args.self.now c.walk_par.new.self c.args.site c.args.line (Mark mark.Par) cs
+    (subst (λ cs. WalksBlock c.args.self.now c.walk_par.new.self c.args.site (Mark mark.Par) cs
     (known_of c.args.scope.now) (known_of c.walk_par.new.scope)) view c.walk_par.ensures)
 
 pub walk_body-loop-turn-init : goal.walk_body-loop-turn-init
@@ -163,5 +161,4 @@ walk_body-returns t c =
 pub walk_replicated-returns : goal.walk_replicated-returns
 walk_replicated-returns t c =
     walks_replicated c.args.site c.args.line (replicator_of c.args.replicator.now) (body_of c.args.body.now)
-    (known_of c.args.scope.now) (known_of c.walk_repeated.new.scope) c.walk_replicator.ensures
-    c.walk_repeated.ensures c.walk_body.ensures
+    (known_of c.args.scope.now) c.walk_replicator.ensures c.walk_body.ensures

@@ -3,7 +3,7 @@ use Rattle.program_uses.specs.Signatures.{signatures_of}
 use Rattle.usage_checks.specs.ActionRules.{BreaksAction}
 use Rattle.usage_checks.specs.Following.{after_action}
 use Rattle.usage_checks.specs.NameRules.{with_entries}
-use Rattle.usage_checks.specs.Telling.{At}
+use Rattle.program_uses.specs.Telling.{At}
 use Rattle.usage_checks.proofs.FaultsInOrder.{walks_both}
 use Rattle.usage_checks.proofs.telling.Findings.walk_act.Goals as goal
 

@@ -5,7 +5,8 @@ use Rattle.usage_checks.specs.ActionRules.{BreaksGuard}
 use Rattle.usage_checks.specs.Following.{after_input, after_guard}
 use Rattle.usage_checks.specs.LineRules.{BreaksInput}
 use Rattle.usage_checks.specs.NameRules.{with_entries}
-use Rattle.usage_checks.specs.Telling.{At, Walks}
+use Rattle.program_uses.specs.Telling.{At}
+use Rattle.usage_checks.specs.Telling.{Walks}
 use Rattle.usage_checks.proofs.FaultsInOrder.{walks_told, walks_then, walks_both, walks_as, on_line, of_line}
 use Rattle.usage_checks.proofs.telling.Findings.walk_guard.Goals as goal
 

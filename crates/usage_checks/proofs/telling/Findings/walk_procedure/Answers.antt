@@ -8,7 +8,6 @@ use Rattle.program_uses.specs.Processes.{uses_of}
 use Rattle.program_uses.specs.Sets.{is_among}
 use Rattle.usage_checks.specs.declared.blocks.Site.{Site}
 use Rattle.usage_checks.specs.ItemRules.{body_position}
-use Rattle.usage_checks.proofs.FaultsInOrder.{walks_on}
 use Rattle.usage_checks.proofs.ProceduresWalked.{walks_procedure}
 use Rattle.usage_checks.proofs.telling.Findings.walk_procedure.Goals as goal
 
@@ -28,8 +27,7 @@ returns-clause-walks c =
     (map formal_of c.deref.result.now) c.len-count.result c.len.result
     (ap (map formal_of) c.deref.ensures.value) c.len-count.ensures c.len.ensures
     (ap (λ m. body_position m c.len-count.result c.len.result) c.is_main_name.ensures)
-    (walks_on (λ k. k) c.walk_head.ensures c.uses-used.ensures.walks)
-    c.walk.ensures (λ i. record { entries = c.leave.ensures.entries i; blocks = c.leave.ensures.blocks i })
+    c.walk_head.ensures c.uses-used.ensures.walks c.walk.ensures (λ i. record { entries = c.leave.ensures.entries i; blocks = c.leave.ensures.blocks i })
 
 pub returns-clause-uses : goal.returns-clause-uses
 returns-clause-uses c complete u =
