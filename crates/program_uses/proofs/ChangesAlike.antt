@@ -1,13 +1,13 @@
 -- Which variables are changed hangs on names and what kind of thing they stand for: not on the values of constants, on
 -- sizes, on how often a body is gone over, or on where counting ends.
 use Rattle.std.proofs.Common.{◌≡◌, ℕ, ℤ, pos, negsuc, zero, suc, int_le, unsigned_abs, Bool, true, false, ◌||◌, List}
-use Rattle.std.proofs.Common.{[], ◌∷◌, ◌++◌, length, nat_eq, bytes_eq, cond, Option, Some, None, option_map}
+use Rattle.std.proofs.Common.{[], ◌∷◌, ◌++◌, length, bytes_eq, cond, Option, Some, None, option_map}
 use Rattle.std.proofs.Common.{option_and_then, ◌+ℤ◌, refl, sym, ap, subst, ◌∙◌, arith, Result, Ok, Err, IfOk, Vec}
 use Rattle.std.proofs.Common.{Global}
 use Rattle.std.proofs.lemmas.Bool.{and_parts}
 use Rattle.std.proofs.lemmas.Int.{ints}
 use Rattle.std.specs.declared.alloc.AllocError.{AllocError}
-use Rattle.word_arithmetic.specs.Range.{Ends, full}
+use Rattle.word_arithmetic.specs.Range.{full}
 use Rattle.word_arithmetic.specs.Word.{greatest_word}
 use Rattle.occam_parser.specs.declared.tree.ValueType.{ValueType}
 use Rattle.occam_parser.specs.OneOrMore.{as_list}
@@ -18,10 +18,9 @@ use Rattle.occam_parser.specs.Lines.{Place, Declaration, Constants, Variables, A
 use Rattle.occam_parser.specs.Lines.{Instance, Guard, Receives, Skips, Replicator, Value, Table, Bytes, block_word}
 use Rattle.occam_parser.specs.Blocks.{Process, Declared, Does, Construct, Act, Block, Replicated, Body, One, Part}
 use Rattle.occam_parser.specs.Blocks.{Components, NoComponent, Further, Component, Plain, Chosen, Guarded}
-use Rattle.scalar_ranges.specs.declared.scope.ArrayKind.TheVariants as array
 use Rattle.scalar_ranges.specs.declared.types.ExprType.TheVariants as types
 use Rattle.scalar_ranges.specs.Entries.{Meaning, Constant, Scalar, Array, Channel, Channels, Procedure, Entry}
-use Rattle.scalar_ranges.specs.Entries.{meaning_in, number_in, type_range}
+use Rattle.scalar_ranges.specs.Entries.{meaning_in, number_in}
 use Rattle.scalar_ranges.specs.Moves.{is_one_of}
 use Rattle.program_uses.specs.declared.uses.Direction.{Direction}
 use Rattle.program_uses.specs.declared.uses.Direction.TheVariants as direction
@@ -40,9 +39,9 @@ use Rattle.program_uses.specs.Instances.{place_in, whole_name, array_at, uses_en
 use Rattle.program_uses.specs.Instances.{passes, uses_of_actual, uses_of_actuals}
 use Rattle.program_uses.specs.Actions.{Around, is_before, uses_of_action, uses_of_guard, reads_of_all, reads_of_value}
 use Rattle.program_uses.specs.Actions.{uses_of_declaration}
-use Rattle.program_uses.specs.Constants.{value_as, size_in}
-use Rattle.program_uses.specs.Declaring.{add, table_of, range_of_items, range_of_bytes, constant_meaning}
-use Rattle.program_uses.specs.Declaring.{variable_meaning, channel_meaning, add_all, add_declaration}
+use Rattle.program_uses.specs.Constants.{value_as}
+use Rattle.program_uses.specs.Declaring.{add, constant_outline}
+use Rattle.program_uses.specs.Declaring.{variable_meaning, channel_meaning, add_all, add_outline}
 use Rattle.program_uses.specs.Indices.{is_seq, is_count, count_of, turns_for, turns_of, index_at, index_meaning}
 use Rattle.program_uses.specs.Indices.{in_turns}
 use Rattle.program_uses.specs.Processes.{in_turn, uses_of, uses_of_construct, uses_of_body, uses_of_components}
@@ -236,29 +235,11 @@ add_all_same [] m p es fs is same = same
 add_all_same (name ∷ names) m p es fs is same =
     add_all_same names m p (add name m es) (add name p fs) is (add_same name m p es fs is same)
 
-chosen_kind : (type : ValueType) (size : ℕ) (range : Ends) (t : Bool)
-    → kind_of (cond t (Array array.Table type (Some size) range) (Array array.Table type None (type_range type)))
-    ≡ Array array.Table type None full
-chosen_kind type size range true = refl
-chosen_kind type size range false = refl
-
-table_kind : (type : ValueType) (size : Option ℕ) (count : ℕ) (range : Option Ends)
-    → kind_of (table_of type size count range) ≡ Array array.Table type None full
-table_kind type None count None = refl
-table_kind type None count (Some range) = refl
-table_kind type (Some size) count None = refl
-table_kind type (Some size) count (Some range) = chosen_kind type size range (nat_eq size count)
-
 constant_kind : (type : ValueType) (v : Value) (es fs : List Entry)
-    → kind_of (constant_meaning es type v) ≡ kind_of (constant_meaning fs type v)
+    → kind_of (constant_outline es type v) ≡ kind_of (constant_outline fs type v)
 constant_kind type (lines.Scalar e) es fs = refl
-constant_kind type (Table size items) es fs =
-    let count = length (as_list items) in
-    table_kind type (size_in es size) count (range_of_items es type items)
-    ∙ sym (table_kind type (size_in fs size) count (range_of_items fs type items))
-constant_kind type (Bytes size bytes) es fs =
-    let range = range_of_bytes type bytes in
-    table_kind type (size_in es size) (length bytes) range ∙ sym (table_kind type (size_in fs size) (length bytes) range)
+constant_kind type (Table size items) es fs = refl
+constant_kind type (Bytes size bytes) es fs = refl
 
 variable_meaning_kind : (type : ValueType) (size : Option Expression) (es fs : List Entry)
     → kind_of (variable_meaning es type size) ≡ kind_of (variable_meaning fs type size)
@@ -271,9 +252,9 @@ channel_meaning_kind type None es fs = refl
 channel_meaning_kind type (Some size) es fs = refl
 
 declaration_same : (d : Declaration) (es fs : List Entry) → kinds es ≡ kinds fs
-    → kinds (add_declaration d es) ≡ kinds (add_declaration d fs)
+    → kinds (add_outline d es) ≡ kinds (add_outline d fs)
 declaration_same (Constants c) es fs same =
-    add_same c.name (constant_meaning es c.value_type c.value) (constant_meaning fs c.value_type c.value) es fs
+    add_same c.name (constant_outline es c.value_type c.value) (constant_outline fs c.value_type c.value) es fs
     (constant_kind c.value_type c.value es fs) same
 declaration_same (Variables x) es fs same =
     add_all_same (as_list x.names) (variable_meaning es x.value_type x.size) (variable_meaning fs x.value_type x.size)
@@ -398,7 +379,7 @@ module _ (a b : Around) (known : a.signatures ≡ b.signatures) where
     process_alike : (es fs : List Entry) → kinds es ≡ kinds fs → (p : Process) → Alike (uses_of a es p) (uses_of b fs p)
     process_alike es fs same (Declared d p) =
         alike_both (alike_none (declaration_none es d) (declaration_none fs d))
-        (process_alike (add_declaration d es) (add_declaration d fs) (declaration_same d es fs same) p)
+        (process_alike (add_outline d es) (add_outline d fs) (declaration_same d es fs same) p)
     process_alike es fs same (Does line c) = construct_alike es fs same line c
 
     construct_alike : (es fs : List Entry) → kinds es ≡ kinds fs → (line : ℕ) (c : Construct)

@@ -10,6 +10,7 @@ use Rattle.std.specs.Cmp.{IsTotalOrder}
 use Rattle.std.specs.Ordering.{is_eq, nat_cmp, ordering_then, ordering_reverse, match_ordering}
 use Rattle.std.specs.declared.cmp.Ordering.{Ordering}
 use Rattle.std.specs.declared.cmp.Ordering.TheVariants.{Less, Equal, Greater}
+use Rattle.std.proofs.lemmas.Bool.{and_parts}
 use Rattle.std.proofs.lemmas.Bool.Decides.{nat_tests}
 use Rattle.std.proofs.lemmas.Cmp.{nat_cmp_total, on_total, then_total}
 use Rattle.std.proofs.lemmas.Map.Lookups.{CmpEqualImpliesEq, exact_unsigned, exact_pairs, btree_set_from_contains}
@@ -19,7 +20,7 @@ use Rattle.program_uses.specs.declared.uses.Direction.TheVariants as direction
 use Rattle.program_uses.specs.declared.uses.Use.{Use}
 use Rattle.program_uses.specs.declared.uses.Use.TheVariants as used
 use Rattle.program_uses.specs.Sets.{is_same_way, is_same, is_among}
-use Rattle.program_uses.specs.Ends.{way_place, end_order, with_use, sorted_ends}
+use Rattle.program_uses.specs.Ends.{way_place, end_order, with_use, sorted_ends, is_parameter, of_parameters}
 
 -- ---- the order
 
@@ -181,3 +182,93 @@ same_ends us vs same =
     btree_set_from_contains end_total (record { keys = sorted_ends us }) (record { keys = sorted_ends vs })
     (ends_rise us) (ends_rise vs)
     (λ q. has_all q us [] ∙ same (use_of q) ∙ sym (has_all q vs [])) end_exact
+
+-- ---- those of parameters alone
+
+abbrev pub kept : ℕ → ℕ → List ChannelEnd → List ChannelEnd
+kept first count [] = []
+kept first count (d ∷ ds) =
+    cond (is_parameter first count d.channel) (d ∷ kept first count ds) (kept first count ds)
+
+either_kept : (P : List ChannelEnd → Type 0) (t : Bool) (d : ChannelEnd) (ds : List ChannelEnd) → P (d ∷ ds) → P ds
+    → P (cond t (d ∷ ds) ds)
+either_kept P true d ds with_it without = with_it
+either_kept P false d ds with_it without = without
+
+all_kept : (P : ChannelEnd → Type 0) (first count : ℕ) (ds : List ChannelEnd) → AllByRecursion P ds
+    → AllByRecursion P (kept first count ds)
+all_kept P first count [] all = tt
+all_kept P first count (d ∷ ds) all =
+    let rest = all_kept P first count ds all.1 in
+    either_kept (AllByRecursion P) (is_parameter first count d.channel) d (kept first count ds) (all.0, rest) rest
+
+rises_kept : (first count : ℕ) (ds : List ChannelEnd) → Rises ds → Rises (kept first count ds)
+unfolding IsStrictlySortedBy
+rises_kept first count [] up = tt
+rises_kept first count (d ∷ ds) up =
+    let rest = rises_kept first count ds up.1 in
+    either_kept Rises (is_parameter first count d.channel) d (kept first count ds)
+    (all_kept (λ y. end_order d y ≡ Less) first count ds up.0, rest) rest
+
+and_never : (t : Bool) → (t && false) ≡ false
+and_never true = refl
+and_never false = refl
+
+-- two tests that agree where a third one holds
+and_alike : (a t u : Bool) → (a ≡ true → t ≡ u) → (t && a) ≡ (u && a)
+and_alike true t u same = λ i. same refl i && true
+and_alike false t u same = and_never t ∙ sym (and_never u)
+
+or_within : (u a b : Bool) → ((u && a) || (u && b)) ≡ (u && (a || b))
+or_within true a b = refl
+or_within false a b = refl
+
+kept_or : {A : Type 0} (at : A → Bool) (t : Bool) (x : A) (ys : List A)
+    → list_any at (cond t (x ∷ ys) ys) ≡ ((t && at x) || list_any at ys)
+kept_or at true x ys = refl
+kept_or at false x ys = refl
+
+-- An item is kept by a test, which agrees with another one if the item is the one that is sought.
+one_kept : {A : Type 0} (at : A → Bool) (t u : Bool) (x : A) (xs ys : List A) → (at x ≡ true → t ≡ u)
+    → list_any at ys ≡ (u && list_any at xs)
+    → list_any at (cond t (x ∷ ys) ys) ≡ (u && (at x || list_any at xs))
+one_kept at t u x xs ys same rest =
+    kept_or at t x ys ∙ (λ i. and_alike (at x) t u same i || rest i) ∙ or_within u (at x) (list_any at xs)
+
+same_channel : (q d : ChannelEnd) → is_same (use_of q) (use_of d) ≡ true → q.channel ≡ d.channel
+same_channel q d h =
+    let x = and_parts (nat_eq q.channel d.channel) _ h in
+    let e = x.0 in
+    grind (arith, nat_tests)
+
+kept_has : (first count : ℕ) (q : ChannelEnd) (ds : List ChannelEnd)
+    → list_any (is_at (end_order q)) (kept first count ds)
+    ≡ (is_parameter first count q.channel && list_any (is_at (end_order q)) ds)
+kept_has first count q [] = sym (and_never (is_parameter first count q.channel))
+kept_has first count q (d ∷ ds) =
+    one_kept (is_at (end_order q)) (is_parameter first count d.channel) (is_parameter first count q.channel) d ds
+    (kept first count ds)
+    (λ e. ap (is_parameter first count) (sym (same_channel q d (sym (is_at_end q d) ∙ e))))
+    (kept_has first count q ds)
+
+uses_kept : (first count : ℕ) (q : ChannelEnd) (us : List Use)
+    → is_among (of_parameters first count us) (use_of q)
+    ≡ (is_parameter first count q.channel && is_among us (use_of q))
+uses_kept first count q [] = sym (and_never (is_parameter first count q.channel))
+uses_kept first count q (used.Read n ∷ us) = uses_kept first count q us
+uses_kept first count q (used.Change n ∷ us) = uses_kept first count q us
+uses_kept first count q (used.Channel n i d ∷ us) =
+    let e : ChannelEnd = record { channel = n; end = record { element = i; direction = d } } in
+    one_kept (is_same (use_of q)) (is_parameter first count n) (is_parameter first count q.channel)
+    (used.Channel n i d) us (of_parameters first count us)
+    (λ h. ap (is_parameter first count) (sym (same_channel q e h))) (uses_kept first count q us)
+
+pub parameters_kept : (first count : ℕ) (us : List Use)
+    → kept first count (sorted_ends us) ≡ sorted_ends (of_parameters first count us)
+parameters_kept first count us =
+    let some = of_parameters first count us in
+    btree_set_from_contains end_total (record { keys = kept first count (sorted_ends us) })
+    (record { keys = sorted_ends some }) (rises_kept first count (sorted_ends us) (ends_rise us)) (ends_rise some)
+    (λ q. kept_has first count q (sorted_ends us)
+    ∙ ap (λ b. is_parameter first count q.channel && b) (has_all q us []) ∙ sym (uses_kept first count q us)
+    ∙ sym (has_all q some [])) end_exact

@@ -10,8 +10,8 @@ use Rattle.program_uses.specs.declared.uses.Use.{Use}
 use Rattle.program_uses.specs.declared.uses.Uses.{Uses}
 use Rattle.program_uses.specs.Sets.{has, is_among, Adds}
 use Rattle.program_uses.specs.Actions.{uses_of_declaration}
-use Rattle.program_uses.specs.Declaring.{add_declaration}
-use Rattle.program_uses.specs.Entering.{Enters, uses_of_declarations, add_declarations}
+use Rattle.program_uses.specs.Declaring.{add_outline}
+use Rattle.program_uses.specs.Entering.{Enters, uses_of_declarations, add_outlines}
 use Rattle.program_uses.proofs.Adding.{adds_both, adds_as}
 use Rattle.program_uses.proofs.NextInTurn.{seen_more}
 
@@ -49,17 +49,17 @@ adds_no_more {us = us} a b = adds_as (append-nil us) (adds_both a b)
 
 uses_last : (es : List Entry) (ds : List Declaration) (d : Declaration)
     → uses_of_declarations es (ds ++ d ∷ [])
-    ≡ uses_of_declarations es ds ++ uses_of_declaration (add_declarations ds es) d
+    ≡ uses_of_declarations es ds ++ uses_of_declaration (add_outlines ds es) d
 uses_last es [] d = append-nil (uses_of_declaration es d)
 uses_last es (x ∷ ds) d =
-    ap (λ us. uses_of_declaration es x ++ us) (uses_last (add_declaration x es) ds d)
-    ∙ sym (append_assoc (uses_of_declaration es x) (uses_of_declarations (add_declaration x es) ds)
-    (uses_of_declaration (add_declarations ds (add_declaration x es)) d))
+    ap (λ us. uses_of_declaration es x ++ us) (uses_last (add_outline x es) ds d)
+    ∙ sym (append_assoc (uses_of_declaration es x) (uses_of_declarations (add_outline x es) ds)
+    (uses_of_declaration (add_outlines ds (add_outline x es)) d))
 
 pub declarations_use_next : (es : List Entry) (xs : List code_declaration.Declaration) (i : ℕ)
     (x d : code_declaration.Declaration) → i < length xs → x ≡ get_or xs i d
     → uses_of_declarations es (map declaration_of (take i xs))
-    ++ uses_of_declaration (add_declarations (map declaration_of (take i xs)) es) (declaration_of x)
+    ++ uses_of_declaration (add_outlines (map declaration_of (take i xs)) es) (declaration_of x)
     ≡ uses_of_declarations es (map declaration_of (take (i + 1) xs))
 declarations_use_next es xs i x d h is =
     sym (uses_last es (map declaration_of (take i xs)) (declaration_of x))

@@ -18,8 +18,8 @@ use Rattle.program_uses.specs.declared.uses.Uses.{Uses}
 use Rattle.program_uses.specs.Sets.{Adds}
 use Rattle.program_uses.specs.Actions.{Around, is_before, uses_of_declaration}
 use Rattle.program_uses.specs.Components.{BreaksBlock, BreaksRepeated}
-use Rattle.program_uses.specs.Declaring.{add, add_declaration}
-use Rattle.program_uses.specs.Entering.{Enters, uses_of_declarations, add_declarations}
+use Rattle.program_uses.specs.Declaring.{add, add_outline}
+use Rattle.program_uses.specs.Entering.{Enters, uses_of_declarations, add_outlines}
 use Rattle.program_uses.specs.Indices.{is_sequence, turns_of, in_turns, index_at, index_meaning}
 use Rattle.program_uses.specs.Processes.{Collects, in_turn, uses_of, uses_of_construct, uses_of_body}
 use Rattle.program_uses.specs.Processes.{uses_of_components, uses_of_component, uses_of_one}
@@ -32,18 +32,18 @@ use Rattle.program_uses.proofs.ScopesExtended.{left_again}
 -- ---- declarations, and then a construct
 
 pub uses_behind : (a : Around) (es : List Entry) (ds : List Declaration) (line : ℕ) (k : Construct)
-    → uses_of_declarations es ds ++ uses_of_construct a (add_declarations ds es) line k
+    → uses_of_declarations es ds ++ uses_of_construct a (add_outlines ds es) line k
     ≡ uses_of a es (with_declarations ds (Does line k))
 uses_behind a es [] line k = refl
 uses_behind a es (d ∷ ds) line k =
-    append_assoc (uses_of_declaration es d) (uses_of_declarations (add_declaration d es) ds)
-    (uses_of_construct a (add_declarations ds (add_declaration d es)) line k)
-    ∙ ap (λ us. uses_of_declaration es d ++ us) (uses_behind a (add_declaration d es) ds line k)
+    append_assoc (uses_of_declaration es d) (uses_of_declarations (add_outline d es) ds)
+    (uses_of_construct a (add_outlines ds (add_outline d es)) line k)
+    ∙ ap (λ us. uses_of_declaration es d ++ us) (uses_behind a (add_outline d es) ds line k)
 
 pub shares_behind : (a : Around) (es : List Entry) (ds : List Declaration) (line : ℕ) (k : Construct)
-    → SharesInConstruct a (add_declarations ds es) line k ≡ Shares a es (with_declarations ds (Does line k))
+    → SharesInConstruct a (add_outlines ds es) line k ≡ Shares a es (with_declarations ds (Does line k))
 shares_behind a es [] line k = refl
-shares_behind a es (d ∷ ds) line k = shares_behind a (add_declaration d es) ds line k
+shares_behind a es (d ∷ ds) line k = shares_behind a (add_outline d es) ds line k
 
 -- ---- parts, one after another
 

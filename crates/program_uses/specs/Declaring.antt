@@ -72,6 +72,19 @@ add_declaration (Constants c) es = add c.name (constant_meaning es c.value_type 
 add_declaration (Variables n) es = add_all (as_list n.names) (variable_meaning es n.value_type n.size) es
 add_declaration (Channels n) es = add_all (as_list n.names) (channel_meaning es n.value_type n.size) es
 
+-- ---- outlines
+
+-- A table is known as one of its type: neither how many items it has, nor where they lie.
+abbrev pub constant_outline : List Entry → ValueType → Value → Meaning
+constant_outline es type (Scalar e) = entries.Constant type (value_as es (type_of_values type) e)
+constant_outline es type (Table size items) = entries.Array array.Table type None (type_range type)
+constant_outline es type (Bytes size bytes) = entries.Array array.Table type None (type_range type)
+
+abbrev pub add_outline : Declaration → List Entry → List Entry
+add_outline (Constants c) es = add c.name (constant_outline es c.value_type c.value) es
+add_outline (Variables n) es = add_declaration (Variables n) es
+add_outline (Channels n) es = add_declaration (Channels n) es
+
 -- ---- formals
 
 -- one that is no channel, by what it is alone and as an array

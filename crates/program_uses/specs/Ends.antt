@@ -1,5 +1,6 @@
 -- The ends of channels among uses, in rising order.
-use Rattle.std.specs.Prelude.{ℕ, zero, suc, nat_eq, if◌then◌else◌, fold, List, [], ◌∷◌, ◌++◌}
+use Rattle.std.specs.Prelude.{ℕ, zero, suc, ◌-◌, nat_eq, nat_lt, nat_le, Bool, ◌&&◌, if◌then◌else◌, fold, List, []}
+use Rattle.std.specs.Prelude.{◌∷◌, ◌++◌}
 use Rattle.std.specs.BTreeSet.{insert_key}
 use Rattle.std.specs.Ordering.{nat_cmp, ordering_then}
 use Rattle.std.specs.declared.cmp.Ordering.{Ordering}
@@ -32,6 +33,18 @@ with_use ds (used.Change n) = ds
 -- each end once, in rising order
 abbrev pub sorted_ends : List Use → List ChannelEnd
 sorted_ends us = fold with_use [] us
+
+-- those of so many channels, from this one on
+abbrev pub is_parameter : ℕ → ℕ → ℕ → Bool
+is_parameter first count n = nat_le first n && nat_lt (n - first) count
+
+abbrev pub of_parameters : ℕ → ℕ → List Use → List Use
+of_parameters first count [] = []
+of_parameters first count (used.Read n ∷ us) = of_parameters first count us
+of_parameters first count (used.Change n ∷ us) = of_parameters first count us
+of_parameters first count (used.Channel n i d ∷ us) =
+    if is_parameter first count n then used.Channel n i d ∷ of_parameters first count us
+    else of_parameters first count us
 
 -- those of one channel
 abbrev pub ends_at : ℕ → List ChannelEnd → List End

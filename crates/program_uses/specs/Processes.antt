@@ -11,7 +11,7 @@ use Rattle.program_uses.specs.declared.telling.UsageFault.{UsageFault}
 use Rattle.program_uses.specs.Sets.{Adds}
 use Rattle.program_uses.specs.Mentions.{reads_of}
 use Rattle.program_uses.specs.Actions.{Around, is_before, uses_of_action, uses_of_guard, uses_of_declaration}
-use Rattle.program_uses.specs.Declaring.{add, add_declaration}
+use Rattle.program_uses.specs.Declaring.{add, add_outline}
 use Rattle.program_uses.specs.Indices.{is_seq, turns_of, index_at, index_meaning, in_turns}
 use Rattle.program_uses.specs.Telling.{IsFirst, Among}
 
@@ -22,7 +22,7 @@ in_turn r sequential first n es = add r.name (index_meaning sequential (index_at
 -- What is declared inside has numbers from the length of the scope on.
 abbrev mutual
   pub uses_of : Around → List Entry → Process → List Use
-  uses_of a es (Declared d p) = uses_of_declaration es d ++ uses_of a (add_declaration d es) p
+  uses_of a es (Declared d p) = uses_of_declaration es d ++ uses_of a (add_outline d es) p
   uses_of a es (Does line c) = uses_of_construct a es line c
 
   pub uses_of_construct : Around → List Entry → ℕ → Construct → List Use

@@ -9,7 +9,7 @@ use Rattle.program_uses.specs.declared.telling.UsageFault.{UsageFault}
 use Rattle.program_uses.specs.declared.uses.Use.{Use}
 use Rattle.program_uses.specs.Actions.{Around, is_before}
 use Rattle.program_uses.specs.Components.{BreakTurns, BreaksBlock, BreaksRepeated}
-use Rattle.program_uses.specs.Declaring.{add_declaration}
+use Rattle.program_uses.specs.Declaring.{add_outline}
 use Rattle.program_uses.specs.Indices.{is_seq, turns_of, in_turns}
 use Rattle.program_uses.specs.Processes.{in_turn, uses_in_turn}
 use Rattle.program_uses.specs.Telling.{At}
@@ -21,7 +21,7 @@ InSomeTurn Breaks (suc n) f = InSomeTurn Breaks n f ⊎ Breaks n f
 
 abbrev mutual
   pub Shares : Around → List Entry → Process → UsageFault → Type 0
-  Shares a es (Declared d p) f = Shares a (add_declaration d es) p f
+  Shares a es (Declared d p) f = Shares a (add_outline d es) p f
   Shares a es (Does line c) f = SharesInConstruct a es line c f
 
   pub SharesInConstruct : Around → List Entry → ℕ → Construct → UsageFault → Type 0

@@ -6,7 +6,7 @@ ghost use Rattle.scalar_ranges.specs.Scopes.{entries_of};
 ghost use Rattle.program_uses.specs.Constants.{has_type, value_as, from_one, size_in};
 
 use occam_parser::Expr;
-use scalar_ranges::{ExprType, Scope, type_of, value_of};
+use scalar_ranges::{ExprType, Scope, read};
 
 /// Whether a type was found, and it is this one.
 pub fn has_type(wanted: ExprType, found: Result<ExprType, u8>) -> bool
@@ -22,8 +22,9 @@ pub fn has_type(wanted: ExprType, found: Result<ExprType, u8>) -> bool
 pub fn value_as(scope: &Scope, wanted: ExprType, expr: &Expr) -> Option<i32>
     ensures { result ≡ value_as (entries_of scope.now) wanted (expression_of expr.now) }
 {
-    if has_type(wanted, type_of(scope, expr)) {
-        value_of(scope, expr)
+    let found = read(scope, expr);
+    if has_type(wanted, found.expr_type) {
+        found.value()
     } else {
         None
     }

@@ -1,16 +1,18 @@
 //! What declarations, formals and replicators add to a scope.
 
-ghost use Rattle.std.specs.Prelude.{◌≡◌, option_map};
+ghost use Rattle.std.specs.Prelude.{◌≡◌, None, option_map};
 ghost use Rattle.word_arithmetic.specs.Range.{ends_of};
 ghost use Rattle.occam_layout.specs.Kind.{bytes_of};
 ghost use Rattle.occam_parser.specs.LineViews.{any_of, value_of, formal_of};
 ghost use Rattle.occam_parser.specs.OneOrMore.{one_or_more_of};
 ghost use Rattle.occam_parser.specs.Views.{expression_of};
-ghost use Rattle.scalar_ranges.specs.Entries.{Array, type_range};
+ghost use Rattle.scalar_ranges.specs.declared.scope.ArrayKind.TheVariants as array;
+ghost use Rattle.scalar_ranges.specs.Entries.{Constant, Array, type_range};
 ghost use Rattle.scalar_ranges.specs.Types.{type_of_values};
 ghost use Rattle.scalar_ranges.specs.Scopes.{entries_of, meaning_of};
-ghost use Rattle.program_uses.specs.Declaring.{constant_meaning, variable_meaning, channel_meaning, formal_meaning};
-ghost use Rattle.program_uses.specs.Constants.{size_in};
+ghost use Rattle.program_uses.specs.Declaring.{constant_meaning, constant_outline, variable_meaning, channel_meaning};
+ghost use Rattle.program_uses.specs.Declaring.{formal_meaning};
+ghost use Rattle.program_uses.specs.Constants.{value_as, size_in};
 ghost use Rattle.program_uses.specs.Declaring.{passed_meaning, with_value, range_of_items, range_of_bytes, table_of};
 
 use crate::constants::{size_in, value_as};
@@ -89,12 +91,30 @@ fn table_of(value_type: ValueType, size: Option<u32>, count: usize, range: Optio
             size: Some(size),
             range,
         },
-        _ => Meaning::Array {
-            kind: ArrayKind::Table,
-            value_type,
-            size: None,
-            range: type_range(value_type),
-        },
+        _ => any_table(value_type),
+    }
+}
+
+/// A table of which no more is known than its type.
+fn any_table(value_type: ValueType) -> Meaning
+    ensures { meaning_of result ≡ Array array.Table value_type None (type_range value_type) }
+{
+    Meaning::Array {
+        kind: ArrayKind::Table,
+        value_type,
+        size: None,
+        range: type_range(value_type),
+    }
+}
+
+/// A constant that is no table.
+fn constant_of(scope: &Scope, value_type: ValueType, value: &Expr) -> Meaning
+    ensures { meaning_of result ≡ Constant value_type
+        (value_as (entries_of scope.now) (type_of_values value_type) (expression_of value.now)) }
+{
+    Meaning::Constant {
+        value_type,
+        value: value_as(scope, type_of_values(value_type), value),
     }
 }
 
@@ -103,10 +123,7 @@ pub fn constant_meaning(scope: &Scope, value_type: ValueType, value: &ConstantVa
     ensures { meaning_of result ≡ constant_meaning (entries_of scope.now) value_type (value_of value.now) }
 {
     match value {
-        ConstantValue::Scalar(value) => Meaning::Constant {
-            value_type,
-            value: value_as(scope, type_of_values(value_type), value),
-        },
+        ConstantValue::Scalar(value) => constant_of(scope, value_type, value),
         ConstantValue::Table { size, items } => table_of(
             value_type,
             size_in(scope, size),
@@ -119,6 +136,16 @@ pub fn constant_meaning(scope: &Scope, value_type: ValueType, value: &ConstantVa
             text.len(),
             range_of_bytes(value_type, *text),
         ),
+    }
+}
+
+/// What the name of a constant stands for, but for the items of a table and how many there are.
+pub fn constant_outline(scope: &Scope, value_type: ValueType, value: &ConstantValue) -> Meaning
+    ensures { meaning_of result ≡ constant_outline (entries_of scope.now) value_type (value_of value.now) }
+{
+    match value {
+        ConstantValue::Scalar(value) => constant_of(scope, value_type, value),
+        ConstantValue::Table { .. } | ConstantValue::Text { .. } => any_table(value_type),
     }
 }
 

@@ -1,7 +1,7 @@
 //! The ends that a procedure uses of its channels.
 
 ghost use Rattle.std.specs.Prelude.{◌≡◌, IfOk, OnOk, fold, map};
-ghost use Rattle.program_uses.specs.Ends.{sorted_ends, pushed_at, with_end};
+ghost use Rattle.program_uses.specs.Ends.{is_parameter, of_parameters, sorted_ends, pushed_at, with_end};
 ghost use Rattle.program_uses.specs.Sets.{members_of};
 ghost use Rattle.program_uses.specs.Signatures.{parameter_of, parameters_of};
 
@@ -17,9 +17,22 @@ pub struct ChannelEnd {
     pub end: End,
 }
 
-/// The ends that are used, in rising order: by channel, by element, and an input before an output.
-fn sorted_ends(alloc: Global, uses: &Uses) -> Result<BTreeSet<ChannelEnd>, AllocError>
-    ensures { IfOk result (λ ends. ends.keys ≡ sorted_ends uses.now.set.keys) }
+/// Whether a channel is one of so many parameters, the first of which has this number.
+fn is_parameter(first: usize, count: usize, channel: usize) -> bool
+    ensures { result ≡ is_parameter first count channel }
+{
+    first <= channel && channel - first < count
+}
+
+/// The ends that are used of so many parameters, the first of which has this number, in rising order: by channel, by
+/// element, and an input before an output.
+fn sorted_ends(
+    alloc: Global,
+    uses: &Uses,
+    first: usize,
+    count: usize,
+) -> Result<BTreeSet<ChannelEnd>, AllocError>
+    ensures { IfOk result (λ ends. ends.keys ≡ sorted_ends (of_parameters first count uses.now.set.keys)) }
 {
     let mut ends = BTreeSet::new(alloc);
     let mut rest = uses.iter();
@@ -30,8 +43,10 @@ fn sorted_ends(alloc: Global, uses: &Uses) -> Result<BTreeSet<ChannelEnd>, Alloc
             direction,
         } = *item
         {
-            let end = End { element, direction };
-            ends.insert(ChannelEnd { channel, end })?;
+            if is_parameter(first, count, channel) {
+                let end = End { element, direction };
+                ends.insert(ChannelEnd { channel, end })?;
+            }
         }
     }
     Ok(ends)
@@ -91,7 +106,7 @@ pub fn signed(
         ≡ fold (with_end first) (map parameter_of parameters.items) (sorted_ends (members_of used.now))) }
 {
     let mut parameters = parameters;
-    let ends = sorted_ends(alloc, used)?;
+    let ends = sorted_ends(alloc, used, first, parameters.len())?;
     add_ends(&mut parameters, first, &ends)?;
     Ok(Signature { parameters })
 }

@@ -5,11 +5,11 @@ ghost use Rattle.occam_parser.specs.OneOrMore.{as_list, one_or_more_of};
 ghost use Rattle.occam_parser.specs.LineViews.{declaration_of, spelling_of};
 ghost use Rattle.scalar_ranges.specs.Scopes.{entries_of, blocks_of, meaning_of};
 ghost use Rattle.program_uses.specs.Sets.{Adds};
-ghost use Rattle.program_uses.specs.Entering.{Enters, uses_of_declarations, add_declarations};
+ghost use Rattle.program_uses.specs.Entering.{Enters, uses_of_declarations, add_outlines};
 ghost use Rattle.program_uses.specs.Actions.{uses_of_declaration};
-ghost use Rattle.program_uses.specs.Declaring.{add, add_all, add_declaration};
+ghost use Rattle.program_uses.specs.Declaring.{add, add_all, add_outline};
 
-use crate::declaring::{channel_meaning, constant_meaning, variable_meaning};
+use crate::declaring::{channel_meaning, constant_outline, variable_meaning};
 use crate::uses::Uses;
 use occam_parser::{Declaration, OneOrMore};
 use scalar_ranges::{Entry, Meaning, Scope};
@@ -51,13 +51,13 @@ impl Uses {
         ensures uses { Adds self.old self.new
             (uses_of_declaration (entries_of scope.old) (declaration_of declaration.now)) }
         ensures entries { Enters self.new (entries_of scope.old) (entries_of scope.new)
-            (add_declaration (declaration_of declaration.now) (entries_of scope.old)) }
+            (add_outline (declaration_of declaration.now) (entries_of scope.old)) }
         ensures blocks { blocks_of scope.new ≡ blocks_of scope.old }
     {
         self.declare(scope, declaration);
         match declaration {
             Declaration::Constant(constant) => {
-                let meaning = constant_meaning(scope, constant.value_type, &constant.value);
+                let meaning = constant_outline(scope, constant.value_type, &constant.value);
                 self.enter_name(scope, constant.name, meaning);
             }
             Declaration::Variables(names) => {
@@ -76,7 +76,7 @@ impl Uses {
         ensures uses { Adds self.old self.new
             (uses_of_declarations (entries_of scope.old) (map declaration_of declarations.now)) }
         ensures entries { Enters self.new (entries_of scope.old) (entries_of scope.new)
-            (add_declarations (map declaration_of declarations.now) (entries_of scope.old)) }
+            (add_outlines (map declaration_of declarations.now) (entries_of scope.old)) }
         ensures blocks { blocks_of scope.new ≡ blocks_of scope.old }
     {
         for declaration in declarations {

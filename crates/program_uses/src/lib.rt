@@ -22,7 +22,8 @@ pub use actions::{Around, is_before};
 pub use components::{variables_changed, variables_changed_in};
 pub use constants::{has_type, size_in, value_as};
 pub use declaring::{
-    channel_meaning, constant_meaning, formal_meaning, type_of_values, variable_meaning,
+    channel_meaning, constant_meaning, constant_outline, formal_meaning, type_of_values,
+    variable_meaning,
 };
 pub use ends::{ChannelEnd, signed};
 pub use faults::{

@@ -13,8 +13,8 @@ use Rattle.occam_parser.specs.BlockViews.{all_of}
 use Rattle.occam_parser.proofs.SeenBlocks.{all_push}
 use Rattle.scalar_ranges.specs.Entries.{Entry}
 use Rattle.scalar_ranges.specs.Moves.{Known}
-use Rattle.program_uses.specs.Declaring.{add_declaration}
-use Rattle.program_uses.specs.Entering.{add_declarations}
+use Rattle.program_uses.specs.Declaring.{add_outline}
+use Rattle.program_uses.specs.Entering.{add_outlines}
 use Rattle.program_uses.specs.Signatures.{Parameter}
 use Rattle.program_uses.proofs.Adding.{taken_one}
 use Rattle.usage_checks.specs.declared.weighing.Weight.{Weight}
@@ -148,11 +148,11 @@ sums_end line n {s} {t} {w} a sum over complete = record {
 -- ---- declarations, and then a construct
 
 pub measures_behind : (signatures : List (List Parameter)) (es : List Entry) (ds : List Declaration) (line : ℕ)
-    (k : Construct) → declared_lines ds ++ measures_of_construct signatures (add_declarations ds es) line k
+    (k : Construct) → declared_lines ds ++ measures_of_construct signatures (add_outlines ds es) line k
     ≡ measures_of signatures es (with_declarations ds (Does line k))
 measures_behind signatures es [] line k = refl
 measures_behind signatures es (d ∷ ds) line k =
-    ap (λ ms. declared_lines (d ∷ []) ++ ms) (measures_behind signatures (add_declaration d es) ds line k)
+    ap (λ ms. declared_lines (d ∷ []) ++ ms) (measures_behind signatures (add_outline d es) ds line k)
 
 -- ---- components
 

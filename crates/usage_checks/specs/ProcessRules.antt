@@ -1,11 +1,10 @@
 -- The rules that a process breaks, each at its line, but for what the components of its PARs share.
-use Rattle.std.specs.Prelude.{ℕ, zero, suc, List, length, ◌⊎◌}
+use Rattle.std.specs.Prelude.{ℕ, zero, suc, length, ◌⊎◌}
 use Rattle.occam_layout.specs.declared.mark.Mark.TheVariants as mark
 use Rattle.occam_parser.specs.Terminals.{Terminal, Mark}
 use Rattle.occam_parser.specs.Lines.{Replicator, block_word}
 use Rattle.occam_parser.specs.Blocks.{Process, Declared, Does, Construct, Act, Block, Replicated, Body, One, Part}
 use Rattle.occam_parser.specs.Blocks.{Components, NoComponent, Further, Component, Plain, Chosen, Guarded}
-use Rattle.scalar_ranges.specs.Entries.{Entry}
 use Rattle.scalar_ranges.specs.Moves.{Known}
 use Rattle.program_uses.specs.Components.{changes_in}
 use Rattle.program_uses.specs.Actions.{Around, is_before}

@@ -15,7 +15,7 @@ use Rattle.scalar_ranges.specs.Environments.{item_at}
 use Rattle.program_uses.specs.declared.uses.End.{End}
 use Rattle.program_uses.specs.declared.signature.Passing.{Passing}
 use Rattle.program_uses.specs.declared.signature.Passing.TheVariants as passing
-use Rattle.program_uses.specs.Declaring.{add_declaration, add_formals}
+use Rattle.program_uses.specs.Declaring.{add_outline, add_formals}
 use Rattle.program_uses.specs.Indices.{is_seq, turns_of, in_turns}
 use Rattle.program_uses.specs.Instances.{place_in, array_at}
 use Rattle.program_uses.specs.Processes.{in_turn}
@@ -155,7 +155,7 @@ with_turns false line size ms = record { line = line; size = size + total ms; ma
 abbrev mutual
   pub measures_of : List (List Parameter) → List Entry → Process → List Measured
   measures_of signatures es (Declared d p) =
-      plain (declaration_line d) (size_of_declaration d) ∷ measures_of signatures (add_declaration d es) p
+      plain (declaration_line d) (size_of_declaration d) ∷ measures_of signatures (add_outline d es) p
   measures_of signatures es (Does line c) = measures_of_construct signatures es line c
 
   pub measures_of_construct : List (List Parameter) → List Entry → ℕ → Construct → List Measured

@@ -4,15 +4,15 @@ ghost use Rattle.std.specs.Prelude.{◌≡◌, map, OnOk};
 ghost use Rattle.occam_parser.specs.OneOrMore.{as_list, one_or_more_of};
 ghost use Rattle.occam_parser.specs.LineViews.{declaration_of, formal_of, spelling_of};
 ghost use Rattle.scalar_ranges.specs.Scopes.{entries_of, known_of, meaning_of};
-ghost use Rattle.program_uses.specs.Declaring.{add, add_all, add_declaration, add_formals};
-ghost use Rattle.program_uses.specs.Entering.{add_declarations};
+ghost use Rattle.program_uses.specs.Declaring.{add, add_all, add_outline, add_formals};
+ghost use Rattle.program_uses.specs.Entering.{add_outlines};
 ghost use Rattle.program_uses.specs.Extending.{Extends};
 ghost use Rattle.program_uses.specs.Signatures.{parameter_of};
 ghost use Rattle.usage_checks.specs.FormalRules.{parameter_for};
 
 use crate::formal_rules::parameters_for;
 use occam_parser::{Declaration, Formal, OneOrMore};
-use program_uses::{Parameter, channel_meaning, constant_meaning, variable_meaning};
+use program_uses::{Parameter, channel_meaning, constant_outline, variable_meaning};
 use scalar_ranges::{Entry, Meaning, Scope};
 use std::alloc::{AllocError, Global};
 
@@ -48,17 +48,14 @@ fn add_names<'a>(
 }
 
 /// The names of a declaration.
-fn add_declaration<'a>(
-    scope: &mut Scope<'a>,
-    declaration: &Declaration<'a>,
-) -> Result<(), AllocError>
+fn add_outline<'a>(scope: &mut Scope<'a>, declaration: &Declaration<'a>) -> Result<(), AllocError>
     ensures ok { OnOk result
-        (entries_of scope.new ≡ add_declaration (declaration_of declaration.now) (entries_of scope.old)) }
+        (entries_of scope.new ≡ add_outline (declaration_of declaration.now) (entries_of scope.old)) }
     ensures extends { Extends (known_of scope.old) (known_of scope.new) }
 {
     match declaration {
         Declaration::Constant(constant) => {
-            let meaning = constant_meaning(scope, constant.value_type, &constant.value);
+            let meaning = constant_outline(scope, constant.value_type, &constant.value);
             add_name(scope, constant.name, meaning)
         }
         Declaration::Variables(names) => {
@@ -73,16 +70,16 @@ fn add_declaration<'a>(
 }
 
 /// The names of declarations.
-pub(crate) fn add_declarations<'a>(
+pub(crate) fn add_outlines<'a>(
     scope: &mut Scope<'a>,
     declarations: &[Declaration<'a>],
 ) -> Result<(), AllocError>
     ensures ok { OnOk result (entries_of scope.new
-        ≡ add_declarations (map declaration_of declarations.now) (entries_of scope.old)) }
+        ≡ add_outlines (map declaration_of declarations.now) (entries_of scope.old)) }
     ensures extends { Extends (known_of scope.old) (known_of scope.new) }
 {
     for declaration in declarations {
-        add_declaration(scope, declaration)?;
+        add_outline(scope, declaration)?;
     }
     Ok(())
 }

@@ -16,9 +16,7 @@ ghost use Rattle.usage_checks.specs.PlaceRules.{IsOutside, BreaksSubscript, Brea
 use crate::wanting::{Wanted, fault_of};
 use occam_parser::Expr;
 use program_uses::{PlaceRef, is_variable, lower, told_unless, type_of_values};
-use scalar_ranges::{
-    ExprType, Meaning, OUTSIDE, Scope, UNKNOWN_NAME, WRONG_TYPE, range_of, type_of,
-};
+use scalar_ranges::{ExprType, Meaning, OUTSIDE, Scope, UNKNOWN_NAME, WRONG_TYPE, read};
 use word_arithmetic::Range;
 
 /// The type of a variable, or of an element of one, by what its name stands for and by whether a subscript follows.
@@ -104,10 +102,13 @@ pub(crate) fn fault_of_subscript(
 {
     match subscript {
         None => None,
-        Some(subscript) => lower(
-            fault_of(scope, wanted, subscript),
-            outside(size, type_of(scope, subscript), range_of(scope, subscript)),
-        ),
+        Some(subscript) => {
+            let reading = read(scope, subscript);
+            lower(
+                fault_of(scope, wanted, subscript),
+                outside(size, reading.expr_type, reading.range()),
+            )
+        }
     }
 }
 

@@ -10,7 +10,7 @@ ghost use Rattle.usage_checks.specs.Wanting.{is_constant_meaning, is_constant, i
 
 use occam_parser::{Expr, Operand, Operation};
 use program_uses::{CONSTANT_WANTED, lower, told_unless};
-use scalar_ranges::{ExprType, Meaning, Scope, WRONG_TYPE, range_of, type_of};
+use scalar_ranges::{ExprType, Meaning, Scope, WRONG_TYPE, read};
 
 /// What a place wants of the expression that stands there.
 #[derive(Clone, Copy)]
@@ -103,11 +103,9 @@ fn unfit(scope: &Scope, wanted: Wanted, found: ExprType, expr: &Expr) -> Option<
 pub fn fault_of(scope: &Scope, wanted: Wanted, expr: &Expr) -> Option<u8>
     ensures { IsLowest (BreaksWanted wanted (entries_of scope.now) (expression_of expr.now)) result }
 {
-    match type_of(scope, expr) {
+    let reading = read(scope, expr);
+    match reading.expr_type {
         Err(fault) => Some(fault),
-        Ok(found) => lower(
-            range_of(scope, expr).err(),
-            unfit(scope, wanted, found, expr),
-        ),
+        Ok(found) => lower(reading.range().err(), unfit(scope, wanted, found, expr)),
     }
 }

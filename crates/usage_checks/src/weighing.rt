@@ -8,7 +8,7 @@ ghost use Rattle.occam_parser.specs.BlockViews.{all_processes, all_choices, all_
 ghost use Rattle.occam_parser.specs.Blocks.{GlobalProcedure};
 ghost use Rattle.scalar_ranges.specs.Scopes.{entries_of, known_of, meaning_of};
 ghost use Rattle.program_uses.specs.Declaring.{add, add_formals};
-ghost use Rattle.program_uses.specs.Entering.{add_declarations};
+ghost use Rattle.program_uses.specs.Entering.{add_outlines};
 ghost use Rattle.program_uses.specs.Extending.{Extends};
 ghost use Rattle.program_uses.specs.Signatures.{signatures_of};
 ghost use Rattle.usage_checks.specs.Sizes.{total, measure_of_action, measures_of, measures_of_construct};
@@ -18,7 +18,7 @@ ghost use Rattle.usage_checks.specs.Weighing.{Counts, Sums, Weighs, WeighsIn, en
 ghost use Rattle.usage_checks.specs.Weighing.{measures_of_one, measures_in_turns};
 
 use crate::array_ends::{ends_of_instance, is_instance};
-use crate::extending::{add_declarations, add_formals, add_name};
+use crate::extending::{add_formals, add_name, add_outlines};
 use crate::sizes::{
     GREATEST_SIZE, plus, size_of_action, size_of_condition, size_of_constant, size_of_declarations,
     size_of_guard, size_of_head, size_of_replicator,
@@ -103,11 +103,11 @@ impl Weight {
     fn enter<'a>(&mut self, scope: &mut Scope<'a>, declarations: &[Declaration<'a>])
         ensures weight { Weighs self.old self.new (declared_lines (map declaration_of declarations.now)) }
         ensures entries { self.new.complete ≡ true → entries_of scope.new
-            ≡ add_declarations (map declaration_of declarations.now) (entries_of scope.old) }
+            ≡ add_outlines (map declaration_of declarations.now) (entries_of scope.old) }
         ensures extends { Extends (known_of scope.old) (known_of scope.new) }
     {
         self.count(size_of_declarations(declarations));
-        if add_declarations(scope, declarations).is_err() {
+        if add_outlines(scope, declarations).is_err() {
             self.fail();
         }
     }
