@@ -72,8 +72,9 @@ fn is_array(meaning: Option<Meaning>) -> bool
 pub fn array_at(scope: &Scope, place: PlaceRef) -> Option<usize>
     ensures { result ≡ array_at (entries_of scope.now) (place_at place.entry) }
 {
+    let found = scope.lookup(place.name)?;
     match place.subscript {
-        None if is_array(scope.meaning(place.name)) => scope.find(place.name),
+        None if is_array(Some(found.meaning)) => Some(found.number),
         _ => None,
     }
 }

@@ -32,10 +32,9 @@ pub fn is_variable(meaning: Option<Meaning>) -> bool
 pub(crate) fn variable(scope: &Scope, name: &[u8]) -> Option<usize>
     ensures { result ≡ variable_in name.now (entries_of scope.now) }
 {
-    if is_variable(scope.meaning(name)) {
-        scope.find(name)
-    } else {
-        None
+    match scope.lookup(name) {
+        Some(found) if is_variable(Some(found.meaning)) => Some(found.number),
+        _ => None,
     }
 }
 

@@ -67,9 +67,12 @@ fn element_of(scope: &Scope, meaning: Option<Meaning>, subscript: Option<&Expr>)
 pub fn spot_of(scope: &Scope, place: PlaceRef) -> Option<Spot>
     ensures { result ≡ spot_of (entries_of scope.now) (place_at place.entry) }
 {
-    let channel = scope.find(place.name)?;
-    let element = element_of(scope, scope.meaning(place.name), place.subscript)?;
-    Some(Spot { channel, element })
+    let found = scope.lookup(place.name)?;
+    let element = element_of(scope, Some(found.meaning), place.subscript)?;
+    Some(Spot {
+        channel: found.number,
+        element,
+    })
 }
 
 /// Where a place stands.

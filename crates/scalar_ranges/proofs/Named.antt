@@ -1,5 +1,5 @@
 -- The innermost entry of a name is the one with its number.
-use Rattle.std.proofs.Common.{◌≡◌, ℕ, suc, ◌<◌, Bool, true, false, cond, List, [], ◌∷◌, length, Some, None}
+use Rattle.std.proofs.Common.{◌≡◌, ℕ, suc, ◌<◌, Bool, true, false, cond, List, [], ◌∷◌, length, Option, Some, None}
 use Rattle.std.proofs.Common.{refl, sym, ap, arith, ◌∙◌, nat_eq, bytes_eq}
 use Rattle.word_arithmetic.specs.Range.{Ends}
 use Rattle.scalar_ranges.specs.Entries.{Meaning, Entry, meaning_in, number_in}
@@ -44,6 +44,19 @@ meaning_found name n [] is = absurd (cc)
 meaning_found name n (e ∷ es) is =
     by_number (bytes_eq e.name name) name es n (Some e.meaning) (meaning_in name es) (meaning_at n es) is
     (meaning_found name n es)
+
+something_by : (t : Bool) (l n : ℕ) (m : Meaning) (a : Option ℕ) (b : Option Meaning) → cond t (Some l) a ≡ Some n
+    → cond t (Some m) b ≡ None → (a ≡ Some n → b ≡ None → ⊥) → ⊥
+something_by true l n m a b is none further = absurd (cc)
+something_by false l n m a b is none further = further is none
+
+-- what has a number means something
+pub means_something : (name : List ℕ) (n : ℕ) (es : List Entry) → number_in name es ≡ Some n
+    → meaning_in name es ≡ None → ⊥
+means_something name n [] is none = absurd (cc)
+means_something name n (e ∷ es) is none =
+    something_by (bytes_eq e.name name) (length es) n e.meaning (number_in name es) (meaning_in name es) is none
+    (means_something name n es)
 
 -- the same of a name that stands for nothing
 by_none : {A : Type 0} (t : Bool) (name : List ℕ) (es : List Entry) (x y z : A)

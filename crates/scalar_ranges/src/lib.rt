@@ -27,5 +27,5 @@ pub use laws::{
 pub use narrowing::narrow_by;
 pub use ranges::{range_of, value_of};
 pub use reading::{Reading, read};
-pub use scope::{ArrayKind, Entry, Meaning, ScalarKind, Scope};
+pub use scope::{ArrayKind, Declared, Entry, Meaning, ScalarKind, Scope};
 pub use types::{ExprType, UNKNOWN_NAME, WRONG_TYPE, type_of};

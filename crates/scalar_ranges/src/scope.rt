@@ -76,6 +76,13 @@ pub struct Entry<'a> {
     pub meaning: Meaning,
 }
 
+/// A declaration of a name: its number, and what it says of the name.
+#[derive(Clone, Copy)]
+pub struct Declared {
+    pub number: usize,
+    pub meaning: Meaning,
+}
+
 /// The names that are known at a place of a program: entries that are numbered from the outermost declaration on.
 #[derive(Drop)]
 pub struct Scope<'a> {
@@ -125,6 +132,17 @@ impl<'a> Scope<'a> {
         ensures number { result ≡ number_in name.now (entries_of self.now) }
     {
         self.names.find(name)
+    }
+
+    /// The innermost declaration of a name.
+    pub fn lookup(&self, name: &[u8]) -> Option<Declared>
+        ensures number { option_map (λ found. found.number) result ≡ number_in name.now (entries_of self.now) }
+        ensures meaning { option_map (λ found. meaning_of found.meaning) result
+            ≡ meaning_in name.now (entries_of self.now) }
+    {
+        let number = self.find(name)?;
+        let meaning = self.known.meaning(number)?;
+        Some(Declared { number, meaning })
     }
 
     /// What the innermost declaration of a name says of it.
