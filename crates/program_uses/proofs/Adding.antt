@@ -76,6 +76,11 @@ adds_both {s = s} {us = us} {vs = vs} a b = record {
 pub adds_as : {s t : Uses} {us vs : List Use} → us ≡ vs → Adds s t us → Adds s t vs
 adds_as {s = s} {t = t} e a = subst (Adds s t) e a
 
+-- a set that began with nothing
+pub has_exactly : {s t : Uses} {us : List Use} → ((u : Use) → has s u ≡ false) → Adds s t us → t.complete ≡ true
+    → has t ≡ is_among us
+has_exactly {us = us} nothing a complete = λ i u. (a.has complete u ∙ ap (λ b. b || is_among us u) (nothing u)) i
+
 -- ---- a set that another one joins
 
 or_turned : (a b : Bool) → (a || b) ≡ (b || a)
@@ -125,11 +130,11 @@ joins_all {t = t} rest none all = record {
 -- ---- loops
 
 -- what is gathered of the items of a list, each by its place, which are counted from a number on
-unfoldable pub gathered : {A : Type 0} → (ℕ → A → List Use) → ℕ → List A → List Use
+unfoldable pub gathered : {A B : Type 0} → (ℕ → A → List B) → ℕ → List A → List B
 gathered f n [] = []
 gathered f n (x ∷ xs) = f n x ++ gathered f (suc n) xs
 
-gathered_last : {A : Type 0} (f : ℕ → A → List Use) (n : ℕ) (xs : List A) (x : A)
+gathered_last : {A B : Type 0} (f : ℕ → A → List B) (n : ℕ) (xs : List A) (x : A)
     → gathered f n (xs ++ x ∷ []) ≡ gathered f n xs ++ f (n + length xs) x
 unfolding gathered
 gathered_last f n [] x = append-nil (f n x) ∙ ap (λ k. f k x) (sym (add-zero n))
@@ -142,7 +147,7 @@ pub taken_one : {A : Type 0} (xs : List A) (i : ℕ) (x d : A) → i < length xs
     → take (i + 1) xs ≡ take i xs ++ x ∷ []
 taken_one xs i x d h is = take_more xs i d h ∙ ap (λ y. take i xs ++ y ∷ []) (sym is)
 
-gathered_next : {A : Type 0} (f : ℕ → A → List Use) (xs : List A) (i : ℕ) (x d : A) → i < length xs
+pub gathered_next : {A B : Type 0} (f : ℕ → A → List B) (xs : List A) (i : ℕ) (x d : A) → i < length xs
     → x ≡ get_or xs i d → gathered f 0 (take i xs) ++ f i x ≡ gathered f 0 (take (i + 1) xs)
 gathered_next f xs i x d h is =
     let many : 0 + length (take i xs) ≡ i = simp length-take (omega arith) in
@@ -163,7 +168,7 @@ pub gathers_all : {A : Type 0} (f : ℕ → A → List Use) (xs : List A) (i : �
     → Adds s t (gathered f 0 (take i xs)) → Adds s t (gathered f 0 xs)
 gathers_all f xs i h a = adds_as (ap (gathered f 0) (take_all i xs h)) a
 
-pub gathered_same : {A : Type 0} (f : ℕ → A → List Use) (n : ℕ) (xs : List A)
+pub gathered_same : {A B : Type 0} (f : ℕ → A → List B) (n : ℕ) (xs : List A)
     → gathered f (suc n) xs ≡ gathered (λ k x. f (suc k) x) n xs
 unfolding gathered
 gathered_same f n [] = refl

@@ -20,8 +20,7 @@ use Rattle.program_uses.specs.Components.{BreakSharing, BreakTurns}
 use Rattle.program_uses.specs.Processes.{Collects, uses_of_components, uses_of_component, uses_of_one, uses_in_turn}
 use Rattle.program_uses.specs.Sharing.{InSomeTurn, SharesInComponents, SharesInComponent, SharesInOne}
 use Rattle.program_uses.specs.Telling.{IsFirst, At, Among}
-use Rattle.program_uses.proofs.Adding.{adds_both, taken_one}
-use Rattle.program_uses.proofs.ChangedVariables.{has_exactly}
+use Rattle.program_uses.proofs.Adding.{adds_both, has_exactly, taken_one}
 use Rattle.program_uses.proofs.FaultsInOrder.{first_both, first_as}
 use Rattle.program_uses.proofs.UsesOfProcesses.{collects_none, collects_for, collects_at}
 

@@ -7,8 +7,7 @@ pub mod UsesOfProcesses
 pub mod LowestOfBoth
 pub mod FaultsInOrder
 pub mod Sharing
-pub mod ChangedVariables
-pub mod ChangesAlike
+pub mod ChangesFound
 pub mod ComponentsShared
 pub mod EndsInOrder
 pub mod EndsPushed

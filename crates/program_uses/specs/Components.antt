@@ -1,5 +1,5 @@
--- What the components of a PAR change, and what they share.
-use Rattle.std.specs.Prelude.{ℕ, zero, suc, false, List, [], ◌∷◌, length, ◌⊎◌}
+-- What the components of a PAR share.
+use Rattle.std.specs.Prelude.{ℕ, zero, suc, false, List, length, ◌⊎◌}
 use Rattle.occam_layout.specs.declared.mark.Mark.TheVariants as mark
 use Rattle.occam_parser.specs.Terminals.{Terminal, Mark}
 use Rattle.occam_parser.specs.Lines.{Replicator, block_word}
@@ -7,19 +7,11 @@ use Rattle.occam_parser.specs.Blocks.{Body, One, Part}
 use Rattle.occam_parser.specs.Blocks.{Components, NoComponent, Further}
 use Rattle.scalar_ranges.specs.Entries.{Entry}
 use Rattle.program_uses.specs.declared.uses.Use.{Use}
-use Rattle.program_uses.specs.declared.uses.Use.TheVariants as used
 use Rattle.program_uses.specs.Sets.{is_among}
 use Rattle.program_uses.specs.Actions.{Around, is_before}
 use Rattle.program_uses.specs.Indices.{turns_of, in_turns}
 use Rattle.program_uses.specs.ParRules.{BreaksSharing}
 use Rattle.program_uses.specs.Processes.{uses_in_turn, uses_of_components, uses_of_component}
-
--- the numbers of the variables that are changed
-abbrev pub changes_in : List Use → List ℕ
-changes_in [] = []
-changes_in (used.Change n ∷ us) = n ∷ changes_in us
-changes_in (used.Read n ∷ us) = changes_in us
-changes_in (used.Channel n i d ∷ us) = changes_in us
 
 -- O14 and O15: each component, with those before it
 abbrev pub BreakSharing : {part : Part} → Around → List Entry → Components part → ℕ → Type 0

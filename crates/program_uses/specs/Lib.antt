@@ -13,6 +13,7 @@ pub mod Declaring
 pub mod Indices
 pub mod Entering
 pub mod Extending
+pub mod Changes
 pub mod Processes
 pub mod Components
 pub mod Lowest

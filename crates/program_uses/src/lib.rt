@@ -2,11 +2,12 @@
 #![tactic(auto)]
 
 mod actions;
-mod components;
+mod changes;
 mod constants;
 mod declaring;
 mod ends;
 mod entering;
+mod extending;
 mod faults;
 mod indices;
 mod instances;
@@ -19,13 +20,14 @@ mod telling;
 mod uses;
 
 pub use actions::{Around, is_before};
-pub use components::{variables_changed, variables_changed_in};
+pub use changes::{variables_changed, variables_changed_in};
 pub use constants::{has_type, size_in, value_as};
 pub use declaring::{
     channel_meaning, constant_meaning, constant_outline, formal_meaning, type_of_values,
     variable_meaning,
 };
 pub use ends::{ChannelEnd, signed};
+pub use extending::{add_name, add_outlines};
 pub use faults::{
     CHANNEL_USE, CONSTANT_WANTED, DECLARED_TWICE, MEMORY, NO_MAIN, OTHER_ACTUAL, PASSED_TWICE,
     SHARED_VARIABLE, lower, told_unless,

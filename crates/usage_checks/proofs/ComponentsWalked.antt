@@ -10,15 +10,13 @@ use Rattle.occam_parser.specs.Blocks.{Process, Does, Construct, Part, Components
 use Rattle.occam_parser.specs.BlockReading.{with_declarations}
 use Rattle.occam_parser.specs.BlockViews.{all_of}
 use Rattle.occam_parser.proofs.SeenBlocks.{all_push}
-use Rattle.scalar_ranges.specs.Moves.{Known, is_one_of, exclude, next, next_component}
+use Rattle.scalar_ranges.specs.Moves.{Known, exclude, next, next_component}
 use Rattle.program_uses.specs.Actions.{Around}
 use Rattle.program_uses.specs.ActionViews.{around_of}
-use Rattle.program_uses.specs.Components.{changes_in}
+use Rattle.program_uses.specs.Changes.{changed_by}
 use Rattle.program_uses.specs.Declaring.{add_declaration}
 use Rattle.program_uses.specs.Entering.{add_declarations}
-use Rattle.program_uses.specs.Processes.{uses_of}
 use Rattle.program_uses.proofs.Adding.{taken_one}
-use Rattle.program_uses.proofs.ChangedVariables.{next_component_same}
 use Rattle.usage_checks.specs.declared.blocks.Site.{Site}
 use Rattle.usage_checks.specs.declared.channel_rules.Position.{Position}
 use Rattle.program_uses.specs.declared.telling.UsageFault.{UsageFault}
@@ -145,16 +143,14 @@ walks_par site inner count cs k {s} {t} {w} {n = n} around position long begins 
 -- a component of a PAR, with the variables that it changes
 pub walks_component : (site : Site) (p : Process) (k : Known) {s t w : Findings} {j l m : Known} (numbers : List ℕ)
     → Walks s t j k (λ f. ⊥)
-    → (t.complete ≡ true → (n : ℕ) → is_one_of numbers n
-    ≡ is_one_of (changes_in (uses_of (around_of site.around) k.entries p)) n)
+    → (t.complete ≡ true → numbers ≡ changed_by (around_of site.around).signatures k.entries p)
     → WalksProcess t w site p j l → m ≡ next_component numbers l
     → WalksComponent s w site (Mark mark.Par) (Plain p) k m
 walks_component site p k {t = t} {w = w} {l = l} {m = m} numbers changes same walked moved =
     let a = around_of site.around in
-    let changed = changes_in (uses_of a k.entries p) in
     let both = walks_after (inside a p) (λ k. BreaksIn a site.position (length k.entries) p k) changes walked in
-    walks_then_if (next_component changed) both
-    (λ e. moved ∙ next_component_same numbers changed (same (walked.complete e)) l)
+    walks_then_if (next_component (changed_by a.signatures k.entries p)) both
+    (λ e. moved ∙ ap (λ ns. next_component ns l) (same (walked.complete e)))
 
 -- a choice of an IF
 pub walks_choice : (site : Site) (line : ℕ) (e : Expression) (p : Process) (k j : Known) {s t w : Findings}

@@ -18,7 +18,7 @@ use Rattle.program_uses.specs.Lowest.{IsLowest, lower, told_unless}
 use Rattle.program_uses.specs.Sets.{is_among, has, Adds}
 use Rattle.program_uses.specs.Signatures.{Parameter}
 use Rattle.program_uses.proofs.Adding.{adds_none, adds_both, adds_as}
-use Rattle.program_uses.proofs.ChangedVariables.{has_exactly}
+use Rattle.program_uses.proofs.Adding.{has_exactly}
 use Rattle.program_uses.proofs.LowestOfBoth.{none_broken, lowest_of, lowest_as, lowest_at}
 use Rattle.program_uses.proofs.NextInTurn.{seen_more}
 use Rattle.usage_checks.specs.declared.handing.Handed.{Handed}

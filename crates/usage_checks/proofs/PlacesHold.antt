@@ -19,12 +19,11 @@ use Rattle.scalar_ranges.specs.Entries as entries
 use Rattle.scalar_ranges.specs.Entries.{Meaning, Entry}
 use Rattle.scalar_ranges.specs.Moves.{Known}
 use Rattle.program_uses.specs.Actions.{Around, is_before}
-use Rattle.program_uses.specs.Components.{changes_in}
+use Rattle.program_uses.specs.Changes.{changed_by, changed_by_body}
 use Rattle.program_uses.specs.Declaring.{add, add_all, add_declaration, formal_meaning, add_formals}
 use Rattle.program_uses.specs.Indices.{is_sequence, is_count, turns_from, turns_for, index_at, index_of, index_in}
 use Rattle.program_uses.specs.Indices.{turn_by_turn}
 use Rattle.program_uses.specs.InTurn.{in_turn}
-use Rattle.program_uses.specs.Processes.{uses_of, uses_of_body}
 use Rattle.program_uses.specs.Signatures.{Parameter}
 use Rattle.usage_checks.specs.declared.channel_rules.Position.{Position}
 use Rattle.program_uses.specs.declared.telling.UsageFault.{UsageFault}
@@ -210,7 +209,7 @@ module _ (a : Around) where
         let b = One kind c in
         let repeats = repeats_in a line r b k in
         let h = replicator_holds count k.entries r w.entries (at_line line _ (λ f x. none f (inl x))) in
-        let changed = changes_in (uses_of_body a k.entries line r b) in
+        let changed = changed_by_body a.signatures k.entries r b in
         let inner = position_in (block_word kind) (length k.entries) p in
         let turn : (n : ℕ) (l : Known) → n < repeats.turns.count
         → Unbroken (BreaksComponent a inner c (with_entries (add r.name (index_in repeats n)) l)) → IsWhole count l
@@ -234,7 +233,7 @@ module _ (a : Around) where
         → Unbroken (BreaksComponent a p c k) → IsWhole (length a.signatures) k
         → IsWhole (length a.signatures) (after_component a word c k)
     component_whole p word (Plain q) k none w =
-        process_whole (length a.signatures) (length k.entries) word (changes_in (uses_of a k.entries q)) (inside a q k)
+        process_whole (length a.signatures) (length k.entries) word (changed_by a.signatures k.entries q) (inside a q k)
         (inside_whole p (length k.entries) q k none w)
     component_whole p word (Chosen line e q) k none w =
         next_whole (length a.signatures) (inside a q (chosen e k))
@@ -414,7 +413,7 @@ right_turn s first line r (One kind c) k n piece right under less =
     let count = length a.signatures in
     let repeats = repeats_in a line r b k in
     let inner = position_in (block_word kind) (length k.entries) s.position in
-    let changed = changes_in (uses_of_body a k.entries line r b) in
+    let changed = changed_by_body a.signatures k.entries r b in
     let start = begun_body (block_word kind) changed repeats.happens k in
     let step = turn_of a r b repeats in
     let indexed : ℕ → Known → Known = λ m l. with_entries (add r.name (index_in repeats m)) l in

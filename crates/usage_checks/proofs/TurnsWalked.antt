@@ -6,10 +6,9 @@ use Rattle.scalar_ranges.specs.Entries.{Meaning}
 use Rattle.scalar_ranges.specs.Moves.{Known, begin}
 use Rattle.program_uses.specs.Actions.{Around, is_before}
 use Rattle.program_uses.specs.ActionViews.{around_of}
-use Rattle.program_uses.specs.Components.{changes_in}
+use Rattle.program_uses.specs.Changes.{changed_by_body}
 use Rattle.program_uses.specs.Declaring.{add}
 use Rattle.program_uses.specs.Indices.{is_sequence, Repeats, repeats_of, index_in, turn_by_turn}
-use Rattle.program_uses.specs.Processes.{uses_of_body}
 use Rattle.usage_checks.specs.declared.blocks.Site.{Site}
 use Rattle.usage_checks.specs.declared.channel_rules.Position.{Position}
 use Rattle.program_uses.specs.declared.telling.UsageFault.{UsageFault}
@@ -67,7 +66,7 @@ whole_body : (b : Body) (site inner : Site) (line : ℕ) (r : Replicator) (k : K
     → inner.around ≡ site.around → inner.position ≡ position_in (word_of b) (length k.entries) site.position
     → (let a = around_of site.around in
     let repeats = repeats_of (is_before line a.uncounted) k.entries (is_sequence b) r in
-    let start = begun_body (word_of b) (changes_in (uses_of_body a k.entries line r b)) repeats.happens k in
+    let start = begun_body (word_of b) (changed_by_body a.signatures k.entries r b) repeats.happens k in
     Walks s w n (repeated repeats.happens
     (turn_by_turn (turn_of (around_of inner.around) r b repeats) repeats.turns.count start))
     (BreaksInTurns (turn_of (around_of inner.around) r b repeats)
@@ -77,7 +76,7 @@ whole_body (One kind c) site inner line r k {s} {w} {n} around position walked =
     let a = around_of site.around in
     let b = One kind c in
     let repeats = repeats_of (is_before line a.uncounted) k.entries (is_sequence b) r in
-    let start = begun_body (word_of b) (changes_in (uses_of_body a k.entries line r b)) repeats.happens k in
+    let start = begun_body (word_of b) (changed_by_body a.signatures k.entries r b) repeats.happens k in
     subst (λ (x : Around × Position).
     Walks s w n (repeated repeats.happens (turn_by_turn (turn_of x.0 r b repeats) repeats.turns.count start))
     (BreaksInTurns (turn_of x.0 r b repeats) (BreaksTurn x.0 x.1 r b repeats) repeats.turns.count start))
@@ -89,16 +88,16 @@ pub walks_body : (b : Body) (site inner : Site) (line : ℕ) (r : Replicator) (r
     → inner.around ≡ site.around → inner.position ≡ position_in (word_of b) count site.position
     → count ≡ length k.entries → Walks s t j (unless repeats.happens begin k) (λ f. ⊥)
     → Walks t u l (begun_turns (word_of b)
-    (changes_in (uses_of_body (around_of site.around) j.entries line r b)) j) (λ f. ⊥)
+    (changed_by_body (around_of site.around).signatures j.entries r b) j) (λ f. ⊥)
     → turns ≡ repeats.turns.count → WalksTurns u w inner r b repeats turns l m → n ≡ repeated repeats.happens m
     → WalksBody s w site line r b k n
 walks_body b site inner line r repeats count turns k {s} {t} {u} {w} {j} {l} {m} {n} is around position long outer
     begins all walked ends =
     let a = around_of site.around in
-    let start = walks_after (λ j. begun_turns (word_of b) (changes_in (uses_of_body a j.entries line r b)) j)
+    let start = walks_after (λ j. begun_turns (word_of b) (changed_by_body a.signatures j.entries r b) j)
     (λ j f. ⊥) outer begins in
     let started = subst (λ es. Walks s u l
-    (begun_body (word_of b) (changes_in (uses_of_body a es line r b)) repeats.happens k) (λ f. ⊥))
+    (begun_body (word_of b) (changed_by_body a.signatures es r b) repeats.happens k) (λ f. ⊥))
     (entries_unless repeats.happens k) start in
     let every = subst (λ turns. WalksTurns u w inner r b repeats turns l m) all walked in
     let step = turn_of (around_of inner.around) r b repeats in
@@ -109,10 +108,10 @@ walks_body b site inner line r repeats count turns k {s} {t} {u} {w} {j} {l} {m}
     whole_body b site inner line r k around (position ∙ ap (λ c. position_in (word_of b) c site.position) long)
     (subst (λ (x : Repeats). Walks s w n
     (repeated x.happens (turn_by_turn (turn_of (around_of inner.around) r b x) x.turns.count
-    (begun_body (word_of b) (changes_in (uses_of_body a k.entries line r b)) x.happens k)))
+    (begun_body (word_of b) (changed_by_body a.signatures k.entries r b) x.happens k)))
     (BreaksInTurns (turn_of (around_of inner.around) r b x)
     (BreaksTurn (around_of inner.around) inner.position r b x) x.turns.count
-    (begun_body (word_of b) (changes_in (uses_of_body a k.entries line r b)) x.happens k))) is whole)
+    (begun_body (word_of b) (changed_by_body a.signatures k.entries r b) x.happens k))) is whole)
 
 -- a replicator and its body
 pub walks_replicated : (site : Site) (line : ℕ) (r : Replicator) (b : Body) (k : Known) {s t w : Findings} {n : Known}

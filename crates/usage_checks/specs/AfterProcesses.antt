@@ -7,11 +7,10 @@ use Rattle.occam_parser.specs.Lines.{Replicator, block_word}
 use Rattle.occam_parser.specs.Blocks.{Process, Declared, Does, Construct, Act, Block, Replicated, Body, One, Part}
 use Rattle.occam_parser.specs.Blocks.{Components, NoComponent, Further, Component, Plain, Chosen, Guarded}
 use Rattle.scalar_ranges.specs.Moves.{Known, leave, begin, exclude, next, end, begin_par, next_component, begin_loop}
-use Rattle.program_uses.specs.Components.{changes_in}
+use Rattle.program_uses.specs.Changes.{changed_by, changed_by_body}
 use Rattle.program_uses.specs.Actions.{Around, is_before}
 use Rattle.program_uses.specs.Declaring.{add, add_declaration}
 use Rattle.program_uses.specs.Indices.{is_seq, repeats_of, index_in, turn_by_turn}
-use Rattle.program_uses.specs.Processes.{uses_of, uses_of_body}
 use Rattle.usage_checks.specs.Following.{after_action, after_guard, where_holds}
 use Rattle.usage_checks.specs.NameRules.{with_entries}
 
@@ -77,7 +76,7 @@ abbrev mutual
       repeated repeats.happens
       (turn_by_turn (λ n l. after_component a word c (with_entries (add r.name (index_in repeats n)) l))
       repeats.turns.count
-      (begun_body word (changes_in (uses_of_body a k.entries line r (One kind c))) repeats.happens k))
+      (begun_body word (changed_by_body a.signatures k.entries r (One kind c)) repeats.happens k))
 
   pub after_components : {part : Part} → Around → Terminal → Components part → Known → Known
   after_components a word NoComponent k = k
@@ -86,6 +85,6 @@ abbrev mutual
   -- a component ends, and what is next begins
   pub after_component : {part : Part} → Around → Terminal → Component part → Known → Known
   after_component a word (Plain p) k =
-      process_ended word (length k.entries) (changes_in (uses_of a k.entries p)) (inside a p k)
+      process_ended word (length k.entries) (changed_by a.signatures k.entries p) (inside a p k)
   after_component a word (Chosen line e p) k = next (inside a p (chosen e k))
   after_component a word (Guarded line g p) k = next (inside a p (with_entries (after_guard g) k))

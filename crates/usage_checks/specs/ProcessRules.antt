@@ -6,11 +6,10 @@ use Rattle.occam_parser.specs.Lines.{Replicator, block_word}
 use Rattle.occam_parser.specs.Blocks.{Process, Declared, Does, Construct, Act, Block, Replicated, Body, One, Part}
 use Rattle.occam_parser.specs.Blocks.{Components, NoComponent, Further, Component, Plain, Chosen, Guarded}
 use Rattle.scalar_ranges.specs.Moves.{Known}
-use Rattle.program_uses.specs.Components.{changes_in}
+use Rattle.program_uses.specs.Changes.{changed_by_body}
 use Rattle.program_uses.specs.Actions.{Around, is_before}
 use Rattle.program_uses.specs.Declaring.{add, add_declaration}
 use Rattle.program_uses.specs.Indices.{is_seq, repeats_of, index_in, turn_by_turn}
-use Rattle.program_uses.specs.Processes.{uses_of_body}
 use Rattle.usage_checks.specs.declared.channel_rules.Position.{Position}
 use Rattle.program_uses.specs.declared.telling.UsageFault.{UsageFault}
 use Rattle.usage_checks.specs.ActionRules.{BreaksAction, BreaksGuard}
@@ -57,7 +56,7 @@ abbrev mutual
       BreaksInTurns (λ n l. after_component a word c (with_entries (add r.name (index_in repeats n)) l))
       (λ n l. BreaksComponent a (position_in word (length k.entries) p) c
       (with_entries (add r.name (index_in repeats n)) l)) repeats.turns.count
-      (begun_body word (changes_in (uses_of_body a k.entries line r (One kind c))) repeats.happens k) f
+      (begun_body word (changed_by_body a.signatures k.entries r (One kind c)) repeats.happens k) f
 
   pub BreakComponents : {part : Part} → Around → Position → Terminal → Components part → Known → UsageFault → Type 0
   BreakComponents a p word NoComponent k f = ⊥

@@ -9,10 +9,9 @@ use Rattle.occam_parser.specs.Blocks.{ProgramItem, GlobalConstant, GlobalProcedu
 use Rattle.scalar_ranges.specs.Entries.{Entry}
 use Rattle.scalar_ranges.specs.Moves.{Known}
 use Rattle.program_uses.specs.Actions.{Around, is_before}
-use Rattle.program_uses.specs.Components.{changes_in}
+use Rattle.program_uses.specs.Changes.{changed_by_body}
 use Rattle.program_uses.specs.Declaring.{add, add_declaration}
 use Rattle.program_uses.specs.Indices.{is_sequence, Repeats, repeats_of, index_in, turn_by_turn}
-use Rattle.program_uses.specs.Processes.{uses_of_body}
 use Rattle.program_uses.specs.Signatures.{Parameter}
 use Rattle.usage_checks.specs.declared.channel_rules.Position.{Position}
 use Rattle.program_uses.specs.declared.telling.UsageFault.{UsageFault}
@@ -71,7 +70,7 @@ turn_of a r (One kind c) repeats n k =
 abbrev pub in_turn_of : Around → ℕ → Replicator → Body → Known → ℕ → Known
 in_turn_of a line r b k n =
     let repeats = repeats_in a line r b k in
-    let changed = changes_in (uses_of_body a k.entries line r b) in
+    let changed = changed_by_body a.signatures k.entries r b in
     with_entries (add r.name (index_in repeats n))
     (turn_by_turn (turn_of a r b repeats) n (begun_body (word_of b) changed repeats.happens k))
 

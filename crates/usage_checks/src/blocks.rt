@@ -7,12 +7,11 @@ ghost use Rattle.occam_parser.specs.LineViews.{action_of, replicator_of};
 ghost use Rattle.occam_parser.specs.BlockViews.{process_of, construct_of, choice_of, branch_of, plain_component};
 ghost use Rattle.occam_parser.specs.BlockViews.{body_of};
 ghost use Rattle.occam_parser.specs.BlockViews.{all_processes, all_choices, all_branches};
-ghost use Rattle.std.specs.Prelude.{◌≡◌, ℕ, true};
-ghost use Rattle.scalar_ranges.specs.Moves.{begin, begin_par, begin_loop, is_one_of};
+ghost use Rattle.std.specs.Prelude.{◌≡◌, true};
+ghost use Rattle.scalar_ranges.specs.Moves.{begin, begin_par, begin_loop};
 ghost use Rattle.scalar_ranges.specs.Scopes.{entries_of, known_of};
 ghost use Rattle.program_uses.specs.ActionViews.{around_of};
-ghost use Rattle.program_uses.specs.Components.{changes_in};
-ghost use Rattle.program_uses.specs.Processes.{uses_of, uses_of_body};
+ghost use Rattle.program_uses.specs.Changes.{changed_by, changed_by_body};
 ghost use Rattle.usage_checks.specs.AfterProcesses.{unless, begun_turns, repeated};
 ghost use Rattle.usage_checks.specs.ProcessRules.{position_in};
 ghost use Rattle.program_uses.specs.Telling.{At};
@@ -85,10 +84,10 @@ impl Findings {
         process: &Process<'a>,
     ) -> Vec<usize>
         ensures walks { Walks self.old self.new (known_of scope.new) (known_of scope.old) (λ f. ⊥) }
-        ensures numbers { self.new.complete ≡ true → (n : ℕ) → is_one_of result.items n ≡ is_one_of
-            (changes_in (uses_of (around_of site.entry.around) (entries_of scope.old) (process_of process.now))) n }
+        ensures numbers { self.new.complete ≡ true → result.items
+            ≡ changed_by (around_of site.entry.around).signatures (entries_of scope.old) (process_of process.now) }
     {
-        match variables_changed(site.alloc, site.around, scope, process) {
+        match variables_changed(site.alloc, site.around.signatures, scope, process) {
             Ok(numbers) => numbers,
             Err(_) => {
                 self.fail();
@@ -110,15 +109,14 @@ impl Findings {
         &mut self,
         site: Site,
         scope: &mut Scope<'a>,
-        line: u32,
         replicator: &Replicator<'a>,
         body: &Body<'a>,
     )
         ensures { Walks self.old self.new (known_of scope.new)
-            (begin_loop (changes_in (uses_of_body (around_of site.entry.around) (entries_of scope.old) line
-            (replicator_of replicator.now) (body_of body.now))) (known_of scope.old)) (λ f. ⊥) }
+            (begin_loop (changed_by_body (around_of site.entry.around).signatures (entries_of scope.old)
+            (replicator_of replicator.now) (body_of body.now)) (known_of scope.old)) (λ f. ⊥) }
     {
-        match variables_changed_in(site.alloc, site.around, scope, line, replicator, body) {
+        match variables_changed_in(site.alloc, site.around.signatures, scope, replicator, body) {
             Ok(numbers) => self.begin_widened(scope, &numbers),
             Err(_) => self.fail(),
         }
@@ -148,17 +146,16 @@ impl Findings {
         &mut self,
         site: Site,
         scope: &mut Scope<'a>,
-        line: u32,
         replicator: &Replicator<'a>,
         body: &Body<'a>,
     )
         ensures { Walks self.old self.new (known_of scope.new)
-            (begun_turns (word_of (body_of body.now)) (changes_in (uses_of_body (around_of site.entry.around)
-            (entries_of scope.old) line (replicator_of replicator.now) (body_of body.now))) (known_of scope.old))
+            (begun_turns (word_of (body_of body.now)) (changed_by_body (around_of site.entry.around).signatures
+            (entries_of scope.old) (replicator_of replicator.now) (body_of body.now)) (known_of scope.old))
             (λ f. ⊥) }
     {
         match body {
-            Body::Seq(_) => self.begin_loop(site, scope, line, replicator, body),
+            Body::Seq(_) => self.begin_loop(site, scope, replicator, body),
             Body::Par(_) => self.begin_par(scope),
             Body::If(_) | Body::Alt(_) => self.begin(scope),
         }
@@ -357,7 +354,7 @@ impl Findings {
         let repeats = repeats_of(counted, scope, is_sequence(body), replicator);
         let inner = site.in_body(body, scope.len());
         self.begin_unless(scope, repeats.happens);
-        self.begin_turns(site, scope, line, replicator, body);
+        self.begin_turns(site, scope, replicator, body);
         for turn in 0..repeats.turns.count {
             self.enter(scope, replicator.name, repeats.index_in(turn));
             self.walk_turn(inner, scope, body);

@@ -4,7 +4,7 @@ use Rattle.scalar_ranges.specs.Scopes.{entries_of}
 use Rattle.program_uses.specs.Declaring.{add_outline}
 use Rattle.program_uses.proofs.NextInTurn.{next_in_turn}
 use Rattle.program_uses.proofs.ScopesExtended.{extends_both}
-use Rattle.usage_checks.proofs.extending.add_outlines.Goals as goal
+use Rattle.program_uses.proofs.extending.add_outlines.Goals as goal
 
 pub loop-declaration-preserved : goal.loop-declaration-preserved
 loop-declaration-preserved c =

@@ -3,7 +3,7 @@ use Rattle.occam_parser.specs.LineViews.{spelling_of}
 use Rattle.scalar_ranges.specs.Scopes.{entries_of, known_of, meaning_of}
 use Rattle.program_uses.specs.Declaring.{add_all}
 use Rattle.program_uses.specs.Extending.{Extends}
-use Rattle.usage_checks.proofs.extending.add_names.Given as goal
+use Rattle.program_uses.proofs.extending.add_names.Given as goal
 
 abbrev pub invariant-loop-name : goal.invariant-loop-name
 invariant-loop-name l = record {

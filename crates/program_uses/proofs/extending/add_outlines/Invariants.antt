@@ -3,7 +3,7 @@ use Rattle.occam_parser.specs.LineViews.{declaration_of}
 use Rattle.scalar_ranges.specs.Scopes.{entries_of, known_of}
 use Rattle.program_uses.specs.Entering.{add_outlines}
 use Rattle.program_uses.specs.Extending.{Extends}
-use Rattle.usage_checks.proofs.extending.add_outlines.Given as goal
+use Rattle.program_uses.proofs.extending.add_outlines.Given as goal
 
 abbrev pub invariant-loop-declaration : goal.invariant-loop-declaration
 invariant-loop-declaration l = record {

@@ -5,7 +5,7 @@ use Rattle.scalar_ranges.specs.Scopes.{entries_of, meaning_of}
 use Rattle.program_uses.specs.Declaring.{add, add_all}
 use Rattle.program_uses.proofs.NextInTurn.{next_in_turn}
 use Rattle.program_uses.proofs.ScopesExtended.{extends_both}
-use Rattle.usage_checks.proofs.extending.add_names.Goals as goal
+use Rattle.program_uses.proofs.extending.add_names.Goals as goal
 
 pub loop-name-preserved : goal.loop-name-preserved
 loop-name-preserved c =

@@ -1,6 +1,6 @@
 use Rattle.scalar_ranges.specs.Scopes.{known_of, meaning_of}
 use Rattle.program_uses.proofs.ScopesExtended.{extends_one}
-use Rattle.usage_checks.proofs.extending.add_name.Goals as goal
+use Rattle.program_uses.proofs.extending.add_name.Goals as goal
 
 pub returns-clause-extends : goal.returns-clause-extends
 returns-clause-extends c =
