@@ -10,6 +10,7 @@ pub mod BlockSums
 pub mod Leavings
 pub mod Comparisons
 pub mod SideBySide
+pub mod AlikeEntries
 pub mod States
 pub mod OwnWords
 pub mod FrameBounds

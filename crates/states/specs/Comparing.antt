@@ -1,10 +1,13 @@
 -- One map of facts against another, word by word.
-use Rattle.std.specs.Prelude.{◌≡◌, ◌⊎◌, ◌^◌, ℤ, pos, ◌-ℤ◌, ◌≤ℤ◌, ◌<ℤ◌, true, false, List, Some}
+use Rattle.std.specs.Prelude.{◌≡◌, ◌⊎◌, ◌^◌, ℕ, zero, suc, ◌<◌, ℤ, pos, ◌-ℤ◌, ◌≤ℤ◌, ◌<ℤ◌, true, false, List, [], ◌∷◌}
+use Rattle.std.specs.Prelude.{get_or, Some}
+use Rattle.std.specs.Int.{int_max}
 use Rattle.module_format.specs.Rows.{Fact, Entry}
 use Rattle.states.specs.declared.overlay.Written.{Written}
+use Rattle.module_format.specs.Facts.{end_of}
 use Rattle.states.specs.State.{Facts, entry_fact}
 use Rattle.states.specs.declared.known.WordFact.TheVariants.{Alone}
-use Rattle.states.specs.Below.{says}
+use Rattle.states.specs.Below.{implies, says}
 use Rattle.states.specs.Lookup.{fact_of_index}
 use Rattle.states.specs.Rows.{AreApart}
 
@@ -36,3 +39,20 @@ pub record ImpliedTo (row wanted : List Entry) (word : ℤ) (row_left wanted_lef
   pub row_same : (k : ℤ) → next ≤ℤ k → entry_fact row_left k ≡ entry_fact row k
   pub wanted_same : (k : ℤ) → next ≤ℤ k → entry_fact wanted_left k ≡ entry_fact wanted k
   pub each : (k : ℤ) → word ≤ℤ k → k <ℤ next → says (entry_fact row k) (entry_fact wanted k) ≡ true
+
+-- ---- entries side by side
+
+-- two entries are about the same words, and the one says what the other wants
+abbrev pub IsAlike : Entry → Entry → Type 0
+IsAlike entry other =
+    (entry.word ≡ other.word) × (entry.span ≡ other.span) × (implies entry.fact other.fact ≡ true)
+
+-- so many first entries of two rows are alike, each with the one at its place in the other row
+abbrev pub AreAlike : ℕ → List Entry → List Entry → Type 0
+AreAlike count row wanted = (i : ℕ) → i < count → (d : Entry) → IsAlike (get_or row i d) (get_or wanted i d)
+
+-- a word, or the first one behind so many entries, whichever is later
+abbrev pub word_behind : ℕ → List Entry → ℤ → ℤ
+word_behind zero entries word = word
+word_behind (suc n) [] word = word
+word_behind (suc n) (entry ∷ entries) word = word_behind n entries (int_max word (end_of entry))

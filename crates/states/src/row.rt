@@ -3,7 +3,7 @@
 ghost use Rattle.std.specs.Prelude.{◌≡◌, ◌≤◌, ◌+◌, ℤ, pos, ◌+ℤ◌, ◌≤ℤ◌, ◌<ℤ◌, ◌<◌, ◌^◌, true, length, IsTrue, IfSome};
 ghost use Rattle.module_format.specs.Facts.{end_of};
 ghost use Rattle.states.specs.Below.{implies};
-ghost use Rattle.states.specs.Comparing.{ImpliedTo};
+ghost use Rattle.states.specs.Comparing.{ImpliedTo, IsAlike, AreAlike, word_behind};
 ghost use Rattle.states.specs.Rows.{AreApart};
 ghost use Rattle.states.specs.State.{is_word, is_about, said_of, entry_fact};
 
@@ -164,38 +164,66 @@ pub(crate) struct RowPair<'a> {
     pub word: i64,
 }
 
+/// Whether two entries are about the same words.
+#[inline(always)]
+fn has_same_words(entry: &Entry, other: &Entry) -> bool
+    ensures { IsTrue result → (entry.now.word ≡ other.now.word) × (entry.now.span ≡ other.now.span) }
+{
+    (entry.word == other.word) & (entry.span == other.span)
+}
+
 /// Whether two entries are about the same words, and the one says what the other wants.
 #[inline(always)]
 fn is_alike(entry: &Entry, other: &Entry) -> bool
-    ensures { IsTrue result → (entry.now.word ≡ other.now.word) × (entry.now.span ≡ other.now.span)
-        × (implies entry.now.fact other.now.fact ≡ true) }
+    ensures { IsTrue result → IsAlike entry.now other.now }
 {
-    entry.word == other.word && entry.span == other.span && implies(entry.fact, other.fact)
+    has_same_words(entry, other) && implies(entry.fact, other.fact)
 }
 
-/// What is left of two rows behind their first entries, where these are about the same words, and
-/// the one says what the other wants.
+/// How many entries two rows begin with that are alike, each with the one at its place in the other row.
+fn alike_count(row: &[Entry], wanted: &[Entry]) -> usize
+    ensures row { result ≤ length row.now }
+    ensures wanted { result ≤ length wanted.now }
+    ensures alike { AreAlike result row.now wanted.now }
+{
+    let len = row.len().min(wanted.len());
+    for i in 0..len {
+        if !is_alike(&row[i], &wanted[i]) {
+            return i;
+        }
+    }
+    len
+}
+
+/// A word, or the first one behind so many entries of a row, whichever is later.
+fn word_behind(row: &[Entry], count: usize, word: i64) -> i64
+    requires apart { AreApart row.now }
+    requires few { count ≤ length row.now }
+    requires near { word <ℤ pos (2 ^ 40) }
+    ensures value { result ≡ word_behind count row.now word }
+    ensures near { result <ℤ pos (2 ^ 40) }
+{
+    if count == 0 {
+        return word;
+    }
+    word.max(end_of(&row[count - 1]))
+}
+
+/// What is left of two rows from a word on, behind the entries that both begin with and that are alike.
 #[inline(always)]
-fn past_alike<'a>(row: &'a [Entry], wanted: &'a [Entry], word: i64) -> Option<RowPair<'a>>
+fn past_alike<'a>(row: &'a [Entry], wanted: &'a [Entry], word: i64) -> RowPair<'a>
     requires row { AreApart row.now }
     requires wanted { AreApart wanted.now }
     requires near { word <ℤ pos (2 ^ 40) }
-    ensures implied { IfSome result
-        (λ pair. ImpliedTo row.now wanted.now word pair.row.now pair.wanted.now pair.word) }
-    ensures shorter { IfSome result (λ pair. length pair.row.now + length pair.wanted.now
-        < length row.now + length wanted.now) }
+    ensures implied { ImpliedTo row.now wanted.now word result.row.now result.wanted.now result.word }
+    ensures shorter { length result.row.now + length result.wanted.now ≤ length row.now + length wanted.now }
 {
-    let (entry, later) = row.split_first()?;
-    let (other, others) = wanted.split_first()?;
-    if !is_alike(entry, other) {
-        return None;
+    let count = alike_count(row, wanted);
+    RowPair {
+        row: &row[count..],
+        wanted: &wanted[count..],
+        word: word_behind(wanted, count, word),
     }
-    let next = word.max(end_of(other));
-    Some(RowPair {
-        row: later,
-        wanted: others,
-        word: next,
-    })
 }
 
 /// Whether an entry is about a word and says what another one wants, unless `end` is not behind the
@@ -247,21 +275,12 @@ fn past_either<'a>(row: &'a [Entry], wanted: &'a [Entry], word: i64) -> Option<R
     })
 }
 
-/// What is left of two rows behind one of their first entries or both, where the one says what the
-/// other wants of the words up to there.
+/// Whether both rows begin with an entry, and these are about the same words.
 #[inline(always)]
-fn past_first<'a>(row: &'a [Entry], wanted: &'a [Entry], word: i64) -> Option<RowPair<'a>>
-    requires row { AreApart row.now }
-    requires wanted { AreApart wanted.now }
-    requires near { word <ℤ pos (2 ^ 40) }
-    ensures implied { IfSome result
-        (λ pair. ImpliedTo row.now wanted.now word pair.row.now pair.wanted.now pair.word) }
-    ensures shorter { IfSome result (λ pair. length pair.row.now + length pair.wanted.now
-        < length row.now + length wanted.now) }
-{
-    match past_alike(row, wanted, word) {
-        Some(pair) => Some(pair),
-        None => past_either(row, wanted, word),
+fn begin_alike(pair: RowPair) -> bool {
+    match (pair.row.first(), pair.wanted.first()) {
+        (Some(entry), Some(other)) => has_same_words(entry, other),
+        _ => false,
     }
 }
 
@@ -274,17 +293,12 @@ pub(crate) fn past_implied<'a>(row: &'a [Entry], wanted: &'a [Entry], word: i64)
     requires near { word <ℤ pos (2 ^ 40) }
     ensures { ImpliedTo row.now wanted.now word result.row.now result.wanted.now result.word }
 {
-    let mut base = row;
-    let mut left = wanted;
-    let mut at = word;
-    while let Some(pair) = past_first(base, left, at) {
-        base = pair.row;
-        left = pair.wanted;
-        at = pair.word;
+    let mut left = past_alike(row, wanted, word);
+    while let Some(next) = past_either(left.row, left.wanted, left.word) {
+        left = next;
+        if begin_alike(left) {
+            left = past_alike(next.row, next.wanted, next.word);
+        }
     }
-    RowPair {
-        row: base,
-        wanted: left,
-        word: at,
-    }
+    left
 }

@@ -1,17 +1,28 @@
-use Rattle.std.proofs.Common.{rules, arith, SFits}
-use Rattle.std.proofs.lemmas.Int.{ints, to_z-of_z}
+use Rattle.std.proofs.Common.{rules, SFits}
+use Rattle.std.proofs.lemmas.Int.{to_z-of_z}
 use Rattle.std.specs.Int.{w64}
-use Rattle.states.proofs.SideBySide.{implied-none, implied-on}
+use Rattle.states.proofs.SideBySide.{implied-on}
 use Rattle.states.proofs.row.past_implied.Goals as goal
 
-pub loop-pair-init : goal.loop-pair-init
-loop-pair-init c =
-    implied-none c.args.row.now c.args.wanted.now _ _ c.requires.row c.requires.wanted (omega (arith, ints))
-    (omega (arith, ints)) (omega (arith, ints))
+pub loop-next-preserved : goal.loop-next-preserved
+loop-next-preserved c =
+    let left = c.loop-next.left in
+    let next = c.in-Some.next in
+    let left_fits : SFits w64 left.word = search rules in
+    let first = rw (to_z-of_z w64 left.word left_fits) at c.in-Some.ensures.implied in
+    implied-on c.args.row.now c.args.wanted.now left.row.now left.wanted.now next.row.now next.wanted.now _ _ _
+    c.loop-next.invariant first
 
-pub loop-pair-preserved : goal.loop-pair-preserved
-loop-pair-preserved c =
-    let fits : SFits w64 c.in-Some.pair.word = search rules in
-    rw (to_z-of_z w64 c.in-Some.pair.word fits) (implied-on c.args.row.now c.args.wanted.now c.loop-pair.base.now
-    c.loop-pair.left.now c.in-Some.pair.row.now c.in-Some.pair.wanted.now _ _ _ c.loop-pair.invariant
-    c.in-Some.ensures.implied)
+pub loop-next-preserved-then-begin_alike : goal.loop-next-preserved-then-begin_alike
+loop-next-preserved-then-begin_alike c =
+    let left = c.loop-next.left in
+    let next = c.in-Some.next in
+    let passed = c.past_alike-left-then-begin_alike.result in
+    let left_fits : SFits w64 left.word = search rules in
+    let next_fits : SFits w64 next.word = search rules in
+    let first = rw (to_z-of_z w64 left.word left_fits) at c.in-Some.ensures.implied in
+    let second = rw (to_z-of_z w64 next.word next_fits) at c.past_alike-left-then-begin_alike.ensures.implied in
+    implied-on c.args.row.now c.args.wanted.now next.row.now next.wanted.now passed.row.now passed.wanted.now _ _ _
+    (implied-on c.args.row.now c.args.wanted.now left.row.now left.wanted.now next.row.now next.wanted.now _ _ _
+    c.loop-next.invariant first)
+    second
