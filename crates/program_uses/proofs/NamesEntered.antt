@@ -1,23 +1,34 @@
 -- A scope while names are declared in it, one declaration after another.
-use Rattle.std.proofs.Common.{◌≡◌, ℕ, ◌+◌, ◌<◌, true, List, [], ◌∷◌, ◌++◌, length, map, take, get_or}
+use Rattle.std.proofs.Common.{◌≡◌, ℕ, ◌+◌, ◌<◌, true, false, List, [], ◌∷◌, ◌++◌, length, map, take, get_or}
 use Rattle.std.proofs.Common.{refl, sym, ap, subst, ◌∙◌, ◌||◌, append_assoc}
 use Rattle.std.proofs.lemmas.List.{append-nil}
 use Rattle.occam_parser.specs.declared.tree.Declaration as code_declaration
 use Rattle.occam_parser.specs.Lines.{Declaration}
 use Rattle.occam_parser.specs.LineViews.{declaration_of}
 use Rattle.scalar_ranges.specs.Entries.{Entry}
+use Rattle.scalar_ranges.specs.Moves.{Known}
 use Rattle.program_uses.specs.declared.uses.Use.{Use}
 use Rattle.program_uses.specs.declared.uses.Uses.{Uses}
 use Rattle.program_uses.specs.Sets.{has, is_among, Adds}
 use Rattle.program_uses.specs.Actions.{uses_of_declaration}
 use Rattle.program_uses.specs.Declaring.{add_outline}
+use Rattle.program_uses.specs.Extending.{Extends}
 use Rattle.program_uses.specs.Entering.{Enters, uses_of_declarations, add_outlines}
 use Rattle.program_uses.proofs.Adding.{adds_both, adds_as}
 use Rattle.program_uses.proofs.NextInTurn.{seen_more}
 
-pub enters_one : (s : Uses) (before after : List Entry) (e : Entry) → after ≡ e ∷ before
-    → Enters s before after (e ∷ before)
-enters_one s before after e is = record { entries = λ k. is; inner = e ∷ []; kept = is }
+pub enters_ok : (s : Uses) (k l : Known) {wanted : List Entry} → Extends k l → l.entries ≡ wanted
+    → Enters s k.entries l.entries wanted
+enters_ok s k l extends is = record { entries = λ e. is; inner = extends.inner; kept = extends.entries }
+
+-- where memory was not enough, whatever was wanted
+pub enters_err : (s : Uses) (k l : Known) {wanted : List Entry} → Extends k l → s.complete ≡ false
+    → Enters s k.entries l.entries wanted
+enters_err s k l extends lacks = record {
+  entries = λ e. (let x = sym lacks ∙ e in absurd cc);
+  inner = extends.inner;
+  kept = extends.entries;
+}
 
 pub enters_none : (s : Uses) (es : List Entry) → Enters s es es es
 enters_none s es = record { entries = λ k. refl; inner = []; kept = refl }

@@ -5,10 +5,11 @@ ghost use Rattle.std.specs.Prelude.{◌≡◌, [], ◌∷◌, false};
 use std::alloc::Global;
 use std::collections::HashSet;
 use std::collections::hash_set::Iter;
+use std::hash::{Hash, Hasher};
 use std::mem;
 
 /// Which end of a channel is used.
-#[derive(Clone, Copy, PartialEq, Eq, PartialOrd, Ord, Hash)]
+#[derive(Clone, Copy, PartialEq, Eq, PartialOrd, Ord)]
 pub enum Direction {
     Input,
     Output,
@@ -22,7 +23,7 @@ pub struct End {
 }
 
 /// What is used, by the number of its declaration.
-#[derive(Clone, Copy, PartialEq, Eq, Hash)]
+#[derive(Clone, Copy, PartialEq, Eq)]
 pub enum Use {
     /// A variable is read.
     Read(usize),
@@ -34,6 +35,31 @@ pub enum Use {
         element: u32,
         direction: Direction,
     },
+}
+
+/// By numbers alone: an end that is used one way is seldom used the other way too.
+impl Hash for Use {
+    ghost use Rattle.std.proofs.Common.{rules};
+    ghost use Rattle.std.specs.Cmp.Rules.{hashing};
+    ghost use Rattle.program_uses.specs.Sets.{numbers_fed};
+
+    ghost hash_input = { numbers_fed };
+
+    ghost respects_eq = { Prim.search (hashing, rules) };
+
+    fn hash<H: Hasher>(&self, state: &mut H) {
+        match self {
+            Use::Read(number) | Use::Change(number) => number.hash(state),
+            Use::Channel {
+                channel,
+                element,
+                ..
+            } => {
+                channel.hash(state);
+                element.hash(state);
+            }
+        }
+    }
 }
 
 /// What is used. It remembers whether memory ran out while something was added.

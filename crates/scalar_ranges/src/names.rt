@@ -1,9 +1,10 @@
 //! Names in the order of their declarations, of which the innermost one is found at once.
 
-ghost use Rattle.std.specs.Prelude.{◌≡◌, ◌<◌, ℕ, List, [], ◌∷◌, map, Some, vec_len, IfOk, OnOk, OnErr};
+ghost use Rattle.std.specs.Prelude.{◌≡◌, ◌<◌, ℕ, List, [], ◌∷◌, map, Some, None, vec_len, IfOk, OnOk, OnErr};
 ghost use Rattle.scalar_ranges.specs.Moves.{outermost};
 ghost use Rattle.scalar_ranges.specs.Naming.{number_of, hidden_by, names_from, hides_from, without_first};
 ghost use Rattle.scalar_ranges.specs.Naming.{spelling_of, spellings_from, innermost_of};
+ghost use Rattle.scalar_ranges.specs.declared.names.Spelling.{Spelling};
 
 use std::alloc::{AllocError, Global};
 use std::collections::HashMap;
@@ -18,6 +19,13 @@ pub(crate) struct Row<'a> {
     pub(crate) hides: Option<usize>,
 }
 
+/// A spelling with its number.
+#[derive(Clone, Copy)]
+pub(crate) struct Spelling<'a> {
+    pub(crate) name: &'a [u8],
+    pub(crate) number: usize,
+}
+
 /// The names that are declared at a place, numbered from the outermost declaration on.
 ///
 /// A spelling gets a number with its first declaration and keeps it after its last one is left. So leaving a
@@ -30,6 +38,8 @@ pub(crate) struct Names<'a> {
     pub(crate) spellings: HashMap<&'a [u8], usize>,
     /// The number of the innermost declaration of each spelling, by the spelling's number.
     pub(crate) innermost: Vec<Option<usize>>,
+    /// The spelling that was declared last. The index of a replicator is declared again in each turn.
+    pub(crate) last: Option<Spelling<'a>>,
     ghost found: { (q : List ℕ)
         → innermost_of (spelling_of q spellings) innermost.items ≡ number_of q (names_from rows.items) },
     ghost apart: { (p q : List ℕ) (n : ℕ)
@@ -38,6 +48,7 @@ pub(crate) struct Names<'a> {
     ghost spelled: { map (λ q. spelling_of q spellings) (names_from rows.items)
         ≡ map Some (spellings_from rows.items) },
     ghost hides: { hides_from rows.items ≡ hidden_by (names_from rows.items) },
+    ghost latest: { (s : Spelling) → last ≡ Some s → spelling_of s.name.now spellings ≡ Some s.number },
 }
 
 impl<'a> Names<'a> {
@@ -49,6 +60,7 @@ impl<'a> Names<'a> {
             rows: Vec::new(alloc),
             spellings: HashMap::new(alloc),
             innermost: Vec::new(alloc),
+            last: None,
         }
     }
 
@@ -73,13 +85,36 @@ impl<'a> Names<'a> {
         ensures number { IfOk result (λ number. spelling_of name.now self.new.spellings ≡ Some number) }
         ensures rows { self.new.rows.items ≡ self.old.rows.items }
     {
-        if let Some(number) = self.spellings.get(name) {
-            return Ok(*number);
+        match self.known_spelling(name) {
+            Some(number) => {
+                self.last = Some(Spelling { name, number });
+                Ok(number)
+            }
+            None => self.new_spelling(name),
         }
+    }
+
+    /// The number of a spelling that has one.
+    fn known_spelling(&self, name: &[u8]) -> Option<usize>
+        ensures { result ≡ spelling_of name.now self.now.spellings }
+    {
+        match self.last {
+            Some(last) if last.name == name => Some(last.number),
+            _ => self.spellings.get(name).copied(),
+        }
+    }
+
+    /// The next number for a spelling that has none.
+    fn new_spelling(&mut self, name: &'a [u8]) -> Result<usize, AllocError>
+        requires { spelling_of name.now self.old.spellings ≡ None }
+        ensures number { IfOk result (λ number. spelling_of name.now self.new.spellings ≡ Some number) }
+        ensures rows { self.new.rows.items ≡ self.old.rows.items }
+    {
         let number = self.innermost.len();
         self.innermost.reserve(1)?;
         self.spellings.insert(name, number)?;
         self.innermost.push_reserved(None);
+        self.last = Some(Spelling { name, number });
         Ok(number)
     }
 

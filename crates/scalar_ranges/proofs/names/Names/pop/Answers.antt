@@ -19,4 +19,5 @@ invariant_of-self c =
       within = old.within;
       spelled = known.spelled;
       hides = known.further;
+      latest = old.latest;
     }

@@ -1,8 +1,10 @@
-use Rattle.std.proofs.Common.{◌≡◌, ℕ, List, [], ◌∷◌, ◌++◌, length, None, Some, ◌∙◌, sym, ap, subst, arith}
+use Rattle.std.proofs.Common.{◌≡◌, ℕ, List, [], ◌∷◌, ◌++◌, length, None, Some, cond, ◌∙◌, refl, sym, ap, subst, arith}
 use Rattle.std.proofs.lemmas.Map.Text.{hash_map_updates_str}
+use Rattle.std.proofs.lemmas.Slice.Eq.{bytes_eq-Decides}
+use Rattle.scalar_ranges.specs.declared.names.Spelling.{Spelling}
 use Rattle.scalar_ranges.specs.Naming.{names_from, spellings_from, spelling_of, innermost_of}
 use Rattle.scalar_ranges.proofs.Found.{numbered_of, Gets, found_new, numbered_new, spelled_new}
-use Rattle.scalar_ranges.proofs.names.Names.spelling.Goals as goal
+use Rattle.scalar_ranges.proofs.names.Names.new_spelling.Goals as goal
 
 pub invariant_of-self-2 : goal.invariant_of-self-2
 invariant_of-self-2 c =
@@ -15,7 +17,7 @@ invariant_of-self-2 c =
     let new : c.len-number.result ≡ length innermost = omega arith in
     let gets : Gets number name (length innermost) after = subst (λ n. Gets number name n after) new
     (record {
-      none = sym c.in_default.ensures.value;
+      none = c.requires;
       gives = hash_map_updates_str name old.spellings c.insert.new.self (Some c.len-number.result)
           c.in_ok-insert.ensures.updates;
     }) in
@@ -31,4 +33,11 @@ invariant_of-self-2 c =
           omega arith;
       spelled = spelled_new number after name (length innermost) names (spellings_from old.rows.items) gets old.spelled;
       hides = old.hides;
+      latest = λ s h.
+          let itself = (bytes_eq-Decides name name).1 refl in
+          let own : after name ≡ Some (length innermost) =
+          gets.gives name ∙ ap (λ t. cond t (Some (length innermost)) (number name)) itself in
+          let this : Spelling = record { name = c.args.name; number = c.len-number.result } in
+          let same : this ≡ s = cc in
+          subst (λ (x : Spelling). after x.name.now ≡ Some x.number) same (own ∙ ap Some (sym new));
     }
