@@ -62,6 +62,9 @@ impl Hash for Use {
     }
 }
 
+/// For how many times as many uses as a set has there is to be room, where it gets more.
+const MORE_ROOM: usize = 7;
+
 /// What is used. It remembers whether memory ran out while something was added.
 #[derive(Drop)]
 pub struct Uses {
@@ -91,6 +94,17 @@ impl Uses {
         match self.set.insert(item) {
             Ok(_) => {}
             Err(_) => self.complete = false,
+        }
+    }
+
+    /// Room for so many uses more, and for many besides where there is none: to make room is to go over all that is
+    /// there. If memory does not suffice for it, a further use takes what it needs.
+    pub(crate) fn make_room(&mut self, count: usize)
+        ensures { Adds self.old self.new [] }
+    {
+        let len = self.set.len();
+        if self.set.capacity() - len < count {
+            let _ = self.set.reserve(count.max(len.saturating_mul(MORE_ROOM)));
         }
     }
 
