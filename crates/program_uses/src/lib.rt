@@ -1,4 +1,4 @@
-//! What programs use, and what the components of a `PAR` share.
+//! What programs use and change, and what the components of a `PAR` share.
 #![tactic(auto)]
 
 mod actions;
