@@ -19,3 +19,4 @@ pub mod WholeMoves
 pub mod KnownValues
 pub mod LinesHold
 pub mod PlacesHold
+pub mod NothingShared

@@ -150,7 +150,7 @@ indexed_whole count name m k h w = entries_whole count (add name m) k w (h, w.en
 
 -- ---- turns
 
-last_or_before : (m n : ℕ) → m < suc n → (m ≡ n) ⊎ (m < n)
+pub last_or_before : (m n : ℕ) → m < suc n → (m ≡ n) ⊎ (m < n)
 last_or_before m n h = eq-or-lt_of_le (le_of_suc-le-suc h)
 
 -- what each of so many turns keeps holds after them

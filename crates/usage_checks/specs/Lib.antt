@@ -24,3 +24,4 @@ pub mod ItemViews
 pub mod Whole
 pub mod Holding
 pub mod Reaching
+pub mod Unshared

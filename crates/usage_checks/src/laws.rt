@@ -1,5 +1,6 @@
 //! The laws of programs that break no rule, each the contract of a function that does nothing.
 ghost use Rattle.usage_checks.specs.Reaching.{PlacesHold, ItemsHold, SignaturesStay};
+ghost use Rattle.usage_checks.specs.Unshared.{NothingShared};
 
 /// At each place that the walk over such a program comes to, no rule is broken in what stands there. Constants in scope
 /// have their values, arrays their sizes, and procedures their parameters. The names of its first line are found, their
@@ -22,4 +23,11 @@ pub fn items_hold()
 #[tactic(auto, using(crate::proofs::PlacesHold::signatures_stay))]
 pub fn signatures_stay()
     ensures { SignaturesStay }
+{}
+
+/// What the components of PARs share is asked in the body of a procedure, by the names that are declared there; so at
+/// each place in it, with what is declared between, they share nothing.
+#[tactic(auto, using(crate::proofs::NothingShared::nothing_shared))]
+pub fn nothing_shared()
+    ensures { NothingShared }
 {}
