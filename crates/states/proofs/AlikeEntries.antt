@@ -26,7 +26,7 @@ alike-more n row wanted e f low other_low earlier here = λ i h d. elim (cases_l
 -- ---- the word behind entries
 
 -- it is no earlier one
-behind-ahead : (n : ℕ) (entries : List Entry) (word : ℤ) → word ≤ℤ word_behind n entries word
+pub behind-ahead : (n : ℕ) (entries : List Entry) (word : ℤ) → word ≤ℤ word_behind n entries word
 behind-ahead zero entries word = omega (arith, ints)
 behind-ahead (suc n) [] word = omega (arith, ints)
 behind-ahead (suc n) (entry ∷ entries) word =

@@ -11,6 +11,7 @@ pub mod Leavings
 pub mod Comparisons
 pub mod SideBySide
 pub mod AlikeEntries
+pub mod EntriesWithin
 pub mod States
 pub mod OwnWords
 pub mod FrameBounds

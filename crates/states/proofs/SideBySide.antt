@@ -42,7 +42,7 @@ said-by-both row wanted entry other later others k is other_is both =
     (implies-said entry.fact other.fact (is_word entry.word k) (is_word other.word k) both.implied)
 
 -- before the first entry of a row nothing is wanted
-before-wanted : (said : WordFact) (wanted : List Entry) (other : Entry) (others : List Entry) (k : ℤ)
+pub before-wanted : (said : WordFact) (wanted : List Entry) (other : Entry) (others : List Entry) (k : ℤ)
     → AreApart wanted → wanted ≡ other ∷ others → k <ℤ other.word → says said (entry_fact wanted k) ≡ true
 before-wanted said wanted other others k apart is low =
     ap (says said) (segment-before wanted other others other.word k apart is refl low) ∙ says-unknown said
@@ -107,6 +107,22 @@ implied-none row wanted word next row_apart wanted_apart near ahead back = recor
   ahead = ahead;
   row_same = λ k l. refl;
   wanted_same = λ k l. refl;
+  each = λ k low high. absurd (omega (arith, ints));
+}
+
+-- only what ended before is left out
+pub implied-rest : (row wanted row_left wanted_left : List Entry) (word : ℤ) → AreApart row_left
+    → AreApart wanted_left → word <ℤ pos (2 ^ 40)
+    → ((k : ℤ) → word ≤ℤ k → entry_fact row_left k ≡ entry_fact row k)
+    → ((k : ℤ) → word ≤ℤ k → entry_fact wanted_left k ≡ entry_fact wanted k)
+    → ImpliedTo row wanted word row_left wanted_left word
+implied-rest row wanted row_left wanted_left word row_apart wanted_apart near row_same wanted_same = record {
+  row_apart = row_apart;
+  wanted_apart = wanted_apart;
+  near = near;
+  ahead = omega (arith, ints);
+  row_same = row_same;
+  wanted_same = wanted_same;
   each = λ k low high. absurd (omega (arith, ints));
 }
 

@@ -1,6 +1,6 @@
 -- One map of facts against another, word by word.
-use Rattle.std.specs.Prelude.{◌≡◌, ◌⊎◌, ◌^◌, ℕ, zero, suc, ◌<◌, ℤ, pos, ◌-ℤ◌, ◌≤ℤ◌, ◌<ℤ◌, true, false, List, [], ◌∷◌}
-use Rattle.std.specs.Prelude.{get_or, Some}
+use Rattle.std.specs.Prelude.{◌≡◌, ⊤, ◌⊎◌, ◌^◌, ℕ, zero, suc, ◌<◌, ℤ, pos, ◌-ℤ◌, ◌≤ℤ◌, ◌<ℤ◌, true, false, List, [], ◌∷◌}
+use Rattle.std.specs.Prelude.{get_or, length, Some}
 use Rattle.std.specs.Int.{int_max}
 use Rattle.module_format.specs.Rows.{Fact, Entry}
 use Rattle.states.specs.declared.overlay.Written.{Written}
@@ -50,6 +50,27 @@ IsAlike entry other =
 -- so many first entries of two rows are alike, each with the one at its place in the other row
 abbrev pub AreAlike : ℕ → List Entry → List Entry → Type 0
 AreAlike count row wanted = (i : ℕ) → i < count → (d : Entry) → IsAlike (get_or row i d) (get_or wanted i d)
+
+-- an entry ends no later than another one, which says what it wants
+abbrev pub IsWithin : Entry → Entry → Type 0
+IsWithin wanted entry = (end_of wanted ≤ℤ end_of entry) × (implies entry.fact wanted.fact ≡ true)
+
+-- an entry ends behind another one, if that one says what it wants
+abbrev pub GoesOn : Entry → Entry → Type 0
+GoesOn wanted entry = implies entry.fact wanted.fact ≡ true → end_of entry <ℤ end_of wanted
+
+-- so many first entries of a row are within another one
+abbrev pub AreWithin : ℕ → List Entry → Entry → Type 0
+AreWithin count wanted entry = (i : ℕ) → i < count → (d : Entry) → IsWithin (get_or wanted i d) entry
+
+-- the entry of a row behind so many, if there is one, does so
+abbrev pub GoesOnAt : ℕ → List Entry → Entry → Type 0
+GoesOnAt count wanted entry = (d : Entry) → count < length wanted → GoesOn (get_or wanted count d) entry
+
+-- the first entry of a row, if it has one, is behind another entry, or that one says what it wants
+abbrev pub SaysFirst : Entry → List Entry → Type 0
+SaysFirst entry [] = ⊤
+SaysFirst entry (first ∷ later) = (end_of entry ≤ℤ first.word) ⊎ (implies entry.fact first.fact ≡ true)
 
 -- a word, or the first one behind so many entries, whichever is later
 abbrev pub word_behind : ℕ → List Entry → ℤ → ℤ

@@ -1,9 +1,10 @@
 //! The entries of a label row.
 
-ghost use Rattle.std.specs.Prelude.{◌≡◌, ◌≤◌, ◌+◌, ℤ, pos, ◌+ℤ◌, ◌≤ℤ◌, ◌<ℤ◌, ◌<◌, ◌^◌, true, length, IsTrue, IfSome};
+ghost use Rattle.std.specs.Prelude.{◌≡◌, ◌≤◌, ◌+◌, ℤ, pos, ◌+ℤ◌, ◌≤ℤ◌, ◌<ℤ◌, ◌<◌, ◌^◌, true, length, IsTrue, IsFalse, IfSome};
 ghost use Rattle.module_format.specs.Facts.{end_of};
 ghost use Rattle.states.specs.Below.{implies};
-ghost use Rattle.states.specs.Comparing.{ImpliedTo, IsAlike, AreAlike, word_behind};
+ghost use Rattle.states.specs.Comparing.{ImpliedTo, IsAlike, AreAlike, IsWithin, GoesOn, AreWithin, GoesOnAt, SaysFirst};
+ghost use Rattle.states.specs.Comparing.{word_behind};
 ghost use Rattle.states.specs.Rows.{AreApart};
 ghost use Rattle.states.specs.State.{is_word, is_about, said_of, entry_fact};
 
@@ -211,38 +212,74 @@ fn word_behind(row: &[Entry], count: usize, word: i64) -> i64
 
 /// What is left of two rows from a word on, behind the entries that both begin with and that are alike.
 #[inline(always)]
-fn past_alike<'a>(row: &'a [Entry], wanted: &'a [Entry], word: i64) -> RowPair<'a>
+fn past_alike<'a>(row: &'a [Entry], wanted: &'a [Entry], word: i64) -> Option<RowPair<'a>>
     requires row { AreApart row.now }
     requires wanted { AreApart wanted.now }
     requires near { word <ℤ pos (2 ^ 40) }
-    ensures implied { ImpliedTo row.now wanted.now word result.row.now result.wanted.now result.word }
-    ensures shorter { length result.row.now + length result.wanted.now ≤ length row.now + length wanted.now }
+    ensures implied { IfSome result
+        (λ pair. ImpliedTo row.now wanted.now word pair.row.now pair.wanted.now pair.word) }
+    ensures shorter { IfSome result (λ pair. length pair.row.now + length pair.wanted.now
+        < length row.now + length wanted.now) }
 {
     let count = alike_count(row, wanted);
-    RowPair {
+    if count == 0 {
+        return None;
+    }
+    Some(RowPair {
         row: &row[count..],
         wanted: &wanted[count..],
         word: word_behind(wanted, count, word),
-    }
+    })
 }
 
-/// Whether an entry is about a word and says what another one wants, unless `end` is not behind the
-/// word.
+/// Whether an entry ends no later than another one, which says what it wants.
 #[inline(always)]
-fn is_implied(entry: &Entry, other: &Entry, word: i64, end: i64) -> bool
-    ensures { IsTrue result → word <ℤ end
-        → (entry.now.word ≤ℤ word) × (implies entry.now.fact other.now.fact ≡ true) }
+fn is_within(wanted: &Entry, entry: &Entry) -> bool
+    ensures yes { IsTrue result → IsWithin wanted.now entry.now }
+    ensures no { IsFalse result → GoesOn wanted.now entry.now }
 {
-    if end <= word {
-        return true;
-    }
-    start_of(entry) <= word && implies(entry.fact, other.fact)
+    end_of(wanted) <= end_of(entry) && implies(entry.fact, wanted.fact)
 }
 
-/// What is left of two rows behind that of their first entries which ends first, where the one says
-/// what the other wants of the words up to there.
+/// How many entries a row begins with that are within another one.
 #[inline(always)]
-fn past_either<'a>(row: &'a [Entry], wanted: &'a [Entry], word: i64) -> Option<RowPair<'a>>
+fn count_within(wanted: &[Entry], entry: &Entry) -> usize
+    ensures few { result ≤ length wanted.now }
+    ensures within { AreWithin result wanted.now entry.now }
+    ensures next { GoesOnAt result wanted.now entry.now }
+{
+    for i in 0..wanted.len() {
+        if !is_within(&wanted[i], entry) {
+            return i;
+        }
+    }
+    wanted.len()
+}
+
+/// Whether the first entry of a row, if it has one, is behind another entry, or that one says what it
+/// wants.
+#[inline(always)]
+fn says_first(entry: &Entry, wanted: &[Entry]) -> bool
+    ensures { IsTrue result → SaysFirst entry.now wanted.now }
+{
+    let Some((first, _)) = wanted.split_first() else {
+        return true;
+    };
+    end_of(entry) <= start_of(first) || implies(entry.fact, first.fact)
+}
+
+/// Whether an entry begins behind words from `word` on that another one wants.
+#[inline(always)]
+fn begins_late(entry: &Entry, wanted: &Entry, word: i64) -> bool
+    ensures { IsFalse result → word <ℤ entry.now.word → entry.now.word ≤ℤ wanted.now.word }
+{
+    word < start_of(entry) && start_of(wanted) < start_of(entry)
+}
+
+/// What is left of two rows from a word on, behind the wanted entries that are within the first entry
+/// of the row, and behind that one too where it says what the next one wants.
+#[inline(always)]
+fn past_within<'a>(row: &'a [Entry], wanted: &'a [Entry], word: i64) -> Option<RowPair<'a>>
     requires row { AreApart row.now }
     requires wanted { AreApart wanted.now }
     requires near { word <ℤ pos (2 ^ 40) }
@@ -252,35 +289,58 @@ fn past_either<'a>(row: &'a [Entry], wanted: &'a [Entry], word: i64) -> Option<R
         < length row.now + length wanted.now) }
 {
     let (entry, later) = row.split_first()?;
-    let (other, others) = wanted.split_first()?;
-    let here = end_of(entry);
-    let there = end_of(other);
-    let begin = word.max(start_of(other));
-    let end = here.min(there);
-    if !is_implied(entry, other, begin, end) {
+    let (other, _) = wanted.split_first()?;
+    if begins_late(entry, other, word) {
         return None;
     }
-    let next = begin.max(end);
-    if here <= there {
+    let count = count_within(wanted, entry);
+    let others = &wanted[count..];
+    if says_first(entry, others) {
         return Some(RowPair {
             row: later,
-            wanted,
-            word: next,
+            wanted: others,
+            word: word.max(end_of(entry)),
         });
+    }
+    if count == 0 {
+        return None;
     }
     Some(RowPair {
         row,
         wanted: others,
-        word: next,
+        word: word_behind(wanted, count, word),
     })
 }
 
-/// Whether both rows begin with an entry, and these are about the same words.
+/// What is left of two rows from a word on, behind first entries of which the one says what the other
+/// wants.
 #[inline(always)]
-fn begin_alike(pair: RowPair) -> bool {
-    match (pair.row.first(), pair.wanted.first()) {
-        (Some(entry), Some(other)) => has_same_words(entry, other),
-        _ => false,
+fn past_first<'a>(row: &'a [Entry], wanted: &'a [Entry], word: i64) -> Option<RowPair<'a>>
+    requires row { AreApart row.now }
+    requires wanted { AreApart wanted.now }
+    requires near { word <ℤ pos (2 ^ 40) }
+    ensures implied { IfSome result
+        (λ pair. ImpliedTo row.now wanted.now word pair.row.now pair.wanted.now pair.word) }
+    ensures shorter { IfSome result (λ pair. length pair.row.now + length pair.wanted.now
+        < length row.now + length wanted.now) }
+{
+    if has_same_words(row.first()?, wanted.first()?) {
+        past_alike(row, wanted, word)
+    } else {
+        past_within(row, wanted, word)
+    }
+}
+
+/// A row without its first entry, where that one ends at a word or before.
+#[inline(always)]
+fn without_ended<'a>(row: &'a [Entry], word: i64) -> &'a [Entry]
+    requires { AreApart row.now }
+    ensures apart { AreApart result.now }
+    ensures same { (k : ℤ) → word ≤ℤ k → entry_fact result.now k ≡ entry_fact row.now k }
+{
+    match row.split_first() {
+        Some((entry, later)) if end_of(entry) <= word => later,
+        _ => row,
     }
 }
 
@@ -293,12 +353,13 @@ pub(crate) fn past_implied<'a>(row: &'a [Entry], wanted: &'a [Entry], word: i64)
     requires near { word <ℤ pos (2 ^ 40) }
     ensures { ImpliedTo row.now wanted.now word result.row.now result.wanted.now result.word }
 {
-    let mut left = past_alike(row, wanted, word);
-    while let Some(next) = past_either(left.row, left.wanted, left.word) {
+    let mut left = RowPair {
+        row: without_ended(row, word),
+        wanted: without_ended(wanted, word),
+        word,
+    };
+    while let Some(next) = past_first(left.row, left.wanted, left.word) {
         left = next;
-        if begin_alike(left) {
-            left = past_alike(next.row, next.wanted, next.word);
-        }
     }
     left
 }

@@ -12,17 +12,3 @@ loop-next-preserved c =
     let first = rw (to_z-of_z w64 left.word left_fits) at c.in-Some.ensures.implied in
     implied-on c.args.row.now c.args.wanted.now left.row.now left.wanted.now next.row.now next.wanted.now _ _ _
     c.loop-next.invariant first
-
-pub loop-next-preserved-then-begin_alike : goal.loop-next-preserved-then-begin_alike
-loop-next-preserved-then-begin_alike c =
-    let left = c.loop-next.left in
-    let next = c.in-Some.next in
-    let passed = c.past_alike-left-then-begin_alike.result in
-    let left_fits : SFits w64 left.word = search rules in
-    let next_fits : SFits w64 next.word = search rules in
-    let first = rw (to_z-of_z w64 left.word left_fits) at c.in-Some.ensures.implied in
-    let second = rw (to_z-of_z w64 next.word next_fits) at c.past_alike-left-then-begin_alike.ensures.implied in
-    implied-on c.args.row.now c.args.wanted.now next.row.now next.wanted.now passed.row.now passed.wanted.now _ _ _
-    (implied-on c.args.row.now c.args.wanted.now left.row.now left.wanted.now next.row.now next.wanted.now _ _ _
-    c.loop-next.invariant first)
-    second
