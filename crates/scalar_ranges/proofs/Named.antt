@@ -51,12 +51,16 @@ something_by true l n m a b is none further = absurd (cc)
 something_by false l n m a b is none further = further is none
 
 -- what has a number means something
-pub means_something : (name : List ℕ) (n : ℕ) (es : List Entry) → number_in name es ≡ Some n
+means_something : (name : List ℕ) (n : ℕ) (es : List Entry) → number_in name es ≡ Some n
     → meaning_in name es ≡ None → ⊥
 means_something name n [] is none = absurd (cc)
 means_something name n (e ∷ es) is none =
     something_by (bytes_eq e.name name) (length es) n e.meaning (number_in name es) (meaning_in name es) is none
     (means_something name n es)
+
+-- what has a number is an entry
+pub number_found : (name : List ℕ) (n : ℕ) (es : List Entry) → number_in name es ≡ Some n → None ≡ meaning_at n es → ⊥
+number_found name n es is none = means_something name n es is (meaning_found name n es is ∙ sym none)
 
 -- the same of a name that stands for nothing
 by_none : {A : Type 0} (t : Bool) (name : List ℕ) (es : List Entry) (x y z : A)

@@ -1,7 +1,7 @@
 use Rattle.std.proofs.Common.{option_map, ap, sym, ◌∙◌}
 use Rattle.scalar_ranges.specs.declared.scope.Declared.{Declared}
 use Rattle.scalar_ranges.specs.Scopes.{entries_of, meaning_of}
-use Rattle.scalar_ranges.proofs.Named.{means_nothing, means_something, meaning_found}
+use Rattle.scalar_ranges.proofs.Named.{means_nothing, number_found, meaning_found}
 use Rattle.scalar_ranges.proofs.scope.Scope.lookup.Goals as goal
 
 pub returns-in_err-number-clause-meaning : goal.returns-in_err-number-clause-meaning
@@ -11,19 +11,13 @@ returns-in_err-number-clause-meaning c =
 
 pub returns-in_err-meaning-clause-number : goal.returns-in_err-meaning-clause-number
 returns-in_err-meaning-clause-number c =
-    let name = c.args.name.now in
-    let es = entries_of c.args.self.now in
-    let n = c.in_ok-number.number in
-    let is = sym c.in_ok-number.ensures.number in
-    absurd (means_something name n es is (meaning_found name n es is ∙ sym c.in_err-meaning.ensures))
+    absurd (number_found c.args.name.now c.in_ok-number.number (entries_of c.args.self.now)
+    (sym c.in_ok-number.ensures.number) c.in_err-meaning.ensures)
 
 pub returns-in_err-meaning-clause-meaning : goal.returns-in_err-meaning-clause-meaning
 returns-in_err-meaning-clause-meaning c =
-    let name = c.args.name.now in
-    let es = entries_of c.args.self.now in
-    let n = c.in_ok-number.number in
-    let is = sym c.in_ok-number.ensures.number in
-    absurd (means_something name n es is (meaning_found name n es is ∙ sym c.in_err-meaning.ensures))
+    absurd (number_found c.args.name.now c.in_ok-number.number (entries_of c.args.self.now)
+    (sym c.in_ok-number.ensures.number) c.in_err-meaning.ensures)
 
 pub returns-clause-meaning : goal.returns-clause-meaning
 returns-clause-meaning c =
