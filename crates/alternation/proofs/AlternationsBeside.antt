@@ -18,9 +18,9 @@ use Rattle.machine_state.specs.Alternations.{in_mode, begun, ready_or, skip_enab
 use Rattle.machine_state.specs.Alternations.{source_at, on_source, source_enabled, channel_enabled, waited_in, waited}
 use Rattle.machine_state.specs.Alternations.{selected, chosen, skip_disabled, is_by, source_disabled}
 use Rattle.machine_state.specs.Alternations.{channel_disabled, has_enabled, alternation_ended}
-use Rattle.channels.specs.Beside.{beside, counted_beside, CountsBeside}
-use Rattle.channels.proofs.Beside.{either}
-use Rattle.channels.proofs.TurnsBeside.{either_turn, executed-beside, followed-beside, left-beside}
+use Rattle.traffic.specs.Beside.{beside, counted_beside, CountsBeside}
+use Rattle.traffic.proofs.Beside.{either}
+use Rattle.traffic.proofs.TurnsBeside.{either_turn, executed-beside, followed-beside, left-beside}
 
 module _ (c : Counters) (f : Option Fault) where
   -- ---- what can be enabled

@@ -10,7 +10,7 @@ use Rattle.machine_state.specs.Moves.{put}
 use Rattle.machine_state.specs.Site.{Local}
 use Rattle.machine_state.specs.Turn.{between}
 use Rattle.machine_state.specs.World.{World}
-use Rattle.channels.specs.declared.here.Here.{Here}
+use Rattle.traffic.specs.declared.here.Here.{Here}
 
 -- the process with these registers, and memory as it is
 abbrev pub untouched : Registers → World → Local

@@ -9,17 +9,17 @@ ghost use Rattle.machine_state.specs.Moves.{counted};
 ghost use Rattle.machine_state.specs.Turn.{ran, answered};
 ghost use Rattle.machine_state.specs.Alternations.{waited};
 ghost use Rattle.machine_state.specs.Alternations.{skip_disabled, channel_disabled, alternation_ended};
-ghost use Rattle.channels.specs.Moment.{IsSteady};
-ghost use Rattle.channels.specs.Settling.{here_in, scheduled, Settles};
+ghost use Rattle.traffic.specs.Moment.{IsSteady};
+ghost use Rattle.traffic.specs.Settling.{here_in, scheduled, Settles};
 ghost use Rattle.alternation.specs.Locals.{untouched, without_selection_word, selects, after_choice};
 ghost use Rattle.alternation.specs.Ready.{is_ready_in};
 
 use crate::moves::clear_selection_word;
 use crate::source::Source;
 use certificate::{Stack, Tables};
-use channels::{Here, Traffic};
 use machine_state::{Condition, Fault, FaultKind, Mode, Registers, Store};
 use process_queue::ListQueue;
+use traffic::{Here, Traffic};
 
 /// Waits until something that is enabled is ready. Answers whether the process goes on: it does if something is ready
 /// already.

@@ -6,15 +6,15 @@ ghost use Rattle.machine_state.specs.LocalStep.{holds_scheduling_words};
 ghost use Rattle.machine_state.specs.Moves.{counted};
 ghost use Rattle.machine_state.specs.Turn.{ran, answered};
 ghost use Rattle.machine_state.specs.Alternations.{ready_or, begun, skip_enabled, channel_enabled};
-ghost use Rattle.channels.specs.Moment.{IsSteady};
-ghost use Rattle.channels.specs.Settling.{here_in, scheduled, Settles};
+ghost use Rattle.traffic.specs.Moment.{IsSteady};
+ghost use Rattle.traffic.specs.Settling.{here_in, scheduled, Settles};
 ghost use Rattle.alternation.specs.Locals.{untouched};
 
 use crate::source::Source;
 use certificate::Tables;
-use channels::{Here, Traffic};
 use machine_state::{Fault, FaultKind, Mode, Registers, Store};
 use process_queue::ListQueue;
+use traffic::{Here, Traffic};
 
 /// The mode in which a process goes on enabling, once it has enabled something that is ready or not.
 fn ready_or(mode: Mode, is_ready: bool) -> Mode

@@ -5,7 +5,7 @@ ghost use Rattle.machine_state.specs.Site.{Local};
 ghost use Rattle.machine_state.specs.Turn.{Here};
 ghost use Rattle.machine_state.specs.Alternations.{begun, skip_enabled, channel_enabled, waited};
 ghost use Rattle.machine_state.specs.Alternations.{skip_disabled, channel_disabled, alternation_ended};
-ghost use Rattle.channels.specs.Beside.{CountsBeside};
+ghost use Rattle.traffic.specs.Beside.{CountsBeside};
 
 /// What comes of an instruction from `alt` to `altwt` does not depend on what is counted, nor on a fault.
 #[tactic(auto, using(crate::proofs::AlternationsBeside::begins_beside, crate::proofs::AlternationsBeside::skips_enabled_beside, crate::proofs::AlternationsBeside::channels_enabled_beside, crate::proofs::AlternationsBeside::waits_beside))]

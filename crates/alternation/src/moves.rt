@@ -4,9 +4,9 @@ ghost use Rattle.std.specs.Prelude.{◌≡◌, None, IsTrue};
 ghost use Rattle.machine_state.specs.Holding.{may_write_word};
 ghost use Rattle.machine_state.specs.Memory.{place_of, with_word};
 
-use channels::Traffic;
 use machine_state::Store;
 use process_queue::ListQueue;
+use traffic::Traffic;
 
 /// The word at the workspace is undefined: a transputer keeps there what is selected.
 pub(crate) fn clear_selection_word<S: Store>(traffic: &mut Traffic<S, ListQueue>, workspace: u32)

@@ -5,9 +5,9 @@ ghost use Rattle.std.specs.Option.{option_map};
 ghost use Rattle.machine_state.specs.Alternations.{source_at};
 ghost use Rattle.alternation.specs.Sources.{definition_of};
 
-use channels::{Traffic, input_link};
 use machine_state::{Channel, InputLink, Link, Store};
 use process_queue::ListQueue;
+use traffic::{Traffic, input_link};
 
 /// Something that can be enabled, as it was when it was looked up.
 #[derive(Clone, Copy)]

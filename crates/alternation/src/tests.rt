@@ -4,11 +4,10 @@ ghost use Rattle.std.specs.Prelude.{◌≡◌, ◌<◌, ◌^◌, IfSome, IsTrue,
 ghost use Rattle.machine_state.specs.Holding.{may_write_word};
 ghost use Rattle.machine_state.specs.LocalStep.{holds_scheduling_words};
 ghost use Rattle.machine_state.specs.Memory.{place_of};
-ghost use Rattle.channels.specs.Settling.{IsAsked};
+ghost use Rattle.traffic.specs.Settling.{IsAsked};
 
 use crate::{begin, disable_channel, disable_skip, enable_channel, enable_skip, end, wait};
 use certificate::{Tables, Version};
-use channels::{Arrival, Delivery, Here, Message, Stop, Traffic};
 use machine_state::{
     ALTERNATION_ORDER, Channel, DATA_START, END_NOT_HELD, Exchange, Fault, Link, Mode,
     OUTSIDE_CODE, Store, TaggedStore, local_address,
@@ -16,6 +15,7 @@ use machine_state::{
 use process_queue::ListQueue;
 use std::alloc::Global;
 use std::test::Fail;
+use traffic::{Arrival, Delivery, Here, Message, Stop, Traffic};
 
 type Tagged = Traffic<TaggedStore, ListQueue>;
 

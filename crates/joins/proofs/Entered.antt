@@ -2,7 +2,7 @@
 use Rattle.std.proofs.Common.{ℕ, List, map}
 use Rattle.module_format.specs.declared.rows.ChannelRow.{ChannelRow}
 use Rattle.machine_state.specs.Joins.{frame_address, without_words}
-use Rattle.channels.specs.Moment.{Moment}
+use Rattle.traffic.specs.Moment.{Moment}
 
 -- nothing is in the words of these channels
 abbrev pub without_rows : ℕ → List ChannelRow → Moment → Moment

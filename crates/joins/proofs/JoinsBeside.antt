@@ -17,10 +17,10 @@ use Rattle.machine_state.specs.Joins.{branch_at, opened_by, start_turn, on_row, 
 use Rattle.machine_state.specs.Joins.{joined, closed, closed_task, ended, given_back, opener_of}
 use Rattle.machine_state.specs.Joins.{without_words, scheduling_addresses, holding_of, share_by, join_after, new_task}
 use Rattle.machine_state.specs.Joins.{without_channels}
-use Rattle.channels.specs.Starting.{with_process}
-use Rattle.channels.specs.Beside.{beside, counted_beside, CountsBeside}
-use Rattle.channels.proofs.Beside.{either, maybe, on_task-beside}
-use Rattle.channels.proofs.TurnsBeside.{either_turn, maybe_turn, executed-beside, followed-beside, left-beside}
+use Rattle.traffic.specs.Starting.{with_process}
+use Rattle.traffic.specs.Beside.{beside, counted_beside, CountsBeside}
+use Rattle.traffic.proofs.Beside.{either, maybe, on_task-beside}
+use Rattle.traffic.proofs.TurnsBeside.{either_turn, maybe_turn, executed-beside, followed-beside, left-beside}
 
 module _ (c : Counters) (f : Option Fault) where
   -- ---- a start

@@ -16,10 +16,10 @@ use Rattle.machine_state.specs.Moves.{counted, faulty}
 use Rattle.machine_state.specs.Site.{Local}
 use Rattle.machine_state.specs.Turn.{Here, Turn, answered, failed, followed, ran}
 use Rattle.machine_state.specs.World.{World, Join, holding_at}
-use Rattle.channels.specs.declared.here.Here.{Here as Instance}
-use Rattle.channels.specs.declared.stop.Stop.{Stop}
-use Rattle.channels.specs.declared.stop.Stop.TheVariants as stops
-use Rattle.channels.specs.Settling.{here_in, SettlesIfRoom}
+use Rattle.traffic.specs.declared.here.Here.{Here as Instance}
+use Rattle.traffic.specs.declared.stop.Stop.{Stop}
+use Rattle.traffic.specs.declared.stop.Stop.TheVariants as stops
+use Rattle.traffic.specs.Settling.{here_in, SettlesIfRoom}
 use Rattle.joins.specs.Testing.{Finds, found_start, later_tests}
 
 -- ---- what `?` hands on

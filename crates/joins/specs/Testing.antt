@@ -9,9 +9,9 @@ use Rattle.machine_state.specs.Joins.{opened_by}
 use Rattle.machine_state.specs.Site.{Local}
 use Rattle.machine_state.specs.Turn.{Here as At, Turn}
 use Rattle.machine_state.specs.World.{World, Join}
-use Rattle.channels.specs.declared.here.Here.{Here}
-use Rattle.channels.specs.declared.stop.Stop.{Stop}
-use Rattle.channels.specs.declared.stop.Stop.TheVariants as stops
+use Rattle.traffic.specs.declared.here.Here.{Here}
+use Rattle.traffic.specs.declared.stop.Stop.{Stop}
+use Rattle.traffic.specs.declared.stop.Stop.TheVariants as stops
 
 -- nothing is wrong, or this is the first fault, or memory ran out before that is known
 abbrev pub Finds : {A : Type 0} → Here → Result A Stop → Option FaultKind → Type 0

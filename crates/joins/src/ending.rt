@@ -5,16 +5,16 @@ ghost use Rattle.module_format.specs.Contents.{Contents, Par, contents_of, par_o
 ghost use Rattle.machine_state.specs.World.{Join};
 ghost use Rattle.machine_state.specs.Turn.{ran};
 ghost use Rattle.machine_state.specs.Joins.{opened_by, closed, joined, ended, own_end, branch_end, join_turn};
-ghost use Rattle.channels.specs.Moment.{IsSteady};
-ghost use Rattle.channels.specs.Settling.{here_in, Settles};
+ghost use Rattle.traffic.specs.Moment.{IsSteady};
+ghost use Rattle.traffic.specs.Settling.{here_in, Settles};
 ghost use Rattle.joins.specs.Locals.{untouched};
 ghost use Rattle.joins.specs.Summary.{summary};
 
 use crate::Processes;
 use crate::open::{Open, open_of, opener_of};
 use certificate::{ParRow, Stack, Tables};
-use channels::Here;
 use machine_state::{Condition, Fault, FaultKind, Mode, Registers, Task};
+use traffic::Here;
 
 /// The end of a process at this instruction, which names the block and leaves these registers.
 #[derive(Clone, Copy)]

@@ -9,8 +9,8 @@ ghost use Rattle.machine_state.specs.Turn.{between};
 ghost use Rattle.machine_state.specs.Moves.{enqueue};
 ghost use Rattle.machine_state.specs.Joins.{Plan, frame_address, new_task, opened_by, later_plan, started, opened};
 ghost use Rattle.machine_state.specs.Joins.{without_words, scheduling_addresses, block_addresses, channel_addresses};
-ghost use Rattle.channels.specs.Moment.{IsSteady};
-ghost use Rattle.channels.specs.Settling.{here_in};
+ghost use Rattle.traffic.specs.Moment.{IsSteady};
+ghost use Rattle.traffic.specs.Settling.{here_in};
 ghost use Rattle.joins.specs.Finding.{found_view};
 ghost use Rattle.joins.specs.Gifts.{IsGift, IsFirstGift};
 ghost use Rattle.joins.specs.Locals.{untouched};
@@ -19,9 +19,9 @@ use crate::Processes;
 use crate::found::Start;
 use crate::gifts::{First, Later};
 use certificate::{BranchRow, ChannelRow, ParRow, Stack};
-use channels::{Here, NewProcess};
 use machine_state::{Condition, Mode, Registers, Task, local_address};
 use std::alloc::AllocError;
+use traffic::{Here, NewProcess};
 
 /// A branch at its first byte, with this workspace.
 fn new_task(branch: &BranchRow, workspace: u32) -> Task

@@ -8,8 +8,8 @@ ghost use Rattle.machine_state.specs.Joins.{branch_from, branch_at};
 ghost use Rattle.joins.specs.Finding.{found_view};
 
 use certificate::{BranchRow, Module, ParRow, Tables};
-use channels::Here;
 use machine_state::{Fault, FaultKind, Registers};
+use traffic::Here;
 
 /// A branch, the number of its row, and its own number in the row.
 #[derive(Clone, Copy)]

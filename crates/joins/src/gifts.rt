@@ -21,9 +21,9 @@ use crate::plan::Plan;
 use crate::share::{Frame, share_of};
 use crate::testing::{Gift, divide, no_row_fault, test_first, test_later};
 use certificate::{Module, ParRow, Parameter, Tables};
-use channels::Stop;
 use machine_state::{Holding, Join, Progress, TaggedStore, local_address};
 use std::alloc::{AllocError, Global};
+use traffic::Stop;
 
 /// What changes hands at a start while a PAR is open: how far its join is, and what the branch holds.
 #[derive(Drop)]

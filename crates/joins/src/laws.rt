@@ -4,7 +4,7 @@ ghost use Rattle.std.specs.Prelude.{ℕ};
 ghost use Rattle.machine_state.specs.Site.{Local};
 ghost use Rattle.machine_state.specs.Turn.{Here};
 ghost use Rattle.machine_state.specs.Joins.{start_turn, join_turn};
-ghost use Rattle.channels.specs.Beside.{CountsBeside};
+ghost use Rattle.traffic.specs.Beside.{CountsBeside};
 
 /// What comes of a start of a branch does not depend on what is counted, nor on a fault.
 #[tactic(auto, using(crate::proofs::JoinsBeside::starts_beside))]

@@ -15,13 +15,13 @@ mod share;
 mod starting;
 mod testing;
 
-pub use channels::Stop;
-use channels::Traffic;
 pub use ending::join;
 pub use laws::{joins_read_no_counters, starts_read_no_counters};
 use machine_state::TaggedStore;
 use process_queue::ListQueue;
 pub use starting::start;
+pub use traffic::Stop;
+use traffic::Traffic;
 
 /// The processes, and what each of them holds.
 pub(crate) type Processes = Traffic<TaggedStore, ListQueue>;

@@ -5,8 +5,8 @@ ghost use Rattle.machine_state.specs.World.{Join as Opened, holding_at};
 ghost use Rattle.machine_state.specs.Turn.{ran};
 ghost use Rattle.machine_state.specs.Joins.{first_faults, first_fault, later_plan, opened_by};
 ghost use Rattle.machine_state.specs.Joins.{first_start, later_start, start_turn, branch_at, no_row_faults};
-ghost use Rattle.channels.specs.Moment.{IsSteady};
-ghost use Rattle.channels.specs.Settling.{here_in, SettlesIfRoom};
+ghost use Rattle.traffic.specs.Moment.{IsSteady};
+ghost use Rattle.traffic.specs.Settling.{here_in, SettlesIfRoom};
 ghost use Rattle.machine_state.specs.Faults.{fault_in};
 ghost use Rattle.std.specs.Option.{option_map};
 ghost use Rattle.joins.specs.Finding.{found_view, first_plan_of};
@@ -21,9 +21,9 @@ use crate::gifts::{First, Later, first_gift, later_gift};
 use crate::open::{held, join_of};
 use crate::testing::no_row_fault;
 use certificate::Module;
-use channels::{Here, Stop};
 use machine_state::{Fault, Holding, Registers};
 use std::alloc::Global;
+use traffic::{Here, Stop};
 
 /// The branch of a module that begins at a code offset, if there is one. Its numbers are small, as the format says.
 fn found_in<'m>(module: &'m Module, target: u32) -> Option<Found<'m>>

@@ -25,9 +25,9 @@ use crate::given::{given, is_held, less};
 use crate::plan::Plan;
 use crate::share::Share;
 use certificate::Tables;
-use channels::{Here, Stop};
 use machine_state::{Fault, FaultKind, Holding, TaggedStore};
 use std::alloc::{AllocError, Global};
+use traffic::{Here, Stop};
 
 /// The fault of a start that no row of the module, or not that of the open join, plans.
 pub(crate) fn no_row_fault(here: &Here, holding: &Holding, workspace: u32) -> Fault

@@ -14,13 +14,13 @@ use Rattle.machine_state.specs.Site.{Local, Outcome, sends}
 use Rattle.machine_state.specs.Turn.{Turn, Here, ran, emitted, answered}
 use Rattle.machine_state.proofs.Turns as turns
 use Rattle.machine_state.proofs.Turns.{Ends, settled_ends}
-use Rattle.channels.specs.declared.stop.Stop.{Stop}
-use Rattle.channels.specs.declared.stop.Stop.TheVariants as stops
-use Rattle.channels.specs.Beside.{beside, counted_beside, CountsBeside}
+use Rattle.traffic.specs.declared.stop.Stop.{Stop}
+use Rattle.traffic.specs.declared.stop.Stop.TheVariants as stops
+use Rattle.traffic.specs.Beside.{beside, counted_beside, CountsBeside}
 use Rattle.module_format.specs.Contents.{Contents}
-use Rattle.channels.specs.declared.here.Here.{Here as Instance}
-use Rattle.channels.specs.declared.message.Message.{Message}
-use Rattle.channels.specs.Settling.{here_in, turn_for, Settles}
+use Rattle.traffic.specs.declared.here.Here.{Here as Instance}
+use Rattle.traffic.specs.declared.message.Message.{Message}
+use Rattle.traffic.specs.Settling.{here_in, turn_for, Settles}
 use Rattle.machine.specs.declared.checked.act.Act.{Act}
 use Rattle.machine.specs.Applying.{Applies, Grants, ran_by, world_by}
 

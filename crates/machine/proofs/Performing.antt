@@ -13,10 +13,10 @@ use Rattle.machine_state.specs.Asking.{IsGrantable}
 use Rattle.machine_state.specs.Performing.{PerformsFunction, site_of as site_on}
 use Rattle.machine_state.specs.World.{World, holding_at}
 use Rattle.machine_state.specs.Happens.{Here, Turn, settled, site_of}
-use Rattle.channels.specs.declared.stop.Stop.{Stop}
-use Rattle.channels.specs.declared.stop.Stop.TheVariants as stops
-use Rattle.channels.specs.Moment.{Moment}
-use Rattle.channels.specs.Settling.{OnMemory}
+use Rattle.traffic.specs.declared.stop.Stop.{Stop}
+use Rattle.traffic.specs.declared.stop.Stop.TheVariants as stops
+use Rattle.traffic.specs.Moment.{Moment}
+use Rattle.traffic.specs.Settling.{OnMemory}
 use Rattle.machine.specs.declared.checked.act.Act.{Act}
 use Rattle.machine.specs.Applying.{Applies, AsksRightly, IsAsk, outcome_of, world_of}
 

@@ -20,9 +20,9 @@ use Rattle.machine_state.specs.Happens.{answered, site_of}
 use Rattle.machine.specs.declared.checked.act.Act.{Act}
 use Rattle.machine.specs.declared.checked.act.Act.TheVariants.{Ran, Idle, Emitted, Taken, Kept, Busy, Acknowledged}
 use Rattle.machine.specs.declared.checked.act.Act.TheVariants.{Ignored}
-use Rattle.channels.specs.declared.stop.Stop.{Stop}
-use Rattle.channels.specs.declared.stop.Stop.TheVariants as stops
-use Rattle.channels.specs.Moment.{Moment}
+use Rattle.traffic.specs.declared.stop.Stop.{Stop}
+use Rattle.traffic.specs.declared.stop.Stop.TheVariants as stops
+use Rattle.traffic.specs.Moment.{Moment}
 
 -- what an act is in the definitions, where it left this memory
 abbrev pub effect_of : Memory → Act → Effect

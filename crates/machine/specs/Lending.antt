@@ -11,8 +11,8 @@ use Rattle.machine_state.specs.declared.event.Effect.TheVariants.{Ignored}
 use Rattle.machine_state.specs.World.{World}
 use Rattle.machine_state.specs.Happens.{Effect, ran, idle, emitted, taken, kept, busy, acknowledged, ignored, Turn}
 use Rattle.machine_state.specs.Happens.{turn}
-use Rattle.channels.specs.declared.stop.Stop.{Stop}
-use Rattle.channels.specs.declared.stop.Stop.TheVariants.{Fault, Memory}
+use Rattle.traffic.specs.declared.stop.Stop.{Stop}
+use Rattle.traffic.specs.declared.stop.Stop.TheVariants.{Fault, Memory}
 use Rattle.machine.specs.contracts.checked.Checked.{the_row}
 use Rattle.machine.specs.Asking.{Execution}
 

@@ -14,11 +14,11 @@ ghost use Rattle.machine.specs.Asking.{is_running, wants};
 
 use act::Act;
 use certificate::Module;
-pub use channels::Stop;
 use machine::Machine;
 use machine_state::{Effect, Event, Link};
 use std::alloc::{AllocError, Global};
 use std::marker::Model;
+pub use traffic::Stop;
 
 /// A machine that runs a module, however faulty, and checks each rule at each instruction.
 #[derive(Drop)]

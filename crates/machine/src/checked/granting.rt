@@ -7,8 +7,8 @@ ghost use Rattle.machine_state.specs.Exchanges.{received, sent};
 ghost use Rattle.machine_state.specs.Joins.{start_turn};
 ghost use Rattle.machine_state.specs.LocalStep.{are_defined, without_scheduling_words};
 ghost use Rattle.machine_state.specs.Happens.{settled, most_executed};
-ghost use Rattle.channels.specs.Moment.{IsSteady};
-ghost use Rattle.channels.specs.Settling.{here_in, turn_for, IsAsked};
+ghost use Rattle.traffic.specs.Moment.{IsSteady};
+ghost use Rattle.traffic.specs.Settling.{here_in, turn_for, IsAsked};
 ghost use Rattle.machine.specs.Applying.{Applies, Grants, IsPosed, ran_by, world_by};
 
 use super::act::Act;
@@ -18,10 +18,10 @@ use alternation::{
     enabling_reads_no_counters, end, wait,
 };
 use certificate::{Module, Tables};
-use channels::{Delivery, Here, Message, Stop, messages_read_no_counters};
 use joins::{join, joins_read_no_counters, starts_read_no_counters};
 use machine_state::{Exchange, Fault, Registers, Request};
 use std::alloc::Global;
+use traffic::{Delivery, Here, Message, Stop, messages_read_no_counters};
 
 /// What an instruction did that was granted, or is at fault.
 fn ran(granted: Result<(), Fault>) -> Result<Act, Stop>

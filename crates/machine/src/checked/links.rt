@@ -6,8 +6,8 @@ ghost use Rattle.machine.specs.Applying.{Applies};
 
 use super::act::Act;
 use super::machine::Machine;
-use channels::{Arrival, Stop, links_read_no_counters};
 use machine_state::Link;
+use traffic::{Arrival, Stop, links_read_no_counters};
 
 impl Machine {
     /// A byte arrives: it is taken, or kept, or nothing changes.

@@ -6,17 +6,17 @@ ghost use Rattle.machine_state.specs.World.{IsLoadable, loaded};
 ghost use Rattle.machine_state.specs.Memory.{data_start};
 ghost use Rattle.machine_state.specs.Happens.{most_executed};
 ghost use Rattle.machine_state.specs.Moves.{counted, finished_where, faulty};
-ghost use Rattle.channels.specs.Settling.{here_in};
+ghost use Rattle.traffic.specs.Settling.{here_in};
 ghost use Rattle.machine.specs.Applying.{PerformsFor, AsksRightly, outcome_at};
 
 use certificate::Tables;
-use channels::{Here, Traffic};
 use direct_functions::direct;
 use machine_state::{DATA_START, Fault, FaultKind, Flow, Registers, TaggedStore};
 use prefix_decoder::Fun;
 use process_queue::ListQueue;
 use std::alloc::{AllocError, Global};
 use std::marker::Model;
+use traffic::{Here, Traffic};
 
 /// All that processes share.
 pub(crate) type Processes = Traffic<TaggedStore, ListQueue>;
@@ -33,8 +33,8 @@ pub(crate) struct Machine {
 }
 
 impl Model for Machine {
-    ghost use Rattle.channels.specs.Beside.{beside};
-    ghost use Rattle.channels.specs.Moment.{Moment};
+    ghost use Rattle.traffic.specs.Beside.{beside};
+    ghost use Rattle.traffic.specs.Moment.{Moment};
 
     ghost Value = { Moment };
 

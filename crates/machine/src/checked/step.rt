@@ -10,16 +10,16 @@ ghost use Rattle.machine_state.specs.Faults.{fault_in};
 ghost use Rattle.machine_state.specs.Moves.{counted, faulty, put, leave, enqueue, dispatch, finished_where};
 ghost use Rattle.machine_state.specs.declared.process.Condition.TheVariants.{Stopped};
 ghost use Rattle.prefix_decoder.specs.Operand.{IsRegister};
-ghost use Rattle.channels.specs.Moment.{IsSteady};
-ghost use Rattle.channels.specs.Settling.{here_in, OnMemory};
+ghost use Rattle.traffic.specs.Moment.{IsSteady};
+ghost use Rattle.traffic.specs.Settling.{here_in, OnMemory};
 
 use super::act::Act;
 use super::machine::Machine;
 use certificate::{Module, Tables};
-use channels::{Here, Stop};
 use machine_state::{Condition, Fault, FaultKind, Flow, Registers, Task};
 use prefix_decoder::Fun;
 use prefix_decoder::operand::{after_prefix, with_nibble};
+use traffic::{Here, Stop};
 
 /// No count of executed bytes goes beyond this.
 const MOST_EXECUTED: u64 = 1 << 63;

@@ -5,7 +5,7 @@ use Rattle.module_format.specs.Contents.{contents_of, par_of}
 use Rattle.machine_state.specs.World.{World}
 use Rattle.machine_state.specs.Joins.{opened_by, on_role, joined}
 use Rattle.machine_state.specs.Roles.{without_own}
-use Rattle.channels.specs.Settling.{here_in}
+use Rattle.traffic.specs.Settling.{here_in}
 use Rattle.joins.specs.declared.open.Open.{Open}
 use Rattle.joins.specs.Locals.{untouched}
 use Rattle.joins.proofs.Leaving.{branch_done, still_open}

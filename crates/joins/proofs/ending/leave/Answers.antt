@@ -1,5 +1,5 @@
 use Rattle.std.proofs.Common.{◌∙◌, sym, ap}
-use Rattle.channels.specs.Settling.{here_in}
+use Rattle.traffic.specs.Settling.{here_in}
 use Rattle.joins.specs.declared.open.Open.{Open}
 use Rattle.joins.proofs.Leaving.{closes}
 use Rattle.joins.proofs.ending.leave.Goals as goal

@@ -1,7 +1,7 @@
 use Rattle.std.proofs.Common.{◌≡◌, ◌+◌, true, nat_lt, length, refl}
 use Rattle.machine_state.specs.Joins.{first_faults, started, opened}
 use Rattle.machine_state.specs.World.{holding_at}
-use Rattle.channels.specs.Settling.{here_in}
+use Rattle.traffic.specs.Settling.{here_in}
 use Rattle.joins.specs.Finding.{found_view, first_plan_of}
 use Rattle.joins.specs.Locals.{untouched}
 use Rattle.joins.proofs.Settled.{out_of_memory, is_done, test_passed}

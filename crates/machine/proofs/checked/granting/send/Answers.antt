@@ -1,5 +1,5 @@
 use Rattle.module_format.specs.Contents.{contents_of}
-use Rattle.channels.specs.Settling.{here_in, scheduled}
+use Rattle.traffic.specs.Settling.{here_in, scheduled}
 use Rattle.machine.proofs.Granting.{emits_defined}
 use Rattle.machine.proofs.checked.granting.send.Goals as goal
 

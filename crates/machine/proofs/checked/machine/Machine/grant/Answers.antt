@@ -12,9 +12,9 @@ use Rattle.machine_state.specs.Moves.{counted}
 use Rattle.machine_state.specs.declared.fault.Fault.{Fault}
 use Rattle.machine_state.specs.Turn.{Here, Turn, ran, answered}
 use Rattle.machine_state.specs.World.{World, Counters}
-use Rattle.channels.specs.Beside.{beside, CountsBeside}
-use Rattle.channels.specs.Moment.{Moment}
-use Rattle.channels.specs.Settling.{here_in, Settles}
+use Rattle.traffic.specs.Beside.{beside, CountsBeside}
+use Rattle.traffic.specs.Moment.{Moment}
+use Rattle.traffic.specs.Settling.{here_in, Settles}
 use Rattle.machine.specs.declared.checked.act.Act.TheVariants.{Ran}
 use Rattle.machine.specs.declared.checked.machine.Machine.TheInside.{Inside}
 use Rattle.machine.specs.Applying.{ran_by}

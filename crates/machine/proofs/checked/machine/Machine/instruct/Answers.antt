@@ -3,7 +3,7 @@ use Rattle.std.proofs.lemmas.Int.{to_z-of_z}
 use Rattle.std.specs.Int.{w32}
 use Rattle.module_format.specs.Contents.{Contents, contents_of}
 use Rattle.machine_state.specs.Happens.{settled}
-use Rattle.channels.specs.Settling.{here_in}
+use Rattle.traffic.specs.Settling.{here_in}
 use Rattle.machine.specs.Applying.{Applies, outcome_at}
 use Rattle.machine.proofs.Performing.{rest_is_whole}
 use Rattle.machine.proofs.checked.machine.Machine.instruct.Goals as goal
