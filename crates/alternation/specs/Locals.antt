@@ -1,24 +1,14 @@
--- What an instruction of an alternation may change, as it finds it, and how its process goes on.
+-- How a process goes on after an instruction of an alternation.
 use Rattle.std.specs.Prelude.{◌+◌, Bool, true, false, if◌then◌else◌, ℤ, pos, Option, Some, None}
 use Rattle.machine_state.specs.declared.process.Mode.{Mode}
 use Rattle.machine_state.specs.declared.process.Mode.TheVariants.{Disabling}
-use Rattle.machine_state.specs.declared.process.Registers.{Registers}
 use Rattle.machine_state.specs.Alternations.{selected}
 use Rattle.machine_state.specs.LocalStep.{with_a_alone}
-use Rattle.machine_state.specs.Memory.{place_of, with_word}
 use Rattle.machine_state.specs.Moves.{put}
 use Rattle.machine_state.specs.Site.{Local}
 use Rattle.machine_state.specs.Turn.{between}
 use Rattle.machine_state.specs.World.{World}
 use Rattle.traffic.specs.declared.here.Here.{Here}
-
--- the process with these registers, and memory as it is
-abbrev pub untouched : Registers → World → Local
-untouched registers w = record { registers = registers; memory = w.memory }
-
--- once the word at the workspace is taken, in which a transputer keeps what is selected
-abbrev pub without_selection_word : Local → Local
-without_selection_word l = record l { memory = with_word l.memory (place_of l.registers.workspace) None }
 
 -- the process goes on after the instruction, in this mode
 abbrev pub after_in : Here → Mode → Local → World → World

@@ -7,11 +7,11 @@ ghost use Rattle.machine_state.specs.LocalStep.{holds_scheduling_words};
 ghost use Rattle.machine_state.specs.Memory.{place_of};
 ghost use Rattle.machine_state.specs.Moves.{counted};
 ghost use Rattle.machine_state.specs.Turn.{ran, answered};
-ghost use Rattle.machine_state.specs.Alternations.{waited};
-ghost use Rattle.machine_state.specs.Alternations.{skip_disabled, channel_disabled, alternation_ended};
+ghost use Rattle.machine_state.specs.Alternations.{waited, skip_disabled, channel_disabled, alternation_ended};
 ghost use Rattle.traffic.specs.Moment.{IsSteady};
-ghost use Rattle.traffic.specs.Settling.{here_in, scheduled, Settles};
-ghost use Rattle.alternation.specs.Locals.{untouched, without_selection_word, selects, after_choice};
+ghost use Rattle.traffic.specs.Settling.{here_in, Settles};
+ghost use Rattle.machine_state.specs.Asking.{scheduled, untouched, without_selection_word};
+ghost use Rattle.alternation.specs.Locals.{selects, after_choice};
 ghost use Rattle.alternation.specs.Ready.{is_ready_in};
 
 use crate::moves::clear_selection_word;
@@ -34,7 +34,7 @@ pub fn wait<S: Store>(
     requires words { IsTrue (holds_scheduling_words traffic.old.holding registers.workspace) }
     requires word { IsTrue (may_write_word traffic.old.holding (place_of registers.workspace)) }
     ensures turn { (m : Contents) → let w = traffic.old.world in
-        let l = without_selection_word (scheduled registers w) in
+        let l = without_selection_word (scheduled registers w.memory) in
         waited (here_in m here.now) l w ≡ answered ran (counted traffic.new.world) }
     ensures goes_on { result ≡ is_ready_in here.now.task.mode }
     ensures holding { traffic.new.holding ≡ traffic.old.holding }
@@ -69,7 +69,7 @@ fn choose<S: Store>(
     requires task { IsSteady here.now.task }
     requires word { IsTrue (may_write_word traffic.old.holding (place_of registers.workspace)) }
     ensures { let w = traffic.old.world in
-        let l = without_selection_word (untouched registers w) in
+        let l = without_selection_word (untouched registers w.memory) in
         traffic.new ≡ record traffic.old { world = after_choice here.now ready l w } }
 {
     let is_selected = selects(here.task.mode, ready);
@@ -100,7 +100,7 @@ pub fn disable_skip<S: Store>(
     requires task { IsSteady here.now.task }
     requires word { IsTrue (may_write_word traffic.old.holding (place_of registers.workspace)) }
     ensures turn { (m : Contents) → let w = traffic.old.world in
-        let l = without_selection_word (untouched registers w) in
+        let l = without_selection_word (untouched registers w.memory) in
         skip_disabled (here_in m here.now) guard distance l w ≡ answered ran (counted traffic.new.world) }
     ensures rest { traffic.new ≡ record traffic.old { world = traffic.new.world } }
 {
@@ -127,7 +127,7 @@ pub fn disable_channel<S: Store>(
     requires word { IsTrue (may_write_word traffic.old.holding (place_of registers.workspace)) }
     ensures settles { let h = here_in (contents_of tables.now) here.now in
         let w = traffic.old.world in
-        let l = without_selection_word (untouched registers w) in
+        let l = without_selection_word (untouched registers w.memory) in
         Settles w traffic.new.world ran result (channel_disabled h guard address distance l w) }
     ensures rest { traffic.new ≡ record traffic.old { world = traffic.new.world } }
 {
@@ -166,7 +166,7 @@ pub fn end<S: Store>(
     requires { IsSteady here.now.task }
     ensures settles { let h = here_in (contents_of tables.now) here.now in
         let w = traffic.old.world in
-        Settles w traffic.new.world ran result (alternation_ended h to (untouched registers w) w) }
+        Settles w traffic.new.world ran result (alternation_ended h to (untouched registers w.memory) w) }
     ensures rest { traffic.new ≡ record traffic.old { world = traffic.new.world } }
 {
     let is_disabled = !traffic.has_enabled(here.process);

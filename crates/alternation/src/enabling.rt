@@ -7,8 +7,8 @@ ghost use Rattle.machine_state.specs.Moves.{counted};
 ghost use Rattle.machine_state.specs.Turn.{ran, answered};
 ghost use Rattle.machine_state.specs.Alternations.{ready_or, begun, skip_enabled, channel_enabled};
 ghost use Rattle.traffic.specs.Moment.{IsSteady};
-ghost use Rattle.traffic.specs.Settling.{here_in, scheduled, Settles};
-ghost use Rattle.alternation.specs.Locals.{untouched};
+ghost use Rattle.traffic.specs.Settling.{here_in, Settles};
+ghost use Rattle.machine_state.specs.Asking.{scheduled, untouched};
 
 use crate::source::Source;
 use certificate::Tables;
@@ -34,7 +34,7 @@ pub fn begin<S: Store>(traffic: &mut Traffic<S, ListQueue>, here: &Here, registe
     requires task { IsSteady here.now.task }
     requires words { IsTrue (holds_scheduling_words traffic.old.holding registers.workspace) }
     ensures turn { (m : Contents) → let w = traffic.old.world in
-        begun (here_in m here.now) (scheduled registers w) w ≡ answered ran (counted traffic.new.world) }
+        begun (here_in m here.now) (scheduled registers w.memory) w ≡ answered ran (counted traffic.new.world) }
     ensures rest { traffic.new ≡ record traffic.old { world = traffic.new.world } }
 {
     traffic.clear_scheduling_words(registers);
@@ -51,7 +51,8 @@ pub fn enable_skip<S: Store>(
     requires next { here.now.task.registers.at + 1 < 2 ^ 32 }
     requires task { IsSteady here.now.task }
     ensures turn { (m : Contents) → let w = traffic.old.world in
-        skip_enabled (here_in m here.now) guard (untouched registers w) w ≡ answered ran (counted traffic.new.world) }
+        let l = untouched registers w.memory in
+        skip_enabled (here_in m here.now) guard l w ≡ answered ran (counted traffic.new.world) }
     ensures rest { traffic.new ≡ record traffic.old { world = traffic.new.world } }
 {
     traffic.go_on(here, ready_or(here.task.mode, guard), registers);
@@ -73,7 +74,7 @@ pub fn enable_channel<S: Store>(
     requires task { IsSteady here.now.task }
     ensures settles { let h = here_in (contents_of tables.now) here.now in
         let w = traffic.old.world in
-        Settles w traffic.new.world ran result (channel_enabled h guard address (untouched registers w) w) }
+        Settles w traffic.new.world ran result (channel_enabled h guard address (untouched registers w.memory) w) }
     ensures rest { traffic.new ≡ record traffic.old { world = traffic.new.world } }
 {
     if !guard {

@@ -12,7 +12,7 @@ use Rattle.module_format.specs.declared.rows.Direction.TheVariants.{In, Out}
 use Rattle.module_format.specs.declared.rows.ChannelRow.{ChannelRow}
 use Rattle.machine_state.specs.declared.holding.End.{End}
 use Rattle.machine_state.specs.Holding.{same_direction}
-use Rattle.machine_state.specs.Joins.{with_ends}
+use Rattle.machine_state.specs.StartPlans.{with_ends}
 use Rattle.machine_state.specs.Spans.{differ, is_listed, is_same_end}
 
 -- ---- one end

@@ -1,7 +1,8 @@
 -- The words of a PAR's channels, as they are taken away one after the other.
 use Rattle.std.proofs.Common.{ℕ, List, map}
 use Rattle.module_format.specs.declared.rows.ChannelRow.{ChannelRow}
-use Rattle.machine_state.specs.Joins.{frame_address, without_words}
+use Rattle.machine_state.specs.Joins.{without_words}
+use Rattle.machine_state.specs.BranchShares.{frame_address}
 use Rattle.traffic.specs.Moment.{Moment}
 
 -- nothing is in the words of these channels

@@ -4,7 +4,8 @@ use Rattle.module_format.specs.declared.rows.ChannelRow.{ChannelRow}
 use Rattle.module_format.specs.Contents.{Par}
 use Rattle.machine_state.specs.declared.holding.End.{End}
 use Rattle.machine_state.specs.declared.spans.Stretch.{Stretch as Kept}
-use Rattle.machine_state.specs.Joins.{hidden, frame_address}
+use Rattle.machine_state.specs.StartPlans.{hidden}
+use Rattle.machine_state.specs.BranchShares.{frame_address}
 use Rattle.machine_state.specs.Memory.{place_of}
 use Rattle.machine_state.specs.Spans.{Share, Stretch}
 use Rattle.machine_state.specs.Stretches.{stretch_view}

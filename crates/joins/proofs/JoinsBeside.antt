@@ -11,12 +11,13 @@ use Rattle.machine_state.specs.Roles.{members_without, with_join, without_join, 
 use Rattle.machine_state.specs.Site.{Local}
 use Rattle.machine_state.specs.Turn.{Here, Turn, answered, between, failed, followed, ran}
 use Rattle.machine_state.specs.World.{World, Role, Join, Counters, holding_at}
-use Rattle.machine_state.specs.Joins.{Plan, Found, first_fault, start_or_fail, on_role, started, opened, first_plan}
-use Rattle.machine_state.specs.Joins.{first_faults, first_start, later_plan, later_faults, later_start, no_row_faults}
-use Rattle.machine_state.specs.Joins.{branch_at, opened_by, start_turn, on_row, own_end, branch_end, join_turn}
-use Rattle.machine_state.specs.Joins.{joined, closed, closed_task, ended, given_back, opener_of}
-use Rattle.machine_state.specs.Joins.{without_words, scheduling_addresses, holding_of, share_by, join_after, new_task}
-use Rattle.machine_state.specs.Joins.{without_channels}
+use Rattle.machine_state.specs.Joins.{start_or_fail, on_role, started, opened, first_start_turn, later_start_turn}
+use Rattle.machine_state.specs.Joins.{start_turn, on_row, own_end, branch_end, join_turn, joined, closed, closed_task}
+use Rattle.machine_state.specs.Joins.{ended, given_back, without_words, join_after, new_task, without_channels}
+use Rattle.machine_state.specs.StartPlans.{Plan, first_fault, first_plan, first_faults, later_plan, later_faults}
+use Rattle.machine_state.specs.StartPlans.{no_row_faults, scheduling_addresses, share_by}
+use Rattle.machine_state.specs.JoinLookups.{Found, found_at, opened_by, opener_of}
+use Rattle.machine_state.specs.BranchShares.{holding_of}
 use Rattle.traffic.specs.Starting.{with_process}
 use Rattle.traffic.specs.Beside.{beside, counted_beside, CountsBeside}
 use Rattle.traffic.proofs.Beside.{either, maybe, on_task-beside}
@@ -56,7 +57,8 @@ module _ (c : Counters) (f : Option Fault) where
       (on_role-beside h.process (with_join (join_after (length w.memory) plan found new)) (put h.process task memory w))
 
   first-beside : (h : Here) (found : Found) (workspace : ℕ) (l : Local) (w : World)
-      → first_start h found workspace l (beside c f w) ≡ counted_beside c f (first_start h found workspace l w)
+      → first_start_turn h found workspace l (beside c f w)
+      ≡ counted_beside c f (first_start_turn h found workspace l w)
   first-beside h found workspace l w =
       let holding = holding_at w.roles h.process in
       let plan = first_plan h.contents h.process h.from.registers.workspace holding w.memory found in
@@ -65,8 +67,8 @@ module _ (c : Counters) (f : Option Fault) where
       (started h plan found workspace there.0 there.1) w (started-beside h plan found workspace there.0 there.1)
 
   later-beside : (h : Here) (join : Join) (found : Found) (workspace : ℕ) (l : Local) (w : World)
-      → later_start h join found workspace l (beside c f w)
-      ≡ counted_beside c f (later_start h join found workspace l w)
+      → later_start_turn h join found workspace l (beside c f w)
+      ≡ counted_beside c f (later_start_turn h join found workspace l w)
   later-beside h join found workspace l w =
       let plan = later_plan h.contents join found.par in
       let tests = later_faults (length w.memory) plan found workspace in
@@ -80,14 +82,14 @@ module _ (c : Counters) (f : Option Fault) where
       → start_turn h target workspace l (beside c f w) ≡ counted_beside c f (start_turn h target workspace l w)
   start-beside h target workspace l w =
       let none = no_row_faults (holding_at w.roles h.process) workspace in
-      maybe_turn c f (branch_at h.contents target) (start_or_fail h none w w)
+      maybe_turn c f (found_at h.contents target) (start_or_fail h none w w)
       (λ found. elim (opened_by w h.process) as (λ o. Turn) [
-        | None ↦ first_start h found workspace l w
-        | Some join ↦ later_start h join found workspace l w
+        | None ↦ first_start_turn h found workspace l w
+        | Some join ↦ later_start_turn h join found workspace l w
       ])
       (start_or_fail-beside h none w w refl)
-      (λ found. maybe_turn c f (opened_by w h.process) (first_start h found workspace l w)
-      (λ join. later_start h join found workspace l w) (first-beside h found workspace l w)
+      (λ found. maybe_turn c f (opened_by w h.process) (first_start_turn h found workspace l w)
+      (λ join. later_start_turn h join found workspace l w) (first-beside h found workspace l w)
       (λ join. later-beside h join found workspace l w))
 
   -- ---- a join

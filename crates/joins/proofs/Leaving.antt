@@ -1,7 +1,6 @@
 -- A member leaves its join, as the definitions have it and as it is done.
 use Rattle.std.proofs.Common.{◌≡◌, ℕ, zero, suc, Bool, true, false, cond, List, [], ◌∷◌, length, Option, Some, None}
-use Rattle.std.proofs.Common.{Err, refl}
-use Rattle.std.proofs.Common.{sym, ap, ◌∙◌, ◌&&◌, not, arith}
+use Rattle.std.proofs.Common.{Err, refl, sym, ap, ◌∙◌, ◌&&◌, not, arith}
 use Rattle.std.specs.Prelude.{◌==◌, slice_get, slice_set}
 use Rattle.std.proofs.lemmas.Bool.{ne_eqb, cond-true, cond-false}
 use Rattle.std.specs.List.{list_all}
@@ -14,8 +13,8 @@ use Rattle.machine_state.specs.Faults.{fault_in}
 use Rattle.machine_state.specs.Moves.{counted, faulty}
 use Rattle.machine_state.specs.Site.{Local}
 use Rattle.machine_state.specs.Turn.{Here, Turn, answered, failed, ran}
-use Rattle.machine_state.specs.Joins.{on_role, opened_by, on_row, own_end, branch_end, joined, closed, ended}
-use Rattle.machine_state.specs.Joins.{given_back}
+use Rattle.machine_state.specs.Joins.{on_role, on_row, own_end, branch_end, joined, closed, ended, given_back}
+use Rattle.machine_state.specs.JoinLookups.{opened_by}
 use Rattle.machine_state.specs.Roles.{members_without, without_member, without_own}
 
 -- nobody is left where all that are there leave

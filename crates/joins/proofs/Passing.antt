@@ -2,7 +2,8 @@
 use Rattle.std.proofs.Common.{◌≡◌, ℕ, Bool, true, false, [], ◌∷◌, None, refl}
 use Rattle.std.proofs.lemmas.Bool.{and_parts, eqb-true}
 use Rattle.machine_state.specs.declared.fault.FaultKind.{FaultKind}
-use Rattle.machine_state.specs.Joins.{Plan, Found, first_fault, is_next, later_faults}
+use Rattle.machine_state.specs.StartPlans.{Plan, first_fault, is_next, later_faults}
+use Rattle.machine_state.specs.JoinLookups.{Found}
 
 third : (a b c : Bool) (x y z : FaultKind) → first_fault ((a, x) ∷ (b, y) ∷ (c, z) ∷ []) ≡ None → c ≡ true
 third true true true x y z h = refl

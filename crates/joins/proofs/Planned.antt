@@ -4,8 +4,10 @@ use Rattle.module_format.specs.declared.rows.Parameter.{Parameter}
 use Rattle.module_format.specs.Contents.{Contents}
 use Rattle.module_format.specs.Contexts.{parameters_at}
 use Rattle.machine_state.specs.Holding.{Holding}
-use Rattle.machine_state.specs.Joins.{Plan, Found, first_plan, first_faults, first_fault, frame_base, named_from}
-use Rattle.machine_state.specs.Joins.{word_in, frame_address, holding_of, join_after, share_by}
+use Rattle.machine_state.specs.StartPlans.{Plan, first_plan, first_faults, first_fault, word_in, share_by}
+use Rattle.machine_state.specs.JoinLookups.{Found, named_from}
+use Rattle.machine_state.specs.BranchShares.{frame_base, frame_address, holding_of}
+use Rattle.machine_state.specs.Joins.{join_after}
 use Rattle.machine_state.specs.Memory.{Memory}
 use Rattle.machine_state.specs.Spans.{less}
 use Rattle.machine_state.specs.Views.{holding_view}

@@ -9,9 +9,10 @@ use Rattle.machine_state.specs.declared.fault.Fault.{Fault}
 use Rattle.machine_state.specs.declared.fault.FaultKind.{FaultKind}
 use Rattle.machine_state.specs.Faults.{fault_in}
 use Rattle.machine_state.specs.Holding.{Holding}
-use Rattle.machine_state.specs.Joins.{Found, Plan, first_fault, start_or_fail, first_start, later_start, later_plan}
-use Rattle.machine_state.specs.Joins.{first_plan, first_faults, later_faults, no_row_faults, started, opened}
-use Rattle.machine_state.specs.Joins.{opened_by}
+use Rattle.machine_state.specs.Joins.{start_or_fail, first_start_turn, later_start_turn, started, opened}
+use Rattle.machine_state.specs.JoinLookups.{Found, opened_by}
+use Rattle.machine_state.specs.StartPlans.{Plan, first_fault, later_plan, first_plan, first_faults, later_faults}
+use Rattle.machine_state.specs.StartPlans.{no_row_faults}
 use Rattle.machine_state.specs.Moves.{counted, faulty}
 use Rattle.machine_state.specs.Site.{Local}
 use Rattle.machine_state.specs.Turn.{Here, Turn, answered, failed, followed, ran}
@@ -101,7 +102,7 @@ module _ (m : Contents) (here : Instance) (w : World) where
 
     pub later_fails : (A : Type 0) (stop : Stop)
         → Finds {A = A} here (Err stop) (first_fault (later_tests m n join f workspace))
-        → SettlesIfRoom {A = Unit {0}} (λ x. ran) w w (Err stop) (later_start h join f workspace l w)
+        → SettlesIfRoom {A = Unit {0}} (λ x. ran) w w (Err stop) (later_start_turn h join f workspace l w)
     later_fails A stop = on (f.row == join.row)
       where
         on : (b : Bool)
@@ -119,8 +120,8 @@ module _ (m : Contents) (here : Instance) (w : World) where
   module _ (f : Found) (workspace : ℕ) (l : Local) where
     abbrev by_open : Option Join → Turn
     by_open o = elim o as (λ x. Turn) [
-      | None ↦ first_start h f workspace l w
-      | Some join ↦ later_start h join f workspace l w
+      | None ↦ first_start_turn h f workspace l w
+      | Some join ↦ later_start_turn h join f workspace l w
     ]
 
     -- by the join that is open, if one is

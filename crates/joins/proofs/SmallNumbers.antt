@@ -9,15 +9,15 @@ use Rattle.module_format.specs.Contexts.{first_branch}
 use Rattle.module_format.specs.Keeping.{Keeps}
 use Rattle.module_format.specs.Pars.{ParKeeps, behind_par, no_branches}
 use Rattle.module_format.proofs.OrderLaws.{each}
-use Rattle.machine_state.specs.Joins.{Found, branch_from, found_from, branch_at}
+use Rattle.machine_state.specs.JoinLookups.{Found, found_in_row, found_from, found_at}
 
-number_within : (target i : ℕ) (branches : List Branch) (x : ℕ × Branch) → branch_from target i branches ≡ Some x
+number_within : (target i : ℕ) (branches : List Branch) (x : ℕ × Branch) → found_in_row target i branches ≡ Some x
     → x.0 < i + length branches
 number_within target i [] x e = absurd (cc)
 number_within target i (b ∷ branches) x e = on (b.entry == target) e (number_within target (i + 1) branches x)
   where
-    on : (is : Bool) → (if is then Some (i, b) else branch_from target (i + 1) branches) ≡ Some x
-        → (branch_from target (i + 1) branches ≡ Some x → x.0 < i + 1 + length branches)
+    on : (is : Bool) → (if is then Some (i, b) else found_in_row target (i + 1) branches) ≡ Some x
+        → (found_in_row target (i + 1) branches ≡ Some x → x.0 < i + 1 + length branches)
         → x.0 < i + length (b ∷ branches)
     on true e rest =
         let number : i ≡ x.0 =
@@ -37,9 +37,9 @@ found_within : (target r : ℕ) (pars : List Par) (found : Found) → AllByRecur
     → found_from target r pars ≡ Some found → IsSmall (r + length pars) found
 found_within target r [] found few e = absurd (cc)
 found_within target r (par ∷ pars) found few e =
-    on (branch_from target 0 par.branches) refl e (found_within target (r + 1) pars found few.1)
+    on (found_in_row target 0 par.branches) refl e (found_within target (r + 1) pars found few.1)
   where
-    on : (o : Option (ℕ × Branch)) → branch_from target 0 par.branches ≡ o
+    on : (o : Option (ℕ × Branch)) → found_in_row target 0 par.branches ≡ o
         → elim o as (λ x. Option Found) [
           | Some b ↦ Some (record { row = r; par = par; number = b.0; branch = b.1 })
           | None ↦ found_from target (r + 1) pars
@@ -56,7 +56,7 @@ found_within target r (par ∷ pars) found few e =
     on None is e rest = let later = rest e in record { row = omega (arith, later.row); number = later.number }
 
 -- where a branch stands can be counted in words
-pub small_numbers : (c : Contents) (target : ℕ) (found : Found) → Keeps c → branch_at c target ≡ Some found
+pub small_numbers : (c : Contents) (target : ℕ) (found : Found) → Keeps c → found_at c target ≡ Some found
     → (found.row < 2 ^ 32) × (found.number + 1 < 2 ^ 32)
 small_numbers c target found keeps e =
     let few = each (ParKeeps (first_branch c) (length c.code)) behind_par FewBranches (λ low row h. h.branch_limit)

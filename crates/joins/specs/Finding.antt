@@ -1,6 +1,7 @@
 -- A branch that was found, as the definitions have it, and the plan of a start of it.
 use Rattle.module_format.specs.Contents.{branch_of, par_of}
-use Rattle.machine_state.specs.Joins.{Found, Plan, first_plan}
+use Rattle.machine_state.specs.JoinLookups.{Found}
+use Rattle.machine_state.specs.StartPlans.{Plan, first_plan}
 use Rattle.machine_state.specs.World.{World, holding_at}
 use Rattle.joins.specs.declared.found.Found as kept
 use Rattle.joins.specs.declared.found.Start.{Start}

@@ -4,7 +4,10 @@ use Rattle.module_format.specs.Contents.{Contents, Branch}
 use Rattle.machine_state.specs.declared.holding.Holding.{Holding}
 use Rattle.machine_state.specs.declared.role.Join.{Join}
 use Rattle.machine_state.specs.declared.tagged.joining.Progress.{Progress}
-use Rattle.machine_state.specs.Joins.{Plan, Found, frame_address, holding_of, join_after, share_by}
+use Rattle.machine_state.specs.Joins.{join_after}
+use Rattle.machine_state.specs.StartPlans.{Plan, share_by}
+use Rattle.machine_state.specs.JoinLookups.{Found}
+use Rattle.machine_state.specs.BranchShares.{frame_address, holding_of}
 use Rattle.machine_state.specs.Spans.{less}
 use Rattle.machine_state.specs.Views.{holding_view, join_view}
 

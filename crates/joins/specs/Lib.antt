@@ -1,7 +1,6 @@
 pub mod EndSets
 pub mod Finding
 pub mod Gifts
-pub mod Locals
 pub mod Opened
 pub mod Planning
 pub mod Sharing

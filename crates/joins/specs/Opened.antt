@@ -3,8 +3,9 @@ use Rattle.std.specs.Prelude.{◌≡◌, ℕ, pos, List, [], map, length}
 use Rattle.module_format.specs.declared.rows.Parameter.{Parameter}
 use Rattle.module_format.specs.Contents.{Par}
 use Rattle.machine_state.specs.Holding.{Holding}
-use Rattle.machine_state.specs.Joins.{Found, Plan, channel_addresses, frame_base, hidden, named_from, with_ends}
-use Rattle.machine_state.specs.Joins.{word_in}
+use Rattle.machine_state.specs.JoinLookups.{Found, named_from}
+use Rattle.machine_state.specs.StartPlans.{Plan, channel_addresses, hidden, with_ends, word_in}
+use Rattle.machine_state.specs.BranchShares.{frame_base}
 use Rattle.machine_state.specs.Memory.{Memory, place_of}
 use Rattle.machine_state.specs.Spans.{less}
 use Rattle.machine_state.specs.Views.{holding_view}

@@ -1,7 +1,7 @@
 -- What a start goes by, as the definitions have it.
 use Rattle.std.specs.Prelude.{ℕ, List}
 use Rattle.module_format.specs.Contents.{par_of}
-use Rattle.machine_state.specs.Joins.{Plan}
+use Rattle.machine_state.specs.StartPlans.{Plan}
 use Rattle.machine_state.specs.Views.{holding_view}
 use Rattle.joins.specs.declared.plan.Plan as kept
 

@@ -2,7 +2,7 @@
 use Rattle.std.specs.Prelude.{ℕ, ◌==◌, length, Option}
 use Rattle.std.specs.Option.{option_map}
 use Rattle.machine_state.specs.World.{World, Join}
-use Rattle.machine_state.specs.Joins.{opened_by}
+use Rattle.machine_state.specs.JoinLookups.{opened_by}
 use Rattle.machine_state.specs.Roles.{members_without}
 use Rattle.joins.specs.declared.open.Open.{Open}
 

@@ -4,8 +4,9 @@ use Rattle.std.specs.Option.{option_map}
 use Rattle.module_format.specs.Contents.{Contents}
 use Rattle.machine_state.specs.declared.fault.FaultKind.{FaultKind}
 use Rattle.machine_state.specs.Faults.{fault_in}
-use Rattle.machine_state.specs.Joins.{Found, first_start, later_start, later_plan, later_faults, no_row_faults}
-use Rattle.machine_state.specs.Joins.{opened_by}
+use Rattle.machine_state.specs.JoinLookups.{Found, opened_by}
+use Rattle.machine_state.specs.Joins.{first_start_turn, later_start_turn}
+use Rattle.machine_state.specs.StartPlans.{later_plan, later_faults, no_row_faults}
 use Rattle.machine_state.specs.Site.{Local}
 use Rattle.machine_state.specs.Turn.{Here as At, Turn}
 use Rattle.machine_state.specs.World.{World, Join}
@@ -30,6 +31,6 @@ later_tests m n join found workspace =
 -- a start of this branch
 abbrev pub found_start : At → Found → ℕ → Local → World → Turn
 found_start h found workspace l w = elim (opened_by w h.process) [
-  | None ↦ first_start h found workspace l w
-  | Some join ↦ later_start h join found workspace l w
+  | None ↦ first_start_turn h found workspace l w
+  | Some join ↦ later_start_turn h join found workspace l w
 ]

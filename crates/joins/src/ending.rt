@@ -4,10 +4,11 @@ ghost use Rattle.std.specs.Prelude.{◌≡◌, ◌==◌, ◌&&◌, ◌+◌, ◌<
 ghost use Rattle.module_format.specs.Contents.{Contents, Par, contents_of, par_of};
 ghost use Rattle.machine_state.specs.World.{Join};
 ghost use Rattle.machine_state.specs.Turn.{ran};
-ghost use Rattle.machine_state.specs.Joins.{opened_by, closed, joined, ended, own_end, branch_end, join_turn};
+ghost use Rattle.machine_state.specs.Joins.{closed, joined, ended, own_end, branch_end, join_turn};
+ghost use Rattle.machine_state.specs.JoinLookups.{opened_by};
 ghost use Rattle.traffic.specs.Moment.{IsSteady};
 ghost use Rattle.traffic.specs.Settling.{here_in, Settles};
-ghost use Rattle.joins.specs.Locals.{untouched};
+ghost use Rattle.machine_state.specs.Asking.{untouched};
 ghost use Rattle.joins.specs.Summary.{summary};
 
 use crate::Processes;
@@ -68,7 +69,7 @@ fn leave(traffic: &mut Processes, here: &Here, opener: u64, seen: Open, successo
 fn end(traffic: &mut Processes, here: &Here, registers: Registers)
     requires { here.now.task.registers.at + 1 < 2 ^ 32 }
     ensures { (m : Contents) → let w = traffic.old.world in
-        traffic.new.world ≡ ended (here_in m here.now) (untouched registers w) w }
+        traffic.new.world ≡ ended (here_in m here.now) (untouched registers w.memory) w }
 {
     let next = here.next();
     traffic.put_in(here, next, registers, Mode::Plain, Condition::Ended);
@@ -94,7 +95,7 @@ fn end_opener(traffic: &mut Processes, ending: &Ending, seen: Open) -> Result<()
     requires { ending.now.here.now.task.registers.at + 1 < 2 ^ 32 }
     ensures { (join : Join) → let h = here_in (contents_of ending.now.tables.now) ending.now.here.now in
         let w = traffic.old.world in
-        let l = untouched ending.now.registers w in
+        let l = untouched ending.now.registers w.memory in
         opened_by w h.process ≡ Some join → seen ≡ summary h.process join →
         Settles w traffic.new.world ran result (own_end h join ending.now.block l w) }
 {
@@ -120,7 +121,7 @@ fn end_branch(
     requires { ending.now.here.now.task.registers.at + 1 < 2 ^ 32 }
     ensures { (join : Join) → let h = here_in (contents_of ending.now.tables.now) ending.now.here.now in
         let w = traffic.old.world in
-        let l = untouched ending.now.registers w in
+        let l = untouched ending.now.registers w.memory in
         opened_by w opener ≡ Some join → seen ≡ summary h.process join →
         Settles w traffic.new.world ran result (branch_end h opener join ending.now.block l w) }
 {
@@ -151,7 +152,7 @@ pub fn join(
     requires { here.now.task.registers.at + 1 < 2 ^ 32 }
     ensures { let h = here_in (contents_of tables.now) here.now in
         let w = traffic.old.world in
-        Settles w traffic.new.world ran result (join_turn h block (untouched registers w) w) }
+        Settles w traffic.new.world ran result (join_turn h block (untouched registers w.memory) w) }
 {
     let ending = Ending {
         tables,

@@ -7,13 +7,16 @@ ghost use Rattle.machine_state.specs.World.{Join as Opened};
 ghost use Rattle.machine_state.specs.declared.process.Mode.TheVariants.{Starting};
 ghost use Rattle.machine_state.specs.Turn.{between};
 ghost use Rattle.machine_state.specs.Moves.{enqueue};
-ghost use Rattle.machine_state.specs.Joins.{Plan, frame_address, new_task, opened_by, later_plan, started, opened};
-ghost use Rattle.machine_state.specs.Joins.{without_words, scheduling_addresses, block_addresses, channel_addresses};
+ghost use Rattle.machine_state.specs.Joins.{new_task, started, opened, without_words};
+ghost use Rattle.machine_state.specs.StartPlans.{Plan, later_plan, scheduling_addresses, block_addresses};
+ghost use Rattle.machine_state.specs.StartPlans.{channel_addresses};
+ghost use Rattle.machine_state.specs.BranchShares.{frame_address};
+ghost use Rattle.machine_state.specs.JoinLookups.{opened_by};
 ghost use Rattle.traffic.specs.Moment.{IsSteady};
 ghost use Rattle.traffic.specs.Settling.{here_in};
 ghost use Rattle.joins.specs.Finding.{found_view};
 ghost use Rattle.joins.specs.Gifts.{IsGift, IsFirstGift};
-ghost use Rattle.joins.specs.Locals.{untouched};
+ghost use Rattle.machine_state.specs.Asking.{untouched};
 
 use crate::Processes;
 use crate::found::Start;
@@ -76,7 +79,7 @@ pub(crate) fn advance(traffic: &mut Processes, start: &Start, gift: Later) -> Re
         let f = found_view start.now.found in
         let plan = later_plan m join f.par in
         let h = here_in m start.now.here.now in
-        let next = started h plan f start.now.workspace (untouched start.now.registers w) w in
+        let next = started h plan f start.now.workspace (untouched start.now.registers w.memory) w in
         opened_by w h.process ≡ Some join → IsGift m (length w.memory) plan f.branch gift.to gift.own →
         MatchResult result (λ _. traffic.new.world ≡ next) (λ _. traffic.new.world ≡ w) }
 {
@@ -123,7 +126,7 @@ pub(crate) fn open(traffic: &mut Processes, start: &Start, gift: First) -> Resul
     ensures { (m : Contents) (plan : Plan) → let w = traffic.old.world in
         let h = here_in m start.now.here.now in
         let f = found_view start.now.found in
-        let there = opened h plan (untouched start.now.registers w) w in
+        let there = opened h plan (untouched start.now.registers w.memory) w in
         plan.par ≡ f.par → IsFirstGift m (length w.memory) plan f (length w.tasks) gift.join gift.own →
         MatchResult result (λ _. traffic.new.world ≡ started h plan f start.now.workspace there.0 there.1)
         (λ _. traffic.new.world ≡ w) }

@@ -4,7 +4,7 @@ ghost use Rattle.std.specs.Prelude.{◌≡◌, ◌+◌, ◌<◌, ◌^◌, if◌t
 ghost use Rattle.std.specs.Prelude.{MatchOption};
 ghost use Rattle.module_format.specs.Contents.{branch_of, contents_of};
 ghost use Rattle.machine_state.specs.Faults.{fault_in};
-ghost use Rattle.machine_state.specs.Joins.{branch_from, branch_at};
+ghost use Rattle.machine_state.specs.JoinLookups.{found_in_row, found_at};
 ghost use Rattle.joins.specs.Finding.{found_view};
 
 use certificate::{BranchRow, Module, ParRow, Tables};
@@ -45,8 +45,8 @@ impl Start<'_, '_> {
 }
 
 /// The branch of a row that begins at a code offset, with its number.
-fn branch_in(branches: &[BranchRow], target: u32) -> Option<(usize, &BranchRow)>
-    ensures { let found = branch_from target 0 (map branch_of branches.now) in
+fn found_in_row(branches: &[BranchRow], target: u32) -> Option<(usize, &BranchRow)>
+    ensures { let found = found_in_row target 0 (map branch_of branches.now) in
         MatchOption result (found ≡ None) (λ x. found ≡ Some (x.0, branch_of x.1.now)) }
 {
     for (number, branch) in branches.iter().enumerate() {
@@ -58,12 +58,12 @@ fn branch_in(branches: &[BranchRow], target: u32) -> Option<(usize, &BranchRow)>
 }
 
 /// The branch that begins at a code offset, if there is one. It takes time linear in the rows.
-pub(crate) fn branch_at<'t>(tables: &'t Tables, target: u32) -> Option<Found<'t>>
-    ensures { let found = branch_at (contents_of tables.now) target in
+pub(crate) fn found_at<'t>(tables: &'t Tables, target: u32) -> Option<Found<'t>>
+    ensures { let found = found_at (contents_of tables.now) target in
         MatchOption result (found ≡ None) (λ f. found ≡ Some (found_view f)) }
 {
     for (row, par) in tables.pars.iter().enumerate() {
-        if let Some((number, branch)) = branch_in(&par.branches, target) {
+        if let Some((number, branch)) = found_in_row(&par.branches, target) {
             return Some(Found {
                 row,
                 par,

@@ -3,8 +3,9 @@
 ghost use Rattle.std.specs.Prelude.{◌≡◌, ◌<◌, ◌^◌, ◌+◌, ◌∷◌, [], IfOk, length};
 ghost use Rattle.module_format.specs.Contents.{contents_of, par_of};
 ghost use Rattle.module_format.specs.Contexts.{parameters_at};
-ghost use Rattle.machine_state.specs.Joins.{first_faults, first_fault, frame_address, holding_of};
-ghost use Rattle.machine_state.specs.Joins.{later_plan, later_faults, named_from, share_by};
+ghost use Rattle.machine_state.specs.StartPlans.{first_faults, first_fault, later_plan, later_faults, share_by};
+ghost use Rattle.machine_state.specs.BranchShares.{frame_address, holding_of};
+ghost use Rattle.machine_state.specs.JoinLookups.{named_from};
 ghost use Rattle.machine_state.specs.Spans.{less};
 ghost use Rattle.machine_state.specs.Views.{holding_view, join_view};
 ghost use Rattle.machine_state.specs.World.{holding_at};

@@ -6,7 +6,7 @@ ghost use Rattle.module_format.specs.Contents.{contents_of};
 ghost use Rattle.machine_state.specs.declared.holding.End.{End as HeldEnd};
 ghost use Rattle.machine_state.specs.Covering.{covered};
 ghost use Rattle.machine_state.specs.Holding.{may_write, may_read};
-ghost use Rattle.machine_state.specs.Joins.{holding_of};
+ghost use Rattle.machine_state.specs.BranchShares.{holding_of};
 ghost use Rattle.machine_state.specs.Spans.{runs, less, is_listed, is_within, stretches_over};
 ghost use Rattle.machine_state.specs.Stretches.{stretch_view};
 ghost use Rattle.machine_state.specs.Views.{holding_view};

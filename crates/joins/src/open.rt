@@ -3,7 +3,7 @@
 ghost use Rattle.std.specs.Prelude.{◌≡◌, ◌==◌, ℕ, Some, None, length, MatchOption};
 ghost use Rattle.std.specs.List.{list_all};
 ghost use Rattle.machine_state.specs.Holding.{nothing};
-ghost use Rattle.machine_state.specs.Joins.{opened_by, opener_of};
+ghost use Rattle.machine_state.specs.JoinLookups.{opened_by, opener_of};
 ghost use Rattle.machine_state.specs.Roles.{members_without};
 ghost use Rattle.machine_state.specs.Views.{holding_view, join_view};
 ghost use Rattle.machine_state.specs.World.{holding_at};

@@ -3,7 +3,8 @@
 ghost use Rattle.std.specs.Prelude.{◌≡◌, ◌∷◌, ◌++◌, IfOk, map, length, pos};
 ghost use Rattle.module_format.specs.Contents.{par_of};
 ghost use Rattle.module_format.specs.declared.rows.ChannelRow.{ChannelRow as Row};
-ghost use Rattle.machine_state.specs.Joins.{hidden, with_ends, frame_address};
+ghost use Rattle.machine_state.specs.StartPlans.{hidden, with_ends};
+ghost use Rattle.machine_state.specs.BranchShares.{frame_address};
 ghost use Rattle.joins.specs.Opened.{IsOpening, opened_rest, word_stretch};
 ghost use Rattle.machine_state.specs.Views.{holding_view};
 ghost use Rattle.joins.specs.Sharing.{share_view};

@@ -7,7 +7,9 @@ ghost use Rattle.std.specs.List.{list_any};
 ghost use Rattle.module_format.specs.declared.rows.EndRow.{EndRow as Row};
 ghost use Rattle.module_format.specs.Rows.{BranchRow as Branching};
 ghost use Rattle.module_format.specs.Contents.{branch_of, par_of};
-ghost use Rattle.machine_state.specs.Joins.{frame_base, branch_names, names_end, row_names, named_from, word_in};
+ghost use Rattle.machine_state.specs.BranchShares.{frame_base};
+ghost use Rattle.machine_state.specs.JoinLookups.{branch_names, names_end, row_names, named_from};
+ghost use Rattle.machine_state.specs.StartPlans.{word_in};
 ghost use Rattle.machine_state.specs.Views.{holding_view};
 
 use crate::share::Frame;

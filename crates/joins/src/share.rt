@@ -4,17 +4,14 @@ ghost use Rattle.std.specs.Prelude.{◌≡◌, ◌<◌, ◌^◌, ◌+ℤ◌, ◌
 ghost use Rattle.std.specs.Prelude.{option_to_list, IfOk};
 ghost use Rattle.std.specs.Option.{option_map};
 ghost use Rattle.module_format.specs.Contents.{branch_of};
-ghost use Rattle.machine_state.specs.Joins.{words_of, address_of, region_of, region_size, end_of, share_of};
+ghost use Rattle.machine_state.specs.BranchShares.{words_of, address_of, region_of, region_size, end_of, share_of};
 ghost use Rattle.machine_state.specs.Memory.{data_start};
 ghost use Rattle.machine_state.specs.Stretches.{stretch_view};
 ghost use Rattle.joins.specs.Sharing.{share_view};
 
 use certificate::{BranchRow, EndKind, EndRow, Interval, Parameter, ParameterKind};
-use machine_state::{DATA_START, End, Stretch, local_address, place_of};
+use machine_state::{DATA_START, End, LINK_WORDS, Stretch, local_address, place_of};
 use std::alloc::{AllocError, Global};
-
-/// The address of the word of output link 0, MostNeg.
-const LINK_WORDS: u32 = 0x8000_0000;
 
 /// Where the frame of a PAR lies, and what its parameters point at.
 #[derive(Clone, Copy)]

@@ -3,20 +3,21 @@
 ghost use Rattle.std.specs.Prelude.{◌≡◌, ◌<◌, ◌^◌, ◌+◌, Some, None, IfSome, MatchOption, length};
 ghost use Rattle.machine_state.specs.World.{Join as Opened, holding_at};
 ghost use Rattle.machine_state.specs.Turn.{ran};
-ghost use Rattle.machine_state.specs.Joins.{first_faults, first_fault, later_plan, opened_by};
-ghost use Rattle.machine_state.specs.Joins.{first_start, later_start, start_turn, branch_at, no_row_faults};
+ghost use Rattle.machine_state.specs.StartPlans.{first_faults, first_fault, later_plan, no_row_faults};
+ghost use Rattle.machine_state.specs.JoinLookups.{opened_by, found_at};
+ghost use Rattle.machine_state.specs.Joins.{start_turn, first_start_turn, later_start_turn};
 ghost use Rattle.traffic.specs.Moment.{IsSteady};
 ghost use Rattle.traffic.specs.Settling.{here_in, SettlesIfRoom};
 ghost use Rattle.machine_state.specs.Faults.{fault_in};
 ghost use Rattle.std.specs.Option.{option_map};
 ghost use Rattle.joins.specs.Finding.{found_view, first_plan_of};
 ghost use Rattle.joins.specs.Gifts.{IsGift, IsFirstGift};
-ghost use Rattle.joins.specs.Locals.{untouched};
+ghost use Rattle.machine_state.specs.Asking.{untouched};
 ghost use Rattle.joins.specs.Testing.{found_start, later_tests};
 
 use crate::Processes;
 use crate::entering::{advance, open};
-use crate::found::{Found, Start, branch_at};
+use crate::found::{Found, Start, found_at};
 use crate::gifts::{First, Later, first_gift, later_gift};
 use crate::open::{held, join_of};
 use crate::testing::no_row_fault;
@@ -27,12 +28,12 @@ use traffic::{Here, Stop};
 
 /// The branch of a module that begins at a code offset, if there is one. Its numbers are small, as the format says.
 fn found_in<'m>(module: &'m Module, target: u32) -> Option<Found<'m>>
-    ensures found { let found = branch_at «module».now target in
+    ensures found { let found = found_at «module».now target in
         MatchOption result (found ≡ None) (λ f. found ≡ Some (found_view f)) }
     ensures row { IfSome result (λ f. f.row < 2 ^ 32) }
     ensures number { IfSome result (λ f. f.number + 1 < 2 ^ 32) }
 {
-    branch_at(module.tables(), target)
+    found_at(module.tables(), target)
 }
 
 /// One more branch of the PAR that the process has open is started, where nothing is wrong and code follows.
@@ -43,7 +44,7 @@ fn start_later(traffic: &mut Processes, start: &Start, gift: Later) -> Result<()
         let h = here_in m start.now.here.now in
         let f = found_view start.now.found in
         let n = length w.memory in
-        let turn = later_start h join f start.now.workspace (untouched start.now.registers w) w in
+        let turn = later_start_turn h join f start.now.workspace (untouched start.now.registers w.memory) w in
         opened_by w h.process ≡ Some join → first_fault (later_tests m n join f start.now.workspace) ≡ None →
         IsGift m n (later_plan m join f.par) f.branch gift.to gift.own →
         SettlesIfRoom (λ done. ran) w traffic.new.world result turn }
@@ -62,7 +63,7 @@ fn start_first(traffic: &mut Processes, start: &Start, gift: First) -> Result<()
         let f = found_view start.now.found in
         let holding = holding_at w.roles h.process in
         let plan = first_plan_of start.now w in
-        let turn = first_start h f start.now.workspace (untouched start.now.registers w) w in
+        let turn = first_start_turn h f start.now.workspace (untouched start.now.registers w.memory) w in
         first_fault (first_faults m w.memory holding plan f start.now.workspace) ≡ None →
         IsFirstGift m (length w.memory) plan f (length w.tasks) gift.join gift.own →
         SettlesIfRoom (λ done. ran) w traffic.new.world result turn }
@@ -90,7 +91,7 @@ fn start_found(alloc: Global, traffic: &mut Processes, start: &Start) -> Result<
     ensures { let h = here_in start.now.module.now start.now.here.now in
         let w = traffic.old.world in
         let f = found_view start.now.found in
-        let turn = found_start h f start.now.workspace (untouched start.now.registers w) w in
+        let turn = found_start h f start.now.workspace (untouched start.now.registers w.memory) w in
         SettlesIfRoom (λ done. ran) w traffic.new.world result turn }
 {
     match join_of(traffic, start.here.process) {
@@ -126,7 +127,7 @@ pub fn start(
     requires { IsSteady here.now.task }
     ensures { let h = here_in «module».now here.now in
         let w = traffic.old.world in
-        let turn = start_turn h target workspace (untouched registers w) w in
+        let turn = start_turn h target workspace (untouched registers w.memory) w in
         SettlesIfRoom (λ done. ran) w traffic.new.world result turn }
 {
     let Some(found) = found_in(module, target) else {

@@ -12,8 +12,9 @@ use Rattle.machine_state.specs.LocalStep.{are_defined}
 use Rattle.machine_state.specs.Moves.{counted, dispatch}
 use Rattle.machine_state.specs.Site.{Local, Outcome, sends}
 use Rattle.machine_state.specs.Turn.{Turn, Here, ran, emitted, answered}
-use Rattle.machine_state.proofs.Turns as turns
-use Rattle.machine_state.proofs.Turns.{Ends, settled_ends}
+use Rattle.machine_state.specs.Endings as turns
+use Rattle.machine_state.proofs.Turns.{settled_ends}
+use Rattle.machine_state.specs.Endings.{Ends}
 use Rattle.traffic.specs.declared.stop.Stop.{Stop}
 use Rattle.traffic.specs.declared.stop.Stop.TheVariants as stops
 use Rattle.traffic.specs.Beside.{beside, counted_beside, CountsBeside}
@@ -81,7 +82,7 @@ memory_sent : (h : Here) (w : World) (o : Outcome) (t : Turn) → Ends h w o t �
     → o ≡ sends e l → (link : Link) (bytes : List ℕ) (after : World)
     → t ≡ answered (emitted link bytes) (counted after) → after.memory ≡ l.memory
 unfolding dispatch
-memory_sent h w o t (turns.at_fault kind) e l same link bytes after is =
+memory_sent h w o t (turns.at_fault refused) e l same link bytes after is =
     let answers = ap (λ (t : Turn). t.answer) is in absurd (cc)
 memory_sent h w o t (turns.has_run moved) e l same link bytes after is =
     let answers = ap (λ (t : Turn). t.answer) is in absurd (cc)

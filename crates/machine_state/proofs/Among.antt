@@ -3,12 +3,9 @@ use Rattle.std.proofs.Common.{◌≡◌, Bool, true, false, ◌⊎◌, inl, inr,
 use Rattle.std.proofs.Common.{sym, ap, ◌∙◌, subst, arith, eqb-true, if◌then◌else◌}
 use Rattle.std.specs.Prelude.{◌==◌}
 use Rattle.std.specs.List.{list_any, list_all}
+use Rattle.machine_state.specs.Ownership.{IsAmong}
 use Rattle.machine_state.proofs.Combining.{and_true}
 use Rattle.machine_state.proofs.SpanLaws.{or_true, or_left, or_right}
-
-abbrev pub IsAmong : {A : Type 0} → A → List A → Type 0
-IsAmong a [] = ⊥
-IsAmong a (x ∷ xs) = (x ≡ a) ⊎ IsAmong a xs
 
 pub among_more : {A : Type 0} (a : A) (xs ys : List A) → IsAmong a (xs ++ ys) → IsAmong a xs ⊎ IsAmong a ys
 among_more a [] ys h = inr h

@@ -1,8 +1,6 @@
 -- Holdings stay apart in every world that a list of events leads to.
-use Rattle.std.proofs.Common.{◌≡◌, ◌≢◌, ℕ, zero, suc, ◌+◌, ◌*◌, ◌/◌, ◌%◌, ◌^◌, ◌<◌, ◌≤◌, Bool, true, false, inl}
-use Rattle.std.proofs.Common.{inr}
-use Rattle.std.proofs.Common.{if◌then◌else◌, ℤ, List, [], ◌∷◌, ◌++◌, length, Option, Some, None, is_some, refl}
-use Rattle.std.proofs.Common.{sym}
+use Rattle.std.proofs.Common.{◌≡◌, ◌≢◌, ℕ, zero, suc, ◌+◌, ◌*◌, ◌/◌, ◌%◌, ◌^◌, ◌<◌, ◌≤◌, Bool, true, false, inl, inr}
+use Rattle.std.proofs.Common.{if◌then◌else◌, ℤ, List, [], ◌∷◌, ◌++◌, length, Option, Some, None, is_some, refl, sym}
 use Rattle.std.proofs.Common.{ap, ◌∙◌, subst, slice_get, arith, eqb-true, replicate}
 use Rattle.std.proofs.lemmas.Bool.{cases_eq, leb-true, ltb-true}
 use Rattle.std.proofs.lemmas.List.{length-set, length-replicate}
@@ -39,46 +37,45 @@ use Rattle.machine_state.specs.Site.{Site, Local, Outcome, goes, jumps, lands, s
 use Rattle.machine_state.specs.Site.{joins, begins, enables_channel, enables_skip, waits, disables_channel}
 use Rattle.machine_state.specs.Site.{disables_skip, ends_alternation}
 use Rattle.machine_state.specs.LocalStep.{copied}
-use Rattle.machine_state.specs.Moves.{put, on_task, wake, leave, dispatch, cell_of}
-use Rattle.machine_state.specs.Moves.{fill, fill_condition, with_condition, link_index, with_channel}
-use Rattle.machine_state.specs.Moves.{with_input, with_output}
+use Rattle.machine_state.specs.Moves.{put, on_task, wake, leave, dispatch, cell_of, fill, fill_condition}
+use Rattle.machine_state.specs.Moves.{with_condition, link_index, with_channel, with_input, with_output}
 use Rattle.machine_state.specs.Turn.{Here, Turn, at_here, between, continued}
 use Rattle.machine_state.specs.Exchanges.{waits_at}
 use Rattle.machine_state.specs.Alternations.{chosen, ready_or}
 use Rattle.machine_state.specs.Joins as join
-use Rattle.machine_state.specs.Joins.{joined, closed_task, started, on_role, new_task, with_channels, without_channels}
-use Rattle.machine_state.specs.Joins.{frame_address, opened, opened_by, opener_of, ended, given_back, first_plan}
-use Rattle.machine_state.specs.Joins.{later_plan}
-use Rattle.machine_state.specs.Joins.{Plan, Found, join_after, without_words, scheduling_addresses, holding_of}
-use Rattle.machine_state.specs.Joins.{share_by}
+use Rattle.machine_state.specs.Joins.{joined, closed_task, started, on_role, new_task, opened, ended, given_back}
+use Rattle.machine_state.specs.Joins.{join_after, without_words}
+use Rattle.machine_state.specs.BranchShares.{frame_address, holding_of}
+use Rattle.machine_state.specs.StartPlans.{later_plan, Plan, scheduling_addresses, share_by}
+use Rattle.machine_state.specs.JoinLookups.{Found}
 use Rattle.machine_state.specs.Happens.{site_of, turn, world_after}
 use Rattle.machine_state.specs.ChannelLaws.{HaveTheirWaiters}
 use Rattle.prefix_decoder.specs.Functions.{nibble}
 use Rattle.prefix_decoder.specs.Operand.{with_nibble}
 use Rattle.machine_state.proofs.Lines.{got_other, got_either, got_within, set_either}
-use Rattle.machine_state.proofs.Moving.{wake_only, rouse_only, on_task_only, chooses}
+use Rattle.machine_state.proofs.Moving.{wake_only, rouse_only, on_task_only, chooses, on_role_is, roles_of_equal}
 use Rattle.machine_state.proofs.Changes as change
 use Rattle.machine_state.proofs.Changes.{Roused, rouses}
 use Rattle.machine_state.proofs.Combining.{and_true}
 use Rattle.machine_state.proofs.SpanLaws.{or_true}
 use Rattle.machine_state.proofs.EveryInstruction.{Wants, each_step}
 use Rattle.machine_state.proofs.Starting.{first_tests, later_tests}
-use Rattle.machine_state.proofs.Turns as turns
-use Rattle.machine_state.proofs.Turns.{Moved, Ends, Happened, turn_happens}
+use Rattle.machine_state.specs.Endings as turns
+use Rattle.machine_state.proofs.Turns.{turn_happens}
+use Rattle.machine_state.specs.Endings.{Moved, Ends, Happened}
 use Rattle.machine_state.proofs.Waiting.{WaitsIn, reached}
 use Rattle.machine_state.proofs.EveryWorld.{every_world}
-use Rattle.machine_state.proofs.Among.{IsAmong}
-use Rattle.machine_state.proofs.Claims.{Claim, to_write, to_use, claims, clash, is_apart, nothing_claimed, only_one}
-use Rattle.machine_state.proofs.Claims.{not_true}
+use Rattle.machine_state.specs.Ownership.{HoldersAreInOrder, IsAmong, Claim, to_write, to_use, claims, clash, owner_in}
+use Rattle.machine_state.specs.Ownership.{owner_of, Under, child, deeper, Holders, KeepsPlace, in_block, in_channel}
+use Rattle.machine_state.specs.Ownership.{HoldersIn}
+use Rattle.machine_state.specs.Roles.{own_in, opener_in, opened_in}
+use Rattle.machine_state.proofs.Claims.{is_apart, nothing_claimed, only_one, not_true}
 use Rattle.machine_state.proofs.Shares.{end_among}
 use Rattle.machine_state.proofs.EvenWords.{even_local}
-use Rattle.machine_state.proofs.Owners.{owner_in, owner_of, owner_same, with_channels_size, without_channels_size}
-use Rattle.machine_state.proofs.Holders.{Under, child, deeper, Holders, KeepsPlace, in_block, in_channel, now_apart}
-use Rattle.machine_state.proofs.Holders.{kept_is_free, kept_once}
-use Rattle.machine_state.proofs.Roles.{own_in, opener_in, opened_in, HoldersIn, field_set, told_of, opened_is}
-use Rattle.machine_state.proofs.Roles.{gives_back}
+use Rattle.machine_state.proofs.Owners.{owner_same, with_channels_size, without_channels_size}
+use Rattle.machine_state.proofs.Holders.{now_apart, kept_is_free, kept_once}
+use Rattle.machine_state.proofs.Roles.{field_set, told_of, opened_is, gives_back}
 use Rattle.machine_state.proofs.StartedApart.{RowIsSmall, branch_starts, first_starts, found_row}
-use Rattle.machine_state.proofs.Moving.{on_role_is, roles_of_equal}
 use Rattle.machine_state.proofs.EndedApart.{on_role_channels, on_role_tasks, carried, member_ends}
 use Rattle.machine_state.proofs.ChannelWaiters.{channel_there, same_channel, channels_have_their_waiters}
 
@@ -513,7 +510,7 @@ module _ (h : Here) (w : World) (there : slice_get w.tasks h.process ≡ Some h.
 
   end_stands : (o : Outcome) (t : Turn) → Ends h w o t → IsEven o → Stands h.contents t.world
   unfolding dispatch
-  end_stands o t (turns.at_fault kind) even = stays _ refl refl st.even
+  end_stands o t (turns.at_fault refused) even = stays _ refl refl st.even
   end_stands o t (turns.has_run {after = after} ends) even =
       let s = moved_stands o after ends even in record { holders = s.holders; size = s.size; even = s.even }
   end_stands o t (turns.has_emitted e l k on same) even =
@@ -570,8 +567,8 @@ module _ (m : Contents) (small : IsSmall m) (w : World) (keeps : WaitsIn w)
   unfolding dispatch
   turn_stands e t (turns.was_at_fault f is) = st
   turn_stands e t (turns.it_rests rests) = st
-  turn_stands e t (turns.is_outside p task kind runs here) = unchanged m w _ st refl refl st.even
-  turn_stands e t (turns.is_prefix p task byte operand runs here at none) =
+  turn_stands e t (turns.is_outside p task why runs here) = unchanged m w _ st refl refl st.even
+  turn_stands e t (turns.is_prefix p task byte operand runs here at none it next) =
       unchanged m w _ st refl refl (even_set w.tasks p
       (record task { registers = record task.registers { at = task.registers.at + 1; operand = operand } })
       (st.even p task here) st.even)
@@ -764,3 +761,6 @@ pub holdings_stay_apart : HoldingsStayApart
 holdings_stay_apart m es keeps =
     let w = world_after m es in
     keeps_apart m w.roles w.channels (all_stand m (format_is_small m keeps) es).holders
+
+pub holders_are_in_order : HoldersAreInOrder
+holders_are_in_order m es keeps = (all_stand m (format_is_small m keeps) es).holders

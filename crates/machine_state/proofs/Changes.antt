@@ -1,8 +1,8 @@
 -- How one event changes tasks, roles, channels and links: the few ways, each with what the tests say that were passed.
 -- A law of these four parts has one clause for each way.
-use Rattle.std.proofs.Common.{◌≡◌, ◌≢◌, ℕ, ◌+◌, ◌<◌, Bool, true, false, if◌then◌else◌, ◌⊎◌, inl, inr, ℤ, List, []}
-use Rattle.std.proofs.Common.{◌∷◌, ◌++◌, length}
-use Rattle.std.proofs.Common.{Option, Some, None, is_some, refl, sym, ap, ◌∙◌, subst, slice_get, arith, eqb-true}
+use Rattle.std.proofs.Common.{◌≡◌, ◌≢◌, ℕ, ◌+◌, ◌<◌, Bool, true, false, if◌then◌else◌, ◌⊎◌, inl, inr, ℤ, List, [], ◌∷◌}
+use Rattle.std.proofs.Common.{◌++◌, length, Option, Some, None, is_some, refl, sym, ap, ◌∙◌, subst, slice_get, arith}
+use Rattle.std.proofs.Common.{eqb-true}
 use Rattle.std.specs.Prelude.{◌%◌, ◌^◌, ◌==◌, filter, not, slice_set}
 use Rattle.module_format.specs.Contents.{Contents, Par}
 use Rattle.module_format.specs.declared.rows.Direction.{Direction}
@@ -24,16 +24,17 @@ use Rattle.machine_state.specs.Holding.{Holding, nothing, has_end}
 use Rattle.machine_state.specs.World.{World, Links, Role, Join, holding_at, input_word, output_word, loaded}
 use Rattle.machine_state.specs.Site.{Site, Local, Outcome}
 use Rattle.machine_state.specs.Moves.{put, on_task, wake, leave, dispatch, rouse, rouse_task, rouse_enabling, cell_of}
-use Rattle.machine_state.specs.Moves.{channel_at, fill, link_index, with_channel, with_input}
-use Rattle.machine_state.specs.Moves.{with_output}
+use Rattle.machine_state.specs.Moves.{channel_at, fill, link_index, with_channel, with_input, with_output}
 use Rattle.machine_state.specs.Turn.{Here, Turn, at_here, between}
 use Rattle.machine_state.specs.Exchanges.{condition_of, waits_at}
 use Rattle.machine_state.specs.Alternations.{chosen, ready_or, is_by, has_enabled}
 use Rattle.machine_state.specs.Joins as join
-use Rattle.machine_state.specs.Joins.{joined, closed_task, started, on_role, new_task, with_channels, without_channels}
-use Rattle.machine_state.specs.Joins.{opened, opened_by, opener_of, ended, given_back, later_plan, Plan, Found}
-use Rattle.machine_state.specs.Joins.{branch_at}
-use Rattle.machine_state.specs.Joins.{first_fault, first_faults, join_after, holding_of, share_by}
+use Rattle.machine_state.specs.StartPlans as plans
+use Rattle.machine_state.specs.Joins.{joined, closed_task, started, new_task, with_channels, without_channels, opened}
+use Rattle.machine_state.specs.Joins.{ended, given_back, join_after}
+use Rattle.machine_state.specs.JoinLookups.{opened_by, Found, found_at}
+use Rattle.machine_state.specs.StartPlans.{later_plan, Plan, first_fault, first_faults, share_by}
+use Rattle.machine_state.specs.BranchShares.{holding_of}
 use Rattle.machine_state.specs.Happens.{site_of, turn, world_after}
 use Rattle.machine_state.specs.Waiting.{IsOver, is_member, AllReady, line_of, WaitsOn}
 use Rattle.machine_state.specs.EnabledLaws.{Enables, Disables}
@@ -42,15 +43,16 @@ use Rattle.prefix_decoder.specs.Operand.{with_nibble}
 use Rattle.machine_state.proofs.SpanLaws.{or_true}
 use Rattle.machine_state.proofs.Lines.{got_set, got_other}
 use Rattle.machine_state.proofs.Moving.{OnlyRoles, wake_only, rouse_only, on_task_only, on_task_is, chooses}
-use Rattle.machine_state.proofs.Moving.{on_role_only}
-use Rattle.machine_state.proofs.Moving.{on_role_is, tasks_of_equal, roles_of_equal, without, is_last, with_opened}
-use Rattle.machine_state.proofs.Moving.{member_gone, joined_either}
-use Rattle.machine_state.proofs.Among.{IsAmong, filter_keeps, none_among}
+use Rattle.machine_state.proofs.Moving.{on_role_only, on_role_is, tasks_of_equal, roles_of_equal, without, is_last}
+use Rattle.machine_state.proofs.Moving.{with_opened, member_gone, joined_either}
+use Rattle.machine_state.proofs.Among.{filter_keeps, none_among}
+use Rattle.machine_state.specs.Ownership.{IsAmong}
 use Rattle.machine_state.proofs.Claims.{only_one, not_some}
 use Rattle.machine_state.proofs.EveryInstruction.{Wants, OfAsked, wants_asked, each_step}
 use Rattle.machine_state.proofs.Modes.{IsOutside, Fits, steps_fit}
-use Rattle.machine_state.proofs.Turns as turns
-use Rattle.machine_state.proofs.Turns.{Moved, Ends, Happened, local_here, plan_of, turn_happens}
+use Rattle.machine_state.specs.Endings as turns
+use Rattle.machine_state.proofs.Turns.{turn_happens}
+use Rattle.machine_state.specs.Endings.{Moved, Ends, Happened, local_here, plan_of}
 use Rattle.machine_state.proofs.Waiting.{WaitsIn, reached, link_found, link_low, input_words, output_words, has_role}
 use Rattle.machine_state.proofs.Waiting.{filled}
 use Rattle.machine_state.proofs.EveryWorld.{every_world}
@@ -174,7 +176,7 @@ pub data Receives (h : Here) (e : Exchange) (link : InputLink) : Condition → I
 
 -- the channels once a branch has started: those of its PAR come with the first branch
 pub data Opening (h : Here) (w : World) : List (Option Channel) → Type 0 where
-  by_first : (target workspace : ℕ) (found : Found) → branch_at h.contents target ≡ Some found
+  by_first : (target workspace : ℕ) (found : Found) → found_at h.contents target ≡ Some found
       → opened_by w h.process ≡ None
       → first_fault (first_faults h.contents w.memory (holding_at w.roles h.process) (plan_of h w found) found
       workspace) ≡ None → Opening h w (with_channels h.process (plan_of h w found).base
@@ -405,7 +407,7 @@ module _ (h : Here) (w : World) (runs : w.queue.running ≡ Some h.process)
       let own = holding_of h.contents (length w.memory) (share_by plan found.branch) in
       let child = new_task found.branch workspace in
       let before = put h.process (record h.from { registers = between h.next l.registers; mode = Starting })
-      (join.without_words (join.scheduling_addresses workspace) l.memory) (record w { channels = cells }) in
+      (join.without_words (plans.scheduling_addresses workspace) l.memory) (record w { channels = cells }) in
       let only = on_role_only h.process (with_opened (Some j)) before in
       parts (started h plan found workspace l (record w { channels = cells })) _ _ _ _
       (starts (between h.next l.registers) role.0 j own child cells outside role.1 refl refl opening)
@@ -625,7 +627,7 @@ module _ (m : Contents) (w : World) (keeps : WaitsIn w) where
       → AsksHeld (site_of (at_here m p task pick) w) o → Fits task.mode o
       → Passed m w t.world.tasks t.world.roles t.world.channels t.world.links
   unfolding dispatch
-  ended_so p pick task runs here o t (turns.at_fault kind) asks fits = nothing_happens
+  ended_so p pick task runs here o t (turns.at_fault refused) asks fits = nothing_happens
   ended_so p pick task runs here o t (turns.has_run {after = v} x) asks fits =
       it_runs p pick task runs here (moved (at_here m p task pick) w runs here keeps o v x asks fits)
   ended_so p pick task runs here o t (turns.has_emitted e l k on same) asks fits =
@@ -637,8 +639,8 @@ module _ (m : Contents) (w : World) (keeps : WaitsIn w) where
   unfolding dispatch
   passes e t (turns.was_at_fault f is) = nothing_happens
   passes e t (turns.it_rests rests) = nothing_happens
-  passes e t (turns.is_outside p task kind runs here) = nothing_happens
-  passes e t (turns.is_prefix {pick = pick} p task byte operand runs here at none) =
+  passes e t (turns.is_outside p task why runs here) = nothing_happens
+  passes e t (turns.is_prefix {pick = pick} p task byte operand runs here at none it next) =
       it_runs p pick task runs here
       (goes_on (record task.registers { at = task.registers.at + 1; operand = operand }) _ _ as_before)
   passes e t (turns.is_step {pick = pick} p task byte f runs here at is ends) =

@@ -1,6 +1,6 @@
 -- Whoever an internal channel says to wait there does wait there.
-use Rattle.std.proofs.Common.{◌≡◌, ◌≢◌, ℕ, zero, suc, ◌+◌, Bool, true, false, if◌then◌else◌, ◌⊎◌, inl, inr}
-use Rattle.std.proofs.Common.{List, [], ◌∷◌, ◌++◌, Option, Some, None, is_some, refl, sym, ap, ◌∙◌, subst, slice_get}
+use Rattle.std.proofs.Common.{◌≡◌, ◌≢◌, ℕ, zero, suc, ◌+◌, Bool, true, false, if◌then◌else◌, ◌⊎◌, inl, inr, List, []}
+use Rattle.std.proofs.Common.{◌∷◌, ◌++◌, Option, Some, None, is_some, refl, sym, ap, ◌∙◌, subst, slice_get}
 use Rattle.std.proofs.lemmas.Bool.{cases_eq}
 use Rattle.std.specs.Prelude.{◌==◌, replicate, slice_set}
 use Rattle.module_format.specs.Contents.{Contents}
@@ -19,12 +19,13 @@ use Rattle.machine_state.specs.Moves.{cell_of}
 use Rattle.machine_state.specs.Turn.{Here, at_here}
 use Rattle.machine_state.specs.Exchanges.{condition_of}
 use Rattle.machine_state.specs.Alternations.{ready_or}
-use Rattle.machine_state.specs.Joins.{closed_task, with_channels, without_channels, frame_address}
+use Rattle.machine_state.specs.Joins.{closed_task, with_channels, without_channels}
+use Rattle.machine_state.specs.BranchShares.{frame_address}
 use Rattle.machine_state.specs.Happens.{world_after}
 use Rattle.machine_state.specs.ChannelLaws.{WaitsAt, HaveTheirWaiters, ChannelsHaveTheirWaiters}
 use Rattle.machine_state.proofs.Lines.{got_set, got_other, got_before, set_either}
 use Rattle.machine_state.proofs.Claims.{only_one, not_some}
-use Rattle.machine_state.proofs.Turns.{plan_of}
+use Rattle.machine_state.specs.Endings.{plan_of}
 use Rattle.machine_state.proofs.Waiting.{WaitsIn, reached}
 use Rattle.machine_state.proofs.Changes as change
 use Rattle.machine_state.proofs.Changes.{Changed, Passed, Opening, Roused, going, cell_is, with_cell, running_is_ready}

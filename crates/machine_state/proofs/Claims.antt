@@ -1,28 +1,10 @@
--- What a holding claims: places to write, places to read, and ends. Two claims clash if two holders may not have them.
+-- Laws of what holdings claim.
 use Rattle.std.proofs.Common.{◌≡◌, ℕ, ◌≤◌, Bool, true, false, Option, Some, None, refl, sym, ◌∙◌}
-use Rattle.machine_state.specs.declared.holding.End.{End}
-use Rattle.machine_state.specs.Holding.{Holding, nothing, may_write, may_read, has_end, IsApart}
+use Rattle.machine_state.specs.Holding.{Holding, nothing, may_write, may_read, IsApart}
+use Rattle.machine_state.specs.Ownership.{Claim, to_write, to_read, to_use, claims, clash, NoClash}
 use Rattle.machine_state.proofs.SpanLaws.{or_left}
 
-pub data Claim : Type 0 where
-  to_write : ℕ → Claim
-  to_read : ℕ → Claim
-  to_use : End → Claim
-
-abbrev pub claims : Holding → Claim → Bool
-claims h (to_write x) = may_write h x
-claims h (to_read x) = may_read h x
-claims h (to_use e) = has_end h e
-
-abbrev pub clash : Claim → Claim
-clash (to_write x) = to_read x
-clash (to_read x) = to_write x
-clash (to_use e) = to_use e
-
-abbrev pub Apart : Holding → Holding → Type 0
-Apart g h = (c : Claim) → claims g c ≡ true → claims h (clash c) ≡ true → ⊥
-
-pub is_apart : (g h : Holding) → Apart g h → IsApart g h
+pub is_apart : (g h : Holding) → NoClash g h → IsApart g h
 is_apart g h a = record { written = λ x. a (to_write x); read = λ x. a (to_read x); ends = λ e. a (to_use e) }
 
 -- what clashes with what clashes with a claim is that claim

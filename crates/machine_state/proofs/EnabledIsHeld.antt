@@ -1,6 +1,6 @@
 -- What a process has enabled it holds, and nobody else receives there.
-use Rattle.std.proofs.Common.{◌≡◌, ◌≢◌, ℕ, zero, suc, ◌<◌, ◌^◌, true, ◌⊎◌, inl, inr, List, Option, Some, None}
-use Rattle.std.proofs.Common.{refl, sym, ap, ◌∙◌, subst, slice_get, arith, replicate}
+use Rattle.std.proofs.Common.{◌≡◌, ◌≢◌, ℕ, zero, suc, ◌<◌, ◌^◌, true, ◌⊎◌, inl, inr, List, Option, Some, None, refl}
+use Rattle.std.proofs.Common.{sym, ap, ◌∙◌, subst, slice_get, arith, replicate}
 use Rattle.std.proofs.lemmas.Bool.{cases_eq}
 use Rattle.std.specs.Prelude.{slice_set}
 use Rattle.module_format.specs.Contents.{Contents}
@@ -27,21 +27,18 @@ use Rattle.machine_state.specs.EnabledLaws.{IsSending, WhoEnabledHolds}
 use Rattle.machine_state.specs.Happens.{world_after}
 use Rattle.machine_state.proofs.Lines.{set_either}
 use Rattle.machine_state.proofs.Waiting.{WaitsIn, reached, low_output}
-use Rattle.machine_state.proofs.Claims.{only_one, to_use, not_some}
-use Rattle.machine_state.proofs.Owners.{owner_of}
+use Rattle.machine_state.proofs.Claims.{only_one, not_some}
+use Rattle.machine_state.specs.Ownership.{to_use, owner_of, IsWord}
 use Rattle.machine_state.proofs.EvenWords.{even_place}
-use Rattle.machine_state.proofs.Holders.{IsWord, now_claims, outside_is_free}
-use Rattle.machine_state.proofs.ChannelWaiters.{same_channel, new_is_quiet, left_channel}
-use Rattle.machine_state.proofs.ChannelWaiters.{channels_have_their_waiters}
+use Rattle.machine_state.proofs.Holders.{now_claims, outside_is_free}
+use Rattle.machine_state.proofs.ChannelWaiters.{same_channel, new_is_quiet, left_channel, channels_have_their_waiters}
 use Rattle.machine_state.proofs.ApartLaws.{Stands, all_stand, format_is_small, holdings_stay_apart}
 use Rattle.machine_state.proofs.WhoWaits.{holding_now, who_waits_is_recorded}
-use Rattle.machine_state.proofs.WhoEnabled.{not_outside, not_ended, not_on_link}
-use Rattle.machine_state.proofs.WhoEnabled.{who_enabled_alternates}
+use Rattle.machine_state.proofs.WhoEnabled.{not_outside, not_ended, not_on_link, who_enabled_alternates}
 use Rattle.machine_state.proofs.OthersHold.{HoldOn, others_hold}
 use Rattle.machine_state.proofs.WhoWaitsOnLinks.{one_holds, who_waits_on_links_is_recorded}
 use Rattle.machine_state.proofs.Changes as change
-use Rattle.machine_state.proofs.Changes.{Changed, Passed, Receives, cell_is, with_cell, with_link}
-use Rattle.machine_state.proofs.Changes.{of_every_world}
+use Rattle.machine_state.proofs.Changes.{Changed, Passed, Receives, of_every_world}
 
 -- ---- an instruction of the running process
 

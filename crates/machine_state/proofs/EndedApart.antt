@@ -1,6 +1,6 @@
 -- The end of a member of a join keeps holdings apart, and so does the end of the join.
-use Rattle.std.proofs.Common.{◌≡◌, ◌≢◌, ℕ, Bool, true, false, List, Option, Some, None}
-use Rattle.std.proofs.Common.{refl, sym, ap, ◌∙◌, subst, slice_get, eqb-true}
+use Rattle.std.proofs.Common.{◌≡◌, ◌≢◌, ℕ, Bool, true, false, List, Option, Some, None, refl, sym, ap, ◌∙◌, subst}
+use Rattle.std.proofs.Common.{slice_get, eqb-true}
 use Rattle.std.specs.Prelude.{◌==◌, not, slice_set}
 use Rattle.module_format.specs.Contents.{Contents, Par}
 use Rattle.machine_state.specs.declared.process.Channel.{Channel}
@@ -10,13 +10,12 @@ use Rattle.machine_state.specs.Moves.{on_task, dispatch}
 use Rattle.machine_state.specs.Joins.{on_role, joined, closed_task, without_channels}
 use Rattle.machine_state.proofs.Lines.{got_set}
 use Rattle.machine_state.proofs.Moving.{on_task_only, on_role_only, with_opened, without, is_last, member_gone}
-use Rattle.machine_state.proofs.Moving.{joined_either}
-use Rattle.machine_state.proofs.Moving.{on_role_is, roles_of_equal}
+use Rattle.machine_state.proofs.Moving.{joined_either, on_role_is, roles_of_equal}
 use Rattle.machine_state.proofs.Among.{filter_keeps, none_among}
-use Rattle.machine_state.proofs.Claims.{Claim, claims}
+use Rattle.machine_state.specs.Ownership.{Claim, claims, HoldersIn}
+use Rattle.machine_state.specs.Roles.{own_in, opener_in}
 use Rattle.machine_state.proofs.Owners.{taken_owner, left_owner}
-use Rattle.machine_state.proofs.Roles.{own_in, opener_in, HoldersIn, opened_here, opened_other, opened_is}
-use Rattle.machine_state.proofs.Roles.{join_goes_on, join_closes}
+use Rattle.machine_state.proofs.Roles.{opened_here, opened_other, opened_is, join_goes_on, join_closes}
 
 pub on_role_channels : (p : ℕ) (f : Role → Role) (w : World) → (on_role p f w).channels ≡ w.channels
 on_role_channels p f w = (on_role_only p f w).channels

@@ -2,7 +2,7 @@
 use Rattle.std.proofs.Common.{◌≡◌, ℕ, ◌+◌, ◌-◌, ◌*◌, ◌/◌, ◌%◌, ◌^◌, ◌<◌, ◌≤◌, ℤ, pos, arith}
 use Rattle.std.specs.Int.{w32, cast_unsigned}
 use Rattle.machine_state.specs.Memory.{place_of, local_address}
-use Rattle.machine_state.specs.Joins.{frame_base}
+use Rattle.machine_state.specs.BranchShares.{frame_base}
 
 even_sum : (w n : ℕ) → w % 4 ≡ 0 → (w + 4 * n) % 2 ^ 32 % 4 ≡ 0
 even_sum w n even = omega (arith, even)

@@ -1,6 +1,6 @@
 -- The laws of one event, by the ways in which its turn ends.
-use Rattle.std.proofs.Common.{◌≡◌, ℕ, ◌+◌, Bool, true, false, if◌then◌else◌, Option, Some, None}
-use Rattle.std.proofs.Common.{Result, Ok, Err, refl, sym, ap, ◌∙◌, subst, slice_get, add-zero}
+use Rattle.std.proofs.Common.{◌≡◌, ℕ, ◌+◌, Bool, true, false, if◌then◌else◌, Option, Some, None, Result, Ok, Err, refl}
+use Rattle.std.proofs.Common.{sym, ap, ◌∙◌, subst, slice_get, add-zero}
 use Rattle.std.specs.Prelude.{◌%◌, ◌^◌, ⊤, ◌==◌, ℤ}
 use Rattle.module_format.specs.Contents.{Contents, Par}
 use Rattle.machine_state.specs.declared.event.Event.{Event}
@@ -21,8 +21,9 @@ use Rattle.machine_state.specs.Happens.{answered, turn}
 use Rattle.machine_state.specs.EventLaws.{bytes_of, EventsCountBytes, FaultsAreKept, FaultsStay}
 use Rattle.machine_state.specs.Memory.{place_of, with_byte}
 use Rattle.machine_state.proofs.Moving.{on_task_only, wake_only, rouse_only, on_role_only, joined_quiet}
-use Rattle.machine_state.proofs.Turns as turns
-use Rattle.machine_state.proofs.Turns.{Moved, Ends, Happened, turn_happens}
+use Rattle.machine_state.specs.Endings as turns
+use Rattle.machine_state.proofs.Turns.{turn_happens}
+use Rattle.machine_state.specs.Endings.{Moved, Ends, Happened}
 
 -- ---- faults
 
@@ -31,7 +32,7 @@ StaysIfFault (Ok d) w = ⊤
 StaysIfFault (Err f) w = w.fault ≡ Some f
 
 end_stays : (h : Here) (w : World) (o : Outcome) (t : Turn) → Ends h w o t → StaysIfFault t.answer t.world
-end_stays h w o t (turns.at_fault kind) = refl
+end_stays h w o t (turns.at_fault refused) = refl
 end_stays h w o t (turns.has_run moved) = tt
 end_stays h w o t (turns.has_emitted e l k on same) = tt
 
@@ -39,8 +40,8 @@ stays : (m : Contents) (w : World) (e : Event) (t : Turn)
     → Happened m w e t → StaysIfFault t.answer t.world
 stays m w e t (turns.was_at_fault f is) = is
 stays m w e t (turns.it_rests rests) = tt
-stays m w e t (turns.is_outside p task kind runs here) = refl
-stays m w e t (turns.is_prefix p task byte operand runs here at none) = tt
+stays m w e t (turns.is_outside p task why runs here) = refl
+stays m w e t (turns.is_prefix p task byte operand runs here at none it next) = tt
 stays m w e t (turns.is_step p task byte f runs here at is ends) = end_stays _ w _ t ends
 stays m w e t (turns.is_taken input p here waits) = tt
 stays m w e t (turns.is_kept input here nobody empty) = tt
@@ -144,7 +145,7 @@ Counts w t = t.world.counters.executed ≡ w.counters.executed + bytes_of t.answ
 
 end_counts : (h : Here) (w : World) (o : Outcome) (t : Turn) → Ends h w o t → Counts w t
 unfolding dispatch
-end_counts h w o t (turns.at_fault kind) = sym (add-zero w.counters.executed)
+end_counts h w o t (turns.at_fault refused) = sym (add-zero w.counters.executed)
 end_counts h w o t (turns.has_run moved) = ap (λ (n : ℕ). n + 1) (moved_count h w o _ moved)
 end_counts h w o t (turns.has_emitted e l k on same) = refl
 
@@ -159,8 +160,8 @@ counts : (m : Contents) (w : World) (e : Event) (t : Turn)
 unfolding dispatch
 counts m w e t (turns.was_at_fault f is) = sym (add-zero w.counters.executed)
 counts m w e t (turns.it_rests rests) = rest_counts w e _ rests
-counts m w e t (turns.is_outside p task kind runs here) = sym (add-zero w.counters.executed)
-counts m w e t (turns.is_prefix p task byte operand runs here at none) = refl
+counts m w e t (turns.is_outside p task why runs here) = sym (add-zero w.counters.executed)
+counts m w e t (turns.is_prefix p task byte operand runs here at none it next) = refl
 counts m w e t (turns.is_step p task byte f runs here at is ends) = end_counts _ w _ t ends
 counts m w e t (turns.is_taken input p here waits) =
     ap (λ (c : Counters). c.executed) (fill_count p _ _ input w) ∙ sym (add-zero w.counters.executed)

@@ -1,6 +1,6 @@
 -- Holdings stay apart whenever a join opens, goes on or closes, and a branch comes or gives back what it had.
-use Rattle.std.proofs.Common.{◌≡◌, ◌≢◌, ℕ, ◌+◌, ◌/◌, ◌%◌, ◌<◌, ◌≤◌, true, ◌⊎◌, inl, inr, List}
-use Rattle.std.proofs.Common.{Option, Some, None, refl, sym, ap, ◌∙◌, subst, slice_get, arith}
+use Rattle.std.proofs.Common.{◌≡◌, ◌≢◌, ℕ, ◌+◌, ◌/◌, ◌%◌, ◌<◌, ◌≤◌, true, ◌⊎◌, inl, inr, List, Option, Some, None}
+use Rattle.std.proofs.Common.{refl, sym, ap, ◌∙◌, subst, slice_get, arith}
 use Rattle.std.proofs.lemmas.Bool.{cases_eq}
 use Rattle.module_format.specs.Contents.{Par}
 use Rattle.machine_state.specs.declared.holding.End.{End}
@@ -8,14 +8,12 @@ use Rattle.machine_state.specs.Memory.{place_of}
 use Rattle.machine_state.specs.Holding.{Holding, nothing, may_write, may_read, has_end}
 use Rattle.machine_state.specs.World.{Join}
 use Rattle.machine_state.specs.Moves.{cell_of}
-use Rattle.machine_state.specs.Joins.{frame_address}
-use Rattle.machine_state.proofs.Among.{IsAmong}
-use Rattle.machine_state.proofs.Claims.{Claim, to_write, to_read, to_use, claims, clash, twice, nothing_claimed}
-use Rattle.machine_state.proofs.Claims.{IsBehind, only_one}
-use Rattle.machine_state.proofs.Holders.{Under, child, deeper, Counted, InBlock, KeepsPlace, in_block, in_channel, Lent}
-use Rattle.machine_state.proofs.Holders.{IsWord, OwnEnd, AtPlace, Holders, above_is_less, reaches, is_idle}
-use Rattle.machine_state.proofs.Holders.{held_write, keeper}
-use Rattle.machine_state.proofs.Holders.{lent_by}
+use Rattle.machine_state.specs.BranchShares.{frame_address}
+use Rattle.machine_state.specs.Ownership.{IsAmong, Claim, to_write, to_read, to_use, claims, clash, Under, child}
+use Rattle.machine_state.specs.Ownership.{deeper, Counted, InBlock, KeepsPlace, in_block, in_channel, Lent, IsWord}
+use Rattle.machine_state.specs.Ownership.{OwnEnd, AtPlace, Holders}
+use Rattle.machine_state.proofs.Claims.{twice, nothing_claimed, IsBehind, only_one}
+use Rattle.machine_state.proofs.Holders.{above_is_less, reaches, is_idle, held_write, keeper, lent_by}
 
 -- ---- what a move changes
 

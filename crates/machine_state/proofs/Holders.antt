@@ -1,6 +1,6 @@
--- Who holds what, who opened what, and whose channels lie where: what keeps holdings apart, and what follows from it.
-use Rattle.std.proofs.Common.{◌≡◌, ◌≢◌, ℕ, ◌+◌, ◌/◌, ◌%◌, ◌^◌, ◌<◌, ◌≤◌, true, ◌⊎◌, inl, inr, List}
-use Rattle.std.proofs.Common.{Option, Some, None, refl, sym, ap, ◌∙◌, subst, slice_get, arith}
+-- What follows where holders are in order.
+use Rattle.std.proofs.Common.{◌≡◌, ◌≢◌, ℕ, ◌/◌, ◌<◌, ◌≤◌, true, ◌⊎◌, inl, inr, List, Option, Some, None, refl, sym, ap}
+use Rattle.std.proofs.Common.{◌∙◌, subst, arith}
 use Rattle.std.proofs.lemmas.Bool.{cases_eq}
 use Rattle.module_format.specs.Contents.{Par}
 use Rattle.machine_state.specs.declared.holding.End.{End}
@@ -8,83 +8,9 @@ use Rattle.machine_state.specs.Memory.{place_of}
 use Rattle.machine_state.specs.Holding.{Holding, may_write, may_read, has_end}
 use Rattle.machine_state.specs.World.{Join}
 use Rattle.machine_state.specs.Moves.{cell_of}
-use Rattle.machine_state.specs.Joins.{frame_address}
-use Rattle.machine_state.proofs.Among.{IsAmong}
-use Rattle.machine_state.proofs.Claims.{Claim, to_write, to_read, to_use, claims, clash, Apart, twice, written_is_read}
-use Rattle.machine_state.proofs.Claims.{only_one}
-
--- ---- the invariant, of holdings, openers, joins and channels by their numbers
-
--- q is the opener of a process, or an opener above it
-pub data Under (opener : ℕ → Option ℕ) (q : ℕ) : ℕ → Type 0 where
-  child : (p : ℕ) → opener p ≡ Some q → Under opener q p
-  deeper : (p o : ℕ) → opener p ≡ Some o → Under opener q o → Under opener q p
-
--- the join that a process has open counts another one
-pub record Counted (opened : ℕ → Option Join) (o p : ℕ) : Type 0 where
-  pub join : Join
-  pub is_open : opened o ≡ Some join
-  pub member : IsAmong p join.members
-
-abbrev pub InBlock : Join → ℕ → Type 0
-InBlock j x = (place_of j.block ≤ x) × (x < place_of j.block + 8)
-
--- the places that an open join keeps to itself: those of its block, and of its opener's channels
-pub data KeepsPlace (opened : ℕ → Option Join) (owner : ℕ → Option ℕ) (p x : ℕ) : Type 0 where
-  in_block : (j : Join) → opened p ≡ Some j → InBlock j x → KeepsPlace opened owner p x
-  in_channel : owner (x / 4) ≡ Some p → KeepsPlace opened owner p x
-
--- the channel in the data word k is one that a process has whose opener, or one above, has opened it
-pub record Lent (opener owner : ℕ → Option ℕ) (p k : ℕ) : Type 0 where
-  pub process : ℕ
-  pub owned : owner k ≡ Some process
-  pub above : Under opener process p
-
--- the address of a word: below 2^32, and a multiple of 4
-abbrev pub IsWord : ℕ → Type 0
-IsWord a = (a % 4 ≡ 0) × (a < 2 ^ 32)
-
--- an end of one of its own channels
-abbrev pub OwnEnd : (ℕ → Option ℕ) → ℕ → Claim → Type 0
-OwnEnd owner p (to_write x) = ⊥
-OwnEnd owner p (to_read x) = ⊥
-OwnEnd owner p (to_use e) = (owner (cell_of e.address) ≡ Some p) × IsWord e.address
-
--- the block of a join is where its row says, and frame words are words of memory
-pub record AtPlace (pars : List Par) (j : Join) : Type 0 where
-  pub par : Par
-  pub row : slice_get pars j.row ≡ Some par
-  pub even : j.base % 4 ≡ 0
-  pub block : j.block ≡ frame_address j.base par.block
-
-pub record Holders (size : ℕ) (pars : List Par) (own : ℕ → Holding) (opener : ℕ → Option ℕ)
-    (opened : ℕ → Option Join) (owner : ℕ → Option ℕ) : Type 0 where
-  -- openers have smaller numbers
-  pub rises : (p o : ℕ) → opener p ≡ Some o → o < p
-  -- a branch that claims anything is a member of its opener's join
-  pub counted : (p o : ℕ) (c : Claim) → opener p ≡ Some o → claims (own p) c ≡ true → Counted opened o p
-  -- what may be written is data
-  pub inside : (p x : ℕ) → may_write (own p) x ≡ true → x < size
-  -- an end is of a link, or of a channel that someone above has opened
-  pub ends : (p : ℕ) (e : End) → has_end (own p) e ≡ true
-      → (size ≤ place_of e.address) ⊎ (Lent opener owner p (cell_of e.address) × IsWord e.address)
-  -- what branches have not been given was the opener's, but for the ends of its channels
-  pub within : (p : ℕ) (j : Join) (c : Claim) → opened p ≡ Some j → claims j.rest c ≡ true
-      → (claims (own p) c ≡ true) ⊎ OwnEnd owner p c
-  -- what a join keeps was the opener's to write, and is not left to anyone
-  pub kept : (p x : ℕ) → KeepsPlace opened owner p x → may_write (own p) x ≡ true
-  pub hidden : (p : ℕ) (j : Join) (x : ℕ) → opened p ≡ Some j → may_read j.rest x ≡ true
-      → KeepsPlace opened owner p x → ⊥
-  pub both : (p : ℕ) (j : Join) (x : ℕ) → opened p ≡ Some j → InBlock j x → owner (x / 4) ≡ Some p → ⊥
-  -- who has a channel has a join open
-  pub opens : (k p : ℕ) → owner k ≡ Some p → (j : Join) × (opened p ≡ Some j)
-  -- of two processes neither of which is under the other
-  pub apart : (p q : ℕ) → p ≢ q → (Under opener p q → ⊥) → (Under opener q p → ⊥) → Apart (own p) (own q)
-  -- of one under another
-  pub below : (q p : ℕ) (j : Join) (c : Claim) → Under opener q p → opened q ≡ Some j → claims (own p) c ≡ true
-      → claims j.rest (clash c) ≡ true → ⊥
-  pub below_kept : (q p x : ℕ) → Under opener q p → may_read (own p) x ≡ true → KeepsPlace opened owner q x → ⊥
-  pub places : (p : ℕ) (j : Join) → opened p ≡ Some j → AtPlace pars j
+use Rattle.machine_state.specs.Ownership.{NoClash, Under, child, deeper, Counted, KeepsPlace, in_block, in_channel}
+use Rattle.machine_state.specs.Ownership.{OwnEnd, Holders, Claim, to_write, to_read, to_use, claims, clash}
+use Rattle.machine_state.proofs.Claims.{twice, written_is_read, only_one}
 
 -- ---- what follows from it
 
@@ -210,7 +136,7 @@ module _ {size : ℕ} {pars : List Par} {own : ℕ → Holding} {opener : ℕ �
   ]
 
   -- whatever two processes are to each other
-  pub now_apart : (p q : ℕ) → p ≢ q → Apart (held_now p) (held_now q)
+  pub now_apart : (p q : ℕ) → p ≢ q → NoClash (held_now p) (held_now q)
   now_apart p q differ c mine other = unrelated (λ u. below_now p q (clash c) u other (twice (held_now p) c mine))
       (λ u. below_now q p c u mine other)
     where

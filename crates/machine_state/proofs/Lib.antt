@@ -10,6 +10,7 @@ pub mod EventLaws
 pub mod Moving
 pub mod SpanLaws
 pub mod Starting
+pub mod FoundContexts
 pub mod Writing
 pub mod Defined
 pub mod Agreeing
@@ -44,6 +45,7 @@ pub mod WhoStarts
 pub mod OthersHold
 pub mod WhoWaitsOnLinks
 pub mod WaitingOnce
+pub mod LinkCounts
 pub mod EnabledIsHeld
 pub mod ReadyStays
 pub mod InOrder

@@ -8,16 +8,9 @@ use Rattle.std.specs.Prelude.{◌==◌, slice_set}
 use Rattle.module_format.specs.declared.rows.ChannelRow.{ChannelRow}
 use Rattle.machine_state.specs.declared.process.Channel.{Channel}
 use Rattle.machine_state.specs.Moves.{cell_of}
-use Rattle.machine_state.specs.Joins.{frame_address, with_channels, without_channels}
-use Rattle.machine_state.proofs.Among.{IsAmong}
-
-abbrev pub owner_of : Option (Option Channel) → Option ℕ
-owner_of None = None
-owner_of (Some None) = None
-owner_of (Some (Some channel)) = Some channel.opener
-
-abbrev pub owner_in : List (Option Channel) → ℕ → Option ℕ
-owner_in cells k = owner_of (slice_get cells k)
+use Rattle.machine_state.specs.Joins.{with_channels, without_channels}
+use Rattle.machine_state.specs.BranchShares.{frame_address}
+use Rattle.machine_state.specs.Ownership.{IsAmong, owner_of, owner_in}
 
 -- one cell was set
 pub owner_set : (cells : List (Option Channel)) (i : ℕ) (channel : Channel) (k : ℕ)

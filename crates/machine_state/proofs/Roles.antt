@@ -1,6 +1,6 @@
 -- Who holds what, as a world has it: the moves of its roles keep holdings apart.
-use Rattle.std.proofs.Common.{◌≡◌, ◌≢◌, ℕ, zero, suc, ◌*◌, true, ◌⊎◌, inl, inr, List, []}
-use Rattle.std.proofs.Common.{◌∷◌, ◌++◌, length, Option, Some, None, refl, sym, ap, ◌∙◌, subst, slice_get}
+use Rattle.std.proofs.Common.{◌≡◌, ◌≢◌, ℕ, zero, suc, ◌*◌, true, ◌⊎◌, inl, inr, List, [], ◌∷◌, ◌++◌, length, Option}
+use Rattle.std.proofs.Common.{Some, None, refl, sym, ap, ◌∙◌, subst, slice_get}
 use Rattle.std.proofs.lemmas.Bool.{cases_eq}
 use Rattle.std.proofs.lemmas.Option.{slice_get_within}
 use Rattle.std.specs.Prelude.{slice_set}
@@ -9,28 +9,14 @@ use Rattle.module_format.specs.Contents.{Contents}
 use Rattle.machine_state.specs.declared.process.Channel.{Channel}
 use Rattle.machine_state.specs.Holding.{Holding, nothing}
 use Rattle.machine_state.specs.World.{Role, Join}
+use Rattle.machine_state.specs.Ownership.{HoldersIn, IsAmong, Claim, claims, Holders, owner_in}
+use Rattle.machine_state.specs.Roles.{own_in, opener_in, opened_in}
 use Rattle.machine_state.proofs.Lines.{got_set, got_other, got_last, told_in}
-use Rattle.machine_state.proofs.Among.{IsAmong}
-use Rattle.machine_state.proofs.Claims.{Claim, claims, IsBehind}
-use Rattle.machine_state.proofs.Holders.{Holders}
-use Rattle.machine_state.proofs.HolderMoves.{GivesBack, GoesOn, Closes, Opens, IsGiven, Comes}
+use Rattle.machine_state.proofs.Claims.{IsBehind}
+use Rattle.machine_state.proofs.HolderMoves.{GoesOn, Closes, Opens, IsGiven}
 use Rattle.machine_state.proofs.HolderMoves as move
-use Rattle.machine_state.proofs.Owners.{owner_in}
 
 -- ---- what a table of roles says of a process
-
-abbrev pub own_in : List Role → ℕ → Holding
-own_in roles p = elim (slice_get roles p) as (λ o. Holding) [ None ↦ nothing | Some role ↦ role.own ]
-
-abbrev pub opener_in : List Role → ℕ → Option ℕ
-opener_in roles p = elim (slice_get roles p) as (λ o. Option ℕ) [ None ↦ None | Some role ↦ role.opener ]
-
-abbrev pub opened_in : List Role → ℕ → Option Join
-opened_in roles p = elim (slice_get roles p) as (λ o. Option Join) [ None ↦ None | Some role ↦ role.opened ]
-
-abbrev pub HoldersIn : Contents → List Role → List (Option Channel) → Type 0
-HoldersIn m roles channels =
-    Holders (4 * m.data_words) m.pars (own_in roles) (opener_in roles) (opened_in roles) (owner_in channels)
 
 pushed_other : {A : Type 0} (xs : List A) (y : A) (q : ℕ) → length xs ≢ q
     → slice_get (xs ++ y ∷ []) q ≡ slice_get xs q

@@ -1,13 +1,13 @@
 -- A step answers the same in two worlds whose memories agree on what it sees.
-use Rattle.std.proofs.Common.{◌≡◌, ℕ, ◌+◌, ◌&&◌, Bool, true, false, if◌then◌else◌, nat_le, nat_lt}
-use Rattle.std.proofs.Common.{ℤ, pos, List, [], ◌∷◌, ◌++◌, map, length, Option, Some, None, is_some, Err}
-use Rattle.std.proofs.Common.{refl, sym, ap, ◌∙◌, subst, slice_get, arith}
+use Rattle.std.proofs.Common.{◌≡◌, ℕ, ◌+◌, ◌&&◌, Bool, true, false, if◌then◌else◌, nat_le, nat_lt, ℤ, pos, List, []}
+use Rattle.std.proofs.Common.{◌∷◌, ◌++◌, map, length, Option, Some, None, is_some, Err, refl, sym, ap, ◌∙◌, subst}
+use Rattle.std.proofs.Common.{slice_get, arith}
 use Rattle.std.specs.Prelude.{◌*◌, ◌%◌, ◌^◌, ◌==◌, filter, not, slice_set}
 use Rattle.module_format.specs.Contents.{Contents, Par, link_length}
 use Rattle.machine_state.specs.declared.fault.Fault.{Fault}
 use Rattle.machine_state.specs.declared.fault.FaultKind.{FaultKind}
-use Rattle.machine_state.specs.declared.fault.FaultKind.TheVariants.{OutsideCode, EndNotHeld, UnequalLengths, JoinOrder}
-use Rattle.machine_state.specs.declared.fault.FaultKind.TheVariants.{AlternationOrder, NotOwn, Undefined}
+use Rattle.machine_state.specs.declared.fault.FaultKind.TheVariants.{OutsideCode, EndNotHeld, UnequalLengths}
+use Rattle.machine_state.specs.declared.fault.FaultKind.TheVariants.{JoinOrder, AlternationOrder, NotOwn, Undefined}
 use Rattle.machine_state.specs.declared.link.InputLink.{InputLink}
 use Rattle.machine_state.specs.declared.process.Registers.{Registers}
 use Rattle.machine_state.specs.declared.process.Task.{Task}
@@ -18,7 +18,7 @@ use Rattle.machine_state.specs.declared.process.Condition.{Condition}
 use Rattle.machine_state.specs.declared.process.Condition.TheVariants.{Sending, Receiving, OnLink, Alternating}
 use Rattle.machine_state.specs.declared.process.Condition.TheVariants.{Stopped}
 use Rattle.machine_state.specs.declared.process.Exchange.{Exchange}
-use Rattle.machine_state.specs.Memory.{Memory, place_of, with_byte, word_at}
+use Rattle.machine_state.specs.Memory.{Memory, place_of, with_byte, word_at, data_start}
 use Rattle.machine_state.specs.Holding.{Holding, nothing, may_read, may_read_word, may_write_word}
 use Rattle.machine_state.specs.World.{World, Role, Join, holding_at}
 use Rattle.machine_state.specs.Site.{Outcome, jumps, stops}
@@ -33,6 +33,9 @@ use Rattle.machine_state.specs.Exchanges.{input_link, output_link, condition_of,
 use Rattle.machine_state.specs.Alternations as alternation
 use Rattle.machine_state.specs.Alternations.{Source}
 use Rattle.machine_state.specs.Joins as join
+use Rattle.machine_state.specs.BranchShares as shares
+use Rattle.machine_state.specs.JoinLookups as lookups
+use Rattle.machine_state.specs.StartPlans as plans
 use Rattle.machine_state.specs.Joins.{on_role, joined, closed_task}
 use Rattle.machine_state.specs.Seeing.{Agree, SameTurn, sent_by, sent_on, supply_by, supply, is_supplied, is_seen}
 use Rattle.machine_state.specs.Seeing.{StepsSeeWhatTheyRead}
@@ -49,7 +52,6 @@ use Rattle.machine_state.specs.Spans.{less}
 use Rattle.std.specs.Option.{option_map}
 use Rattle.std.specs.List.{list_all}
 use Rattle.std.specs.Int.{w32, cast_unsigned, cast_signed}
-use Rattle.machine_state.specs.Memory.{data_start}
 use Rattle.word_arithmetic.specs.Word.{least_word}
 use Rattle.module_format.specs.Contexts.{parameters_at}
 use Rattle.machine_state.proofs.Moving.{on_task_beside, wake_beside, rouse_beside}
@@ -521,7 +523,7 @@ module _ (seen : ℕ → Bool) where
 
     joined_alike : (block : ℕ) (r : Registers) (m n : Memory) → Agree seen m n
         → SameTurn seen (join.join_turn h block (here r m) w) (join.join_turn h block (here r n) w')
-    joined_alike block r m n agree = on_own (join.opened_by w h.process)
+    joined_alike block r m n agree = on_own (lookups.opened_by w h.process)
       where
         on_join : (opener : ℕ) (j : Option Join) → SameTurn seen
             (elim j as (λ j. Turn)
@@ -534,46 +536,46 @@ module _ (seen : ℕ → Bool) where
         on_opener : (opener : Option ℕ) → SameTurn seen
             (elim opener as (λ j. Turn) [
               | None ↦ failed h JoinOrder w
-              | Some opener ↦ elim (join.opened_by w opener) as (λ j. Turn)
+              | Some opener ↦ elim (lookups.opened_by w opener) as (λ j. Turn)
                   [ None ↦ failed h JoinOrder w | Some j ↦ join.branch_end h opener j block (here r m) w ]
             ]) (elim opener as (λ j. Turn) [
               | None ↦ failed h JoinOrder w'
-              | Some opener ↦ elim (join.opened_by w opener) as (λ j. Turn)
+              | Some opener ↦ elim (lookups.opened_by w opener) as (λ j. Turn)
                   [ None ↦ failed h JoinOrder w' | Some j ↦ join.branch_end h opener j block (here r n) w' ]
             ])
         on_opener None = fails_alike JoinOrder
-        on_opener (Some opener) = on_join opener (join.opened_by w opener)
+        on_opener (Some opener) = on_join opener (lookups.opened_by w opener)
 
         on_own : (j : Option Join) → SameTurn seen
             (elim j as (λ j. Turn) [
               | Some j ↦ join.own_end h j block (here r m) w
-              | None ↦ elim (join.opener_of w h.process) as (λ j. Turn) [
+              | None ↦ elim (lookups.opener_of w h.process) as (λ j. Turn) [
                 | None ↦ failed h JoinOrder w
-                | Some opener ↦ elim (join.opened_by w opener) as (λ j. Turn)
+                | Some opener ↦ elim (lookups.opened_by w opener) as (λ j. Turn)
                     [ None ↦ failed h JoinOrder w | Some j ↦ join.branch_end h opener j block (here r m) w ]
               ]
             ]) (elim j as (λ j. Turn) [
               | Some j ↦ join.own_end h j block (here r n) w'
-              | None ↦ elim (join.opener_of w h.process) as (λ j. Turn) [
+              | None ↦ elim (lookups.opener_of w h.process) as (λ j. Turn) [
                 | None ↦ failed h JoinOrder w'
-                | Some opener ↦ elim (join.opened_by w opener) as (λ j. Turn)
+                | Some opener ↦ elim (lookups.opened_by w opener) as (λ j. Turn)
                     [ None ↦ failed h JoinOrder w' | Some j ↦ join.branch_end h opener j block (here r n) w' ]
               ]
             ])
-        on_own None = on_opener (join.opener_of w h.process)
+        on_own None = on_opener (lookups.opener_of w h.process)
         on_own (Some j) = own_end j block r m n agree
 
     -- ---- starts
 
     start_or_fail : (tests tests' : List (Bool × FaultKind)) (after after' : World)
-        → join.first_fault tests' ≡ join.first_fault tests
+        → plans.first_fault tests' ≡ plans.first_fault tests
         → SameTurn seen (answered turn.ran (counted after)) (answered turn.ran (counted after'))
         → SameTurn seen (join.start_or_fail h tests after w) (join.start_or_fail h tests' after' w')
     start_or_fail tests tests' after after' same p = subst (λ (o : Option FaultKind). SameTurn seen
         (join.start_or_fail h tests after w) (elim o as (λ o. Turn) [
           | Some kind ↦ failed h kind w'
           | None ↦ followed h (answered turn.ran (counted after')) w'
-        ])) (sym same) (on (join.first_fault tests))
+        ])) (sym same) (on (plans.first_fault tests))
       where
         on : (o : Option FaultKind) → SameTurn seen (elim o as (λ o. Turn) [
           | Some kind ↦ failed h kind w
@@ -590,14 +592,14 @@ module _ (seen : ℕ → Bool) where
     no_row tests = start_or_fail tests tests w w' refl (counts_alike (λ v. v) (λ v n. refl) w n0 here_agree)
 
     -- the new process, in a memory of a size
-    abbrev begins_with : join.Plan → join.Found → ℕ → ℕ → World → World
+    abbrev begins_with : plans.Plan → lookups.Found → ℕ → ℕ → World → World
     begins_with plan found workspace size v =
         let given = on_role h.process
         (λ role. record role { opened = Some (join.join_after size plan found (length w.tasks)) }) v in
         enqueue (length w.tasks) (record given {
           tasks = given.tasks ++ join.new_task found.branch workspace ∷ [];
           roles = given.roles ++ record {
-            own = join.holding_of h.contents size (join.share_by plan found.branch);
+            own = shares.holding_of h.contents size (plans.share_by plan found.branch);
             opener = Some h.process;
             opened = None;
           } ∷ [];
@@ -607,7 +609,7 @@ module _ (seen : ℕ → Bool) where
     abbrev starting : Registers → Memory → World → World
     starting r m v = put h.process (record h.from { registers = between h.next r; mode = Starting }) m v
 
-    started : (plan : join.Plan) (found : join.Found) (workspace : ℕ) (r : Registers) (m n : Memory)
+    started : (plan : plans.Plan) (found : lookups.Found) (workspace : ℕ) (r : Registers) (m n : Memory)
         (channels : List (Option Channel)) → Agree seen m n
         → SameTurn seen
         (answered turn.ran (counted (join.started h plan found workspace (here r m)
@@ -615,14 +617,14 @@ module _ (seen : ℕ → Bool) where
         (answered turn.ran (counted (join.started h plan found workspace (here r n)
         (record w' { channels = channels }))))
     started plan found workspace r m n channels agree =
-        let addresses = join.scheduling_addresses workspace in
+        let addresses = plans.scheduling_addresses workspace in
         let later = join.without_words addresses n in
         let opens = λ (role : Role).
         record role { opened = Some (join.join_after (length w.memory) plan found (length w.tasks)) } in
         let ends = λ (given : World). enqueue (length w.tasks) (record given {
           tasks = given.tasks ++ join.new_task found.branch workspace ∷ [];
           roles = given.roles ++ record {
-            own = join.holding_of h.contents (length w.memory) (join.share_by plan found.branch);
+            own = shares.holding_of h.contents (length w.memory) (plans.share_by plan found.branch);
             opener = Some h.process;
             opened = None;
           } ∷ [];
@@ -638,18 +640,18 @@ module _ (seen : ℕ → Bool) where
         (starting r (join.without_words addresses m) (record w { channels = channels })) later
         (words_agree seen m n addresses agree))
 
-    later_start : (j : Join) (found : join.Found) (workspace : ℕ) (r : Registers) (m n : Memory) → Agree seen m n
-        → SameTurn seen (join.later_start h j found workspace (here r m) w)
-        (join.later_start h j found workspace (here r n) w')
+    later_start : (j : Join) (found : lookups.Found) (workspace : ℕ) (r : Registers) (m n : Memory) → Agree seen m n
+        → SameTurn seen (join.later_start_turn h j found workspace (here r m) w)
+        (join.later_start_turn h j found workspace (here r n) w')
     later_start j found workspace r m n agree =
-        let plan = join.later_plan h.contents j found.par in
+        let plan = plans.later_plan h.contents j found.par in
         tested (found.row == j.row) _ _ _ _
-        (λ same. start_or_fail (join.later_faults (length w.memory) plan found workspace)
-        (join.later_faults (length n0) plan found workspace) (join.started h plan found workspace (here r m) w)
+        (λ same. start_or_fail (plans.later_faults (length w.memory) plan found workspace)
+        (plans.later_faults (length n0) plan found workspace) (join.started h plan found workspace (here r m) w)
         (join.started h plan found workspace (here r n) w')
-        (ap (λ (size : ℕ). join.first_fault (join.later_faults size plan found workspace)) here_agree.size)
+        (ap (λ (size : ℕ). plans.first_fault (plans.later_faults size plan found workspace)) here_agree.size)
         (started plan found workspace r m n w.channels agree))
-        (λ other. no_row (join.no_row_faults j.rest workspace))
+        (λ other. no_row (plans.no_row_faults j.rest workspace))
 
     -- what the running process holds
     abbrev mine : Holding
@@ -661,13 +663,13 @@ module _ (seen : ℕ → Bool) where
       the_word place own = sym (word_same seen mine w.memory n0 place readable here_agree own)
 
       words_in : (base : ℕ) (names : List (Option ℤ))
-          → map (join.word_in mine n0 base) names ≡ map (join.word_in mine w.memory base) names
+          → map (plans.word_in mine n0 base) names ≡ map (plans.word_in mine w.memory base) names
       words_in base [] = refl
       words_in base (None ∷ names) = ap (λ (rest : List (Option ℕ)). None ∷ rest) (words_in base names)
       words_in base (Some word ∷ names) = both (word_of (may_read_word mine place) refl) (words_in base names)
         where
           place : ℕ
-          place = place_of (join.frame_address base word)
+          place = place_of (shares.frame_address base word)
 
           word_of : (b : Bool) → may_read_word mine place ≡ b
               → (if b then option_map (cast_unsigned w32) (word_at n0 place) else None)
@@ -680,7 +682,7 @@ module _ (seen : ℕ → Bool) where
 
       -- words that are held are defined alike, and hold the same
       defined_alike : (addresses : List ℕ) → list_all (λ a. may_write_word mine (place_of a)) addresses ≡ true
-          → list_all (join.word_is_defined n0) addresses ≡ list_all (join.word_is_defined w.memory) addresses
+          → list_all (plans.word_is_defined n0) addresses ≡ list_all (plans.word_is_defined w.memory) addresses
       defined_alike [] own = refl
       defined_alike (a ∷ addresses) own =
           let parts = and_true _ _ own in
@@ -691,60 +693,60 @@ module _ (seen : ℕ → Bool) where
 
       named_alike : (base : ℕ) (names : List (Option ℤ))
           → list_all (λ (named : Option ℤ). elim named as (λ o. Bool)
-          [ None ↦ true | Some word ↦ may_read_word mine (place_of (join.frame_address base word)) ]) names ≡ true
+          [ None ↦ true | Some word ↦ may_read_word mine (place_of (shares.frame_address base word)) ]) names ≡ true
           → list_all (λ (named : Option ℤ). elim named as (λ o. Bool)
-          [ None ↦ true | Some word ↦ join.word_is_defined n0 (join.frame_address base word) ]) names
+          [ None ↦ true | Some word ↦ plans.word_is_defined n0 (shares.frame_address base word) ]) names
           ≡ list_all (λ (named : Option ℤ). elim named as (λ o. Bool)
-          [ None ↦ true | Some word ↦ join.word_is_defined w.memory (join.frame_address base word) ]) names
+          [ None ↦ true | Some word ↦ plans.word_is_defined w.memory (shares.frame_address base word) ]) names
       named_alike base [] own = refl
       named_alike base (None ∷ names) own = named_alike base names own
       named_alike base (Some word ∷ names) own =
           let parts = and_true _ _ own in
-          let place = place_of (join.frame_address base word) in
+          let place = place_of (shares.frame_address base word) in
           let one : word_at n0 place ≡ word_at w.memory place = the_word place parts.0 in
           let rest = named_alike base names parts.1 in
           rw (one, rest)
 
       -- the word at an address that is held passes the same test
       word_alike : (v : ℤ) (a : ℕ) → may_write_word mine (place_of a) ≡ true
-          → join.is_word n0 a v ≡ join.is_word w.memory a v
+          → plans.is_word n0 a v ≡ plans.is_word w.memory a v
       word_alike v a own = ap (λ (o : Option ℤ). elim o as (λ o. Bool)
           [ None ↦ false | Some u ↦ cast_unsigned w32 u == cast_unsigned w32 v ])
           (the_word (place_of a) (readable_word mine (place_of a) own))
 
       empty_alike : (v : ℤ) (addresses : List ℕ)
           → list_all (λ a. may_write_word mine (place_of a)) addresses ≡ true
-          → list_all (λ a. join.is_word n0 a v) addresses ≡ list_all (λ a. join.is_word w.memory a v) addresses
+          → list_all (λ a. plans.is_word n0 a v) addresses ≡ list_all (λ a. plans.is_word w.memory a v) addresses
       empty_alike v [] own = refl
       empty_alike v (a ∷ addresses) own =
           let parts = and_true _ _ own in
           and_same (word_alike v a parts.0) (empty_alike v addresses parts.1)
 
-      words_defined : (plan : join.Plan) → join.words_are_held mine plan ≡ true
-          → join.words_are_defined n0 plan ≡ join.words_are_defined w.memory plan
+      words_defined : (plan : plans.Plan) → plans.words_are_held mine plan ≡ true
+          → plans.words_are_defined n0 plan ≡ plans.words_are_defined w.memory plan
       words_defined plan held =
           let parts = and_true (list_all (λ a. may_write_word mine (place_of a))
-          (join.block_addresses plan.base plan.par ++ join.channel_addresses plan.base plan.par))
+          (plans.block_addresses plan.base plan.par ++ plans.channel_addresses plan.base plan.par))
           (list_all (λ (named : Option ℤ). elim named as (λ o. Bool) [
             | None ↦ true
-            | Some word ↦ may_read_word mine (place_of (join.frame_address plan.base word))
-          ]) (join.named_from plan.par 0 plan.parameters)) held in
+            | Some word ↦ may_read_word mine (place_of (shares.frame_address plan.base word))
+          ]) (lookups.named_from plan.par 0 plan.parameters)) held in
           let a = defined_alike
-          (join.block_addresses plan.base plan.par ++ join.channel_addresses plan.base plan.par) parts.0 in
-          let b = named_alike plan.base (join.named_from plan.par 0 plan.parameters) parts.1 in
+          (plans.block_addresses plan.base plan.par ++ plans.channel_addresses plan.base plan.par) parts.0 in
+          let b = named_alike plan.base (lookups.named_from plan.par 0 plan.parameters) parts.1 in
           rw (a, b)
 
-      prepared_alike : (plan : join.Plan) → join.words_are_held mine plan ≡ true
-          → join.is_prepared h.contents n0 plan ≡ join.is_prepared h.contents w.memory plan
+      prepared_alike : (plan : plans.Plan) → plans.words_are_held mine plan ≡ true
+          → plans.is_prepared h.contents n0 plan ≡ plans.is_prepared h.contents w.memory plan
       prepared_alike plan held =
-          let block = join.frame_address plan.base plan.par.block in
-          let second = join.frame_address block (pos 1) in
-          let channels = join.channel_addresses plan.base plan.par in
+          let block = shares.frame_address plan.base plan.par.block in
+          let second = shares.frame_address block (pos 1) in
+          let channels = plans.channel_addresses plan.base plan.par in
           let parts = and_true (list_all (λ a. may_write_word mine (place_of a)) (block ∷ second ∷ channels))
           (list_all (λ (named : Option ℤ). elim named as (λ o. Bool) [
             | None ↦ true
-            | Some word ↦ may_read_word mine (place_of (join.frame_address plan.base word))
-          ]) (join.named_from plan.par 0 plan.parameters)) held in
+            | Some word ↦ may_read_word mine (place_of (shares.frame_address plan.base word))
+          ]) (lookups.named_from plan.par 0 plan.parameters)) held in
           let front = and_true (may_write_word mine (place_of block)) (list_all (λ a. may_write_word mine (place_of a))
           (second ∷ channels)) parts.0 in
           let rest = and_true (may_write_word mine (place_of second))
@@ -757,9 +759,9 @@ module _ (seen : ℕ → Bool) where
 
       -- the first that fails is the same: what is read is asked of last
       first_alike : (ends share held next d d' p p' : Bool) → (held ≡ true → d' ≡ d) → (held ≡ true → p' ≡ p)
-          → join.first_fault ((ends, EndNotHeld) ∷ (share && held, NotOwn) ∷ (d', Undefined)
+          → plans.first_fault ((ends, EndNotHeld) ∷ (share && held, NotOwn) ∷ (d', Undefined)
           ∷ (next && p', JoinOrder) ∷ [])
-          ≡ join.first_fault ((ends, EndNotHeld) ∷ (share && held, NotOwn) ∷ (d, Undefined)
+          ≡ plans.first_fault ((ends, EndNotHeld) ∷ (share && held, NotOwn) ∷ (d, Undefined)
           ∷ (next && p, JoinOrder) ∷ [])
       first_alike false share held next d d' p p' same_d same_p = refl
       first_alike true false held next d d' p p' same_d same_p = refl
@@ -769,27 +771,27 @@ module _ (seen : ℕ → Bool) where
           let b : p' ≡ p = same_p refl in
           rw (a, b)
 
-      faults_alike : (plan : join.Plan) (found : join.Found) (workspace : ℕ)
-          → join.first_fault (join.first_faults h.contents n0 mine plan found workspace)
-          ≡ join.first_fault (join.first_faults h.contents w.memory mine plan found workspace)
+      faults_alike : (plan : plans.Plan) (found : lookups.Found) (workspace : ℕ)
+          → plans.first_fault (plans.first_faults h.contents n0 mine plan found workspace)
+          ≡ plans.first_fault (plans.first_faults h.contents w.memory mine plan found workspace)
       faults_alike plan found workspace =
-          ap (λ (size : ℕ). join.first_fault ((join.ends_are_there plan found.branch, EndNotHeld)
-          ∷ (join.share_is_there size plan workspace found.branch && join.words_are_held mine plan, NotOwn)
-          ∷ (join.words_are_defined n0 plan, Undefined)
-          ∷ (join.is_next plan found workspace && join.is_prepared h.contents n0 plan, JoinOrder) ∷ []))
+          ap (λ (size : ℕ). plans.first_fault ((plans.ends_are_there plan found.branch, EndNotHeld)
+          ∷ (plans.share_is_there size plan workspace found.branch && plans.words_are_held mine plan, NotOwn)
+          ∷ (plans.words_are_defined n0 plan, Undefined)
+          ∷ (plans.is_next plan found workspace && plans.is_prepared h.contents n0 plan, JoinOrder) ∷ []))
           here_agree.size
-          ∙ first_alike (join.ends_are_there plan found.branch)
-          (join.share_is_there (length w.memory) plan workspace found.branch) (join.words_are_held mine plan)
-          (join.is_next plan found workspace) (join.words_are_defined w.memory plan) (join.words_are_defined n0 plan)
-          (join.is_prepared h.contents w.memory plan) (join.is_prepared h.contents n0 plan) (words_defined plan)
+          ∙ first_alike (plans.ends_are_there plan found.branch)
+          (plans.share_is_there (length w.memory) plan workspace found.branch) (plans.words_are_held mine plan)
+          (plans.is_next plan found workspace) (plans.words_are_defined w.memory plan) (plans.words_are_defined n0 plan)
+          (plans.is_prepared h.contents w.memory plan) (plans.is_prepared h.contents n0 plan) (words_defined plan)
           (prepared_alike plan)
 
       -- the plan, of what is read and of the size
-      abbrev plan_by : join.Found → ℕ → List (Option ℕ) → join.Plan
+      abbrev plan_by : lookups.Found → ℕ → List (Option ℕ) → plans.Plan
       plan_by found size addresses =
           let par = found.par in
-          let base = join.frame_base h.from.registers.workspace par.depth in
-          let rest = less size mine (join.hidden base par) in
+          let base = shares.frame_base h.from.registers.workspace par.depth in
+          let rest = less size mine (plans.hidden base par) in
           record {
             row = found.row;
             par = par;
@@ -797,43 +799,43 @@ module _ (seen : ℕ → Bool) where
             parameters = parameters_at h.contents par.context;
             addresses = addresses;
             started = 0;
-            rest = record rest { ends = join.with_ends (join.channel_addresses base par) rest.ends };
+            rest = record rest { ends = plans.with_ends (plans.channel_addresses base par) rest.ends };
             members = h.process ∷ [];
           }
 
-      plans_alike : (found : join.Found)
-          → join.first_plan h.contents h.process h.from.registers.workspace mine n0 found
-          ≡ join.first_plan h.contents h.process h.from.registers.workspace mine w.memory found
+      plans_alike : (found : lookups.Found)
+          → plans.first_plan h.contents h.process h.from.registers.workspace mine n0 found
+          ≡ plans.first_plan h.contents h.process h.from.registers.workspace mine w.memory found
       plans_alike found =
-          let base = join.frame_base h.from.registers.workspace found.par.depth in
-          let names = join.named_from found.par 0 (parameters_at h.contents found.par.context) in
+          let base = shares.frame_base h.from.registers.workspace found.par.depth in
+          let names = lookups.named_from found.par 0 (parameters_at h.contents found.par.context) in
           ap (plan_by found (length n0)) (words_in base names)
-          ∙ ap (λ (size : ℕ). plan_by found size (map (join.word_in mine w.memory base) names)) here_agree.size
+          ∙ ap (λ (size : ℕ). plan_by found size (map (plans.word_in mine w.memory base) names)) here_agree.size
 
-      opens : (plan : join.Plan) (found : join.Found) (workspace : ℕ) (r : Registers) (m n : Memory) → Agree seen m n
-          → SameTurn seen (join.start_or_fail h (join.first_faults h.contents w.memory mine plan found workspace)
+      opens : (plan : plans.Plan) (found : lookups.Found) (workspace : ℕ) (r : Registers) (m n : Memory)
+          → Agree seen m n → SameTurn seen (join.start_or_fail h (plans.first_faults h.contents w.memory mine plan found workspace)
           (join.started h plan found workspace (join.opened h plan (here r m) w).0 (join.opened h plan (here r m) w).1)
           w)
-          (join.start_or_fail h (join.first_faults h.contents n0 mine plan found workspace)
+          (join.start_or_fail h (plans.first_faults h.contents n0 mine plan found workspace)
           (join.started h plan found workspace (join.opened h plan (here r n) w').0
           (join.opened h plan (here r n) w').1) w')
       opens plan found workspace r m n agree =
-          let addresses = join.block_addresses plan.base plan.par ++ join.channel_addresses plan.base plan.par in
-          start_or_fail (join.first_faults h.contents w.memory mine plan found workspace)
-          (join.first_faults h.contents n0 mine plan found workspace) _ _ (faults_alike plan found workspace)
+          let addresses = plans.block_addresses plan.base plan.par ++ plans.channel_addresses plan.base plan.par in
+          start_or_fail (plans.first_faults h.contents w.memory mine plan found workspace)
+          (plans.first_faults h.contents n0 mine plan found workspace) _ _ (faults_alike plan found workspace)
           (started plan found workspace r (join.without_words addresses m) (join.without_words addresses n)
           (join.with_channels h.process plan.base plan.par.channels w.channels) (words_agree seen m n addresses agree))
 
-      first_start : (found : join.Found) (workspace : ℕ) (r : Registers) (m n : Memory) → Agree seen m n
-          → SameTurn seen (join.first_start h found workspace (here r m) w)
-          (join.first_start h found workspace (here r n) w')
+      first_start : (found : lookups.Found) (workspace : ℕ) (r : Registers) (m n : Memory) → Agree seen m n
+          → SameTurn seen (join.first_start_turn h found workspace (here r m) w)
+          (join.first_start_turn h found workspace (here r n) w')
       first_start found workspace r m n agree =
-          let plan = join.first_plan h.contents h.process h.from.registers.workspace mine w.memory found in
-          subst (λ (other : join.Plan). SameTurn seen
-          (join.start_or_fail h (join.first_faults h.contents w.memory mine plan found workspace)
+          let plan = plans.first_plan h.contents h.process h.from.registers.workspace mine w.memory found in
+          subst (λ (other : plans.Plan). SameTurn seen
+          (join.start_or_fail h (plans.first_faults h.contents w.memory mine plan found workspace)
           (join.started h plan found workspace (join.opened h plan (here r m) w).0 (join.opened h plan (here r m) w).1)
           w)
-          (join.start_or_fail h (join.first_faults h.contents n0 mine other found workspace)
+          (join.start_or_fail h (plans.first_faults h.contents n0 mine other found workspace)
           (join.started h other found workspace (join.opened h other (here r n) w').0
           (join.opened h other (here r n) w').1) w')) (sym (plans_alike found))
           (opens plan found workspace r m n agree)
@@ -841,35 +843,35 @@ module _ (seen : ℕ → Bool) where
       start_alike : (target workspace : ℕ) (r : Registers) (m n : Memory) → Agree seen m n
           → SameTurn seen (join.start_turn h target workspace (here r m) w)
           (join.start_turn h target workspace (here r n) w')
-      start_alike target workspace r m n agree = on_branch (join.branch_at h.contents target)
+      start_alike target workspace r m n agree = on_branch (lookups.found_at h.contents target)
         where
-          on_join : (found : join.Found) (j : Option Join) → SameTurn seen
+          on_join : (found : lookups.Found) (j : Option Join) → SameTurn seen
               (elim j as (λ j. Turn) [
-                | None ↦ join.first_start h found workspace (here r m) w
-                | Some j ↦ join.later_start h j found workspace (here r m) w
+                | None ↦ join.first_start_turn h found workspace (here r m) w
+                | Some j ↦ join.later_start_turn h j found workspace (here r m) w
               ]) (elim j as (λ j. Turn) [
-                | None ↦ join.first_start h found workspace (here r n) w'
-                | Some j ↦ join.later_start h j found workspace (here r n) w'
+                | None ↦ join.first_start_turn h found workspace (here r n) w'
+                | Some j ↦ join.later_start_turn h j found workspace (here r n) w'
               ])
           on_join found None = first_start found workspace r m n agree
           on_join found (Some j) = later_start j found workspace r m n agree
 
-          on_branch : (found : Option join.Found) → SameTurn seen
+          on_branch : (found : Option lookups.Found) → SameTurn seen
               (elim found as (λ j. Turn) [
-                | None ↦ join.start_or_fail h (join.no_row_faults mine workspace) w w
-                | Some found ↦ elim (join.opened_by w h.process) as (λ j. Turn) [
-                  | None ↦ join.first_start h found workspace (here r m) w
-                  | Some j ↦ join.later_start h j found workspace (here r m) w
+                | None ↦ join.start_or_fail h (plans.no_row_faults mine workspace) w w
+                | Some found ↦ elim (lookups.opened_by w h.process) as (λ j. Turn) [
+                  | None ↦ join.first_start_turn h found workspace (here r m) w
+                  | Some j ↦ join.later_start_turn h j found workspace (here r m) w
                 ]
               ]) (elim found as (λ j. Turn) [
-                | None ↦ join.start_or_fail h (join.no_row_faults mine workspace) w' w'
-                | Some found ↦ elim (join.opened_by w h.process) as (λ j. Turn) [
-                  | None ↦ join.first_start h found workspace (here r n) w'
-                  | Some j ↦ join.later_start h j found workspace (here r n) w'
+                | None ↦ join.start_or_fail h (plans.no_row_faults mine workspace) w' w'
+                | Some found ↦ elim (lookups.opened_by w h.process) as (λ j. Turn) [
+                  | None ↦ join.first_start_turn h found workspace (here r n) w'
+                  | Some j ↦ join.later_start_turn h j found workspace (here r n) w'
                 ]
               ])
-          on_branch None = no_row (join.no_row_faults mine workspace)
-          on_branch (Some found) = on_join found (join.opened_by w h.process)
+          on_branch None = no_row (plans.no_row_faults mine workspace)
+          on_branch (Some found) = on_join found (lookups.opened_by w h.process)
 
       -- ---- whatever comes of an instruction
 

@@ -1,7 +1,7 @@
 -- What a share takes of a holding, and what is left of it: nothing that the one claims clashes with the other.
-use Rattle.std.proofs.Common.{◌≡◌, ℕ, ◌+◌, ◌-◌, ◌<◌, ◌≤◌, ◌&&◌, Bool, true, false, ◌⊎◌, inl, inr}
-use Rattle.std.proofs.Common.{ℤ, pos, negsuc, ◌+ℤ◌, int_le, List, [], ◌∷◌, ◌++◌, map, refl, sym}
-use Rattle.std.proofs.Common.{ap, ap₂, subst, arith, eqb-true, nat_lt, not, if◌then◌else◌}
+use Rattle.std.proofs.Common.{◌≡◌, ℕ, ◌+◌, ◌-◌, ◌<◌, ◌≤◌, ◌&&◌, Bool, true, false, ◌⊎◌, inl, inr, ℤ, pos, negsuc, ◌+ℤ◌}
+use Rattle.std.proofs.Common.{int_le, List, [], ◌∷◌, ◌++◌, map, refl, sym, ap, ap₂, subst, arith, eqb-true, nat_lt}
+use Rattle.std.proofs.Common.{not, if◌then◌else◌}
 use Rattle.std.proofs.lemmas.Bool.{cases_lt, lt-ltb, leb-true, le-leb, eqb-false}
 use Rattle.std.specs.Prelude.{◌==◌}
 use Rattle.std.specs.List.{list_any, list_all}
@@ -12,15 +12,16 @@ use Rattle.machine_state.specs.declared.holding.End.{End}
 use Rattle.machine_state.specs.Memory.{place_of}
 use Rattle.machine_state.specs.Holding.{Holding, may_write, may_read, has_end, same_direction}
 use Rattle.machine_state.specs.Spans.{Stretch, Share, less, lies_in, is_within, stretches_over, writes_place}
-use Rattle.machine_state.specs.Spans.{reads_place}
-use Rattle.machine_state.specs.Spans.{is_same_end, is_listed, all_places}
+use Rattle.machine_state.specs.Spans.{reads_place, is_same_end, is_listed, all_places}
 use Rattle.machine_state.specs.World.{constants_start}
-use Rattle.machine_state.specs.Joins.{holding_of, hidden, block_addresses, channel_addresses, with_ends}
+use Rattle.machine_state.specs.BranchShares.{holding_of}
+use Rattle.machine_state.specs.StartPlans.{hidden, block_addresses, channel_addresses, with_ends}
 use Rattle.machine_state.proofs.Combining.{and_true}
 use Rattle.machine_state.proofs.SpanLaws.{both_true, or_true, or_left, runs_tell}
 use Rattle.machine_state.proofs.Writing.{all_at}
-use Rattle.machine_state.proofs.Among.{IsAmong, among_more, all_among, any_among, mapped_among, any_all, filtered}
-use Rattle.machine_state.proofs.Claims.{Claim, to_write, to_read, to_use, claims, clash, IsBehind}
+use Rattle.machine_state.proofs.Among.{among_more, all_among, any_among, mapped_among, any_all, filtered}
+use Rattle.machine_state.specs.Ownership.{IsAmong, Claim, to_write, to_read, to_use, claims, clash}
+use Rattle.machine_state.proofs.Claims.{IsBehind}
 
 -- ---- ends
 

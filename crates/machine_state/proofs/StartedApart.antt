@@ -16,30 +16,36 @@ use Rattle.machine_state.specs.Memory.{Memory, data_start, place_of, local_addre
 use Rattle.machine_state.specs.Holding.{Holding, nothing, may_write, may_read, may_write_word, has_end}
 use Rattle.machine_state.specs.Spans.{Share, less, is_listed, is_within}
 use Rattle.machine_state.specs.World.{Role, Join, held, holding_at}
-use Rattle.machine_state.specs.Joins.{Plan, Found, found_from, branch_from, branch_at, frame_address, frame_base}
-use Rattle.machine_state.specs.Joins.{block_addresses, channel_addresses, hidden, first_plan, share_by}
-use Rattle.machine_state.specs.Joins.{share_is_there, ends_are_there, is_word, join_after, holding_of, with_channels}
+use Rattle.machine_state.specs.StartPlans.{Plan, block_addresses, channel_addresses, hidden, first_plan, share_by}
+use Rattle.machine_state.specs.StartPlans.{share_is_there, ends_are_there, is_word}
+use Rattle.machine_state.specs.JoinLookups.{Found, found_from, found_in_row, found_at}
+use Rattle.machine_state.specs.BranchShares.{frame_address, frame_base, holding_of}
+use Rattle.machine_state.specs.Joins.{join_after, with_channels}
 use Rattle.machine_state.proofs.Combining.{and_true}
 use Rattle.machine_state.proofs.Lines.{got_set}
 use Rattle.machine_state.proofs.Starting.{MayStart, MayOpen}
-use Rattle.machine_state.proofs.Among.{IsAmong, among_left, among_right, all_among}
-use Rattle.machine_state.proofs.Claims.{Claim, to_write, to_read, to_use, claims, IsBehind, only_one}
-use Rattle.machine_state.proofs.Shares.{left_claims, given_claims, hidden_is_gone, end_among, end_held, with_ends_tells}
+use Rattle.machine_state.proofs.Among.{among_left, among_right, all_among}
+use Rattle.machine_state.specs.Ownership.{IsAmong, Claim, to_write, to_read, to_use, claims, owner_in, InBlock}
+use Rattle.machine_state.specs.Ownership.{KeepsPlace, in_block, in_channel, OwnEnd, HoldersIn}
+use Rattle.machine_state.specs.Roles.{own_in, opener_in, opened_in}
+use Rattle.machine_state.proofs.Claims.{IsBehind, only_one}
+use Rattle.machine_state.proofs.Shares.{left_claims, given_claims, hidden_is_gone, end_among, end_held}
+use Rattle.machine_state.proofs.Shares.{with_ends_tells}
 use Rattle.machine_state.proofs.EvenWords.{even_local, even_base, even_place, next_place, same_word, in_word}
-use Rattle.machine_state.proofs.Owners.{owner_in, row_addresses, Made, made_owner, kept_owner, new_owner}
-use Rattle.machine_state.proofs.Holders.{InBlock, KeepsPlace, in_block, in_channel, OwnEnd, not_owned}
+use Rattle.machine_state.proofs.Owners.{row_addresses, Made, made_owner, kept_owner, new_owner}
+use Rattle.machine_state.proofs.Holders.{not_owned}
 use Rattle.machine_state.proofs.HolderMoves.{GoesOn, Opens, IsGiven}
 use Rattle.machine_state.proofs.HolderMoves as move
-use Rattle.machine_state.proofs.Roles.{own_in, opener_in, opened_in, HoldersIn, field_at, set_twice, own_same}
-use Rattle.machine_state.proofs.Roles.{opener_same}
-use Rattle.machine_state.proofs.Roles.{opened_here, opened_other, opened_is, join_goes_on, join_opens, branch_comes}
+use Rattle.machine_state.proofs.Roles.{field_at, set_twice, own_same, opener_same, opened_here, opened_other}
+use Rattle.machine_state.proofs.Roles.{opened_is, join_goes_on, join_opens, branch_comes}
 
 -- ---- the row of a branch
 
 found_in : (target r : ℕ) (pars : List Par) (found : Found) → found_from target r pars ≡ Some found
     → (k : ℕ) × (found.row ≡ r + k) × (slice_get pars k ≡ Some found.par)
 found_in target r [] found is = absurd (cc)
-found_in target r (par ∷ pars) found is = on (found_in target (r + 1) pars found) (branch_from target 0 par.branches) is
+found_in target r (par ∷ pars) found is =
+    on (found_in target (r + 1) pars found) (found_in_row target 0 par.branches) is
   where
     on : (found_from target (r + 1) pars ≡ Some found
         → (k : ℕ) × (found.row ≡ r + 1 + k) × (slice_get pars k ≡ Some found.par)) → (o : Option (ℕ × Branch))
@@ -56,7 +62,7 @@ found_in target r (par ∷ pars) found is = on (found_in target (r + 1) pars fou
         let later = further is in
         (suc later.0, (let row = later.1 in omega (arith, row)), later.2)
 
-pub found_row : (m : Contents) (target : ℕ) (found : Found) → branch_at m target ≡ Some found
+pub found_row : (m : Contents) (target : ℕ) (found : Found) → found_at m target ≡ Some found
     → slice_get m.pars found.row ≡ Some found.par
 found_row m target found is =
     let there = found_in target 0 m.pars found is in

@@ -5,9 +5,9 @@ use Rattle.machine_state.specs.declared.fault.FaultKind.{FaultKind}
 use Rattle.machine_state.specs.declared.fault.FaultKind.TheVariants.{EndNotHeld, NotOwn, Undefined, JoinOrder}
 use Rattle.machine_state.specs.Memory.{Memory}
 use Rattle.machine_state.specs.Holding.{Holding}
-use Rattle.machine_state.specs.Joins.{Plan, Found, first_fault, first_faults, later_faults, ends_are_there}
-use Rattle.machine_state.specs.Joins.{share_is_there}
-use Rattle.machine_state.specs.Joins.{words_are_held, words_are_defined, is_next, is_prepared}
+use Rattle.machine_state.specs.StartPlans.{Plan, first_fault, first_faults, later_faults, ends_are_there}
+use Rattle.machine_state.specs.StartPlans.{share_is_there, words_are_held, words_are_defined, is_next, is_prepared}
+use Rattle.machine_state.specs.JoinLookups.{Found}
 use Rattle.machine_state.proofs.Combining.{and_true}
 
 -- the first test passes, and the others

@@ -1,7 +1,7 @@
 -- Whoever stands in the line is ready, and stands there once; whoever a link says to wait does wait there.
-use Rattle.std.proofs.Common.{◌≡◌, ◌≢◌, ℕ, zero, suc, ◌+◌, ◌*◌, ◌<◌, ◌≤◌, Bool, true, false, if◌then◌else◌}
-use Rattle.std.proofs.Common.{◌⊎◌, inl, inr, ℤ, List, [], ◌∷◌, ◌++◌, length, Option, Some, None, is_some}
-use Rattle.std.proofs.Common.{refl, sym, ap, ◌∙◌, subst, slice_get, arith, eqb-true}
+use Rattle.std.proofs.Common.{◌≡◌, ◌≢◌, ℕ, zero, suc, ◌+◌, ◌*◌, ◌<◌, ◌≤◌, Bool, true, false, if◌then◌else◌, ◌⊎◌, inl}
+use Rattle.std.proofs.Common.{inr, ℤ, List, [], ◌∷◌, ◌++◌, length, Option, Some, None, is_some, refl, sym, ap, ◌∙◌}
+use Rattle.std.proofs.Common.{subst, slice_get, arith, eqb-true}
 use Rattle.std.proofs.lemmas.Bool.{cases_eq, eqb-false}
 use Rattle.std.proofs.lemmas.List.{length-set, length-append}
 use Rattle.std.proofs.lemmas.Option.{slice_get_within}
@@ -23,35 +23,38 @@ use Rattle.machine_state.specs.World.{World, Queue, Links, Role, Join, input_wor
 use Rattle.machine_state.specs.World.{root_role}
 use Rattle.machine_state.specs.Site.{Local, Outcome}
 use Rattle.machine_state.specs.LocalStep.{copied}
-use Rattle.machine_state.specs.Moves.{on_task, wake, enqueue, leave, dispatch, rouse, rouse_task, rouse_enabling}
-use Rattle.machine_state.specs.Moves.{fill, fill_condition, with_condition, link_index, finished_where, with_channel}
+use Rattle.machine_state.specs.Moves.{on_task, wake, enqueue, leave, dispatch, rouse, rouse_task, rouse_enabling, fill}
+use Rattle.machine_state.specs.Moves.{fill_condition, with_condition, link_index, finished_where, with_channel}
 use Rattle.machine_state.specs.Moves.{with_input, with_output, cell_of}
 use Rattle.machine_state.specs.Turn.{Here, Turn, at_here, between, continued, waiting}
-use Rattle.machine_state.specs.Joins.{on_role, joined, closed_task, Plan, Found, started, opened, opened_by, opener_of}
-use Rattle.machine_state.specs.Joins.{ended, new_task, holding_of, share_by, join_after, with_channels, later_plan}
-use Rattle.machine_state.specs.Joins.{without_words, scheduling_addresses}
+use Rattle.machine_state.specs.Joins.{on_role, joined, closed_task, started, opened, ended, new_task, join_after}
+use Rattle.machine_state.specs.Joins.{with_channels, without_words}
+use Rattle.machine_state.specs.StartPlans.{Plan, share_by, later_plan, scheduling_addresses}
+use Rattle.machine_state.specs.JoinLookups.{Found, opened_by}
+use Rattle.machine_state.specs.BranchShares.{holding_of}
 use Rattle.machine_state.specs.Alternations.{chosen, ready_or}
-use Rattle.machine_state.proofs.Turns as turns
-use Rattle.machine_state.proofs.Turns.{Moved, Ends, Happened, turn_happens}
+use Rattle.machine_state.specs.Endings as turns
+use Rattle.machine_state.proofs.Turns.{turn_happens}
+use Rattle.machine_state.specs.Endings.{Moved, Ends, Happened}
 use Rattle.machine_state.specs.Happens.{site_of, turn, run_from, world_after}
 use Rattle.prefix_decoder.specs.Functions.{nibble}
 use Rattle.prefix_decoder.specs.Operand.{with_nibble}
 use Rattle.machine_state.specs.Waiting.{LinesAreReady, LinksHaveTheirWaiters, IsAwaited, ArrivalsFillBuffers, IsOver}
-use Rattle.machine_state.specs.Waiting.{is_member, Opens, IsGone, IsCounted, BranchesAreCounted}
+use Rattle.machine_state.specs.Waiting.{is_member, Opens, IsGone, IsCounted, BranchesAreCounted, IsReadyAt, AllReady}
+use Rattle.machine_state.specs.Waiting.{IsAbsent, line, Line, WaitsOn, Waiters}
 use Rattle.machine_state.specs.Writing.{wanted_by, wanted_on}
 use Rattle.machine_state.specs.declared.link.Link.{Link}
 use Rattle.machine_state.specs.Exchanges.{link_from, condition_of, waits_at}
 use Rattle.machine_state.specs.declared.process.Channel.{Channel}
 use Rattle.machine_state.specs.Holding.{Holding, nothing}
 use Rattle.machine_state.proofs.SpanLaws.{or_true, or_left, or_right}
-use Rattle.machine_state.specs.Waiting.{IsReadyAt, AllReady, IsAbsent, line, Line, WaitsOn, Waiters}
 use Rattle.machine_state.proofs.EveryInstruction.{each_step}
 use Rattle.machine_state.proofs.Writing.{Message, messages}
 use Rattle.machine_state.proofs.Claims.{only_one}
 use Rattle.machine_state.proofs.Lines.{got_set, got_other, got_within, set_either, all_ready_without}
-use Rattle.machine_state.proofs.Lines.{absent_by_condition, push_line, told_in}
+use Rattle.machine_state.proofs.Lines.{absent_by_condition, push_line, told_in, pick_line, got_before, got_last}
+use Rattle.machine_state.proofs.Lines.{got_either, all_ready_before, new_absent}
 use Rattle.machine_state.proofs.Moving.{rouse_beside, on_role_only, on_role_is, on_task_is, chooses}
-use Rattle.machine_state.proofs.Lines.{pick_line, got_before, got_last, got_either, all_ready_before, new_absent}
 
 is_itself : (n : ℕ) → (n == n) ≡ true
 is_itself n = on (n == n) refl
@@ -1162,7 +1165,7 @@ module _ (h : Here) (w : World) (runs : w.queue.running ≡ Some h.process)
       goes (between to l.registers) Plain l.memory w.channels
 
   pub end_keeps : (o : Outcome) (t : Turn) → Ends h w o t → Message (site_of h w) w.memory o → WaitsIn t.world
-  end_keeps o t (turns.at_fault kind) says = record { line = keeps.line; rest = keeps.rest }
+  end_keeps o t (turns.at_fault refused) says = record { line = keeps.line; rest = keeps.rest }
   end_keeps o t (turns.has_run {after = after} moved) says =
       let kept = moved_keeps o after moved says in record { line = kept.line; rest = kept.rest }
   end_keeps o t (turns.has_emitted e l k on same) says =
@@ -1340,8 +1343,8 @@ module _ (w : World) (keeps : WaitsIn w) where
       → WaitsIn t.world
   turn_keeps m e t (turns.was_at_fault f is) = keeps
   turn_keeps m e t (turns.it_rests rests) = keeps
-  turn_keeps m e t (turns.is_outside p task kind runs here) = record { line = keeps.line; rest = keeps.rest }
-  turn_keeps m e t (turns.is_prefix p task byte operand runs here at none) =
+  turn_keeps m e t (turns.is_outside p task why runs here) = record { line = keeps.line; rest = keeps.rest }
+  turn_keeps m e t (turns.is_prefix p task byte operand runs here at none it next) =
       let kept = change_keeps p task
       (record task { registers = record task.registers { at = task.registers.at + 1; operand = operand } }) w here
       (λ e. e) (calm_same task.condition task.condition refl) keeps in

@@ -1,7 +1,6 @@
 -- Who has a join open is starting branches or has ended, and nobody else is in the mode of a start.
-use Rattle.std.proofs.Common.{◌≡◌, ℕ, zero, suc, ◌+◌, Bool, true, ◌⊎◌, inl, inr}
-use Rattle.std.proofs.Common.{List, [], ◌∷◌, ◌++◌, length, Option, Some, None, is_some, refl, sym, ap, ◌∙◌, subst}
-use Rattle.std.proofs.Common.{slice_get}
+use Rattle.std.proofs.Common.{◌≡◌, ℕ, zero, suc, ◌+◌, Bool, true, ◌⊎◌, inl, inr, List, [], ◌∷◌, ◌++◌, length, Option}
+use Rattle.std.proofs.Common.{Some, None, is_some, refl, sym, ap, ◌∙◌, subst, slice_get}
 use Rattle.std.proofs.lemmas.Bool.{cases_eq}
 use Rattle.std.proofs.lemmas.List.{length-set}
 use Rattle.std.specs.Prelude.{slice_set}
@@ -25,14 +24,13 @@ use Rattle.machine_state.specs.Happens.{world_after}
 use Rattle.machine_state.specs.EnabledLaws.{Enables, Disables}
 use Rattle.machine_state.specs.Waiting.{IsOver, IsStarting, HasOpened, OpenersAreStarting, WaitsOn}
 use Rattle.machine_state.proofs.Lines.{got_other, got_either, set_either}
-use Rattle.machine_state.proofs.Roles.{opened_in, field_at, field_set, field_other, field_pushed, field_last}
-use Rattle.machine_state.proofs.Roles.{field_past}
-use Rattle.machine_state.proofs.Roles.{told_of}
+use Rattle.machine_state.proofs.Roles.{field_at, field_set, field_other, field_pushed, field_last, field_past, told_of}
+use Rattle.machine_state.specs.Roles.{opened_in}
 use Rattle.machine_state.proofs.Moving.{with_opened, without}
 use Rattle.machine_state.proofs.Waiting.{WaitsIn, reached, has_task}
 use Rattle.machine_state.proofs.Changes as change
-use Rattle.machine_state.proofs.Changes.{Changed, Passed, Onward, Receives, GivesBack, Leaves, Partner, Roused, going}
-use Rattle.machine_state.proofs.Changes.{running_is_ready, of_every_world}
+use Rattle.machine_state.proofs.Changes.{Changed, Passed, Onward, GivesBack, Partner, Roused, going, running_is_ready}
+use Rattle.machine_state.proofs.Changes.{of_every_world}
 
 -- what the mode and the condition of a process say of the join that it has open
 abbrev Suits : Mode → Condition → Option Join → Type 0

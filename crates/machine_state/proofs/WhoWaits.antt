@@ -1,7 +1,6 @@
 -- Who waits on an internal channel is recorded there, and holds that end of it.
-use Rattle.std.proofs.Common.{◌≡◌, ◌≢◌, ℕ, zero, suc, ◌+◌, Bool, true, false, if◌then◌else◌, inl, inr}
-use Rattle.std.proofs.Common.{List, [], ◌∷◌, Option, Some, None, refl, sym, ap, ◌∙◌, subst}
-use Rattle.std.proofs.Common.{slice_get, arith, eqb-true}
+use Rattle.std.proofs.Common.{◌≡◌, ◌≢◌, ℕ, zero, suc, ◌+◌, Bool, true, false, if◌then◌else◌, inl, inr, List, [], ◌∷◌}
+use Rattle.std.proofs.Common.{Option, Some, None, refl, sym, ap, ◌∙◌, subst, slice_get, arith, eqb-true}
 use Rattle.std.proofs.lemmas.Bool.{cases_eq}
 use Rattle.std.proofs.lemmas.Option.{slice_get_within}
 use Rattle.std.specs.Prelude.{◌==◌, slice_set}
@@ -17,28 +16,29 @@ use Rattle.machine_state.specs.declared.process.Task.{Task}
 use Rattle.machine_state.specs.declared.process.Mode.{Mode}
 use Rattle.machine_state.specs.declared.process.Mode.TheVariants.{Plain, Starting}
 use Rattle.machine_state.specs.declared.process.Condition.{Condition}
-use Rattle.machine_state.specs.declared.process.Condition.TheVariants.{Ready, Sending, Receiving, OnLink}
-use Rattle.machine_state.specs.declared.process.Condition.TheVariants.{Ended}
+use Rattle.machine_state.specs.declared.process.Condition.TheVariants.{Ready, Sending, Receiving, OnLink, Ended}
 use Rattle.machine_state.specs.declared.process.Exchange.{Exchange}
 use Rattle.machine_state.specs.Holding.{Holding, nothing, has_end}
 use Rattle.machine_state.specs.World.{World, Links, Role, Join, held, holding_at, loaded, root_task}
 use Rattle.machine_state.specs.Moves.{cell_of}
 use Rattle.machine_state.specs.Turn.{Here, at_here}
-use Rattle.machine_state.specs.Joins.{closed_task, with_channels, without_channels, frame_address}
+use Rattle.machine_state.specs.Joins.{closed_task, with_channels, without_channels}
+use Rattle.machine_state.specs.BranchShares.{frame_address}
 use Rattle.machine_state.specs.Happens.{world_after}
 use Rattle.machine_state.specs.ChannelLaws.{HaveTheirWaiters, WaitsTo, IsRecorded, AreRecorded, WhoWaitsIsRecorded}
 use Rattle.machine_state.proofs.Lines.{got_set, got_other, set_either, got_either}
 use Rattle.machine_state.proofs.Starting.{first_tests}
 use Rattle.machine_state.proofs.Moving.{with_opened, without, is_last}
 use Rattle.machine_state.proofs.Waking.{ready_was, roused_was}
-use Rattle.machine_state.proofs.Turns.{plan_of}
+use Rattle.machine_state.specs.Endings.{plan_of}
 use Rattle.machine_state.proofs.Waiting.{WaitsIn, reached}
-use Rattle.machine_state.proofs.Among.{IsAmong, none_among}
-use Rattle.machine_state.proofs.Claims.{Claim, to_use, claims, nothing_claimed, only_one, not_some}
-use Rattle.machine_state.proofs.Owners.{owner_in, owner_of, row_addresses, new_owner}
+use Rattle.machine_state.proofs.Among.{none_among}
+use Rattle.machine_state.specs.Ownership.{IsAmong, Claim, to_use, claims, owner_in, owner_of, HoldersIn}
+use Rattle.machine_state.specs.Roles.{own_in, opener_in, opened_in}
+use Rattle.machine_state.proofs.Claims.{nothing_claimed, only_one, not_some}
+use Rattle.machine_state.proofs.Owners.{row_addresses, new_owner}
 use Rattle.machine_state.proofs.Holders.{now_claims, lent_by, reaches}
-use Rattle.machine_state.proofs.Roles.{own_in, opener_in, opened_in, HoldersIn, field_set, field_other}
-use Rattle.machine_state.proofs.Roles.{opened_is, opened_here, gives_back}
+use Rattle.machine_state.proofs.Roles.{field_set, field_other, opened_is, opened_here, gives_back}
 use Rattle.machine_state.proofs.StartedApart.{join_is_open, found_row}
 use Rattle.machine_state.proofs.EndedApart.{reduced}
 use Rattle.machine_state.proofs.ChannelWaiters.{IsCalm, calm_as, calm_ready, calm_link, calm_alternating, calm_ended}
@@ -46,8 +46,8 @@ use Rattle.machine_state.proofs.ChannelWaiters.{calm_stopped, same_channel, chan
 use Rattle.machine_state.proofs.OthersHold.{others_hold, smaller_holds}
 use Rattle.machine_state.proofs.ApartLaws.{IsSmall, format_is_small, Stands, all_stand, own_role}
 use Rattle.machine_state.proofs.Changes as change
-use Rattle.machine_state.proofs.Changes.{Changed, Passed, Onward, Receives, Opening, GivesBack, Leaves, Roused, going}
-use Rattle.machine_state.proofs.Changes.{cell_is, with_cell, onward_condition, running_is_ready, of_every_world}
+use Rattle.machine_state.proofs.Changes.{Changed, Passed, Onward, Receives, Opening, GivesBack, Leaves, going, cell_is}
+use Rattle.machine_state.proofs.Changes.{with_cell, onward_condition, running_is_ready, of_every_world}
 
 -- ---- who waits on an internal channel
 

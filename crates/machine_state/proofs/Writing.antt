@@ -1,8 +1,7 @@
 -- Which bytes an event changes.
-use Rattle.std.proofs.Common.{◌≡◌, ℕ, zero, suc, ◌+◌, ◌%◌, ◌^◌, ◌<◌, ◌≤◌, ◌&&◌, Bool, true, false, if◌then◌else◌}
-use Rattle.std.proofs.Common.{◌⊎◌, inl, inr, ℤ, pos, negsuc, List, [], ◌∷◌, ◌++◌, length, Option, Some, None, is_some}
-use Rattle.std.proofs.Common.{Result, Ok}
-use Rattle.std.proofs.Common.{Err, refl, sym, ap, ◌∙◌, subst, slice_get, arith, eqb-true}
+use Rattle.std.proofs.Common.{◌≡◌, ℕ, zero, suc, ◌+◌, ◌%◌, ◌^◌, ◌<◌, ◌≤◌, ◌&&◌, Bool, true, false, if◌then◌else◌, ◌⊎◌}
+use Rattle.std.proofs.Common.{inl, inr, ℤ, pos, negsuc, List, [], ◌∷◌, ◌++◌, length, Option, Some, None, is_some}
+use Rattle.std.proofs.Common.{Result, Ok, Err, refl, sym, ap, ◌∙◌, subst, slice_get, arith, eqb-true}
 use Rattle.std.proofs.lemmas.Bool.{cases_lt, cases_eq, le-leb, lt-ltb}
 use Rattle.std.proofs.lemmas.List.{get_or_past}
 use Rattle.std.specs.Prelude.{⊤, ◌==◌}
@@ -28,26 +27,26 @@ use Rattle.machine_state.specs.Spans.{Share, all_places, less, writes_place}
 use Rattle.machine_state.specs.World.{World, Role, Join, held, holding_at}
 use Rattle.machine_state.specs.Site.{Site, Local, Outcome}
 use Rattle.machine_state.specs.LocalStep as step
-use Rattle.machine_state.specs.Moves.{wake, fill, fill_condition, dispatch, link_index, channel_at}
-use Rattle.machine_state.specs.Moves.{put, with_channel, with_input, with_output, with_condition}
+use Rattle.machine_state.specs.Moves.{wake, fill, fill_condition, dispatch, link_index, channel_at, put, with_channel}
+use Rattle.machine_state.specs.Moves.{with_input, with_output, with_condition}
 use Rattle.machine_state.specs.Turn.{Turn, Effect, Here, at_here, continued, answered}
 use Rattle.machine_state.specs.Exchanges.{output_link, condition_of, waits_at}
 use Rattle.machine_state.specs.Alternations.{chosen, selected, in_mode}
 use Rattle.machine_state.specs.declared.process.Mode.TheVariants.{Disabling, Starting}
 use Rattle.prefix_decoder.specs.declared.function.Fun.{Fun}
-use Rattle.machine_state.specs.Joins.{Plan, Found, scheduling_places, scheduling_addresses, without_words}
-use Rattle.machine_state.specs.Joins.{word_passes, share_by, share_is_there, words_are_held, block_addresses}
-use Rattle.machine_state.specs.Joins.{channel_addresses, hidden, opened_by, later_plan, started, opened, ended}
-use Rattle.machine_state.specs.Joins.{given_back}
-use Rattle.machine_state.specs.Joins.{join_after, frame_address, named_from}
+use Rattle.machine_state.specs.Joins.{without_words, started, opened, ended, given_back, join_after}
+use Rattle.machine_state.specs.StartPlans.{Plan, scheduling_places, scheduling_addresses, word_passes, share_by}
+use Rattle.machine_state.specs.StartPlans.{share_is_there, words_are_held, block_addresses, channel_addresses, hidden}
+use Rattle.machine_state.specs.StartPlans.{later_plan}
+use Rattle.machine_state.specs.JoinLookups.{Found, opened_by, named_from}
+use Rattle.machine_state.specs.BranchShares.{frame_address}
 use Rattle.machine_state.specs.Happens as happens
-use Rattle.machine_state.specs.Happens.{site_of, between, turn}
+use Rattle.machine_state.specs.Happens.{site_of, between}
 use Rattle.machine_state.specs.Frame.{ChangesOwn, LeavesOthers}
 use Rattle.machine_state.specs.Writing.{outcome_of, of_waiting, Delivery, delivered_to, delivery_on, delivery_by}
-use Rattle.machine_state.specs.Writing.{delivery, is_delivered}
-use Rattle.machine_state.specs.Writing.{is_own, WritesWell, StepWrites, StepsWriteOwn, wanted_by, wanted_on}
-use Rattle.machine_state.specs.Writing.{ArriveWrites}
-use Rattle.machine_state.specs.Writing.{ArrivalsWriteOne, AcknowledgementsWriteNothing}
+use Rattle.machine_state.specs.Writing.{delivery, is_delivered, is_own, WritesWell, StepWrites, StepsWriteOwn}
+use Rattle.machine_state.specs.Writing.{wanted_by, wanted_on, ArriveWrites, ArrivalsWriteOne}
+use Rattle.machine_state.specs.Writing.{AcknowledgementsWriteNothing}
 use Rattle.machine_state.proofs.Reading.{length-with_byte, byte_at-with_byte, byte_at-with_byte_other}
 use Rattle.machine_state.proofs.Combining.{and_true}
 use Rattle.machine_state.proofs.EveryInstruction.{Wants, OfAsked, wants_asked, here, scheduled, each_step}
@@ -56,8 +55,9 @@ use Rattle.machine_state.proofs.Frame.{steps_change_own}
 use Rattle.machine_state.proofs.SpanLaws.{both_true, runs_tell}
 use Rattle.machine_state.proofs.Moving.{on_task_only, wake_only, rouse_only, on_role_only, joined_quiet}
 use Rattle.machine_state.proofs.Starting.{first_tests, later_tests}
-use Rattle.machine_state.proofs.Turns as turns
-use Rattle.machine_state.proofs.Turns.{Moved, Ends, Happened, local_here, plan_of, turn_happens}
+use Rattle.machine_state.specs.Endings as turns
+use Rattle.machine_state.proofs.Turns.{turn_happens}
+use Rattle.machine_state.specs.Endings.{Moved, Ends, Happened, local_here, plan_of}
 
 -- ---- bytes that stay defined were not made undefined
 
@@ -427,7 +427,7 @@ module _ (h : Here) (w : World) where
       → Message (site_of h w) w.memory o
       → StepWrites (may_write hold) (delivery_by w o) w.memory t.world.memory t.answer
   unfolding dispatch
-  end_writes o t (turns.at_fault kind) own says = refl
+  end_writes o t (turns.at_fault refused) own says = refl
   end_writes o t (turns.has_run moved) own says = moved_writes o _ moved own says
   end_writes o t (turns.has_emitted e l k on same) own says =
       only_own hold (delivery_on w e) w.memory l.memory _ own (nothing_on_a_link w e k on) refl
@@ -603,8 +603,8 @@ module _ (m : Contents) (w : World) where
   unfolding dispatch
   wrote e t (turns.was_at_fault f is) = at_fault_wrote e f
   wrote e t (turns.it_rests rests) = rest_wrote e _ rests
-  wrote e t (turns.is_outside p task kind runs here) = refl
-  wrote e t (turns.is_prefix p task byte operand runs here at none) =
+  wrote e t (turns.is_outside p task why runs here) = refl
+  wrote e t (turns.is_prefix p task byte operand runs here at none it next) =
       writes_as (may_write (holding_at w.roles p)) (is_own w) None (delivery m w) w.memory w.memory
       (Ok happens.ran) (own_is p runs) (ap delivered (outcome_is p task byte None runs here at none))
       (only_own (holding_at w.roles p) None w.memory w.memory w.memory

@@ -13,10 +13,16 @@ pub mod Moves
 pub mod Turn
 pub mod Exchanges
 pub mod Alternations
-pub mod Joins
 pub mod Roles
+pub mod BranchShares
+pub mod JoinLookups
+pub mod StartPlans
+pub mod BranchContexts
+pub mod Joins
 pub mod Progressing
 pub mod Happens
+pub mod Ownership
+pub mod Endings
 pub mod Views
 pub mod Tagged
 pub mod Asking

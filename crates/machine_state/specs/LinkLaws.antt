@@ -1,5 +1,5 @@
 -- Who waits on a link.
-use Rattle.std.specs.Prelude.{◌≡◌, ℕ, true, List, Some, slice_get}
+use Rattle.std.specs.Prelude.{◌≡◌, ℕ, true, List, Some, slice_get, length}
 use Rattle.module_format.specs.Contents.{Contents}
 use Rattle.module_format.specs.declared.rows.Direction.TheVariants.{In, Out}
 use Rattle.module_format.specs.Keeping.{Keeps}
@@ -33,3 +33,11 @@ AreAtLinks tasks roles links =
 abbrev pub WhoWaitsOnLinksIsRecorded : Type 0
 WhoWaitsOnLinksIsRecorded = (m : Contents) (es : List Event) → Keeps m
     → let w = world_after m es in AreAtLinks w.tasks w.roles w.links
+
+-- four output links and four input links
+pub record FourEachWay (links : Links) : Type 0 where
+  pub outputs : length links.outputs ≡ 4
+  pub inputs : length links.inputs ≡ 4
+
+abbrev pub LinksStayFourEachWay : Type 0
+LinksStayFourEachWay = (m : Contents) (es : List Event) → FourEachWay (world_after m es).links

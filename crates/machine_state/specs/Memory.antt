@@ -1,6 +1,7 @@
 -- Memory is a list of bytes, each defined or not. A byte's place in the list is its address less that of the data
 -- area.
-use Rattle.std.specs.Prelude.{ℕ, ◌+◌, ◌-◌, ◌*◌, ◌/◌, ◌%◌, ◌^◌, ℤ, List, Option, None, slice_index_or, slice_set}
+use Rattle.std.specs.Prelude.{ℕ, ◌+◌, ◌-◌, ◌*◌, ◌/◌, ◌%◌, ◌^◌, ℤ, negsuc, List, Option, None, slice_index_or}
+use Rattle.std.specs.Prelude.{slice_set}
 use Rattle.std.specs.Option.{option_map, option_and_then}
 use Rattle.std.specs.Int.{w32, cast_unsigned, cast_signed}
 
@@ -18,6 +19,10 @@ place_of address = (address + (2 ^ 32 - data_start)) % 2 ^ 32
 -- the address of word e from a workspace (T414 compiler writer's guide: W + 4e, modulo 2^32)
 unfoldable pub local_address : ℕ → ℤ → ℕ
 local_address workspace e = (workspace + 4 * cast_unsigned w32 e) % 2 ^ 32
+
+-- the address of a word below a workspace, where 0 is the one just below; scheduling takes the words 0 to 2
+abbrev pub scheduling_word : ℕ → ℕ → ℕ
+scheduling_word workspace k = local_address workspace (negsuc k)
 
 -- the byte at a place: none is undefined, or outside
 abbrev pub byte_at : Memory → ℕ → Option ℕ

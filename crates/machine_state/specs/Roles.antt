@@ -1,8 +1,18 @@
--- Roles by process number, and how joins change one of them.
-use Rattle.std.specs.Prelude.{ℕ, ◌==◌, not, List, [], ◌∷◌, ◌++◌, filter, Some, None, slice_get, slice_set}
+-- Roles by process number: what they say of a process, and how joins change one of them.
+use Rattle.std.specs.Prelude.{Option, ℕ, ◌==◌, not, List, [], ◌∷◌, ◌++◌, filter, Some, None, slice_get, slice_set}
 use Rattle.std.specs.Option.{option_map}
 use Rattle.machine_state.specs.Holding.{Holding, nothing}
 use Rattle.machine_state.specs.World.{Role, Join}
+
+-- what a process has for good, the opener of the join that it is in, and the join that it has open
+abbrev pub own_in : List Role → ℕ → Holding
+own_in roles p = elim (slice_get roles p) as (λ o. Holding) [ None ↦ nothing | Some role ↦ role.own ]
+
+abbrev pub opener_in : List Role → ℕ → Option ℕ
+opener_in roles p = elim (slice_get roles p) as (λ o. Option ℕ) [ None ↦ None | Some role ↦ role.opener ]
+
+abbrev pub opened_in : List Role → ℕ → Option Join
+opened_in roles p = elim (slice_get roles p) as (λ o. Option Join) [ None ↦ None | Some role ↦ role.opened ]
 
 -- the role of the process of this number, if there is one, becomes what this makes of it
 abbrev pub with_role : ℕ → (Role → Role) → List Role → List Role

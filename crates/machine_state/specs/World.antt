@@ -1,6 +1,6 @@
 -- The whole machine at a moment, as parts: an event that leaves a part alone leaves what is known of it alone.
-use Rattle.std.specs.Prelude.{ℕ, ◌+◌, ◌-◌, ◌*◌, ◌%◌, ◌^◌, ◌≤◌, ◌==◌, nat_lt, pos, Bool, false, if◌then◌else◌, List}
-use Rattle.std.specs.Prelude.{[], ◌∷◌, ◌++◌, length, map, replicate, Option, Some, None, slice_get}
+use Rattle.std.specs.Prelude.{ℕ, ◌+◌, ◌-◌, ◌*◌, ◌%◌, ◌^◌, ◌≤◌, ◌==◌, nat_lt, pos, Bool, false, if◌then◌else◌, List, []}
+use Rattle.std.specs.Prelude.{◌∷◌, ◌++◌, length, map, replicate, Option, Some, None, slice_get}
 use Rattle.module_format.specs.declared.rows.Direction.TheVariants.{In, Out}
 use Rattle.module_format.specs.Contents.{Contents}
 use Rattle.module_format.specs.Stack.{of_empty}
@@ -95,8 +95,13 @@ IsLoadable m = data_start + constants_start m + length m.constants ≤ 2 ^ 32
 abbrev pub link_words : ℕ
 link_words = 0x80000000
 
+-- the word of each link, the input links after the output links, as tables and holdings number them
+abbrev pub link_word : ℕ → ℕ
+link_word k = link_words + 4 * k
+
+-- the words of output link k and of input link k
 abbrev pub output_word : ℕ → ℕ
-output_word k = link_words + 4 * k
+output_word k = link_word k
 
 abbrev pub input_word : ℕ → ℕ
 input_word k = link_words + 16 + 4 * k
@@ -106,7 +111,7 @@ abbrev pub link_ends_from : ℕ → List ℕ → List End
 link_ends_from k [] = []
 link_ends_from k (n ∷ ns) =
     let ends = link_ends_from (k + 1) ns in
-    if n == 0 then ends else record { address = output_word k; direction = if nat_lt k 4 then Out else In } ∷ ends
+    if n == 0 then ends else record { address = link_word k; direction = if nat_lt k 4 then Out else In } ∷ ends
 
 abbrev pub root_holding : Contents → Holding
 root_holding m = record {

@@ -10,11 +10,14 @@ ghost use Rattle.machine_state.specs.Seeing.{StepsSeeWhatTheyRead};
 ghost use Rattle.machine_state.specs.Waiting.{LinesAreReady, LinksHaveTheirWaiters, ArrivalsFillBuffers};
 ghost use Rattle.machine_state.specs.Waiting.{BranchesAreCounted, OpenersAreStarting};
 ghost use Rattle.machine_state.specs.ChannelLaws.{ChannelsHaveTheirWaiters, WhoWaitsIsRecorded};
-ghost use Rattle.machine_state.specs.LinkLaws.{WhoWaitsOnLinksIsRecorded};
+ghost use Rattle.machine_state.specs.LinkLaws.{WhoWaitsOnLinksIsRecorded, LinksStayFourEachWay};
 ghost use Rattle.machine_state.specs.EnabledLaws.{WhoEnabledAlternates, WhoMayWaitHasNothingReady, WhoEnabledHolds};
 ghost use Rattle.machine_state.specs.EnabledLaws.{WhatIsReadyStays};
 ghost use Rattle.machine_state.specs.WaitingOnce.{NobodyWaitsTwice, NoTwoWaitTogether};
 ghost use Rattle.machine_state.specs.ApartLaws.{HoldingsStayApart};
+ghost use Rattle.machine_state.specs.Ownership.{HoldersAreInOrder};
+ghost use Rattle.machine_state.specs.Endings.{StepsMoveOrFail};
+ghost use Rattle.machine_state.specs.BranchContexts.{BranchesAreFoundAlike, BranchesAreContexts};
 ghost use Rattle.machine_state.specs.SpanLaws.{RunsCoverTheTest};
 ghost use Rattle.machine_state.specs.SmallModules.{FirstEnds, JumpEnds, SlicedJumpEnds, CallEnds, LoopEnds};
 ghost use Rattle.machine_state.specs.SmallModules.{PairEnds, PairFaults, EchoWaits, ChannelEnds, ChoiceWaits};
@@ -110,6 +113,33 @@ pub fn nobody_waits_twice()
 /// joins or the words of channels, no two of which have a byte in common.
 pub fn holdings_stay_apart()
     ensures { HoldingsStayApart }
+{}
+
+/// Whatever a module that keeps the format does, who holds what for good, who has opened whom and whose channels lie
+/// where are in order: of two processes neither of which is under the other what they have for good is apart, and of
+/// one under another it is apart from what the other one's open join has not given, and from what that join keeps.
+#[tactic(auto, using(crate::proofs::ApartLaws::holders_are_in_order))]
+pub fn holders_stay_in_order()
+    ensures { HoldersAreInOrder }
+{}
+
+/// Every event, in any world, ends in one of the ways that are listed: it moves with all tests passed, or is at fault
+/// by one test that failed, or leaves the world as it was.
+#[tactic(auto, using(crate::proofs::Turns::turn_happens))]
+pub fn steps_move_or_fail()
+    ensures { StepsMoveOrFail }
+{}
+
+/// There are always four output links and four input links.
+pub fn links_stay_four_each_way()
+    ensures { LinksStayFourEachWay }
+{}
+
+/// The branch that a start finds at a code offset, by its row, is the one that the tables find there by its context. In
+/// a module that keeps the format that context comes after the one of its PAR, and has the same frame and parameters.
+pub fn branches_are_contexts()
+    ensures found { BranchesAreFoundAlike }
+    ensures contexts { BranchesAreContexts }
 {}
 
 /// Spans in normal form cover the places that pass the test.

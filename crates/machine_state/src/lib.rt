@@ -19,7 +19,7 @@ mod spans;
 mod store;
 mod tagged;
 
-pub use address::{DATA_START, local_address, place_of};
+pub use address::{DATA_START, LINK_WORDS, local_address, place_of};
 pub use cpu::{Cpu, Flow};
 pub use event::{Effect, Event};
 pub use fault::{
@@ -29,9 +29,11 @@ pub use fault::{
 pub use holding::{End, Holding, Span};
 pub use instruction::Instruction;
 pub use laws::{
-    events_count_bytes, events_write_their_own, faults_stay, memory_keeps_its_length,
-    memory_reads_back, memory_stays_elsewhere, small_modules_end, steps_change_their_own,
-    steps_see_what_they_read, waiting_is_in_order,
+    branches_are_contexts, channels_are_in_order, events_count_bytes, events_write_their_own,
+    faults_stay, holders_stay_in_order, holdings_stay_apart, links_stay_four_each_way,
+    memory_keeps_its_length, memory_reads_back, memory_stays_elsewhere, nobody_waits_twice,
+    small_modules_end, steps_change_their_own, steps_move_or_fail, steps_see_what_they_read,
+    waiting_is_in_order,
 };
 pub use link::{InputLink, Link, OutputLink};
 pub use op::{LongOp, Op, Shift};

@@ -5,14 +5,11 @@ ghost use Rattle.module_format.specs.Contents.{contents_of};
 ghost use Rattle.machine_state.specs.World.{IsLoadable, padding, link_ends_from, root_holding, root_role};
 ghost use Rattle.machine_state.specs.Views.{holding_view, role_view};
 
+use crate::address::LINK_WORDS;
 use crate::holding::{End, Holding, Span};
 use crate::role::Role;
 use certificate::{Direction, Tables};
 use std::alloc::{AllocError, Global};
-
-/// The address of the word of output link 0, MostNeg. The words of output links 1 to 3 follow it, and then
-/// those of input links 0 to 3 (T414 compiler writer's guide).
-const LINK_WORDS: u32 = 0x8000_0000;
 
 /// How many bytes lie between the code and the constants, which begin at a word.
 pub(crate) fn padding(code_length: usize) -> usize

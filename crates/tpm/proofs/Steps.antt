@@ -26,8 +26,9 @@ use Rattle.machine_state.specs.Happens.{Effect, ran, idle, emitted, answered, He
 use Rattle.machine_state.specs.Happens.{failed, site_of, settled, prefix_turn, byte_turn, task_turn, step_turn}
 use Rattle.machine_state.specs.Happens.{most_executed}
 use Rattle.machine_state.proofs.EventLaws.{events_count_bytes, faults_are_kept}
-use Rattle.machine_state.proofs.Turns as turns
-use Rattle.machine_state.proofs.Turns.{Ends, settled_ends}
+use Rattle.machine_state.specs.Endings as turns
+use Rattle.machine_state.proofs.Turns.{settled_ends}
+use Rattle.machine_state.specs.Endings.{Ends}
 use Rattle.machine.specs.Asking.{Execution, is_running}
 use Rattle.machine.specs.Lending.{shown}
 use Rattle.verifier.specs.Certified.{IsCertified}
@@ -50,7 +51,7 @@ abbrev at_here : Contents → ℕ → Task → Here
 at_here m p task = record { contents = m; process = p; from = task; next = task.registers.at + 1; pick = 0 }
 
 steps_ended : (h : Here) (o : Outcome) (w : World) (t : Turn) → Ends h w o t → Steps w t
-steps_ended h o w t (turns.at_fault kind) = faults _ _
+steps_ended h o w t (turns.at_fault refused) = faults _ _
 steps_ended h o w t (turns.has_run moved) = runs _
 steps_ended h o w t (turns.has_emitted e l k on same) = emits _ _ _
 

@@ -5,9 +5,9 @@ use Rattle.module_format.specs.Contents.{Contents}
 use Rattle.machine_state.specs.declared.fault.Fault.{Fault}
 use Rattle.machine_state.specs.declared.link.InputLink.{InputLink}
 use Rattle.machine_state.specs.declared.process.Exchange.{Exchange}
-use Rattle.machine_state.specs.declared.process.Registers.{Registers}
+use Rattle.machine_state.specs.Asking.{scheduled}
 use Rattle.machine_state.specs.Site.{Local}
-use Rattle.machine_state.specs.LocalStep.{holds_scheduling_words, without_scheduling_words}
+use Rattle.machine_state.specs.LocalStep.{holds_scheduling_words}
 use Rattle.machine_state.specs.Holding.{Holding}
 use Rattle.machine_state.specs.declared.process.Condition.{Condition}
 use Rattle.machine_state.specs.World.{World}
@@ -32,11 +32,6 @@ here_in m h = record {
   pick = h.pick;
 }
 
--- the process with these registers, once scheduling has taken its words
-abbrev pub scheduled : Registers → World → Local
-scheduled registers w =
-    record { registers = registers; memory = without_scheduling_words w.memory registers.workspace }
-
 -- what each call for a message asks for: its bytes, and the words that scheduling takes
 pub record IsAsked (holding : Holding) (message : Message) : Type 0 where
   pub task : IsSteady message.here.task
@@ -46,7 +41,7 @@ pub record IsAsked (holding : Holding) (message : Message) : Type 0 where
 -- the turn of an instruction that asks for this message
 abbrev pub turn_for : (Here → Exchange → Local → World → Turn) → Contents → Message → World → Turn
 turn_for turn m message w =
-    turn (here_in m message.here) message.exchange (scheduled message.registers w) w
+    turn (here_in m message.here) message.exchange (scheduled message.registers w.memory) w
 
 -- the world in which the process is after that instruction, in this condition
 abbrev pub put_after : Message → Condition → World → World

@@ -14,14 +14,11 @@ use crate::message::Message;
 use crate::stop::Stop;
 use crate::traffic::Traffic;
 use certificate::Tables;
-use machine_state::{Link, Store};
+use machine_state::{LINK_WORDS, Link, Store};
 use process_queue::ListQueue;
 
-/// The address of the word of output link 0, MostNeg. The words of the others follow it (T414 compiler writer's guide).
-const OUTPUT_WORDS: u32 = 0x8000_0000;
-
 /// The address of the word of input link 0.
-const INPUT_WORDS: u32 = OUTPUT_WORDS + 16;
+const INPUT_WORDS: u32 = LINK_WORDS + 16;
 
 /// What became of a message that was sent.
 #[derive(Clone, Copy, Debug, PartialEq, Eq)]
@@ -63,7 +60,7 @@ pub fn input_link(address: u32) -> Option<Link>
 fn output_link(address: u32) -> Option<Link>
     ensures { option_map link_index result ≡ output_link address }
 {
-    link_from(OUTPUT_WORDS, address)
+    link_from(LINK_WORDS, address)
 }
 
 impl<S: Store> Traffic<S, ListQueue> {

@@ -3,11 +3,12 @@ use Rattle.std.proofs.lemmas.Bool.{eq-eqb}
 use Rattle.std.specs.Prelude.{◌==◌, slice_get}
 use Rattle.module_format.specs.Contents.{contents_of, par_of}
 use Rattle.machine_state.specs.World.{World}
-use Rattle.machine_state.specs.Joins.{opened_by, on_role, joined}
+use Rattle.machine_state.specs.Joins.{on_role, joined}
+use Rattle.machine_state.specs.JoinLookups.{opened_by}
 use Rattle.machine_state.specs.Roles.{without_own}
 use Rattle.traffic.specs.Settling.{here_in}
 use Rattle.joins.specs.declared.open.Open.{Open}
-use Rattle.joins.specs.Locals.{untouched}
+use Rattle.machine_state.specs.Asking.{untouched}
 use Rattle.joins.proofs.Leaving.{branch_done, still_open}
 use Rattle.joins.proofs.ending.end_branch.Goals as goal
 
@@ -29,7 +30,7 @@ returns c = λ join opened same.
     ap (λ (v : World). opened_by v c.args.opener) given
     ∙ (still_open c.end.new.traffic.world p c.args.opener
     ∙ (ap (λ (v : World). opened_by v c.args.opener) (c.end.ensures m) ∙ opened)) in
-    branch_done h w join ending.block (untouched ending.registers w) c.args.opener par
+    branch_done h w join ending.block (untouched ending.registers w.memory) c.args.opener par
     c.leave.new.traffic.world row test
     (c.leave.ensures m join par there same refl
     ∙ (ap (λ (v : World). joined h c.args.opener join par v) given

@@ -2,10 +2,11 @@ use Rattle.std.proofs.Common.{◌≡◌, ◌∙◌, ◌&&◌, true, Some, length
 use Rattle.std.specs.Prelude.{◌==◌, slice_get}
 use Rattle.module_format.specs.Contents.{contents_of, par_of}
 use Rattle.machine_state.specs.World.{World}
-use Rattle.machine_state.specs.Joins.{opened_by, joined}
+use Rattle.machine_state.specs.Joins.{joined}
+use Rattle.machine_state.specs.JoinLookups.{opened_by}
 use Rattle.traffic.specs.Settling.{here_in}
 use Rattle.joins.specs.declared.open.Open.{Open}
-use Rattle.joins.specs.Locals.{untouched}
+use Rattle.machine_state.specs.Asking.{untouched}
 use Rattle.joins.proofs.Leaving.{own_done}
 use Rattle.joins.proofs.ending.end_opener.Goals as goal
 
@@ -24,5 +25,5 @@ returns c = λ join opened same.
     ∙ (sym c.is_whole.ensures ∙ c.if-not-is_whole.false) in
     let there : opened_by c.end.new.traffic.world p ≡ Some join =
     ap (λ (v : World). opened_by v p) (c.end.ensures m) ∙ opened in
-    own_done h w join ending.block (untouched ending.registers w) par c.leave.new.traffic.world row test
+    own_done h w join ending.block (untouched ending.registers w.memory) par c.leave.new.traffic.world row test
     (c.leave.ensures m join par there same refl ∙ ap (λ (v : World). joined h p join par v) (c.end.ensures m))

@@ -2,7 +2,8 @@ use Rattle.std.proofs.Common.{◌≡◌, ◌+◌, ◌∙◌, ℕ, List, Option, 
 use Rattle.module_format.specs.declared.rows.Parameter.{Parameter}
 use Rattle.module_format.specs.Contents.{contents_of, par_of, branch_of}
 use Rattle.module_format.specs.Contexts.{parameters_at}
-use Rattle.machine_state.specs.Joins.{Plan, share_of, holding_of}
+use Rattle.machine_state.specs.StartPlans.{Plan}
+use Rattle.machine_state.specs.BranchShares.{share_of, holding_of}
 use Rattle.machine_state.specs.Spans.{Share, less}
 use Rattle.machine_state.specs.Views.{holding_view}
 use Rattle.joins.specs.Finding.{found_view}

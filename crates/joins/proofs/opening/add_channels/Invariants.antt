@@ -1,6 +1,6 @@
 use Rattle.std.proofs.Common.{◌≡◌, ◌++◌, map, drop}
 use Rattle.module_format.specs.declared.rows.ChannelRow.{ChannelRow}
-use Rattle.machine_state.specs.Joins.{frame_address}
+use Rattle.machine_state.specs.BranchShares.{frame_address}
 use Rattle.joins.specs.Opened.{word_stretch}
 use Rattle.joins.proofs.opening.add_channels.Given as goal
 

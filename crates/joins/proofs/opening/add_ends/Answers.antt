@@ -3,7 +3,8 @@ use Rattle.std.proofs.Common.{get_or}
 use Rattle.std.proofs.lemmas.Bool.{not-true, not-false}
 use Rattle.module_format.specs.declared.rows.ChannelRow.{ChannelRow}
 use Rattle.machine_state.specs.declared.holding.End.{End}
-use Rattle.machine_state.specs.Joins.{frame_address, with_ends}
+use Rattle.machine_state.specs.BranchShares.{frame_address}
+use Rattle.machine_state.specs.StartPlans.{with_ends}
 use Rattle.machine_state.specs.Spans.{is_listed, is_same_end}
 use Rattle.joins.proofs.EndSets.{input, output, with_channel, with_listed, channel_is_new, channel_is_there}
 use Rattle.joins.proofs.opening.add_ends.Goals as goal

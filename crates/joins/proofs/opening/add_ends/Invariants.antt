@@ -1,7 +1,8 @@
 use Rattle.std.proofs.Common.{◌≡◌, ℕ, map, drop}
 use Rattle.module_format.specs.declared.rows.ChannelRow.{ChannelRow}
 use Rattle.module_format.specs.declared.rows.Direction.TheVariants.{In}
-use Rattle.machine_state.specs.Joins.{with_ends, frame_address}
+use Rattle.machine_state.specs.StartPlans.{with_ends}
+use Rattle.machine_state.specs.BranchShares.{frame_address}
 use Rattle.machine_state.specs.Spans.{is_listed}
 use Rattle.joins.specs.EndSets.{has}
 use Rattle.joins.proofs.opening.add_ends.Given as goal

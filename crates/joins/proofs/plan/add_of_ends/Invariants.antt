@@ -3,7 +3,7 @@ use Rattle.std.specs.List.{list_any}
 use Rattle.std.specs.BTreeSet.{contains}
 use Rattle.std.specs.Ordering.{nat_cmp}
 use Rattle.module_format.specs.declared.rows.EndRow.{EndRow}
-use Rattle.machine_state.specs.Joins.{names_end}
+use Rattle.machine_state.specs.JoinLookups.{names_end}
 use Rattle.joins.proofs.plan.add_of_ends.Given as goal
 
 -- those so far are added

@@ -1,5 +1,5 @@
 use Rattle.std.proofs.Common.{◌≡◌, ◌++◌, map, drop}
-use Rattle.machine_state.specs.Joins.{word_in}
+use Rattle.machine_state.specs.StartPlans.{word_in}
 use Rattle.machine_state.specs.Views.{holding_view}
 use Rattle.joins.proofs.plan.addresses.Given as goal
 

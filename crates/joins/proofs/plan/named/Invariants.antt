@@ -1,6 +1,6 @@
 use Rattle.std.proofs.Common.{◌≡◌, ◌++◌, drop}
 use Rattle.module_format.specs.Contents.{par_of}
-use Rattle.machine_state.specs.Joins.{named_from}
+use Rattle.machine_state.specs.JoinLookups.{named_from}
 use Rattle.joins.proofs.plan.named.Given as goal
 
 -- those so far and those of the rest are all

@@ -4,7 +4,7 @@ use Rattle.std.specs.BTreeSet.{contains}
 use Rattle.std.specs.Ordering.{nat_cmp}
 use Rattle.module_format.specs.Rows.{BranchRow}
 use Rattle.module_format.specs.Contents.{branch_of}
-use Rattle.machine_state.specs.Joins.{branch_names}
+use Rattle.machine_state.specs.JoinLookups.{branch_names}
 use Rattle.joins.proofs.plan.numbers_by_branches.Given as goal
 
 -- those of the branches so far are there

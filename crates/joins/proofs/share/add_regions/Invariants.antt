@@ -1,6 +1,6 @@
 use Rattle.std.proofs.Common.{◌≡◌, ◌++◌, map, drop}
 use Rattle.std.specs.Prelude.{flat_map}
-use Rattle.machine_state.specs.Joins.{region_of}
+use Rattle.machine_state.specs.BranchShares.{region_of}
 use Rattle.machine_state.specs.Stretches.{stretch_view}
 use Rattle.joins.proofs.share.add_regions.Given as goal
 

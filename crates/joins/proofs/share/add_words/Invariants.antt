@@ -1,5 +1,5 @@
 use Rattle.std.proofs.Common.{◌≡◌, ◌++◌, map, drop}
-use Rattle.machine_state.specs.Joins.{words_of}
+use Rattle.machine_state.specs.BranchShares.{words_of}
 use Rattle.machine_state.specs.Stretches.{stretch_view}
 use Rattle.joins.proofs.share.add_words.Given as goal
 

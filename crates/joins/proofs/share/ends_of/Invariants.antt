@@ -1,6 +1,6 @@
 use Rattle.std.proofs.Common.{◌≡◌, ◌++◌, drop}
 use Rattle.std.specs.Prelude.{flat_map}
-use Rattle.machine_state.specs.Joins.{end_of}
+use Rattle.machine_state.specs.BranchShares.{end_of}
 use Rattle.joins.proofs.share.ends_of.Given as goal
 
 -- those so far and those of the rest are all

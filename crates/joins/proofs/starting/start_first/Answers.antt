@@ -1,9 +1,10 @@
 use Rattle.std.proofs.Common.{◌≡◌, ◌+◌, true, nat_lt, length, refl}
-use Rattle.machine_state.specs.Joins.{first_faults, started, opened}
+use Rattle.machine_state.specs.Joins.{started, opened}
+use Rattle.machine_state.specs.StartPlans.{first_faults}
 use Rattle.machine_state.specs.World.{holding_at}
 use Rattle.traffic.specs.Settling.{here_in}
 use Rattle.joins.specs.Finding.{found_view, first_plan_of}
-use Rattle.joins.specs.Locals.{untouched}
+use Rattle.machine_state.specs.Asking.{untouched}
 use Rattle.joins.proofs.Settled.{out_of_memory, is_done, test_passed}
 use Rattle.joins.proofs.starting.start_first.Goals as goal
 
@@ -23,7 +24,7 @@ returns c = λ passes gives.
     let w = c.args.traffic.now.world in
     let f = found_view start.found in
     let plan = first_plan_of start w in
-    let there = opened (here_in m here) plan (untouched start.registers w) w in
+    let there = opened (here_in m here) plan (untouched start.registers w.memory) w in
     let follows : nat_lt (here.task.registers.at + 1) (length m.code) ≡ true =
     test_passed _ _ c.in_ok-check_followed.field-0 c.in_ok-check_followed.ensures.followed in
     is_done m here w (first_faults m w.memory (holding_at w.roles here.process) plan f start.workspace)

@@ -1,7 +1,7 @@
 use Rattle.std.proofs.Common.{◌≡◌, map, drop}
 use Rattle.module_format.specs.Contents.{par_of}
-use Rattle.machine_state.specs.Joins.{found_from}
-use Rattle.joins.proofs.found.branch_at.Given as goal
+use Rattle.machine_state.specs.JoinLookups.{found_from}
+use Rattle.joins.proofs.found.found_at.Given as goal
 
 -- it is among the rest
 abbrev pub invariant-loop-row : goal.invariant-loop-row
